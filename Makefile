@@ -1,0 +1,5 @@
+# test: the merge gate (every proof from nothing, the must-fail edits, the tests).
+.PHONY: test
+
+test:
+	rt ci

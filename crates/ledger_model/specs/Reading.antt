@@ -1,0 +1,167 @@
+-- What bytes spell, if they spell anything. That this is the spelling is a law.
+use Rattle.std.specs.Prelude.{ℕ, zero, suc, ◌==◌, nat_le, Bool, true, false, not, ◌&&◌, List, [], ◌∷◌, length, take, drop, Option, Some, None, if◌then◌else◌}
+use Rattle.std.specs.Int.{Width, w16, w32, byte_len, from_be_bytes}
+use Rattle.ledger_model.specs.declared.statement.Report.{Report}
+use Rattle.ledger_model.specs.declared.statement.Lock.{Lock}
+use Rattle.ledger_model.specs.declared.statement.Ack.{Ack}
+use Rattle.ledger_model.specs.declared.statement.SignedReport.{SignedReport}
+use Rattle.ledger_model.specs.declared.statement.SignedStatement.{SignedStatement}
+use Rattle.ledger_model.specs.declared.statement.Statement.{Statement}
+use Rattle.ledger_model.specs.declared.statement.Statement.TheVariants as statement
+use Rattle.ledger_model.specs.Values.{Value}
+use Rattle.ledger_model.specs.Validity.{ascends_within, signers_of}
+use Rattle.ledger_model.specs.Spelling.{are_ascending}
+
+infixl 10 ◌>>=◌
+abbrev pub ◌>>=◌ : {A B : Type 0} → Option A → (A → Option B) → Option B
+(Some x) >>= f = f x
+None >>= f = None
+
+-- x, where the test holds
+abbrev pub only_if : {A : Type 0} → Bool → A → Option A
+only_if test x = if test then Some x else None
+
+-- what is read, where the test holds
+abbrev pub guarded : {A : Type 0} → Bool → Option A → Option A
+guarded test read = if test then read else None
+
+abbrev pub bytes_at : ℕ → List ℕ → Option (List ℕ × List ℕ)
+bytes_at n bytes = only_if (nat_le n (length bytes)) (take n bytes, drop n bytes)
+
+abbrev pub byte_at : List ℕ → Option (ℕ × List ℕ)
+byte_at [] = None
+byte_at (b ∷ bytes) = Some (b, bytes)
+
+abbrev pub number_at : Width → List ℕ → Option (ℕ × List ℕ)
+number_at w bytes = do
+  n ← bytes_at (byte_len w) bytes
+  Some (from_be_bytes w n.0, n.1)
+
+-- a transaction: its length, 1 to 64, and that many bytes
+unfoldable pub tx_at : List ℕ → Option (List ℕ × List ℕ)
+tx_at bytes = do
+  len ← byte_at bytes
+  guarded (nat_le 1 len.0 && nat_le len.0 64) (bytes_at len.0 len.1)
+
+unfoldable pub txs_at : ℕ → List ℕ → Option (Value × List ℕ)
+txs_at zero bytes = Some ([], bytes)
+txs_at (suc n) bytes = do
+  tx ← tx_at bytes
+  rest ← txs_at n tx.1
+  Some (tx.0 ∷ rest.0, rest.1)
+
+unfoldable pub value_at : List ℕ → Option (Value × List ℕ)
+value_at bytes = do
+  count ← byte_at bytes
+  guarded (nat_le count.0 16) (txs_at count.0 count.1)
+
+unfoldable pub values_at : ℕ → List ℕ → Option (List Value × List ℕ)
+values_at zero bytes = Some ([], bytes)
+values_at (suc n) bytes = do
+  first ← value_at bytes
+  rest ← values_at n first.1
+  Some (first.0 ∷ rest.0, rest.1)
+
+-- at most four values, ascending
+unfoldable pub list_at : List ℕ → Option (List Value × List ℕ)
+list_at bytes = do
+  count ← byte_at bytes
+  vs ← guarded (nat_le count.0 4) (values_at count.0 count.1)
+  only_if (are_ascending vs.0) vs
+
+-- at most 2508 bytes
+unfoldable pub signature_at : List ℕ → Option (List ℕ × List ℕ)
+signature_at bytes = do
+  len ← number_at w16 bytes
+  guarded (nat_le len.0 2508) (bytes_at len.0 len.1)
+
+-- a height or a phase: 1 or more
+unfoldable pub positive_at : List ℕ → Option (ℕ × List ℕ)
+positive_at bytes = do
+  n ← number_at w32 bytes
+  only_if (nat_le 1 n.0) n
+
+-- 0 or 1
+unfoldable pub flag_at : List ℕ → Option (Bool × List ℕ)
+flag_at [] = None
+flag_at (zero ∷ bytes) = Some (false, bytes)
+flag_at (suc zero ∷ bytes) = Some (true, bytes)
+flag_at (suc (suc b) ∷ bytes) = None
+
+-- what stands behind the first byte of a report, a lock or an acknowledgement: height, phase and signer
+pub record Place : Type 0 where
+  pub height : ℕ
+  pub phase : ℕ
+  pub signer : ℕ
+
+unfoldable pub place_at : List ℕ → Option (Place × List ℕ)
+place_at bytes = do
+  height ← positive_at bytes
+  phase ← positive_at height.1
+  signer ← byte_at phase.1
+  Some (record { height = height.0; phase = phase.0; signer = signer.0 }, signer.1)
+
+unfoldable pub report_at : List ℕ → Option (Report × List ℕ)
+report_at bytes = do
+  place ← place_at bytes
+  all ← flag_at place.1
+  initial ← value_at all.1
+  proper ← list_at initial.1
+  locked ← guarded (nat_le 1 (length proper.0)) (list_at proper.1)
+  Some (record { height = place.0.height; phase = place.0.phase; signer = place.0.signer; all = all.0; initial = initial.0; proper = proper.0; locked = locked.0 }, locked.1)
+
+-- a signed report, from its first byte on
+unfoldable pub signed_at : List ℕ → Option (SignedReport × List ℕ)
+signed_at bytes = do
+  kind ← byte_at bytes
+  report ← guarded (kind.0 == 1) (report_at kind.1)
+  signature ← signature_at report.1
+  Some (record { report = report.0; signature = signature.0 }, signature.1)
+
+unfoldable pub proof_at : ℕ → List ℕ → Option (List SignedReport × List ℕ)
+proof_at zero bytes = Some ([], bytes)
+proof_at (suc n) bytes = do
+  first ← signed_at bytes
+  rest ← proof_at n first.1
+  Some (first.0 ∷ rest.0, rest.1)
+
+unfoldable pub lock_at : List ℕ → Option (Lock × List ℕ)
+lock_at bytes = do
+  place ← place_at bytes
+  v ← value_at place.1
+  count ← byte_at v.1
+  reports ← guarded (nat_le 3 count.0 && nat_le count.0 12) (proof_at count.0 count.1)
+  only_if (ascends_within 0 256 (signers_of reports.0))
+      (record { height = place.0.height; phase = place.0.phase; signer = place.0.signer; value = v.0; proof = reports.0 }, reports.1)
+
+unfoldable pub ack_at : List ℕ → Option (Ack × List ℕ)
+ack_at bytes = do
+  place ← place_at bytes
+  v ← value_at place.1
+  Some (record { height = place.0.height; phase = place.0.phase; signer = place.0.signer; value = v.0 }, v.1)
+
+unfoldable pub statement_at : List ℕ → Option (Statement × List ℕ)
+statement_at bytes = byte_at bytes >>= (λ kind.
+    if kind.0 == 1 then report_at kind.1 >>= (λ r. Some (statement.Report r.0, r.1))
+    else if kind.0 == 2 then lock_at kind.1 >>= (λ l. Some (statement.Lock l.0, l.1))
+    else if kind.0 == 3 then ack_at kind.1 >>= (λ a. Some (statement.Ack a.0, a.1))
+    else None)
+
+-- the statement that the bytes are, if they are one
+unfoldable pub statement_reading : List ℕ → Option Statement
+statement_reading bytes = do
+  s ← statement_at bytes
+  only_if (length s.1 == 0) s.0
+
+-- a statement and its signature, which are all of the bytes
+unfoldable pub body_reading : List ℕ → Option SignedStatement
+body_reading bytes = do
+  s ← statement_at bytes
+  signature ← signature_at s.1
+  only_if (length signature.1 == 0) (record { statement = s.0; signature = signature.0 })
+
+-- the frame that the bytes are, if they are one
+unfoldable pub reading : List ℕ → Option SignedStatement
+reading bytes = do
+  len ← number_at w32 bytes
+  guarded ((length len.1 == len.0) && nat_le len.0 150000) (body_reading len.1)

@@ -1,0 +1,215 @@
+ghost use Rattle.std.specs.Prelude.{◌≡◌, ◌<◌, ◌≤◌, ◌↔◌, length, IfOk, IsErrOf, vec_len};
+
+use std::alloc::{AllocError, Global};
+use std::marker::Model;
+use thiserror::Error;
+
+/// A transaction: 1 to 64 bytes.
+#[derive(Debug, Drop)]
+pub struct Tx {
+    bytes: Vec<u8>,
+}
+
+/// Why bytes are no transaction.
+#[derive(Clone, Copy, Debug, PartialEq, Eq, Error)]
+pub enum TxFault {
+    #[error("a transaction has at least one byte")]
+    Empty,
+    #[error("a transaction has at most 64 bytes")]
+    TooLong,
+}
+
+impl Model for Tx {
+    ghost use Rattle.std.specs.Prelude.{◌≤◌, ℕ, List, length};
+
+    ghost Value = { List ℕ };
+
+    ghost view = { λ t. t.bytes.items };
+
+    ghost invariant = { λ t. (1 ≤ length t.bytes.items) × (length t.bytes.items ≤ 64) };
+}
+
+impl PartialEq for Tx {
+    ghost use Rattle.std.specs.Prelude.{nat_eq};
+    ghost use Rattle.std.specs.Cmp.Lexicographic.{pointwise};
+    ghost use Rattle.std.proofs.Common.{rules};
+    ghost use Rattle.std.specs.Cmp.Rules.{comparing};
+
+    ghost eq = { pointwise nat_eq };
+
+    ghost laws = { Prim.search (comparing, rules) };
+
+    fn eq(&self, other: &Tx) -> bool {
+        self.bytes.as_slice() == other.bytes.as_slice()
+    }
+}
+
+impl Tx {
+    /// The most bytes of a transaction.
+    pub const MAX_LEN: usize = 64;
+
+    /// The transaction of these bytes, of which there are 1 to 64.
+    pub fn new(bytes: Vec<u8>) -> Result<Self, TxFault>
+        ensures ok { IfOk result (λ tx. tx ≡ bytes.items) }
+        ensures empty { IsErrOf result TxFault.Empty ↔ (vec_len bytes ≡ 0) }
+        ensures too_long { IsErrOf result TxFault.TooLong ↔ (64 < vec_len bytes) }
+    {
+        if bytes.is_empty() {
+            return Err(TxFault::Empty);
+        }
+        if bytes.len() > Self::MAX_LEN {
+            return Err(TxFault::TooLong);
+        }
+        Ok(Tx { bytes })
+    }
+
+    /// Its bytes.
+    pub fn as_bytes(&self) -> &[u8]
+        ensures { result.now ≡ self.now }
+    {
+        self.bytes.as_slice()
+    }
+
+    /// The same transaction once more.
+    pub fn copy(&self) -> Result<Self, AllocError>
+        ensures { IfOk result (λ tx. tx ≡ self.now) }
+    {
+        Ok(Tx {
+            bytes: self.bytes.clone()?,
+        })
+    }
+}
+
+/// What replicas agree on at a height: 0 to 16 transactions, in order.
+#[derive(Debug, Drop)]
+pub struct Batch {
+    transactions: Vec<Tx>,
+}
+
+/// Why transactions are no batch.
+#[derive(Clone, Copy, Debug, PartialEq, Eq, Error)]
+pub enum BatchFault {
+    #[error("a batch has at most 16 transactions")]
+    TooMany,
+}
+
+impl Model for Batch {
+    ghost use Rattle.std.specs.Prelude.{◌≤◌, ℕ, List, length};
+
+    ghost Value = { List (List ℕ) };
+
+    ghost view = { λ b. b.transactions.items };
+
+    ghost invariant = { λ b. length b.transactions.items ≤ 16 };
+}
+
+impl PartialEq for Batch {
+    ghost use Rattle.std.proofs.Common.{rules};
+    ghost use Rattle.std.specs.Cmp.Rules.{comparing};
+    ghost use Rattle.ledger_model.specs.Values.{same_value};
+
+    ghost eq = { same_value };
+
+    ghost laws = { Prim.search (comparing, rules) };
+
+    fn eq(&self, other: &Batch) -> bool {
+        self.transactions.as_slice() == other.transactions.as_slice()
+    }
+}
+
+impl Batch {
+    /// The most transactions of a batch.
+    pub const MAX_LEN: usize = 16;
+
+    /// The batch of these transactions, of which there are at most 16.
+    pub fn new(transactions: Vec<Tx>) -> Result<Self, BatchFault>
+        ensures ok { IfOk result (λ batch. batch ≡ transactions.items) }
+        ensures too_many { IsErrOf result BatchFault.TooMany ↔ (16 < vec_len transactions) }
+    {
+        if transactions.len() > Self::MAX_LEN {
+            return Err(BatchFault::TooMany);
+        }
+        Ok(Batch { transactions })
+    }
+
+    /// Its transactions, in order.
+    pub fn transactions(&self) -> &[Tx]
+        ensures { result.now ≡ self.now }
+    {
+        self.transactions.as_slice()
+    }
+
+    /// The same batch once more.
+    pub fn copy(&self) -> Result<Self, AllocError>
+        ensures { IfOk result (λ batch. batch ≡ self.now) }
+    {
+        let alloc = *self.transactions.allocator();
+        let transactions = copy_all(alloc, self.transactions.as_slice())?;
+        Ok(Batch { transactions })
+    }
+}
+
+fn copy_all(alloc: Global, transactions: &[Tx]) -> Result<Vec<Tx>, AllocError>
+    ensures { IfOk result (λ v. v.items ≡ transactions.now) }
+{
+    let mut copied = Vec::with_capacity(alloc, transactions.len())?;
+    for transaction in transactions {
+        copied.push(transaction.copy()?)?;
+    }
+    Ok(copied)
+}
+
+/// What is asked of an application: 0 to 64 bytes.
+#[derive(Debug, Drop)]
+pub struct Key {
+    bytes: Vec<u8>,
+}
+
+/// Why bytes are no key.
+#[derive(Clone, Copy, Debug, PartialEq, Eq, Error)]
+pub enum KeyFault {
+    #[error("a key has at most 64 bytes")]
+    TooLong,
+}
+
+impl Model for Key {
+    ghost use Rattle.std.specs.Prelude.{◌≤◌, ℕ, List, length};
+
+    ghost Value = { List ℕ };
+
+    ghost view = { λ k. k.bytes.items };
+
+    ghost invariant = { λ k. length k.bytes.items ≤ 64 };
+}
+
+impl Key {
+    /// The most bytes of a key.
+    pub const MAX_LEN: usize = 64;
+
+    /// The key of these bytes, of which there are at most 64.
+    pub fn new(bytes: Vec<u8>) -> Result<Self, KeyFault>
+        ensures ok { IfOk result (λ key. key ≡ bytes.items) }
+        ensures too_long { IsErrOf result KeyFault.TooLong ↔ (64 < vec_len bytes) }
+    {
+        if bytes.len() > Self::MAX_LEN {
+            return Err(KeyFault::TooLong);
+        }
+        Ok(Key { bytes })
+    }
+
+    /// Its bytes.
+    pub fn as_bytes(&self) -> &[u8]
+        ensures { result.now ≡ self.now }
+    {
+        self.bytes.as_slice()
+    }
+
+    /// The same key once more.
+    pub fn copy(&self) -> Result<Self, AllocError>
+        ensures { IfOk result (λ key. key ≡ self.now) }
+    {
+        Ok(Key {
+            bytes: self.bytes.clone()?,
+        })
+    }
+}

@@ -1,0 +1,67 @@
+ghost use Rattle.std.specs.Prelude.{◌≡◌, ◌*◌, ◌+◌, ◌<◌, ◌≤◌, ◌↔◌, IfOk, IsErrOf};
+ghost use Rattle.ledger_model.specs.declared.config.ConfigFault.TheVariants.{TooFew, TooMany, NoFault};
+
+use thiserror::Error;
+
+/// Which application every replica runs.
+#[derive(Clone, Copy, Debug, PartialEq, Eq)]
+pub enum AppKind {
+    KvStore,
+    Counter,
+    Purse,
+}
+
+/// The size of a cluster, how many of its replicas may lie, and the application that they run.
+#[derive(Clone, Copy)]
+pub struct Config {
+    pub replicas: u8,
+    pub faults: u8,
+    pub kind: AppKind,
+    ghost enough: { 3 * faults + 1 ≤ replicas },
+    ghost bounded: { replicas ≤ 13 },
+    ghost tolerant: { 1 ≤ faults },
+}
+
+/// Why no cluster has such a size.
+#[derive(Clone, Copy, Debug, PartialEq, Eq, Error)]
+pub enum ConfigFault {
+    /// Fewer than three times the faults, and one more.
+    #[error("a cluster needs more than three times as many replicas as may lie")]
+    TooFew,
+    /// More than 13.
+    #[error("a cluster has at most 13 replicas")]
+    TooMany,
+    /// No replica may lie.
+    #[error("at least one replica may lie")]
+    NoFault,
+}
+
+impl Config {
+    /// The most replicas that a cluster has.
+    pub const MAX_REPLICAS: u8 = 13;
+
+    /// A cluster of `replicas`, of which `faults` may lie: `3 * faults + 1 <= replicas <= 13` and
+    /// `1 <= faults` (Dwork, Lynch and Stockmeyer 1988, Algorithm 2). The refusals are tested in the
+    /// order of `ConfigFault`.
+    pub fn new(replicas: u8, faults: u8, kind: AppKind) -> Result<Self, ConfigFault>
+        ensures made { IfOk result (λ c. (c.replicas ≡ replicas) × (c.faults ≡ faults) × (c.kind ≡ kind)) }
+        ensures too_few { IsErrOf result TooFew ↔ (replicas < 3 * faults + 1) }
+        ensures too_many { IsErrOf result TooMany ↔ ((3 * faults + 1 ≤ replicas) × (13 < replicas)) }
+        ensures no_fault { IsErrOf result NoFault ↔ ((1 ≤ replicas) × (replicas ≤ 13) × (faults ≡ 0)) }
+    {
+        if u16::from(replicas) < 3 * u16::from(faults) + 1 {
+            return Err(ConfigFault::TooFew);
+        }
+        if replicas > Self::MAX_REPLICAS {
+            return Err(ConfigFault::TooMany);
+        }
+        if faults == 0 {
+            return Err(ConfigFault::NoFault);
+        }
+        Ok(Config {
+            replicas,
+            faults,
+            kind,
+        })
+    }
+}

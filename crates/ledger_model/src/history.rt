@@ -1,0 +1,49 @@
+use crate::{Event, ReplicaId, Reply};
+use std::marker::Model;
+
+/// An event and what was answered to it.
+#[derive(Drop)]
+pub struct Entry {
+    pub event: Event,
+    pub reply: Reply,
+}
+
+/// What happened at a replica, the first first.
+#[derive(Drop)]
+pub struct Entries {
+    entries: Vec<Entry>,
+}
+
+impl Model for Entries {
+    ghost use Rattle.std.specs.Prelude.{List};
+    ghost use Rattle.ledger_model.specs.declared.history.Entry.{Entry};
+
+    ghost Value = { List Entry };
+
+    ghost view = { λ e. e.entries.items };
+}
+
+/// A replica and what happened at it.
+#[derive(Drop)]
+pub struct History {
+    pub replica: ReplicaId,
+    pub entries: Entries,
+}
+
+impl Entries {
+    ghost use Rattle.std.specs.Prelude.{◌≡◌};
+
+    /// The entries, the first first.
+    pub fn new(entries: Vec<Entry>) -> Self
+        ensures { result ≡ entries.items }
+    {
+        Entries { entries }
+    }
+
+    /// The entries, the first first.
+    pub fn as_slice(&self) -> &[Entry]
+        ensures { result.now ≡ self.now }
+    {
+        self.entries.as_slice()
+    }
+}

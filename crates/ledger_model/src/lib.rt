@@ -1,0 +1,28 @@
+//! The plain types of the replicated ledger, and the definitions that every other crate's contracts cite.
+#![tactic(auto)]
+
+mod batch;
+mod config;
+mod event;
+mod history;
+mod ids;
+pub mod laws;
+mod ledger;
+mod reply;
+mod statement;
+mod world;
+
+pub use batch::{Batch, BatchFault, Key, KeyFault, Tx, TxFault};
+pub use config::{AppKind, Config, ConfigFault};
+pub use event::Event;
+pub use history::{Entries, Entry, History};
+pub use ids::{Height, Phase, ReplicaId};
+pub use ledger::Ledger;
+pub use reply::{
+    Addressee, BlockResult, Codes, Ignored, LastRound, NotHeld, NothingDecided, ProposeRefusal,
+    QueryAnswer, Reply, RoundEnded, Sent, SentFrames, SubmitRefusal,
+};
+pub use statement::{
+    Ack, Batches, Lock, LockProof, Report, Signature, SignedReport, SignedStatement, Statement,
+};
+pub use world::{WorldRefusal, WorldReply, WorldStep};
