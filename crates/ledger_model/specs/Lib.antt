@@ -1,4 +1,6 @@
 pub mod Values
+pub mod Order
+pub mod OrderLaws
 pub mod Notes
 pub mod Rounds
 pub mod Locks
@@ -6,6 +8,7 @@ pub mod Validity
 pub mod Spelling
 pub mod Reading
 pub mod Streams
+pub mod GrammarLaws
 pub mod Signatures
 pub mod Proper
 pub mod Logs
@@ -21,3 +24,4 @@ pub mod Timelines
 pub mod Boards
 pub mod Inboxes
 pub mod Sessions
+pub mod Examples

@@ -40,7 +40,7 @@ impl PartialEq for Tx {
     ghost laws = { Prim.search (comparing, rules) };
 
     fn eq(&self, other: &Tx) -> bool {
-        self.bytes.as_slice() == other.bytes.as_slice()
+        self.as_bytes() == other.as_bytes()
     }
 }
 
@@ -63,9 +63,11 @@ impl Tx {
         Ok(Tx { bytes })
     }
 
-    /// Its bytes.
+    /// Its bytes, 1 to 64.
     pub fn as_bytes(&self) -> &[u8]
-        ensures { result.now ≡ self.now }
+        ensures bytes { result.now ≡ self.now }
+        ensures some { 1 ≤ length self.now }
+        ensures short { length self.now ≤ 64 }
     {
         self.bytes.as_slice()
     }
@@ -113,7 +115,7 @@ impl PartialEq for Batch {
     ghost laws = { Prim.search (comparing, rules) };
 
     fn eq(&self, other: &Batch) -> bool {
-        self.transactions.as_slice() == other.transactions.as_slice()
+        self.transactions() == other.transactions()
     }
 }
 
@@ -132,9 +134,10 @@ impl Batch {
         Ok(Batch { transactions })
     }
 
-    /// Its transactions, in order.
+    /// Its transactions, in order, at most 16.
     pub fn transactions(&self) -> &[Tx]
-        ensures { result.now ≡ self.now }
+        ensures transactions { result.now ≡ self.now }
+        ensures few { length self.now ≤ 16 }
     {
         self.transactions.as_slice()
     }
@@ -162,7 +165,7 @@ fn copy_all(alloc: Global, transactions: &[Tx]) -> Result<Vec<Tx>, AllocError>
 /// What is asked of an application: 0 to 64 bytes.
 #[derive(Debug, Drop)]
 pub struct Key {
-    bytes: Vec<u8>,
+    name: Vec<u8>,
 }
 
 /// Why bytes are no key.
@@ -177,9 +180,9 @@ impl Model for Key {
 
     ghost Value = { List ℕ };
 
-    ghost view = { λ k. k.bytes.items };
+    ghost view = { λ k. k.name.items };
 
-    ghost invariant = { λ k. length k.bytes.items ≤ 64 };
+    ghost invariant = { λ k. length k.name.items ≤ 64 };
 }
 
 impl Key {
@@ -194,14 +197,14 @@ impl Key {
         if bytes.len() > Self::MAX_LEN {
             return Err(KeyFault::TooLong);
         }
-        Ok(Key { bytes })
+        Ok(Key { name: bytes })
     }
 
     /// Its bytes.
     pub fn as_bytes(&self) -> &[u8]
         ensures { result.now ≡ self.now }
     {
-        self.bytes.as_slice()
+        self.name.as_slice()
     }
 
     /// The same key once more.
@@ -209,7 +212,7 @@ impl Key {
         ensures { IfOk result (λ key. key ≡ self.now) }
     {
         Ok(Key {
-            bytes: self.bytes.clone()?,
+            name: self.name.clone()?,
         })
     }
 }

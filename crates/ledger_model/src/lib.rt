@@ -4,10 +4,12 @@
 mod batch;
 mod config;
 mod event;
+pub mod examples;
 mod history;
 mod ids;
 pub mod laws;
 mod ledger;
+mod order;
 mod reply;
 mod statement;
 mod world;
@@ -18,6 +20,7 @@ pub use event::Event;
 pub use history::{Entries, Entry, History};
 pub use ids::{Height, Phase, ReplicaId};
 pub use ledger::Ledger;
+pub use order::are_ascending;
 pub use reply::{
     Addressee, BlockResult, Codes, Ignored, LastRound, NotHeld, NothingDecided, ProposeRefusal,
     QueryAnswer, Reply, RoundEnded, Sent, SentFrames, SubmitRefusal,
@@ -26,3 +29,6 @@ pub use statement::{
     Ack, Batches, Lock, LockProof, Report, Signature, SignedReport, SignedStatement, Statement,
 };
 pub use world::{WorldRefusal, WorldReply, WorldStep};
+
+#[cfg(test)]
+mod tests;

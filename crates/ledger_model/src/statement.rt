@@ -22,18 +22,21 @@ impl Model for Batches {
 impl Batches {
     ghost use Rattle.std.specs.Prelude.{◌≡◌};
 
+    /// The list of these batches, in order.
     pub fn new(batches: Vec<Batch>) -> Self
         ensures { result ≡ batches.items }
     {
         Batches { batches }
     }
 
+    /// The batches, in order. Takes no memory.
     pub fn into_vec(self) -> Vec<Batch>
         ensures { result.items ≡ self }
     {
         self.batches
     }
 
+    /// The batches, in order.
     pub fn as_slice(&self) -> &[Batch]
         ensures { result.now ≡ self.now }
     {
@@ -142,12 +145,14 @@ impl Model for LockProof {
 impl LockProof {
     ghost use Rattle.std.specs.Prelude.{◌≡◌};
 
+    /// The proof that these reports are, in order.
     pub fn new(reports: Vec<SignedReport>) -> Self
         ensures { result ≡ reports.items }
     {
         LockProof { reports }
     }
 
+    /// The reports, in order.
     pub fn as_slice(&self) -> &[SignedReport]
         ensures { result.now ≡ self.now }
     {

@@ -1,0 +1,349 @@
+-- Statements and signatures are read as they are spelled.
+use Rattle.std.proofs.Common.{◌≡◌, ℕ, zero, suc, ◌^◌, ◌<◌, ◌≤◌, Bool, true, false, ◌&&◌, cond, List, [], ◌∷◌, ◌++◌, length, Option, Some, None, refl, sym, ap, subst, ◌∙◌, append_assoc, arith, leb, eqb}
+use Rattle.std.specs.List.{flat_map, AllByRecursion}
+use Rattle.std.specs.Int.{w16, w32, to_be_bytes}
+use Rattle.std.proofs.lemmas.Bool.{and_parts, and_from, leb-true, le-leb, eqb-true}
+use Rattle.ledger_model.specs.declared.statement.Report.{Report}
+use Rattle.ledger_model.specs.declared.statement.Lock.{Lock}
+use Rattle.ledger_model.specs.declared.statement.Ack.{Ack}
+use Rattle.ledger_model.specs.declared.statement.SignedReport.{SignedReport}
+use Rattle.ledger_model.specs.declared.statement.Statement.{Statement}
+use Rattle.ledger_model.specs.declared.statement.Statement.TheVariants as statement
+use Rattle.ledger_model.specs.Values.{value_bytes}
+use Rattle.ledger_model.specs.Validity.{ascends_within, signers_of}
+use Rattle.ledger_model.specs.Spelling.{IsPlace, IsReport, IsSignature, IsSigned, IsLock, IsAck, IsStatement, list_bytes, report_bytes, signature_bytes, signed_bytes, lock_bytes, ack_bytes, statement_bytes}
+use Rattle.ledger_model.specs.GrammarLaws.{IsBytes}
+use Rattle.ledger_model.specs.Reading.{◌>>=◌, only_if, guarded, bytes_at, byte_at, number_at, signature_at, positive_at, flag_at, Place, place_at, value_at, list_at, report_at, signed_at, proof_at, lock_at, ack_at, statement_at}
+use Rattle.ledger_model.proofs.Readers.{bind_some, only_if-some, guarded-some, some_is, each_byte, IsReader, many_takes, many_again, IsBytes-tail, byte_takes, bytes_take, bytes_again, wide16, wide32, number_reader}
+use Rattle.ledger_model.proofs.ValueReading.{value_reader, list_reader}
+
+-- ---- signatures
+
+pub signature_takes : (bytes signature rest : List ℕ) → IsBytes bytes → signature_at bytes ≡ Some (signature, rest)
+    → (bytes ≡ signature_bytes signature ++ rest) × IsSignature signature × IsBytes rest
+unfolding signature_at
+signature_takes bytes signature rest fits e =
+    let a = bind_some (number_at w16 bytes) (λ len. guarded (leb len.0 2508) (bytes_at len.0 len.1)) (signature, rest) e in
+    let g = guarded-some (leb a.0.0 2508) (bytes_at a.0.0 a.0.1) (signature, rest) a.2 in
+    let short : a.0.0 ≤ 2508 = leb-true a.0.0 2508 g.0 in
+    let first = (number_reader w16 (2 ^ 16) wide16).takes bytes a.0.0 a.0.1 fits a.1 in
+    let text = bytes_take a.0.0 a.0.1 signature rest first.2 g.1 in
+    let len : length signature ≡ a.0.0 = text.3 in
+    let parts : bytes ≡ (to_be_bytes w16 (length signature) ++ signature) ++ rest =
+    first.0 ∙ ap (λ (t : List ℕ). to_be_bytes w16 a.0.0 ++ t) text.0 ∙ ap (λ (k : ℕ). to_be_bytes w16 k ++ (signature ++ rest)) (sym len)
+    ∙ sym (append_assoc (to_be_bytes w16 (length signature)) signature rest) in
+    (parts, record { short = omega arith; bytes = each_byte signature text.1 }, text.2)
+
+pub signature_again : (signature rest : List ℕ) → IsSignature signature → signature_at (signature_bytes signature ++ rest) ≡ Some (signature, rest)
+unfolding signature_at
+signature_again signature rest is =
+    let short : length signature ≤ 2508 = is.short in
+    let test : leb (length signature) 2508 ≡ true = le-leb _ _ short in
+    ap signature_at (append_assoc (to_be_bytes w16 (length signature)) signature rest)
+    ∙ rw ((number_reader w16 (2 ^ 16) wide16).again (length signature) (signature ++ rest) (omega arith), test, bytes_again signature rest) refl
+
+pub signature_reader : IsReader signature_bytes IsSignature signature_at
+signature_reader = record { takes = signature_takes; again = signature_again }
+
+-- ---- heights, phases and flags
+
+abbrev pub IsPositive : ℕ → Type 0
+IsPositive n = (1 ≤ n) × (n < 2 ^ 32)
+
+pub positive_reader : IsReader (to_be_bytes w32) IsPositive positive_at
+unfolding positive_at
+positive_reader = record {
+  takes = λ bytes n rest fits e.
+      let a = bind_some (number_at w32 bytes) (λ p. only_if (leb 1 p.0) p) (n, rest) e in
+      let o = only_if-some (leb 1 a.0.0) a.0 (n, rest) a.2 in
+      let first = (number_reader w32 (2 ^ 32) wide32).takes bytes a.0.0 a.0.1 fits a.1 in
+      subst (λ (p : ℕ × List ℕ). (bytes ≡ to_be_bytes w32 p.0 ++ p.1) × IsPositive p.0 × IsBytes p.1) o.1 (first.0, (leb-true 1 a.0.0 o.0, first.1), first.2);
+  again = λ n rest is.
+      rw ((number_reader w32 (2 ^ 32) wide32).again n rest is.1, le-leb 1 n is.0) refl;
+}
+
+abbrev pub flag_bytes : Bool → List ℕ
+flag_bytes flag = cond flag 1 0 ∷ []
+
+-- every flag may be spelled
+abbrev pub IsFlag : Bool → Type 0
+IsFlag flag = Unit {0}
+
+pub flag_takes : (bytes : List ℕ) (flag : Bool) (rest : List ℕ) → IsBytes bytes → flag_at bytes ≡ Some (flag, rest) → (bytes ≡ flag_bytes flag ++ rest) × IsFlag flag × IsBytes rest
+unfolding flag_at
+flag_takes [] flag rest fits e = absurd cc
+flag_takes (zero ∷ bytes) flag rest fits e =
+    subst (λ (p : Bool × List ℕ). (0 ∷ bytes ≡ flag_bytes p.0 ++ p.1) × IsFlag p.0 × IsBytes p.1) (some_is (false, bytes) (flag, rest) e) (refl, tt, IsBytes-tail 0 bytes fits)
+flag_takes (suc zero ∷ bytes) flag rest fits e =
+    subst (λ (p : Bool × List ℕ). (1 ∷ bytes ≡ flag_bytes p.0 ++ p.1) × IsFlag p.0 × IsBytes p.1) (some_is (true, bytes) (flag, rest) e) (refl, tt, IsBytes-tail 1 bytes fits)
+flag_takes (suc (suc b) ∷ bytes) flag rest fits e = absurd cc
+
+pub flag_again : (flag : Bool) (rest : List ℕ) → IsFlag flag → flag_at (flag_bytes flag ++ rest) ≡ Some (flag, rest)
+unfolding flag_at
+flag_again true rest is = refl
+flag_again false rest is = refl
+
+pub flag_reader : IsReader flag_bytes IsFlag flag_at
+flag_reader = record { takes = flag_takes; again = flag_again }
+
+-- ---- places
+
+abbrev pub place_bytes : Place → List ℕ
+place_bytes p = to_be_bytes w32 p.height ++ to_be_bytes w32 p.phase ++ p.signer ∷ []
+
+abbrev pub IsPlaced : Place → Type 0
+IsPlaced p = IsPlace p.height p.phase p.signer
+
+pub place_takes : (bytes : List ℕ) (p : Place) (rest : List ℕ) → IsBytes bytes → place_at bytes ≡ Some (p, rest) → (bytes ≡ place_bytes p ++ rest) × IsPlaced p × IsBytes rest
+unfolding place_at
+place_takes bytes p rest fits e =
+    let a = bind_some (positive_at bytes) (λ height. positive_at height.1 >>= λ phase. byte_at phase.1 >>= λ signer. Some (record { height = height.0; phase = phase.0; signer = signer.0 }, signer.1)) (p, rest) e in
+    let b = bind_some (positive_at a.0.1) (λ phase. byte_at phase.1 >>= λ signer. Some (record { height = a.0.0; phase = phase.0; signer = signer.0 }, signer.1)) (p, rest) a.2 in
+    let c = bind_some (byte_at b.0.1) (λ signer. Some (record { height = a.0.0; phase = b.0.0; signer = signer.0 }, signer.1)) (p, rest) b.2 in
+    let height = positive_reader.takes bytes a.0.0 a.0.1 fits a.1 in
+    let phase = positive_reader.takes a.0.1 b.0.0 b.0.1 height.2 b.1 in
+    let signer = byte_takes b.0.1 c.0.0 c.0.1 phase.2 c.1 in
+    let made : Place × List ℕ = (record { height = a.0.0; phase = b.0.0; signer = c.0.0 }, c.0.1) in
+    let parts : bytes ≡ place_bytes made.0 ++ made.1 =
+    height.0 ∙ ap (λ (t : List ℕ). to_be_bytes w32 a.0.0 ++ t) (phase.0 ∙ ap (λ (t : List ℕ). to_be_bytes w32 b.0.0 ++ t) signer.0) ∙ simp append_assoc in
+    subst (λ (q : Place × List ℕ). (bytes ≡ place_bytes q.0 ++ q.1) × IsPlaced q.0 × IsBytes q.1) (some_is made (p, rest) c.2)
+    (parts, record { heights = height.1; phases = phase.1; signers = signer.1 }, signer.2)
+
+pub place_again : (p : Place) (rest : List ℕ) → IsPlaced p → place_at (place_bytes p ++ rest) ≡ Some (p, rest)
+unfolding place_at
+place_again p rest is =
+    let regrouped : place_bytes p ++ rest ≡ to_be_bytes w32 p.height ++ (to_be_bytes w32 p.phase ++ (p.signer ∷ rest)) = simp append_assoc in
+    ap place_at regrouped
+    ∙ rw (positive_reader.again p.height (to_be_bytes w32 p.phase ++ (p.signer ∷ rest)) is.heights, positive_reader.again p.phase (p.signer ∷ rest) is.phases) refl
+
+pub place_reader : IsReader place_bytes IsPlaced place_at
+place_reader = record { takes = place_takes; again = place_again }
+
+-- ---- reports
+
+-- what stands behind a report's first byte
+abbrev pub report_tail : Report → List ℕ
+report_tail r =
+    to_be_bytes w32 r.height ++ to_be_bytes w32 r.phase ++ (r.signer ∷ cond r.all 1 0 ∷ [])
+    ++ value_bytes r.initial ++ list_bytes r.proper ++ list_bytes r.locked
+
+report_regroup : (h p v l m rest : List ℕ) (s f : ℕ) → (h ++ p ++ s ∷ []) ++ ((f ∷ []) ++ (v ++ (l ++ (m ++ rest)))) ≡ (h ++ p ++ (s ∷ f ∷ []) ++ v ++ l ++ m) ++ rest
+report_regroup h p v l m rest s f = simp append_assoc
+
+pub report_takes : (bytes : List ℕ) (r : Report) (rest : List ℕ) → IsBytes bytes → report_at bytes ≡ Some (r, rest) → (bytes ≡ report_tail r ++ rest) × IsReport r × IsBytes rest
+unfolding report_at
+report_takes bytes r rest fits e =
+    let a = bind_some (place_at bytes) (λ place. flag_at place.1 >>= λ all. value_at all.1 >>= λ initial. list_at initial.1 >>= λ proper. guarded (leb 1 (length proper.0)) (list_at proper.1) >>= λ locked. Some (record { height = place.0.height; phase = place.0.phase; signer = place.0.signer; all = all.0; initial = initial.0; proper = proper.0; locked = locked.0 }, locked.1)) (r, rest) e in
+    let b = bind_some (flag_at a.0.1) (λ all. value_at all.1 >>= λ initial. list_at initial.1 >>= λ proper. guarded (leb 1 (length proper.0)) (list_at proper.1) >>= λ locked. Some (record { height = a.0.0.height; phase = a.0.0.phase; signer = a.0.0.signer; all = all.0; initial = initial.0; proper = proper.0; locked = locked.0 }, locked.1)) (r, rest) a.2 in
+    let c = bind_some (value_at b.0.1) (λ initial. list_at initial.1 >>= λ proper. guarded (leb 1 (length proper.0)) (list_at proper.1) >>= λ locked. Some (record { height = a.0.0.height; phase = a.0.0.phase; signer = a.0.0.signer; all = b.0.0; initial = initial.0; proper = proper.0; locked = locked.0 }, locked.1)) (r, rest) b.2 in
+    let d = bind_some (list_at c.0.1) (λ proper. guarded (leb 1 (length proper.0)) (list_at proper.1) >>= λ locked. Some (record { height = a.0.0.height; phase = a.0.0.phase; signer = a.0.0.signer; all = b.0.0; initial = c.0.0; proper = proper.0; locked = locked.0 }, locked.1)) (r, rest) c.2 in
+    let f = bind_some (guarded (leb 1 (length d.0.0)) (list_at d.0.1)) (λ locked. Some (record { height = a.0.0.height; phase = a.0.0.phase; signer = a.0.0.signer; all = b.0.0; initial = c.0.0; proper = d.0.0; locked = locked.0 }, locked.1)) (r, rest) d.2 in
+    let g = guarded-some (leb 1 (length d.0.0)) (list_at d.0.1) f.0 f.1 in
+    let place = place_reader.takes bytes a.0.0 a.0.1 fits a.1 in
+    let all = flag_reader.takes a.0.1 b.0.0 b.0.1 place.2 b.1 in
+    let initial = value_reader.takes b.0.1 c.0.0 c.0.1 all.2 c.1 in
+    let proper = list_reader.takes c.0.1 d.0.0 d.0.1 initial.2 d.1 in
+    let locked = list_reader.takes d.0.1 f.0.0 f.0.1 proper.2 g.1 in
+    let made : Report × List ℕ = (record { height = a.0.0.height; phase = a.0.0.phase; signer = a.0.0.signer; all = b.0.0; initial = c.0.0; proper = d.0.0; locked = f.0.0 }, f.0.1) in
+    let parts : bytes ≡ report_tail made.0 ++ made.1 =
+    place.0 ∙ ap (λ (t : List ℕ). place_bytes a.0.0 ++ t) (all.0 ∙ ap (λ (t : List ℕ). flag_bytes b.0.0 ++ t) (initial.0 ∙ ap (λ (t : List ℕ). value_bytes c.0.0 ++ t) (proper.0 ∙ ap (λ (t : List ℕ). list_bytes d.0.0 ++ t) locked.0)))
+    ∙ report_regroup (to_be_bytes w32 a.0.0.height) (to_be_bytes w32 a.0.0.phase) (value_bytes c.0.0) (list_bytes d.0.0) (list_bytes f.0.0) f.0.1 a.0.0.signer (cond b.0.0 1 0) in
+    subst (λ (q : Report × List ℕ). (bytes ≡ report_tail q.0 ++ q.1) × IsReport q.0 × IsBytes q.1) (some_is made (r, rest) f.2)
+    (parts, record { place = place.1; initial = initial.1; proper = proper.1; some = leb-true 1 (length d.0.0) g.0; locked = locked.1 }, locked.2)
+
+pub report_again : (r : Report) (rest : List ℕ) → IsReport r → report_at (report_tail r ++ rest) ≡ Some (r, rest)
+unfolding report_at
+report_again r rest is =
+    let place : Place = record { height = r.height; phase = r.phase; signer = r.signer } in
+    let after_proper = list_bytes r.locked ++ rest in
+    let after_initial = list_bytes r.proper ++ after_proper in
+    let after_flag = value_bytes r.initial ++ after_initial in
+    let after_place = flag_bytes r.all ++ after_flag in
+    ap report_at (sym (report_regroup (to_be_bytes w32 r.height) (to_be_bytes w32 r.phase) (value_bytes r.initial) (list_bytes r.proper) (list_bytes r.locked) rest r.signer (cond r.all 1 0)))
+    ∙ rw (
+      place_reader.again place after_place is.place,
+      flag_reader.again r.all after_flag tt,
+      value_reader.again r.initial after_initial is.initial,
+      list_reader.again r.proper after_proper is.proper,
+      le-leb 1 (length r.proper) is.some,
+      list_reader.again r.locked rest is.locked,
+    ) refl
+
+pub report_reader : IsReader report_tail IsReport report_at
+report_reader = record { takes = report_takes; again = report_again }
+
+-- ---- signed reports and proofs
+
+pub signed_takes : (bytes : List ℕ) (s : SignedReport) (rest : List ℕ) → IsBytes bytes → signed_at bytes ≡ Some (s, rest) → (bytes ≡ signed_bytes s ++ rest) × IsSigned s × IsBytes rest
+unfolding signed_at
+signed_takes bytes s rest fits e =
+    let a = bind_some (byte_at bytes) (λ kind. guarded (eqb kind.0 1) (report_at kind.1) >>= λ report. signature_at report.1 >>= λ signature. Some (record { report = report.0; signature = signature.0 }, signature.1)) (s, rest) e in
+    let b = bind_some (guarded (eqb a.0.0 1) (report_at a.0.1)) (λ report. signature_at report.1 >>= λ signature. Some (record { report = report.0; signature = signature.0 }, signature.1)) (s, rest) a.2 in
+    let c = bind_some (signature_at b.0.1) (λ signature. Some (record { report = b.0.0; signature = signature.0 }, signature.1)) (s, rest) b.2 in
+    let g = guarded-some (eqb a.0.0 1) (report_at a.0.1) b.0 b.1 in
+    let kind = byte_takes bytes a.0.0 a.0.1 fits a.1 in
+    let is_one : a.0.0 ≡ 1 = eqb-true a.0.0 1 g.0 in
+    let report = report_reader.takes a.0.1 b.0.0 b.0.1 kind.2 g.1 in
+    let signature = signature_reader.takes b.0.1 c.0.0 c.0.1 report.2 c.1 in
+    let made : SignedReport × List ℕ = (record { report = b.0.0; signature = c.0.0 }, c.0.1) in
+    let parts : bytes ≡ signed_bytes made.0 ++ made.1 =
+    kind.0 ∙ ap (λ (k : ℕ). k ∷ a.0.1) is_one
+    ∙ ap (λ (t : List ℕ). 1 ∷ t) (report.0 ∙ ap (λ (t : List ℕ). report_tail b.0.0 ++ t) signature.0 ∙ sym (append_assoc (report_tail b.0.0) (signature_bytes c.0.0) c.0.1)) in
+    subst (λ (q : SignedReport × List ℕ). (bytes ≡ signed_bytes q.0 ++ q.1) × IsSigned q.0 × IsBytes q.1) (some_is made (s, rest) c.2)
+    (parts, record { report = report.1; signature = signature.1 }, signature.2)
+
+pub signed_again : (s : SignedReport) (rest : List ℕ) → IsSigned s → signed_at (signed_bytes s ++ rest) ≡ Some (s, rest)
+unfolding signed_at
+signed_again s rest is =
+    ap (λ (t : List ℕ). signed_at (1 ∷ t)) (append_assoc (report_tail s.report) (signature_bytes s.signature) rest)
+    ∙ rw (report_reader.again s.report (signature_bytes s.signature ++ rest) is.report, signature_reader.again s.signature rest is.signature) refl
+
+pub signed_reader : IsReader signed_bytes IsSigned signed_at
+signed_reader = record { takes = signed_takes; again = signed_again }
+
+pub proof_takes : (n : ℕ) (bytes : List ℕ) (proof : List SignedReport) (rest : List ℕ) → IsBytes bytes → proof_at n bytes ≡ Some (proof, rest)
+    → (bytes ≡ flat_map signed_bytes proof ++ rest) × AllByRecursion IsSigned proof × IsBytes rest × (length proof ≡ n)
+unfolding proof_at
+proof_takes = many_takes signed_reader proof_at (λ bytes. refl) (λ n bytes. refl)
+
+pub proof_again : (proof : List SignedReport) (rest : List ℕ) → AllByRecursion IsSigned proof → proof_at (length proof) (flat_map signed_bytes proof ++ rest) ≡ Some (proof, rest)
+unfolding proof_at
+proof_again = many_again signed_reader proof_at (λ bytes. refl) (λ n bytes. refl)
+
+-- ---- locks
+
+-- what stands behind a lock's first byte
+abbrev pub lock_tail : Lock → List ℕ
+lock_tail l =
+    to_be_bytes w32 l.height ++ to_be_bytes w32 l.phase ++ (l.signer ∷ []) ++ value_bytes l.value
+    ++ (length l.proof ∷ []) ++ flat_map signed_bytes l.proof
+
+lock_regroup : (h p v f rest : List ℕ) (s n : ℕ) → (h ++ p ++ s ∷ []) ++ (v ++ (n ∷ (f ++ rest))) ≡ (h ++ p ++ (s ∷ []) ++ v ++ (n ∷ []) ++ f) ++ rest
+lock_regroup h p v f rest s n = simp append_assoc
+
+pub lock_takes : (bytes : List ℕ) (l : Lock) (rest : List ℕ) → IsBytes bytes → lock_at bytes ≡ Some (l, rest) → (bytes ≡ lock_tail l ++ rest) × IsLock l × IsBytes rest
+unfolding lock_at
+lock_takes bytes l rest fits e =
+    let a = bind_some (place_at bytes) (λ place. value_at place.1 >>= λ v. byte_at v.1 >>= λ count. guarded (leb 3 count.0 && leb count.0 12) (proof_at count.0 count.1) >>= λ reports. only_if (ascends_within 0 256 (signers_of reports.0)) (record { height = place.0.height; phase = place.0.phase; signer = place.0.signer; value = v.0; proof = reports.0 }, reports.1)) (l, rest) e in
+    let b = bind_some (value_at a.0.1) (λ v. byte_at v.1 >>= λ count. guarded (leb 3 count.0 && leb count.0 12) (proof_at count.0 count.1) >>= λ reports. only_if (ascends_within 0 256 (signers_of reports.0)) (record { height = a.0.0.height; phase = a.0.0.phase; signer = a.0.0.signer; value = v.0; proof = reports.0 }, reports.1)) (l, rest) a.2 in
+    let c = bind_some (byte_at b.0.1) (λ count. guarded (leb 3 count.0 && leb count.0 12) (proof_at count.0 count.1) >>= λ reports. only_if (ascends_within 0 256 (signers_of reports.0)) (record { height = a.0.0.height; phase = a.0.0.phase; signer = a.0.0.signer; value = b.0.0; proof = reports.0 }, reports.1)) (l, rest) b.2 in
+    let d = bind_some (guarded (leb 3 c.0.0 && leb c.0.0 12) (proof_at c.0.0 c.0.1)) (λ reports. only_if (ascends_within 0 256 (signers_of reports.0)) (record { height = a.0.0.height; phase = a.0.0.phase; signer = a.0.0.signer; value = b.0.0; proof = reports.0 }, reports.1)) (l, rest) c.2 in
+    let g = guarded-some (leb 3 c.0.0 && leb c.0.0 12) (proof_at c.0.0 c.0.1) d.0 d.1 in
+    let ends = and_parts (leb 3 c.0.0) (leb c.0.0 12) g.0 in
+    let least : 3 ≤ c.0.0 = leb-true 3 c.0.0 ends.0 in
+    let most : c.0.0 ≤ 12 = leb-true c.0.0 12 ends.1 in
+    let made : Lock × List ℕ = (record { height = a.0.0.height; phase = a.0.0.phase; signer = a.0.0.signer; value = b.0.0; proof = d.0.0 }, d.0.1) in
+    let o = only_if-some (ascends_within 0 256 (signers_of d.0.0)) made (l, rest) d.2 in
+    let place = place_reader.takes bytes a.0.0 a.0.1 fits a.1 in
+    let value = value_reader.takes a.0.1 b.0.0 b.0.1 place.2 b.1 in
+    let count = byte_takes b.0.1 c.0.0 c.0.1 value.2 c.1 in
+    let proof = proof_takes c.0.0 c.0.1 d.0.0 d.0.1 count.2 g.1 in
+    let len : length d.0.0 ≡ c.0.0 = proof.3 in
+    let reports : b.0.1 ≡ length d.0.0 ∷ (flat_map signed_bytes d.0.0 ++ d.0.1) = count.0 ∙ ap (λ (t : List ℕ). c.0.0 ∷ t) proof.0 ∙ ap (λ (k : ℕ). k ∷ (flat_map signed_bytes d.0.0 ++ d.0.1)) (sym len) in
+    let parts : bytes ≡ lock_tail made.0 ++ made.1 =
+    place.0 ∙ ap (λ (t : List ℕ). place_bytes a.0.0 ++ t) (value.0 ∙ ap (λ (t : List ℕ). value_bytes b.0.0 ++ t) reports)
+    ∙ lock_regroup (to_be_bytes w32 a.0.0.height) (to_be_bytes w32 a.0.0.phase) (value_bytes b.0.0) (flat_map signed_bytes d.0.0) d.0.1 a.0.0.signer (length d.0.0) in
+    subst (λ (q : Lock × List ℕ). (bytes ≡ lock_tail q.0 ++ q.1) × IsLock q.0 × IsBytes q.1) o.1
+    (parts, record { place = place.1; value = value.1; count = (omega arith, omega arith); each = proof.1; signers = o.0 }, proof.2)
+
+pub lock_again : (l : Lock) (rest : List ℕ) → IsLock l → lock_at (lock_tail l ++ rest) ≡ Some (l, rest)
+unfolding lock_at
+lock_again l rest is =
+    let place : Place = record { height = l.height; phase = l.phase; signer = l.signer } in
+    let after_count = flat_map signed_bytes l.proof ++ rest in
+    let after_value = length l.proof ∷ after_count in
+    let after_place = value_bytes l.value ++ after_value in
+    let test : (leb 3 (length l.proof) && leb (length l.proof) 12) ≡ true = and_from (leb 3 (length l.proof)) (leb (length l.proof) 12) (le-leb _ _ is.count.0) (le-leb _ _ is.count.1) in
+    ap lock_at (sym (lock_regroup (to_be_bytes w32 l.height) (to_be_bytes w32 l.phase) (value_bytes l.value) (flat_map signed_bytes l.proof) rest l.signer (length l.proof)))
+    ∙ rw (place_reader.again place after_place is.place, value_reader.again l.value after_value is.value, test, proof_again l.proof rest is.each, is.signers) refl
+
+pub lock_reader : IsReader lock_tail IsLock lock_at
+lock_reader = record { takes = lock_takes; again = lock_again }
+
+-- ---- acknowledgements
+
+-- what stands behind an acknowledgement's first byte
+abbrev pub ack_tail : Ack → List ℕ
+ack_tail a = to_be_bytes w32 a.height ++ to_be_bytes w32 a.phase ++ (a.signer ∷ []) ++ value_bytes a.value
+
+ack_regroup : (h p v rest : List ℕ) (s : ℕ) → (h ++ p ++ s ∷ []) ++ (v ++ rest) ≡ (h ++ p ++ (s ∷ []) ++ v) ++ rest
+ack_regroup h p v rest s = simp append_assoc
+
+pub ack_takes : (bytes : List ℕ) (a : Ack) (rest : List ℕ) → IsBytes bytes → ack_at bytes ≡ Some (a, rest) → (bytes ≡ ack_tail a ++ rest) × IsAck a × IsBytes rest
+unfolding ack_at
+ack_takes bytes x rest fits e =
+    let a = bind_some (place_at bytes) (λ place. value_at place.1 >>= λ v. Some (record { height = place.0.height; phase = place.0.phase; signer = place.0.signer; value = v.0 }, v.1)) (x, rest) e in
+    let b = bind_some (value_at a.0.1) (λ v. Some (record { height = a.0.0.height; phase = a.0.0.phase; signer = a.0.0.signer; value = v.0 }, v.1)) (x, rest) a.2 in
+    let place = place_reader.takes bytes a.0.0 a.0.1 fits a.1 in
+    let value = value_reader.takes a.0.1 b.0.0 b.0.1 place.2 b.1 in
+    let made : Ack × List ℕ = (record { height = a.0.0.height; phase = a.0.0.phase; signer = a.0.0.signer; value = b.0.0 }, b.0.1) in
+    let parts : bytes ≡ ack_tail made.0 ++ made.1 =
+    place.0 ∙ ap (λ (t : List ℕ). place_bytes a.0.0 ++ t) value.0
+    ∙ ack_regroup (to_be_bytes w32 a.0.0.height) (to_be_bytes w32 a.0.0.phase) (value_bytes b.0.0) b.0.1 a.0.0.signer in
+    subst (λ (q : Ack × List ℕ). (bytes ≡ ack_tail q.0 ++ q.1) × IsAck q.0 × IsBytes q.1) (some_is made (x, rest) b.2)
+    (parts, record { place = place.1; value = value.1 }, value.2)
+
+pub ack_again : (a : Ack) (rest : List ℕ) → IsAck a → ack_at (ack_tail a ++ rest) ≡ Some (a, rest)
+unfolding ack_at
+ack_again a rest is =
+    let place : Place = record { height = a.height; phase = a.phase; signer = a.signer } in
+    ap ack_at (sym (ack_regroup (to_be_bytes w32 a.height) (to_be_bytes w32 a.phase) (value_bytes a.value) rest a.signer))
+    ∙ rw (place_reader.again place (value_bytes a.value ++ rest) is.place, value_reader.again a.value rest is.value) refl
+
+pub ack_reader : IsReader ack_tail IsAck ack_at
+ack_reader = record { takes = ack_takes; again = ack_again }
+
+-- ---- statements
+
+-- what was read, as a statement
+abbrev as_report : Report × List ℕ → Option (Statement × List ℕ)
+as_report r = Some (statement.Report r.0, r.1)
+
+abbrev as_lock : Lock × List ℕ → Option (Statement × List ℕ)
+as_lock l = Some (statement.Lock l.0, l.1)
+
+abbrev as_ack : Ack × List ℕ → Option (Statement × List ℕ)
+as_ack a = Some (statement.Ack a.0, a.1)
+
+-- what a statement's first byte says of the rest
+kind_takes : (kind : ℕ) (bytes : List ℕ) (s : Statement) (rest : List ℕ) (one two three : Bool) → eqb kind 1 ≡ one → eqb kind 2 ≡ two → eqb kind 3 ≡ three → IsBytes bytes
+    → cond one (report_at bytes >>= as_report)
+    (cond two (lock_at bytes >>= as_lock)
+    (cond three (ack_at bytes >>= as_ack) None)) ≡ Some (s, rest)
+    → (kind ∷ bytes ≡ statement_bytes s ++ rest) × IsStatement s × IsBytes rest
+unfolding statement_bytes
+kind_takes kind bytes s rest true two three is_one is_two is_three fits e =
+    let a = bind_some (report_at bytes) as_report (s, rest) e in
+    let t = report_takes bytes a.0.0 a.0.1 fits a.1 in
+    let parts : kind ∷ bytes ≡ report_bytes a.0.0 ++ a.0.1 = ap (λ (k : ℕ). k ∷ bytes) (eqb-true kind 1 is_one) ∙ ap (λ (x : List ℕ). 1 ∷ x) t.0 in
+    subst (λ (q : Statement × List ℕ). (kind ∷ bytes ≡ statement_bytes q.0 ++ q.1) × IsStatement q.0 × IsBytes q.1) (some_is (statement.Report a.0.0, a.0.1) (s, rest) a.2) (parts, t.1, t.2)
+kind_takes kind bytes s rest false true three is_one is_two is_three fits e =
+    let a = bind_some (lock_at bytes) as_lock (s, rest) e in
+    let t = lock_takes bytes a.0.0 a.0.1 fits a.1 in
+    let parts : kind ∷ bytes ≡ lock_bytes a.0.0 ++ a.0.1 = ap (λ (k : ℕ). k ∷ bytes) (eqb-true kind 2 is_two) ∙ ap (λ (x : List ℕ). 2 ∷ x) t.0 in
+    subst (λ (q : Statement × List ℕ). (kind ∷ bytes ≡ statement_bytes q.0 ++ q.1) × IsStatement q.0 × IsBytes q.1) (some_is (statement.Lock a.0.0, a.0.1) (s, rest) a.2) (parts, t.1, t.2)
+kind_takes kind bytes s rest false false true is_one is_two is_three fits e =
+    let a = bind_some (ack_at bytes) as_ack (s, rest) e in
+    let t = ack_takes bytes a.0.0 a.0.1 fits a.1 in
+    let parts : kind ∷ bytes ≡ ack_bytes a.0.0 ++ a.0.1 = ap (λ (k : ℕ). k ∷ bytes) (eqb-true kind 3 is_three) ∙ ap (λ (x : List ℕ). 3 ∷ x) t.0 in
+    subst (λ (q : Statement × List ℕ). (kind ∷ bytes ≡ statement_bytes q.0 ++ q.1) × IsStatement q.0 × IsBytes q.1) (some_is (statement.Ack a.0.0, a.0.1) (s, rest) a.2) (parts, t.1, t.2)
+kind_takes kind bytes s rest false false false is_one is_two is_three fits e = absurd cc
+
+pub statement_takes : (bytes : List ℕ) (s : Statement) (rest : List ℕ) → IsBytes bytes → statement_at bytes ≡ Some (s, rest) → (bytes ≡ statement_bytes s ++ rest) × IsStatement s × IsBytes rest
+unfolding statement_at
+statement_takes bytes s rest fits e =
+    let a = bind_some (byte_at bytes) (λ kind. cond (eqb kind.0 1) (report_at kind.1 >>= as_report)
+    (cond (eqb kind.0 2) (lock_at kind.1 >>= as_lock)
+    (cond (eqb kind.0 3) (ack_at kind.1 >>= as_ack) None))) (s, rest) e in
+    let first = byte_takes bytes a.0.0 a.0.1 fits a.1 in
+    let t = kind_takes a.0.0 a.0.1 s rest (eqb a.0.0 1) (eqb a.0.0 2) (eqb a.0.0 3) refl refl refl first.2 a.2 in
+    (first.0 ∙ t.0, t.1, t.2)
+
+pub statement_again : (s : Statement) (rest : List ℕ) → IsStatement s → statement_at (statement_bytes s ++ rest) ≡ Some (s, rest)
+unfolding statement_at statement_bytes
+statement_again (statement.Report r) rest is = rw (report_again r rest is) refl
+statement_again (statement.Lock l) rest is = rw (lock_again l rest is) refl
+statement_again (statement.Ack a) rest is = rw (ack_again a rest is) refl
+
+pub statement_reader : IsReader statement_bytes IsStatement statement_at
+statement_reader = record { takes = statement_takes; again = statement_again }

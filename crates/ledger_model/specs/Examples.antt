@@ -1,0 +1,232 @@
+-- Worked examples. A letter as a value is the batch of one transaction, the letter and =1.
+use Rattle.std.proofs.Common.{lit≤}
+use Rattle.std.specs.Prelude.{◌≡◌, ℕ, Bool, true, false, List, [], ◌∷◌, ◌++◌, length, replicate, Some, None, Ok, Err}
+use Rattle.ledger_model.specs.declared.config.Config.{Config}
+use Rattle.ledger_model.specs.declared.config.AppKind.{AppKind}
+use Rattle.ledger_model.specs.declared.config.AppKind.TheVariants.{KvStore, Counter, Purse}
+use Rattle.ledger_model.specs.declared.statement.Report.{Report}
+use Rattle.ledger_model.specs.declared.statement.Lock.{Lock}
+use Rattle.ledger_model.specs.declared.statement.SignedReport.{SignedReport}
+use Rattle.ledger_model.specs.declared.statement.SignedStatement.{SignedStatement}
+use Rattle.ledger_model.specs.declared.statement.Statement.TheVariants as statement
+use Rattle.ledger_model.specs.declared.history.Entry.{Entry}
+use Rattle.ledger_model.specs.declared.event.Event.TheVariants as event
+use Rattle.ledger_model.specs.declared.reply.Reply.TheVariants as reply
+use Rattle.ledger_model.specs.declared.reply.SubmitRefusal.TheVariants as refusal
+use Rattle.ledger_model.specs.declared.reply.ProposeRefusal.TheVariants as closed
+use Rattle.ledger_model.specs.Values.{Value, value_bytes}
+use Rattle.ledger_model.specs.Notes.{Note, Proposed, Round, Made, Read}
+use Rattle.ledger_model.specs.Locks.{decided_of, held_values}
+use Rattle.ledger_model.specs.Proper.{is_all_proper, proper_values}
+use Rattle.ledger_model.specs.Spelling.{report_bytes, frame_bytes}
+use Rattle.ledger_model.specs.Reading.{reading, value_at}
+use Rattle.ledger_model.specs.Signatures.{Params, coef, checksum}
+use Rattle.ledger_model.specs.Applications.{codes}
+use Rattle.ledger_model.specs.Replies.{check_reply, query_reply}
+use Rattle.ledger_model.specs.Commits.{pool_after_block}
+use Rattle.ledger_model.specs.Lawful.{Replay}
+
+abbrev pub four : AppKind → Config
+four kind = record { replicas = 4; faults = 1; kind = kind; enough = lit≤ tt; bounded = lit≤ tt; tolerant = lit≤ tt }
+
+abbrev pub one : ℕ → Value
+one letter = (letter ∷ 0x3d ∷ 0x31 ∷ []) ∷ []
+
+abbrev pub a : Value
+a = one 0x61
+
+abbrev pub b : Value
+b = one 0x62
+
+abbrev pub c : Value
+c = one 0x63
+
+abbrev pub d : Value
+d = one 0x64
+
+abbrev pub m : Value
+m = one 0x6d
+
+abbrev pub x : Value
+x = one 0x78
+
+abbrev pub y : Value
+y = one 0x79
+
+-- ---- proper values, at replica 0 of four as phase 2 opens, by its own value and what it read in phase 1
+
+-- a report of the signer was read: its initial value, whether it names every value, and those that it names
+abbrev pub reads : ℕ → Value → Bool → List Value → Note
+reads signer initial all proper = Read 1 (record {
+  statement = statement.Report (record { height = 1; phase = 1; signer = signer; all = all; initial = initial; proper = proper; locked = [] });
+  signature = [];
+})
+
+abbrev pub opened : Value → List Note → List Note
+opened own reports = Proposed own ∷ Round 1 ∷ reports
+
+abbrev pub proper_of : Value → List Note → List Value
+proper_of own reports = proper_values (four KvStore) 0 (opened own reports) 2 own
+
+abbrev pub all_of : Value → List Note → Bool
+all_of own reports = is_all_proper (four KvStore) 0 (opened own reports) 2 own
+
+-- two others name y
+abbrev pub TwoNameOne : Type 0
+TwoNameOne =
+    let reports = reads 1 x false (x ∷ []) ∷ reads 2 y false (y ∷ []) ∷ reads 3 y false (y ∷ []) ∷ [] in
+    (proper_of x reports ≡ x ∷ y ∷ []) × (all_of x reports ≡ false)
+
+-- three initial values, none of them twice: every value is proper
+abbrev pub ThreeDiffer : Type 0
+ThreeDiffer = all_of a (reads 1 b false (b ∷ []) ∷ reads 2 c false (c ∷ []) ∷ []) ≡ true
+
+-- three initial values, two of them the same
+abbrev pub TwoAgree : Type 0
+TwoAgree =
+    let reports = reads 1 a false (a ∷ []) ∷ reads 2 b false (b ∷ []) ∷ [] in
+    (proper_of a reports ≡ a ∷ []) × (all_of a reports ≡ false)
+
+-- two others name every value
+abbrev pub TwoNameAll : Type 0
+TwoNameAll = all_of a (reads 1 a true (a ∷ []) ∷ reads 2 a true (a ∷ []) ∷ []) ≡ true
+
+-- five values would be proper: the own one and the least three others are
+abbrev pub CutToFour : Type 0
+CutToFour =
+    let reports = reads 1 m false (a ∷ b ∷ c ∷ d ∷ []) ∷ reads 2 m false (a ∷ b ∷ c ∷ d ∷ []) ∷ [] in
+    (proper_of m reports ≡ a ∷ b ∷ c ∷ m ∷ []) × (all_of m reports ≡ false)
+
+-- ---- locks and decisions, at replica 1 of four, which owns phase 1
+
+abbrev pub a_lock : ℕ → ℕ → Value → Lock
+a_lock phase signer v = record { height = 1; phase = phase; signer = signer; value = v; proof = [] }
+
+abbrev pub reads_lock : ℕ → ℕ → ℕ → Value → Note
+reads_lock round phase signer v = Read round (record { statement = statement.Lock (a_lock phase signer v); signature = [] })
+
+abbrev pub reads_ack : ℕ → Note
+reads_ack signer = Read 3 (record { statement = statement.Ack (record { height = 1; phase = 1; signer = signer; value = a }); signature = [] })
+
+-- it made a lock on a in phase 1, and opened round 3
+abbrev pub to_round_3 : List Note
+to_round_3 = Proposed a ∷ Round 1 ∷ Round 2 ∷ Made 2 (statement.Lock (a_lock 1 1 a)) ∷ reads_lock 2 1 1 a ∷ Round 3 ∷ []
+
+-- three acknowledgements decide as the round is closed and not before; two don't, and two of one signer count as one
+abbrev pub ThreeAcksDecide : Type 0
+ThreeAcksDecide =
+    let decided = λ (notes : List Note). decided_of (four KvStore) (to_round_3 ++ notes) in
+    (decided (reads_ack 0 ∷ reads_ack 1 ∷ reads_ack 3 ∷ Round 4 ∷ []) ≡ Some a)
+    × (decided (reads_ack 0 ∷ reads_ack 1 ∷ reads_ack 3 ∷ []) ≡ None)
+    × (decided (reads_ack 0 ∷ reads_ack 1 ∷ Round 4 ∷ []) ≡ None)
+    × (decided (reads_ack 0 ∷ reads_ack 1 ∷ reads_ack 0 ∷ Round 4 ∷ []) ≡ None)
+
+-- the lock on a of phase 1 is released by one on b of that phase that is read at place 4, and kept by one on a and by one on b of phase 2
+abbrev pub LockReleased : Type 0
+LockReleased =
+    let held = λ (notes : List Note). held_values (to_round_3 ++ Round 4 ∷ notes) in
+    (held [] ≡ a ∷ [])
+    × (held (reads_lock 4 1 1 b ∷ []) ≡ [])
+    × (held (reads_lock 4 1 1 a ∷ []) ≡ a ∷ [])
+    × (held (reads_lock 4 2 2 b ∷ []) ≡ a ∷ [])
+
+-- a lock that is taken later doesn't release the first: two are held
+abbrev pub TwoLocksHeld : Type 0
+TwoLocksHeld = held_values (to_round_3 ++ Round 4 ∷ Round 5 ∷ Round 6 ∷ reads_lock 6 2 2 b ∷ []) ≡ a ∷ b ∷ []
+
+-- ---- spelling
+
+-- the report of replica 0 on a, at height 1 and phase 1
+abbrev pub first_report : Report
+first_report = record { height = 1; phase = 1; signer = 0; all = false; initial = a; proper = a ∷ []; locked = [] }
+
+abbrev pub ReportSpelled : Type 0
+ReportSpelled =
+    (report_bytes first_report
+    ≡ 0x01 ∷ 0x00 ∷ 0x00 ∷ 0x00 ∷ 0x01 ∷ 0x00 ∷ 0x00 ∷ 0x00 ∷ 0x01 ∷ 0x00 ∷ 0x00
+    ∷ 0x01 ∷ 0x03 ∷ 0x61 ∷ 0x3d ∷ 0x31 ∷ 0x01 ∷ 0x01 ∷ 0x03 ∷ 0x61 ∷ 0x3d ∷ 0x31 ∷ 0x00 ∷ [])
+    × (length (report_bytes first_report) ≡ 23)
+
+abbrev pub signed_report : SignedStatement
+signed_report = record { statement = statement.Report first_report; signature = 5 ∷ 6 ∷ [] }
+
+-- a lock whose proof is the reports of replicas 0 to 2
+abbrev pub by_signer : ℕ → SignedReport
+by_signer signer = record { report = record first_report { signer = signer }; signature = 7 ∷ [] }
+
+abbrev pub signed_lock : List SignedReport → SignedStatement
+signed_lock proof = record { statement = statement.Lock (record { height = 1; phase = 1; signer = 1; value = a; proof = proof }); signature = [] }
+
+-- frames are read back; one byte more isn't read, nor is a proof whose signers don't ascend
+abbrev pub FramesReadBack : Type 0
+FramesReadBack =
+    let lock = signed_lock (by_signer 0 ∷ by_signer 1 ∷ by_signer 2 ∷ []) in
+    (reading (frame_bytes signed_report) ≡ Some signed_report)
+    × (reading (frame_bytes lock) ≡ Some lock)
+    × (reading (frame_bytes signed_report ++ 0 ∷ []) ≡ None)
+    × (reading (frame_bytes (signed_lock (by_signer 0 ∷ by_signer 2 ∷ by_signer 1 ∷ []))) ≡ None)
+
+-- the longest batch, 16 transactions of 64 bytes, is encoded in 1041 bytes, and a batch of 17 isn't read
+abbrev pub BatchLimits : Type 0
+BatchLimits =
+    (length (value_bytes (replicate 16 (replicate 64 0x61))) ≡ 1041)
+    × ((bytes : List ℕ) → value_at (17 ∷ bytes) ≡ None)
+
+-- ---- digits and checksums (RFC 8554, sections 3.1.3 and 4.4)
+
+abbrev pub w4 : Params
+w4 = record { width = 4; chains = 67; shift = 4; height = 5; ots_code = 3; lms_code = 5 }
+
+abbrev pub w8 : Params
+w8 = record { width = 8; chains = 34; shift = 0; height = 5; ots_code = 4; lms_code = 5 }
+
+abbrev pub DigitsAndChecksums : Type 0
+DigitsAndChecksums =
+    (coef (0x12 ∷ 0x34 ∷ []) 7 1 ≡ 0) × (coef (0x12 ∷ 0x34 ∷ []) 0 4 ≡ 1)
+    × (checksum w8 (replicate 32 0) ≡ 8160) × (checksum w4 (replicate 32 0) ≡ 15360)
+
+-- ---- applications
+
+-- a counter takes 0, 1 and 2, and then counts 3
+abbrev pub CounterCounts : Type 0
+CounterCounts =
+    let block = (0x00 ∷ []) ∷ (0x01 ∷ []) ∷ (0x02 ∷ []) ∷ [] in
+    (codes Counter [] block ≡ 0 ∷ 0 ∷ 0 ∷ [])
+    × (query_reply Counter (block ∷ []) (0x63 ∷ 0x6f ∷ 0x75 ∷ 0x6e ∷ 0x74 ∷ []) 0
+    ≡ Ok (record { height = 1; value = Some (0 ∷ 0 ∷ 0 ∷ 0 ∷ 0 ∷ 0 ∷ 0 ∷ 3 ∷ []) }))
+
+-- after the block of 0, a number below the count is refused, nine bytes are too many, and a pool keeps of 0, 0 in two bytes and 1 the last alone
+abbrev pub CounterChecks : Type 0
+CounterChecks =
+    let block = (0x00 ∷ []) ∷ [] in
+    (check_reply Counter (block ∷ []) (0x00 ∷ 0x00 ∷ []) ≡ 2)
+    × (check_reply Counter (block ∷ []) (replicate 9 0) ≡ 1)
+    × (pool_after_block (four Counter) (block ∷ []) block ((0x00 ∷ []) ∷ (0x00 ∷ 0x00 ∷ []) ∷ (0x01 ∷ []) ∷ []) ≡ (0x01 ∷ []) ∷ [])
+
+-- a transfer of 5 from account 0 to 1 is taken once, and account 0 then has 995 and nonce 1
+abbrev pub PursePays : Type 0
+PursePays =
+    let transfer = 0x00 ∷ 0x01 ∷ 0x00 ∷ 0x00 ∷ 0x00 ∷ 0x05 ∷ 0x00 ∷ 0x00 ∷ 0x00 ∷ 0x00 ∷ [] in
+    let block = transfer ∷ transfer ∷ [] in
+    (codes Purse [] block ≡ 0 ∷ 2 ∷ [])
+    × (query_reply Purse (block ∷ []) (0x00 ∷ []) 0
+    ≡ Ok (record { height = 1; value = Some (0x00 ∷ 0x00 ∷ 0x03 ∷ 0xe3 ∷ 0x00 ∷ 0x00 ∷ 0x00 ∷ 0x01 ∷ []) }))
+
+-- ---- histories
+
+abbrev pub tx_a : List ℕ
+tx_a = 0x61 ∷ 0x3d ∷ 0x31 ∷ []
+
+-- at replica 0: a transaction is handed in twice and proposed, height 1 is opened again, height 5 too early, and nothing is decided
+abbrev pub first_entries : List Entry
+first_entries =
+    record { event = event.Submit tx_a; reply = reply.Submitted (Ok tt) }
+    ∷ record { event = event.Submit tx_a; reply = reply.Submitted (Err refusal.Duplicate) }
+    ∷ record { event = event.Propose 1; reply = reply.Proposed (Ok a) }
+    ∷ record { event = event.Propose 1; reply = reply.Proposed (Err closed.AlreadyOpen) }
+    ∷ record { event = event.Propose 5; reply = reply.Proposed (Err closed.TooFar) }
+    ∷ record { event = event.Execute; reply = reply.Executed (Err (record {})) }
+    ∷ []
+
+abbrev pub FirstEntriesReplay : Type 0
+FirstEntriesReplay = Replay (four KvStore) [] 0 first_entries

@@ -1,0 +1,6 @@
+pub mod Coefs
+pub mod Writes
+pub mod Chains
+pub mod Parts
+pub mod Leaves
+pub mod Law

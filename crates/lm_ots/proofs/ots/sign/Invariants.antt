@@ -1,0 +1,15 @@
+-- the signed values of the chains so far stand behind the type code and the randomizer
+use Rattle.std.proofs.Common.{◌≡◌, ◌++◌}
+use Rattle.std.specs.Int.{w32, to_be_bytes}
+use Rattle.std.specs.List.{flat_map, range_with_len}
+use Rattle.ledger_model.specs.Signatures.{chain, chain_start, coef}
+use Rattle.lm_ots.specs.Parameters.{bits_of}
+use Rattle.lm_ots.specs.Steps.{leaf_in}
+use Rattle.lm_ots.proofs.ots.sign.Given as goal
+
+abbrev pub invariant-loop-index : goal.invariant-loop-index
+invariant-loop-index l = record {
+  leaf : leaf_in l.block.bytes ≡ l.identifier ++ to_be_bytes w32 l.leaf;
+  items : l.signature.items ≡ l.initial.signature.items
+      ++ flat_map (λ i. chain l.identifier l.leaf i 0 (coef l.digits.bytes i (bits_of l.digits.params.width)) (chain_start l.identifier l.seed l.leaf i)) (range_with_len 0 l.index);
+}

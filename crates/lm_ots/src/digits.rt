@@ -1,0 +1,93 @@
+use crate::{Params, Width};
+
+/// The digits that are signed, those of a digest and of its checksum (RFC 8554, section 4.4).
+#[derive(Drop)]
+pub(crate) struct Digits {
+    params: Params,
+    bytes: [u8; 34],
+}
+
+impl Digits {
+    ghost use Rattle.std.specs.Prelude.{◌≡◌, ◌<◌, ◌≤◌, ◌++◌, ◌*◌, ◌/◌, length};
+    ghost use Rattle.std.specs.Int.{w16, to_be_bytes};
+    ghost use Rattle.ledger_model.specs.Signatures.{coef, checksum};
+    ghost use Rattle.lm_ots.specs.Parameters.{numbers_of, chains_of, bits_of};
+
+    /// The digits of a digest.
+    pub(crate) fn of(params: Params, digest: &[u8; 32]) -> Self
+        ensures params { result.params ≡ params }
+        ensures bytes { result.bytes
+            ≡ digest.now ++ to_be_bytes w16 (checksum (numbers_of params) digest.now) }
+    {
+        let mut bytes = [0; 34];
+        bytes[..32].copy_from_slice(digest);
+        bytes[32..].copy_from_slice(&checksum(params, digest).to_be_bytes());
+        Digits { params, bytes }
+    }
+
+    /// The digit that the chain `index` signs.
+    pub(crate) fn at(&self, index: u16) -> u8
+        requires { index < chains_of self.now.params.width }
+        ensures { result ≡ coef self.now.bytes index (bits_of self.now.params.width) }
+    {
+        coefficient(&self.bytes, usize::from(index), self.params.width)
+    }
+}
+
+ghost use Rattle.std.specs.Prelude.{◌≡◌, ◌<◌, ◌≤◌, ◌*◌, ◌/◌, length};
+ghost use Rattle.ledger_model.specs.Signatures.{coef, checksum};
+ghost use Rattle.lm_ots.specs.Parameters.{numbers_of, bits_of};
+
+/// The digit `index` of `bytes` (RFC 8554, section 3.1.3).
+fn coefficient(bytes: &[u8], index: usize, width: Width) -> u8
+    requires inside { index * bits_of width / 8 < length bytes.now }
+    requires small { index < 256 }
+    ensures { result ≡ coef bytes.now index (bits_of width) }
+{
+    match width {
+        Width::W4 if index % 2 == 0 => bytes[index / 2] >> 4,
+        Width::W4 => bytes[index / 2] & 0x0f,
+        Width::W8 => bytes[index],
+    }
+}
+
+/// The checksum of a digest (RFC 8554, section 4.4).
+fn checksum(params: Params, digest: &[u8; 32]) -> u16
+    ensures { result ≡ checksum (numbers_of params) digest.now }
+{
+    let width = params.width;
+    let mut sum = 0;
+    for index in 0..width.digest_digits() {
+        sum += u16::from(width.last_step() - coefficient(digest, index, width));
+    }
+    sum << width.checksum_shift()
+}
+
+#[cfg(test)]
+mod tests {
+    use super::*;
+    use crate::TreeHeight;
+
+    #[test]
+    fn digits_of_bytes(rt: HostRuntime) {
+        let bytes = [0x12, 0x34];
+        assert_eq!(rt; coefficient(&bytes, 0, Width::W4), 1);
+        assert_eq!(rt; coefficient(&bytes, 3, Width::W4), 4);
+        assert_eq!(rt; coefficient(&bytes, 1, Width::W8), 0x34);
+    }
+
+    #[test]
+    fn checksums_of_zeros(rt: HostRuntime) {
+        let height = TreeHeight::H5;
+        let wide = Params {
+            width: Width::W8,
+            height,
+        };
+        let narrow = Params {
+            width: Width::W4,
+            height,
+        };
+        assert_eq!(rt; checksum(wide, &[0; 32]), 0x1fe0);
+        assert_eq!(rt; checksum(narrow, &[0; 32]), 0x3c00);
+    }
+}

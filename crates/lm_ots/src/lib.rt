@@ -1,0 +1,23 @@
+//! One-time signatures with SHA-256 (LM-OTS, RFC 8554, section 4), at widths 4 and 8, n = 32.
+//!
+//! A leaf's key pair comes from a seed: [`public_hash`] is its public value, [`sign`] signs a message
+//! with it, and [`candidate`] is the public value that a signature leads to.
+#![tactic(auto)]
+
+mod block;
+mod digits;
+mod hashing;
+mod identifier;
+pub mod laws;
+mod ots;
+mod params;
+mod seed;
+
+pub use hashing::{hasher_at, read_u32};
+pub use identifier::Identifier;
+pub use ots::{candidate, public_hash, sign};
+pub use params::{Params, TreeHeight, Width};
+pub use seed::Seed;
+
+#[cfg(test)]
+mod tests;

@@ -1,0 +1,7 @@
+//! What holds of every signature of a tree, over the definitions alone.
+ghost use Rattle.lms_tree.specs.Laws.{SignedVerifies};
+
+/// The signature of a message with a leaf verifies under the public key of its tree.
+pub fn signed_verifies()
+    ensures { SignedVerifies }
+{}

@@ -1,0 +1,134 @@
+use crate::PublicKey;
+use crate::nodes::{leaf_hash, node_hash, sibling};
+use lm_ots::{Identifier, Params, Seed, public_hash};
+use std::alloc::{AllocError, Global};
+use std::marker::Model;
+
+/// A tree over the one-time keys of a seed, with the hash of each node computed once
+/// (RFC 8554, section 5.3).
+///
+/// It holds the secret seed: it can't be copied or printed.
+#[derive(Drop)]
+pub struct Tree {
+    params: Params,
+    identifier: Identifier,
+    seed: Seed,
+    nodes: Vec<[u8; 32]>,
+}
+
+impl Model for Tree {
+    ghost use Rattle.std.specs.Prelude.{◌≡◌, length};
+    ghost use Rattle.lm_ots.specs.Parameters.{numbers_of};
+    ghost use Rattle.lms_tree.specs.Trees.{Secret, KeepsNodes};
+
+    ghost Value = { Secret };
+
+    ghost view = { λ t. record { params = t.params; identifier = t.identifier; seed = t.seed } };
+
+    ghost invariant = { λ t. (length t.identifier ≡ 16)
+        × KeepsNodes (numbers_of t.params) t.identifier t.seed 1 t.nodes.items };
+}
+
+impl Tree {
+    ghost use Rattle.std.specs.Prelude.{◌≡◌, ◌+◌, ◌^◌, ◌<◌, ◌≤◌, true, length, IfOk};
+    ghost use Rattle.ledger_model.specs.Signatures.{public_key, path, signature_of, verifies};
+    ghost use Rattle.lm_ots.specs.Parameters.{numbers_of};
+
+    /// The tree of a seed, under an identifier.
+    pub fn build(
+        alloc: Global,
+        params: Params,
+        identifier: Identifier,
+        seed: Seed,
+    ) -> Result<Self, AllocError>
+        ensures { IfOk result (λ tree.
+            tree ≡ record { params = params; identifier = identifier; seed = seed }) }
+    {
+        let leaves = params.leaves();
+        let mut nodes = vec![in alloc; [0u8; 32]; 2 * leaves as usize]?;
+        for leaf in 0..leaves {
+            let key = public_hash(params, &identifier, leaf, &seed);
+            nodes[(leaves + leaf) as usize] = leaf_hash(&identifier, leaves + leaf, &key);
+        }
+        for number in (1..leaves).rev() {
+            let left = 2 * number as usize;
+            nodes[number as usize] = node_hash(&identifier, number, &nodes[left], &nodes[left + 1]);
+        }
+        Ok(Tree {
+            params,
+            identifier,
+            seed,
+            nodes,
+        })
+    }
+
+    /// Its parameter set.
+    pub fn params(&self) -> Params
+        ensures { result ≡ self.now.params }
+    {
+        self.params
+    }
+
+    /// The number of its leaves, each of which signs one message.
+    pub fn leaves(&self) -> u32
+        ensures { result ≡ 2 ^ (numbers_of self.now.params).height }
+    {
+        self.params.leaves()
+    }
+
+    /// The public key under which its signatures verify.
+    pub fn public(&self) -> PublicKey
+        ensures { result
+            ≡ public_key (numbers_of self.now.params) self.now.identifier self.now.seed }
+    {
+        PublicKey::new(self.params, &self.identifier, &self.nodes[1])
+    }
+
+    /// The hashes beside the way from a leaf up to the root, 32 bytes each (RFC 8554, section 5.4).
+    pub fn path(&self, alloc: Global, leaf: u32) -> Result<Vec<u8>, AllocError>
+        requires { leaf < 2 ^ (numbers_of self.now.params).height }
+        ensures { IfOk result (λ p. p.items
+            ≡ path (numbers_of self.now.params) self.now.identifier self.now.seed
+            (numbers_of self.now.params).height 0
+            (2 ^ (numbers_of self.now.params).height + leaf)) }
+    {
+        let levels = self.params.height.levels();
+        let mut path = Vec::with_capacity(alloc, 32 * usize::from(levels))?;
+        let mut number = self.params.leaves() + leaf;
+        for _ in 0..levels {
+            path.extend_from_slice(&self.nodes[sibling(number) as usize])?;
+            number /= 2;
+        }
+        Ok(path)
+    }
+
+    /// The signature of a message with a leaf (RFC 8554, section 5.4).
+    ///
+    /// All room is made before anything is hashed. A leaf is to sign one message alone.
+    pub fn sign(&self, alloc: Global, leaf: u32, message: &[u8]) -> Result<Vec<u8>, AllocError>
+        requires { leaf < 2 ^ (numbers_of self.now.params).height }
+        ensures signature { IfOk result (λ signature. signature.items
+            ≡ signature_of (numbers_of self.now.params) self.now.identifier self.now.seed leaf
+            message.now) }
+        ensures verifies { IfOk result (λ signature.
+            verifies (public_key (numbers_of self.now.params) self.now.identifier self.now.seed)
+            message.now signature.items ≡ true) }
+        ensures short { IfOk result (λ signature. length signature.items ≤ 2508) }
+    {
+        let mut signature = Vec::with_capacity(alloc, self.params.signature_len())?;
+        let path = self.path(alloc, leaf)?;
+        let ots = lm_ots::sign(
+            alloc,
+            self.params,
+            &self.identifier,
+            leaf,
+            &self.seed,
+            message,
+        )?;
+        signature.extend_from_slice(&leaf.to_be_bytes())?;
+        signature.extend_from_slice(&ots)?;
+        signature.extend_from_slice(&self.params.height.code().to_be_bytes())?;
+        signature.extend_from_slice(&path)?;
+        Ok(signature)
+    }
+}

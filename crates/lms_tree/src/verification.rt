@@ -1,0 +1,57 @@
+ghost use Rattle.std.specs.Prelude.{◌≡◌, ◌<◌, ◌≤◌, ◌*◌, ◌+◌, ◌^◌, length};
+ghost use Rattle.ledger_model.specs.Signatures.{verifies, root_above};
+ghost use Rattle.lm_ots.specs.Parameters.{levels_of};
+
+use crate::PublicKey;
+use crate::nodes::{leaf_hash, parent_hash};
+use lm_ots::{Identifier, TreeHeight, candidate, read_u32};
+
+/// Whether the signature is one of the message under the key (RFC 8554, section 5.4.2).
+///
+/// Its length, its two type codes and its leaf number have to be the key's own. It takes no memory.
+pub fn verify(key: &PublicKey, message: &[u8], signature: &[u8]) -> bool
+    ensures { result ≡ verifies key.now message.now signature.now }
+{
+    let params = key.params();
+    if signature.len() != params.signature_len() {
+        return false;
+    }
+    let (leaf, rest) = signature.split_at(4);
+    let (ots, rest) = rest.split_at(params.ots_len());
+    let (code, path) = rest.split_at(4);
+    let leaf = read_u32(leaf);
+    if read_u32(code) != params.height.code() || leaf >= params.leaves() {
+        return false;
+    }
+    let identifier = key.identifier();
+    let Some(leaf_key) = candidate(params, &identifier, leaf, message, ots) else {
+        return false;
+    };
+    let number = params.leaves() + leaf;
+    let hash = leaf_hash(&identifier, number, &leaf_key);
+    let root = root_above(&identifier, params.height, path, number, hash);
+    root.as_slice() == &key.as_bytes()[24..]
+}
+
+/// The root above a leaf's node, by the hashes of a path (RFC 8554, section 5.4.2).
+fn root_above(
+    identifier: &Identifier,
+    height: TreeHeight,
+    path: &[u8],
+    leaf_number: u32,
+    leaf_hash: [u8; 32],
+) -> [u8; 32]
+    requires { length path.now ≡ 32 * levels_of height }
+    ensures { result
+        ≡ root_above identifier.now path.now (levels_of height) 0 leaf_number leaf_hash }
+{
+    let levels = height.levels();
+    let mut number = leaf_number;
+    let mut hash = leaf_hash;
+    for level in 0..levels {
+        let start = 32 * usize::from(level);
+        hash = parent_hash(identifier, number, &hash, &path[start..start + 32]);
+        number /= 2;
+    }
+    hash
+}

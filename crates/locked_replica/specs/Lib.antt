@@ -1,0 +1,5 @@
+pub mod Holding
+pub mod Matching
+pub mod FirstRound
+pub mod Steps
+pub mod Replicas

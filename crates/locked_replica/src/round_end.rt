@@ -1,0 +1,129 @@
+//! The end of round 0, which opens the first round.
+ghost use Rattle.std.specs.Prelude.{◌≡◌, ◌<◌, ◌≤◌, ◌^◌, ◌+◌, IfOk, OnOk, Some, length};
+ghost use Rattle.ledger_model.specs.Spelling.{IsStatement, body_bytes};
+ghost use Rattle.ledger_model.specs.Reading.{reading};
+ghost use Rattle.lm_ots.specs.Parameters.{numbers_of};
+ghost use Rattle.locked_replica.specs.Holding.{CanSpell};
+ghost use Rattle.locked_replica.specs.FirstRound.{first_report, SpellsFirst};
+ghost use Rattle.locked_replica.specs.Replicas.{key_of};
+
+use crate::core_state::{Core, Opened};
+use crate::signing::Signing;
+use ledger_model::{
+    Addressee, Batches, Phase, ReplicaId, Report, RoundEnded, Sent, SentFrames, Statement,
+};
+use bytes::Bytes;
+use signed_frames::Frame;
+use statements::encode;
+use std::alloc::{AllocError, Global};
+
+/// The report of the first phase: the initial value alone is proper, and no lock is held.
+fn first_report(alloc: Global, id: ReplicaId, opened: &Opened) -> Result<Report, AllocError>
+    ensures { IfOk result (λ report. report ≡ first_report id opened.now) }
+{
+    let mut proper = Vec::with_capacity(alloc, 1)?;
+    proper.push(opened.initial.copy()?)?;
+    Ok(Report {
+        height: opened.height,
+        phase: Phase::new(1),
+        signer: id,
+        all: false,
+        initial: opened.initial.copy()?,
+        proper: Batches::new(proper),
+        locked: Batches::new(Vec::new(alloc)),
+    })
+}
+
+/// The bytes of the frame of a statement and its signature.
+fn frame_bytes(
+    alloc: Global,
+    statement: Statement,
+    signature: &[u8],
+) -> Result<Bytes, AllocError>
+    requires spelled { IsStatement statement }
+    requires signature_len { length signature.now ≤ 2508 }
+    requires body_len { length (body_bytes (record { statement = statement; signature = signature.now })) ≤ 150000 }
+    ensures { IfOk result (λ bytes. reading bytes ≡ Some (record { statement = statement; signature = signature.now })) }
+{
+    let frame = Frame::build(alloc, statement, signature)?;
+    Ok(frame.into_bytes())
+}
+
+/// The signed frame of the first report, which uses one leaf. Want of memory uses it or not.
+fn report_frame(
+    alloc: Global,
+    id: ReplicaId,
+    opened: &Opened,
+    signing: &mut Signing,
+) -> Result<Bytes, AllocError>
+    requires signer { id < 256 }
+    requires spelled { CanSpell (Some opened.now) }
+    requires left { signing.old.used < 2 ^ (numbers_of signing.old.tree.params).height }
+    ensures frame { IfOk result (λ frame. SpellsFirst (key_of signing.old.tree) id opened.now frame) }
+    ensures tree { signing.new.tree ≡ signing.old.tree }
+    ensures ok { OnOk result (signing.new.used ≡ signing.old.used + 1) }
+    ensures least { signing.old.used ≤ signing.new.used }
+    ensures most { signing.new.used ≤ signing.old.used + 1 }
+{
+    let statement = Statement::Report(first_report(alloc, id, opened)?);
+    let message = encode(alloc, &statement)?;
+    let signature = signing.sign(alloc, &message)?;
+    let frame = frame_bytes(alloc, statement, &signature)?;
+    Ok(frame)
+}
+
+impl Core {
+    ghost use Rattle.std.specs.Prelude.{◌≡◌, ◌<◌, ◌≤◌, ◌^◌, ◌+◌, nat_lt, IfOk, OnErr};
+    ghost use Rattle.lm_ots.specs.Parameters.{numbers_of};
+    ghost use Rattle.locked_replica.specs.FirstRound.{EndsFirst};
+    ghost use Rattle.locked_replica.specs.Replicas.{key_of};
+
+    /// The end of round 0. Where a height is open its report is sent, or the replica becomes mute because no leaf is
+    /// left.
+    pub(crate) fn end_round(
+        &mut self,
+        alloc: Global,
+        id: ReplicaId,
+        signing: &mut Signing,
+    ) -> Result<RoundEnded, AllocError>
+        requires { id < 256 }
+        ensures ended { IfOk result (λ ended. EndsFirst (key_of signing.old.tree) id
+            (nat_lt signing.old.used (2 ^ (numbers_of signing.old.tree.params).height))
+            self.old self.old.opened ended self.new) }
+        ensures err { OnErr result (self.new ≡ self.old) }
+        ensures tree { signing.new.tree ≡ signing.old.tree }
+        ensures least { signing.old.used ≤ signing.new.used }
+        ensures most { signing.new.used ≤ signing.old.used + 1 }
+    {
+        let mut reporters = Vec::with_capacity(alloc, 1)?;
+        let mut frames = Vec::with_capacity(alloc, 1)?;
+        let Some(opened) = &mut self.opened else {
+            self.clock = 1;
+            return Ok(ended(false, frames));
+        };
+        if signing.is_used_up() {
+            opened.reporters = reporters;
+            self.clock = 1;
+            self.mute = true;
+            return Ok(ended(true, frames));
+        }
+        reporters.push(id)?;
+        let frame = report_frame(alloc, id, opened, signing)?;
+        frames.push(Sent {
+            addressee: Addressee::All,
+            frame,
+        })?;
+        opened.reporters = reporters;
+        self.clock = 1;
+        Ok(ended(false, frames))
+    }
+}
+
+fn ended(mute: bool, frames: Vec<Sent>) -> RoundEnded
+    ensures { result ≡ record { mute = mute; frames = frames.items } }
+{
+    RoundEnded {
+        mute,
+        frames: SentFrames::new(frames),
+    }
+}

@@ -1,0 +1,5 @@
+pub mod FrameParts
+pub mod Sizes
+pub mod Grammar
+pub mod Fronts
+pub mod Determined

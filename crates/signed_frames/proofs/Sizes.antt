@@ -1,0 +1,63 @@
+-- How many bytes a statement has at most: every frame is short enough.
+use Rattle.std.proofs.Common.{◌≡◌, ℕ, ◌+◌, ◌*◌, ◌≤◌, List, [], ◌∷◌, ◌++◌, length, ap, ◌∙◌, arith}
+use Rattle.std.specs.Prelude.{if◌then◌else◌}
+use Rattle.std.specs.Int.{w16, w32, to_be_bytes}
+use Rattle.std.specs.List.{flat_map, AllByRecursion}
+use Rattle.std.proofs.lemmas.List.{length-append}
+use Rattle.std.proofs.lemmas.List.Concat.{flat_map-cons}
+use Rattle.ledger_model.specs.declared.statement.Report.{Report}
+use Rattle.ledger_model.specs.declared.statement.Lock.{Lock}
+use Rattle.ledger_model.specs.declared.statement.Ack.{Ack}
+use Rattle.ledger_model.specs.declared.statement.SignedReport.{SignedReport}
+use Rattle.ledger_model.specs.declared.statement.SignedStatement.{SignedStatement}
+use Rattle.ledger_model.specs.declared.statement.Statement.{Statement}
+use Rattle.ledger_model.specs.declared.statement.Statement.TheVariants as statement
+use Rattle.ledger_model.specs.Values.{Value, value_bytes}
+use Rattle.ledger_model.specs.Spelling.{IsTx, IsValue, IsValueList, IsReport, IsSigned, IsLock, IsAck, IsStatement, list_bytes, report_bytes, signature_bytes, signed_bytes, lock_bytes, ack_bytes, statement_bytes, body_bytes}
+use Rattle.signed_frames.proofs.FrameParts.{body_length}
+
+-- pieces of at most so many bytes, one after the other
+flat_bound : {X : Type 0} (P : X → Type 0) (f : X → List ℕ) (most : ℕ) → ((x : X) → P x → length (f x) ≤ most) → (xs : List X) → AllByRecursion P xs → length (flat_map f xs) ≤ most * length xs
+flat_bound P f most each [] all = omega arith
+flat_bound P f most each (x ∷ xs) all =
+    omega (arith, each x all.0, flat_bound P f most each xs all.1, ap length (flat_map-cons f x xs), length-append (f x) (flat_map f xs))
+
+-- a batch has at most 1041 bytes
+value_bound : (v : Value) → IsValue v → length (value_bytes v) ≤ 1041
+value_bound v is = omega (arith, is.few, flat_bound IsTx (λ tx. length tx ∷ tx) 65 (λ tx t. omega (arith, t.short)) v is.each)
+
+-- a list of batches at most 4165
+list_bound : (vs : List Value) → IsValueList vs → length (list_bytes vs) ≤ 4165
+list_bound vs is = omega (arith, is.few, flat_bound IsValue value_bytes 1041 value_bound vs is.each)
+
+-- a report at most 9382
+report_bound : (r : Report) → IsReport r → length (report_bytes r) ≤ 9382
+report_bound r is =
+    let start : List ℕ = 1 ∷ to_be_bytes w32 r.height ++ to_be_bytes w32 r.phase ++ (r.signer ∷ (if r.all then 1 else 0) ∷ []) in
+    omega (arith, value_bound r.initial is.initial, list_bound r.proper is.proper, list_bound r.locked is.locked,
+    length-append (start ++ value_bytes r.initial ++ list_bytes r.proper) (list_bytes r.locked), length-append (start ++ value_bytes r.initial) (list_bytes r.proper), length-append start (value_bytes r.initial))
+
+-- with its signature at most 11892
+signed_bound : (s : SignedReport) → IsSigned s → length (signed_bytes s) ≤ 11892
+signed_bound s is = omega (arith, report_bound s.report is.report, is.signature.short, length-append (report_bytes s.report) (signature_bytes s.signature))
+
+lock_bound : (l : Lock) → IsLock l → length (lock_bytes l) ≤ 143756
+lock_bound l is =
+    let start : List ℕ = 2 ∷ to_be_bytes w32 l.height ++ to_be_bytes w32 l.phase ++ (l.signer ∷ []) in
+    omega (arith, value_bound l.value is.value, is.count.1, flat_bound IsSigned signed_bytes 11892 signed_bound l.proof is.each,
+    length-append (start ++ value_bytes l.value ++ (length l.proof ∷ [])) (flat_map signed_bytes l.proof), length-append (start ++ value_bytes l.value) (length l.proof ∷ []), length-append start (value_bytes l.value))
+
+ack_bound : (a : Ack) → IsAck a → length (ack_bytes a) ≤ 1051
+ack_bound a is =
+    let start : List ℕ = 3 ∷ to_be_bytes w32 a.height ++ to_be_bytes w32 a.phase ++ (a.signer ∷ []) in
+    omega (arith, value_bound a.value is.value, length-append start (value_bytes a.value))
+
+statement_bound : (s : Statement) → IsStatement s → length (statement_bytes s) ≤ 143756
+unfolding statement_bytes
+statement_bound (statement.Report r) is = omega (arith, report_bound r is)
+statement_bound (statement.Lock l) is = lock_bound l is
+statement_bound (statement.Ack a) is = omega (arith, ack_bound a is)
+
+-- so each body is short enough
+pub body_bound : (s : SignedStatement) → IsStatement s.statement → length s.signature ≤ 2508 → length (body_bytes s) ≤ 150000
+body_bound s is short = omega (arith, body_length s, statement_bound s.statement is)

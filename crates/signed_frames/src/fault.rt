@@ -1,0 +1,37 @@
+ghost use Rattle.std.specs.Prelude.{◌≡◌};
+ghost use Rattle.signed_frames.specs.declared.fault.FrameFault.TheVariants.{NoMemory};
+
+use std::alloc::{AllocError, AllocFailed};
+use thiserror::Error;
+
+/// Why a stream gives no more frames.
+#[derive(Clone, Copy, Debug, PartialEq, Eq, Error)]
+pub enum FrameFault {
+    /// A length above 150,000 stands where a frame should begin.
+    #[error("the announced frame is too long")]
+    TooLong,
+    /// A body that is there in whole is not spelled.
+    #[error("the frame is malformed")]
+    Malformed,
+    /// A fault was answered before.
+    #[error("the stream failed before")]
+    Failed,
+    #[error("out of memory")]
+    NoMemory,
+}
+
+impl From<AllocError> for FrameFault {
+    ghost from_gives = { λ _ fault. fault ≡ NoMemory };
+
+    fn from(_error: AllocError) -> FrameFault {
+        FrameFault::NoMemory
+    }
+}
+
+impl<T: Drop> From<AllocFailed<T>> for FrameFault {
+    ghost from_gives = { λ _ fault. fault ≡ NoMemory };
+
+    fn from(_error: AllocFailed<T>) -> FrameFault {
+        FrameFault::NoMemory
+    }
+}

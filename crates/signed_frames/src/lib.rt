@@ -1,0 +1,21 @@
+//! Frames: a statement and its signature as bytes, one by one and in a stream.
+#![tactic(auto)]
+
+mod fault;
+mod frame;
+mod parsing;
+mod reader;
+mod splitting;
+
+pub use fault::FrameFault;
+pub use frame::Frame;
+pub use reader::FrameReader;
+
+/// The most bytes of a frame's body.
+pub const MAX_BODY_LEN: usize = 150_000;
+
+/// The bytes of a body's length, which stands in front of it.
+const HEADER_LEN: usize = 4;
+
+#[cfg(test)]
+mod tests;

@@ -1,0 +1,53 @@
+//! The body of a frame.
+
+ghost use Rattle.std.specs.Prelude.{◌≡◌, ◌+◌, ◌-◌, ◌≤◌, length, take, drop, IfOk};
+ghost use Rattle.ledger_model.specs.declared.statement.SignedStatement.{SignedStatement};
+ghost use Rattle.ledger_model.specs.Spelling.{SpellsFrame};
+ghost use Rattle.ledger_model.specs.Reading.{reading};
+ghost use Rattle.statements.specs.Reads.{Gives};
+ghost use Rattle.signed_frames.specs.Parts.{GivesParts};
+
+use crate::{HEADER_LEN, MAX_BODY_LEN};
+use ledger_model::Statement;
+use octets::Cursor;
+use statements::{DecodeFault, take_signature_bytes, take_statement};
+use std::alloc::Global;
+
+/// The bytes of a signature's length.
+pub const LENGTH_LEN: usize = 2;
+
+/// What stands between the length of a frame and that of its signature.
+pub fn message_in(frame: &[u8], signature_len: usize) -> &[u8]
+    requires { 6 + signature_len ≤ length frame.now }
+    ensures { result.now ≡ take (length (drop 4 frame.now) - 2 - signature_len) (drop 4 frame.now) }
+{
+    let (_, body) = frame.split_at(HEADER_LEN);
+    let (message, _) = body.split_at(body.len() - LENGTH_LEN - signature_len);
+    message
+}
+
+#[tactic(auto, unfolding(ledger_model::specs::Reading::reading, ledger_model::specs::Reading::body_reading))]
+fn parts_at(alloc: Global, bytes: &[u8]) -> Result<(Statement, &[u8]), DecodeFault>
+    ensures { GivesParts result (reading bytes.now) }
+{
+    let mut cursor = Cursor::new(bytes);
+    let len = cursor.take_u32()? as usize;
+    if cursor.len() != len || len > MAX_BODY_LEN {
+        return Err(DecodeFault::Malformed);
+    }
+    let statement = take_statement(alloc, &mut cursor)?;
+    let signature = take_signature_bytes(&mut cursor)?;
+    if !cursor.is_empty() {
+        return Err(DecodeFault::Malformed);
+    }
+    Ok((statement, signature))
+}
+
+/// The statement and the signature of the frame that the bytes are, all of them.
+pub fn parts_of(alloc: Global, bytes: &[u8]) -> Result<(Statement, &[u8]), DecodeFault>
+    ensures exact { GivesParts result (reading bytes.now) }
+    ensures spelled { IfOk result
+        (λ x. SpellsFrame bytes.now (record { statement = x.0; signature = x.1.now })) }
+{
+    parts_at(alloc, bytes)
+}

@@ -1,0 +1,96 @@
+//! The frames in front of some bytes.
+
+ghost use Rattle.std.specs.Prelude.{◌++◌, IfOk, OnErr, ◌≡◌};
+ghost use Rattle.signed_frames.specs.Reader.{Begins, Splits, ReadsOn};
+
+use crate::{Frame, HEADER_LEN, MAX_BODY_LEN};
+use bytes::{Bytes, BytesMut};
+use octets::Cursor;
+use statements::DecodeFault;
+use std::alloc::{AllocError, Global};
+
+/// What stands behind the frames.
+#[derive(Clone, Copy, Debug, PartialEq, Eq)]
+pub enum End {
+    /// Less than a whole frame.
+    Partial,
+    /// A length that no frame has.
+    TooLong,
+    /// A body that is there in whole and is not spelled.
+    Malformed,
+}
+
+/// What bytes begin with.
+#[derive(Drop)]
+pub enum Front {
+    Whole(Frame),
+    Ends(End),
+}
+
+/// Frames, how many bytes they are, and what stands behind them.
+#[derive(Drop)]
+pub struct Split {
+    pub frames: Vec<Frame>,
+    pub used: usize,
+    pub end: End,
+}
+
+/// What the bytes begin with.
+fn front_of(alloc: Global, bytes: &[u8]) -> Result<Front, AllocError>
+    ensures { IfOk result (λ front. Begins bytes.now front) }
+{
+    let Ok(len) = Cursor::new(bytes).take_u32() else {
+        return Ok(Front::Ends(End::Partial));
+    };
+    let len = len as usize;
+    if len > MAX_BODY_LEN {
+        return Ok(Front::Ends(End::TooLong));
+    }
+    if bytes.len() - HEADER_LEN < len {
+        return Ok(Front::Ends(End::Partial));
+    }
+    let (frame, _) = bytes.split_at(HEADER_LEN + len);
+    match Frame::parse(alloc, Bytes::copy_from_slice(alloc, frame)?) {
+        Ok(frame) => Ok(Front::Whole(frame)),
+        Err(DecodeFault::Malformed) => Ok(Front::Ends(End::Malformed)),
+        Err(DecodeFault::NoMemory) => Err(AllocError),
+    }
+}
+
+/// The frames that the bytes begin with.
+fn frames_of(alloc: Global, bytes: &[u8]) -> Result<Split, AllocError>
+    ensures { IfOk result (λ split. Splits bytes.now split) }
+{
+    let mut frames = Vec::new(alloc);
+    let mut used = 0;
+    loop {
+        let (_, rest) = bytes.split_at(used);
+        match front_of(alloc, rest)? {
+            Front::Whole(frame) => {
+                used += frame.as_bytes().len();
+                frames.push(frame)?;
+            }
+            Front::Ends(end) => return Ok(Split { frames, used, end }),
+        }
+    }
+}
+
+/// Takes a piece behind what was kept, and splits off the frames that are whole now. An error changes nothing.
+pub fn read_on(kept: &mut BytesMut, piece: &[u8]) -> Result<(Vec<Frame>, End), AllocError>
+    ensures ok { IfOk result (λ x. ReadsOn (kept.old.items ++ piece.now) x.0.items x.1 kept.new.items) }
+    ensures err { OnErr result (kept.new.items ≡ kept.old.items) }
+{
+    let alloc = *kept.allocator();
+    let kept_len = kept.len();
+    kept.extend_from_slice(piece)?;
+    match frames_of(alloc, kept.as_slice()) {
+        Ok(Split { frames, used, end }) => {
+            kept.advance(used);
+            Ok((frames, end))
+        }
+        Err(error) => {
+            kept.truncate(kept_len);
+            Err(error)
+        }
+    }
+}

@@ -1,0 +1,22 @@
+//! Statements as bytes: the one spelling of reports, locks and acknowledgements, and its reading.
+#![tactic(auto)]
+
+mod copies;
+mod decoding;
+mod encoding;
+mod fault;
+mod fields;
+mod locks;
+mod parts;
+mod places;
+mod values;
+
+pub use copies::{copy_signature, copy_statement};
+pub use decoding::{decode, take_statement};
+pub use encoding::encode;
+pub use fault::DecodeFault;
+pub use fields::{MAX_SIGNATURE_LEN, take_signature_bytes};
+pub use parts::{height, phase, signer};
+
+#[cfg(test)]
+mod tests;

@@ -1,0 +1,86 @@
+//! Locks and their proofs.
+
+ghost use Rattle.std.specs.Prelude.{◌≡◌};
+ghost use Rattle.ledger_model.specs.Validity.{ascends_within, signers_of};
+ghost use Rattle.ledger_model.specs.Reading.{signed_at, proof_at, lock_at};
+ghost use Rattle.statements.specs.Reads.{Reads, ReadsAs};
+
+use crate::DecodeFault;
+use crate::fields::{take_byte, take_signature};
+use crate::places::{take_place, take_report};
+use crate::values::take_batch;
+use ledger_model::{Lock, LockProof, SignedReport};
+use octets::Cursor;
+use std::alloc::Global;
+
+/// The first byte of a report.
+pub const REPORT: u8 = 1;
+
+/// The fewest and the most reports of a lock's proof.
+const MIN_REPORTS: u8 = 3;
+
+const MAX_REPORTS: u8 = 12;
+
+#[tactic(auto, unfolding(ledger_model::specs::Reading::signed_at))]
+fn take_signed(alloc: Global, cursor: &mut Cursor) -> Result<SignedReport, DecodeFault>
+    ensures { Reads result cursor.new (signed_at cursor.old) }
+{
+    if take_byte(cursor)? != REPORT {
+        return Err(DecodeFault::Malformed);
+    }
+    let report = take_report(alloc, cursor)?;
+    let signature = take_signature(alloc, cursor)?;
+    Ok(SignedReport { report, signature })
+}
+
+fn take_reports(
+    alloc: Global,
+    cursor: &mut Cursor,
+    count: u8,
+) -> Result<Vec<SignedReport>, DecodeFault>
+    ensures { ReadsAs (λ reports. reports.items) result cursor.new (proof_at count cursor.old) }
+{
+    let mut reports = Vec::with_capacity(alloc, usize::from(count))?;
+    for _ in 0..count {
+        let signed = take_signed(alloc, cursor)?;
+        reports.push(signed)?;
+    }
+    Ok(reports)
+}
+
+fn do_signers_ascend(reports: &[SignedReport]) -> bool
+    ensures { result ≡ ascends_within 0 256 (signers_of reports.now) }
+{
+    let mut low = 0;
+    for signed in reports {
+        let signer = u16::from(signed.report.signer.number());
+        if signer < low {
+            return false;
+        }
+        low = signer + 1;
+    }
+    true
+}
+
+#[tactic(auto, unfolding(ledger_model::specs::Reading::lock_at))]
+pub fn take_lock(alloc: Global, cursor: &mut Cursor) -> Result<Lock, DecodeFault>
+    ensures { Reads result cursor.new (lock_at cursor.old) }
+{
+    let place = take_place(cursor)?;
+    let value = take_batch(alloc, cursor)?;
+    let count = take_byte(cursor)?;
+    if count < MIN_REPORTS || MAX_REPORTS < count {
+        return Err(DecodeFault::Malformed);
+    }
+    let reports = take_reports(alloc, cursor, count)?;
+    if !do_signers_ascend(&reports) {
+        return Err(DecodeFault::Malformed);
+    }
+    Ok(Lock {
+        height: place.height,
+        phase: place.phase,
+        signer: place.signer,
+        value,
+        proof: LockProof::new(reports),
+    })
+}
