@@ -1,3 +1,8 @@
+ghost use Rattle.std.specs.Prelude.{◌≡◌, ◌<◌, ◌++◌, ◌*◌, ◌/◌, length};
+ghost use Rattle.std.specs.Int.{w16, to_be_bytes};
+ghost use Rattle.ledger_model.specs.Signatures.{coef, checksum};
+ghost use Rattle.lm_ots.specs.Parameters.{numbers_of, chains_of, bits_of};
+
 use crate::{Params, Width};
 
 /// The digits that are signed, those of a digest and of its checksum (RFC 8554, section 4.4).
@@ -8,11 +13,6 @@ pub(crate) struct Digits {
 }
 
 impl Digits {
-    ghost use Rattle.std.specs.Prelude.{◌≡◌, ◌<◌, ◌≤◌, ◌++◌, ◌*◌, ◌/◌, length};
-    ghost use Rattle.std.specs.Int.{w16, to_be_bytes};
-    ghost use Rattle.ledger_model.specs.Signatures.{coef, checksum};
-    ghost use Rattle.lm_ots.specs.Parameters.{numbers_of, chains_of, bits_of};
-
     /// The digits of a digest.
     pub(crate) fn of(params: Params, digest: &[u8; 32]) -> Self
         ensures params { result.params ≡ params }
@@ -34,14 +34,9 @@ impl Digits {
     }
 }
 
-ghost use Rattle.std.specs.Prelude.{◌≡◌, ◌<◌, ◌≤◌, ◌*◌, ◌/◌, length};
-ghost use Rattle.ledger_model.specs.Signatures.{coef, checksum};
-ghost use Rattle.lm_ots.specs.Parameters.{numbers_of, bits_of};
-
 /// The digit `index` of `bytes` (RFC 8554, section 3.1.3).
 fn coefficient(bytes: &[u8], index: usize, width: Width) -> u8
-    requires inside { index * bits_of width / 8 < length bytes.now }
-    requires small { index < 256 }
+    requires { index * bits_of width / 8 < length bytes.now }
     ensures { result ≡ coef bytes.now index (bits_of width) }
 {
     match width {

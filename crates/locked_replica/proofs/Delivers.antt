@@ -69,11 +69,11 @@ read_matches config id entries held o bytes u p signature was opened clock heigh
     let e : Entry = record { event = event.Deliver bytes; reply = reply.Delivered (Ok u) } in
     let s : SignedStatement = record { statement = statement.Report p; signature = signature } in
     let log : (g : ℕ) → log_of config id g (entries ++ e ∷ []) ≡ log_of config id g entries ++ read_note (o.height == g) held.clock s = λ g.
-        log_more config id g entries e
-        ∙ ap (λ (ns : List Note). log_of config id g entries ++ ns) (
-        ap (λ x. if_some x (λ t. cond (height_of t.statement == g) (Read (clock_of (log_of config id g entries)) t ∷ []) [])) is
-        ∙ ap (λ n. read_note (n == g) (clock_of (log_of config id g entries)) s) height
-        ∙ ap (λ c. read_note (o.height == g) c s) (was.rounds g)) in
+    log_more config id g entries e
+    ∙ ap (λ (ns : List Note). log_of config id g entries ++ ns) (
+    ap (λ x. if_some x (λ t. cond (height_of t.statement == g) (Read (clock_of (log_of config id g entries)) t ∷ []) [])) is
+    ∙ ap (λ n. read_note (n == g) (clock_of (log_of config id g entries)) s) height
+    ∙ ap (λ c. read_note (o.height == g) c s) (was.rounds g)) in
     let run : executed (entries ++ e ∷ []) ≡ 0 = executed_more entries e ∙ rw was.executed refl in
     record {
       pool = pool_more config id entries e ∙ was.pool;
@@ -86,8 +86,8 @@ read_matches config id entries held o bytes u p signature was opened clock heigh
       rounds = λ g. rw (log g) (clock_of-append (log_of config id g entries) (read_note (o.height == g) held.clock s) ∙ rw (was.rounds g, clock_of-read (o.height == g) held.clock s) (omega arith));
       fresh = λ zero g. absurd (omega (arith, zero, clock));
       heard = λ g r. rw (log g) (
-      any_more (reads_in held.clock (is_report (λ p. p.signer == r))) (log_of config id g entries) (read_note (o.height == g) held.clock s)
-      ∙ rw (was.heard g r, opened, read_by (o.height == g) held.clock p signature r) (sym (reporters_more o p.signer g r)));
+          any_more (reads_in held.clock (is_report (λ p. p.signer == r))) (log_of config id g entries) (read_note (o.height == g) held.clock s)
+          ∙ rw (was.heard g r, opened, read_by (o.height == g) held.clock p signature r) (sym (reporters_more o p.signer g r)));
     }
 
 -- a frame that is ignored changes nothing

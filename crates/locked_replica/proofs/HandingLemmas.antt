@@ -62,10 +62,10 @@ pub submit_step : (config : Config) (ring : Ring) (id : ℕ) (held new : Held) (
     → IsStep config ring id held (event.Submit tx) (reply.Submitted r) new
 submit_step config ring id held new tx r kind answered then entries was =
     let pool : pool_with held.pool (pool_answer held.pool tx) ≡ cond (is_ok r) (held.pool ++ tx ∷ []) held.pool =
-        pool_with_is held.pool tx (pool_answer held.pool tx) (λ x is. given_back (pool_tests held.pool tx) tx x is) ∙ ap (λ y. cond (is_ok y) (held.pool ++ tx ∷ []) held.pool) (sym answered) in (
+    pool_with_is held.pool tx (pool_answer held.pool tx) (λ x is. given_back (pool_tests held.pool tx) tx x is) ∙ ap (λ y. cond (is_ok y) (held.pool ++ tx ∷ []) held.pool) (sym answered) in (
       answered ∙ submit_lawful config id entries held tx kind was,
       refl,
-      subst (Matches config id (entries ++ record { event = event.Submit tx; reply = reply.Submitted r } ∷ [])) (sym (then ∙ ap (λ p. record held { pool = p }) pool)) (submit_matches config id entries held tx r was)
+      subst (Matches config id (entries ++ record { event = event.Submit tx; reply = reply.Submitted r } ∷ [])) (sym (then ∙ ap (λ p. record held { pool = p }) pool)) (submit_matches config id entries held tx r was),
     )
 
 same_open : (o : Option Open) (h : ℕ) → IsOpenOrNone o h → is_some (initial_at o h) ≡ is_some o
@@ -94,12 +94,12 @@ propose_step config ring id held new h (Ok v) is answered then entries was =
     let none : held.opened ≡ None = none_open held.opened (first_open ((h == 0) || nat_lt 4096 h) (is_some held.opened) (nat_lt 4 h) closed.Closed closed.AlreadyOpen closed.TooFar v (take 16 held.pool) answered) in (
       answered ∙ propose_lawful config id entries held h was is,
       refl,
-      subst (Matches config id (entries ++ record { event = event.Propose h; reply = reply.Proposed (Ok v) } ∷ [])) (sym then) (opened_matches config id entries held h v was none)
+      subst (Matches config id (entries ++ record { event = event.Propose h; reply = reply.Proposed (Ok v) } ∷ [])) (sym then) (opened_matches config id entries held h v was none),
     )
 propose_step config ring id held new h (Err f) is answered then entries was = (
   answered ∙ propose_lawful config id entries held h was is,
   refl,
-  subst (Matches config id (entries ++ record { event = event.Propose h; reply = reply.Proposed (Err f) } ∷ [])) (sym then) (refused_matches config id entries held h f was)
+  subst (Matches config id (entries ++ record { event = event.Propose h; reply = reply.Proposed (Err f) } ∷ [])) (sym then) (refused_matches config id entries held h f was),
 )
 
 -- What can be spelled.

@@ -68,8 +68,8 @@ opened_matches config id entries held h v was none =
       rounds = λ g. rw (log g) (clock_of-append (log_of config id g entries) (opening h g v) ∙ rw (was.rounds g, clock_of-opening (h == g) v) (omega arith));
       fresh = λ zero g. let empty : log_of config id g entries ≡ [] = was.fresh zero g ∙ ap (λ x. proposed_notes (initial_at x g)) none in rw (log g, empty) (proposed-opening (h == g) v);
       heard = λ g r. rw (log g) (
-      any_more (reads_in held.clock (is_report (λ p. p.signer == r))) (log_of config id g entries) (opening h g v)
-      ∙ rw (was.heard g r, none, read-opening (h == g) v held.clock (is_report (λ p. p.signer == r))) (sym (none_reported (h == g) r)));
+          any_more (reads_in held.clock (is_report (λ p. p.signer == r))) (log_of config id g entries) (opening h g v)
+          ∙ rw (was.heard g r, none, read-opening (h == g) v held.clock (is_report (λ p. p.signer == r))) (sym (none_reported (h == g) r)));
     }
 
 -- an opening that is refused

@@ -76,10 +76,10 @@ ended_matches config id entries held ended b p signature opened was none made sa
     let start : (h : ℕ) → log_of config id h entries ≡ proposed_notes (initial_at held.opened h) = was.fresh none in
     let clock : (h : ℕ) → clock_of (log_of config id h entries) ≡ 0 = λ h. was.rounds h ∙ none in
     let log : (h : ℕ) → log_of config id h (entries ++ e ∷ []) ≡ proposed_notes (initial_at held.opened h) ++ Round 1 ∷ report_notes (b h) s = λ h.
-        log_more config id h entries e
-        ∙ ap (λ n. log_of config id h entries ++ (Round (n + 1) ∷ flat_map (made_notes (log_of config id h entries) (n + 1)) (statements_made config id h (log_of config id h entries) (n + 1) ended))) (clock h)
-        ∙ ap (λ (ns : List Note). log_of config id h entries ++ (Round 1 ∷ ns)) (made h)
-        ∙ ap (λ (ns : List Note). ns ++ (Round 1 ∷ report_notes (b h) s)) (start h) in
+    log_more config id h entries e
+    ∙ ap (λ n. log_of config id h entries ++ (Round (n + 1) ∷ flat_map (made_notes (log_of config id h entries) (n + 1)) (statements_made config id h (log_of config id h entries) (n + 1) ended))) (clock h)
+    ∙ ap (λ (ns : List Note). log_of config id h entries ++ (Round 1 ∷ ns)) (made h)
+    ∙ ap (λ (ns : List Note). ns ++ (Round 1 ∷ report_notes (b h) s)) (start h) in
     let run : executed (entries ++ e ∷ []) ≡ 0 = executed_more entries e ∙ rw was.executed refl in
     record {
       pool = pool_more config id entries e ∙ was.pool;
@@ -92,8 +92,8 @@ ended_matches config id entries held ended b p signature opened was none made sa
       rounds = λ h. rw (log h) (clock_of-append (proposed_notes (initial_at held.opened h)) (Round 1 ∷ report_notes (b h) s) ∙ rw (clock_of-proposed (initial_at held.opened h), clock_of-report (b h) s) refl);
       fresh = λ zero' h. absurd (omega (arith, zero'));
       heard = λ h r. rw (log h) (
-      any_more (reads_in 1 (is_report (λ q. q.signer == r))) (proposed_notes (initial_at held.opened h)) (Round 1 ∷ report_notes (b h) s)
-      ∙ rw (none_read (initial_at held.opened h) 1 (is_report (λ q. q.signer == r)), read_report (b h) p signature r) (sym (heard h r)));
+          any_more (reads_in 1 (is_report (λ q. q.signer == r))) (proposed_notes (initial_at held.opened h)) (Round 1 ∷ report_notes (b h) s)
+          ∙ rw (none_read (initial_at held.opened h) 1 (is_report (λ q. q.signer == r)), read_report (b h) p signature r) (sym (heard h r)));
     }
 
 -- The frames of the round end.
@@ -160,7 +160,7 @@ pub report_ended_matches : (config : Config) (id : ℕ) (entries : List Entry) (
 report_ended_matches config id entries held ended o sent signature was none open' one is =
     ended_matches config id entries held ended (λ h. o.height == h) (first_report id o) signature (Some (record o { reporters = id ∷ [] })) was none
     (λ h. ap (flat_map (made_notes (log_of config id h entries) 1)) (one_made config id h (log_of config id h entries) ended sent (record { statement = statement.Report (first_report id o); signature = signature }) one is)
-      ∙ made_report (o.height == h) (log_of config id h entries) (first_report id o) signature)
+    ∙ made_report (o.height == h) (log_of config id h entries) (first_report id o) signature)
     (λ h. ap (λ x. initial_at x h) (sym open'))
     (λ h r. reported_once (o.height == h) id r)
 
@@ -191,7 +191,6 @@ may_report config id h o signature = by_height (o.height == h) refl
         subst (λ g. statement.Report (first_report id o) ∷ [] ≡ statement.Report (report_of config id g (proposed_notes (Some o.initial)) 1 o.initial) ∷ []) e
         (ap (λ p. statement.Report p ∷ []) (sym (first_report_is config id o.height o.initial)))
 
-
 not_mute : (b : Bool) → b ≡ false → IsTrue b → ⊥
 not_mute b is t = false≢true (sym is ∙ t)
 
@@ -202,17 +201,19 @@ lawful_end : (config : Config) (ring : Ring) (id : ℕ) (entries : List Entry) (
     → Lawful config ring id entries event.RoundEnd (reply.RoundEnded (Ok ended))
 lawful_end config ring id entries held ended was none frames order makes =
     let clock : (h : ℕ) → clock_of (log_of config id h entries) ≡ 0 = λ h. was.rounds h ∙ none in
-    let low : clock_at entries < 4000000000 = (let c = was.clock in omega arith) in
-    (low, record {
-      mute = λ t. absurd (not_mute (is_mute entries) (was.mute ∙ was.loud none) t);
-      frames = frames;
-      order = order;
-      makes = λ h.
-      let log : List Note = log_of config id h entries in
-      subst (λ n. MayMake config id h log (n + 1) ended.mute (map (λ (s : SignedStatement). s.statement) (statements_made config id h log (n + 1) ended))) (sym (clock h))
-          (subst (λ (l : List Note). MayMake config id h l 1 ended.mute (map (λ (s : SignedStatement). s.statement) (statements_made config id h log 1 ended))) (sym (was.fresh none h)) (makes h));
-      sends_on = λ h t. absurd (false≢true (subst (λ n. IsTrue (place_of (n + 1) == 4)) (clock h) t));
-    })
+    let low : clock_at entries < 4000000000 = (let c = was.clock in omega arith) in (
+      low,
+      record {
+        mute = λ t. absurd (not_mute (is_mute entries) (was.mute ∙ was.loud none) t);
+        frames = frames;
+        order = order;
+        makes = λ h.
+            let log : List Note = log_of config id h entries in
+            subst (λ n. MayMake config id h log (n + 1) ended.mute (map (λ (s : SignedStatement). s.statement) (statements_made config id h log (n + 1) ended))) (sym (clock h))
+            (subst (λ (l : List Note). MayMake config id h l 1 ended.mute (map (λ (s : SignedStatement). s.statement) (statements_made config id h log 1 ended))) (sym (was.fresh none h)) (makes h));
+        sends_on = λ h t. absurd (false≢true (subst (λ n. IsTrue (place_of (n + 1) == 4)) (clock h) t));
+      },
+    )
 
 -- nothing is sent: the replica is mute, or no height is open
 pub quiet_end_lawful : (config : Config) (ring : Ring) (id : ℕ) (entries : List Entry) (held : Held) (ended : RoundEnded) → Matches config id entries held → held.clock ≡ 0
@@ -223,10 +224,10 @@ quiet_end_lawful config ring id entries held ended was none quiet why = (
       (subst (AllByRecursion (IsSentRight config)) (sym quiet) tt)
       (rw quiet refl)
       (λ h. subst (λ (made : List SignedStatement). MayMake config id h (proposed_notes (initial_at held.opened h)) 1 ended.mute (map (λ (s : SignedStatement). s.statement) made))
-        (sym (quiet_made config id h (log_of config id h entries) ended quiet))
-        (may_quiet config id h (initial_at held.opened h) ended.mute
-        (elim why [ inl is ↦ inl is | inr closed ↦ inr (ap (λ o. initial_at o h) closed) ]))),
-  rw quiet refl
+      (sym (quiet_made config id h (log_of config id h entries) ended quiet))
+      (may_quiet config id h (initial_at held.opened h) ended.mute
+      (elim why [ inl is ↦ inl is | inr closed ↦ inr (ap (λ o. initial_at o h) closed) ]))),
+  rw quiet refl,
 )
 
 -- the report of the open height is sent
@@ -242,8 +243,8 @@ report_end_lawful config ring id entries held ended o sent signature was none op
           (subst (AllByRecursion (IsSentRight config)) (sym one) (right, tt))
           (rw (one, is) refl)
           (λ h. subst (λ (made : List SignedStatement). MayMake config id h (proposed_notes (initial_at held.opened h)) 1 ended.mute (map (λ (t : SignedStatement). t.statement) made))
-            (sym (one_made config id h (log_of config id h entries) ended sent s one is))
-            (subst (λ x. MayMake config id h (proposed_notes (initial_at x h)) 1 ended.mute (map (λ (t : SignedStatement). t.statement) (cond (o.height == h) (s ∷ []) []))) (sym open')
-            (subst (λ b. MayMake config id h (proposed_notes (initial_at (Some o) h)) 1 b (map (λ (t : SignedStatement). t.statement) (cond (o.height == h) (s ∷ []) []))) (sym loud) (may_report config id h o signature)))),
-      rw (one, is, signed) refl
+          (sym (one_made config id h (log_of config id h entries) ended sent s one is))
+          (subst (λ x. MayMake config id h (proposed_notes (initial_at x h)) 1 ended.mute (map (λ (t : SignedStatement). t.statement) (cond (o.height == h) (s ∷ []) []))) (sym open')
+          (subst (λ b. MayMake config id h (proposed_notes (initial_at (Some o) h)) 1 b (map (λ (t : SignedStatement). t.statement) (cond (o.height == h) (s ∷ []) []))) (sym loud) (may_report config id h o signature)))),
+      rw (one, is, signed) refl,
     )

@@ -118,7 +118,7 @@ pub deliver_step : (config : Config) (ring : Ring) (id : ℕ) (held new : Held) 
 deliver_step config ring id held new bytes r answered then entries was = (
   answered ∙ answer_is config ring id entries held (reading bytes) was,
   refl,
-  subst (Matches config id (entries ++ record { event = event.Deliver bytes; reply = reply.Delivered r } ∷ [])) (sym then) (delivered_matches config ring id entries held bytes (reading bytes) r was refl answered)
+  subst (Matches config id (entries ++ record { event = event.Deliver bytes; reply = reply.Delivered r } ∷ [])) (sym then) (delivered_matches config ring id entries held bytes (reading bytes) r was refl answered),
 )
 
 -- the end of round 0
@@ -130,7 +130,7 @@ round_step config ring id key left held new ended None none own closed ends entr
     let same : record held { opened = None; clock = 1; mute = ended.mute } ≡ new = rw (ends.0, ends.2) (let e = was.loud none in cc) in (
       lawful.0,
       lawful.1,
-      subst (Matches config id (entries ++ record { event = event.RoundEnd; reply = reply.RoundEnded (Ok ended) } ∷ [])) same (closed_ended_matches config id entries held ended was none closed (ends.1))
+      subst (Matches config id (entries ++ record { event = event.RoundEnd; reply = reply.RoundEnded (Ok ended) } ∷ [])) same (closed_ended_matches config id entries held ended was none closed (ends.1)),
     )
 round_step config ring id key true held new ended (Some o) none own open' ends entries was =
     let sent = ends.0 in
@@ -140,14 +140,14 @@ round_step config ring id key true held new ended (Some o) none own open' ends e
     let same : record held { opened = Some (record o { reporters = id ∷ [] }); clock = 1; mute = ended.mute } ≡ new = rw (facts.0, facts.4) (let e = was.loud none in cc) in (
       lawful.0,
       lawful.1,
-      subst (Matches config id (entries ++ record { event = event.RoundEnd; reply = reply.RoundEnded (Ok ended) } ∷ [])) same (report_ended_matches config id entries held ended o sent (first.signature) was none open' (facts.1) (first.spelled))
+      subst (Matches config id (entries ++ record { event = event.RoundEnd; reply = reply.RoundEnded (Ok ended) } ∷ [])) same (report_ended_matches config id entries held ended o sent (first.signature) was none open' (facts.1) (first.spelled)),
     )
 round_step config ring id key false held new ended (Some o) none own open' ends entries was =
     let lawful = quiet_end_lawful config ring id entries held ended was none (ends.1) (inl (ends.0)) in
     let same : record held { opened = Some (record o { reporters = [] }); clock = 1; mute = ended.mute } ≡ new = rw (ends.0, ends.2) refl in (
       lawful.0,
       lawful.1,
-      subst (Matches config id (entries ++ record { event = event.RoundEnd; reply = reply.RoundEnded (Ok ended) } ∷ [])) same (mute_ended_matches config id entries held ended o was none open' (ends.1))
+      subst (Matches config id (entries ++ record { event = event.RoundEnd; reply = reply.RoundEnded (Ok ended) } ∷ [])) same (mute_ended_matches config id entries held ended o was none open' (ends.1)),
     )
 
 pub round_end_step : (config : Config) (ring : Ring) (id : ℕ) (key : List ℕ) (left : Bool) (held new : Held) (ended : RoundEnded) → held.clock ≡ 0 → slice_get ring id ≡ Some key

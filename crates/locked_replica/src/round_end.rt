@@ -9,10 +9,10 @@ ghost use Rattle.locked_replica.specs.Replicas.{key_of};
 
 use crate::core_state::{Core, Opened};
 use crate::signing::Signing;
+use bytes::Bytes;
 use ledger_model::{
     Addressee, Batches, Phase, ReplicaId, Report, RoundEnded, Sent, SentFrames, Statement,
 };
-use bytes::Bytes;
 use signed_frames::Frame;
 use statements::encode;
 use std::alloc::{AllocError, Global};
@@ -35,11 +35,7 @@ fn first_report(alloc: Global, id: ReplicaId, opened: &Opened) -> Result<Report,
 }
 
 /// The bytes of the frame of a statement and its signature.
-fn frame_bytes(
-    alloc: Global,
-    statement: Statement,
-    signature: &[u8],
-) -> Result<Bytes, AllocError>
+fn frame_bytes(alloc: Global, statement: Statement, signature: &[u8]) -> Result<Bytes, AllocError>
     requires spelled { IsStatement statement }
     requires signature_len { length signature.now ≤ 2508 }
     requires body_len { length (body_bytes (record { statement = statement; signature = signature.now })) ≤ 150000 }

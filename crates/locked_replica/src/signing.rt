@@ -26,7 +26,7 @@ impl Signing {
         requires { self.old.used < 2 ^ (numbers_of self.old.tree.params).height }
         ensures verified { IfOk result (λ signature.
             verifies (public_key (numbers_of self.old.tree.params) self.old.tree.identifier self.old.tree.seed)
-                message.now signature.items ≡ true) }
+            message.now signature.items ≡ true) }
         ensures short { IfOk result (λ signature. length signature.items ≤ 2508) }
         ensures used { self.new ≡ record self.old { used = self.old.used + 1 } }
     {

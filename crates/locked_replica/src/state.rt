@@ -92,7 +92,8 @@ impl State {
     {
         // What is kept is opened for the proof: no block was run yet.
         let _ = &self.core;
-        0
+        let committed = 0;
+        committed
     }
 
     /// The entry of an index.

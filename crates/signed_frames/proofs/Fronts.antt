@@ -40,10 +40,11 @@ all_join P (x ∷ xs) ys a b = (a.0, all_join P xs ys a.1 b)
 
 -- frames, and then more of them
 pub frames_join : (bytes mid rest : List ℕ) (frames more : List SignedStatement) → Frames bytes frames mid → Frames mid more rest → Frames bytes (frames ++ more) rest
-frames_join bytes mid rest frames more f g =
-    (all_join IsFrame frames more f.0 g.0,
-    f.1 ∙ ap (λ (x : List ℕ). flat_map frame_bytes frames ++ x) g.1 ∙ sym (append_assoc (flat_map frame_bytes frames) (flat_map frame_bytes more) rest)
-    ∙ ap (λ (x : List ℕ). x ++ rest) (sym (flat_map-append frame_bytes frames more)))
+frames_join bytes mid rest frames more f g = (
+  all_join IsFrame frames more f.0 g.0,
+  f.1 ∙ ap (λ (x : List ℕ). flat_map frame_bytes frames ++ x) g.1 ∙ sym (append_assoc (flat_map frame_bytes frames) (flat_map frame_bytes more) rest)
+      ∙ ap (λ (x : List ℕ). x ++ rest) (sym (flat_map-append frame_bytes frames more)),
+)
 
 -- what was used so far is some frames
 pub record Used (bytes : List ℕ) (frames : List SignedStatement) (used : ℕ) : Type 0 where

@@ -34,8 +34,15 @@ list_bound vs is = omega (arith, is.few, flat_bound IsValue value_bytes 1041 val
 report_bound : (r : Report) → IsReport r → length (report_bytes r) ≤ 9382
 report_bound r is =
     let start : List ℕ = 1 ∷ to_be_bytes w32 r.height ++ to_be_bytes w32 r.phase ++ (r.signer ∷ (if r.all then 1 else 0) ∷ []) in
-    omega (arith, value_bound r.initial is.initial, list_bound r.proper is.proper, list_bound r.locked is.locked,
-    length-append (start ++ value_bytes r.initial ++ list_bytes r.proper) (list_bytes r.locked), length-append (start ++ value_bytes r.initial) (list_bytes r.proper), length-append start (value_bytes r.initial))
+    omega (
+      arith,
+      value_bound r.initial is.initial,
+      list_bound r.proper is.proper,
+      list_bound r.locked is.locked,
+      length-append (start ++ value_bytes r.initial ++ list_bytes r.proper) (list_bytes r.locked),
+      length-append (start ++ value_bytes r.initial) (list_bytes r.proper),
+      length-append start (value_bytes r.initial),
+    )
 
 -- with its signature at most 11892
 signed_bound : (s : SignedReport) → IsSigned s → length (signed_bytes s) ≤ 11892
@@ -44,8 +51,15 @@ signed_bound s is = omega (arith, report_bound s.report is.report, is.signature.
 lock_bound : (l : Lock) → IsLock l → length (lock_bytes l) ≤ 143756
 lock_bound l is =
     let start : List ℕ = 2 ∷ to_be_bytes w32 l.height ++ to_be_bytes w32 l.phase ++ (l.signer ∷ []) in
-    omega (arith, value_bound l.value is.value, is.count.1, flat_bound IsSigned signed_bytes 11892 signed_bound l.proof is.each,
-    length-append (start ++ value_bytes l.value ++ (length l.proof ∷ [])) (flat_map signed_bytes l.proof), length-append (start ++ value_bytes l.value) (length l.proof ∷ []), length-append start (value_bytes l.value))
+    omega (
+      arith,
+      value_bound l.value is.value,
+      is.count.1,
+      flat_bound IsSigned signed_bytes 11892 signed_bound l.proof is.each,
+      length-append (start ++ value_bytes l.value ++ (length l.proof ∷ [])) (flat_map signed_bytes l.proof),
+      length-append (start ++ value_bytes l.value) (length l.proof ∷ []),
+      length-append start (value_bytes l.value),
+    )
 
 ack_bound : (a : Ack) → IsAck a → length (ack_bytes a) ≤ 1051
 ack_bound a is =

@@ -96,12 +96,12 @@ impl FrameReader {
         ensures too_long { (kept : List ℕ) (frames : List SignedStatement) → self.old ≡ Reading kept
             → BreaksOff BeginsTooLong (kept ++ piece.now) frames
             → MatchResult result (λ out. (out.items ≡ frames) × (self.new ≡ Found FrameFault.TooLong))
-                (λ fault. FaultAt frames FrameFault.TooLong fault) }
+            (λ fault. FaultAt frames FrameFault.TooLong fault) }
         // The same of a body that is not spelled.
         ensures malformed { (kept : List ℕ) (frames : List SignedStatement) → self.old ≡ Reading kept
             → BreaksOff BeginsMalformed (kept ++ piece.now) frames
             → MatchResult result (λ out. (out.items ≡ frames) × (self.new ≡ Found FrameFault.Malformed))
-                (λ fault. FaultAt frames FrameFault.Malformed fault) }
+            (λ fault. FaultAt frames FrameFault.Malformed fault) }
     {
         self.take_piece(piece)
     }

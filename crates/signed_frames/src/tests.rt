@@ -10,9 +10,7 @@ const REPORT: [u8; 23] = [
 ];
 
 // the acknowledgement of replica 2 of that batch
-const ACK: [u8; 15] = [
-    3, 0, 0, 0, 1, 0, 0, 0, 1, 2, 1, 3, 0x61, 0x3d, 0x31,
-];
+const ACK: [u8; 15] = [3, 0, 0, 0, 1, 0, 0, 0, 1, 2, 1, 3, 0x61, 0x3d, 0x31];
 
 // signatures have 2348 bytes here
 const SIGNATURE_LEN: [u8; 2] = [0x09, 0x2c];
@@ -46,9 +44,7 @@ fn ack_frame(alloc: Global) -> Result<Vec<u8>, Fail> {
 fn lock_frame(alloc: Global) -> Result<Vec<u8>, Fail> {
     let mut lock = Vec::from_slice(
         alloc,
-        &[
-            2, 0, 0, 0, 1, 0, 0, 0, 1, 1, 1, 3, 0x61, 0x3d, 0x31, 3,
-        ],
+        &[2, 0, 0, 0, 1, 0, 0, 0, 1, 1, 1, 3, 0x61, 0x3d, 0x31, 3],
     )?;
     for signer in [0u8, 2, 3] {
         lock.extend_from_slice(&REPORT[..9])?;
@@ -65,10 +61,7 @@ fn parsed(alloc: Global, bytes: &[u8]) -> Result<Frame, Fail> {
 
 fn is_malformed(alloc: Global, bytes: &[u8]) -> Result<bool, Fail> {
     let copied = Bytes::copy_from_slice(alloc, bytes)?;
-    Ok(matches!(
-        Frame::parse(alloc, copied),
-        Err(DecodeFault::Malformed)
-    ))
+    Ok(matches!(Frame::parse(alloc, copied), Err(DecodeFault::Malformed)))
 }
 
 // how many frames a piece gives, or the fault
@@ -172,9 +165,15 @@ fn reads_several_frames(rt: HostRuntime) -> Result<(), Fail> {
 fn refuses_a_long_frame(rt: HostRuntime) -> Result<(), Fail> {
     let alloc = rt.alloc();
     let mut reader = FrameReader::new(alloc);
-    assert_eq!(rt; fed(&mut reader, &[0, 2, 0x49, 0xf1]), Err(FrameFault::TooLong));
+    assert_eq!(rt;
+        fed(&mut reader, &[0, 2, 0x49, 0xf1]),
+        Err(FrameFault::TooLong)
+    );
     assert_eq!(rt; fed(&mut reader, &[]), Err(FrameFault::Failed));
-    assert_eq!(rt; fed(&mut reader, &report_frame(alloc)?), Err(FrameFault::Failed));
+    assert_eq!(rt;
+        fed(&mut reader, &report_frame(alloc)?),
+        Err(FrameFault::Failed)
+    );
     assert!(rt; !reader.is_between());
     // 150,000 is awaited
     let mut patient = FrameReader::new(alloc);
@@ -201,7 +200,13 @@ fn hands_out_frames_before_a_fault(rt: HostRuntime) -> Result<(), Fail> {
     let mut reader = FrameReader::new(alloc);
     assert_eq!(rt; fed(&mut reader, &bytes), Ok(2));
     assert!(rt; !reader.is_between());
-    assert_eq!(rt; fed(&mut reader, &report_frame(alloc)?), Err(FrameFault::TooLong));
-    assert_eq!(rt; fed(&mut reader, &report_frame(alloc)?), Err(FrameFault::Failed));
+    assert_eq!(rt;
+        fed(&mut reader, &report_frame(alloc)?),
+        Err(FrameFault::TooLong)
+    );
+    assert_eq!(rt;
+        fed(&mut reader, &report_frame(alloc)?),
+        Err(FrameFault::Failed)
+    );
     Ok(())
 }

@@ -16,7 +16,7 @@ returns-then-not-can_take-clause-not_yet c =
     let left = left_is_not_yet s.config s.id s.entries.items s.core c.args.event c.self.invariant.matches cannot in
     let few : length c.args.self.now.entries < 65536 = search rules in (
       λ _. (few, subst (λ (r : Replica). IsNotYet r.config r.id r.entries c.args.event) c.self.view_is left),
-      λ _. refl
+      λ _. refl,
     )
 
 pub invariant_of-self-2 : goal.invariant_of-self-2

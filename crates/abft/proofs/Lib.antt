@@ -1,0 +1,4 @@
+pub mod Chains
+pub mod WrittenLemmas
+pub mod MatchesLemmas
+pub mod RingLemmas

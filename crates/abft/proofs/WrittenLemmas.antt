@@ -1,0 +1,27 @@
+-- Transactions as they are written.
+use Rattle.std.proofs.Common.{◌≡◌, ℕ, ◌<◌, ◌++◌, ◌⊎◌, inl, inr, Bool, true, false, cond, List, [], ◌∷◌, length, refl, sym, subst, append_assoc, arith}
+use Rattle.std.specs.Prelude.{◌==◌, Option, Some, None}
+use Rattle.std.proofs.lemmas.Option.{some_pair_parts}
+use Rattle.abft.specs.Texts.{first_byte, before, byte_of, nibble, is_plain, StandsFor}
+
+-- what comes after a byte
+before_rest : (o : Option ℕ) (rest after : List ℕ) (b : ℕ) → before o rest ≡ Some (b, after) → rest ≡ after
+before_rest None rest after b e = absurd cc
+before_rest (Some x) rest after b e = (some_pair_parts x b rest after e).1
+
+-- a byte takes at least one byte of the text
+pub shorter : (text after : List ℕ) (b : ℕ) → first_byte text ≡ Some (b, after) → length after < length text
+shorter [] after b e = absurd cc
+shorter (x ∷ []) after b e = let same = before_rest (cond (is_plain x) (Some x) None) [] after b e in subst (λ (r : List ℕ). length r < length (x ∷ [])) same (omega arith)
+shorter (x ∷ y ∷ []) after b e = let same = before_rest (cond (is_plain x) (Some x) None) (y ∷ []) after b e in subst (λ (r : List ℕ). length r < length (x ∷ y ∷ [])) same (omega arith)
+shorter (x ∷ y ∷ z ∷ rest) after b e = by_test (x == 0x5c) e
+  where
+    by_test : (t : Bool) → cond t (before (byte_of (nibble y) (nibble z)) rest) (before (cond (is_plain x) (Some x) None) (y ∷ z ∷ rest)) ≡ Some (b, after) → length after < length (x ∷ y ∷ z ∷ rest)
+    by_test true h = let same = before_rest (byte_of (nibble y) (nibble z)) rest after b h in subst (λ (r : List ℕ). length r < length (x ∷ y ∷ z ∷ rest)) same (omega arith)
+    by_test false h = let same = before_rest (cond (is_plain x) (Some x) None) (y ∷ z ∷ rest) after b h in subst (λ (r : List ℕ). length r < length (x ∷ y ∷ z ∷ rest)) same (omega arith)
+
+-- one byte more was read
+pub reads_on : (text rest after read : List ℕ) (b : ℕ) → first_byte rest ≡ Some (b, after)
+    → ((more : List ℕ) → StandsFor rest more → StandsFor text (read ++ more))
+    → (more : List ℕ) → StandsFor after more → StandsFor text ((read ++ b ∷ []) ++ more)
+reads_on text rest after read b first so_far more stands = subst (StandsFor text) (sym (append_assoc read (b ∷ []) more)) (so_far (b ∷ more) (after, (first, stands)))

@@ -1,0 +1,5 @@
+pub mod CommandLine
+pub mod Texts
+pub mod Options
+pub mod Keys
+pub mod Statements

@@ -1,0 +1,69 @@
+//! What the words of a command line set.
+ghost use Rattle.std.specs.Prelude.{map, IfOk};
+ghost use Rattle.clap.specs.Words.{found_of, rows_of, subcommand_of};
+ghost use Rattle.abft.specs.CommandLine.{abft_app};
+ghost use Rattle.abft.specs.Options.{SetsSign, SetsDeliver, Sets};
+
+use crate::command::abft_command;
+use crate::fault::UsageFault;
+use crate::options::{cluster, number, small_number, value, what};
+use crate::setup::{DeliverSettings, Settings, SignSettings};
+use clap::ArgMatches;
+use ledger_model::{Height, Phase, ReplicaId};
+use std::alloc::Global;
+
+/// `abft sign`, by its matches.
+fn sign_settings(alloc: Global, matches: &ArgMatches<'_>) -> Result<SignSettings, UsageFault>
+    ensures { IfOk result (λ s. SetsSign (rows_of (found_of matches.now)) s) }
+{
+    let cluster = cluster(matches)?;
+    let what = what(matches)?;
+    let replica = small_number(matches, "replica", 0, cluster.config.replicas - 1)?;
+    let height = number(matches, "height", 1, 4096)?;
+    let phase = number(matches, "phase", 1, 1_000_000_000)?;
+    let value = value(alloc, matches)?;
+    Ok(SignSettings {
+        cluster,
+        what,
+        replica: ReplicaId::new(replica),
+        height: Height::new(height),
+        phase: Phase::new(phase),
+        value,
+    })
+}
+
+/// `abft deliver`, by its matches.
+fn deliver_settings(alloc: Global, matches: &ArgMatches<'_>) -> Result<DeliverSettings, UsageFault>
+    ensures { IfOk result (λ s. SetsDeliver (rows_of (found_of matches.now)) s) }
+{
+    let cluster = cluster(matches)?;
+    let replica = small_number(matches, "replica", 0, cluster.config.replicas - 1)?;
+    let value = value(alloc, matches)?;
+    let height = number(matches, "height", 1, 4)?;
+    let rounds = number(matches, "rounds", 0, 1)?;
+    Ok(DeliverSettings {
+        cluster,
+        replica: ReplicaId::new(replica),
+        value,
+        height: Height::new(height),
+        rounds,
+    })
+}
+
+/// What the words of a command line ask for; the first word is the program's name.
+///
+/// Each option has the value that the words give it, or else its default, within its limits. An `Err` says what is
+/// wrong, or holds the help that was asked for.
+pub fn settings<'a>(alloc: Global, words: &'a [&'a str]) -> Result<Settings, UsageFault>
+    ensures { IfOk result (λ s. Sets (subcommand_of abft_app (map (λ w. w.now) words.entry.now)) s) }
+{
+    let command = abft_command(alloc)?;
+    let matches = command
+        .try_get_matches_from(words)
+        .map_err(UsageFault::CommandLine)?;
+    match matches.subcommand() {
+        Some(("sign", options)) => Ok(Settings::Sign(sign_settings(alloc, options)?)),
+        Some(("deliver", options)) => Ok(Settings::Deliver(deliver_settings(alloc, options)?)),
+        _ => Err(UsageFault::What),
+    }
+}

@@ -1,0 +1,126 @@
+//! The options of a command line, read from its matches.
+ghost use Rattle.std.specs.Prelude.{◌≡◌, ◌≤◌, ◌-◌, IfOk, Some, codes};
+ghost use Rattle.clap.specs.Words.{found_of, rows_of, first_of};
+ghost use Rattle.lm_ots.specs.Parameters.{bits_of, levels_of};
+ghost use Rattle.abft.specs.Options.{IsNumber, IsSeed, IsWritten, SetsCluster, word_of};
+
+use crate::fault::UsageFault;
+use crate::option_text::{decimal, written};
+use crate::setup::{Cluster, What};
+use clap::ArgMatches;
+use hex::FromHex;
+use ledger_model::{AppKind, Config, Tx};
+use lm_ots::{Params, TreeHeight, Width};
+use std::alloc::Global;
+
+/// The text of an option.
+fn text<'a>(matches: &ArgMatches<'a>, name: &'static str) -> Result<&'a str, UsageFault>
+    ensures { IfOk result (λ t. first_of name.now (rows_of (found_of matches.now)) ≡ Some t.now) }
+{
+    match matches.get_str(name) {
+        Some(text) => Ok(text),
+        None => Err(UsageFault::Limits(name)),
+    }
+}
+
+/// An option that is a decimal number within its limits.
+pub(crate) fn number(
+    matches: &ArgMatches<'_>,
+    name: &'static str,
+    least: u32,
+    most: u32,
+) -> Result<u32, UsageFault>
+    ensures { IfOk result (λ n. IsNumber (rows_of (found_of matches.now)) name.now least most n) }
+{
+    let text = text(matches, name)?;
+    match decimal(text) {
+        Some(number) if least <= number && number <= most => Ok(number),
+        _ => Err(UsageFault::Limits(name)),
+    }
+}
+
+/// A number below 256.
+pub(crate) fn small_number(
+    matches: &ArgMatches<'_>,
+    name: &'static str,
+    least: u8,
+    most: u8,
+) -> Result<u8, UsageFault>
+    ensures { IfOk result (λ n. IsNumber (rows_of (found_of matches.now)) name.now least most n) }
+{
+    let number = number(matches, name, u32::from(least), u32::from(most))?;
+    Ok(number as u8)
+}
+
+/// The option `--value`: one transaction.
+pub(crate) fn value(alloc: Global, matches: &ArgMatches<'_>) -> Result<Tx, UsageFault>
+    ensures { IfOk result (λ tx. IsWritten (rows_of (found_of matches.now)) (codes "value") tx) }
+{
+    let text = text(matches, "value")?;
+    match written(alloc, text)? {
+        Some(bytes) => Tx::new(bytes).map_err(UsageFault::Value),
+        None => Err(UsageFault::Limits("value")),
+    }
+}
+
+/// The word that says what is to be signed.
+pub(crate) fn what(matches: &ArgMatches<'_>) -> Result<What, UsageFault>
+    ensures { IfOk result (λ w. first_of (codes "what") (rows_of (found_of matches.now)) ≡ Some (word_of w)) }
+{
+    match text(matches, "what")? {
+        "report" => Ok(What::Report),
+        "ack" => Ok(What::Ack),
+        _ => Err(UsageFault::What),
+    }
+}
+
+/// The option `--seed`.
+fn seed(matches: &ArgMatches<'_>) -> Result<[u8; 32], UsageFault>
+    ensures { IfOk result (λ s. IsSeed (rows_of (found_of matches.now)) s) }
+{
+    let text = text(matches, "seed")?;
+    match <[u8; 32] as FromHex>::from_hex(text) {
+        Ok(seed) => Ok(seed),
+        Err(_) => Err(UsageFault::Limits("seed")),
+    }
+}
+
+/// The option `--w`.
+fn width(matches: &ArgMatches<'_>) -> Result<Width, UsageFault>
+    ensures { IfOk result (λ w. IsNumber (rows_of (found_of matches.now)) (codes "w") 4 8 (bits_of w)) }
+{
+    match number(matches, "w", 4, 8)? {
+        4 => Ok(Width::W4),
+        8 => Ok(Width::W8),
+        _ => Err(UsageFault::Limits("w")),
+    }
+}
+
+/// The option `--tree`.
+fn tree_height(matches: &ArgMatches<'_>) -> Result<TreeHeight, UsageFault>
+    ensures { IfOk result (λ h. IsNumber (rows_of (found_of matches.now)) (codes "tree") 5 10 (levels_of h)) }
+{
+    match number(matches, "tree", 5, 10)? {
+        5 => Ok(TreeHeight::H5),
+        10 => Ok(TreeHeight::H10),
+        _ => Err(UsageFault::Limits("tree")),
+    }
+}
+
+/// The options that every subcommand has.
+pub(crate) fn cluster(matches: &ArgMatches<'_>) -> Result<Cluster, UsageFault>
+    ensures { IfOk result (λ c. SetsCluster (rows_of (found_of matches.now)) c) }
+{
+    let replicas = small_number(matches, "n", 0, u8::MAX)?;
+    let faults = small_number(matches, "t", 0, u8::MAX)?;
+    let _kind = small_number(matches, "kind", 1, 1)?;
+    let config = Config::new(replicas, faults, AppKind::KvStore).map_err(UsageFault::Cluster)?;
+    let width = width(matches)?;
+    let height = tree_height(matches)?;
+    let seed = seed(matches)?;
+    Ok(Cluster {
+        config,
+        params: Params { width, height },
+        seed,
+    })
+}
