@@ -1,5 +1,5 @@
 -- Commands that are made option by option.
-use Rattle.std.proofs.Common.{◌≡◌, ◌∙◌, ap, refl, sym}
+use Rattle.std.proofs.Common.{◌≡◌, ◌∙◌, ap}
 use Rattle.clap.specs.Words.{App, Rule, with_rule}
 
 -- one option more

@@ -1,9 +1,8 @@
 -- From the matches of the words to the subcommand that they name.
-use Rattle.std.proofs.Common.{◌≡◌, ◌∙◌, Bool, true, List, refl, sym, ap, subst, codes}
-use Rattle.std.specs.Prelude.{Option, Some, None, option_map, Result, Ok, Err, IfOk}
+use Rattle.std.proofs.Common.{◌≡◌, ◌∙◌, true, List, refl, sym, ap}
+use Rattle.std.specs.Prelude.{Option, Some, None, option_map}
 use Rattle.std.proofs.lemmas.Option.{same_Some}
-use Rattle.clap.specs.Words.{App, Row, Text, HasMatchesOf, app_of, is_simple, found_of, rows_of, subcommand_of, subcommand_name_of, subcommand_rows_of}
-use Rattle.clap.specs.Simple.{subcommand_rows}
+use Rattle.clap.specs.Words.{App, Row, Text, HasMatchesOf, is_simple, found_of, rows_of, subcommand_of, subcommand_name_of, subcommand_rows_of}
 use Rattle.clap.specs.declared.parser.matches.ArgMatches.{ArgMatches}
 use Rattle.clap.specs.declared.parser.matches.ArgMatches.TheViews.{out-ArgMatches, out-SubCommand}
 use Rattle.std.specs.Box.{box_value}

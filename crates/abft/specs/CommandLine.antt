@@ -1,6 +1,6 @@
 -- The command line of the program, in clap's words: which options each subcommand has, and their defaults.
-use Rattle.std.specs.Prelude.{Some, None, true, List, [], ◌∷◌, codes, ℕ}
-use Rattle.clap.specs.Words.{App, Rule, Shape, Text, new_app, new_rule, with_rule, with_subcommand}
+use Rattle.std.specs.Prelude.{Some, true, [], ◌∷◌, codes}
+use Rattle.clap.specs.Words.{App, Rule, Text, new_app, new_rule, with_rule, with_subcommand}
 
 -- an option with a value: its name, and the value where the words name none
 abbrev pub option_rule : Text → Text → Rule

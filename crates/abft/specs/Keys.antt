@@ -1,5 +1,5 @@
 -- The key pairs of the replicas, from the cluster's seed.
-use Rattle.std.specs.Prelude.{ℕ, List, [], ◌∷◌, ◌++◌, take}
+use Rattle.std.specs.Prelude.{ℕ, [], ◌∷◌, ◌++◌, take}
 use Rattle.sha2.specs.Sha256.{sha256}
 use Rattle.lms_tree.specs.Trees.{Secret}
 use Rattle.abft.specs.declared.setup.Cluster.{Cluster}

@@ -1,11 +1,9 @@
 -- What the words of a command line set: each option by the value that its matches hold, which is its default where the words name none.
-use Rattle.std.specs.Prelude.{◌≡◌, ℕ, ◌≤◌, ◌<◌, ◌+◌, ◌-◌, IsTrue, List, [], ◌∷◌, length, codes, Option, Some, None, Ok}
+use Rattle.std.specs.Prelude.{◌≡◌, ℕ, ◌≤◌, ◌-◌, IsTrue, List, codes, Option, Some, None, Ok}
 use Rattle.std.specs.Str.Parse.{digits_value}
 use Rattle.hex.specs.Hex.{decode_of}
 use Rattle.clap.specs.Words.{Row, Text, first_of}
-use Rattle.ledger_model.specs.declared.config.Config.{Config}
 use Rattle.ledger_model.specs.declared.config.AppKind.TheVariants.{KvStore}
-use Rattle.lm_ots.specs.declared.params.Params.{Params}
 use Rattle.lm_ots.specs.Parameters.{bits_of, levels_of}
 use Rattle.abft.specs.declared.setup.Cluster.{Cluster}
 use Rattle.abft.specs.declared.setup.SignSettings.{SignSettings}

@@ -1,10 +1,9 @@
 -- A step keeps what a replica's type says.
-use Rattle.std.proofs.Common.{◌≡◌, ℕ, ◌<◌, ◌≤◌, List, [], ◌∷◌, ◌++◌, length, refl, sym, subst, length-append, arith}
+use Rattle.std.proofs.Common.{◌≡◌, ℕ, ◌<◌, ◌≤◌, List, [], ◌∷◌, ◌++◌, length, sym, subst, length-append, arith}
 use Rattle.ledger_model.specs.declared.config.Config.{Config}
 use Rattle.ledger_model.specs.declared.history.Entry.{Entry}
-use Rattle.ledger_model.specs.declared.event.Event.{Event}
 use Rattle.ledger_model.specs.Rules.{Ring}
-use Rattle.ledger_model.specs.Lawful.{Replay, ReplaysFrom}
+use Rattle.ledger_model.specs.Lawful.{Replay}
 use Rattle.ledger_model.proofs.Backing.{replays_snoc}
 use Rattle.locked_replica.specs.Holding.{Held}
 use Rattle.locked_replica.specs.Matching.{Matches}

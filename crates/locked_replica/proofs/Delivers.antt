@@ -1,8 +1,7 @@
 -- A report that is read in the first round.
-use Rattle.std.proofs.Common.{◌≡◌, ℕ, ◌+◌, ◌⊎◌, inl, inr, Bool, true, false, cond, eqb, eq-eqb, List, [], ◌∷◌, ◌++◌, refl, sym, ap, subst, ◌∙◌, arith}
-use Rattle.std.specs.Prelude.{◌==◌, ◌&&◌, ◌||◌, Option, Some, None, Result, Ok, Err, length}
+use Rattle.std.proofs.Common.{◌≡◌, ℕ, Bool, true, false, cond, eq-eqb, List, [], ◌∷◌, ◌++◌, refl, sym, ap, ◌∙◌, arith}
+use Rattle.std.specs.Prelude.{◌==◌, ◌||◌, Some, Ok, Err}
 use Rattle.std.specs.List.{list_any}
-use Rattle.std.proofs.lemmas.List.{append-nil}
 use Rattle.ledger_model.specs.declared.config.Config.{Config}
 use Rattle.ledger_model.specs.declared.history.Entry.{Entry}
 use Rattle.ledger_model.specs.declared.event.Event.TheVariants as event
@@ -10,18 +9,15 @@ use Rattle.ledger_model.specs.declared.reply.Reply.TheVariants as reply
 use Rattle.ledger_model.specs.declared.reply.Ignored.{Ignored}
 use Rattle.ledger_model.specs.declared.statement.Report.{Report}
 use Rattle.ledger_model.specs.declared.statement.SignedStatement.{SignedStatement}
-use Rattle.ledger_model.specs.declared.statement.Statement.{Statement}
 use Rattle.ledger_model.specs.declared.statement.Statement.TheVariants as statement
-use Rattle.ledger_model.specs.Values.{Value}
 use Rattle.ledger_model.specs.Notes.{Note, Proposed, Round, Made, Read, clock_of, initial_of, was_read, reads_in, is_report}
 use Rattle.ledger_model.specs.Logs.{log_of, notes_of, height_of, if_some}
 use Rattle.ledger_model.specs.Reading.{reading}
-use Rattle.ledger_model.specs.Lawful.{clock_at}
 use Rattle.ledger_model.specs.Commits.{executed}
 use Rattle.ledger_model.proofs.Goodness.{clock_of-append}
 use Rattle.locked_replica.specs.Holding.{Open, Held}
-use Rattle.locked_replica.specs.Matching.{Matches, initial_at, reporters_at, proposed_notes}
-use Rattle.locked_replica.proofs.Snoc.{log_more, pool_more, clock_more, mute_more, executed_more, no_commits, any_more}
+use Rattle.locked_replica.specs.Matching.{Matches, initial_at}
+use Rattle.locked_replica.proofs.Snoc.{log_more, pool_more, clock_more, mute_more, executed_more, any_more}
 use Rattle.locked_replica.proofs.Submits.{kept_matches}
 
 -- the note of a statement that is read, at its height alone

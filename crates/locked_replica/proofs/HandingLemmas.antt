@@ -1,8 +1,7 @@
 -- Submit and Propose: the replies are those of the tables, and what is kept can be spelled.
-use Rattle.std.proofs.Common.{◌≡◌, ℕ, zero, suc, ◌+◌, ◌<◌, ◌≤◌, ◌⊎◌, inl, inr, Bool, true, false, cond, eq-eqb, List, [], ◌∷◌, ◌++◌, length, get_or, refl, sym, ap, subst, ◌∙◌, arith}
-use Rattle.std.specs.Prelude.{◌==◌, ◌||◌, not, nat_lt, nat_le, IsTrue, Option, Some, None, Result, Ok, Err, is_ok, is_some, take}
+use Rattle.std.proofs.Common.{◌≡◌, ℕ, zero, suc, ◌<◌, ◌≤◌, Bool, true, false, cond, eq-eqb, List, [], ◌∷◌, ◌++◌, length, get_or, refl, sym, ap, subst, ◌∙◌}
+use Rattle.std.specs.Prelude.{◌==◌, ◌||◌, nat_lt, nat_le, Option, Some, None, Result, Ok, Err, is_ok, is_some, take}
 use Rattle.std.specs.List.{AllByRecursion}
-use Rattle.std.proofs.lemmas.Bool.{eqb-true}
 use Rattle.ledger_model.specs.declared.config.Config.{Config}
 use Rattle.ledger_model.specs.declared.config.AppKind.{AppKind}
 use Rattle.ledger_model.specs.declared.config.AppKind.TheVariants.{KvStore}
@@ -14,14 +13,12 @@ use Rattle.ledger_model.specs.declared.reply.SubmitRefusal.TheVariants as refusa
 use Rattle.ledger_model.specs.declared.reply.ProposeRefusal.{ProposeRefusal}
 use Rattle.ledger_model.specs.declared.reply.ProposeRefusal.TheVariants as closed
 use Rattle.ledger_model.specs.Values.{Value}
-use Rattle.ledger_model.specs.Spelling.{IsByte, IsTx, IsValue}
+use Rattle.ledger_model.specs.Spelling.{IsByte, IsTx}
 use Rattle.ledger_model.specs.Rules.{Ring}
-use Rattle.ledger_model.specs.Notes.{initial_of}
-use Rattle.ledger_model.specs.Logs.{log_of}
-use Rattle.ledger_model.specs.Commits.{executed, commits_of, pool_of, first_fault, is_among, submit_reply, propose_reply}
+use Rattle.ledger_model.specs.Commits.{commits_of, first_fault, is_among, submit_reply, propose_reply}
 use Rattle.ledger_model.specs.Replies.{check_reply}
 use Rattle.ledger_model.specs.Applications.{check_after}
-use Rattle.locked_replica.specs.Holding.{Open, Held, IsHeld, CanSpell}
+use Rattle.locked_replica.specs.Holding.{Open, Held}
 use Rattle.locked_replica.specs.Matching.{Matches, initial_at}
 use Rattle.locked_replica.specs.FirstRound.{pool_tests, pool_answer, without, pool_with, propose_answer, opened_by}
 use Rattle.locked_replica.specs.Steps.{IsStep, IsOpenOrNone}

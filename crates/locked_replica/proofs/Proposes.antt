@@ -1,7 +1,6 @@
 -- A height that is opened.
-use Rattle.std.proofs.Common.{◌≡◌, ℕ, ◌+◌, ◌⊎◌, inl, inr, Bool, true, false, cond, List, [], ◌∷◌, ◌++◌, refl, sym, ap, subst, ◌∙◌, arith}
-use Rattle.std.specs.Prelude.{◌==◌, ◌||◌, Option, Some, None, Result, Ok, Err, length}
-use Rattle.std.proofs.lemmas.List.{append-nil}
+use Rattle.std.proofs.Common.{◌≡◌, ℕ, Bool, true, false, cond, List, [], ◌∷◌, ◌++◌, refl, sym, ap, ◌∙◌, arith}
+use Rattle.std.specs.Prelude.{◌==◌, ◌||◌, Some, None, Ok, Err}
 use Rattle.std.specs.List.{list_any}
 use Rattle.ledger_model.specs.declared.config.Config.{Config}
 use Rattle.ledger_model.specs.declared.history.Entry.{Entry}
@@ -12,12 +11,11 @@ use Rattle.ledger_model.specs.declared.statement.Statement.{Statement}
 use Rattle.ledger_model.specs.Values.{Value}
 use Rattle.ledger_model.specs.Notes.{Note, Proposed, clock_of, initial_of, was_read, reads_in, is_report}
 use Rattle.ledger_model.specs.Logs.{log_of, notes_of}
-use Rattle.ledger_model.specs.Lawful.{clock_at}
 use Rattle.ledger_model.specs.Commits.{executed}
 use Rattle.ledger_model.proofs.Goodness.{clock_of-append}
-use Rattle.locked_replica.specs.Holding.{Open, Held}
-use Rattle.locked_replica.specs.Matching.{Matches, initial_at, reporters_at, proposed_notes}
-use Rattle.locked_replica.proofs.Snoc.{log_more, pool_more, clock_more, mute_more, executed_more, no_commits, initial_of-later, any_more}
+use Rattle.locked_replica.specs.Holding.{Held}
+use Rattle.locked_replica.specs.Matching.{Matches, initial_at, proposed_notes}
+use Rattle.locked_replica.proofs.Snoc.{log_more, pool_more, clock_more, mute_more, executed_more, initial_of-later, any_more}
 use Rattle.locked_replica.proofs.Submits.{kept_matches}
 
 -- the note of an opening, at its height alone

@@ -1,18 +1,15 @@
 -- The first report can be spelled, and its frame is short enough.
-use Rattle.std.proofs.Common.{◌≡◌, ℕ, zero, suc, ◌+◌, ◌*◌, ◌<◌, ◌≤◌, ◌^◌, Bool, true, false, cond, List, [], ◌∷◌, ◌++◌, length, refl, sym, ap, subst, ◌∙◌, lit<, lit≤, length-append, arith}
-use Rattle.std.specs.Prelude.{◌==◌, ◌&&◌, nat_lt, Option, Some, None, take, drop}
+use Rattle.std.proofs.Common.{◌≡◌, ℕ, ◌+◌, ◌*◌, ◌<◌, ◌≤◌, true, List, [], ◌∷◌, ◌++◌, length, refl, sym, ap, subst, ◌∙◌, lit<, lit≤, length-append, arith}
+use Rattle.std.specs.Prelude.{Some}
 use Rattle.std.specs.List.{AllByRecursion, flat_map}
-use Rattle.std.specs.Int.{w16, w32, to_be_bytes, from_be_bytes}
-use Rattle.std.proofs.lemmas.Bool.{and_parts, eqb-true, false≢true}
+use Rattle.std.specs.Int.{w16, w32, to_be_bytes}
 use Rattle.std.proofs.lemmas.List.Concat.{flat_map-cons}
-use Rattle.ledger_model.specs.declared.statement.SignedStatement.{SignedStatement}
 use Rattle.ledger_model.specs.declared.statement.Statement.TheVariants as statement
 use Rattle.ledger_model.specs.Values.{Value, value_bytes}
-use Rattle.ledger_model.specs.Spelling.{IsByte, IsTx, IsValue, IsValueList, IsReport, IsPlace, IsSignature, IsFrame, list_bytes, signature_bytes, statement_bytes, body_bytes, frame_bytes}
+use Rattle.ledger_model.specs.Spelling.{IsTx, IsValue, IsReport, list_bytes, signature_bytes, statement_bytes, body_bytes}
 use Rattle.ledger_model.specs.declared.statement.Report.{Report}
 use Rattle.ledger_model.specs.Signatures.{verifies}
 use Rattle.ledger_model.specs.Reading.{reading}
-use Rattle.ledger_model.proofs.FrameReading.{reading-again}
 use Rattle.locked_replica.specs.Holding.{Open, CanSpell}
 use Rattle.locked_replica.specs.FirstRound.{first_report, SpellsFirst}
 

@@ -1,9 +1,8 @@
 -- The end of round 0, which opens the first round.
-use Rattle.std.proofs.Common.{◌≡◌, ℕ, ◌+◌, ◌<◌, ◌⊎◌, inl, inr, Bool, true, false, cond, eqb, eq-eqb, List, [], ◌∷◌, ◌++◌, map, refl, sym, ap, subst, ◌∙◌, arith}
-use Rattle.std.specs.Prelude.{◌==◌, ◌&&◌, ◌||◌, IsTrue, filter, Option, Some, None, Result, Ok, Err, length}
-use Rattle.std.specs.List.{list_any, list_all, filter_map, flat_map, AllByRecursion}
+use Rattle.std.proofs.Common.{◌≡◌, ℕ, ◌+◌, ◌<◌, ◌⊎◌, inl, inr, Bool, true, false, cond, List, [], ◌∷◌, ◌++◌, map, refl, sym, ap, subst, ◌∙◌, arith}
+use Rattle.std.specs.Prelude.{◌==◌, ◌&&◌, ◌||◌, IsTrue, Option, Some, None, Ok}
+use Rattle.std.specs.List.{list_any, flat_map, AllByRecursion}
 use Rattle.std.proofs.lemmas.Bool.{eqb-true, false≢true}
-use Rattle.std.proofs.lemmas.List.{append-nil}
 use Rattle.ledger_model.specs.declared.config.Config.{Config}
 use Rattle.ledger_model.specs.declared.history.Entry.{Entry}
 use Rattle.ledger_model.specs.declared.event.Event.TheVariants as event
@@ -17,19 +16,19 @@ use Rattle.ledger_model.specs.declared.statement.Statement.{Statement}
 use Rattle.ledger_model.specs.declared.statement.Statement.TheVariants as statement
 use Rattle.ledger_model.specs.Values.{Value}
 use Rattle.ledger_model.specs.Rounds.{place_of}
-use Rattle.ledger_model.specs.Notes.{Note, Proposed, Round, Made, Read, clock_of, initial_of, was_read, reads_in, is_report}
+use Rattle.ledger_model.specs.Notes.{Note, Round, Made, Read, clock_of, initial_of, was_read, reads_in, is_report}
 use Rattle.ledger_model.specs.Locks.{held_values}
 use Rattle.ledger_model.specs.Proper.{is_all_proper, proper_values}
 use Rattle.ledger_model.specs.Logs.{log_of, notes_of, height_of, made_notes, is_mute, statements_sent, statements_made, own_ack}
 use Rattle.ledger_model.specs.Reading.{reading}
 use Rattle.ledger_model.specs.Rules.{Ring, MayMake, report_of, is_signed}
-use Rattle.ledger_model.specs.Lawful.{clock_at, Lawful, LawfulRoundEnd, IsSentRight, is_signed_reply, never_falls, heights_sent}
+use Rattle.ledger_model.specs.Lawful.{clock_at, Lawful, IsSentRight, is_signed_reply, never_falls, heights_sent}
 use Rattle.ledger_model.specs.Commits.{executed}
-use Rattle.ledger_model.proofs.Goodness.{clock_of-append, initial_of-append}
+use Rattle.ledger_model.proofs.Goodness.{clock_of-append}
 use Rattle.locked_replica.specs.Holding.{Open, Held}
 use Rattle.locked_replica.specs.Matching.{Matches, initial_at, reporters_at, proposed_notes}
 use Rattle.locked_replica.specs.FirstRound.{first_report}
-use Rattle.locked_replica.proofs.Snoc.{log_more, pool_more, clock_more, mute_more, executed_more, any_more, initial_of-later}
+use Rattle.locked_replica.proofs.Snoc.{log_more, pool_more, clock_more, mute_more, executed_more, any_more}
 
 -- what the making of a report adds to a log, at its height alone
 abbrev pub report_notes : Bool → SignedStatement → List Note

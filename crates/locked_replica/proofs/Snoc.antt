@@ -1,12 +1,11 @@
 -- A history with one entry more.
-use Rattle.std.proofs.Common.{◌≡◌, ℕ, ◌+◌, Bool, true, false, cond, List, [], ◌∷◌, ◌++◌, refl, sym, ap, subst, ◌∙◌, append_assoc, arith}
-use Rattle.std.specs.Prelude.{◌||◌, Option, Some, None}
+use Rattle.std.proofs.Common.{◌≡◌, ℕ, ◌+◌, Bool, true, false, cond, List, [], ◌∷◌, ◌++◌, refl, ap, ◌∙◌, append_assoc, arith}
+use Rattle.std.specs.Prelude.{◌||◌, None}
 use Rattle.std.specs.List.{list_any}
-use Rattle.std.proofs.lemmas.List.{append-nil}
 use Rattle.ledger_model.specs.declared.config.Config.{Config}
 use Rattle.ledger_model.specs.declared.history.Entry.{Entry}
 use Rattle.ledger_model.specs.Values.{Value}
-use Rattle.ledger_model.specs.Notes.{Note, Proposed, Round, Made, Read, clock_of, initial_of}
+use Rattle.ledger_model.specs.Notes.{Note, Proposed, Round, Made, Read, initial_of}
 use Rattle.ledger_model.specs.Logs.{log_of, log_after, notes_of, is_mute, says_mute}
 use Rattle.ledger_model.specs.Commits.{executed, is_block, commits_of, pool_of, pool_after, pool_step}
 use Rattle.ledger_model.specs.Lawful.{clock_at, is_opened}

@@ -1,5 +1,5 @@
 -- Deliver and RoundEnd, by what they answer; and which events are left out.
-use Rattle.std.proofs.Common.{◌≡◌, ◌≢◌, ℕ, zero, suc, ◌+◌, ◌≤◌, ◌⊎◌, inl, inr, Bool, true, false, cond, eq-eqb, List, [], ◌∷◌, ◌++◌, refl, sym, ap, subst, ◌∙◌, arith}
+use Rattle.std.proofs.Common.{◌≡◌, ◌≢◌, ℕ, zero, suc, ◌≤◌, inl, inr, Bool, true, false, eq-eqb, List, [], ◌∷◌, ◌++◌, refl, sym, ap, subst, ◌∙◌, arith}
 use Rattle.std.specs.Prelude.{◌==◌, ◌||◌, not, nat_lt, IsTrue, Option, Some, None, Result, Ok, Err, is_some, slice_get}
 use Rattle.std.specs.List.{list_any}
 use Rattle.std.proofs.lemmas.Bool.{eqb-true, false≢true, cases_Bool}
@@ -11,19 +11,17 @@ use Rattle.ledger_model.specs.declared.reply.Reply.TheVariants as reply
 use Rattle.ledger_model.specs.declared.reply.RoundEnded.{RoundEnded}
 use Rattle.ledger_model.specs.declared.reply.Ignored.{Ignored}
 use Rattle.ledger_model.specs.declared.reply.Ignored.TheVariants as cause
-use Rattle.ledger_model.specs.declared.statement.Report.{Report}
 use Rattle.ledger_model.specs.declared.statement.SignedStatement.{SignedStatement}
 use Rattle.ledger_model.specs.declared.statement.Statement.{Statement}
 use Rattle.ledger_model.specs.declared.statement.Statement.TheVariants as statement
-use Rattle.ledger_model.specs.Values.{Value}
-use Rattle.ledger_model.specs.Notes.{signer_of, is_report, initial_of}
+use Rattle.ledger_model.specs.Notes.{signer_of, initial_of}
 use Rattle.ledger_model.specs.Logs.{log_of, height_of}
 use Rattle.ledger_model.specs.Reading.{reading}
-use Rattle.ledger_model.specs.Rules.{Ring, first_of, phase_in, is_signed, answer_to}
+use Rattle.ledger_model.specs.Rules.{Ring, first_of, phase_in, is_signed}
 use Rattle.ledger_model.specs.Lawful.{answer, clock_at}
 use Rattle.locked_replica.specs.Holding.{Open, Held}
 use Rattle.locked_replica.specs.Matching.{Matches, initial_at, reporters_at}
-use Rattle.locked_replica.specs.FirstRound.{first_causes, first_report, read_answer, opened_after, SpellsFirst, EndsOpen, EndsFirst}
+use Rattle.locked_replica.specs.FirstRound.{first_causes, read_answer, opened_after, EndsFirst}
 use Rattle.locked_replica.specs.Steps.{IsStep, IsOpenOrNone, CanTake, IsNotYet}
 use Rattle.locked_replica.proofs.Causes.{first_answer}
 use Rattle.locked_replica.proofs.Delivers.{read_matches, ignored_matches}

@@ -1,23 +1,19 @@
 -- Entries that add nothing to any log: a transaction that is handed in, and what is refused or ignored.
-use Rattle.std.proofs.Common.{◌≡◌, ℕ, ◌+◌, Bool, true, false, cond, List, [], ◌∷◌, ◌++◌, refl, sym, ap, subst, ◌∙◌, arith}
-use Rattle.std.specs.Prelude.{nat_lt, nat_le, ◌==◌, ◌||◌, length, Result, Ok, Err, is_ok}
+use Rattle.std.proofs.Common.{◌≡◌, ℕ, Bool, true, false, cond, List, [], ◌∷◌, ◌++◌, refl, ap, ◌∙◌, arith}
+use Rattle.std.specs.Prelude.{◌||◌, Result, Ok, Err, is_ok}
 use Rattle.std.proofs.lemmas.List.{append-nil}
 use Rattle.ledger_model.specs.declared.config.Config.{Config}
-use Rattle.ledger_model.specs.declared.config.AppKind.TheVariants.{KvStore}
 use Rattle.ledger_model.specs.declared.history.Entry.{Entry}
 use Rattle.ledger_model.specs.declared.event.Event.TheVariants as event
 use Rattle.ledger_model.specs.declared.reply.Reply.TheVariants as reply
 use Rattle.ledger_model.specs.declared.reply.SubmitRefusal.{SubmitRefusal}
-use Rattle.ledger_model.specs.declared.reply.SubmitRefusal.TheVariants as refusal
 use Rattle.ledger_model.specs.Values.{Value}
-use Rattle.ledger_model.specs.Notes.{Note, clock_of, initial_of, was_read, is_report}
-use Rattle.ledger_model.specs.Logs.{log_of, notes_of, is_mute, says_mute}
-use Rattle.ledger_model.specs.Commits.{executed, is_block, commits_of, pool_of, pool_step, first_fault, is_among, submit_reply}
-use Rattle.ledger_model.specs.Replies.{check_reply}
-use Rattle.ledger_model.specs.Applications.{check_after}
-use Rattle.ledger_model.specs.Lawful.{clock_at, is_opened}
-use Rattle.locked_replica.specs.Holding.{Open, Held}
-use Rattle.locked_replica.specs.Matching.{Matches, initial_at, reporters_at, proposed_notes}
+use Rattle.ledger_model.specs.Notes.{Note}
+use Rattle.ledger_model.specs.Logs.{log_of, notes_of, says_mute}
+use Rattle.ledger_model.specs.Commits.{executed, is_block, pool_step}
+use Rattle.ledger_model.specs.Lawful.{is_opened}
+use Rattle.locked_replica.specs.Holding.{Held}
+use Rattle.locked_replica.specs.Matching.{Matches}
 use Rattle.locked_replica.proofs.Snoc.{log_more, pool_more, clock_more, mute_more, executed_more, no_commits}
 
 -- an entry that adds nothing to any log, opens no round and runs no block changes the pool alone

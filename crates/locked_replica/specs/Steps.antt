@@ -1,9 +1,10 @@
 -- One step of a replica.
-use Rattle.std.specs.Prelude.{◌≡◌, ◌≢◌, ℕ, ◌≤◌, IsTrue, List, [], ◌∷◌, ◌++◌, Option, Some, None, is_some}
+use Rattle.std.specs.Prelude.{◌≡◌, ◌≢◌, ℕ, ◌<◌, ◌≤◌, ◌+◌, ◌⊎◌, IsTrue, List, [], ◌∷◌, ◌++◌, length, Option, Some, None, is_some, Ok, Err}
 use Rattle.ledger_model.specs.declared.config.Config.{Config}
 use Rattle.ledger_model.specs.declared.event.Event.{Event}
 use Rattle.ledger_model.specs.declared.event.Event.TheVariants as event
 use Rattle.ledger_model.specs.declared.reply.Reply.{Reply}
+use Rattle.ledger_model.specs.declared.reply.Reply.TheVariants as reply
 use Rattle.ledger_model.specs.declared.history.Entry.{Entry}
 use Rattle.ledger_model.specs.Rules.{Ring}
 use Rattle.ledger_model.specs.Notes.{initial_of}
@@ -41,3 +42,14 @@ IsNotYet config id entries (event.Deliver bytes) = ⊥
 IsNotYet config id entries event.RoundEnd = 1 ≤ clock_at entries
 IsNotYet config id entries event.Execute = Unit {0}
 IsNotYet config id entries (event.Query key h) = Unit {0}
+
+-- each frame that a round end sends used a leaf of its own, nothing else uses any, and mute is said only where all are used,
+-- which is where no frame is sent
+abbrev pub UsesLeaves : ℕ → ℕ → Reply → ℕ → Type 0
+UsesLeaves all old (reply.Submitted r) new = new ≡ old
+UsesLeaves all old (reply.Proposed r) new = new ≡ old
+UsesLeaves all old (reply.Delivered r) new = new ≡ old
+UsesLeaves all old (reply.RoundEnded (Ok ended)) new = (new ≡ old + length ended.frames) × (IsTrue ended.mute → all ≤ old) × (old < all ⊎ ended.frames ≡ [])
+UsesLeaves all old (reply.RoundEnded (Err r)) new = new ≡ old
+UsesLeaves all old (reply.Executed r) new = new ≡ old
+UsesLeaves all old (reply.Queried r) new = new ≡ old

@@ -15,3 +15,6 @@ mod stepping;
 pub use entry_view::EntryView;
 pub use fault::ApplyFault;
 pub use state::{MAX_ENTRIES, State};
+
+#[cfg(test)]
+mod tests;

@@ -71,7 +71,10 @@ fn report_frame(
 impl Core {
     ghost use Rattle.std.specs.Prelude.{◌≡◌, ◌<◌, ◌≤◌, ◌^◌, ◌+◌, nat_lt, IfOk, OnErr};
     ghost use Rattle.lm_ots.specs.Parameters.{numbers_of};
+    ghost use Rattle.std.specs.Prelude.{Ok};
+    ghost use Rattle.ledger_model.specs.declared.reply.Reply.TheVariants as reply;
     ghost use Rattle.locked_replica.specs.FirstRound.{EndsFirst};
+    ghost use Rattle.locked_replica.specs.Steps.{UsesLeaves};
     ghost use Rattle.locked_replica.specs.Replicas.{key_of};
 
     /// The end of round 0. Where a height is open its report is sent, or the replica becomes mute because no leaf is
@@ -86,6 +89,8 @@ impl Core {
         ensures ended { IfOk result (λ ended. EndsFirst (key_of signing.old.tree) id
             (nat_lt signing.old.used (2 ^ (numbers_of signing.old.tree.params).height))
             self.old self.old.opened ended self.new) }
+        ensures leaves { IfOk result (λ ended. UsesLeaves (2 ^ (numbers_of signing.old.tree.params).height)
+            signing.old.used (reply.RoundEnded (Ok ended)) signing.new.used) }
         ensures err { OnErr result (self.new ≡ self.old) }
         ensures tree { signing.new.tree ≡ signing.old.tree }
         ensures least { signing.old.used ≤ signing.new.used }

@@ -36,11 +36,12 @@ impl Model for State {
 }
 
 impl State {
-    ghost use Rattle.std.specs.Prelude.{◌≡◌, ◌<◌, ◌≤◌, ◌+◌, ◌↔◌, ◌∷◌, ◌++◌, [], length, slice_get, IfOk, OnErr, OnOk, IsErrOf, IsTrue, ◌==◌, ◌⊎◌};
+    ghost use Rattle.std.specs.Prelude.{◌≡◌, ◌<◌, ◌≤◌, ◌^◌, ◌+◌, ◌↔◌, ◌∷◌, ◌++◌, [], length, slice_get, IfOk, OnErr, OnOk, IsErrOf, IsTrue, ◌==◌, ◌⊎◌};
     ghost use Rattle.ledger_model.specs.declared.reply.Reply.{Reply};
     ghost use Rattle.ledger_model.specs.Commits.{commits_of};
     ghost use Rattle.ledger_model.specs.Lawful.{Lawful, Replay, clock_at, is_signed_reply};
-    ghost use Rattle.locked_replica.specs.Steps.{IsNotYet};
+    ghost use Rattle.lm_ots.specs.Parameters.{numbers_of};
+    ghost use Rattle.locked_replica.specs.Steps.{IsNotYet, UsesLeaves};
     ghost use Rattle.locked_replica.specs.Replicas.{Replica, IsMember};
 
     /// A replica with no history. The ring has the public keys of the replicas by number.
@@ -109,13 +110,15 @@ impl State {
     /// Takes one event: the atomic step. Answers the index of the new entry, which holds the event and its reply.
     ///
     /// `HistoryFull` comes exactly with 65,536 entries, and else `NotYet` exactly for an event that is left out so far;
-    /// both change nothing. After `NoMemory` the history is as before, and leaves may be used up.
+    /// both change nothing. After `NoMemory` the history is as before, and leaves may be used up. A round end uses one
+    /// leaf for each frame that it sends, and the replica is mute only where none is left.
     pub fn apply(&mut self, event: Event) -> Result<usize, ApplyFault>
         ensures index { IfOk result (λ index. index ≡ length self.old.entries) }
         ensures added { OnOk result ((reply : Reply)
             × ((self.new.entries ≡ self.old.entries ++ record { event = event; reply = reply } ∷ [])
             × Lawful self.old.config self.old.ring self.old.id self.old.entries event reply
-            × IsTrue (is_signed_reply self.old.ring reply))) }
+            × IsTrue (is_signed_reply self.old.ring reply)
+            × UsesLeaves (2 ^ (numbers_of self.old.secret.params).height) self.old.used reply self.new.used)) }
         ensures full { IsErrOf result ApplyFault.HistoryFull ↔ (65536 ≤ length self.old.entries) }
         ensures not_yet { IsErrOf result ApplyFault.NotYet
             ↔ ((length self.old.entries < 65536) × IsNotYet self.old.config self.old.id self.old.entries event) }

@@ -1,6 +1,7 @@
 //! One event, by what is kept.
-ghost use Rattle.std.specs.Prelude.{◌≡◌, ◌≤◌, MatchBool, IfOk, OnErr};
-ghost use Rattle.locked_replica.specs.Steps.{CanTake, IsStep};
+ghost use Rattle.std.specs.Prelude.{◌≡◌, ◌≤◌, ◌^◌, MatchBool, IfOk, OnErr};
+ghost use Rattle.lm_ots.specs.Parameters.{numbers_of};
+ghost use Rattle.locked_replica.specs.Steps.{CanTake, IsStep, UsesLeaves};
 ghost use Rattle.locked_replica.specs.Replicas.{IsMember};
 
 use crate::core_state::Core;
@@ -38,6 +39,8 @@ pub(crate) fn step(
     requires member { IsMember config.now id ring.now signing.old.tree }
     requires taken { CanTake core.old event.now }
     ensures step { IfOk result (λ reply. IsStep config.now ring.now id core.old event.now reply core.new) }
+    ensures leaves { IfOk result (λ reply. UsesLeaves (2 ^ (numbers_of signing.old.tree.params).height)
+        signing.old.used reply signing.new.used) }
     ensures err { OnErr result (core.new ≡ core.old) }
     ensures tree { signing.new.tree ≡ signing.old.tree }
     ensures least { signing.old.used ≤ signing.new.used }

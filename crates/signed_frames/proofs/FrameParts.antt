@@ -17,6 +17,7 @@ pub body_length : (s : SignedStatement) → length (body_bytes s) ≡ length (st
 unfolding body_bytes
 body_length s = omega (arith, length-append (statement_bytes s.statement) (signature_bytes s.signature))
 
+-- so a frame has six bytes more than its statement and its signature
 pub frame_length : (s : SignedStatement) → length (frame_bytes s) ≡ 6 + length (statement_bytes s.statement) + length s.signature
 unfolding frame_bytes
 frame_length s = omega (arith, body_length s)
@@ -43,6 +44,7 @@ holds bytes s spells =
       signed = ap (λ (x : SignedStatement). length x.signature) is;
     }
 
+-- the same of the bytes of a frame
 pub holds_length : (bytes : List ℕ) (statement : Statement) (len : ℕ) → HoldsFrame bytes statement len → length bytes ≡ 6 + length (statement_bytes statement) + len
 holds_length bytes statement len h =
     ap length h.spelled.1 ∙ frame_length (signed_by_last bytes statement len) ∙ ap (λ (n : ℕ). 6 + length (statement_bytes statement) + n) h.signed

@@ -1,6 +1,5 @@
 -- Splitting frames off the front of bytes.
-use Rattle.std.proofs.Common.{◌≡◌, ℕ, ◌+◌, ◌-◌, ◌≤◌, ◌<◌, Bool, true, ◌&&◌, leb, eqb, List, [], ◌∷◌, ◌++◌, length, take, drop, Option, Some, None, refl, sym, ap, subst, ◌∙◌, append_assoc, arith}
-use Rattle.std.specs.Int.{w32, from_be_bytes}
+use Rattle.std.proofs.Common.{◌≡◌, ℕ, ◌+◌, ◌-◌, ◌≤◌, ◌<◌, true, ◌&&◌, leb, eqb, List, [], ◌∷◌, ◌++◌, length, take, drop, None, refl, sym, ap, ◌∙◌, append_assoc, arith}
 use Rattle.std.specs.List.{flat_map, AllByRecursion}
 use Rattle.std.proofs.lemmas.Bool.{and_from, le-leb, eq-eqb}
 use Rattle.std.proofs.lemmas.List.{take-append-drop, take-take, drop-take, drop-drop, length-take-le, length-drop, length-append}
@@ -24,6 +23,7 @@ reading_front bytes len whole says short =
     let test : (eqb (length (take len (drop 4 bytes))) len && leb len 150000) ≡ true = and_from (eqb (length (take len (drop 4 bytes))) len) (leb len 150000) (eq-eqb _ _ tail_size) (le-leb _ _ short) in
     rw (long, head, tail, says, test) refl
 
+-- so a body that isn't spelled stands there
 pub is_malformed : (bytes : List ℕ) (len : ℕ) → 4 + len ≤ length bytes → announced bytes ≡ len → len ≤ 150000 → reading (take (4 + len) bytes) ≡ None → BeginsMalformed bytes
 is_malformed bytes len whole says short none =
     (omega arith, omega (arith, says), omega (arith, says), ap (λ (n : ℕ). body_reading (take n (drop 4 bytes))) says ∙ sym (reading_front bytes len whole says short) ∙ none)
@@ -34,6 +34,7 @@ is_front bytes n s fits e =
     let size : length (frame_bytes s) ≡ n = ap length (sym e) ∙ length-take-le n bytes fits in
     sym (take-append-drop n bytes) ∙ ap (λ (x : List ℕ). x ++ drop n bytes) e ∙ ap (λ (k : ℕ). frame_bytes s ++ drop k bytes) (sym size)
 
+-- what holds of both lists holds of the two joined
 all_join : {X : Type 0} (P : X → Type 0) (xs ys : List X) → AllByRecursion P xs → AllByRecursion P ys → AllByRecursion P (xs ++ ys)
 all_join P [] ys a b = b
 all_join P (x ∷ xs) ys a b = (a.0, all_join P xs ys a.1 b)
@@ -51,6 +52,7 @@ pub record Used (bytes : List ℕ) (frames : List SignedStatement) (used : ℕ) 
   pub within : used ≤ length bytes
   pub split : Frames bytes frames (drop used bytes)
 
+-- nothing at first
 pub none_used : (bytes : List ℕ) → Used bytes [] 0
 none_used bytes = record { within = omega arith; split = (tt, refl) }
 

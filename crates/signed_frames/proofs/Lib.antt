@@ -3,3 +3,4 @@ pub mod Sizes
 pub mod Grammar
 pub mod Fronts
 pub mod Determined
+pub mod Joined

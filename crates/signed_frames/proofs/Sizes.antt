@@ -1,7 +1,7 @@
 -- How many bytes a statement has at most: every frame is short enough.
-use Rattle.std.proofs.Common.{◌≡◌, ℕ, ◌+◌, ◌*◌, ◌≤◌, List, [], ◌∷◌, ◌++◌, length, ap, ◌∙◌, arith}
+use Rattle.std.proofs.Common.{ℕ, ◌*◌, ◌≤◌, List, [], ◌∷◌, ◌++◌, length, ap, arith}
 use Rattle.std.specs.Prelude.{if◌then◌else◌}
-use Rattle.std.specs.Int.{w16, w32, to_be_bytes}
+use Rattle.std.specs.Int.{w32, to_be_bytes}
 use Rattle.std.specs.List.{flat_map, AllByRecursion}
 use Rattle.std.proofs.lemmas.List.{length-append}
 use Rattle.std.proofs.lemmas.List.Concat.{flat_map-cons}
@@ -48,6 +48,7 @@ report_bound r is =
 signed_bound : (s : SignedReport) → IsSigned s → length (signed_bytes s) ≤ 11892
 signed_bound s is = omega (arith, report_bound s.report is.report, is.signature.short, length-append (report_bytes s.report) (signature_bytes s.signature))
 
+-- a lock at most 143756
 lock_bound : (l : Lock) → IsLock l → length (lock_bytes l) ≤ 143756
 lock_bound l is =
     let start : List ℕ = 2 ∷ to_be_bytes w32 l.height ++ to_be_bytes w32 l.phase ++ (l.signer ∷ []) in
@@ -61,11 +62,13 @@ lock_bound l is =
       length-append start (value_bytes l.value),
     )
 
+-- an acknowledgement at most 1051
 ack_bound : (a : Ack) → IsAck a → length (ack_bytes a) ≤ 1051
 ack_bound a is =
     let start : List ℕ = 3 ∷ to_be_bytes w32 a.height ++ to_be_bytes w32 a.phase ++ (a.signer ∷ []) in
     omega (arith, value_bound a.value is.value, length-append start (value_bytes a.value))
 
+-- any statement
 statement_bound : (s : Statement) → IsStatement s → length (statement_bytes s) ≤ 143756
 unfolding statement_bytes
 statement_bound (statement.Report r) is = omega (arith, report_bound r is)

@@ -1,5 +1,5 @@
 -- A reader of frames: what it keeps between pieces, and what it answers to each.
-use Rattle.std.specs.Prelude.{◌≡◌, ◌⊎◌, ℕ, ◌≤◌, List, [], ◌∷◌, ◌++◌, length, drop}
+use Rattle.std.specs.Prelude.{◌≡◌, ◌⊎◌, ℕ, ◌≤◌, List, [], ◌++◌, length, drop}
 use Rattle.ledger_model.specs.declared.statement.SignedStatement.{SignedStatement}
 use Rattle.ledger_model.specs.Spelling.{IsFrame, Frames, frame_bytes}
 use Rattle.ledger_model.specs.Streams.{IsPartial, BeginsTooLong, BeginsMalformed, SplitsTo, BreaksOff}

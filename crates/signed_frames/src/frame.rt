@@ -8,7 +8,7 @@ use std::alloc::{AllocError, Global};
 use std::marker::Model;
 
 /// Bytes that are exactly one frame, and what they spell. Contracts see the signed statement.
-#[derive(Drop)]
+#[derive(Debug, Drop)]
 pub struct Frame {
     bytes: Bytes,
     statement: Statement,
@@ -28,9 +28,9 @@ impl Model for Frame {
 }
 
 impl Frame {
-    ghost use Rattle.std.specs.Prelude.{◌≡◌, ◌≤◌, ◌<◌, length, IfOk};
+    ghost use Rattle.std.specs.Prelude.{◌≡◌, ◌≤◌, length, IfOk};
     ghost use Rattle.ledger_model.specs.declared.statement.SignedStatement.{SignedStatement};
-    ghost use Rattle.ledger_model.specs.Spelling.{statement_bytes, body_bytes, frame_bytes, IsStatement, SpellsFrame};
+    ghost use Rattle.ledger_model.specs.Spelling.{statement_bytes, frame_bytes, IsStatement, SpellsFrame};
     ghost use Rattle.ledger_model.specs.Reading.{reading};
     ghost use Rattle.statements.specs.Reads.{Gives};
 

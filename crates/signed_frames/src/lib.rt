@@ -3,6 +3,7 @@
 
 mod fault;
 mod frame;
+pub mod laws;
 mod parsing;
 mod reader;
 mod splitting;

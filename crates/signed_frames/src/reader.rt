@@ -16,7 +16,7 @@ enum Stage {
 }
 
 /// Takes a stream of frames in pieces.
-#[derive(Drop)]
+#[derive(Debug, Drop)]
 pub struct FrameReader {
     /// The beginning of a frame, of which more is to come.
     kept: BytesMut,
@@ -79,6 +79,7 @@ impl FrameReader {
         self.stage = Stage::Found(fault);
         Ok(frames)
     }
+
     /// Takes the next piece of the stream, and hands out the frames that are whole now, in order.
     ///
     /// A fault that stands behind frames is answered by the next call, whatever its piece, and Failed from then on.

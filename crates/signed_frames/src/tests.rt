@@ -210,3 +210,16 @@ fn hands_out_frames_before_a_fault(rt: HostRuntime) -> Result<(), Fail> {
     );
     Ok(())
 }
+
+#[test]
+fn hands_out_frames_before_a_malformed_one(rt: HostRuntime) -> Result<(), Fail> {
+    let alloc = rt.alloc();
+    let mut bytes = report_frame(alloc)?;
+    bytes.extend_from_slice(&[0, 0, 0, 1, 9])?;
+    bytes.extend_from_slice(&ack_frame(alloc)?)?;
+    let mut reader = FrameReader::new(alloc);
+    assert_eq!(rt; fed(&mut reader, &bytes), Ok(1));
+    assert_eq!(rt; fed(&mut reader, &[]), Err(FrameFault::Malformed));
+    assert_eq!(rt; fed(&mut reader, &[]), Err(FrameFault::Failed));
+    Ok(())
+}

@@ -7,6 +7,7 @@ ghost use Rattle.ledger_model.specs.Values.{value_bytes};
 ghost use Rattle.ledger_model.specs.Spelling.{list_bytes, report_bytes, signature_bytes, signed_bytes, lock_bytes, ack_bytes, statement_bytes, IsTx, IsValue, IsValueList, IsReport, IsSignature, IsSigned, IsLock, IsAck, IsStatement};
 
 use crate::decoding::{ACK, LOCK};
+use crate::lengths::encoded_len;
 use crate::locks::REPORT;
 use ledger_model::{
     Ack, Batch, Batches, Height, Lock, Phase, ReplicaId, Report, Signature, SignedReport,
@@ -133,7 +134,7 @@ pub fn encode(alloc: Global, statement: &Statement) -> Result<Vec<u8>, AllocErro
     requires { IsStatement statement.now }
     ensures { IfOk result (λ bytes. bytes.items ≡ statement_bytes statement.now) }
 {
-    let mut out = Vec::new(alloc);
+    let mut out = Vec::with_capacity(alloc, encoded_len(statement))?;
     match statement {
         Statement::Report(report) => put_report(&mut out, report)?,
         Statement::Lock(lock) => put_lock(&mut out, lock)?,

@@ -117,6 +117,23 @@ fn writes_what_was_read(rt: HostRuntime) -> Result<(), Fail> {
 }
 
 #[test]
+fn counts_bytes(rt: HostRuntime) -> Result<(), Fail> {
+    let alloc = rt.alloc();
+    assert_eq!(rt; encoded_len(&decode(alloc, &REPORT)?), 23);
+    assert_eq!(rt; encoded_len(&decode(alloc, &ACK)?), 15);
+    assert_eq!(rt;
+        encoded_len(&decode(alloc, &ack_bytes(alloc, 16, 64)?)?),
+        1051
+    );
+    // each signed report has 23 bytes, two of length and two of signature
+    assert_eq!(rt;
+        encoded_len(&decode(alloc, &lock_bytes(alloc, 3, &[0, 1, 2])?)?),
+        97
+    );
+    Ok(())
+}
+
+#[test]
 fn reads_an_ack(rt: HostRuntime) -> Result<(), Fail> {
     let statement = decode(rt.alloc(), &ACK)?;
     assert_eq!(rt; signer(&statement).number(), 2);

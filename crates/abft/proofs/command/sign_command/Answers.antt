@@ -1,5 +1,5 @@
 use Rattle.std.proofs.Common.{◌≡◌, ◌∙◌, ap, rules, codes}
-use Rattle.clap.specs.Words.{App, app_of, rule_of, new_app, with_rule}
+use Rattle.clap.specs.Words.{app_of, rule_of, new_app, with_rule}
 use Rattle.clap.specs.Simple.{app_of_fields}
 use Rattle.abft.specs.CommandLine.{with_common, what_rule}
 use Rattle.abft.proofs.Chains.{one_more}

@@ -1,4 +1,3 @@
-use Rattle.clap.specs.Words.{app_of, with_rule}
 use Rattle.abft.proofs.Chains.{one_more}
 use Rattle.abft.proofs.command.with_common.Goals as goal
 

@@ -1,8 +1,7 @@
-use Rattle.std.proofs.Common.{◌≡◌, List, Bor, map, rules, refl, sym, subst, codes}
-use Rattle.std.specs.Prelude.{Ok, Some, IfOk, option_map}
+use Rattle.std.proofs.Common.{◌≡◌, List, map, rules, refl, sym, subst, codes}
+use Rattle.std.specs.Prelude.{Ok}
 use Rattle.std.proofs.lemmas.Result.{IfOk-at_ok}
-use Rattle.clap.specs.Words.{HasMatchesOf, Row, Text, app_of, found_of, rows_of, subcommand_of}
-use Rattle.abft.specs.CommandLine.{abft_app}
+use Rattle.clap.specs.Words.{HasMatchesOf, Row, Text, app_of, found_of, rows_of}
 use Rattle.abft.specs.Options.{Sets}
 use Rattle.abft.specs.declared.setup.Settings.TheVariants as settings
 use Rattle.abft.proofs.MatchesLemmas.{subcommand_is}

@@ -1,4 +1,4 @@
-use Rattle.std.proofs.Common.{◌≡◌, ◌∙◌, ap, arith}
+use Rattle.std.proofs.Common.{◌∙◌, ap, arith}
 use Rattle.ledger_model.specs.Spelling.{frame_bytes}
 use Rattle.ledger_model.specs.Reading.{reading}
 use Rattle.ledger_model.proofs.Readers.{each_byte}

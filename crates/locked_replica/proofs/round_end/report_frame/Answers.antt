@@ -1,4 +1,4 @@
-use Rattle.std.proofs.Common.{◌≡◌, ◌≤◌, List, length, sym, subst, rules}
+use Rattle.std.proofs.Common.{◌≤◌, length, sym, subst, rules}
 use Rattle.ledger_model.specs.Spelling.{body_bytes}
 use Rattle.ledger_model.specs.declared.statement.Statement.TheVariants as statement
 use Rattle.locked_replica.specs.Replicas.{key_of}

@@ -1,4 +1,4 @@
-use Rattle.std.proofs.Common.{◌≡◌, ◌∙◌, sym, subst, ap, rules, arith}
+use Rattle.std.proofs.Common.{◌∙◌, sym, subst, ap}
 use Rattle.ledger_model.specs.declared.event.Event.TheVariants as event
 use Rattle.ledger_model.specs.declared.reply.Reply.TheVariants as reply
 use Rattle.std.specs.Prelude.{Ok, nat_lt, ◌^◌}

@@ -1,4 +1,4 @@
-use Rattle.std.proofs.Common.{◌≡◌, ℕ, ◌+◌, List, None, ap, sym, ◌∙◌, subst, take, arith}
+use Rattle.std.proofs.Common.{◌≡◌, ◌+◌, None, ap, sym, ◌∙◌, subst, take, arith}
 use Rattle.ledger_model.specs.Reading.{reading}
 use Rattle.ledger_model.specs.Streams.{announced}
 use Rattle.statements.specs.Reads.{Faults}

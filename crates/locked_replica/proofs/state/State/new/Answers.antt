@@ -1,4 +1,4 @@
-use Rattle.std.proofs.Common.{◌≡◌, ◌∙◌, [], sym, subst, ap, lit≤, length, ◌≤◌}
+use Rattle.std.proofs.Common.{◌≡◌, [], sym, subst, lit≤, length, ◌≤◌}
 use Rattle.ledger_model.specs.Lawful.{Replay, ReplaysFrom}
 use Rattle.locked_replica.specs.Matching.{Matches}
 use Rattle.locked_replica.proofs.Snoc.{new_matches}

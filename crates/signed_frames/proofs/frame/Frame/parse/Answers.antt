@@ -1,10 +1,9 @@
-use Rattle.std.proofs.Common.{◌≡◌, ℕ, List, Ok, Err, Some, Result, ap, sym, subst, length, ◌∙◌}
+use Rattle.std.proofs.Common.{◌≡◌, ℕ, List, Ok, Err, Some, ap, sym, subst, ◌∙◌}
 use Rattle.std.proofs.lemmas.Result.{err_from_is_err_and}
 use Rattle.ledger_model.specs.declared.statement.SignedStatement.{SignedStatement}
 use Rattle.ledger_model.specs.Spelling.{SpellsFrame}
 use Rattle.ledger_model.specs.Reading.{reading}
 use Rattle.statements.specs.Reads.{Faults}
-use Rattle.signed_frames.specs.Parts.{signed_by_last}
 use Rattle.signed_frames.proofs.FrameParts.{holds, last_is}
 use Rattle.signed_frames.proofs.Grammar.{is_read}
 use Rattle.signed_frames.proofs.frame.Frame.parse.Goals as goal

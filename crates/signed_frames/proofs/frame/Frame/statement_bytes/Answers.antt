@@ -1,4 +1,4 @@
-use Rattle.std.proofs.Common.{◌≡◌, ◌-◌, ℕ, List, sym, ap, ◌∙◌, length, take, drop, arith}
+use Rattle.std.proofs.Common.{◌-◌, ℕ, List, ap, ◌∙◌, length, take, drop, arith}
 use Rattle.ledger_model.specs.declared.statement.SignedStatement.{SignedStatement}
 use Rattle.ledger_model.specs.Spelling.{statement_bytes}
 use Rattle.signed_frames.proofs.FrameParts.{holds_length, statement_part}
