@@ -2,3 +2,4 @@ pub mod Chains
 pub mod WrittenLemmas
 pub mod MatchesLemmas
 pub mod RingLemmas
+pub mod NumberLemmas

@@ -1,13 +1,23 @@
 -- From the matches of the words to the subcommand that they name.
-use Rattle.std.proofs.Common.{◌≡◌, ◌∙◌, true, List, refl, sym, ap}
-use Rattle.std.specs.Prelude.{Option, Some, None, option_map}
+use Rattle.std.proofs.Common.{◌≡◌, ◌∙◌, true, List, refl, sym, ap, subst, codes, inl, inr}
+use Rattle.std.specs.Prelude.{◌⊎◌, Option, Some, None, option_map, Result, Ok, Err, MatchResult, IfErr, IsErrAnd}
 use Rattle.std.proofs.lemmas.Option.{same_Some}
 use Rattle.clap.specs.Words.{App, Row, Text, HasMatchesOf, is_simple, found_of, rows_of, subcommand_of, subcommand_name_of, subcommand_rows_of}
 use Rattle.clap.specs.declared.parser.matches.ArgMatches.{ArgMatches}
 use Rattle.clap.specs.declared.parser.matches.ArgMatches.TheViews.{out-ArgMatches, out-SubCommand}
 use Rattle.std.specs.Box.{box_value}
 use Rattle.clap.proofs.OnLiterals.{clap_on_literals}
+use Rattle.clap.specs.Words.{kind_of}
+use Rattle.clap.specs.declared.error.Error.{Error}
+use Rattle.clap.specs.declared.error.ErrorKind.TheVariants as kind
 use Rattle.abft.specs.CommandLine.{abft_app}
+use Rattle.abft.specs.Options.{Sets, SetsSign, SetsDeliver, WantsMemory}
+use Rattle.abft.specs.declared.fault.UsageFault.{UsageFault}
+use Rattle.abft.specs.declared.fault.UsageFault.TheVariants as fault
+use Rattle.abft.specs.declared.setup.SignSettings.{SignSettings}
+use Rattle.abft.specs.declared.setup.DeliverSettings.{DeliverSettings}
+use Rattle.abft.specs.declared.setup.Settings.{Settings}
+use Rattle.abft.specs.declared.setup.Settings.TheVariants as settings
 
 -- the program's command is one whose matches are known
 pub abft_is_simple : is_simple abft_app ≡ true
@@ -32,3 +42,36 @@ pub subcommand_is : (m : ArgMatches) (app : App) (words : List Text) (name : Tex
     → Some name ≡ subcommand_name_of m → Some rows ≡ option_map (λ p. p.1) (subcommand_rows_of m) → subcommand_of abft_app words ≡ Some (name, rows)
 subcommand_is m app words name rows is has named rowed =
     sym (ap (λ a. subcommand_of a words) is) ∙ sym ((has (ap is_simple is ∙ abft_is_simple)).1) ∙ pair_is (subcommand_rows_of m) name rows (name_is m ∙ sym named) (sym rowed)
+
+-- the subcommand that the words name is the one of the matches
+rows_is : (m : ArgMatches) (app : App) (words : List Text) → app ≡ abft_app → HasMatchesOf app words m → subcommand_of abft_app words ≡ subcommand_rows_of m
+rows_is m app words is has = sym (ap (λ a. subcommand_of a words) is) ∙ sym ((has (ap is_simple is ∙ abft_is_simple)).1)
+
+-- whatever is set is set by a subcommand of one of two names
+named : (o : Option (Text × List Row)) (s : Settings) → Sets o s → (option_map (λ p. p.0) o ≡ Some (codes "sign")) ⊎ (option_map (λ p. p.0) o ≡ Some (codes "deliver"))
+named None s sets = absurd sets
+named (Some p) (settings.Sign t) sets = inl (ap (λ n. Some n) sets.0)
+named (Some p) (settings.Deliver t) sets = inr (ap (λ n. Some n) sets.0)
+
+pub names_one : (m : ArgMatches) (app : App) (words : List Text) → app ≡ abft_app → HasMatchesOf app words m
+    → (s : Settings) → Sets (subcommand_of abft_app words) s → (subcommand_name_of m ≡ Some (codes "sign")) ⊎ (subcommand_name_of m ≡ Some (codes "deliver"))
+names_one m app words is has s sets =
+    subst (λ o. (o ≡ Some (codes "sign")) ⊎ (o ≡ Some (codes "deliver"))) (name_is m)
+    (named (subcommand_rows_of m) s (subst (λ o. Sets o s) (rows_is m app words is has) sets))
+
+-- what is set by `sign`, and what by `deliver`
+pub sets_sign : {W : Type 0} (rows : List Row) (s : Settings) → ((t : SignSettings) → SetsSign rows t → W) → Sets (Some (codes "sign", rows)) s → W
+sets_sign rows (settings.Sign t) then sets = then t sets.1
+sets_sign rows (settings.Deliver t) then sets = let bad : codes "sign" ≡ codes "deliver" = sets.0 in absurd cc
+
+pub sets_deliver : {W : Type 0} (rows : List Row) (s : Settings) → ((t : DeliverSettings) → SetsDeliver rows t → W) → Sets (Some (codes "deliver", rows)) s → W
+sets_deliver rows (settings.Deliver t) then sets = then t sets.1
+sets_deliver rows (settings.Sign t) then sets = let bad : codes "deliver" ≡ codes "sign" = sets.0 in absurd cc
+
+-- words that clap takes are refused by it for want of memory alone
+pub by_clap : {A : Type 0} (P : Type 0) (r : Result A Error) (m : Result A UsageFault)
+    → MatchResult r (λ x. m ≡ Ok x) (λ e. IsErrAnd m (λ y. y ≡ fault.CommandLine e))
+    → IfErr r (λ e. P → kind_of e ≡ kind.OutOfMemory) → IfErr m (λ y. P → WantsMemory y)
+by_clap P r (Ok x) cases passes = tt
+by_clap P (Ok x) (Err y) cases passes = let bad : Err y ≡ Ok x = cases in absurd cc
+by_clap P (Err e) (Err y) cases passes = subst (λ z. P → WantsMemory z) (sym cases) passes

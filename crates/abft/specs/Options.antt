@@ -1,10 +1,13 @@
 -- What the words of a command line set: each option by the value that its matches hold, which is its default where the words name none.
-use Rattle.std.specs.Prelude.{◌≡◌, ℕ, ◌≤◌, ◌-◌, IsTrue, List, codes, Option, Some, None, Ok}
+use Rattle.std.specs.Prelude.{◌≡◌, ℕ, ◌≤◌, ◌+◌, ◌-◌, ◌*◌, IsTrue, List, length, codes, Option, Some, None, Ok}
 use Rattle.std.specs.Str.Parse.{digits_value}
-use Rattle.hex.specs.Hex.{decode_of}
-use Rattle.clap.specs.Words.{Row, Text, first_of}
+use Rattle.hex.specs.Hex.{decode_sized}
+use Rattle.clap.specs.Words.{Row, Text, first_of, kind_of}
+use Rattle.clap.specs.declared.error.ErrorKind.TheVariants as kind
 use Rattle.ledger_model.specs.declared.config.AppKind.TheVariants.{KvStore}
 use Rattle.lm_ots.specs.Parameters.{bits_of, levels_of}
+use Rattle.abft.specs.declared.fault.UsageFault.{UsageFault}
+use Rattle.abft.specs.declared.fault.UsageFault.TheVariants as fault
 use Rattle.abft.specs.declared.setup.Cluster.{Cluster}
 use Rattle.abft.specs.declared.setup.SignSettings.{SignSettings}
 use Rattle.abft.specs.declared.setup.DeliverSettings.{DeliverSettings}
@@ -27,13 +30,15 @@ pub record IsNumber (rows : List Row) (name : Text) (low high n : ℕ) : Type 0 
 pub record IsSeed (rows : List Row) (seed : List ℕ) : Type 0 where
   pub text : Text
   pub has : first_of (codes "seed") rows ≡ Some text
-  pub decoded : decode_of text ≡ Ok seed
+  pub decoded : decode_sized text 32 ≡ Ok seed
 
 -- the option's value is written as this transaction
 pub record IsWritten (rows : List Row) (name : Text) (tx : List ℕ) : Type 0 where
   pub text : Text
   pub has : first_of name rows ≡ Some text
   pub bytes : StandsFor text tx
+  pub some : 1 ≤ length tx
+  pub short : length tx ≤ 64
 
 -- the options of every subcommand
 pub record SetsCluster (rows : List Row) (cluster : Cluster) : Type 0 where
@@ -41,6 +46,9 @@ pub record SetsCluster (rows : List Row) (cluster : Cluster) : Type 0 where
   pub t : IsNumber rows (codes "t") 0 255 cluster.config.faults
   pub kind : IsNumber rows (codes "kind") 1 1 1
   pub app : cluster.config.kind ≡ KvStore
+  pub enough : 3 * cluster.config.faults + 1 ≤ cluster.config.replicas
+  pub bounded : cluster.config.replicas ≤ 13
+  pub tolerant : 1 ≤ cluster.config.faults
   pub w : IsNumber rows (codes "w") 4 8 (bits_of cluster.params.width)
   pub tree : IsNumber rows (codes "tree") 5 10 (levels_of cluster.params.height)
   pub seed : IsSeed rows cluster.seed
@@ -69,3 +77,12 @@ abbrev pub Sets : Option (Text × List Row) → Settings → Type 0
 Sets None s = ⊥
 Sets (Some found) (settings.Sign s) = (found.0 ≡ codes "sign") × SetsSign found.1 s
 Sets (Some found) (settings.Deliver s) = (found.0 ≡ codes "deliver") × SetsDeliver found.1 s
+
+-- the fault says that memory ran out, here or in clap
+abbrev pub WantsMemory : UsageFault → Type 0
+WantsMemory (fault.CommandLine error) = kind_of error ≡ kind.OutOfMemory
+WantsMemory (fault.Limits name) = ⊥
+WantsMemory (fault.Cluster why) = ⊥
+WantsMemory (fault.Value why) = ⊥
+WantsMemory fault.What = ⊥
+WantsMemory fault.NoMemory = Unit {0}

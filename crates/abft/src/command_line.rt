@@ -1,8 +1,11 @@
 //! What the words of a command line set.
-ghost use Rattle.std.specs.Prelude.{map, IfOk};
-ghost use Rattle.clap.specs.Words.{found_of, rows_of, subcommand_of};
+ghost use Rattle.std.specs.Prelude.{◌≡◌, map, true, IfOk, IfErr};
+ghost use Rattle.clap.specs.Words.{found_of, rows_of, subcommand_of, takes};
 ghost use Rattle.abft.specs.CommandLine.{abft_app};
-ghost use Rattle.abft.specs.Options.{SetsSign, SetsDeliver, Sets};
+ghost use Rattle.abft.specs.Options.{SetsSign, SetsDeliver, Sets, WantsMemory};
+ghost use Rattle.abft.specs.declared.setup.SignSettings.{SignSettings};
+ghost use Rattle.abft.specs.declared.setup.DeliverSettings.{DeliverSettings};
+ghost use Rattle.abft.specs.declared.setup.Settings.{Settings};
 
 use crate::command::abft_command;
 use crate::fault::UsageFault;
@@ -14,7 +17,8 @@ use std::alloc::Global;
 
 /// `abft sign`, by its matches.
 fn sign_settings(alloc: Global, matches: &ArgMatches<'_>) -> Result<SignSettings, UsageFault>
-    ensures { IfOk result (λ s. SetsSign (rows_of (found_of matches.now)) s) }
+    ensures some { IfOk result (λ s. SetsSign (rows_of (found_of matches.now)) s) }
+    ensures none { IfErr result (λ e. (s : SignSettings) → SetsSign (rows_of (found_of matches.now)) s → WantsMemory e) }
 {
     let cluster = cluster(matches)?;
     let what = what(matches)?;
@@ -34,7 +38,8 @@ fn sign_settings(alloc: Global, matches: &ArgMatches<'_>) -> Result<SignSettings
 
 /// `abft deliver`, by its matches.
 fn deliver_settings(alloc: Global, matches: &ArgMatches<'_>) -> Result<DeliverSettings, UsageFault>
-    ensures { IfOk result (λ s. SetsDeliver (rows_of (found_of matches.now)) s) }
+    ensures some { IfOk result (λ s. SetsDeliver (rows_of (found_of matches.now)) s) }
+    ensures none { IfErr result (λ e. (s : DeliverSettings) → SetsDeliver (rows_of (found_of matches.now)) s → WantsMemory e) }
 {
     let cluster = cluster(matches)?;
     let replica = small_number(matches, "replica", 0, cluster.config.replicas - 1)?;
@@ -55,15 +60,20 @@ fn deliver_settings(alloc: Global, matches: &ArgMatches<'_>) -> Result<DeliverSe
 /// Each option has the value that the words give it, or else its default, within its limits. An `Err` says what is
 /// wrong, or holds the help that was asked for.
 pub fn settings<'a>(alloc: Global, words: &'a [&'a str]) -> Result<Settings, UsageFault>
-    ensures { IfOk result (λ s. Sets (subcommand_of abft_app (map (λ w. w.now) words.entry.now)) s) }
+    ensures set { IfOk result (λ s. Sets (subcommand_of abft_app (map (λ w. w.now) words.entry.now)) s) }
+    ensures refused { IfErr result (λ e. takes abft_app (map (λ w. w.now) words.entry.now) ≡ true
+        → (s : Settings) → Sets (subcommand_of abft_app (map (λ w. w.now) words.entry.now)) s → WantsMemory e) }
 {
     let command = abft_command(alloc)?;
     let matches = command
         .try_get_matches_from(words)
         .map_err(UsageFault::CommandLine)?;
-    match matches.subcommand() {
-        Some(("sign", options)) => Ok(Settings::Sign(sign_settings(alloc, options)?)),
-        Some(("deliver", options)) => Ok(Settings::Deliver(deliver_settings(alloc, options)?)),
+    let Some((name, options)) = matches.subcommand() else {
+        return Err(UsageFault::What);
+    };
+    match name {
+        "sign" => Ok(Settings::Sign(sign_settings(alloc, options)?)),
+        "deliver" => Ok(Settings::Deliver(deliver_settings(alloc, options)?)),
         _ => Err(UsageFault::What),
     }
 }

@@ -1,5 +1,5 @@
 //! Numbers and transactions as they are written on the command line.
-ghost use Rattle.std.specs.Prelude.{◌≡◌, ◌↔◌, ◌<◌, ◌^◌, IsTrue, IfSome, IfOk, option_map};
+ghost use Rattle.std.specs.Prelude.{◌≡◌, ◌↔◌, ℕ, List, ◌<◌, ◌≤◌, ◌^◌, IsTrue, IfSome, IfNone, IfOk, option_map};
 ghost use Rattle.std.specs.List.{list_all};
 ghost use Rattle.std.specs.Str.Parse.{digits_value};
 ghost use Rattle.abft.specs.Texts.{is_digit, is_decimal, is_plain, nibble, first_byte, StandsFor};
@@ -27,7 +27,8 @@ fn is_decimal(text: &str) -> bool
 
 /// The decimal number that the text is, if it is one below 2^32. A sign is none.
 pub(crate) fn decimal(text: &str) -> Option<u32>
-    ensures { IfSome result (λ n. IsTrue (is_decimal text.now) × (digits_value 10 text.now ≡ n)) }
+    ensures value { IfSome result (λ n. IsTrue (is_decimal text.now) × (digits_value 10 text.now ≡ n)) }
+    ensures none { IfNone result (IsTrue (is_decimal text.now) → 2 ^ 32 ≤ digits_value 10 text.now) }
 {
     if !is_decimal(text) {
         return None;
@@ -76,7 +77,8 @@ fn first_byte(text: &[u8]) -> Option<(u8, &[u8])>
 
 /// The bytes that the text stands for, if it is written as a transaction is.
 pub(crate) fn written(alloc: Global, text: &str) -> Result<Option<Vec<u8>>, AllocError>
-    ensures { IfOk result (λ found. IfSome found (λ bytes. StandsFor text.now bytes.items)) }
+    ensures some { IfOk result (λ found. IfSome found (λ bytes. StandsFor text.now bytes.items)) }
+    ensures none { IfOk result (λ found. IfNone found ((bytes : List ℕ) → StandsFor text.now bytes → ⊥)) }
 {
     let mut bytes = Vec::new(alloc);
     let mut rest = text.as_bytes();

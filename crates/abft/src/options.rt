@@ -1,8 +1,12 @@
 //! The options of a command line, read from its matches.
-ghost use Rattle.std.specs.Prelude.{◌≡◌, ◌≤◌, ◌-◌, IfOk, Some, codes};
+ghost use Rattle.std.specs.Prelude.{◌≡◌, ℕ, List, ◌≤◌, ◌-◌, IfOk, IfErr, OnErr, Some, None, codes};
 ghost use Rattle.clap.specs.Words.{found_of, rows_of, first_of};
 ghost use Rattle.lm_ots.specs.Parameters.{bits_of, levels_of};
-ghost use Rattle.abft.specs.Options.{IsNumber, IsSeed, IsWritten, SetsCluster, word_of};
+ghost use Rattle.abft.specs.Options.{IsNumber, IsSeed, IsWritten, SetsCluster, WantsMemory, word_of};
+ghost use Rattle.abft.specs.declared.setup.Cluster.{Cluster};
+ghost use Rattle.abft.specs.declared.setup.What.{What};
+ghost use Rattle.lm_ots.specs.declared.params.Width.{Width};
+ghost use Rattle.lm_ots.specs.declared.params.TreeHeight.{TreeHeight};
 
 use crate::fault::UsageFault;
 use crate::option_text::{decimal, written};
@@ -15,7 +19,8 @@ use std::alloc::Global;
 
 /// The text of an option.
 fn text<'a>(matches: &ArgMatches<'a>, name: &'static str) -> Result<&'a str, UsageFault>
-    ensures { IfOk result (λ t. first_of name.now (rows_of (found_of matches.now)) ≡ Some t.now) }
+    ensures some { IfOk result (λ t. first_of name.now (rows_of (found_of matches.now)) ≡ Some t.now) }
+    ensures none { OnErr result (first_of name.now (rows_of (found_of matches.now)) ≡ None) }
 {
     match matches.get_str(name) {
         Some(text) => Ok(text),
@@ -30,7 +35,8 @@ pub(crate) fn number(
     least: u32,
     most: u32,
 ) -> Result<u32, UsageFault>
-    ensures { IfOk result (λ n. IsNumber (rows_of (found_of matches.now)) name.now least most n) }
+    ensures some { IfOk result (λ n. IsNumber (rows_of (found_of matches.now)) name.now least most n) }
+    ensures none { OnErr result ((n : ℕ) → IsNumber (rows_of (found_of matches.now)) name.now least most n → ⊥) }
 {
     let text = text(matches, name)?;
     match decimal(text) {
@@ -46,7 +52,8 @@ pub(crate) fn small_number(
     least: u8,
     most: u8,
 ) -> Result<u8, UsageFault>
-    ensures { IfOk result (λ n. IsNumber (rows_of (found_of matches.now)) name.now least most n) }
+    ensures some { IfOk result (λ n. IsNumber (rows_of (found_of matches.now)) name.now least most n) }
+    ensures none { OnErr result ((n : ℕ) → IsNumber (rows_of (found_of matches.now)) name.now least most n → ⊥) }
 {
     let number = number(matches, name, u32::from(least), u32::from(most))?;
     Ok(number as u8)
@@ -54,7 +61,8 @@ pub(crate) fn small_number(
 
 /// The option `--value`: one transaction.
 pub(crate) fn value(alloc: Global, matches: &ArgMatches<'_>) -> Result<Tx, UsageFault>
-    ensures { IfOk result (λ tx. IsWritten (rows_of (found_of matches.now)) (codes "value") tx) }
+    ensures some { IfOk result (λ tx. IsWritten (rows_of (found_of matches.now)) (codes "value") tx) }
+    ensures none { IfErr result (λ e. (tx : List ℕ) → IsWritten (rows_of (found_of matches.now)) (codes "value") tx → WantsMemory e) }
 {
     let text = text(matches, "value")?;
     match written(alloc, text)? {
@@ -65,7 +73,8 @@ pub(crate) fn value(alloc: Global, matches: &ArgMatches<'_>) -> Result<Tx, Usage
 
 /// The word that says what is to be signed.
 pub(crate) fn what(matches: &ArgMatches<'_>) -> Result<What, UsageFault>
-    ensures { IfOk result (λ w. first_of (codes "what") (rows_of (found_of matches.now)) ≡ Some (word_of w)) }
+    ensures some { IfOk result (λ w. first_of (codes "what") (rows_of (found_of matches.now)) ≡ Some (word_of w)) }
+    ensures none { OnErr result ((w : What) → first_of (codes "what") (rows_of (found_of matches.now)) ≡ Some (word_of w) → ⊥) }
 {
     match text(matches, "what")? {
         "report" => Ok(What::Report),
@@ -76,7 +85,8 @@ pub(crate) fn what(matches: &ArgMatches<'_>) -> Result<What, UsageFault>
 
 /// The option `--seed`.
 fn seed(matches: &ArgMatches<'_>) -> Result<[u8; 32], UsageFault>
-    ensures { IfOk result (λ s. IsSeed (rows_of (found_of matches.now)) s) }
+    ensures some { IfOk result (λ s. IsSeed (rows_of (found_of matches.now)) s) }
+    ensures none { OnErr result ((s : List ℕ) → IsSeed (rows_of (found_of matches.now)) s → ⊥) }
 {
     let text = text(matches, "seed")?;
     match <[u8; 32] as FromHex>::from_hex(text) {
@@ -87,7 +97,8 @@ fn seed(matches: &ArgMatches<'_>) -> Result<[u8; 32], UsageFault>
 
 /// The option `--w`.
 fn width(matches: &ArgMatches<'_>) -> Result<Width, UsageFault>
-    ensures { IfOk result (λ w. IsNumber (rows_of (found_of matches.now)) (codes "w") 4 8 (bits_of w)) }
+    ensures some { IfOk result (λ w. IsNumber (rows_of (found_of matches.now)) (codes "w") 4 8 (bits_of w)) }
+    ensures none { OnErr result ((w : Width) → IsNumber (rows_of (found_of matches.now)) (codes "w") 4 8 (bits_of w) → ⊥) }
 {
     match number(matches, "w", 4, 8)? {
         4 => Ok(Width::W4),
@@ -98,7 +109,8 @@ fn width(matches: &ArgMatches<'_>) -> Result<Width, UsageFault>
 
 /// The option `--tree`.
 fn tree_height(matches: &ArgMatches<'_>) -> Result<TreeHeight, UsageFault>
-    ensures { IfOk result (λ h. IsNumber (rows_of (found_of matches.now)) (codes "tree") 5 10 (levels_of h)) }
+    ensures some { IfOk result (λ h. IsNumber (rows_of (found_of matches.now)) (codes "tree") 5 10 (levels_of h)) }
+    ensures none { OnErr result ((h : TreeHeight) → IsNumber (rows_of (found_of matches.now)) (codes "tree") 5 10 (levels_of h) → ⊥) }
 {
     match number(matches, "tree", 5, 10)? {
         5 => Ok(TreeHeight::H5),
@@ -109,7 +121,8 @@ fn tree_height(matches: &ArgMatches<'_>) -> Result<TreeHeight, UsageFault>
 
 /// The options that every subcommand has.
 pub(crate) fn cluster(matches: &ArgMatches<'_>) -> Result<Cluster, UsageFault>
-    ensures { IfOk result (λ c. SetsCluster (rows_of (found_of matches.now)) c) }
+    ensures some { IfOk result (λ c. SetsCluster (rows_of (found_of matches.now)) c) }
+    ensures none { OnErr result ((c : Cluster) → SetsCluster (rows_of (found_of matches.now)) c → ⊥) }
 {
     let replicas = small_number(matches, "n", 0, u8::MAX)?;
     let faults = small_number(matches, "t", 0, u8::MAX)?;
