@@ -1,6 +1,6 @@
 //! The end of round 0, which opens the first round.
 ghost use Rattle.std.specs.Prelude.{◌≡◌, ◌<◌, ◌≤◌, ◌^◌, ◌+◌, IfOk, OnOk, Some, length};
-ghost use Rattle.ledger_model.specs.Spelling.{IsStatement, body_bytes};
+ghost use Rattle.ledger_model.specs.Spelling.{IsStatement};
 ghost use Rattle.ledger_model.specs.Reading.{reading};
 ghost use Rattle.lm_ots.specs.Parameters.{numbers_of};
 ghost use Rattle.locked_replica.specs.Holding.{CanSpell};
@@ -38,7 +38,6 @@ fn first_report(alloc: Global, id: ReplicaId, opened: &Opened) -> Result<Report,
 fn frame_bytes(alloc: Global, statement: Statement, signature: &[u8]) -> Result<Bytes, AllocError>
     requires spelled { IsStatement statement }
     requires signature_len { length signature.now ≤ 2508 }
-    requires body_len { length (body_bytes (record { statement = statement; signature = signature.now })) ≤ 150000 }
     ensures { IfOk result (λ bytes. reading bytes ≡ Some (record { statement = statement; signature = signature.now })) }
 {
     let frame = Frame::build(alloc, statement, signature)?;

@@ -110,7 +110,7 @@ impl Frame {
 
     /// The whole frame.
     pub fn into_bytes(self) -> Bytes
-        ensures { result ≡ frame_bytes self }
+        ensures { SpellsFrame result self }
     {
         let Frame { bytes, .. } = self;
         bytes

@@ -1,15 +1,7 @@
-use Rattle.std.proofs.Common.{◌≤◌, length, sym, subst, rules}
-use Rattle.ledger_model.specs.Spelling.{body_bytes}
-use Rattle.ledger_model.specs.declared.statement.Statement.TheVariants as statement
+use Rattle.std.proofs.Common.{rules}
 use Rattle.locked_replica.specs.Replicas.{key_of}
-use Rattle.locked_replica.proofs.ReportLemmas.{first_body_short, spells_first}
+use Rattle.locked_replica.proofs.ReportLemmas.{spells_first}
 use Rattle.locked_replica.proofs.round_end.report_frame.Goals as goal
-
-pub frame_bytes-requires-clause-body_len : goal.frame_bytes-requires-clause-body_len
-frame_bytes-requires-clause-body_len c =
-    let short : length c.deref-2.result.now ≤ 2508 = search rules in
-    subst (λ r. length (body_bytes (record { statement = statement.Report r; signature = c.deref-2.result.now })) ≤ 150000) (sym c.in_ok-first_report.ensures)
-    (first_body_short c.args.id c.args.opened.now c.deref-2.result.now c.requires.spelled short)
 
 pub returns-clause-frame : goal.returns-clause-frame
 returns-clause-frame c =
