@@ -23,9 +23,15 @@ pub(crate) enum StreamEnd {
 
 /// The replica of the settings, which submitted the value, opened the height and ended the rounds.
 fn started(alloc: Global, settings: &DeliverSettings) -> Result<State, ProgramFault> {
-    let tree = key_pair(alloc, &settings.cluster, settings.replica.number())?;
+    let signer = key_pair(alloc, &settings.cluster, settings.replica.number())?;
     let ring = ring(alloc, &settings.cluster)?;
-    let mut state = State::new(alloc, settings.cluster.config, settings.replica, tree, ring);
+    let mut state = State::new(
+        alloc,
+        settings.cluster.config,
+        settings.replica,
+        signer,
+        ring,
+    );
     let value = Bytes::copy_from_slice(alloc, settings.value.as_bytes())?;
     state.apply(Event::Submit(value))?;
     state.apply(Event::Propose(settings.height))?;

@@ -1,12 +1,12 @@
 //! The key pairs of the replicas, from the cluster's seed.
 ghost use Rattle.std.specs.Prelude.{◌≡◌, ◌<◌, ℕ, Some, [], ◌∷◌, ◌++◌, IfOk, slice_get};
 ghost use Rattle.sha2.specs.Sha256.{sha256};
-ghost use Rattle.locked_replica.specs.Replicas.{key_of};
+ghost use Rattle.key_ring.specs.Signers.{key_of};
 ghost use Rattle.abft.specs.Keys.{secret_of};
 
 use crate::setup::Cluster;
+use key_ring::{KeyRing, Signer};
 use lm_ots::{Identifier, Seed};
-use lms_tree::{PublicKey, Tree};
 use sha2::{Digest, Sha256};
 use std::alloc::{AllocError, Global};
 
@@ -21,24 +21,24 @@ fn derived(cluster: &Cluster, replica: u8, purpose: u8) -> [u8; 32]
 }
 
 /// The key pair of a replica: its identifier is the first half of what the seed gives for purpose 0, its secret seed what
-/// it gives for purpose 1.
-pub(crate) fn key_pair(alloc: Global, cluster: &Cluster, replica: u8) -> Result<Tree, AllocError>
-    ensures { IfOk result (λ tree. tree ≡ secret_of cluster.now replica) }
+/// it gives for purpose 1. No leaf of it is used.
+pub(crate) fn key_pair(alloc: Global, cluster: &Cluster, replica: u8) -> Result<Signer, AllocError>
+    ensures { IfOk result (λ signer. signer ≡ record { secret = secret_of cluster.now replica; used = 0 }) }
 {
     let mut identifier = [0; 16];
     identifier.copy_from_slice(&derived(cluster, replica, 0)[..16]);
     let seed = Seed::new(derived(cluster, replica, 1));
-    Tree::build(alloc, cluster.params, Identifier::new(identifier), seed)
+    Signer::new(alloc, cluster.params, Identifier::new(identifier), seed)
 }
 
 /// The public keys of all replicas, by number.
-pub(crate) fn ring(alloc: Global, cluster: &Cluster) -> Result<Vec<PublicKey>, AllocError>
+pub(crate) fn ring(alloc: Global, cluster: &Cluster) -> Result<KeyRing, AllocError>
     ensures { IfOk result (λ ring. (r : ℕ) → r < cluster.now.config.replicas
-        → slice_get ring.items r ≡ Some (key_of (secret_of cluster.now r))) }
+        → slice_get ring r ≡ Some (key_of (secret_of cluster.now r))) }
 {
-    let mut ring = Vec::new(alloc);
+    let mut keys = Vec::new(alloc);
     for replica in 0..cluster.config.replicas {
-        ring.push(key_pair(alloc, cluster, replica)?.public())?;
+        keys.push(key_pair(alloc, cluster, replica)?.public())?;
     }
-    Ok(ring)
+    Ok(KeyRing::new(keys))
 }

@@ -143,13 +143,29 @@ fn another_width_does_not_verify(rt: HostRuntime) -> Result<(), Fail> {
     Ok(())
 }
 
+// In each parameter set a signature has one length, and neither one byte more nor one byte less verifies.
 #[test]
-fn lengths(rt: HostRuntime) {
-    let of = |width, height| Params { width, height }.signature_len();
-    assert_eq!(rt; of(Width::W8, TreeHeight::H5), 1292);
-    assert_eq!(rt; of(Width::W4, TreeHeight::H5), 2348);
-    assert_eq!(rt; of(Width::W8, TreeHeight::H10), 1452);
-    assert_eq!(rt; of(Width::W4, TreeHeight::H10), 2508);
+fn lengths(rt: HostRuntime) -> Result<(), Fail> {
+    let alloc = rt.alloc();
+    for (width, height, len) in [
+        (Width::W8, TreeHeight::H5, 1292),
+        (Width::W4, TreeHeight::H5, 2348),
+        (Width::W8, TreeHeight::H10, 1452),
+        (Width::W4, TreeHeight::H10, 2508),
+    ] {
+        let params = Params { width, height };
+        assert_eq!(rt; params.signature_len(), len);
+        let tree = Tree::build(alloc, params, Identifier::new(IDENTIFIER), Seed::new(SEED))?;
+        let key = tree.public();
+        let mut signature = tree.sign(alloc, 0, MESSAGE)?;
+        assert_eq!(rt; signature.len(), len);
+        assert!(rt; verify(&key, MESSAGE, &signature));
+        signature.push(0)?;
+        assert!(rt; !verify(&key, MESSAGE, &signature));
+        signature.truncate(len - 1);
+        assert!(rt; !verify(&key, MESSAGE, &signature));
+    }
+    Ok(())
 }
 
 #[test]

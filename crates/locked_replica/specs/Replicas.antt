@@ -3,11 +3,10 @@ use Rattle.std.specs.Prelude.{◌≡◌, ℕ, ◌<◌, ◌≤◌, List, Some, le
 use Rattle.ledger_model.specs.declared.config.Config.{Config}
 use Rattle.ledger_model.specs.declared.config.AppKind.TheVariants.{KvStore}
 use Rattle.ledger_model.specs.declared.history.Entry.{Entry}
-use Rattle.ledger_model.specs.Signatures.{public_key}
 use Rattle.ledger_model.specs.Rules.{Ring}
 use Rattle.ledger_model.specs.Lawful.{Replay}
-use Rattle.lm_ots.specs.Parameters.{numbers_of}
 use Rattle.lms_tree.specs.Trees.{Secret}
+use Rattle.key_ring.specs.Signers.{key_of}
 use Rattle.locked_replica.specs.Holding.{Held}
 use Rattle.locked_replica.specs.Matching.{Matches}
 
@@ -18,10 +17,6 @@ pub record Replica : Type 0 where
   pub secret : Secret
   pub used : ℕ
   pub entries : List Entry
-
--- the public key of a secret
-abbrev pub key_of : Secret → List ℕ
-key_of s = public_key (numbers_of s.params) s.identifier s.seed
 
 -- the replica is one of its cluster, runs the key-value store, and its key stands in the ring
 pub record IsMember (config : Config) (id : ℕ) (ring : Ring) (secret : Secret) : Type 0 where

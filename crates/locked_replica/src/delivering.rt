@@ -4,18 +4,19 @@ ghost use Rattle.ledger_model.specs.Rules.{is_signed};
 
 use crate::core_state::Core;
 use bytes::Bytes;
+use key_ring::KeyRing;
 use ledger_model::{Config, Ignored, Statement};
-use lms_tree::{PublicKey, verify};
+use lms_tree::verify;
 use signed_frames::Frame;
 use statements::DecodeFault;
 use std::alloc::{AllocError, Global};
 
 /// Whether the frame's signature verifies under its signer's key.
-fn is_signed(ring: &[PublicKey], frame: &Frame) -> bool
+fn is_signed(ring: &KeyRing, frame: &Frame) -> bool
     ensures { result ≡ is_signed ring.now frame.now }
 {
     let signer = statements::signer(frame.statement());
-    match ring.get(usize::from(signer.number())) {
+    match ring.key(signer) {
         Some(key) => verify(key, frame.statement_bytes(), frame.signature()),
         None => false,
     }
@@ -28,7 +29,7 @@ impl Core {
     ghost use Rattle.locked_replica.specs.FirstRound.{first_causes, read_answer, opened_after};
 
     /// Why the frame is ignored, if it is: the first cause that fits.
-    fn judge(&self, config: &Config, ring: &[PublicKey], frame: &Frame) -> Result<(), Ignored>
+    fn judge(&self, config: &Config, ring: &KeyRing, frame: &Frame) -> Result<(), Ignored>
         ensures { result ≡ first_of (first_causes config.now ring.now self.now frame.now) }
     {
         let statement = frame.statement();
@@ -60,7 +61,7 @@ impl Core {
         &mut self,
         alloc: Global,
         config: &Config,
-        ring: &[PublicKey],
+        ring: &KeyRing,
         bytes: &Bytes,
     ) -> Result<Result<(), Ignored>, AllocError>
         ensures answered { IfOk result (λ r. r ≡ read_answer config.now ring.now self.old (reading bytes.now)) }

@@ -2,14 +2,14 @@
 ghost use Rattle.std.specs.Prelude.{◌≡◌, ◌<◌, ◌≤◌, ◌^◌, ◌+◌, IfOk, OnOk, Some, length};
 ghost use Rattle.ledger_model.specs.Spelling.{IsStatement};
 ghost use Rattle.ledger_model.specs.Reading.{reading};
-ghost use Rattle.lm_ots.specs.Parameters.{numbers_of};
 ghost use Rattle.locked_replica.specs.Holding.{CanSpell};
 ghost use Rattle.locked_replica.specs.FirstRound.{first_report, SpellsFirst};
-ghost use Rattle.locked_replica.specs.Replicas.{key_of};
+ghost use Rattle.key_ring.specs.Signers.{key_of, leaves_of};
 
 use crate::core_state::{Core, Opened};
-use crate::signing::Signing;
+use crate::signing::sign;
 use bytes::Bytes;
+use key_ring::Signer;
 use ledger_model::{
     Addressee, Batches, Phase, ReplicaId, Report, RoundEnded, Sent, SentFrames, Statement,
 };
@@ -49,32 +49,31 @@ fn report_frame(
     alloc: Global,
     id: ReplicaId,
     opened: &Opened,
-    signing: &mut Signing,
+    signer: &mut Signer,
 ) -> Result<Bytes, AllocError>
     requires signer { id < 256 }
     requires spelled { CanSpell (Some opened.now) }
-    requires left { signing.old.used < 2 ^ (numbers_of signing.old.tree.params).height }
-    ensures frame { IfOk result (λ frame. SpellsFirst (key_of signing.old.tree) id opened.now frame) }
-    ensures tree { signing.new.tree ≡ signing.old.tree }
-    ensures ok { OnOk result (signing.new.used ≡ signing.old.used + 1) }
-    ensures least { signing.old.used ≤ signing.new.used }
-    ensures most { signing.new.used ≤ signing.old.used + 1 }
+    requires left { signer.old.used < leaves_of signer.old.secret }
+    ensures frame { IfOk result (λ frame. SpellsFirst (key_of signer.old.secret) id opened.now frame) }
+    ensures secret { signer.new.secret ≡ signer.old.secret }
+    ensures ok { OnOk result (signer.new.used ≡ signer.old.used + 1) }
+    ensures least { signer.old.used ≤ signer.new.used }
+    ensures most { signer.new.used ≤ signer.old.used + 1 }
 {
     let statement = Statement::Report(first_report(alloc, id, opened)?);
     let message = encode(alloc, &statement)?;
-    let signature = signing.sign(alloc, &message)?;
+    let signature = sign(alloc, signer, &message)?;
     let frame = frame_bytes(alloc, statement, &signature)?;
     Ok(frame)
 }
 
 impl Core {
     ghost use Rattle.std.specs.Prelude.{◌≡◌, ◌<◌, ◌≤◌, ◌^◌, ◌+◌, nat_lt, IfOk, OnErr};
-    ghost use Rattle.lm_ots.specs.Parameters.{numbers_of};
     ghost use Rattle.std.specs.Prelude.{Ok};
     ghost use Rattle.ledger_model.specs.declared.reply.Reply.TheVariants as reply;
     ghost use Rattle.locked_replica.specs.FirstRound.{EndsFirst};
     ghost use Rattle.locked_replica.specs.Steps.{UsesLeaves};
-    ghost use Rattle.locked_replica.specs.Replicas.{key_of};
+    ghost use Rattle.key_ring.specs.Signers.{key_of, leaves_of};
 
     /// The end of round 0. Where a height is open its report is sent, or the replica becomes mute because no leaf is
     /// left.
@@ -82,18 +81,18 @@ impl Core {
         &mut self,
         alloc: Global,
         id: ReplicaId,
-        signing: &mut Signing,
+        signer: &mut Signer,
     ) -> Result<RoundEnded, AllocError>
         requires { id < 256 }
-        ensures ended { IfOk result (λ ended. EndsFirst (key_of signing.old.tree) id
-            (nat_lt signing.old.used (2 ^ (numbers_of signing.old.tree.params).height))
+        ensures ended { IfOk result (λ ended. EndsFirst (key_of signer.old.secret) id
+            (nat_lt signer.old.used (leaves_of signer.old.secret))
             self.old self.old.opened ended self.new) }
-        ensures leaves { IfOk result (λ ended. UsesLeaves (2 ^ (numbers_of signing.old.tree.params).height)
-            signing.old.used (reply.RoundEnded (Ok ended)) signing.new.used) }
+        ensures leaves { IfOk result (λ ended. UsesLeaves (leaves_of signer.old.secret)
+            signer.old.used (reply.RoundEnded (Ok ended)) signer.new.used) }
         ensures err { OnErr result (self.new ≡ self.old) }
-        ensures tree { signing.new.tree ≡ signing.old.tree }
-        ensures least { signing.old.used ≤ signing.new.used }
-        ensures most { signing.new.used ≤ signing.old.used + 1 }
+        ensures secret { signer.new.secret ≡ signer.old.secret }
+        ensures least { signer.old.used ≤ signer.new.used }
+        ensures most { signer.new.used ≤ signer.old.used + 1 }
     {
         let mut reporters = Vec::with_capacity(alloc, 1)?;
         let mut frames = Vec::with_capacity(alloc, 1)?;
@@ -101,14 +100,14 @@ impl Core {
             self.clock = 1;
             return Ok(ended(false, frames));
         };
-        if signing.is_used_up() {
+        if signer.leaves_left() == 0 {
             opened.reporters = reporters;
             self.clock = 1;
             self.mute = true;
             return Ok(ended(true, frames));
         }
         reporters.push(id)?;
-        let frame = report_frame(alloc, id, opened, signing)?;
+        let frame = report_frame(alloc, id, opened, signer)?;
         frames.push(Sent {
             addressee: Addressee::All,
             frame,

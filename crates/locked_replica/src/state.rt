@@ -1,10 +1,9 @@
 use crate::core_state::Core;
 use crate::entry_view::EntryView;
 use crate::fault::ApplyFault;
-use crate::signing::Signing;
 use crate::stepping::{can_take, step};
+use key_ring::{KeyRing, Signer};
 use ledger_model::{Config, Entry, Event, ReplicaId};
-use lms_tree::{PublicKey, Tree};
 use std::alloc::Global;
 use std::marker::Model;
 
@@ -19,8 +18,8 @@ pub const MAX_ENTRIES: usize = 65_536;
 pub struct State {
     config: Config,
     id: ReplicaId,
-    ring: Vec<PublicKey>,
-    signing: Signing,
+    ring: KeyRing,
+    signer: Signer,
     core: Core,
     entries: Vec<Entry>,
 }
@@ -30,9 +29,9 @@ impl Model for State {
 
     ghost Value = { Replica };
 
-    ghost view = { λ s. record { config = s.config; id = s.id; ring = s.ring.items; secret = s.signing.tree; used = s.signing.used; entries = s.entries.items } };
+    ghost view = { λ s. record { config = s.config; id = s.id; ring = s.ring; secret = s.signer.secret; used = s.signer.used; entries = s.entries.items } };
 
-    ghost invariant = { λ s. IsReplica (record { config = s.config; id = s.id; ring = s.ring.items; secret = s.signing.tree; used = s.signing.used; entries = s.entries.items }) s.core };
+    ghost invariant = { λ s. IsReplica (record { config = s.config; id = s.id; ring = s.ring; secret = s.signer.secret; used = s.signer.used; entries = s.entries.items }) s.core };
 }
 
 impl State {
@@ -40,26 +39,20 @@ impl State {
     ghost use Rattle.ledger_model.specs.declared.reply.Reply.{Reply};
     ghost use Rattle.ledger_model.specs.Commits.{commits_of};
     ghost use Rattle.ledger_model.specs.Lawful.{Lawful, Replay, clock_at, is_signed_reply};
-    ghost use Rattle.lm_ots.specs.Parameters.{numbers_of};
+    ghost use Rattle.key_ring.specs.Signers.{leaves_of};
     ghost use Rattle.locked_replica.specs.Steps.{IsNotYet, UsesLeaves};
     ghost use Rattle.locked_replica.specs.Replicas.{Replica, IsMember};
 
     /// A replica with no history. The ring has the public keys of the replicas by number.
-    pub fn new(
-        alloc: Global,
-        config: Config,
-        id: ReplicaId,
-        tree: Tree,
-        ring: Vec<PublicKey>,
-    ) -> Self
-        requires { IsMember config id ring.items tree }
-        ensures { result ≡ record { config = config; id = id; ring = ring.items; secret = tree; used = 0; entries = [] } }
+    pub fn new(alloc: Global, config: Config, id: ReplicaId, signer: Signer, ring: KeyRing) -> Self
+        requires { IsMember config id ring signer.secret }
+        ensures { result ≡ record { config = config; id = id; ring = ring; secret = signer.secret; used = signer.used; entries = [] } }
     {
         State {
             config,
             id,
             ring,
-            signing: Signing { tree, used: 0 },
+            signer,
             core: Core::new(alloc),
             entries: Vec::new(alloc),
         }
@@ -118,7 +111,7 @@ impl State {
             × ((self.new.entries ≡ self.old.entries ++ record { event = event; reply = reply } ∷ [])
             × Lawful self.old.config self.old.ring self.old.id self.old.entries event reply
             × IsTrue (is_signed_reply self.old.ring reply)
-            × UsesLeaves (2 ^ (numbers_of self.old.secret.params).height) self.old.used reply self.new.used)) }
+            × UsesLeaves (leaves_of self.old.secret) self.old.used reply self.new.used)) }
         ensures full { IsErrOf result ApplyFault.HistoryFull ↔ (65536 ≤ length self.old.entries) }
         ensures not_yet { IsErrOf result ApplyFault.NotYet
             ↔ ((length self.old.entries < 65536) × IsNotYet self.old.config self.old.id self.old.entries event) }
@@ -137,13 +130,12 @@ impl State {
         }
         let alloc = *self.entries.allocator();
         self.entries.reserve(1)?;
-        let ring = self.ring.as_slice();
         let reply = step(
             alloc,
             &self.config,
             self.id,
-            ring,
-            &mut self.signing,
+            &self.ring,
+            &mut self.signer,
             &mut self.core,
             &event,
         )?;

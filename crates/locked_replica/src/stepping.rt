@@ -1,13 +1,12 @@
 //! One event, by what is kept.
 ghost use Rattle.std.specs.Prelude.{◌≡◌, ◌≤◌, ◌^◌, MatchBool, IfOk, OnErr};
-ghost use Rattle.lm_ots.specs.Parameters.{numbers_of};
+ghost use Rattle.key_ring.specs.Signers.{leaves_of};
 ghost use Rattle.locked_replica.specs.Steps.{CanTake, IsStep, UsesLeaves};
 ghost use Rattle.locked_replica.specs.Replicas.{IsMember};
 
 use crate::core_state::Core;
-use crate::signing::Signing;
+use key_ring::{KeyRing, Signer};
 use ledger_model::{Config, Event, ReplicaId, Reply};
-use lms_tree::PublicKey;
 use std::alloc::{AllocError, Global};
 
 /// Whether the replica takes such an event yet.
@@ -31,25 +30,25 @@ pub(crate) fn step(
     alloc: Global,
     config: &Config,
     id: ReplicaId,
-    ring: &[PublicKey],
-    signing: &mut Signing,
+    ring: &KeyRing,
+    signer: &mut Signer,
     core: &mut Core,
     event: &Event,
 ) -> Result<Reply, AllocError>
-    requires member { IsMember config.now id ring.now signing.old.tree }
+    requires member { IsMember config.now id ring.now signer.old.secret }
     requires taken { CanTake core.old event.now }
     ensures step { IfOk result (λ reply. IsStep config.now ring.now id core.old event.now reply core.new) }
-    ensures leaves { IfOk result (λ reply. UsesLeaves (2 ^ (numbers_of signing.old.tree.params).height)
-        signing.old.used reply signing.new.used) }
+    ensures leaves { IfOk result (λ reply. UsesLeaves (leaves_of signer.old.secret)
+        signer.old.used reply signer.new.used) }
     ensures err { OnErr result (core.new ≡ core.old) }
-    ensures tree { signing.new.tree ≡ signing.old.tree }
-    ensures least { signing.old.used ≤ signing.new.used }
+    ensures secret { signer.new.secret ≡ signer.old.secret }
+    ensures least { signer.old.used ≤ signer.new.used }
 {
     match event {
         Event::Submit(bytes) => Ok(Reply::Submitted(core.submit(alloc, bytes)?)),
         Event::Propose(height) => Ok(Reply::Proposed(core.propose(alloc, *height)?)),
         Event::Deliver(bytes) => Ok(Reply::Delivered(core.deliver(alloc, config, ring, bytes)?)),
-        Event::RoundEnd => Ok(Reply::RoundEnded(Ok(core.end_round(alloc, id, signing)?))),
+        Event::RoundEnd => Ok(Reply::RoundEnded(Ok(core.end_round(alloc, id, signer)?))),
         Event::Execute | Event::Query(_, _) => unreachable!(),
     }
 }

@@ -1,10 +1,10 @@
 use crate::{ApplyFault, State};
 use bytes::Bytes;
+use key_ring::{KeyRing, Signer};
 use ledger_model::{
     Addressee, AppKind, Config, Event, Height, Key, ProposeRefusal, ReplicaId, Reply, SubmitRefusal,
 };
 use lm_ots::{Identifier, Params, Seed, TreeHeight, Width};
-use lms_tree::Tree;
 use std::alloc::Global;
 use std::process::Abort;
 use std::test::Fail;
@@ -16,13 +16,13 @@ const PARAMS: Params = Params {
 
 /// Replica 0 of four, whose ring has its own key alone.
 fn replica<R: Abort>(rt: &R, alloc: Global) -> Result<State, Fail> {
-    let tree = Tree::build(alloc, PARAMS, Identifier::new([7; 16]), Seed::new([9; 32]))?;
+    let signer = Signer::new(alloc, PARAMS, Identifier::new([7; 16]), Seed::new([9; 32]))?;
     let config = match Config::new(4, 1, AppKind::KvStore) {
         Ok(config) => config,
         Err(_) => panic!(rt; "four replicas may have one liar"),
     };
-    let ring = vec![in alloc; tree.public()]?;
-    Ok(State::new(alloc, config, ReplicaId::new(0), tree, ring))
+    let ring = KeyRing::new(vec![in alloc; signer.public()]?);
+    Ok(State::new(alloc, config, ReplicaId::new(0), signer, ring))
 }
 
 fn submit(bytes: &'static [u8]) -> Event {

@@ -1,5 +1,5 @@
 use Rattle.std.proofs.Common.{◌≡◌, ◌+◌, ◌++◌, ◌∷◌, [], List, ℕ, length, length-append, sym, subst, ap, ◌∙◌, rules, arith}
-use Rattle.locked_replica.specs.Replicas.{key_of}
+use Rattle.key_ring.specs.Signers.{key_of, Keys}
 use Rattle.abft.specs.Keys.{secret_of}
 use Rattle.abft.proofs.RingLemmas.{AreFirst, one_more_first}
 use Rattle.abft.proofs.keys.ring.Goals as goal
@@ -8,8 +8,8 @@ pub loop-replica-preserved : goal.loop-replica-preserved
 loop-replica-preserved c =
     let key : List ℕ = c.public-in-loop-replica.result in
     let f : ℕ → List ℕ = λ r. key_of (secret_of c.args.cluster.now r) in
-    let grown : c.push.new.self.items ≡ c.loop-replica.ring.items ++ key ∷ [] = search rules in
-    let is : key ≡ f c.loop-replica.replica = c.public-in-loop-replica.ensures ∙ ap key_of c.in_ok-key_pair.ensures in (
-      subst (λ (xs : List (List ℕ)). length xs ≡ c.loop-replica.replica + 1) (sym grown) (omega (arith, length-append c.loop-replica.ring.items (key ∷ []), c.loop-replica.invariant.0)),
-      subst (AreFirst f (c.loop-replica.replica + 1)) (sym grown) (one_more_first f c.loop-replica.replica c.loop-replica.ring.items key c.loop-replica.invariant.0 is c.loop-replica.invariant.1),
+    let grown : c.push.new.self.items ≡ c.loop-replica.keys.items ++ key ∷ [] = search rules in
+    let is : key ≡ f c.loop-replica.replica = c.public-in-loop-replica.ensures ∙ ap (λ (k : Keys). key_of k.secret) c.in_ok-key_pair.ensures in (
+      subst (λ (xs : List (List ℕ)). length xs ≡ c.loop-replica.replica + 1) (sym grown) (omega (arith, length-append c.loop-replica.keys.items (key ∷ []), c.loop-replica.invariant.0)),
+      subst (AreFirst f (c.loop-replica.replica + 1)) (sym grown) (one_more_first f c.loop-replica.replica c.loop-replica.keys.items key c.loop-replica.invariant.0 is c.loop-replica.invariant.1),
     )

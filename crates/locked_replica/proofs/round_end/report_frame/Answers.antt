@@ -1,9 +1,9 @@
 use Rattle.std.proofs.Common.{rules}
-use Rattle.locked_replica.specs.Replicas.{key_of}
+use Rattle.key_ring.specs.Signers.{key_of}
 use Rattle.locked_replica.proofs.ReportLemmas.{spells_first}
 use Rattle.locked_replica.proofs.round_end.report_frame.Goals as goal
 
 pub returns-clause-frame : goal.returns-clause-frame
 returns-clause-frame c =
-    spells_first (key_of c.args.signing.now.tree) c.args.id c.args.opened.now c.in_ok-frame.frame c.deref.result.now c.deref-2.result.now c.in_ok-first_report.field-0
+    spells_first (key_of c.args.signer.now.secret) c.args.id c.args.opened.now c.in_ok-frame.frame c.deref.result.now c.deref-2.result.now c.in_ok-first_report.field-0
     c.in_ok-first_report.ensures c.in_ok-frame.ensures (search rules) (search rules)

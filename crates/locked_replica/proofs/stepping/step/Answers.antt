@@ -1,10 +1,9 @@
 use Rattle.std.proofs.Common.{◌∙◌, sym, subst, ap}
 use Rattle.ledger_model.specs.declared.event.Event.TheVariants as event
 use Rattle.ledger_model.specs.declared.reply.Reply.TheVariants as reply
-use Rattle.std.specs.Prelude.{Ok, nat_lt, ◌^◌}
-use Rattle.lm_ots.specs.Parameters.{numbers_of}
+use Rattle.std.specs.Prelude.{Ok, nat_lt}
 use Rattle.locked_replica.specs.Steps.{IsStep, CanTake}
-use Rattle.locked_replica.specs.Replicas.{key_of}
+use Rattle.key_ring.specs.Signers.{key_of, leaves_of}
 use Rattle.locked_replica.proofs.HandingLemmas.{submit_step, propose_step}
 use Rattle.locked_replica.proofs.StepLemmas.{deliver_step, round_end_step}
 use Rattle.locked_replica.proofs.stepping.step.Goals as goal
@@ -31,4 +30,4 @@ pub returns-in_ok-end_round-in-RoundEnd-clause-step : goal.returns-in_ok-end_rou
 returns-in_ok-end_round-in-RoundEnd-clause-step c =
     let r = c.in_ok-end_round-in-RoundEnd.field-0 in
     subst (λ e. IsStep c.args.config.now c.args.ring.now c.args.id c.args.core.now e (reply.RoundEnded (Ok r)) c.end_round.new.self) (sym c.in-RoundEnd.is)
-    (round_end_step c.args.config.now c.args.ring.now c.args.id (key_of c.args.signing.now.tree) (nat_lt c.args.signing.now.used (2 ^ (numbers_of c.args.signing.now.tree.params).height)) c.args.core.now c.end_round.new.self r (subst (CanTake c.args.core.now) c.in-RoundEnd.is c.requires.taken) c.requires.member.own c.in_ok-end_round-in-RoundEnd.ensures.ended)
+    (round_end_step c.args.config.now c.args.ring.now c.args.id (key_of c.args.signer.now.secret) (nat_lt c.args.signer.now.used (leaves_of c.args.signer.now.secret)) c.args.core.now c.end_round.new.self r (subst (CanTake c.args.core.now) c.in-RoundEnd.is c.requires.taken) c.requires.member.own c.in_ok-end_round-in-RoundEnd.ensures.ended)

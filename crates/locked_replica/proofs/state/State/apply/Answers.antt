@@ -1,8 +1,7 @@
 use Rattle.std.proofs.Common.{◌≡◌, ◌<◌, ◌++◌, ◌∷◌, [], length, refl, sym, subst, rules}
 use Rattle.std.specs.Prelude.{false, MatchBool}
 use Rattle.ledger_model.specs.declared.history.Entry.{Entry}
-use Rattle.ledger_model.specs.Rules.{Ring}
-use Rattle.locked_replica.specs.Steps.{CanTake, IsStep, IsNotYet}
+use Rattle.locked_replica.specs.Steps.{CanTake, IsNotYet}
 use Rattle.locked_replica.specs.Replicas.{Replica, IsMember}
 use Rattle.locked_replica.proofs.Applied.{replay_on, matches_on, few_on}
 use Rattle.locked_replica.proofs.StepLemmas.{left_is_not_yet}
@@ -26,10 +25,10 @@ invariant_of-self-2 c =
     let grown : c.push.new.self.items ≡ s.entries.items ++ e ∷ [] = search rules in
     let few : length s.entries.items < 65536 = search rules in
     record {
-      member = subst (λ t. IsMember s.config s.id s.ring.items t) (sym c.in_ok-reply.ensures.tree) c.self.invariant.member;
+      member = subst (λ t. IsMember s.config s.id s.ring t) (sym c.in_ok-reply.ensures.secret) c.self.invariant.member;
       few = few_on s.entries.items c.push.new.self.items e few grown;
-      replay = replay_on s.config s.ring.items s.id s.entries.items c.push.new.self.items s.core c.step.new.core e c.self.invariant.replay c.self.invariant.matches (subst (λ (ring : Ring). IsStep s.config ring s.id s.core c.args.event c.in_ok-reply.reply c.step.new.core) c.as_slice-ring.ensures.value c.in_ok-reply.ensures.step) grown;
-      matches = matches_on s.config s.ring.items s.id s.entries.items c.push.new.self.items s.core c.step.new.core e c.self.invariant.matches (subst (λ (ring : Ring). IsStep s.config ring s.id s.core c.args.event c.in_ok-reply.reply c.step.new.core) c.as_slice-ring.ensures.value c.in_ok-reply.ensures.step) grown;
+      replay = replay_on s.config s.ring s.id s.entries.items c.push.new.self.items s.core c.step.new.core e c.self.invariant.replay c.self.invariant.matches c.in_ok-reply.ensures.step grown;
+      matches = matches_on s.config s.ring s.id s.entries.items c.push.new.self.items s.core c.step.new.core e c.self.invariant.matches c.in_ok-reply.ensures.step grown;
     }
 
 pub returns-clause-replay : goal.returns-clause-replay
@@ -37,4 +36,4 @@ returns-clause-replay c =
     let s = c.self.inside in
     let e : Entry = record { event = c.args.event; reply = c.in_ok-reply.reply } in
     let grown : c.push.new.self.items ≡ s.entries.items ++ e ∷ [] = search rules in
-    replay_on s.config s.ring.items s.id s.entries.items c.push.new.self.items s.core c.step.new.core e c.self.invariant.replay c.self.invariant.matches (subst (λ (ring : Ring). IsStep s.config ring s.id s.core c.args.event c.in_ok-reply.reply c.step.new.core) c.as_slice-ring.ensures.value c.in_ok-reply.ensures.step) grown
+    replay_on s.config s.ring s.id s.entries.items c.push.new.self.items s.core c.step.new.core e c.self.invariant.replay c.self.invariant.matches c.in_ok-reply.ensures.step grown

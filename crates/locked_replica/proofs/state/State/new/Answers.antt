@@ -11,7 +11,7 @@ invariant_of-result c =
     record {
       member = c.requires;
       few = subst (λ es. length es ≤ 65536) (sym none) (lit≤ tt);
-      replay = subst (Replay c.args.config c.args.ring.items c.args.id) (sym none) tt;
+      replay = subst (Replay c.args.config c.args.ring c.args.id) (sym none) tt;
       matches = subst (λ held. Matches c.args.config c.args.id c.new-2.result.items held) (sym c.new.ensures)
           (subst (λ es. Matches c.args.config c.args.id es _) (sym none) (new_matches c.args.config c.args.id));
     }
