@@ -1,0 +1,23 @@
+-- How many blocks of SHA-256 the parts of LMS hash (RFC 8554).
+use Rattle.std.specs.Prelude.{ℕ, ◌+◌, ◌-◌, ◌*◌, ◌/◌, ◌^◌}
+use Rattle.ledger_model.specs.Signatures.{Params}
+
+-- the blocks of n bytes: the padding has at least 9 bytes
+abbrev pub blocks_of : ℕ → ℕ
+blocks_of n = (n + 9 + 63) / 64
+
+-- a leaf, once its chains are at their ends: its public value (section 4.3), and the hash at its node (section 5.3)
+abbrev pub leaf_blocks : Params → ℕ
+leaf_blocks p = blocks_of (22 + 32 * p.chains) + blocks_of (22 + 32)
+
+-- an inner node (section 5.3)
+abbrev pub node_blocks : ℕ
+node_blocks = blocks_of (22 + 64)
+
+-- the nodes above a leaf
+abbrev pub path_blocks : Params → ℕ
+path_blocks p = p.height * node_blocks
+
+-- a whole tree: each chain's beginning and all its steps, each of one block, then the leaves and the inner nodes
+abbrev pub tree_blocks : Params → ℕ
+tree_blocks p = 2 ^ p.height * (p.chains * 2 ^ p.width + leaf_blocks p) + (2 ^ p.height - 1) * node_blocks

@@ -1,0 +1,117 @@
+//! How many blocks of SHA-256 an operation takes if it does nothing but hash (RFC 8554).
+ghost use Rattle.std.specs.Prelude.{◌≡◌, ◌+◌, ◌*◌, ◌<◌, ◌≤◌, ◌^◌, length};
+ghost use Rattle.lm_ots.specs.Parameters.{numbers_of};
+ghost use Rattle.lms_speed.specs.Blocks.{blocks_of, leaf_blocks, path_blocks, tree_blocks};
+
+use crate::work::MESSAGE;
+use lm_ots::{Identifier, Params, Width, hasher_at};
+use sha2::Digest;
+
+/// Marks the hash of a message (RFC 8554, section 4.5).
+const D_MESG: u16 = 0x8181;
+
+/// The length in bytes of what each hash but that of a chain's step begins with, `I || u32(q) || u16(mark)`.
+const FRONT: u64 = 22;
+
+/// The length in bytes of a hash.
+const HASH: u64 = 32;
+
+/// How many blocks SHA-256 makes of so many bytes.
+pub fn blocks(len: u64) -> u64
+    requires { len < 2 ^ 32 }
+    ensures { result ≡ blocks_of len }
+{
+    (len + 9).div_ceil(64)
+}
+
+/// The blocks of a leaf, once its chains are at their ends: its public value (RFC 8554, section 4.3), and the hash at its
+/// node (section 5.3).
+fn leaf_blocks(params: Params) -> u64
+    ensures { result ≡ leaf_blocks (numbers_of params) }
+{
+    let ends = HASH * u64::from(params.width.chains());
+    blocks(FRONT + ends) + blocks(FRONT + HASH)
+}
+
+/// The blocks of the inner nodes from a leaf up to the root (RFC 8554, section 5.4.2).
+fn path_blocks(params: Params) -> u64
+    ensures { result ≡ path_blocks (numbers_of params) }
+{
+    u64::from(params.height.levels()) * blocks(FRONT + 2 * HASH)
+}
+
+/// The blocks of a key generation: each chain begins with one block and takes all its steps; then the leaves and the
+/// inner nodes (RFC 8554, sections 4.3 and 5.3, Appendix A).
+pub fn key_generation_blocks(params: Params) -> u64
+    ensures { result ≡ tree_blocks (numbers_of params) }
+{
+    let leaves = u64::from(params.leaves());
+    let chain = 1 + u64::from(params.width.last_step());
+    let leaf = u64::from(params.width.chains()) * chain + leaf_blocks(params);
+    leaves * leaf + (leaves - 1) * blocks(FRONT + 2 * HASH)
+}
+
+/// The sum of a byte's digits.
+fn digits_in(width: Width, byte: u8) -> u64
+    ensures { result ≤ 255 }
+{
+    match width {
+        Width::W4 => u64::from(byte >> 4) + u64::from(byte & 0x0f),
+        Width::W8 => u64::from(byte),
+    }
+}
+
+/// The sum of the digits of some bytes.
+fn digit_sum(width: Width, bytes: &[u8]) -> u64
+    requires { length bytes.now ≤ 32 }
+    ensures { result ≤ 255 * length bytes.now }
+{
+    let mut sum = 0;
+    for byte in bytes {
+        sum += digits_in(width, *byte);
+    }
+    sum
+}
+
+/// How many steps the chains take in all from their beginnings to what a signature of this digest shows: the sum of the
+/// digits of the digest and of its checksum (RFC 8554, section 4.4).
+fn steps_signed(width: Width, digest: &[u8; 32]) -> u64
+    ensures { result < 2 ^ 16 }
+{
+    let most = width.digest_digits() as u64 * u64::from(width.last_step());
+    let sum = digit_sum(width, digest);
+    let checksum = most.saturating_sub(sum) << width.checksum_shift();
+    sum + digit_sum(width, &checksum.to_be_bytes())
+}
+
+/// The blocks of making one signature, and of verifying it.
+#[derive(Clone, Copy)]
+pub struct SignatureBlocks {
+    pub signing: u64,
+    pub verification: u64,
+}
+
+/// The blocks of a signature of [`MESSAGE`] with a leaf, the tree being there, and of its verification: the steps of its
+/// chains, the beginnings of the chains and the randomizer, which only the signer makes, the digest of the message, and
+/// the leaf and the path, which only the verifier does.
+pub fn signature_blocks(
+    params: Params,
+    identifier: &Identifier,
+    leaf: u32,
+    signature: &[u8],
+) -> SignatureBlocks {
+    let mut hasher = hasher_at(identifier, leaf, D_MESG);
+    hasher.update(signature.get(8..40).unwrap_or(&[]));
+    hasher.update(MESSAGE.as_slice());
+    let steps = steps_signed(params.width, &hasher.finalize());
+    let chains = u64::from(params.width.chains());
+    let all_steps = chains * u64::from(params.width.last_step());
+    let digest = blocks(FRONT + HASH + MESSAGE.len() as u64);
+    SignatureBlocks {
+        signing: steps + chains + 1 + digest,
+        verification: all_steps.saturating_sub(steps)
+            + digest
+            + leaf_blocks(params)
+            + path_blocks(params),
+    }
+}

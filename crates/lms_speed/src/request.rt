@@ -1,0 +1,68 @@
+//! What a line of the protocol asks for.
+ghost use Rattle.std.specs.Prelude.{◌<◌, ◌≤◌, ◌^◌};
+ghost use Rattle.lm_ots.specs.Parameters.{levels_of};
+
+use lm_ots::{Identifier, Params, Seed};
+use std::fmt;
+
+/// What a key pair is made of.
+#[derive(Drop)]
+pub struct KeyPair {
+    pub params: Params,
+    pub identifier: Identifier,
+    pub seed: Seed,
+}
+
+/// A message to be signed with a leaf of a key pair.
+#[derive(Drop)]
+pub struct SignRequest {
+    pub pair: KeyPair,
+    pub leaf: u32,
+    pub message: Vec<u8>,
+    ghost in_tree: { leaf < 2 ^ levels_of pair.params.height },
+}
+
+/// A signature to be verified under a public key, each as bytes.
+#[derive(Drop)]
+pub struct VerifyRequest {
+    pub key: Vec<u8>,
+    pub message: Vec<u8>,
+    pub signature: Vec<u8>,
+}
+
+/// What is measured.
+#[derive(Clone, Copy, Debug, PartialEq, Eq)]
+pub enum Operation {
+    Verification,
+    Signature,
+    KeyGeneration,
+}
+
+impl fmt::Display for Operation {
+    fn fmt<W: fmt::Write>(&self, f: &mut fmt::Formatter<W>) -> fmt::Result {
+        match self {
+            Operation::Verification => f.pad("verification"),
+            Operation::Signature => f.pad("signature"),
+            Operation::KeyGeneration => f.pad("key generation"),
+        }
+    }
+}
+
+/// A measurement of so many seconds, 1 to 60.
+#[derive(Drop)]
+pub struct RateRequest {
+    pub operation: Operation,
+    pub params: Params,
+    pub seconds: u32,
+    ghost some: { 1 ≤ seconds },
+    ghost few: { seconds ≤ 60 },
+}
+
+/// What a line asks for.
+#[derive(Drop)]
+pub enum Request {
+    Public(KeyPair),
+    Sign(SignRequest),
+    Verify(VerifyRequest),
+    Rate(RateRequest),
+}

@@ -1,0 +1,127 @@
+//! The table of figures.
+use crate::fault::ProgramFault;
+use crate::ideal::{blocks, key_generation_blocks, signature_blocks};
+use crate::rates::{SEED, pace};
+use crate::request::Operation;
+use crate::timing::measure;
+use crate::work::{IDENTIFIER, LONG_MESSAGE, LongDigests, OneBlockDigests, signatures_of, tree_of};
+use lm_ots::{Identifier, Params, TreeHeight, Width};
+use std::alloc::Global;
+use std::io::Write;
+use std::num::nearest_u64_to_f64;
+use std::time::{Clock, Duration};
+
+/// A line of the table: an operation, and the blocks that it takes if it does nothing but hash.
+#[derive(Clone, Copy)]
+struct Row {
+    operation: Operation,
+    params: Params,
+    ideal: f64,
+}
+
+/// The lines of a parameter set; for signatures by the mean over those that are measured.
+fn rows(alloc: Global, params: Params) -> Result<[Row; 3], ProgramFault> {
+    let tree = tree_of(alloc, params, SEED)?;
+    let signatures = signatures_of(alloc, &tree)?;
+    let identifier = Identifier::new(IDENTIFIER);
+    let mut signing = 0.0;
+    let mut verification = 0.0;
+    for (leaf, signature) in (0u32..32).zip(signatures.iter()) {
+        let found = signature_blocks(params, &identifier, leaf, signature);
+        signing += nearest_u64_to_f64(found.signing);
+        verification += nearest_u64_to_f64(found.verification);
+    }
+    let count = nearest_u64_to_f64(signatures.len() as u64);
+    let row = |operation, ideal| Row {
+        operation,
+        params,
+        ideal,
+    };
+    Ok([
+        row(
+            Operation::KeyGeneration,
+            nearest_u64_to_f64(key_generation_blocks(params)),
+        ),
+        row(Operation::Signature, signing / count),
+        row(Operation::Verification, verification / count),
+    ])
+}
+
+/// The nanoseconds of a digest of 55 bytes, which is one block.
+fn one_block<C: Clock>(clock: &C, time: Duration) -> Result<f64, ProgramFault> {
+    let mut work = OneBlockDigests { block: [0; 55] };
+    Ok(measure(clock, &mut work, time)?.nanoseconds())
+}
+
+/// The nanoseconds of each block of a long message.
+fn long_block<C: Clock>(clock: &C, alloc: Global, time: Duration) -> Result<f64, ProgramFault> {
+    let mut work = LongDigests {
+        message: vec![in alloc; 0u8; LONG_MESSAGE]?,
+        digest: [0; 32],
+    };
+    let pace = measure(clock, &mut work, time)?;
+    Ok(pace.nanoseconds() / nearest_u64_to_f64(blocks(32 + LONG_MESSAGE as u64)))
+}
+
+/// Measures the operation of a line, and writes the line.
+fn write_row<C: Clock, W: Write>(
+    clock: &C,
+    alloc: Global,
+    writer: &mut W,
+    row: Row,
+    block: f64,
+    time: Duration,
+) -> Result<(), ProgramFault> {
+    let Row {
+        operation,
+        params,
+        ideal,
+    } = row;
+    let pace = pace(clock, alloc, operation, params, time)?;
+    let width = params.width.bits();
+    let height = params.height.levels();
+    let rate = pace.per_second();
+    let found = pace.nanoseconds() / block;
+    let ratio = found / ideal;
+    writeln!(
+        writer,
+        "W{width}/H{height}  {operation:<14} {rate:>12.1} {found:>12.1} {ideal:>12.1} {ratio:>8.3}"
+    )?;
+    writer.flush()?;
+    Ok(())
+}
+
+/// Measures and writes the table: how many operations of each kind are done a second, and how many blocks of SHA-256 each
+/// takes, by its time and by what it hashes. Each figure is measured for at least the time.
+pub fn write_table<C: Clock, W: Write>(
+    clock: &C,
+    alloc: Global,
+    writer: &mut W,
+    time: Duration,
+) -> Result<(), ProgramFault> {
+    let block = one_block(clock, time)?;
+    let long = long_block(clock, alloc, time)?;
+    writeln!(
+        writer,
+        "SHA-256, a digest of 55 bytes (one block) {block:>10.1} ns"
+    )?;
+    writeln!(
+        writer,
+        "SHA-256, a block of a long message        {long:>10.1} ns"
+    )?;
+    writeln!(writer)?;
+    writeln!(
+        writer,
+        "keys   operation          a second       blocks        ideal    ratio"
+    )?;
+    for width in [Width::W4, Width::W8] {
+        let params = Params {
+            width,
+            height: TreeHeight::H5,
+        };
+        for row in rows(alloc, params)? {
+            write_row(clock, alloc, writer, row, block, time)?;
+        }
+    }
+    Ok(())
+}
