@@ -1,0 +1,11 @@
+//! What an application of the ledger is: the calls of ABCI 0.17.0 that an engine makes, with a meaning for each.
+//!
+//! An [`Application`] is a state machine. Between blocks it has a committed state and a height; within a block a working
+//! state beside it. It is used as `&dyn Application`, `&mut dyn Application` and `Box<dyn Application + Send>`.
+#![tactic(auto)]
+
+mod application;
+mod info;
+
+pub use application::Application;
+pub use info::{CheckKind, Info, QueryFault};

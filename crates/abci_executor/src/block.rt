@@ -1,0 +1,58 @@
+//! The calls of one block: BeginBlock, DeliverTx for each transaction, EndBlock and Commit.
+ghost use Rattle.std.specs.Prelude.{◌≡◌, ◌<◌, [], Some, IfOk, OnOk, OnErr};
+ghost use Rattle.abci.specs.Meaning.{GoesOn, LosesWork};
+ghost use Rattle.abci_executor.specs.Blocks.{DeliversAll, RunsBlock, AddsBlock};
+
+use abci::Application;
+use ledger_model::{Batch, BlockResult, Codes, Height, Tx};
+use std::alloc::{AllocError, Global};
+
+/// The highest block that is run.
+pub const MAX_HEIGHT: u32 = 4096;
+
+/// Runs the next block: the calls of ABCI 0.17.0 in the order that it prescribes, and what they gave.
+///
+/// The application's committed state is one that transactions led to, and at most 4095 blocks were run. The only error is want
+/// of memory. It leaves the committed state and the height as they were, so that the block can be run once more.
+pub fn run_block<A: Application>(
+    alloc: Global,
+    app: &mut A,
+    batch: &Batch,
+) -> Result<BlockResult, AllocError>
+    requires low { (A.machine app.old).height < MAX_HEIGHT }
+    ensures ok { IfOk result (λ block. RunsBlock (A.machine app.old) batch.now block (A.machine app.new)) }
+    ensures by_blocks { IfOk result (λ block. AddsBlock (A.machine app.old) batch.now block (A.machine app.new)) }
+    ensures err { OnErr result (LosesWork (A.machine app.old) (A.machine app.new)) }
+{
+    let room = Vec::with_capacity(alloc, batch.transactions().len())?;
+    let height = Height::new(app.info().height + 1);
+    app.begin_block(height)?;
+    let codes = deliver_all(app, batch.transactions(), room)?;
+    app.end_block()?;
+    let hash = app.commit();
+    Ok(BlockResult {
+        height,
+        codes,
+        hash,
+    })
+}
+
+/// DeliverTx for each transaction, in order. The codes go into `room`.
+fn deliver_all<A: Application>(
+    app: &mut A,
+    transactions: &[Tx],
+    room: Vec<u32>,
+) -> Result<Codes, AllocError>
+    requires begun { (A.machine app.old).working ≡ Some (A.machine app.old).committed }
+    requires empty { room.items ≡ [] }
+    ensures goes_on { OnOk result (GoesOn (A.machine app.old) (A.machine app.new)) }
+    ensures ok { IfOk result (λ codes. DeliversAll (A.machine app.old) transactions.now codes (A.machine app.new)) }
+    ensures err { OnErr result (LosesWork (A.machine app.old) (A.machine app.new)) }
+{
+    let mut codes = room;
+    for tx in transactions {
+        let code = app.deliver_tx(tx)?;
+        codes.push(code)?;
+    }
+    Ok(Codes::new(codes))
+}

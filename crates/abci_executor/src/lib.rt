@@ -1,0 +1,16 @@
+//! Runs blocks on an application, by ABCI's calls.
+//!
+//! [`run_block`] makes the calls of one block, and an [`Executor`] runs one block after another. What they answer and leave
+//! is said by the transactions, or by the blocks, that led to the application's committed state.
+#![tactic(auto)]
+
+mod block;
+mod executor;
+
+pub use block::{MAX_HEIGHT, run_block};
+pub use executor::Executor;
+
+#[cfg(test)]
+mod idle_counter;
+#[cfg(test)]
+mod tests;

@@ -1,0 +1,12 @@
+pub mod Accepted
+pub mod Counting
+pub mod Refused
+pub mod Entries
+pub mod Stored
+pub mod Splitting
+pub mod Storing
+pub mod Transfers
+pub mod Solvency
+pub mod Paying
+pub mod Judging
+pub mod Totals

@@ -1,0 +1,10 @@
+-- The codes of refusals.
+use Rattle.std.specs.Prelude.{ℕ}
+use Rattle.app_kinds.specs.declared.refusal.Refusal.{Refusal}
+use Rattle.app_kinds.specs.declared.refusal.Refusal.TheVariants.{Misspelled, OutOfTurn, Overdrawn, ToItself}
+
+abbrev pub code_of : Refusal → ℕ
+code_of Misspelled = 1
+code_of OutOfTurn = 2
+code_of Overdrawn = 3
+code_of ToItself = 4

@@ -1,0 +1,35 @@
+-- What contracts see of the accounts of a purse: the balance and the nonce of each.
+use Rattle.std.specs.Prelude.{◌≡◌, ◌≢◌, ℕ, ◌+◌, ◌^◌, ◌<◌, ◌≤◌, List, length, map, slice_index_or}
+use Rattle.std.specs.List.{sum_by}
+use Rattle.app_kinds.specs.declared.account.Account.{Account}
+use Rattle.app_kinds.specs.declared.transfer.Transfer.{Transfer}
+use Rattle.ledger_model.specs.Applications.{sender, receiver, amount, nonce_in}
+
+abbrev pub shown : List Account → List (ℕ × ℕ)
+shown accounts = map (λ a. (a.balance, a.nonce)) accounts
+
+abbrev pub balance_at : List (ℕ × ℕ) → ℕ → ℕ
+balance_at accounts i = (slice_index_or accounts i (0, 0)).0
+
+abbrev pub nonce_at : List (ℕ × ℕ) → ℕ → ℕ
+nonce_at accounts i = (slice_index_or accounts i (0, 0)).1
+
+-- the balances added up
+abbrev pub total_of : List (ℕ × ℕ) → ℕ
+total_of accounts = sum_by (λ a. a.0) accounts
+
+-- what ten bytes spell
+pub record IsTransferOf (bytes : List ℕ) (transfer : Transfer) : Type 0 where
+  pub long : length bytes ≡ 10
+  pub from : transfer.from ≡ sender bytes
+  pub to : transfer.to ≡ receiver bytes
+  pub amount : transfer.amount ≡ amount bytes
+  pub nonce : transfer.nonce ≡ nonce_in bytes
+  pub from_small : transfer.from < 256
+  pub to_small : transfer.to < 256
+
+-- the sender has the amount, and a next nonce
+pub record CanMove (accounts : List (ℕ × ℕ)) (transfer : Transfer) : Type 0 where
+  pub apart : transfer.from ≢ transfer.to
+  pub covered : transfer.amount ≤ balance_at accounts transfer.from
+  pub counted : nonce_at accounts transfer.from + 1 < 2 ^ 32

@@ -1,0 +1,15 @@
+-- What contracts see of the pairs of a store.
+use Rattle.std.specs.Prelude.{ℕ, ◌≤◌, List, [], ◌∷◌, length, map, Vec}
+use Rattle.std.specs.declared.alloc.Global.{Global}
+
+abbrev pub Pair : Type 0
+Pair = List ℕ × List ℕ
+
+-- the bytes of each key and value
+abbrev pub shown : List (Vec ℕ Global × Vec ℕ Global) → List Pair
+shown entries = map (λ e. (e.0.items, e.1.items)) entries
+
+-- each key and value has at most 64 bytes
+abbrev pub AreShort : List Pair → Type 0
+AreShort [] = Unit {0}
+AreShort (p ∷ ps) = (length p.0 ≤ 64) × (length p.1 ≤ 64) × AreShort ps

@@ -1,0 +1,104 @@
+//! An application whose delivered transactions are counted.
+use abci::{Application, CheckKind, Info, QueryFault};
+use ledger_model::{Height, Tx};
+use std::alloc::AllocError;
+use std::marker::Model;
+
+/// An application, and how many transactions were delivered to it.
+#[derive(Drop)]
+pub struct Counted<X: Application> {
+    app: X,
+    delivered: u64,
+}
+
+impl<X: Application> Model for Counted<X> {
+    ghost use Rattle.app_kinds.specs.Wrapped.{CountedApp};
+
+    ghost Value = { CountedApp X };
+
+    ghost view = { λ c. record { app = c.app; delivered = c.delivered } };
+}
+
+impl<X: Application> Counted<X> {
+    ghost use Rattle.std.specs.Prelude.{◌≡◌};
+
+    /// The application, before anything is delivered to it.
+    pub fn new(app: X) -> Self
+        ensures app { result.app ≡ app }
+        ensures none { result.delivered ≡ 0 }
+    {
+        Counted { app, delivered: 0 }
+    }
+
+    /// How often `deliver_tx` was called, whatever it answered; at most `u64::MAX`.
+    pub fn delivered(&self) -> u64
+        ensures { result ≡ self.now.delivered }
+    {
+        self.delivered
+    }
+}
+
+impl<X: Application> Application for Counted<X> {
+    ghost use Rattle.std.specs.Prelude.{◌≡◌, ◌+◌, ◌-◌, ◌^◌, min, IsSome, IfOk, OnOk, OnErr};
+    ghost use Rattle.abci.specs.Meaning.{Begins, GoesOn, DeliversTo, CommitsTo, LosesWork};
+
+    ghost machine = { λ c. X.machine c.app };
+
+    fn info(&self) -> Info {
+        self.app.info()
+    }
+
+    fn init_chain(&mut self) -> Result<(), AllocError>
+        requires { (X.machine self.old.app).height ≡ 0 }
+        ensures machine { X.machine self.new.app ≡ X.machine self.old.app }
+        ensures count { self.new.delivered ≡ self.old.delivered }
+    {
+        self.app.init_chain()
+    }
+
+    fn check_tx(&self, tx: &Tx, kind: CheckKind) -> u32 {
+        self.app.check_tx(tx, kind)
+    }
+
+    fn begin_block(&mut self, height: Height) -> Result<(), AllocError>
+        requires { height ≡ (X.machine self.old.app).height + 1 }
+        ensures ok { OnOk result (Begins (X.machine self.old.app) (X.machine self.new.app)) }
+        ensures err { OnErr result (LosesWork (X.machine self.old.app) (X.machine self.new.app)) }
+        ensures count { self.new.delivered ≡ self.old.delivered }
+    {
+        self.app.begin_block(height)
+    }
+
+    /// It counts, whatever it answers.
+    fn deliver_tx(&mut self, tx: &Tx) -> Result<u32, AllocError>
+        requires { IsSome (X.machine self.old.app).working }
+        ensures goes_on { OnOk result (GoesOn (X.machine self.old.app) (X.machine self.new.app)) }
+        ensures ok { IfOk result (λ code. DeliversTo (X.machine self.old.app) tx.now code (X.machine self.new.app)) }
+        ensures err { OnErr result (LosesWork (X.machine self.old.app) (X.machine self.new.app)) }
+        ensures count { self.new.delivered ≡ min (self.old.delivered + 1) (2 ^ 64 - 1) }
+    {
+        self.delivered = self.delivered.saturating_add(1);
+        self.app.deliver_tx(tx)
+    }
+
+    fn end_block(&mut self) -> Result<(), AllocError>
+        requires { IsSome (X.machine self.old.app).working }
+        ensures ok { OnOk result (X.machine self.new.app ≡ X.machine self.old.app) }
+        ensures err { OnErr result (LosesWork (X.machine self.old.app) (X.machine self.new.app)) }
+        ensures count { self.new.delivered ≡ self.old.delivered }
+    {
+        self.app.end_block()
+    }
+
+    fn commit(&mut self) -> [u8; 32]
+        requires { IsSome (X.machine self.old.app).working }
+        ensures commits { CommitsTo (X.machine self.old.app) result (X.machine self.new.app) }
+        ensures count { self.new.delivered ≡ self.old.delivered }
+    {
+        self.app.commit()
+    }
+
+    fn query(&self, key: &[u8], height: u32) -> Result<Option<Vec<u8>>, QueryFault> {
+        self.app.query(key, height)
+    }
+}
