@@ -11,6 +11,9 @@ pub mod Streams
 pub mod GrammarLaws
 pub mod Signatures
 pub mod Proper
+pub mod Tallies
+pub mod Phases
+pub mod LockTables
 pub mod Logs
 pub mod Rules
 pub mod Applications
