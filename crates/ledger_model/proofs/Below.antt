@@ -1,13 +1,14 @@
 -- The order of values is strict and total, and what puts values in order.
-use Rattle.std.proofs.Common.{◌≡◌, true, false, refl, sym, ap, ◌∙◌}
+use Rattle.std.proofs.Common.{◌≡◌, true, false, inl, inr, List, [], ◌∷◌, refl, sym, ap, ◌∙◌}
 use Rattle.std.specs.declared.cmp.Ordering.{Ordering}
 use Rattle.std.specs.declared.cmp.Ordering.TheVariants.{Less, Equal, Greater}
 use Rattle.std.specs.Ordering.{is_lt, is_eq, ordering_reverse}
 use Rattle.std.specs.Cmp.{tied_itself}
-use Rattle.std.proofs.lemmas.Bool.{false≢true}
-use Rattle.ledger_model.specs.Values.{Value, same_value, is_below}
+use Rattle.std.proofs.lemmas.Bool.{false≢true, and_parts, and_from, cases_Bool}
+use Rattle.ledger_model.specs.Values.{Value, same_value, is_below, with_value, ascending}
 use Rattle.ledger_model.specs.Order.{value_cmp}
 use Rattle.ledger_model.specs.OrderLaws.{value_total, value_ties}
+use Rattle.ledger_model.specs.Spelling.{are_ascending}
 
 is_less : (o : Ordering) → is_lt o ≡ true → o ≡ Less
 is_less Less e = refl
@@ -33,3 +34,36 @@ below_other v w e = ap is_lt (value_total.antisymm w v ∙ ap ordering_reverse (
 
 pub below_or : (v w : Value) → same_value v w ≡ false → is_below v w ≡ false → is_below w v ≡ true
 below_or v w e f = ap is_lt (value_total.antisymm w v ∙ ap ordering_reverse (is_greater (value_cmp v w) (sym (value_ties v w) ∙ e) f))
+
+-- ---- what `with_value` and `ascending` give ascends
+
+-- w below v, and in front of a list that ascends: w stands below what the list has once v is in it
+before_with : (w v : Value) (ws : List Value) → is_below w v ≡ true → are_ascending (w ∷ ws) ≡ true → are_ascending (with_value v ws) ≡ true → are_ascending (w ∷ with_value v ws) ≡ true
+before_with w v [] lt h rest = and_from (is_below w v) true lt refl
+before_with w v (x ∷ xs) lt h rest =
+    elim (cases_Bool (same_value v x)) [
+      | inl same ↦ simp same h
+      | inr other ↦ elim (cases_Bool (is_below v x)) [
+        | inl below ↦ simp (other, below, lt) ((and_parts (is_below w x) (are_ascending (x ∷ xs)) h).1)
+        | inr above ↦ (let g : are_ascending (x ∷ with_value v xs) ≡ true = simp (other, above) at rest in simp (other, above) (and_from (is_below w x) (are_ascending (x ∷ with_value v xs)) ((and_parts (is_below w x) (are_ascending (x ∷ xs)) h).0) g))
+      ]
+    ]
+
+pub tail_ascends : (w : Value) (ws : List Value) → are_ascending (w ∷ ws) ≡ true → are_ascending ws ≡ true
+tail_ascends w [] h = refl
+tail_ascends w (x ∷ xs) h = (and_parts (is_below w x) (are_ascending (x ∷ xs)) h).1
+
+pub with_value_ascends : (v : Value) (ws : List Value) → are_ascending ws ≡ true → are_ascending (with_value v ws) ≡ true
+with_value_ascends v [] h = refl
+with_value_ascends v (w ∷ ws) h =
+    elim (cases_Bool (same_value v w)) [
+      | inl same ↦ simp same h
+      | inr other ↦ elim (cases_Bool (is_below v w)) [
+        | inl below ↦ simp (other, below) h
+        | inr above ↦ simp (other, above) (before_with w v ws (below_or v w other above) h (with_value_ascends v ws (tail_ascends w ws h)))
+      ]
+    ]
+
+pub ascending_ascends : (vs : List Value) → are_ascending (ascending vs) ≡ true
+ascending_ascends [] = refl
+ascending_ascends (v ∷ vs) = with_value_ascends v (ascending vs) (ascending_ascends vs)

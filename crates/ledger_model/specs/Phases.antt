@@ -8,7 +8,7 @@ use Rattle.ledger_model.specs.declared.statement.Report.{Report}
 use Rattle.ledger_model.specs.declared.statement.SignedReport.{SignedReport}
 use Rattle.ledger_model.specs.Values.{Value, same_value, ascending}
 use Rattle.ledger_model.specs.Rounds.{round_at, quorum}
-use Rattle.ledger_model.specs.Notes.{Note, is_report, was_read}
+use Rattle.ledger_model.specs.Notes.{Note, is_report, is_ack, was_read}
 use Rattle.ledger_model.specs.Locks.{names, finds}
 use Rattle.ledger_model.specs.Validity.{ascends_within}
 use Rattle.ledger_model.specs.Proper.{cut}
@@ -22,6 +22,11 @@ reports_of signed = map (λ s. s.report) signed
 pub record AreReadIn (config : Config) (log : List Note) (k : ℕ) (reports : List Report) : Type 0 where
   pub same : (test : Report → Bool) → was_read log (round_at 1 k) (is_report test) ≡ list_any test reports
   pub signers : IsTrue (ascends_within 0 config.replicas (map (λ p. p.signer) reports))
+
+-- these are the acknowledgements that were read in phase k, by ascending signer
+pub record AreAcksIn (config : Config) (log : List Note) (k : ℕ) (acks : List Ack) : Type 0 where
+  pub same : (test : Ack → Bool) → was_read log (round_at 3 k) (is_ack test) ≡ list_any test acks
+  pub signers : IsTrue (ascends_within 0 config.replicas (map (λ a. a.signer) acks))
 
 -- how many reports of other replicas than id pass the test
 abbrev pub others_where : ℕ → (Report → Bool) → List Report → ℕ

@@ -1,0 +1,4 @@
+mod Least
+mod Counts
+mod Choosing
+mod Logs

@@ -1,0 +1,12 @@
+//! What the owner of a phase locks, and when it decides (Dwork, Lynch and Stockmeyer 1988, Algorithm 2).
+#![tactic(auto)]
+
+mod choice;
+mod decision;
+pub mod laws;
+
+pub use choice::choose;
+pub use decision::decides;
+
+#[cfg(test)]
+mod tests;
