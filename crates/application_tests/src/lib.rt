@@ -2,4 +2,8 @@
 #![tactic(auto)]
 
 #[cfg(test)]
+mod box_tests;
+#[cfg(test)]
+mod pool_tests;
+#[cfg(test)]
 mod tests;

@@ -27,7 +27,7 @@ const COUNT_OF_THREE: [u8; 32] = [
 ];
 
 /// The batch of these transactions.
-fn batch<R: Abort>(rt: &R, alloc: Global, transactions: &[&[u8]]) -> Result<Batch, Fail> {
+pub fn batch<R: Abort>(rt: &R, alloc: Global, transactions: &[&[u8]]) -> Result<Batch, Fail> {
     let mut made = Vec::new(alloc);
     for bytes in transactions {
         let tx = Tx::new(Vec::from_slice(alloc, bytes)?).expect(rt, "1 to 64 bytes");
@@ -37,7 +37,7 @@ fn batch<R: Abort>(rt: &R, alloc: Global, transactions: &[&[u8]]) -> Result<Batc
 }
 
 /// Runs the next block.
-fn execute<R: Abort, A: Application>(
+pub fn execute<R: Abort, A: Application>(
     rt: &R,
     alloc: Global,
     executor: &mut Executor<A>,
