@@ -15,11 +15,6 @@ is_less Less e = refl
 is_less Equal e = absurd (false≢true e)
 is_less Greater e = absurd (false≢true e)
 
-is_greater : (o : Ordering) → is_eq o ≡ false → is_lt o ≡ false → o ≡ Greater
-is_greater Less e f = absurd (false≢true (sym f))
-is_greater Equal e f = absurd (false≢true (sym e))
-is_greater Greater e f = refl
-
 less : (v w : Value) → is_below v w ≡ true → value_cmp v w ≡ Less
 less v w e = is_less (value_cmp v w) e
 
@@ -29,11 +24,32 @@ below_trans u v w e f = ap is_lt (value_total.trans u v w (less u v e) (less v w
 pub below_itself : (v : Value) → is_below v v ≡ false
 below_itself v = ap is_lt (tied_itself value_total v)
 
+pub below_differs : (v w : Value) → is_below v w ≡ true → same_value v w ≡ false
+below_differs v w below = value_ties v w ∙ ap is_eq (less v w below)
+
+-- where v stands to w
+pub data Side (v w : Value) : Type 0 where
+  Same : same_value v w ≡ true → is_below w v ≡ false → Side v w
+  Below : same_value v w ≡ false → is_below v w ≡ true → is_below w v ≡ false → Side v w
+  Above : same_value v w ≡ false → is_below v w ≡ false → is_below w v ≡ true → Side v w
+
+-- where it stands, by what the comparison answers
+side_of : (v w : Value) (o : Ordering) → value_cmp v w ≡ o → Side v w
+side_of v w Less e =
+    Below (value_ties v w ∙ ap is_eq e) (ap is_lt e) (ap is_lt (value_total.antisymm w v) ∙ ap (λ o. is_lt (ordering_reverse o)) e)
+side_of v w Equal e =
+    Same (value_ties v w ∙ ap is_eq e) (ap is_lt (value_total.antisymm w v) ∙ ap (λ o. is_lt (ordering_reverse o)) e)
+side_of v w Greater e =
+    Above (value_ties v w ∙ ap is_eq e) (ap is_lt e) (ap is_lt (value_total.antisymm w v) ∙ ap (λ o. is_lt (ordering_reverse o)) e)
+
+pub side : (v w : Value) → Side v w
+side v w = side_of v w (value_cmp v w) refl
+
 pub below_other : (v w : Value) → is_below v w ≡ true → is_below w v ≡ false
-below_other v w e = ap is_lt (value_total.antisymm w v ∙ ap ordering_reverse (less v w e))
+below_other v w e = elim (side v w) [ Same a b ↦ b | Below a b c ↦ c | Above a b c ↦ absurd (false≢true (sym b ∙ e)) ]
 
 pub below_or : (v w : Value) → same_value v w ≡ false → is_below v w ≡ false → is_below w v ≡ true
-below_or v w e f = ap is_lt (value_total.antisymm w v ∙ ap ordering_reverse (is_greater (value_cmp v w) (sym (value_ties v w) ∙ e) f))
+below_or v w e f = elim (side v w) [ Same a b ↦ absurd (false≢true (sym e ∙ a)) | Below a b c ↦ absurd (false≢true (sym f ∙ b)) | Above a b c ↦ c ]
 
 -- ---- what `with_value` and `ascending` give ascends
 

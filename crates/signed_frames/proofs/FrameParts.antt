@@ -23,7 +23,7 @@ unfolding frame_bytes
 frame_length s = omega (arith, body_length s)
 
 -- the last bytes of two lists joined
-last_part : (front last : List ℕ) → drop (length (front ++ last) - length last) (front ++ last) ≡ last
+pub last_part : (front last : List ℕ) → drop (length (front ++ last) - length last) (front ++ last) ≡ last
 last_part front last = drop_at front last (length (front ++ last) - length last) (omega (arith, length-append front last))
 
 -- the signature of spelled bytes is the last of them

@@ -4,3 +4,4 @@ pub mod Grammar
 pub mod Fronts
 pub mod Determined
 pub mod Joined
+pub mod LockParts

@@ -1,5 +1,6 @@
-use crate::HEADER_LEN;
+use crate::lending::report_at;
 use crate::parsing::{LENGTH_LEN, message_in, parts_of};
+use crate::{HEADER_LEN, LentReport};
 use bytes::Bytes;
 use ledger_model::Statement;
 use octets::{put_bytes, put_u16, put_u32};
@@ -28,11 +29,13 @@ impl Model for Frame {
 }
 
 impl Frame {
-    ghost use Rattle.std.specs.Prelude.{◌≡◌, ◌≤◌, length, IfOk};
+    ghost use Rattle.std.specs.Prelude.{◌≡◌, ◌≤◌, length, IfOk, slice_get};
+    ghost use Rattle.std.specs.Option.{option_map};
     ghost use Rattle.ledger_model.specs.declared.statement.SignedStatement.{SignedStatement};
     ghost use Rattle.ledger_model.specs.Spelling.{statement_bytes, frame_bytes, IsStatement, SpellsFrame};
     ghost use Rattle.ledger_model.specs.Reading.{reading};
     ghost use Rattle.statements.specs.Reads.{Gives};
+    ghost use Rattle.signed_frames.specs.Lending.{lent_of, proof_of};
 
     /// The frame that the bytes are, all of them. Malformed where they are none, NoMemory where memory ran out.
     pub fn parse(alloc: Global, bytes: Bytes) -> Result<Self, DecodeFault>
@@ -99,6 +102,14 @@ impl Frame {
     {
         let start = self.bytes.len() - self.signature_len;
         &self.bytes.as_slice()[start..]
+    }
+
+    /// The signed report at this place of the lock's proof, from 0 on. None where the frame is no lock's, or the proof has
+    /// not so many. Nothing is copied.
+    pub fn lent_report(&self, place: usize) -> Option<LentReport<'_>>
+        ensures { result ≡ option_map lent_of (slice_get (proof_of self.now.statement) place) }
+    {
+        report_at(self.statement_bytes(), &self.statement, place)
     }
 
     /// The whole frame once more, which copies no byte.

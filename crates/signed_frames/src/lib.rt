@@ -4,12 +4,14 @@
 mod fault;
 mod frame;
 pub mod laws;
+mod lending;
 mod parsing;
 mod reader;
 mod splitting;
 
 pub use fault::FrameFault;
 pub use frame::Frame;
+pub use lending::LentReport;
 pub use reader::FrameReader;
 
 /// The most bytes of a frame's body.

@@ -15,20 +15,20 @@ const ACK: [u8; 15] = [3, 0, 0, 0, 1, 0, 0, 0, 1, 2, 1, 3, 0x61, 0x3d, 0x31];
 // signatures have 2348 bytes here
 const SIGNATURE_LEN: [u8; 2] = [0x09, 0x2c];
 
-// a signature's length and so many bytes
-fn signature_bytes(alloc: Global) -> Result<Vec<u8>, Fail> {
+// a signature's length and so many bytes, all the same
+fn signature_bytes(alloc: Global, byte: u8) -> Result<Vec<u8>, Fail> {
     let mut bytes = Vec::from_slice(alloc, &SIGNATURE_LEN)?;
     for _ in 0..2348 {
-        bytes.push(7)?;
+        bytes.push(byte)?;
     }
     Ok(bytes)
 }
 
-// the frame of a statement's bytes under that signature, with the length that it announces
+// the frame of a statement's bytes under a signature of bytes 7, with the length that it announces
 fn frame_bytes(alloc: Global, len: &[u8], statement: &[u8]) -> Result<Vec<u8>, Fail> {
     let mut bytes = Vec::from_slice(alloc, len)?;
     bytes.extend_from_slice(statement)?;
-    bytes.extend_from_slice(&signature_bytes(alloc)?)?;
+    bytes.extend_from_slice(&signature_bytes(alloc, 7)?)?;
     Ok(bytes)
 }
 
@@ -40,19 +40,42 @@ fn ack_frame(alloc: Global) -> Result<Vec<u8>, Fail> {
     frame_bytes(alloc, &[0, 0, 0x09, 0x3d], &ACK)
 }
 
-// the lock of replica 1 on that batch with the reports of replicas 0, 2 and 3
-fn lock_frame(alloc: Global) -> Result<Vec<u8>, Fail> {
-    let mut lock = Vec::from_slice(
+// the same report of another replica
+fn report_of(alloc: Global, signer: u8) -> Result<Vec<u8>, Fail> {
+    let mut report = Vec::from_slice(alloc, &REPORT[..9])?;
+    report.push(signer)?;
+    report.extend_from_slice(&REPORT[10..])?;
+    Ok(report)
+}
+
+// the lock of replica 1 on that batch, as far as the number of its reports
+fn lock_head(alloc: Global, count: u8) -> Result<Vec<u8>, Fail> {
+    Ok(Vec::from_slice(
         alloc,
-        &[2, 0, 0, 0, 1, 0, 0, 0, 1, 1, 1, 3, 0x61, 0x3d, 0x31, 3],
-    )?;
+        &[2, 0, 0, 0, 1, 0, 0, 0, 1, 1, 1, 3, 0x61, 0x3d, 0x31, count],
+    )?)
+}
+
+// that lock with the reports of replicas 0, 2 and 3, each under a signature of bytes that are its number
+fn lock_frame(alloc: Global) -> Result<Vec<u8>, Fail> {
+    let mut lock = lock_head(alloc, 3)?;
     for signer in [0u8, 2, 3] {
-        lock.extend_from_slice(&REPORT[..9])?;
-        lock.push(signer)?;
-        lock.extend_from_slice(&REPORT[10..])?;
-        lock.extend_from_slice(&signature_bytes(alloc)?)?;
+        lock.extend_from_slice(&report_of(alloc, signer)?)?;
+        lock.extend_from_slice(&signature_bytes(alloc, signer)?)?;
     }
     frame_bytes(alloc, &[0, 0, 0x25, 0x0d], &lock)
+}
+
+// that lock with the reports of replicas 0 to 8, each under a signature of its number and 5
+fn long_lock_frame(alloc: Global) -> Result<Vec<u8>, Fail> {
+    let mut bytes = Vec::from_slice(alloc, &[0, 0, 1, 7])?;
+    bytes.extend_from_slice(&lock_head(alloc, 9)?)?;
+    for signer in 0..9u8 {
+        bytes.extend_from_slice(&report_of(alloc, signer)?)?;
+        bytes.extend_from_slice(&[0, 2, signer, 5])?;
+    }
+    bytes.extend_from_slice(&[0, 2, 6, 7])?;
+    Ok(bytes)
 }
 
 fn parsed(alloc: Global, bytes: &[u8]) -> Result<Frame, Fail> {
@@ -99,25 +122,65 @@ fn parses_an_ack_and_a_lock(rt: HostRuntime) -> Result<(), Fail> {
 }
 
 #[test]
-fn builds_a_report(rt: HostRuntime) -> Result<(), Fail> {
+fn builds_frames(rt: HostRuntime) -> Result<(), Fail> {
     let alloc = rt.alloc();
-    let bytes = report_frame(alloc)?;
-    let statement = decode(alloc, &REPORT)?;
     let signature = vec![in alloc; 7u8; 2348]?;
-    let frame = Frame::build(alloc, statement, &signature)?;
-    assert_eq!(rt; frame.as_bytes(), bytes.as_slice());
+    for bytes in [report_frame(alloc)?, ack_frame(alloc)?, lock_frame(alloc)?] {
+        let parsed = parsed(alloc, &bytes)?;
+        let statement = decode(alloc, parsed.statement_bytes())?;
+        let frame = Frame::build(alloc, statement, &signature)?;
+        assert_eq!(rt; frame.as_bytes(), bytes.as_slice());
+    }
+    Ok(())
+}
+
+#[test]
+fn lends_the_reports_of_a_lock(rt: HostRuntime) -> Result<(), Fail> {
+    let alloc = rt.alloc();
+    let frame = parsed(alloc, &lock_frame(alloc)?)?;
+    for (place, signer) in [(0, 0u8), (1, 2), (2, 3)] {
+        let lent = frame.lent_report(place).ok_or("no report")?;
+        assert_eq!(rt; lent.bytes(), report_of(alloc, signer)?.as_slice());
+        assert_eq!(rt; lent.signature(), vec![in alloc; signer; 2348]?.as_slice());
+    }
+    assert!(rt; frame.lent_report(3).is_none());
+    assert!(rt; frame.lent_report(usize::MAX).is_none());
+    Ok(())
+}
+
+#[test]
+fn lends_the_ninth_report(rt: HostRuntime) -> Result<(), Fail> {
+    let alloc = rt.alloc();
+    let frame = parsed(alloc, &long_lock_frame(alloc)?)?;
+    let lent = frame.lent_report(8).ok_or("no report")?;
+    assert_eq!(rt; lent.bytes(), report_of(alloc, 8)?.as_slice());
+    assert_eq!(rt; lent.signature(), [8u8, 5].as_slice());
+    assert!(rt; frame.lent_report(9).is_none());
+    Ok(())
+}
+
+#[test]
+fn lends_nothing_of_other_frames(rt: HostRuntime) -> Result<(), Fail> {
+    let alloc = rt.alloc();
+    assert!(rt;
+        parsed(alloc, &report_frame(alloc)?)?
+            .lent_report(0)
+            .is_none()
+    );
+    assert!(rt; parsed(alloc, &ack_frame(alloc)?)?.lent_report(0).is_none());
     Ok(())
 }
 
 #[test]
 fn refuses_beginnings_and_more(rt: HostRuntime) -> Result<(), Fail> {
     let alloc = rt.alloc();
-    let mut bytes = report_frame(alloc)?;
-    for len in 0..bytes.len() {
-        assert!(rt; is_malformed(alloc, &bytes[..len])?);
+    for mut bytes in [report_frame(alloc)?, lock_frame(alloc)?] {
+        for len in 0..bytes.len() {
+            assert!(rt; is_malformed(alloc, &bytes[..len])?);
+        }
+        bytes.push(0)?;
+        assert!(rt; is_malformed(alloc, &bytes)?);
     }
-    bytes.push(0)?;
-    assert!(rt; is_malformed(alloc, &bytes)?);
     Ok(())
 }
 

@@ -44,7 +44,8 @@ fn list_len(list: &Batches) -> usize
     len
 }
 
-fn report_len(report: &Report) -> usize
+/// How many bytes the report's spelling has.
+pub fn report_len(report: &Report) -> usize
     requires { IsReport report.now }
     ensures len { result ≡ length (report_bytes report.now) }
     ensures bound { result ≤ 9382 }
@@ -60,7 +61,8 @@ fn signed_len(signed: &SignedReport) -> usize
     report_len(&signed.report) + 2 + signed.signature.as_bytes().len()
 }
 
-fn reports_len(reports: &[SignedReport]) -> usize
+/// How many bytes the spellings of at most 12 signed reports have together.
+pub fn reports_len(reports: &[SignedReport]) -> usize
     requires count { length reports.now ≤ 12 }
     requires each { AllByRecursion IsSigned reports.now }
     ensures len { result ≡ length (flat_map signed_bytes reports.now) }

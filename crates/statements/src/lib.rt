@@ -17,7 +17,7 @@ pub use decoding::{decode, take_statement};
 pub use encoding::encode;
 pub use fault::DecodeFault;
 pub use fields::{MAX_SIGNATURE_LEN, take_signature_bytes};
-pub use lengths::encoded_len;
+pub use lengths::{encoded_len, report_len, reports_len};
 pub use parts::{height, phase, signer};
 
 #[cfg(test)]

@@ -134,6 +134,20 @@ fn counts_bytes(rt: HostRuntime) -> Result<(), Fail> {
 }
 
 #[test]
+fn counts_bytes_of_reports(rt: HostRuntime) -> Result<(), Fail> {
+    let alloc = rt.alloc();
+    let Statement::Report(report) = decode(alloc, &ALL_REPORT)? else {
+        return Err("it is a report")?;
+    };
+    assert_eq!(rt; report_len(&report), 21);
+    let Statement::Lock(lock) = decode(alloc, &lock_bytes(alloc, 3, &[0, 1, 2])?)? else {
+        return Err("it is a lock")?;
+    };
+    assert_eq!(rt; reports_len(lock.proof.as_slice()), 81);
+    Ok(())
+}
+
+#[test]
 fn reads_an_ack(rt: HostRuntime) -> Result<(), Fail> {
     let statement = decode(rt.alloc(), &ACK)?;
     assert_eq!(rt; signer(&statement).number(), 2);

@@ -1,0 +1,3 @@
+pub mod LockFrames
+pub mod Faults
+pub mod Tables

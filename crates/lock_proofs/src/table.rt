@@ -1,0 +1,117 @@
+ghost use Rattle.std.specs.Prelude.{◌≡◌, ◌≤◌, false, not, length, filter, take_while, slice_get, vec_capacity};
+ghost use Rattle.std.specs.Option.{option_map_or};
+ghost use Rattle.ledger_model.specs.Values.{same_value, is_below};
+ghost use Rattle.ledger_model.specs.LockTables.{with_lock, ends_hold};
+
+use crate::{TableFull, ValidLock};
+use ledger_model::{Batch, Lock, Phase};
+use std::alloc::{AllocError, Global};
+use std::marker::Model;
+
+/// The locks that a replica holds at one height: at most one a value, and at most four, by ascending value.
+#[derive(Debug, Drop)]
+pub struct LockTable {
+    locks: Vec<ValidLock>,
+}
+
+impl Model for LockTable {
+    ghost use Rattle.std.specs.Prelude.{◌≤◌, List, vec_capacity};
+    ghost use Rattle.ledger_model.specs.LockTables.{SignedLock};
+    ghost use Rattle.lock_proofs.specs.Tables.{IsTable};
+
+    ghost Value = { List SignedLock };
+
+    ghost view = { λ t. t.locks.items };
+
+    ghost invariant = { λ t. IsTable t.locks.items × (4 ≤ vec_capacity t.locks) };
+}
+
+impl LockTable {
+    ghost use Rattle.std.specs.Prelude.{◌≡◌, ◌≤◌, [], length, is_err, IfOk, OnOk, OnErr};
+    ghost use Rattle.ledger_model.specs.LockTables.{with_lock, has_four_others, released};
+    ghost use Rattle.lock_proofs.specs.Tables.{IsTable};
+
+    /// The most locks that are held at once.
+    pub const MAX_LEN: usize = 4;
+
+    /// A table with no locks, and with room for all that it can hold.
+    pub fn new(alloc: Global) -> Result<Self, AllocError>
+        ensures { IfOk result (λ table. table ≡ []) }
+    {
+        Ok(LockTable {
+            locks: Vec::with_capacity(alloc, Self::MAX_LEN)?,
+        })
+    }
+
+    /// Takes the lock, in place of one on the same value. It takes no memory.
+    pub fn take(&mut self, lock: ValidLock) -> Result<(), TableFull>
+        ensures full { is_err result ≡ has_four_others lock.lock.value self.old }
+        ensures taken { OnOk result (self.new ≡ with_lock lock self.old) }
+        ensures unchanged { OnErr result (self.new ≡ self.old) }
+    {
+        if number_of_others(&self.locks, lock.value()) >= Self::MAX_LEN {
+            return Err(TableFull);
+        }
+        put(&mut self.locks, lock);
+        Ok(())
+    }
+
+    /// A valid lock was read in the lock-release round of phase `now`: locks on other values are held no longer, if they
+    /// are of no later phase than that lock, and that is of no later phase than `now`. It takes no memory.
+    pub fn release(&mut self, read: &ValidLock, now: Phase)
+        ensures { self.new ≡ released now read.now.lock self.old }
+    {
+        let read = read.lock();
+        self.locks.retain(|held| !ends_hold(now, read, held.lock()));
+    }
+
+    /// The locks, by ascending value, each with the frame that was checked.
+    pub fn held(&self) -> &[ValidLock]
+        ensures locks { result.now ≡ self.now }
+        ensures table { IsTable self.now }
+    {
+        self.locks.as_slice()
+    }
+}
+
+/// Puts the lock in place of one on the same value, or else where the order has it. There is room for it.
+fn put(locks: &mut Vec<ValidLock>, lock: ValidLock)
+    requires { length (with_lock lock locks.old.items) ≤ vec_capacity locks.old }
+    ensures items { locks.new.items ≡ with_lock lock locks.old.items }
+    ensures capacity { vec_capacity locks.new ≡ vec_capacity locks.old }
+{
+    let place = place_for(locks, lock.value());
+    if is_held_at(locks, place, lock.value()) {
+        locks[place] = lock;
+    } else if locks.insert(place, lock).is_err() {
+        unreachable!()
+    }
+}
+
+/// How many locks are on other values.
+fn number_of_others(locks: &[ValidLock], value: &Batch) -> usize
+    ensures { result ≡ length (filter (λ m. not (same_value value.now m.lock.value)) locks.now) }
+{
+    locks.iter().filter(|held| value != held.value()).count()
+}
+
+/// How many locks on lower values stand in front: the place of one on this value.
+fn place_for(locks: &[ValidLock], value: &Batch) -> usize
+    ensures { result ≡ length (take_while (λ m. is_below m.lock.value value.now) locks.now) }
+{
+    locks.iter().take_while(|held| held.value() < value).count()
+}
+
+/// Whether the lock at this place is on the value.
+fn is_held_at(locks: &[ValidLock], place: usize, value: &Batch) -> bool
+    ensures { result ≡ option_map_or (λ m. same_value value.now m.lock.value) (slice_get locks.now place) false }
+{
+    locks.get(place).is_some_and(|held| value == held.value())
+}
+
+/// Whether a lock that was read in the lock-release round of phase `now` ends the hold of another.
+fn ends_hold(now: Phase, read: &Lock, held: &Lock) -> bool
+    ensures { result ≡ ends_hold now read.now held.now }
+{
+    held.value != read.value && held.phase <= read.phase && read.phase <= now
+}

@@ -1,0 +1,111 @@
+ghost use Rattle.std.specs.Prelude.{◌≡◌, IfOk, IsOk};
+ghost use Rattle.ledger_model.specs.Validity.{ValidLock as IsValid};
+ghost use Rattle.ledger_model.specs.Rules.{first_of};
+ghost use Rattle.ledger_model.specs.LockTables.{as_statement};
+ghost use Rattle.lock_proofs.specs.LockFrames.{IsLockFrame, lock_in};
+ghost use Rattle.lock_proofs.specs.Faults.{faults, IsBacked, IsSigned, without_lock};
+
+use crate::LockFault;
+use crate::checks::{is_of_owner, is_quorate, is_supporting};
+use crate::signatures::{are_signed, is_signed};
+use key_ring::KeyRing;
+use ledger_model::{Batch, Config, Lock, Phase, Statement};
+use signed_frames::Frame;
+use std::marker::Model;
+
+/// A lock whose owner's signature and whose proof were checked, with its frame. Contracts see the lock and its signature.
+#[derive(Debug, Drop)]
+pub struct ValidLock {
+    frame: Frame,
+}
+
+impl Model for ValidLock {
+    ghost use Rattle.ledger_model.specs.LockTables.{SignedLock};
+    ghost use Rattle.lock_proofs.specs.LockFrames.{IsLockFrame, lock_in};
+
+    ghost Value = { SignedLock };
+
+    ghost view = { λ v. lock_in v.frame };
+
+    ghost invariant = { λ v. IsLockFrame v.frame };
+}
+
+impl ValidLock {
+    ghost use Rattle.std.specs.Prelude.{◌≡◌};
+    ghost use Rattle.ledger_model.specs.LockTables.{as_statement};
+
+    /// The lock.
+    pub fn lock(&self) -> &Lock
+        ensures { result.now ≡ self.now.lock }
+    {
+        match self.frame.statement() {
+            Statement::Lock(lock) => lock,
+            Statement::Report(_) | Statement::Ack(_) => unreachable!(),
+        }
+    }
+
+    /// The value that is locked.
+    pub fn value(&self) -> &Batch
+        ensures { result.now ≡ self.now.lock.value }
+    {
+        &self.lock().value
+    }
+
+    /// The phase that it is of.
+    pub fn phase(&self) -> Phase
+        ensures { result ≡ self.now.lock.phase }
+    {
+        self.lock().phase
+    }
+
+    /// Its frame, as it was checked.
+    pub fn frame(&self) -> &Frame
+        ensures { result.now ≡ as_statement self.now }
+    {
+        &self.frame
+    }
+}
+
+/// The first fault that fits the lock of a frame, if one does.
+fn examine(config: &Config, ring: &KeyRing, frame: &Frame) -> Result<(), LockFault>
+    requires { IsLockFrame frame.now }
+    ensures { result ≡ first_of (faults config.now ring.now (lock_in frame.now)) }
+{
+    let Statement::Lock(lock) = frame.statement() else {
+        unreachable!()
+    };
+    if !is_of_owner(config, lock) {
+        return Err(LockFault::NotOwner);
+    }
+    if !is_signed(ring, frame) {
+        return Err(LockFault::BadSignature);
+    }
+    if !is_quorate(config, lock) || !are_signed(ring, frame, lock) {
+        return Err(LockFault::BadProof);
+    }
+    if !is_supporting(lock) {
+        return Err(LockFault::NotSupporting);
+    }
+    Ok(())
+}
+
+/// Checks a lock's frame, which is kept in what it answers. It takes no memory.
+///
+/// The faults are tested in the order of [`LockFault`]. The signature of each report in the proof is one over the report's
+/// bytes as they stand in the frame.
+pub fn check_lock(config: &Config, ring: &KeyRing, frame: Frame) -> Result<ValidLock, LockFault>
+    requires { IsLockFrame frame }
+    // The first fault that fits is told, and where none fits, the lock of the frame.
+    ensures fault { without_lock result ≡ first_of (faults config.now ring.now (lock_in frame)) }
+    ensures lock { IfOk result (λ lock. as_statement lock ≡ frame) }
+
+    // A lock that is answered is valid.
+    ensures valid { IfOk result (λ lock. IsValid (IsBacked ring.now) config.now lock.lock) }
+
+    // A valid lock whose own signatures verify is answered.
+    ensures only { IsSigned ring.now (lock_in frame) → IsValid (IsBacked ring.now) config.now (lock_in frame).lock
+        → IsOk result }
+{
+    examine(config, ring, &frame)?;
+    Ok(ValidLock { frame })
+}

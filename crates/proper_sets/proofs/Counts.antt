@@ -1,0 +1,112 @@
+-- What is counted of the reports with their signatures, and of those without.
+use Rattle.std.proofs.Common.{◌≡◌, ℕ, suc, ◌+◌, ◌<◌, Bool, true, false, not, ◌&&◌, List, [], ◌∷◌, ◌++◌, length, take, get_or, refl, sym, ap, ◌∙◌, cond, arith, append-nil}
+use Rattle.std.specs.Prelude.{map, filter, nat_eq, Option, Some, None, ◌==◌}
+use Rattle.std.specs.Int.{from_bool}
+use Rattle.std.specs.List.{list_all, flat_map, cons_option}
+use Rattle.std.proofs.lemmas.Bool.{ne_eqb}
+use Rattle.std.proofs.lemmas.List.{take_more, map-append, length-map}
+use Rattle.std.proofs.lemmas.List.Elements.{filter-append}
+use Rattle.std.proofs.lemmas.Grind.{flat_map-append}
+use Rattle.ledger_model.specs.declared.statement.Report.{Report}
+use Rattle.ledger_model.specs.declared.statement.SignedReport.{SignedReport}
+use Rattle.ledger_model.specs.Values.{Value}
+use Rattle.ledger_model.specs.Tallies.{Places, all_read, count_where}
+use Rattle.ledger_model.specs.Phases.{reports_of, others_where, initials}
+use Rattle.tally.proofs.Readings.{all_read_more}
+
+-- ---- counts
+
+pub count_where-map : {X Y : Type 0} (f : X → Y) (test : Y → Bool) (xs : List X) → count_where test (map f xs) ≡ count_where (λ x. test (f x)) xs
+count_where-map f test [] = refl
+count_where-map f test (x ∷ xs) =
+    let rest = count_where-map f test xs in
+    elim (test (f x)) as (λ b. length (cond b (f x ∷ filter test (map f xs)) (filter test (map f xs))) ≡ length (cond b (x ∷ filter (λ y. test (f y)) xs) (filter (λ y. test (f y)) xs))) [
+      | true ↦ ap suc rest
+      | false ↦ rest
+    ]
+
+count_where-filter : {X : Type 0} (kept test : X → Bool) (xs : List X) → count_where test (filter kept xs) ≡ count_where (λ x. kept x && test x) xs
+count_where-filter kept test [] = refl
+count_where-filter kept test (x ∷ xs) =
+    let rest = count_where-filter kept test xs in
+    elim (kept x) as (λ b. length (filter test (cond b (x ∷ filter kept xs) (filter kept xs))) ≡ length (cond (b && test x) (x ∷ filter (λ y. kept y && test y) xs) (filter (λ y. kept y && test y) xs))) [
+      | true ↦ elim (test x) as (λ t. length (cond t (x ∷ filter test (filter kept xs)) (filter test (filter kept xs))) ≡ length (cond t (x ∷ filter (λ y. kept y && test y) xs) (filter (λ y. kept y && test y) xs))) [
+        | true ↦ ap suc rest
+        | false ↦ rest
+      ]
+      | false ↦ rest
+    ]
+
+-- all pass where none fails
+all_by_count : {X : Type 0} (test : X → Bool) (xs : List X) → list_all test xs ≡ nat_eq (count_where (λ x. not (test x)) xs) 0
+all_by_count test [] = refl
+all_by_count test (x ∷ xs) =
+    elim (test x) as (λ b. (b && list_all test xs) ≡ nat_eq (length (cond (not b) (x ∷ filter (λ y. not (test y)) xs) (filter (λ y. not (test y)) xs))) 0) [
+      | true ↦ all_by_count test xs
+      | false ↦ sym (ne_eqb (suc (count_where (λ y. not (test y)) xs)) 0 (λ e. omega arith))
+    ]
+
+pub others_counted : (own : ℕ) (test : Report → Bool) (places : Places SignedReport)
+    → others_where own test (reports_of (all_read places)) ≡ count_where (λ s. not (s.report.signer == own) && test s.report) (all_read places)
+others_counted own test places = count_where-map (λ s. s.report) (λ p. not (p.signer == own) && test p) (all_read places)
+
+-- ---- initial values
+
+-- how many of the initial values pass a test: the own one may, and those of others
+pub initials_counted : (own : ℕ) (initial : Value) (test : Value → Bool) (places : Places SignedReport)
+    → count_where test (initials own initial (reports_of (all_read places)))
+    ≡ from_bool (test initial) + count_where (λ s. not (s.report.signer == own) && test s.report.initial) (all_read places)
+initials_counted own initial test places =
+    let others : count_where test (map (λ p. p.initial) (filter (λ p. not (p.signer == own)) (reports_of (all_read places)))) ≡ count_where (λ s. not (s.report.signer == own) && test s.report.initial) (all_read places)
+    = count_where-map (λ p. p.initial) test (filter (λ p. not (p.signer == own)) (reports_of (all_read places)))
+    ∙ count_where-filter (λ p. not (p.signer == own)) (λ p. test p.initial) (reports_of (all_read places))
+    ∙ others_counted own (λ p. test p.initial) places in
+    elim (test initial) as (λ b. length (cond b (initial ∷ filter test (map (λ p. p.initial) (filter (λ p. not (p.signer == own)) (reports_of (all_read places))))) (filter test (map (λ p. p.initial) (filter (λ p. not (p.signer == own)) (reports_of (all_read places)))))) ≡ from_bool b + count_where (λ s. not (s.report.signer == own) && test s.report.initial) (all_read places)) [
+      | true ↦ omega (arith, others)
+      | false ↦ omega (arith, others)
+    ]
+
+pub initials_known : (own : ℕ) (initial : Value) (places : Places SignedReport)
+    → length (initials own initial (reports_of (all_read places))) ≡ count_where (λ s. not (s.report.signer == own)) (all_read places) + 1
+initials_known own initial places =
+    let others = length-map (filter (λ p. not (p.signer == own)) (reports_of (all_read places))) (λ p. p.initial) in
+    let counted = count_where-map (λ s. s.report) (λ p. not (p.signer == own)) (all_read places) in
+    omega (arith, others, counted)
+
+-- every other's initial value passes where none fails
+pub initials_pass : (own : ℕ) (initial : Value) (test : Value → Bool) (places : Places SignedReport)
+    → list_all test (initials own initial (reports_of (all_read places)))
+    ≡ (test initial && nat_eq (count_where (λ s. not (s.report.signer == own) && not (test s.report.initial)) (all_read places)) 0)
+initials_pass own initial test places =
+    ap (λ b. test initial && b)
+    (all_by_count test (map (λ p. p.initial) (filter (λ p. not (p.signer == own)) (reports_of (all_read places))))
+    ∙ ap (λ n. nat_eq n 0)
+    (count_where-map (λ p. p.initial) (λ v. not (test v)) (filter (λ p. not (p.signer == own)) (reports_of (all_read places)))
+    ∙ count_where-filter (λ p. not (p.signer == own)) (λ p. not (test p.initial)) (reports_of (all_read places))
+    ∙ others_counted own (λ p. not (test p.initial)) places))
+
+-- ---- listed values
+
+-- the values that the report at a place lists
+abbrev pub listed_at : Option SignedReport → List Value
+listed_at None = []
+listed_at (Some s) = s.report.proper
+
+pub listed_more : (test : Value → Bool) (places : Places SignedReport) (i : ℕ) (place : Option SignedReport) → i < length places → place ≡ get_or places i place
+    → filter test (flat_map (λ p. p.proper) (reports_of (all_read (take (i + 1) places))))
+    ≡ filter test (flat_map (λ p. p.proper) (reports_of (all_read (take i places)))) ++ filter test (listed_at place)
+listed_more test places i place h is =
+    ap (λ signed. filter test (flat_map (λ p. p.proper) (reports_of signed))) (all_read_more places i place h is)
+    ∙ ap (λ reports. filter test (flat_map (λ p. p.proper) reports)) (map-append (λ s. s.report) (all_read (take i places)) (cons_option place []))
+    ∙ ap (filter test) (flat_map-append (λ p. p.proper) (reports_of (all_read (take i places))) (reports_of (cons_option place [])))
+    ∙ filter-append test (flat_map (λ p. p.proper) (reports_of (all_read (take i places)))) (flat_map (λ p. p.proper) (reports_of (cons_option place [])))
+    ∙ ap (λ vs. filter test (flat_map (λ p. p.proper) (reports_of (all_read (take i places)))) ++ filter test vs) (alone place)
+  where
+    alone : (place : Option SignedReport) → flat_map (λ p. p.proper) (reports_of (cons_option place [])) ≡ listed_at place
+    alone None = refl
+    alone (Some s) = append-nil s.report.proper
+
+pub filter_more : {X : Type 0} (test : X → Bool) (xs : List X) (i : ℕ) (x : X) → i < length xs → x ≡ get_or xs i x
+    → filter test (take (i + 1) xs) ≡ filter test (take i xs) ++ filter test (x ∷ [])
+filter_more test xs i x h is =
+    ap (filter test) (take_more xs i x h) ∙ filter-append test (take i xs) (get_or xs i x ∷ []) ∙ ap (λ y. filter test (take i xs) ++ filter test (y ∷ [])) (sym is)

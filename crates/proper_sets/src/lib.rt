@@ -1,0 +1,14 @@
+//! What is proper for a replica at one height: the values that it may report.
+//!
+//! A [`Proper`] begins with the replica's own initial value alone, and takes in the reports of one phase at a time (Dwork, Lynch
+//! and Stockmeyer 1988, Algorithm 2).
+#![tactic(auto)]
+
+mod ascending;
+mod proper;
+mod reported;
+
+pub use proper::Proper;
+
+#[cfg(test)]
+mod tests;

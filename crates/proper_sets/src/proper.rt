@@ -1,0 +1,106 @@
+use crate::ascending::Ascending;
+use crate::reported::PhaseReports;
+use ledger_model::{Batch, Config, ReplicaId, SignedReport};
+use std::alloc::{AllocError, Global};
+use std::marker::Model;
+use tally::Tally;
+
+/// What is proper for a replica at one height: its own initial value, and what the reports that it read make proper.
+///
+/// Contracts see the cluster's size and a `ProperSet`.
+#[derive(Drop)]
+pub struct Proper {
+    config: Config,
+    own: Batch,
+    all: bool,
+    explicit: Ascending,
+}
+
+impl Model for Proper {
+    ghost use Rattle.proper_sets.specs.Known.{Known, IsSmall};
+
+    ghost Value = { Known };
+
+    ghost view = { λ p. record { config = p.config; set = record { own = p.own; all = p.all; explicit = p.explicit } } };
+
+    ghost invariant = { λ p. IsSmall p.own p.explicit };
+}
+
+impl Proper {
+    ghost use Rattle.std.specs.Prelude.{◌≡◌, ◌≤◌, length, IfOk, OnOk, OnErr, IsTrue};
+    ghost use Rattle.std.specs.List.{list_any};
+    ghost use Rattle.ledger_model.specs.Values.{same_value};
+    ghost use Rattle.ledger_model.specs.Spelling.{are_ascending};
+    ghost use Rattle.ledger_model.specs.Tallies.{all_read};
+    ghost use Rattle.ledger_model.specs.Phases.{only_own, is_proper, absorbed, reports_of};
+
+    /// The most values that are proper by name.
+    pub const MAX_EXPLICIT: usize = 4;
+
+    /// What is proper before the first phase: the own initial value alone.
+    pub fn new(alloc: Global, config: &Config, initial: &Batch) -> Result<Self, AllocError>
+        ensures config { IfOk result (λ proper. proper.config ≡ config.now) }
+        ensures set { IfOk result (λ proper. proper.set ≡ only_own initial.now) }
+    {
+        let mut explicit = Ascending::new(alloc);
+        explicit.put(initial)?;
+        Ok(Proper {
+            config: *config,
+            own: initial.copy()?,
+            all: false,
+            explicit,
+        })
+    }
+
+    /// Takes in the reports that were read in one phase. `own` is the number of this replica: its report is none of the others'.
+    ///
+    /// Where memory runs out, nothing changes.
+    pub fn absorb(
+        &mut self,
+        own: ReplicaId,
+        reports: &Tally<SignedReport>,
+    ) -> Result<(), AllocError>
+        ensures ok { OnOk result (self.new.set ≡ absorbed self.old.config own (reports_of (all_read reports.now)) self.old.set) }
+        ensures config { self.new.config ≡ self.old.config }
+        ensures err { OnErr result (self.new.set ≡ self.old.set) }
+    {
+        let phase = PhaseReports {
+            config: &self.config,
+            own,
+            initial: &self.own,
+            reports,
+        };
+        let mut explicit = self.explicit.copy()?;
+        phase.put_named(&mut explicit)?;
+        explicit.keep_least_others(&self.own, Self::MAX_EXPLICIT - 1);
+        explicit.put(&self.own)?;
+        let all = self.all || phase.make_all_proper();
+        self.all = all;
+        self.explicit = explicit;
+        Ok(())
+    }
+
+    /// Whether the value is proper. It takes no memory.
+    pub fn has(&self, value: &Batch) -> bool
+        ensures { result ≡ is_proper self.now.set value.now }
+    {
+        self.all || self.explicit.has(value)
+    }
+
+    /// Whether every value is proper.
+    pub fn all(&self) -> bool
+        ensures { result ≡ self.now.set.all }
+    {
+        self.all
+    }
+
+    /// The values that are proper by name, ascending: the own one and at most three others.
+    pub fn explicit(&self) -> &[Batch]
+        ensures values { result.now ≡ self.now.set.explicit }
+        ensures few { length self.now.set.explicit ≤ 4 }
+        ensures own { IsTrue (list_any (same_value self.now.set.own) self.now.set.explicit) }
+        ensures ascend { IsTrue (are_ascending self.now.set.explicit) }
+    {
+        self.explicit.as_slice()
+    }
+}
