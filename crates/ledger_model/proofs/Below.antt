@@ -1,10 +1,11 @@
 -- The order of values is strict and total, and what puts values in order.
-use Rattle.std.proofs.Common.{◌≡◌, true, false, inl, inr, List, [], ◌∷◌, refl, sym, ap, ◌∙◌}
+use Rattle.std.proofs.Common.{◌≡◌, true, false, inl, inr, List, [], ◌∷◌, refl, sym, ap, subst, ◌∙◌}
 use Rattle.std.specs.declared.cmp.Ordering.{Ordering}
 use Rattle.std.specs.declared.cmp.Ordering.TheVariants.{Less, Equal, Greater}
 use Rattle.std.specs.Ordering.{is_lt, is_eq, ordering_reverse}
 use Rattle.std.specs.Cmp.{tied_itself}
 use Rattle.std.proofs.lemmas.Bool.{false≢true, and_parts, and_from, cases_Bool}
+use Rattle.ledger_model.specs.Notes.{Has}
 use Rattle.ledger_model.specs.Values.{Value, same_value, is_below, with_value, ascending}
 use Rattle.ledger_model.specs.Order.{value_cmp}
 use Rattle.ledger_model.specs.OrderLaws.{value_total, value_ties}
@@ -83,3 +84,34 @@ with_value_ascends v (w ∷ ws) h =
 pub ascending_ascends : (vs : List Value) → are_ascending (ascending vs) ≡ true
 ascending_ascends [] = refl
 ascending_ascends (v ∷ vs) = with_value_ascends v (ascending vs) (ascending_ascends vs)
+
+-- ---- which values an ascending list has
+
+pub above_all : (v : Value) (vs : List Value) → are_ascending (v ∷ vs) ≡ true → (w : Value) → Has vs w → is_below v w ≡ true
+above_all v [] a w h = absurd h
+above_all v (x ∷ xs) a w (inl e) = subst (λ y. is_below v y ≡ true) e ((and_parts (is_below v x) (are_ascending (x ∷ xs)) a).0)
+above_all v (x ∷ xs) a w (inr h) =
+    let parts = and_parts (is_below v x) (are_ascending (x ∷ xs)) a in
+    below_trans v x w parts.0 (above_all x xs parts.1 w h)
+
+not_below_itself : (v : Value) → is_below v v ≡ true → ⊥
+not_below_itself v a = false≢true (sym (below_itself v) ∙ a)
+
+-- lists that ascend and have the same values are one
+pub one_list : (vs ws : List Value) → are_ascending vs ≡ true → are_ascending ws ≡ true
+    → ((x : Value) → Has vs x → Has ws x) → ((x : Value) → Has ws x → Has vs x) → vs ≡ ws
+one_list [] [] a b f g = refl
+one_list [] (w ∷ ws) a b f g = absurd (g w (inl refl))
+one_list (v ∷ vs) [] a b f g = absurd (f v (inl refl))
+one_list (v ∷ vs) (w ∷ ws) a b f g =
+    let first : v ≡ w = elim (f v (inl refl)) [
+      | inl e ↦ sym e
+      | inr h ↦ elim (g w (inl refl)) [
+        | inl e ↦ e
+        | inr k ↦ absurd (not_below_itself v (below_trans v w v (above_all v vs a w k) (above_all w ws b v h)))
+      ]
+    ] in
+    let rest : vs ≡ ws = one_list vs ws (tail_ascends v vs a) (tail_ascends w ws b)
+    (λ x h. elim (f x (inr h)) [ inl e ↦ absurd (not_below_itself v (subst (λ y. is_below v y ≡ true) (sym e ∙ sym first) (above_all v vs a x h))) | inr k ↦ k ])
+    (λ x h. elim (g x (inr h)) [ inl e ↦ absurd (not_below_itself w (subst (λ y. is_below w y ≡ true) (sym e ∙ first) (above_all w ws b x h))) | inr k ↦ k ]) in
+    cc

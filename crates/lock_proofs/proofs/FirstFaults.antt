@@ -1,22 +1,15 @@
 -- Where no fault fits, the lock is valid, and where it is valid by its own signatures, none fits.
-use Rattle.std.proofs.Common.{◌≡◌, Bool, true, false, List, [], ◌∷◌, refl, inl, inr}
+use Rattle.std.proofs.Common.{◌≡◌, Bool, true, false, List, [], ◌∷◌, refl}
 use Rattle.std.specs.Prelude.{nat_eq, not, ◌&&◌, Ok}
-use Rattle.std.specs.List.{list_all}
 use Rattle.std.proofs.lemmas.Bool.{and_parts, and_from, eqb-true, eq-eqb}
 use Rattle.ledger_model.specs.declared.config.Config.{Config}
 use Rattle.ledger_model.specs.Rounds.{owner_of}
-use Rattle.ledger_model.specs.Notes.{Has}
 use Rattle.ledger_model.specs.Rules.{Ring, first_of, is_signed, with_signature}
 use Rattle.ledger_model.specs.Validity.{ValidLock, is_quorate, is_supporting}
 use Rattle.ledger_model.specs.LockTables.{SignedLock, as_statement}
-use Rattle.ledger_model.proofs.Lists.{all_has}
+use Rattle.ledger_model.proofs.Lists.{all_has, all_from}
 use Rattle.lock_proofs.specs.declared.fault.LockFault.TheVariants as fault
 use Rattle.lock_proofs.specs.Faults.{faults, are_signed, IsBacked, IsSigned}
-
--- a test of which each element passes
-all_from : {X : Type 0} (p : X → Bool) → (xs : List X) → ((x : X) → Has xs x → p x ≡ true) → list_all p xs ≡ true
-all_from p [] h = refl
-all_from p (x ∷ xs) h = and_from (p x) (list_all p xs) (h x (inl refl)) (all_from p xs (λ y has. h y (inr has)))
 
 -- where no cause fits, the first doesn't, nor one of the others
 passed : {C : Type 0} (b : Bool) (c : C) (cs : List (Bool × C)) → first_of ((not b, c) ∷ cs) ≡ Ok tt → (b ≡ true) × (first_of cs ≡ Ok tt)

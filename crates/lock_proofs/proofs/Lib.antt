@@ -1,2 +1,9 @@
 pub mod FirstFaults
 pub mod TableLaws
+pub mod ValueLists
+pub mod HeldLocks
+pub mod GrowingLogs
+pub mod TakenLocks
+pub mod ReleasedLocks
+pub mod KeptLocks
+pub mod TimelyLogs

@@ -1,6 +1,6 @@
 -- A table stays one, and where a lock stands in it.
 use Rattle.std.proofs.Common.{◌≡◌, ℕ, suc, ◌+◌, ◌<◌, ◌≤◌, Bool, true, false, List, [], ◌∷◌, length, refl, sym, ap, subst, ◌∙◌, cond, arith}
-use Rattle.std.specs.Prelude.{not, ◌&&◌, filter, take_while, slice_get, slice_set}
+use Rattle.std.specs.Prelude.{map, not, ◌&&◌, filter, take_while, slice_get, slice_set}
 use Rattle.std.specs.List.{insert, prefix_len}
 use Rattle.std.specs.Option.{option_map_or}
 use Rattle.std.proofs.lemmas.Bool.{and_parts, and_from, leb-false, lt-leb, false≢true, true≢false}
@@ -12,22 +12,17 @@ use Rattle.ledger_model.specs.Spelling.{are_ascending}
 use Rattle.ledger_model.specs.LockTables.{SignedLock, with_lock, has_four_others}
 use Rattle.ledger_model.proofs.Lists.{same_value-equal}
 use Rattle.lock_proofs.specs.Tables.{IsTable, values_of}
-use Rattle.ledger_model.proofs.Below.{Same, Below, Above, side, below_trans, below_differs}
+use Rattle.ledger_model.proofs.Below.{Same, Below, Above, side, below_trans, below_differs, tail_ascends}
 
 -- ---- the order
 
--- what is left without the first
-ascends_on : (w : Value) (t : List SignedLock) → are_ascending (w ∷ values_of t) ≡ true → are_ascending (values_of t) ≡ true
-ascends_on w [] h = refl
-ascends_on w (m ∷ ms) h = (and_parts (is_below w m.lock.value) (are_ascending (values_of (m ∷ ms))) h).1
-
 -- a lower value in the first place
-ascends_from_lower : (w x : Value) (t : List SignedLock) → is_below w x ≡ true → are_ascending (x ∷ values_of t) ≡ true → are_ascending (w ∷ values_of t) ≡ true
-ascends_from_lower w x [] below h = refl
-ascends_from_lower w x (m ∷ ms) below h =
-    let y = m.lock.value in
-    let parts = and_parts (is_below x y) (are_ascending (y ∷ values_of ms)) h in
-    and_from (is_below w y) (are_ascending (y ∷ values_of ms)) (below_trans w x y below (parts.0)) (parts.1)
+ascends_from_lower : {X : Type 0} (key : X → Value) (w x : Value) (t : List X) → is_below w x ≡ true → are_ascending (x ∷ map key t) ≡ true → are_ascending (w ∷ map key t) ≡ true
+ascends_from_lower key w x [] below h = refl
+ascends_from_lower key w x (m ∷ ms) below h =
+    let y = key m in
+    let parts = and_parts (is_below x y) (are_ascending (y ∷ map key ms)) h in
+    and_from (is_below w y) (are_ascending (y ∷ map key ms)) (below_trans w x y below (parts.0)) (parts.1)
 
 -- behind a lower value a lock keeps its place in the order
 ascends_behind : (w : Value) (s : SignedLock) (t : List SignedLock) → is_below w s.lock.value ≡ true
@@ -62,22 +57,22 @@ with_lock-ascends s (m ∷ ms) h =
     ]
 
 -- what stands in front is below what is left of the others
-filter-ascends_behind : (p : SignedLock → Bool) (w : Value) (t : List SignedLock) → are_ascending (w ∷ values_of t) ≡ true → are_ascending (w ∷ values_of (filter p t)) ≡ true
-filter-ascends_behind p w [] h = refl
-filter-ascends_behind p w (m ∷ ms) h =
-    let x = m.lock.value in
-    let parts = and_parts (is_below w x) (are_ascending (x ∷ values_of ms)) h in
-    elim (p m) as (λ b. are_ascending (w ∷ values_of (cond b (m ∷ filter p ms) (filter p ms))) ≡ true) [
-      | true ↦ and_from (is_below w x) (are_ascending (x ∷ values_of (filter p ms))) (parts.0) (filter-ascends_behind p x ms (parts.1))
-      | false ↦ filter-ascends_behind p w ms (ascends_from_lower w x ms (parts.0) (parts.1))
+filter-ascends_behind : {X : Type 0} (key : X → Value) (p : X → Bool) (w : Value) (t : List X) → are_ascending (w ∷ map key t) ≡ true → are_ascending (w ∷ map key (filter p t)) ≡ true
+filter-ascends_behind key p w [] h = refl
+filter-ascends_behind key p w (m ∷ ms) h =
+    let x = key m in
+    let parts = and_parts (is_below w x) (are_ascending (x ∷ map key ms)) h in
+    elim (p m) as (λ b. are_ascending (w ∷ map key (cond b (m ∷ filter p ms) (filter p ms))) ≡ true) [
+      | true ↦ and_from (is_below w x) (are_ascending (x ∷ map key (filter p ms))) (parts.0) (filter-ascends_behind key p x ms (parts.1))
+      | false ↦ filter-ascends_behind key p w ms (ascends_from_lower key w x ms (parts.0) (parts.1))
     ]
 
-filter-ascends : (p : SignedLock → Bool) (t : List SignedLock) → are_ascending (values_of t) ≡ true → are_ascending (values_of (filter p t)) ≡ true
-filter-ascends p [] h = refl
-filter-ascends p (m ∷ ms) h =
-    elim (p m) as (λ b. are_ascending (values_of (cond b (m ∷ filter p ms) (filter p ms))) ≡ true) [
-      | true ↦ filter-ascends_behind p m.lock.value ms h
-      | false ↦ filter-ascends p ms (ascends_on m.lock.value ms h)
+pub filter-ascends : {X : Type 0} (key : X → Value) (p : X → Bool) (t : List X) → are_ascending (map key t) ≡ true → are_ascending (map key (filter p t)) ≡ true
+filter-ascends key p [] h = refl
+filter-ascends key p (m ∷ ms) h =
+    elim (p m) as (λ b. are_ascending (map key (cond b (m ∷ filter p ms) (filter p ms))) ≡ true) [
+      | true ↦ filter-ascends_behind key p (key m) ms h
+      | false ↦ filter-ascends key p ms (tail_ascends (key m) (map key ms) h)
     ]
 
 -- ---- how many
@@ -88,7 +83,7 @@ none_same v [] h = refl
 none_same v (m ∷ ms) h =
     let x = m.lock.value in
     let parts = and_parts (is_below v x) (are_ascending (x ∷ values_of ms)) h in
-    rw (below_differs v x (parts.0)) (ap suc (none_same v ms (ascends_from_lower v x ms (parts.0) (parts.1))))
+    rw (below_differs v x (parts.0)) (ap suc (none_same v ms (ascends_from_lower (λ m. m.lock.value) v x ms (parts.0) (parts.1))))
 
 -- a lock more, at most, than those on other values
 length-with_lock : (s : SignedLock) (t : List SignedLock) → are_ascending (values_of t) ≡ true
@@ -102,10 +97,10 @@ length-with_lock s (m ∷ ms) h =
           let rest = none_same v ms (subst (λ y. are_ascending (y ∷ values_of ms) ≡ true) (sym (same_value-equal v x same)) h) in
           rw same (omega arith)
       | Below differs under not_above ↦
-          let rest = none_same v ms (ascends_from_lower v x ms under h) in
+          let rest = none_same v ms (ascends_from_lower (λ m. m.lock.value) v x ms under h) in
           rw (differs, under) (omega arith)
       | Above differs not_under above ↦
-          let rest = length-with_lock s ms (ascends_on x ms h) in
+          let rest = length-with_lock s ms (tail_ascends x (values_of ms) h) in
           rw (differs, not_under) (omega arith)
     ]
 
@@ -118,7 +113,7 @@ with_lock-table s t table room = record {
 }
 
 pub filter-table : (p : SignedLock → Bool) (t : List SignedLock) → IsTable t → IsTable (filter p t)
-filter-table p t table = record { ascends = filter-ascends p t table.ascends; few = let both = length-filter_both p (λ m. not (p m)) (λ m. refl) t in let few = table.few in omega arith }
+filter-table p t table = record { ascends = filter-ascends (λ m. m.lock.value) p t table.ascends; few = let both = length-filter_both p (λ m. not (p m)) (λ m. refl) t in let few = table.few in omega arith }
 
 -- ---- where a lock stands
 

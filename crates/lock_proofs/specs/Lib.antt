@@ -1,3 +1,4 @@
 pub mod LockFrames
 pub mod Faults
 pub mod Tables
+pub mod Laws

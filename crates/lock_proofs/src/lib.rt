@@ -6,6 +6,7 @@
 
 mod checks;
 mod fault;
+pub mod laws;
 mod signatures;
 mod table;
 mod valid;

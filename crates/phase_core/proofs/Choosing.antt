@@ -1,7 +1,7 @@
 -- What is chosen is found by enough, and where nothing is chosen nothing is.
 use Rattle.std.proofs.Common.{◌≡◌, Bool, true, false, inl, inr, List, [], ◌∷◌, ◌++◌, refl, sym, arith, subst, leb-true, leb-false}
 use Rattle.std.specs.Prelude.{filter, Some, None, ◌||◌, ◌&&◌}
-use Rattle.std.specs.List.{list_any, list_all, flat_map}
+use Rattle.std.specs.List.{list_any, list_all}
 use Rattle.std.proofs.lemmas.Bool.{false≢true, and_parts, cases_Bool}
 use Rattle.ledger_model.specs.declared.config.Config.{Config}
 use Rattle.ledger_model.specs.declared.statement.Report.{Report}
@@ -11,7 +11,7 @@ use Rattle.ledger_model.specs.Rounds.{quorum}
 use Rattle.ledger_model.specs.Locks.{names, finds}
 use Rattle.ledger_model.specs.Tallies.{count_where}
 use Rattle.ledger_model.specs.Phases.{is_found_by, first_value, chosen}
-use Rattle.ledger_model.proofs.Lists.{any_has, filter_has, has_filter, has_ascending, has_left, has_right, same_value-equal}
+use Rattle.ledger_model.proofs.Lists.{any_has, filter_has, has_filter, has_ascending, has_left, has_right, has_flat_map, same_value-equal}
 use Rattle.phase_core.specs.Least.{values_told}
 use Rattle.phase_core.proofs.Counts.{passes_alone}
 
@@ -46,11 +46,6 @@ told true proper [] v own named only other = absurd (false≢true (sym other))
 told false proper [] v own named only other =
     let r = any_has (same_value v) proper named in
     has_left proper [] v (subst (λ x. Has proper x) (sym (same_value-equal v (r.0) (r.1.1))) (r.1.0))
-
-has_flat_map : {X Y : Type 0} (f : X → List Y) (xs : List X) (x : X) (y : Y) → Has xs x → Has (f x) y → Has (flat_map f xs) y
-has_flat_map f [] x y h e = absurd h
-has_flat_map f (z ∷ zs) x y (inl here) e = has_left (f z) (flat_map f zs) y (subst (λ w. Has (f w) y) (sym here) e)
-has_flat_map f (z ∷ zs) x y (inr later) e = has_right (f z) (flat_map f zs) y (has_flat_map f zs x y later e)
 
 -- v is found by enough, and own is not: then some report tells v
 found_is_told : (config : Config) (reports : List Report) (own v : Value) → is_found_by config reports own ≡ false → is_found_by config reports v ≡ true → Has (values_told reports) v

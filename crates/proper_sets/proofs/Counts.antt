@@ -25,7 +25,7 @@ count_where-map f test (x ∷ xs) =
       | false ↦ rest
     ]
 
-count_where-filter : {X : Type 0} (kept test : X → Bool) (xs : List X) → count_where test (filter kept xs) ≡ count_where (λ x. kept x && test x) xs
+pub count_where-filter : {X : Type 0} (kept test : X → Bool) (xs : List X) → count_where test (filter kept xs) ≡ count_where (λ x. kept x && test x) xs
 count_where-filter kept test [] = refl
 count_where-filter kept test (x ∷ xs) =
     let rest = count_where-filter kept test xs in
@@ -53,18 +53,21 @@ others_counted own test places = count_where-map (λ s. s.report) (λ p. not (p.
 -- ---- initial values
 
 -- how many of the initial values pass a test: the own one may, and those of others
+pub initials_where : (own : ℕ) (initial : Value) (test : Value → Bool) (reports : List Report)
+    → count_where test (initials own initial reports) ≡ from_bool (test initial) + others_where own (λ p. test p.initial) reports
+initials_where own initial test reports =
+    let others : count_where test (map (λ p. p.initial) (filter (λ p. not (p.signer == own)) reports)) ≡ others_where own (λ p. test p.initial) reports
+    = count_where-map (λ p. p.initial) test (filter (λ p. not (p.signer == own)) reports) ∙ count_where-filter (λ p. not (p.signer == own)) (λ p. test p.initial) reports in
+    elim (test initial) as (λ b. length (cond b (initial ∷ filter test (map (λ p. p.initial) (filter (λ p. not (p.signer == own)) reports))) (filter test (map (λ p. p.initial) (filter (λ p. not (p.signer == own)) reports)))) ≡ from_bool b + others_where own (λ p. test p.initial) reports) [
+      | true ↦ omega (arith, others)
+      | false ↦ omega (arith, others)
+    ]
+
 pub initials_counted : (own : ℕ) (initial : Value) (test : Value → Bool) (places : Places SignedReport)
     → count_where test (initials own initial (reports_of (all_read places)))
     ≡ from_bool (test initial) + count_where (λ s. not (s.report.signer == own) && test s.report.initial) (all_read places)
 initials_counted own initial test places =
-    let others : count_where test (map (λ p. p.initial) (filter (λ p. not (p.signer == own)) (reports_of (all_read places)))) ≡ count_where (λ s. not (s.report.signer == own) && test s.report.initial) (all_read places)
-    = count_where-map (λ p. p.initial) test (filter (λ p. not (p.signer == own)) (reports_of (all_read places)))
-    ∙ count_where-filter (λ p. not (p.signer == own)) (λ p. test p.initial) (reports_of (all_read places))
-    ∙ others_counted own (λ p. test p.initial) places in
-    elim (test initial) as (λ b. length (cond b (initial ∷ filter test (map (λ p. p.initial) (filter (λ p. not (p.signer == own)) (reports_of (all_read places))))) (filter test (map (λ p. p.initial) (filter (λ p. not (p.signer == own)) (reports_of (all_read places)))))) ≡ from_bool b + count_where (λ s. not (s.report.signer == own) && test s.report.initial) (all_read places)) [
-      | true ↦ omega (arith, others)
-      | false ↦ omega (arith, others)
-    ]
+    initials_where own initial test (reports_of (all_read places)) ∙ ap (λ n. from_bool (test initial) + n) (others_counted own (λ p. test p.initial) places)
 
 pub initials_known : (own : ℕ) (initial : Value) (places : Places SignedReport)
     → length (initials own initial (reports_of (all_read places))) ≡ count_where (λ s. not (s.report.signer == own)) (all_read places) + 1

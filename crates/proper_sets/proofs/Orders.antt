@@ -1,26 +1,19 @@
 -- Ascending values are one list for each set of values.
-use Rattle.std.proofs.Common.{◌≡◌, ℕ, zero, suc, ◌+◌, Bool, true, false, inl, inr, List, [], ◌∷◌, ◌++◌, refl, sym, ap, subst, ◌∙◌, cond, not, ◌||◌, ◌≤◌, length, append-nil, arith}
+use Rattle.std.proofs.Common.{◌≡◌, ℕ, zero, suc, ◌+◌, Bool, true, false, inl, inr, List, [], ◌∷◌, ◌++◌, refl, sym, ap, subst, ◌∙◌, cond, not, ◌≤◌, length, append-nil, arith}
 use Rattle.std.specs.Prelude.{take, filter, unwrap_or}
 use Rattle.std.specs.List.{list_any, insert, position, position_or_len}
 use Rattle.std.proofs.lemmas.List.Sums.{prefix_len-le-length}
-use Rattle.std.proofs.lemmas.Bool.{false≢true, and_parts, and_from, cases_Bool, ltb-false}
+use Rattle.std.proofs.lemmas.Bool.{and_from, or_parts, cases_Bool, ltb-false}
 use Rattle.std.proofs.Math.Dec.{ltb}
 use Rattle.proper_sets.specs.Puts.{with_values}
 use Rattle.ledger_model.specs.Notes.{Has}
 use Rattle.ledger_model.specs.Values.{Value, same_value, is_below, with_value, ascending}
 use Rattle.ledger_model.specs.OrderLaws.{same_value-equiv}
 use Rattle.ledger_model.specs.Spelling.{are_ascending}
-use Rattle.ledger_model.proofs.Below.{below_trans, below_itself, tail_ascends, with_value_ascends, ascending_ascends}
+use Rattle.ledger_model.proofs.Below.{tail_ascends, with_value_ascends, ascending_ascends, above_all, one_list}
 use Rattle.ledger_model.proofs.Lists.{any_has, filter_has, take_has, with_value_has, ascending_has, has_ascending, same_value-equal, has_with, has_with_other, has_left, has_right, has_cases}
 
 -- ---- values that ascend
-
-pub above_all : (v : Value) (vs : List Value) → are_ascending (v ∷ vs) ≡ true → (w : Value) → Has vs w → is_below v w ≡ true
-above_all v [] a w h = absurd h
-above_all v (x ∷ xs) a w (inl e) = subst (λ y. is_below v y ≡ true) e ((and_parts (is_below v x) (are_ascending (x ∷ xs)) a).0)
-above_all v (x ∷ xs) a w (inr h) =
-    let parts = and_parts (is_below v x) (are_ascending (x ∷ xs)) a in
-    below_trans v x w parts.0 (above_all x xs parts.1 w h)
 
 pub ascends_by : (v : Value) (vs : List Value) → ((w : Value) → Has vs w → is_below v w ≡ true) → are_ascending vs ≡ true → are_ascending (v ∷ vs) ≡ true
 ascends_by v [] h a = refl
@@ -42,28 +35,6 @@ take-ascends (suc n) (v ∷ vs) a =
     ascends_by v (take n vs) (λ w h. above_all v vs a w (take_has n vs w h)) (take-ascends n vs (tail_ascends v vs a))
 
 -- ---- which values
-
-not_below_itself : (v : Value) → is_below v v ≡ true → ⊥
-not_below_itself v a = false≢true (sym (below_itself v) ∙ a)
-
--- lists that ascend and have the same values are one
-pub one_list : (vs ws : List Value) → are_ascending vs ≡ true → are_ascending ws ≡ true
-    → ((x : Value) → Has vs x → Has ws x) → ((x : Value) → Has ws x → Has vs x) → vs ≡ ws
-one_list [] [] a b f g = refl
-one_list [] (w ∷ ws) a b f g = absurd (g w (inl refl))
-one_list (v ∷ vs) [] a b f g = absurd (f v (inl refl))
-one_list (v ∷ vs) (w ∷ ws) a b f g =
-    let first : v ≡ w = elim (f v (inl refl)) [
-      | inl e ↦ sym e
-      | inr h ↦ elim (g w (inl refl)) [
-        | inl e ↦ e
-        | inr k ↦ absurd (not_below_itself v (below_trans v w v (above_all v vs a w k) (above_all w ws b v h)))
-      ]
-    ] in
-    let rest : vs ≡ ws = one_list vs ws (tail_ascends v vs a) (tail_ascends w ws b)
-    (λ x h. elim (f x (inr h)) [ inl e ↦ absurd (not_below_itself v (subst (λ y. is_below v y ≡ true) (sym e ∙ sym first) (above_all v vs a x h))) | inr k ↦ k ])
-    (λ x h. elim (g x (inr h)) [ inl e ↦ absurd (not_below_itself w (subst (λ y. is_below w y ≡ true) (sym e ∙ first) (above_all w ws b x h))) | inr k ↦ k ]) in
-    cc
 
 -- so `ascending` tells only which values are in the list
 pub ascending_same : (vs ws : List Value) → ((x : Value) → Has vs x → Has ws x) → ((x : Value) → Has ws x → Has vs x) → ascending vs ≡ ascending ws
@@ -87,7 +58,7 @@ with_value-there v ws a h =
 pub with_value-new : (v : Value) (ws : List Value) → list_any (λ w. same_value w v) ws ≡ false → with_value v ws ≡ insert ws (position_or_len (is_below v) ws) v
 with_value-new v [] h = refl
 with_value-new v (w ∷ ws) h =
-    let parts = none_of (same_value w v) (list_any (λ x. same_value x v) ws) h in
+    let parts = or_parts (same_value w v) (list_any (λ x. same_value x v) ws) h in
     let other : same_value v w ≡ false = same_value-equiv.symm v w ∙ parts.0 in
     elim (cases_Bool (is_below v w)) [
       | inl below ↦ rw (other, below) refl
@@ -95,10 +66,6 @@ with_value-new v (w ∷ ws) h =
           let next : 1 + position_or_len (is_below v) ws ≡ suc (position_or_len (is_below v) ws) = omega arith in
           rw (other, above, next) (ap (λ xs. w ∷ xs) (with_value-new v ws parts.1))
     ]
-  where
-    none_of : (a b : Bool) → (a || b) ≡ false → (a ≡ false) × (b ≡ false)
-    none_of true b e = cc
-    none_of false b e = (refl, e)
 
 -- the place that is sought is the first above, or the end
 pub place_sought : {X : Type 0} (p : X → Bool) (xs : List X) (place : ℕ) → place ≡ unwrap_or (position p xs) (length xs) → place ≡ position_or_len p xs

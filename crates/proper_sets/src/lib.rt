@@ -5,6 +5,7 @@
 #![tactic(auto)]
 
 mod ascending;
+pub mod laws;
 mod proper;
 mod reported;
 
