@@ -27,7 +27,11 @@ const COUNT_OF_THREE: [u8; 32] = [
 ];
 
 /// The batch of these transactions.
-pub fn batch<R: Abort>(rt: &R, alloc: Global, transactions: &[&[u8]]) -> Result<Batch, Fail> {
+pub(crate) fn batch<R: Abort>(
+    rt: &R,
+    alloc: Global,
+    transactions: &[&[u8]],
+) -> Result<Batch, Fail> {
     let mut made = Vec::new(alloc);
     for bytes in transactions {
         let tx = Tx::new(Vec::from_slice(alloc, bytes)?).expect(rt, "1 to 64 bytes");
@@ -37,7 +41,7 @@ pub fn batch<R: Abort>(rt: &R, alloc: Global, transactions: &[&[u8]]) -> Result<
 }
 
 /// Runs the next block.
-pub fn execute<R: Abort, A: Application>(
+pub(crate) fn execute<R: Abort, A: Application>(
     rt: &R,
     alloc: Global,
     executor: &mut Executor<A>,

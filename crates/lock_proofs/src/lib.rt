@@ -1,7 +1,7 @@
 //! Locks whose owner's signature and whose proof were checked, and the table of those that a replica holds.
 //!
-//! A lock is valid if it is of its phase's owner and has a proof: signed reports of its height and phase, by as many
-//! replicas as never lie, each of which finds its value (Dwork, Lynch and Stockmeyer 1988, Algorithm 2).
+//! A lock is valid if it is of its phase's owner and has a proof: signed reports of its height and phase, of all replicas but
+//! as many as may lie, each of which finds its value (Dwork, Lynch and Stockmeyer 1988, Algorithm 2).
 #![tactic(auto)]
 
 mod checks;

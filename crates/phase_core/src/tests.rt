@@ -13,7 +13,7 @@ fn cluster(replicas: u8, faults: u8) -> Result<Config, Fail> {
     Ok(Config::new(replicas, faults, AppKind::KvStore)?)
 }
 
-/// The batch of these transactions, each of the bytes between two commas.
+/// The batch of these transactions.
 fn batch(alloc: Global, transactions: &[&[u8]]) -> Result<Batch, Fail> {
     let mut made = Vec::new(alloc);
     for bytes in transactions {
