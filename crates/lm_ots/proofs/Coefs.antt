@@ -1,12 +1,13 @@
 -- The digits of bytes, at the two widths.
-use Rattle.std.proofs.Common.{◌≡◌, ℕ, ◌+◌, ◌-◌, ◌*◌, ◌/◌, ◌%◌, ◌^◌, ◌<◌, ◌≤◌, List, get_or, ap, ◌∙◌, arith}
+use Rattle.std.proofs.Common.{◌≡◌, ℕ, ◌+◌, ◌-◌, ◌*◌, ◌/◌, ◌%◌, ◌^◌, ◌<◌, ◌≤◌, List, ◌++◌, get_or, ap, ◌∙◌, arith}
 use Rattle.std.proofs.lemmas.Nat.{and_mask}
 use Rattle.std.specs.Prelude.{bit_and}
 use Rattle.lm_ots.specs.declared.params.Width.{Width}
 use Rattle.lm_ots.specs.declared.params.Width.TheVariants.{W4, W8}
 use Rattle.lm_ots.specs.declared.params.Params.{Params}
 use Rattle.lm_ots.specs.Parameters.{bits_of, shift_of, numbers_of}
-use Rattle.ledger_model.specs.Signatures.{coef, checksum, sum_up}
+use Rattle.std.specs.Int.{w16, to_be_bytes}
+use Rattle.ledger_model.specs.Signatures.{coef, checksum, digit, sum_up}
 
 -- a digit of 8 bits is a byte
 pub coef-wide : (s : List ℕ) (i : ℕ) → get_or s i 0 < 256 → coef s i 8 ≡ get_or s i 0
@@ -57,3 +58,10 @@ checksum-is p s sum count shift all shifted bounded total =
     let fits = checksum-fits p.width sum count all bounded in
     let small : sum * 2 ^ shift % 65536 ≡ sum * 2 ^ shift = rw shifted (mod-small (sum * 2 ^ shift_of p.width) fits) in
     small ∙ ap (λ n. n * 2 ^ shift) (total ∙ ap (sum_up (λ i. 2 ^ bits_of p.width - 1 - coef s i (bits_of p.width))) all) ∙ ap (λ k. sum_up (λ i. 2 ^ bits_of p.width - 1 - coef s i (bits_of p.width)) (256 / bits_of p.width) * 2 ^ k) shifted
+
+-- the sum of the digits in the bytes of a digest and its checksum
+pub digits-sum : (p given : Params) (s bytes : List ℕ) (count : ℕ) → given ≡ p → bytes ≡ s ++ to_be_bytes w16 (checksum (numbers_of p) s) → sum_up (λ i. coef bytes i (bits_of given.width)) count ≡ sum_up (digit (numbers_of p) s) count
+unfolding digit
+digits-sum p given s bytes count same is =
+    ap (λ (u : Params). sum_up (λ i. coef bytes i (bits_of u.width)) count) same
+    ∙ ap (λ b. sum_up (λ i. coef b i (bits_of p.width)) count) is

@@ -1,7 +1,7 @@
 //! One-time signatures with SHA-256 (LM-OTS, RFC 8554, section 4), at widths 4 and 8, n = 32.
 //!
 //! A leaf's key pair comes from a seed: [`public_hash`] is its public value, [`sign`] signs a message
-//! with it, and [`candidate`] is the public value that a signature leads to.
+//! with it, and [`candidate`] is the public value that a signature leads to. [`signed_steps`] counts what a signature costs.
 #![tactic(auto)]
 
 mod block;
@@ -15,7 +15,7 @@ mod seed;
 
 pub use hashing::{hasher_at, read_u32};
 pub use identifier::Identifier;
-pub use ots::{candidate, public_hash, sign};
+pub use ots::{candidate, public_hash, sign, signed_steps};
 pub use params::{Params, TreeHeight, Width};
 pub use seed::Seed;
 

@@ -1,7 +1,7 @@
 ghost use Rattle.std.specs.Prelude.{◌≡◌, ◌↔◌, ◌*◌, ◌-◌, IfOk, IfSome, IsSome, length, map, take};
 ghost use Rattle.std.specs.List.{range_with_len};
 ghost use Rattle.std.specs.Int.{w32, from_be_bytes};
-ghost use Rattle.ledger_model.specs.Signatures.{chain, digit, last_step, leaf_key, leaf_signature, leaf_candidate, ots_len, part, public_value};
+ghost use Rattle.ledger_model.specs.Signatures.{chain, digit, last_step, leaf_key, leaf_signature, leaf_candidate, message_digest, ots_len, part, public_value, sum_up};
 ghost use Rattle.lm_ots.specs.Parameters.{numbers_of};
 
 use crate::block::StepBlock;
@@ -116,4 +116,28 @@ fn climb_chains(
         hasher.update(block.value());
     }
     hasher.finalize()
+}
+
+/// How many steps the chains have taken in all to the values that a signature shows: the sum of the digits of its
+/// message's digest and of the checksum (RFC 8554, section 4.5). A verification takes the steps that are left.
+///
+/// It takes no memory.
+pub fn signed_steps(
+    params: Params,
+    identifier: &Identifier,
+    leaf: u32,
+    randomizer: &[u8],
+    message: &[u8],
+) -> u32
+    ensures { result ≡ sum_up (digit (numbers_of params)
+        (message_digest identifier.now leaf randomizer.now message.now)) (numbers_of params).chains }
+{
+    let signed = message_digest(identifier, leaf, randomizer, message);
+    let digits = Digits::of(params, &signed);
+    let chains = params.width.chains();
+    let mut steps = 0;
+    for index in 0..chains {
+        steps += u32::from(digits.at(index));
+    }
+    steps
 }

@@ -1,4 +1,6 @@
-use crate::{Identifier, Params, Seed, TreeHeight, Width, candidate, public_hash, sign};
+use crate::{
+    Identifier, Params, Seed, TreeHeight, Width, candidate, public_hash, sign, signed_steps,
+};
 use sha2::{Digest, Sha256};
 use std::test::Fail;
 
@@ -75,6 +77,29 @@ fn signatures_of_both_widths(rt: HostRuntime) -> Result<(), Fail> {
         assert!(rt;
             candidate(params, &identifier, 3, b"other", &signature) != Some(expected.public)
         );
+    }
+    Ok(())
+}
+
+// Counted by the same program.
+#[test]
+fn steps_of_signatures(rt: HostRuntime) -> Result<(), Fail> {
+    let identifier = Identifier::new(IDENTIFIER);
+    let seed = Seed::new(SEED);
+    for (width, leaf, steps) in [
+        (Width::W4, 3, 495),
+        (Width::W4, 22, 585),
+        (Width::W8, 4, 3315),
+        (Width::W8, 28, 4845),
+    ] {
+        let params = Params {
+            width,
+            height: TreeHeight::H5,
+        };
+        let signature = sign(rt.alloc(), params, &identifier, leaf, &seed, MESSAGE)?;
+        let randomizer = signature.get(4..36).unwrap_or(&[]);
+        let found = signed_steps(params, &identifier, leaf, randomizer, MESSAGE);
+        assert_eq!(rt; found, steps);
     }
     Ok(())
 }

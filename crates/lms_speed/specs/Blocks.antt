@@ -1,6 +1,6 @@
 -- How many blocks of SHA-256 the parts of LMS hash (RFC 8554).
 use Rattle.std.specs.Prelude.{ℕ, ◌+◌, ◌-◌, ◌*◌, ◌/◌, ◌^◌}
-use Rattle.ledger_model.specs.Signatures.{Params}
+use Rattle.ledger_model.specs.Signatures.{Params, last_step}
 
 -- the blocks of n bytes: the padding has at least 9 bytes
 abbrev pub blocks_of : ℕ → ℕ
@@ -21,3 +21,15 @@ path_blocks p = p.height * node_blocks
 -- a whole tree: each chain's beginning and all its steps, each of one block, then the leaves and the inner nodes
 abbrev pub tree_blocks : Params → ℕ
 tree_blocks p = 2 ^ p.height * (p.chains * 2 ^ p.width + leaf_blocks p) + (2 ^ p.height - 1) * node_blocks
+
+-- the digest of a message of n bytes, behind the randomizer (section 4.5)
+abbrev pub digest_blocks : ℕ → ℕ
+digest_blocks n = blocks_of (22 + 32 + n)
+
+-- a signature of n bytes, the tree being there: so many steps, the beginnings of the chains, the randomizer and the digest
+abbrev pub signing_blocks : Params → ℕ → ℕ → ℕ
+signing_blocks p steps n = steps + p.chains + 1 + digest_blocks n
+
+-- its verification: the steps that are left, the digest, the leaf and the path
+abbrev pub verification_blocks : Params → ℕ → ℕ → ℕ
+verification_blocks p steps n = p.chains * last_step p - steps + digest_blocks n + leaf_blocks p + path_blocks p

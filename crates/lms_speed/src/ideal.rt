@@ -1,14 +1,10 @@
 //! How many blocks of SHA-256 an operation takes if it does nothing but hash (RFC 8554).
 ghost use Rattle.std.specs.Prelude.{◌≡◌, ◌+◌, ◌*◌, ◌<◌, ◌≤◌, ◌^◌, length};
+ghost use Rattle.ledger_model.specs.Signatures.{digit, message_digest, sum_up};
 ghost use Rattle.lm_ots.specs.Parameters.{numbers_of};
-ghost use Rattle.lms_speed.specs.Blocks.{blocks_of, leaf_blocks, path_blocks, tree_blocks};
+ghost use Rattle.lms_speed.specs.Blocks.{blocks_of, leaf_blocks, path_blocks, signing_blocks, tree_blocks, verification_blocks};
 
-use crate::work::MESSAGE;
-use lm_ots::{Identifier, Params, Width, hasher_at};
-use sha2::Digest;
-
-/// Marks the hash of a message (RFC 8554, section 4.5).
-const D_MESG: u16 = 0x8181;
+use lm_ots::{Identifier, Params, signed_steps};
 
 /// The length in bytes of what each hash but that of a chain's step begins with, `I || u32(q) || u16(mark)`.
 const FRONT: u64 = 22;
@@ -51,39 +47,6 @@ pub fn key_generation_blocks(params: Params) -> u64
     leaves * leaf + (leaves - 1) * blocks(FRONT + 2 * HASH)
 }
 
-/// The sum of a byte's digits.
-fn digits_in(width: Width, byte: u8) -> u64
-    ensures { result ≤ 255 }
-{
-    match width {
-        Width::W4 => u64::from(byte >> 4) + u64::from(byte & 0x0f),
-        Width::W8 => u64::from(byte),
-    }
-}
-
-/// The sum of the digits of some bytes.
-fn digit_sum(width: Width, bytes: &[u8]) -> u64
-    requires { length bytes.now ≤ 32 }
-    ensures { result ≤ 255 * length bytes.now }
-{
-    let mut sum = 0;
-    for byte in bytes {
-        sum += digits_in(width, *byte);
-    }
-    sum
-}
-
-/// How many steps the chains take in all from their beginnings to what a signature of this digest shows: the sum of the
-/// digits of the digest and of its checksum (RFC 8554, section 4.4).
-fn steps_signed(width: Width, digest: &[u8; 32]) -> u64
-    ensures { result < 2 ^ 16 }
-{
-    let most = width.digest_digits() as u64 * u64::from(width.last_step());
-    let sum = digit_sum(width, digest);
-    let checksum = most.saturating_sub(sum) << width.checksum_shift();
-    sum + digit_sum(width, &checksum.to_be_bytes())
-}
-
 /// The blocks of making one signature, and of verifying it.
 #[derive(Clone, Copy)]
 pub struct SignatureBlocks {
@@ -91,22 +54,26 @@ pub struct SignatureBlocks {
     pub verification: u64,
 }
 
-/// The blocks of a signature of [`MESSAGE`] with a leaf, the tree being there, and of its verification: the steps of its
-/// chains, the beginnings of the chains and the randomizer, which only the signer makes, the digest of the message, and
-/// the leaf and the path, which only the verifier does.
+/// The blocks of a signature with this leaf and randomizer, the tree being there, and of its verification: the steps of
+/// its chains, the beginnings of the chains and the randomizer, which only the signer makes, the digest of the message,
+/// and the leaf and the path, which only the verifier does.
 pub fn signature_blocks(
     params: Params,
     identifier: &Identifier,
     leaf: u32,
-    signature: &[u8],
-) -> SignatureBlocks {
-    let mut hasher = hasher_at(identifier, leaf, D_MESG);
-    hasher.update(signature.get(8..40).unwrap_or(&[]));
-    hasher.update(MESSAGE.as_slice());
-    let steps = steps_signed(params.width, &hasher.finalize());
+    randomizer: &[u8],
+    message: &[u8],
+) -> SignatureBlocks
+    requires { length message.now < 2 ^ 31 }
+    ensures signing { result.signing ≡ signing_blocks (numbers_of params) (sum_up (digit (numbers_of params)
+        (message_digest identifier.now leaf randomizer.now message.now)) (numbers_of params).chains) (length message.now) }
+    ensures verification { result.verification ≡ verification_blocks (numbers_of params) (sum_up (digit (numbers_of params)
+        (message_digest identifier.now leaf randomizer.now message.now)) (numbers_of params).chains) (length message.now) }
+{
+    let steps = u64::from(signed_steps(params, identifier, leaf, randomizer, message));
     let chains = u64::from(params.width.chains());
     let all_steps = chains * u64::from(params.width.last_step());
-    let digest = blocks(FRONT + HASH + MESSAGE.len() as u64);
+    let digest = blocks(FRONT + HASH + message.len() as u64);
     SignatureBlocks {
         signing: steps + chains + 1 + digest,
         verification: all_steps.saturating_sub(steps)

@@ -4,7 +4,9 @@ use crate::ideal::{blocks, key_generation_blocks, signature_blocks};
 use crate::rates::{SEED, pace};
 use crate::request::Operation;
 use crate::timing::measure;
-use crate::work::{IDENTIFIER, LONG_MESSAGE, LongDigests, OneBlockDigests, signatures_of, tree_of};
+use crate::work::{
+    IDENTIFIER, LONG_MESSAGE, LongDigests, MESSAGE, OneBlockDigests, signatures_of, tree_of,
+};
 use lm_ots::{Identifier, Params, TreeHeight, Width};
 use std::alloc::Global;
 use std::io::Write;
@@ -27,7 +29,8 @@ fn rows(alloc: Global, params: Params) -> Result<[Row; 3], ProgramFault> {
     let mut signing = 0.0;
     let mut verification = 0.0;
     for (leaf, signature) in (0u32..32).zip(signatures.iter()) {
-        let found = signature_blocks(params, &identifier, leaf, signature);
+        let randomizer = signature.get(8..40).unwrap_or(&[]);
+        let found = signature_blocks(params, &identifier, leaf, randomizer, &MESSAGE);
         signing += nearest_u64_to_f64(found.signing);
         verification += nearest_u64_to_f64(found.verification);
     }

@@ -202,7 +202,13 @@ fn blocks_of_operations(rt: HostRuntime) -> Result<(), Fail> {
         assert_eq!(rt; key_generation_blocks(params), generation);
         let tree = tree_of(alloc, params, [7; 32])?;
         let signature = tree.sign(alloc, 3, &MESSAGE)?;
-        let found = signature_blocks(params, &Identifier::new(IDENTIFIER), 3, &signature);
+        let found = signature_blocks(
+            params,
+            &Identifier::new(IDENTIFIER),
+            3,
+            signature.get(8..40).unwrap_or(&[]),
+            &MESSAGE,
+        );
         assert_eq!(rt; found.signing, signing);
         assert_eq!(rt; found.verification, verification);
         assert_eq!(rt; signatures_of(alloc, &tree)?.len(), 32);
