@@ -12,6 +12,7 @@ mod table;
 mod valid;
 
 pub use fault::{LockFault, TableFull};
+pub use signatures::is_signed;
 pub use table::LockTable;
 pub use valid::{ValidLock, check_lock};
 

@@ -33,6 +33,15 @@ impl Model for ValidLock {
 impl ValidLock {
     ghost use Rattle.std.specs.Prelude.{◌≡◌};
     ghost use Rattle.ledger_model.specs.LockTables.{as_statement};
+    ghost use Rattle.lock_proofs.specs.LockFrames.{IsLockFrame};
+
+    /// The lock that this replica made itself: of its own phase, from reports that it had checked. Nothing is checked again.
+    pub fn of_own(frame: Frame) -> Self
+        requires { IsLockFrame frame }
+        ensures { as_statement result ≡ frame }
+    {
+        ValidLock { frame }
+    }
 
     /// The lock.
     pub fn lock(&self) -> &Lock

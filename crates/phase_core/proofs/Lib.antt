@@ -1,4 +1,4 @@
-mod Least
-mod Counts
-mod Choosing
-mod Logs
+pub mod Least
+pub mod Counts
+pub mod Choosing
+pub mod Logs

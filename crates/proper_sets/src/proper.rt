@@ -87,6 +87,25 @@ impl Proper {
         self.all || self.explicit.has(value)
     }
 
+    /// The same once more.
+    pub fn copy(&self) -> Result<Self, AllocError>
+        ensures { IfOk result (λ proper. proper ≡ self.now) }
+    {
+        Ok(Proper {
+            config: self.config,
+            own: self.own.copy()?,
+            all: self.all,
+            explicit: self.explicit.copy()?,
+        })
+    }
+
+    /// The own initial value.
+    pub fn own(&self) -> &Batch
+        ensures { result.now ≡ self.now.set.own }
+    {
+        &self.own
+    }
+
     /// Whether every value is proper.
     pub fn all(&self) -> bool
         ensures { result ≡ self.now.set.all }

@@ -32,7 +32,7 @@ impl Frame {
     ghost use Rattle.std.specs.Prelude.{◌≡◌, ◌≤◌, length, IfOk, slice_get};
     ghost use Rattle.std.specs.Option.{option_map};
     ghost use Rattle.ledger_model.specs.declared.statement.SignedStatement.{SignedStatement};
-    ghost use Rattle.ledger_model.specs.Spelling.{statement_bytes, frame_bytes, IsStatement, SpellsFrame};
+    ghost use Rattle.ledger_model.specs.Spelling.{statement_bytes, frame_bytes, IsFrame, IsStatement, SpellsFrame};
     ghost use Rattle.ledger_model.specs.Reading.{reading};
     ghost use Rattle.statements.specs.Reads.{Gives};
     ghost use Rattle.signed_frames.specs.Lending.{lent_of, proof_of};
@@ -77,7 +77,8 @@ impl Frame {
 
     /// What the frame says.
     pub fn statement(&self) -> &Statement
-        ensures { result.now ≡ self.now.statement }
+        ensures statement { result.now ≡ self.now.statement }
+        ensures frame { IsFrame self.now }
     {
         &self.statement
     }
@@ -125,6 +126,14 @@ impl Frame {
     {
         let Frame { bytes, .. } = self;
         bytes
+    }
+
+    /// What the frame says.
+    pub fn into_statement(self) -> Statement
+        ensures { result ≡ self.statement }
+    {
+        let Frame { statement, .. } = self;
+        statement
     }
 
     /// The same frame once more. Its bytes are shared.

@@ -7,7 +7,8 @@ use ledger_model::{
 };
 use std::alloc::{AllocError, Global};
 
-fn copy_batches(alloc: Global, batches: &[Batch]) -> Result<Vec<Batch>, AllocError>
+/// The same batches once more.
+pub fn copy_batches(alloc: Global, batches: &[Batch]) -> Result<Vec<Batch>, AllocError>
     ensures { IfOk result (λ copied. copied.items ≡ batches.now) }
 {
     let mut copied = Vec::with_capacity(alloc, batches.len())?;
@@ -38,7 +39,8 @@ pub fn copy_signature(alloc: Global, signature: &Signature) -> Result<Signature,
     Ok(Signature::new(Vec::from_slice(alloc, signature.as_bytes())?))
 }
 
-fn copy_signed(alloc: Global, signed: &SignedReport) -> Result<SignedReport, AllocError>
+/// The same signed report once more.
+pub fn copy_signed(alloc: Global, signed: &SignedReport) -> Result<SignedReport, AllocError>
     ensures { IfOk result (λ copied. copied ≡ signed.now) }
 {
     Ok(SignedReport {

@@ -12,7 +12,7 @@ mod parts;
 mod places;
 mod values;
 
-pub use copies::{copy_signature, copy_statement};
+pub use copies::{copy_batches, copy_signature, copy_signed, copy_statement};
 pub use decoding::{decode, take_statement};
 pub use encoding::encode;
 pub use fault::DecodeFault;

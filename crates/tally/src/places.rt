@@ -60,6 +60,15 @@ impl<X: Drop> Tally<X> {
         true
     }
 
+    /// Forgets all that was read. It takes no memory.
+    pub fn clear(&mut self)
+        ensures { self.new ≡ replicate (length self.old) None }
+    {
+        for place in 0..self.places.len() {
+            self.places[place] = None;
+        }
+    }
+
     /// What was read of a replica, if anything was.
     pub fn get(&self, signer: ReplicaId) -> Option<&X>
         ensures { option_copied result ≡ read_of self.now signer }

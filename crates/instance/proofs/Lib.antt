@@ -1,0 +1,29 @@
+-- ---- the laws
+pub mod KeptPlaces
+pub mod KeptReadings
+pub mod ProperStays
+pub mod Opens
+pub mod Answering
+pub mod SpelledTables
+pub mod ChosenValues
+pub mod SpelledRows
+pub mod OneRead
+pub mod NewParts
+pub mod ReadNotes
+pub mod OwnLocks
+pub mod Makes
+pub mod PlaceLists
+pub mod OpenedRounds
+pub mod ClosesReports
+pub mod ClosesLock
+pub mod ClosesAcks
+pub mod ClosesRelease
+pub mod Closes
+-- ---- for the functions
+pub mod LowestSigners
+pub mod LockFaults
+pub mod AnsweredCauses
+pub mod SameHeight
+pub mod AtClock
+pub mod ReadOutcome
+pub mod PlanOutcome

@@ -1,0 +1,78 @@
+-- Lists with one place for each replica.
+use Rattle.std.proofs.Common.{◌≡◌, ℕ, zero, suc, ◌<◌, Bool, true, false, ◌⊎◌, inl, inr, List, [], ◌∷◌, length, refl, sym, ap, ◌∙◌, arith}
+use Rattle.std.specs.Prelude.{Some, None, slice_set, replicate}
+use Rattle.std.specs.List.{list_any, find}
+use Rattle.std.proofs.lemmas.Bool.{cases_Bool, both_ways}
+use Rattle.std.proofs.lemmas.List.{length-set}
+use Rattle.ledger_model.specs.Notes.{Has}
+use Rattle.ledger_model.specs.Tallies.{Places, all_read, read_of}
+use Rattle.instance.specs.Plans.{added}
+
+-- the only element that passes
+pub find_only : {X : Type 0} (p : X → Bool) (xs : List X) (x : X) → Has xs x → p x ≡ true → ((y : X) → p y ≡ true → y ≡ x) → find p xs ≡ Some x
+find_only p [] x has e only = absurd has
+find_only p (y ∷ ys) x has e only =
+    elim (cases_Bool (p y)) [
+      | inl passes ↦ simp passes (ap Some (only y passes))
+      | inr fails ↦ simp fails (elim has [ inl is ↦ absurd (both_ways (p y) fails (ap p is ∙ e)) | inr later ↦ find_only p ys x later e only ])
+    ]
+
+module _ {X : Type 0} where
+  -- ---- places of which nothing was read
+
+  pub none_read : (n : ℕ) → all_read {X = X} (replicate n None) ≡ []
+  none_read zero = refl
+  none_read (suc n) = none_read n
+
+  pub none_there : (n r : ℕ) → read_of {X = X} (replicate n None) r ≡ None
+  none_there zero r = refl
+  none_there (suc n) zero = refl
+  none_there (suc n) (suc r) = none_there n r
+
+  pub empty_places : (places : Places X) → list_any (λ x. true) (all_read places) ≡ false → all_read places ≡ []
+  empty_places [] e = refl
+  empty_places (None ∷ places) e = empty_places places e
+  empty_places (Some x ∷ places) e = cc
+
+  pub empty_there : (places : Places X) (r : ℕ) → all_read places ≡ [] → read_of places r ≡ None
+  empty_there [] r e = refl
+  empty_there (None ∷ places) zero e = refl
+  empty_there (None ∷ places) (suc r) e = empty_there places r e
+  empty_there (Some x ∷ places) r e = cc
+
+  -- ---- the first that is read
+
+  first_set : (places : Places X) (r : ℕ) (x : X) → all_read places ≡ [] → r < length places → all_read (slice_set places r (Some x)) ≡ x ∷ []
+  first_set [] r x e below = absurd (omega arith)
+  first_set (Some y ∷ places) r x e below = cc
+  first_set (None ∷ places) zero x e below = ap (λ xs. x ∷ xs) e
+  first_set (None ∷ places) (suc r) x e below = first_set places r x e (omega arith)
+
+  set_there : (places : Places X) (r : ℕ) (x : X) (q : ℕ) (y : X) → read_of (slice_set places r (Some x)) q ≡ Some y
+      → ((q ≡ r) × (x ≡ y)) ⊎ (read_of places q ≡ Some y)
+  set_there [] r x q y e = inr e
+  set_there (p ∷ places) zero x zero y e = inl (refl, cc)
+  set_there (p ∷ places) zero x (suc q) y e = inr e
+  set_there (p ∷ places) (suc r) x zero y e = inr e
+  set_there (p ∷ places) (suc r) x (suc q) y e =
+      elim (set_there places r x q y e) [
+        | inl here ↦ inl (ap suc here.0, here.1)
+        | inr there ↦ inr there
+      ]
+
+  module _ (places : Places X) (r : ℕ) (x : X) (none : all_read places ≡ []) where
+    added_is : added places r x ≡ slice_set places r (Some x)
+    added_is = rw (empty_there places r none) refl
+
+    pub added_length : length (added places r x) ≡ length places
+    added_length = ap length added_is ∙ length-set places r (Some x)
+
+    pub added_read : r < length places → all_read (added places r x) ≡ x ∷ []
+    added_read below = ap all_read added_is ∙ first_set places r x none below
+
+    pub added_there : (q : ℕ) (y : X) → read_of (added places r x) q ≡ Some y → (q ≡ r) × (x ≡ y)
+    added_there q y e =
+        elim (set_there places r x q y (ap (λ ps. read_of ps q) (sym added_is) ∙ e)) [
+          | inl here ↦ here
+          | inr there ↦ absurd (cc (empty_there places q none))
+        ]

@@ -1,0 +1,6 @@
+pub mod Rows
+pub mod Matching
+pub mod Reads
+pub mod Plans
+pub mod Places
+pub mod Laws

@@ -1,0 +1,103 @@
+use ledger_model::{Ack, Batch, Config, Height, Lock, ReplicaId, SignedReport};
+use lock_proofs::LockTable;
+use proper_sets::Proper;
+use std::alloc::{AllocError, Global};
+use std::marker::Model;
+use tally::Tally;
+
+/// Agreement at one height. Contracts see a `Row`.
+#[derive(Drop)]
+pub struct Instance {
+    pub(crate) config: Config,
+    pub(crate) id: ReplicaId,
+    pub(crate) height: Height,
+    pub(crate) proper: Proper,
+    pub(crate) locks: LockTable,
+    pub(crate) reports: Tally<SignedReport>,
+    pub(crate) acks: Tally<Ack>,
+    /// The value whose lock was taken in the open phase.
+    pub(crate) taken: Option<Batch>,
+    /// The lock that was made in the open phase.
+    pub(crate) made: Option<Lock>,
+    pub(crate) decided: Option<Batch>,
+}
+
+impl Model for Instance {
+    ghost use Rattle.std.specs.Prelude.{◌≡◌, ◌<◌, length};
+    ghost use Rattle.instance.specs.Rows.{Row};
+
+    ghost Value = { Row };
+
+    ghost view = { λ i. record {
+      config = i.config;
+      id = i.id;
+      height = i.height;
+      proper = i.proper.set;
+      table = i.locks;
+      reports = i.reports;
+      acks = i.acks;
+      taken = i.taken;
+      made = i.made;
+      decided = i.decided;
+    } };
+
+    ghost invariant = { λ i. (i.proper.config ≡ i.config) × (i.id < i.config.replicas)
+        × (length i.reports ≡ i.config.replicas) × (length i.acks ≡ i.config.replicas) };
+}
+
+impl Instance {
+    ghost use Rattle.std.specs.Prelude.{◌≡◌, ◌<◌, ◌≤◌, ◌++◌, ◌∷◌, List, [], IfOk, true};
+    ghost use Rattle.std.specs.Option.{option_copied};
+    ghost use Rattle.ledger_model.specs.Notes.{Note, Proposed};
+    ghost use Rattle.ledger_model.specs.Locks.{decided_of};
+    ghost use Rattle.ledger_model.specs.Rules.{Ring};
+    ghost use Rattle.ledger_model.specs.Spelling.{IsValue};
+    ghost use Rattle.instance.specs.Matching.{Matches, only_rounds};
+    ghost use Rattle.instance.specs.Reads.{opened_row};
+
+    /// A height that replica `id` opens with its own initial value, in any round.
+    pub fn open(
+        alloc: Global,
+        config: &Config,
+        id: ReplicaId,
+        height: Height,
+        initial: &Batch,
+    ) -> Result<Self, AllocError>
+        requires member { id < config.now.replicas }
+        requires height { (1 ≤ height) × (height ≤ 4096) }
+        requires value { IsValue initial.now }
+        ensures row { IfOk result (λ row. row ≡ opened_row config.now id height initial.now) }
+        // It matches every log in which rounds were opened, and then the height.
+        ensures matches { IfOk result (λ row. (ring : Ring) (log : List Note) → only_rounds log ≡ true
+            → Matches ring row (log ++ Proposed initial.now ∷ [])) }
+    {
+        Ok(Instance {
+            config: *config,
+            id,
+            height,
+            proper: Proper::new(alloc, config, initial)?,
+            locks: LockTable::new(alloc)?,
+            reports: Tally::new(alloc, config)?,
+            acks: Tally::new(alloc, config)?,
+            taken: None,
+            made: None,
+            decided: None,
+        })
+    }
+
+    /// The height.
+    pub fn height(&self) -> Height
+        ensures { result ≡ self.now.height }
+    {
+        self.height
+    }
+
+    /// The value that was decided, if one was. It stays.
+    pub fn decided(&self) -> Option<&Batch>
+        ensures row { option_copied result ≡ self.now.decided }
+        ensures decided { (ring : Ring) (log : List Note) → Matches ring self.now log
+            → option_copied result ≡ decided_of self.now.config log }
+    {
+        self.decided.as_ref()
+    }
+}

@@ -1,0 +1,222 @@
+//! Frames of the height come in.
+ghost use Rattle.std.specs.Prelude.{◌≡◌, ◌≤◌};
+ghost use Rattle.ledger_model.specs.Rules.{has_place, has_phase, has_owner};
+ghost use Rattle.instance.specs.Places.{number_of};
+ghost use Rattle.instance.specs.Reads.{cause_told};
+
+use crate::height::Instance;
+use crate::rounds::{Place, owner_of, phase_of, place_of};
+use key_ring::KeyRing;
+use ledger_model::{Ack, Config, Ignored, Signature, SignedReport, Statement};
+use lock_proofs::{LockFault, TableFull, check_lock, is_signed};
+use signed_frames::Frame;
+use statements::phase;
+use std::alloc::{AllocError, Global};
+
+/// Whether such statements are read in the rounds at this place.
+fn has_place(place: Place, statement: &Statement) -> bool
+    ensures { result ≡ has_place (number_of place) statement.now }
+{
+    match statement {
+        Statement::Report(_) => place == Place::Reports,
+        Statement::Lock(_) => place == Place::Lock || place == Place::Release,
+        Statement::Ack(_) => place == Place::Acknowledgements,
+    }
+}
+
+/// Whether the statement's phase is that of the round; in a lock-release round a lock may be of an earlier one.
+fn has_phase(round: u32, statement: &Statement) -> bool
+    requires { round ≤ 4000000000 }
+    ensures { result ≡ has_phase round statement.now }
+{
+    match statement {
+        Statement::Lock(lock) if place_of(round) == Place::Release => lock.phase <= phase_of(round),
+        _ => phase(statement) == phase_of(round),
+    }
+}
+
+/// Whether the statement is no lock, or one of its phase's owner.
+fn has_owner(config: &Config, statement: &Statement) -> bool
+    ensures { result ≡ has_owner config.now statement.now }
+{
+    match statement {
+        Statement::Lock(lock) => lock.signer == owner_of(config, lock.phase),
+        Statement::Report(_) | Statement::Ack(_) => true,
+    }
+}
+
+/// Why a lock that isn't valid is ignored.
+fn cause_of(fault: LockFault) -> Ignored
+    ensures { result ≡ cause_told fault }
+{
+    match fault {
+        LockFault::NotOwner => Ignored::NotOwner,
+        LockFault::BadSignature => Ignored::BadSignature,
+        LockFault::BadProof | LockFault::NotSupporting => Ignored::BadProof,
+    }
+}
+
+impl Instance {
+    ghost use Rattle.std.specs.Prelude.{◌≡◌, ◌==◌, ◌<◌, ◌≤◌, ◌++◌, ◌∷◌, ℕ, List, [], None, not, false, true, is_some, IsTrue, IfOk, OnErr};
+    ghost use Rattle.std.specs.Option.{option_map_or};
+    ghost use Rattle.ledger_model.specs.Values.{same_value};
+    ghost use Rattle.ledger_model.specs.Rounds.{place_of};
+    ghost use Rattle.ledger_model.specs.Notes.{Note, Read, clock_of, signer_of, is_report, is_lock, is_ack};
+    ghost use Rattle.ledger_model.specs.Logs.{height_of};
+    ghost use Rattle.ledger_model.specs.Rules.{answer_to, first_of};
+    ghost use Rattle.ledger_model.specs.Tallies.{read_of};
+    ghost use Rattle.instance.specs.Matching.{Matches};
+    ghost use Rattle.instance.specs.Reads.{round_causes, row_causes, report_causes, lock_causes, ack_causes, is_kept_already, after_read, if_accepted, IsSameHeight};
+
+    /// Whether one such statement is kept already.
+    fn is_kept_already(&self, statement: &Statement, round: u32) -> bool
+        requires { round ≤ 4000000000 }
+        ensures { result ≡ is_kept_already self.now round statement.now }
+    {
+        match statement {
+            Statement::Report(report) => self.reports.get(report.signer).is_some(),
+            Statement::Lock(_) => place_of(round) == Place::Lock && self.taken.is_some(),
+            Statement::Ack(ack) => self.acks.get(ack.signer).is_some(),
+        }
+    }
+
+    /// The first of the causes that the statement shows by itself, if one fits.
+    fn judge(&self, statement: &Statement, round: u32) -> Result<(), Ignored>
+        requires { round ≤ 4000000000 }
+        ensures { result ≡ first_of (round_causes self.now round statement.now) }
+    {
+        if round == 0 || !has_place(place_of(round), statement) {
+            return Err(Ignored::WrongRound);
+        }
+        if !has_phase(round, statement) {
+            return Err(Ignored::WrongPhase);
+        }
+        if !has_owner(&self.config, statement) {
+            return Err(Ignored::NotOwner);
+        }
+        if self.is_kept_already(statement, round) {
+            return Err(Ignored::Repeated);
+        }
+        Ok(())
+    }
+
+    /// Reads the first report of its signer in this phase, if its signature verifies.
+    fn read_report(
+        &mut self,
+        alloc: Global,
+        ring: &KeyRing,
+        frame: Frame,
+    ) -> Result<Result<(), Ignored>, AllocError>
+        requires kind { IsTrue (is_report (λ r. true) frame.statement) }
+        requires signer { signer_of frame.statement < self.old.config.replicas }
+        requires first { read_of self.old.reports (signer_of frame.statement) ≡ None }
+        ensures answer { IfOk result (λ r. r ≡ first_of (report_causes ring.now frame)) }
+        ensures after { (round : ℕ) → IfOk result (λ r. self.new ≡ if_accepted r (after_read self.old round frame) self.old) }
+        ensures err { OnErr result (self.new ≡ self.old) }
+    {
+        if !is_signed(ring, &frame) {
+            return Ok(Err(Ignored::BadSignature));
+        }
+        let signature = Signature::new(Vec::from_slice(alloc, frame.signature())?);
+        let Statement::Report(report) = frame.into_statement() else {
+            unreachable!()
+        };
+        self.reports
+            .add(report.signer, SignedReport { report, signature });
+        Ok(Ok(()))
+    }
+
+    /// Whether the acknowledgement is of the lock that this replica made in the phase.
+    fn is_of_own_lock(&self, ack: &Ack) -> bool
+        ensures { result ≡ option_map_or (λ l. same_value ack.now.value l.value) self.now.made false }
+    {
+        self.made
+            .as_ref()
+            .is_some_and(|lock| ack.value == lock.value)
+    }
+
+    /// Reads the first acknowledgement of its signer in this phase, if its signature verifies and it is of the own lock.
+    fn read_ack(&mut self, ring: &KeyRing, frame: Frame) -> Result<(), Ignored>
+        requires kind { IsTrue (is_ack (λ a. true) frame.statement) }
+        requires signer { signer_of frame.statement < self.old.config.replicas }
+        requires first { read_of self.old.acks (signer_of frame.statement) ≡ None }
+        ensures answer { result ≡ first_of (ack_causes self.old ring.now frame) }
+        ensures after { (round : ℕ) → self.new ≡ if_accepted result (after_read self.old round frame) self.old }
+    {
+        if !is_signed(ring, &frame) {
+            return Err(Ignored::BadSignature);
+        }
+        let Statement::Ack(ack) = frame.into_statement() else {
+            unreachable!()
+        };
+        if !self.is_of_own_lock(&ack) {
+            return Err(Ignored::NotMine);
+        }
+        self.acks.add(ack.signer, ack);
+        Ok(())
+    }
+
+    /// Reads a lock of its phase's owner, if it is valid: in the round of locks it is taken, in a lock-release round it
+    /// releases others.
+    fn read_lock(
+        &mut self,
+        ring: &KeyRing,
+        frame: Frame,
+        round: u32,
+    ) -> Result<Result<(), Ignored>, AllocError>
+        requires kind { IsTrue (is_lock (λ l. true) frame.statement) }
+        requires round { round ≤ 4000000000 }
+        requires owner { has_owner self.old.config frame.statement ≡ true }
+        ensures answer { IfOk result (λ r. r ≡ first_of (lock_causes self.old ring.now round frame)) }
+        ensures after { IfOk result (λ r. self.new ≡ if_accepted r (after_read self.old round frame) self.old) }
+        ensures err { OnErr result (self.new ≡ self.old) }
+    {
+        let lock = match check_lock(&self.config, ring, frame) {
+            Ok(lock) => lock,
+            Err(fault) => return Ok(Err(cause_of(fault))),
+        };
+        if place_of(round) != Place::Lock {
+            self.locks.release(&lock, phase_of(round));
+            return Ok(Ok(()));
+        }
+        let value = lock.value().copy()?;
+        if let Err(TableFull) = self.locks.take(lock) {
+            return Ok(Err(Ignored::TableFull));
+        }
+        self.taken = Some(value);
+        Ok(Ok(()))
+    }
+
+    /// A frame of this height comes in, whose signer is a replica, while this round is open: it is read, or ignored by the
+    /// first cause that fits, and nothing changes.
+    ///
+    /// Where memory runs out, nothing changes either.
+    pub fn read(
+        &mut self,
+        alloc: Global,
+        ring: &KeyRing,
+        frame: Frame,
+        clock: u32,
+    ) -> Result<Result<(), Ignored>, AllocError>
+        requires signer { signer_of frame.statement < self.old.config.replicas }
+        requires height { height_of frame.statement ≡ self.old.height }
+        requires clock { clock ≤ 4000000000 }
+        // What is answered, and what it leaves, by every log that the instance matches.
+        ensures answer { IfOk result (λ r. (log : List Note) → Matches ring.now self.old log → clock_of log ≡ clock
+            → r ≡ answer_to self.old.config ring.now log frame) }
+        ensures read { IfOk result (λ r. (log : List Note) → Matches ring.now self.old log → clock_of log ≡ clock
+            → IfOk r (λ x. Matches ring.now self.new (log ++ Read clock frame ∷ []))) }
+        ensures ignored { IfOk result (λ r. OnErr r (self.new ≡ self.old)) }
+        ensures err { OnErr result (self.new ≡ self.old) }
+        ensures same { IsSameHeight self.old self.new }
+    {
+        if let Err(cause) = self.judge(frame.statement(), clock) {
+            return Ok(Err(cause));
+        }
+        match frame.statement() {
+            Statement::Report(_) => self.read_report(alloc, ring, frame),
+            Statement::Lock(_) => self.read_lock(ring, frame, clock),
+            Statement::Ack(_) => Ok(self.read_ack(ring, frame)),
+        }
+    }
+}

@@ -1,0 +1,47 @@
+//! The four rounds of a phase.
+ghost use Rattle.std.specs.Prelude.{◌≡◌, ◌≤◌, ◌==◌};
+ghost use Rattle.ledger_model.specs.Rounds.{phase_of, place_of, owner_of};
+ghost use Rattle.instance.specs.Places.{number_of};
+
+use ledger_model::{Config, Phase, ReplicaId};
+
+/// The place of a round in its phase.
+#[derive(Clone, Copy, PartialEq, Eq)]
+pub(crate) enum Place {
+    /// Each replica reports what is proper and what it holds.
+    Reports,
+    /// The owner of the phase may lock a value.
+    Lock,
+    /// The replicas that took the lock acknowledge it.
+    Acknowledgements,
+    /// Held locks are sent on, and others released by them.
+    Release,
+}
+
+/// The place of a round, from round 1 on. Round 0 is before the first phase.
+pub(crate) fn place_of(round: u32) -> Place
+    requires { round ≤ 4000000000 }
+    ensures { number_of result ≡ place_of round }
+{
+    match round % 4 {
+        1 => Place::Reports,
+        2 => Place::Lock,
+        3 => Place::Acknowledgements,
+        _ => Place::Release,
+    }
+}
+
+/// The phase of a round.
+pub(crate) fn phase_of(round: u32) -> Phase
+    requires { round ≤ 4000000000 }
+    ensures { result ≡ phase_of round }
+{
+    Phase::new(round.div_ceil(4))
+}
+
+/// The owner of a phase, which may make its lock.
+pub(crate) fn owner_of(config: &Config, phase: Phase) -> ReplicaId
+    ensures { result ≡ owner_of config.now phase }
+{
+    ReplicaId::new((phase.number() % u32::from(config.replicas)) as u8)
+}
