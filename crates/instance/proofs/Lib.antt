@@ -1,6 +1,7 @@
 -- ---- the laws
 pub mod KeptPlaces
 pub mod KeptReadings
+pub mod PlaceLists
 pub mod ProperStays
 pub mod Opens
 pub mod Answering
@@ -12,7 +13,6 @@ pub mod NewParts
 pub mod ReadNotes
 pub mod OwnLocks
 pub mod Makes
-pub mod PlaceLists
 pub mod OpenedRounds
 pub mod ClosesReports
 pub mod ClosesLock

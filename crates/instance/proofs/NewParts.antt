@@ -1,9 +1,9 @@
 -- What a phase is filled with once one statement more is read in the open round.
 use Rattle.std.proofs.Common.{◌≡◌, ℕ, ◌<◌, Bool, true, false, ◌&&◌, ◌||◌, inl, inr, List, [], ◌∷◌, refl, sym, ap, subst, ◌∙◌, arith}
-use Rattle.std.specs.Prelude.{find, nat_eq, Some, None, IsTrue, slice_set}
+use Rattle.std.specs.Prelude.{nat_eq, Some, None, IsTrue, slice_set}
 use Rattle.std.specs.List.{filter_map}
 use Rattle.std.proofs.lemmas.List.{length-set}
-use Rattle.std.proofs.lemmas.Bool.{cases_Bool, and_from, and_parts, eq-eqb, both_ways, or_cases, or_right}
+use Rattle.std.proofs.lemmas.Bool.{and_from, and_parts, eq-eqb, both_ways, or_cases, or_right}
 use Rattle.ledger_model.specs.declared.statement.Ack.{Ack}
 use Rattle.ledger_model.specs.declared.statement.SignedReport.{SignedReport}
 use Rattle.ledger_model.specs.declared.statement.SignedStatement.{SignedStatement}
@@ -22,6 +22,7 @@ use Rattle.ledger_model.proofs.LockSafety.{has_read, took_tells}
 use Rattle.ledger_model.proofs.Staying.{filter_map-append}
 use Rattle.instance.specs.Matching.{IsKept}
 use Rattle.instance.proofs.KeptPlaces.{any_mapped, any_put, read_put}
+use Rattle.instance.proofs.PlaceLists.{find_only}
 use Rattle.instance.proofs.OneRead.{ReportsMatch, LockMatches, AcksMatch, and_read, read_more, kept_stays}
 
 -- a test of a statement that is read in the round itself
@@ -71,15 +72,6 @@ module _ (replicas : ℕ) (log : List Note) (k : ℕ) (places : Places Ack) (a :
 
 -- ---- the first lock
 
--- the only element that passes is what is found
-find_only : {X : Type 0} (p : X → Bool) (xs : List X) (x : X) → ((y : X) → p y ≡ true → y ≡ x) → p x ≡ true → Has xs x → find p xs ≡ Some x
-find_only p [] x only passes has = absurd has
-find_only p (y ∷ ys) x only passes has =
-    elim (cases_Bool (p y)) [
-      | inl here ↦ rw here (ap Some (only y here))
-      | inr other ↦ rw other (elim has [ inl is ↦ absurd (both_ways (p y) other (ap p is ∙ passes)) | inr later ↦ find_only p ys x only passes later ])
-    ]
-
 module _ (log : List Note) (k : ℕ) (s : SignedLock) (c : ℕ) (now : c ≡ round_at 2 k) (of_phase : s.lock.phase ≡ k) (unread : was_read log (round_at 2 k) (is_lock (λ l. true)) ≡ false) where
   abbrev with_it : List Note
   with_it = and_read log c (as_statement s)
@@ -103,7 +95,7 @@ module _ (log : List Note) (k : ℕ) (s : SignedLock) (c : ℕ) (now : c ≡ rou
   pub lock_taken_now : LockMatches with_it k (Some s.lock.value)
   lock_taken_now = record {
     locked = read_now log c (round_at 2 k) (as_statement s) now (is_lock (λ l. true)) ∙ or_right (was_read log (round_at 2 k) (is_lock (λ l. true))) true refl;
-    taken = sym (find_only (λ v. took with_it v k) (filter_map value_read with_it) s.lock.value only_value value_now
+    taken = sym (find_only (λ v. took with_it v k) (filter_map value_read with_it) s.lock.value
         (subst (λ vs. Has vs s.lock.value) (sym (filter_map-append value_read log (Read c (as_statement s) ∷ [])))
-        (has_right (filter_map value_read log) (s.lock.value ∷ []) s.lock.value (inl refl))));
+        (has_right (filter_map value_read log) (s.lock.value ∷ []) s.lock.value (inl refl))) value_now only_value);
   }

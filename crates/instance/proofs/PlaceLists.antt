@@ -1,5 +1,5 @@
 -- Lists with one place for each replica.
-use Rattle.std.proofs.Common.{◌≡◌, ℕ, zero, suc, ◌<◌, Bool, true, false, ◌⊎◌, inl, inr, List, [], ◌∷◌, length, refl, sym, ap, ◌∙◌, arith}
+use Rattle.std.proofs.Common.{◌≡◌, ℕ, zero, suc, ◌<◌, Bool, true, false, inl, inr, List, [], ◌∷◌, length, refl, sym, ap, ◌∙◌, arith}
 use Rattle.std.specs.Prelude.{Some, None, slice_set, replicate}
 use Rattle.std.specs.List.{list_any, find}
 use Rattle.std.proofs.lemmas.Bool.{cases_Bool, both_ways}
@@ -7,6 +7,7 @@ use Rattle.std.proofs.lemmas.List.{length-set}
 use Rattle.ledger_model.specs.Notes.{Has}
 use Rattle.ledger_model.specs.Tallies.{Places, all_read, read_of}
 use Rattle.instance.specs.Plans.{added}
+use Rattle.instance.proofs.KeptPlaces.{read_put}
 
 -- the only element that passes
 pub find_only : {X : Type 0} (p : X → Bool) (xs : List X) (x : X) → Has xs x → p x ≡ true → ((y : X) → p y ≡ true → y ≡ x) → find p xs ≡ Some x
@@ -48,18 +49,6 @@ module _ {X : Type 0} where
   first_set (None ∷ places) zero x e below = ap (λ xs. x ∷ xs) e
   first_set (None ∷ places) (suc r) x e below = first_set places r x e (omega arith)
 
-  set_there : (places : Places X) (r : ℕ) (x : X) (q : ℕ) (y : X) → read_of (slice_set places r (Some x)) q ≡ Some y
-      → ((q ≡ r) × (x ≡ y)) ⊎ (read_of places q ≡ Some y)
-  set_there [] r x q y e = inr e
-  set_there (p ∷ places) zero x zero y e = inl (refl, cc)
-  set_there (p ∷ places) zero x (suc q) y e = inr e
-  set_there (p ∷ places) (suc r) x zero y e = inr e
-  set_there (p ∷ places) (suc r) x (suc q) y e =
-      elim (set_there places r x q y e) [
-        | inl here ↦ inl (ap suc here.0, here.1)
-        | inr there ↦ inr there
-      ]
-
   module _ (places : Places X) (r : ℕ) (x : X) (none : all_read places ≡ []) where
     added_is : added places r x ≡ slice_set places r (Some x)
     added_is = rw (empty_there places r none) refl
@@ -72,7 +61,7 @@ module _ {X : Type 0} where
 
     pub added_there : (q : ℕ) (y : X) → read_of (added places r x) q ≡ Some y → (q ≡ r) × (x ≡ y)
     added_there q y e =
-        elim (set_there places r x q y (ap (λ ps. read_of ps q) (sym added_is) ∙ e)) [
+        elim (read_put places r q x y (ap (λ ps. read_of ps q) (sym added_is) ∙ e)) [
           | inl here ↦ here
           | inr there ↦ absurd (cc (empty_there places q none))
         ]

@@ -15,3 +15,6 @@ mod rounds;
 
 pub use height::Instance;
 pub use plan::{Making, OwnFrame, Plan, Signing};
+
+#[cfg(test)]
+mod tests;

@@ -1,0 +1,126 @@
+-- The row of a height, by its place in the list.
+use Rattle.std.proofs.Common.{◌≡◌, ℕ, zero, suc, ◌<◌, inl, inr, Bool, true, false, List, [], ◌∷◌, ◌++◌, length, get_or, Bor, refl, sym, ap, subst, ◌∙◌, arith, eq-eqb}
+use Rattle.std.specs.Prelude.{◌==◌, nat_lt, Option, Some, None, is_some, slice_get, slice_set}
+use Rattle.std.specs.List.{find, position, position_or_len, AllByRecursion}
+use Rattle.std.specs.Option.{option_or, option_copied}
+use Rattle.std.proofs.lemmas.Bool.{cases_Bool, eqb-true, ltb-true, ltb-false, false≢true, ne_eqb}
+use Rattle.std.proofs.lemmas.List.Folds.{find_at, find-append, find-set, find_past}
+use Rattle.std.proofs.lemmas.List.Quantifiers.{position-Some}
+use Rattle.std.proofs.lemmas.Option.{slice_get_past, slice_get_read}
+use Rattle.instance.specs.Rows.{Row}
+use Rattle.height_row.specs.Heights.{row_at, AreApart}
+
+-- whether it is the height's
+abbrev pub is_of : ℕ → Row → Bool
+is_of h row = row.height == h
+
+pub row_at-find : (rows : List Row) (h : ℕ) → row_at rows h ≡ find (is_of h) rows
+row_at-find [] h = refl
+row_at-find (row ∷ rows) h =
+    elim (cases_Bool (row.height == h)) [ inl here ↦ simp here refl | inr there ↦ simp there (row_at-find rows h) ]
+
+-- what holds of each row
+pub all_there : (P : Row → Type 0) (rows : List Row) (place : ℕ) (now : Row) → AllByRecursion P rows → place < length rows → now ≡ get_or rows place now → P now
+all_there P [] place now all within is = absurd (omega arith)
+all_there P (row ∷ rows) zero now all within is = subst P (sym is) all.0
+all_there P (row ∷ rows) (suc place) now all within is = all_there P rows place now all.1 (omega arith) is
+
+-- ---- its place
+
+module _ (rows : List Row) (h : ℕ) where
+  -- a height that is open has one
+  pub has_place : position (is_of h) rows ≡ None → is_some (row_at rows h) ≡ true → ⊥
+  has_place none opened =
+      elim (cases_Bool (nat_lt (position_or_len (is_of h) rows) (length rows))) [
+        | inl within ↦ absurd (cc (rw within at none))
+        | inr past ↦
+            let nothing = row_at-find rows h ∙ find_at (is_of h) rows ∙ slice_get_past rows (position_or_len (is_of h) rows) (ltb-false _ _ past) in
+            false≢true (sym (ap is_some nothing) ∙ opened)
+      ]
+
+  module _ (place : ℕ) (found : position (is_of h) rows ≡ Some place) where
+    place_parts : (place ≡ position_or_len (is_of h) rows) × (place < length rows)
+    place_parts =
+        elim (cases_Bool (nat_lt (position_or_len (is_of h) rows) (length rows))) [
+          | inl within ↦
+              let same : place ≡ position_or_len (is_of h) rows = cc (rw within at found) in
+              (same, subst (λ n. n < length rows) (sym same) (ltb-true _ _ within))
+          | inr past ↦ absurd (cc (rw past at found))
+        ]
+
+    pub place_within : place < length rows
+    place_within = place_parts.1
+
+    pub placed : slice_get rows place ≡ row_at rows h
+    placed = ap (slice_get rows) place_parts.0 ∙ sym (find_at (is_of h) rows) ∙ sym (row_at-find rows h)
+
+    module _ (now : Row) (value : now ≡ get_or rows place now) where
+      held : row_at rows h ≡ Some now
+      held = sym placed ∙ slice_get_read rows (length rows) place now refl place_within value
+
+      height_is : now.height ≡ h
+      height_is = ap (λ row. row.height) value ∙ eqb-true _ _ ((position-Some (is_of h) rows place now found).1)
+
+    module _ (new : Row) (same : new.height ≡ h) where
+      row_at-set : row_at (slice_set rows place new) h ≡ Some new
+      row_at-set =
+          row_at-find (slice_set rows place new) h ∙ find-set (is_of h) rows place new place_parts.0 place_within (eq-eqb new.height h same)
+
+      others_stay : AreApart h rows (slice_set rows place new)
+      others_stay other differs =
+          row_at-find (slice_set rows place new) other
+          ∙ find_past (is_of other) rows place new new (ne_eqb _ _ (λ e. differs (sym e ∙ was))) (ne_eqb _ _ (λ e. differs (sym e ∙ same)))
+          ∙ sym (row_at-find rows other)
+        where
+          was : (get_or rows place new).height ≡ h
+          was = eqb-true _ _ ((position-Some (is_of h) rows place new found).1)
+
+-- ---- the row of an open height, and another of that height in its place
+
+pub record IsHeld (rows : List Row) (h place : ℕ) (now : Row) : Type 0 where
+  pub within : place < length rows
+  pub height : now.height ≡ h
+  pub held : row_at rows h ≡ Some now
+  pub only : (row : Row) → row_at rows h ≡ Some row → now ≡ row
+
+pub is_held : {rows : List Row} {h place : ℕ} (now : Row) → position (is_of h) rows ≡ Some place → now ≡ get_or rows place now → IsHeld rows h place now
+is_held {rows} {h} {place} now found value =
+    let there = held rows h place found now value in
+    record { within = place_within rows h place found; height = height_is rows h place found now value; held = there; only = λ row was. cc (sym there ∙ was) }
+
+pub record IsPut (rows : List Row) (h place : ℕ) (new : Row) : Type 0 where
+  pub opened : is_some (row_at (slice_set rows place new) h) ≡ true
+  pub only : (row : Row) → row_at (slice_set rows place new) h ≡ Some row → new ≡ row
+  pub apart : AreApart h rows (slice_set rows place new)
+
+pub is_put : {rows : List Row} {h place : ℕ} (new : Row) → position (is_of h) rows ≡ Some place → new.height ≡ h → IsPut rows h place new
+is_put {rows} {h} {place} new found same =
+    let there = row_at-set rows h place found new same in
+    record { opened = ap is_some there; only = λ row is. cc (sym there ∙ is); apart = others_stay rows h place found new same }
+
+-- ---- a row more
+
+module _ (rows : List Row) (h : ℕ) (row : Row) (same : row.height ≡ h) where
+  pub row_at-push : row_at rows h ≡ None → row_at (rows ++ row ∷ []) h ≡ Some row
+  row_at-push none =
+      row_at-find (rows ++ row ∷ []) h
+      ∙ find-append (is_of h) rows (row ∷ [])
+      ∙ ap (λ o. option_or o (find (is_of h) (row ∷ []))) (sym (row_at-find rows h) ∙ none)
+      ∙ simp (eq-eqb row.height h same) refl
+
+  pub others_stay-push : (other : ℕ) → (other ≡ h → ⊥) → row_at (rows ++ row ∷ []) other ≡ row_at rows other
+  others_stay-push other differs =
+      row_at-find (rows ++ row ∷ []) other
+      ∙ find-append (is_of other) rows (row ∷ [])
+      ∙ ap (option_or (find (is_of other) rows)) (simp (ne_eqb row.height other (λ e. differs (sym e ∙ same))) refl)
+      ∙ or_nothing (find (is_of other) rows)
+      ∙ sym (row_at-find rows other)
+    where
+      or_nothing : (o : Option Row) → option_or o None ≡ o
+      or_nothing None = refl
+      or_nothing (Some x) = refl
+
+-- what is not found is not open
+pub not_open : (o : Option (Bor Row)) (b : Bool) (found : Option Row) → option_copied o ≡ found → b ≡ is_some o → b ≡ false → found ≡ None
+not_open None b found is tested none = sym is
+not_open (Some x) b found is tested none = absurd (false≢true (sym none ∙ tested))

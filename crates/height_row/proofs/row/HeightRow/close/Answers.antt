@@ -1,0 +1,33 @@
+use Rattle.std.proofs.Common.{sym, ◌∙◌, arith}
+use Rattle.height_row.proofs.Finding.{place_within, is_held, is_put}
+use Rattle.height_row.proofs.row.HeightRow.close.Goals as goal
+
+pub index_mut-requires : goal.index_mut-requires
+index_mut-requires c =
+    let within = place_within c.self.inside.instances.items c.args.height c.position-place.result (rw (sym c.self.view_is) at c.position-place.ensures) in
+    omega (arith, within, c.self.inside.instances.ok.0)
+
+pub close-requires-clause-plan : goal.close-requires-clause-plan
+close-requires-clause-plan c =
+    let found = rw (sym c.self.view_is) at c.position-place.ensures in
+    (rw (sym c.self.view_is) at c.requires.plan) c.index_mut.result.now (is_held c.index_mut.result.now found c.index_mut.ensures.value).held
+
+pub returns-clause-matches : goal.returns-clause-matches
+returns-clause-matches c row new was is ring log matches clock signed =
+    let found = rw (sym c.self.view_is) at c.position-place.ensures in
+    let old = is_held c.index_mut.result.now found c.index_mut.ensures.value in
+    let put = is_put c.close.new.self found (c.close.ensures.same.height ∙ old.height) in
+    let same = old.only row (rw (sym c.self.view_is) at was) in
+    rw (sym (put.only new is)) (c.close.ensures.matches ring log (rw (sym same) at matches) clock signed)
+
+pub returns-clause-open : goal.returns-clause-open
+returns-clause-open c =
+    let found = rw (sym c.self.view_is) at c.position-place.ensures in
+    let old = is_held c.index_mut.result.now found c.index_mut.ensures.value in
+    (is_put c.close.new.self found (c.close.ensures.same.height ∙ old.height)).opened
+
+pub returns-clause-apart : goal.returns-clause-apart
+returns-clause-apart c =
+    let found = rw (sym c.self.view_is) at c.position-place.ensures in
+    let old = is_held c.index_mut.result.now found c.index_mut.ensures.value in
+    rw (sym c.self.view_is) ((is_put c.close.new.self found (c.close.ensures.same.height ∙ old.height)).apart)

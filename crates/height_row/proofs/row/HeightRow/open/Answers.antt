@@ -1,0 +1,23 @@
+use Rattle.std.proofs.Common.{◌≡◌, Some, sym, ap, ◌∙◌}
+use Rattle.height_row.proofs.Finding.{not_open, row_at-push, others_stay-push}
+use Rattle.height_row.proofs.row.HeightRow.open.Goals as goal
+
+pub returns-clause-opened : goal.returns-clause-opened
+returns-clause-opened c =
+    let none = not_open c.get.result c.is_some.result _ (rw (sym c.self.view_is) at c.get.ensures) c.is_some.ensures c.if-is_some.false in
+    let height = ap (λ row. row.height) c.in_ok-instance.ensures.row in
+    rw (c.in_ok-push.ensures.items, sym c.self.view_is)
+    (row_at-push c.self.inside.instances.items c.args.height c.in_ok-instance.instance height none ∙ ap Some c.in_ok-instance.ensures.row)
+
+pub returns-clause-matches : goal.returns-clause-matches
+returns-clause-matches c row is ring log before =
+    let none = not_open c.get.result c.is_some.result _ (rw (sym c.self.view_is) at c.get.ensures) c.is_some.ensures c.if-is_some.false in
+    let height = ap (λ row. row.height) c.in_ok-instance.ensures.row in
+    let there = row_at-push c.self.inside.instances.items c.args.height c.in_ok-instance.instance height none in
+    let same : c.in_ok-instance.instance ≡ row = cc (sym there ∙ (rw c.in_ok-push.ensures.items at is)) in
+    rw (sym same) (c.in_ok-instance.ensures.matches ring log before)
+
+pub returns-clause-apart : goal.returns-clause-apart
+returns-clause-apart c other differs =
+    let height = ap (λ row. row.height) c.in_ok-instance.ensures.row in
+    rw (c.in_ok-push.ensures.items, sym c.self.view_is) (others_stay-push c.self.inside.instances.items c.args.height c.in_ok-instance.instance height other differs)

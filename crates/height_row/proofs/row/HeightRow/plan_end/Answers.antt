@@ -1,0 +1,27 @@
+use Rattle.std.proofs.Common.{sym, arith}
+use Rattle.std.proofs.lemmas.Result.{IfOk-weaker}
+use Rattle.height_row.proofs.Finding.{place_within, is_held}
+use Rattle.height_row.proofs.row.HeightRow.plan_end.Goals as goal
+
+pub index-requires : goal.index-requires
+index-requires c =
+    let within = place_within c.self.inside.instances.items c.args.height c.position-place.result (rw (sym c.self.view_is) at c.position-place.ensures) in
+    omega (arith, within, c.self.inside.instances.ok.0)
+
+pub returns-clause-plan : goal.returns-clause-plan
+returns-clause-plan c =
+    let held = is_held c.index.result.now (rw (sym c.self.view_is) at c.position-place.ensures) c.index.ensures in
+    IfOk-weaker c.plan_end.result _ _ (λ plan is row was. rw (sym (held.only row (rw (sym c.self.view_is) at was))) is) c.plan_end.ensures.plan
+
+pub returns-clause-makes : goal.returns-clause-makes
+returns-clause-makes c =
+    let held = is_held c.index.result.now (rw (sym c.self.view_is) at c.position-place.ensures) c.index.ensures in
+    IfOk-weaker c.plan_end.result _ _ (λ plan is row was ring log matches.
+    let same = held.only row (rw (sym c.self.view_is) at was) in
+    rw (sym same) (is ring log (rw (sym same) at matches))) c.plan_end.ensures.makes
+
+pub returns-clause-sends_on : goal.returns-clause-sends_on
+returns-clause-sends_on c =
+    let held = is_held c.index.result.now (rw (sym c.self.view_is) at c.position-place.ensures) c.index.ensures in
+    IfOk-weaker c.plan_end.result _ _ (λ plan is row was ring log matches.
+    is ring log (rw (sym (held.only row (rw (sym c.self.view_is) at was))) at matches)) c.plan_end.ensures.sends_on

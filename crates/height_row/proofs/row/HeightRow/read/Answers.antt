@@ -1,0 +1,54 @@
+use Rattle.std.proofs.Common.{◌≡◌, sym, ap, ◌∙◌, arith}
+use Rattle.std.proofs.lemmas.Result.{IfOk-weaker}
+use Rattle.ledger_model.specs.Logs.{height_of}
+use Rattle.height_row.proofs.Finding.{all_there, place_within, is_held, is_put}
+use Rattle.height_row.proofs.row.HeightRow.read.Goals as goal
+
+pub index_mut-requires : goal.index_mut-requires
+index_mut-requires c =
+    let within = place_within c.self.inside.instances.items c.height.result c.position-place.result (rw (sym c.self.view_is) at c.position-place.ensures) in
+    omega (arith, within, c.self.inside.instances.ok.0)
+
+pub read-requires-clause-signer : goal.read-requires-clause-signer
+read-requires-clause-signer c =
+    let held = is_held c.index_mut.result.now (rw (sym c.self.view_is) at c.position-place.ensures) c.index_mut.ensures.value in
+    let same = all_there _ c.self.inside.instances.items c.position-place.result c.index_mut.result.now c.self.invariant.1 held.within c.index_mut.ensures.value in
+    rw same.0 (rw (sym c.self.view_is) at c.requires.signer)
+
+pub read-requires-clause-height : goal.read-requires-clause-height
+read-requires-clause-height c =
+    let held = is_held c.index_mut.result.now (rw (sym c.self.view_is) at c.position-place.ensures) c.index_mut.ensures.value in
+    sym (held.height ∙ c.height.ensures ∙ ap height_of c.statement.ensures.statement)
+
+pub returns-clause-answer : goal.returns-clause-answer
+returns-clause-answer c =
+    let height = c.height.ensures ∙ ap height_of c.statement.ensures.statement in
+    let held = is_held c.index_mut.result.now (rw (sym c.self.view_is, height) at c.position-place.ensures) c.index_mut.ensures.value in
+    IfOk-weaker c.read.result _ _ (λ r is row was log matches clock.
+    let same = held.only row (rw (sym c.self.view_is) at was) in
+    rw (sym same) (is log (rw (sym same) at matches) clock)) c.read.ensures.answer
+
+pub returns-clause-read : goal.returns-clause-read
+returns-clause-read c =
+    IfOk-weaker c.read.result _ _ (λ r done row new was is log matches clock.
+    let height = c.height.ensures ∙ ap height_of c.statement.ensures.statement in
+    let found = rw (sym c.self.view_is, height) at c.position-place.ensures in
+    let held = is_held c.index_mut.result.now found c.index_mut.ensures.value in
+    let put = is_put c.read.new.self found (c.read.ensures.same.height ∙ held.height) in
+    let same = held.only row (rw (sym c.self.view_is) at was) in
+    let after : c.read.new.self ≡ new = put.only new is in
+    rw (sym after) (done log (rw (sym same) at matches) clock)) c.read.ensures.read
+
+pub returns-clause-open : goal.returns-clause-open
+returns-clause-open c =
+    let height = c.height.ensures ∙ ap height_of c.statement.ensures.statement in
+    let found = rw (sym c.self.view_is, height) at c.position-place.ensures in
+    let held = is_held c.index_mut.result.now found c.index_mut.ensures.value in
+    (is_put c.read.new.self found (c.read.ensures.same.height ∙ held.height)).opened
+
+pub returns-clause-apart : goal.returns-clause-apart
+returns-clause-apart c =
+    let height = c.height.ensures ∙ ap height_of c.statement.ensures.statement in
+    let found = rw (sym c.self.view_is, height) at c.position-place.ensures in
+    let held = is_held c.index_mut.result.now found c.index_mut.ensures.value in
+    rw (sym c.self.view_is) ((is_put c.read.new.self found (c.read.ensures.same.height ∙ held.height)).apart)

@@ -1,0 +1,40 @@
+-- The heights that a replica has opened.
+use Rattle.std.specs.Prelude.{◌≡◌, ℕ, ◌+◌, ◌==◌, nat_lt, ◌||◌, List, [], ◌∷◌, Option, Some, None, is_some, Result, if◌then◌else◌}
+use Rattle.ledger_model.specs.declared.config.Config.{Config}
+use Rattle.ledger_model.specs.declared.reply.ProposeRefusal.{ProposeRefusal}
+use Rattle.ledger_model.specs.declared.reply.ProposeRefusal.TheVariants as refusal
+use Rattle.ledger_model.specs.Values.{Value}
+use Rattle.ledger_model.specs.Commits.{first_fault}
+use Rattle.instance.specs.Rows.{Row}
+
+-- a replica of a cluster, and what it keeps of each height that it opened
+pub record Heights : Type 0 where
+  pub config : Config
+  pub id : ℕ
+  pub rows : List Row
+
+-- what is kept of a height, if it is open
+abbrev pub row_at : List Row → ℕ → Option Row
+row_at [] h = None
+row_at (row ∷ rows) h = if row.height == h then Some row else row_at rows h
+
+abbrev pub decided_in : Option Row → Option Value
+decided_in None = None
+decided_in (Some row) = row.decided
+
+-- why a height is not opened, where so many blocks are committed: the first that fits
+abbrev pub open_answer : List Row → ℕ → ℕ → Result (Unit {0}) ProposeRefusal
+open_answer rows committed h = first_fault (
+    ((h == 0) || nat_lt 4096 h, refusal.Closed)
+    ∷ (is_some (row_at rows h), refusal.AlreadyOpen)
+    ∷ (nat_lt (committed + 4) h, refusal.TooFar)
+    ∷ []) tt
+
+-- the other heights are as they were
+abbrev pub AreApart : ℕ → List Row → List Row → Type 0
+AreApart h old new = (other : ℕ) → (other ≡ h → ⊥) → row_at new other ≡ row_at old other
+
+-- it is the same replica's
+pub record IsSameReplica (old new : Heights) : Type 0 where
+  pub config : new.config ≡ old.config
+  pub id : new.id ≡ old.id

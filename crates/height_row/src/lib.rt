@@ -1,0 +1,9 @@
+//! The heights that a replica has opened, each an instance of its own. What happens at one leaves the others.
+#![tactic(auto)]
+
+mod row;
+
+pub use row::HeightRow;
+
+#[cfg(test)]
+mod tests;
