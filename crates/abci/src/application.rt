@@ -1,3 +1,4 @@
+//! What an application is: the calls of ABCI, each with its meaning.
 use crate::{CheckKind, Info, QueryFault};
 use ledger_model::{Height, Tx};
 use std::alloc::AllocError;

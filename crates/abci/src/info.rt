@@ -1,3 +1,4 @@
+//! What the calls of an application are given and answer, beside its transactions.
 use thiserror::Error;
 
 /// What an application tells of itself (ABCI's `ResponseInfo`).

@@ -1,3 +1,4 @@
+//! An executor: an application that runs one block after another.
 ghost use Rattle.std.specs.Prelude.{◌≡◌, ◌≢◌, ◌<◌, ◌↔◌, [], None, IfOk, OnErr, IsErrOf, option_map};
 ghost use Rattle.ledger_model.specs.Applications.{run};
 ghost use Rattle.abci.specs.Meaning.{TellsOf, AnswersTo, without_work};

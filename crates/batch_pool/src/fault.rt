@@ -1,3 +1,4 @@
+//! Why a transaction is not taken into the pool.
 ghost use Rattle.std.specs.Prelude.{◌≡◌};
 ghost use Rattle.batch_pool.specs.declared.fault.SubmitFault.TheVariants.{NoMemory};
 

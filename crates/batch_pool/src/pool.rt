@@ -1,3 +1,4 @@
+//! The pool: the transactions that wait for a block, in the order in which they came.
 ghost use Rattle.std.specs.Prelude.{◌≡◌, ◌<◌, ◌≤◌, ◌==◌, ◌↔◌, false, nat_lt, [], ◌∷◌, ◌++◌, length, take, IfOk, OnOk, IfSome, is_ok, if◌then◌else◌};
 ghost use Rattle.ledger_model.specs.Commits.{is_among};
 ghost use Rattle.batch_pool.specs.Distinct.{NoneTwice};

@@ -1,3 +1,4 @@
+//! A transaction in the pool, as its set finds it: by the hash of its bytes.
 use ledger_model::Tx;
 use std::hash::{Hash, Hasher};
 use std::marker::Model;

@@ -1,3 +1,4 @@
+//! The heights that a replica has opened, each an instance of agreement.
 ghost use Rattle.std.specs.Prelude.{◌≡◌, ◌==◌};
 ghost use Rattle.std.specs.List.{find, position};
 ghost use Rattle.std.specs.Option.{option_copied};

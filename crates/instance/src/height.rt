@@ -1,3 +1,4 @@
+//! Agreement at one height: what is kept of it, and how it begins.
 use ledger_model::{Ack, Batch, Config, Height, Lock, ReplicaId, SignedReport};
 use lock_proofs::LockTable;
 use proper_sets::Proper;

@@ -1,3 +1,4 @@
+//! Why a signer signs nothing.
 use thiserror::Error;
 
 /// Why nothing was signed.

@@ -1,3 +1,4 @@
+//! The public keys of the replicas, by number.
 use ledger_model::ReplicaId;
 use lms_tree::PublicKey;
 use std::marker::Model;

@@ -1,3 +1,4 @@
+//! A signer: a tree of one-time keys, of which it uses each leaf once.
 use crate::SignFault;
 use lm_ots::{Identifier, Params, Seed};
 use lms_tree::{PublicKey, Tree};

@@ -26,30 +26,39 @@ use Rattle.ledger_model.specs.Replies.{check_reply, query_reply}
 use Rattle.ledger_model.specs.Commits.{pool_after_block}
 use Rattle.ledger_model.specs.Lawful.{Replay}
 
+-- a cluster of four replicas, of which one may lie
 abbrev pub four : AppKind → Config
 four kind = record { replicas = 4; faults = 1; kind = kind; enough = lit≤ tt; bounded = lit≤ tt; tolerant = lit≤ tt }
 
+-- the value of the one transaction that sets this letter to 1
 abbrev pub one : ℕ → Value
 one letter = (letter ∷ 0x3d ∷ 0x31 ∷ []) ∷ []
 
+-- [a=1]
 abbrev pub a : Value
 a = one 0x61
 
+-- [b=1]
 abbrev pub b : Value
 b = one 0x62
 
+-- [c=1]
 abbrev pub c : Value
 c = one 0x63
 
+-- [d=1]
 abbrev pub d : Value
 d = one 0x64
 
+-- [m=1]
 abbrev pub m : Value
 m = one 0x6d
 
+-- [x=1]
 abbrev pub x : Value
 x = one 0x78
 
+-- [y=1]
 abbrev pub y : Value
 y = one 0x79
 
@@ -62,12 +71,15 @@ reads signer initial all proper = Read 1 (record {
   signature = [];
 })
 
+-- the log of a replica that proposed the value and opened round 1, and what it read there
 abbrev pub opened : Value → List Note → List Note
 opened own reports = Proposed own ∷ Round 1 ∷ reports
 
+-- the values that are proper by name for replica 0 as phase 2 opens, in such a log
 abbrev pub proper_of : Value → List Note → List Value
 proper_of own reports = proper_values (four KvStore) 0 (opened own reports) 2 own
 
+-- whether every value is proper there
 abbrev pub all_of : Value → List Note → Bool
 all_of own reports = is_all_proper (four KvStore) 0 (opened own reports) 2 own
 
@@ -99,12 +111,15 @@ CutToFour =
 
 -- ---- locks and decisions, at replica 1 of four, which owns phase 1
 
+-- a lock of this phase and signer on the value, without its proof
 abbrev pub a_lock : ℕ → ℕ → Value → Lock
 a_lock phase signer v = record { height = 1; phase = phase; signer = signer; value = v; proof = [] }
 
+-- such a lock was read in the round
 abbrev pub reads_lock : ℕ → ℕ → ℕ → Value → Note
 reads_lock round phase signer v = Read round (record { statement = statement.Lock (a_lock phase signer v); signature = [] })
 
+-- an acknowledgement of [a=1] was read at place 3 of phase 1
 abbrev pub reads_ack : ℕ → Note
 reads_ack signer = Read 3 (record { statement = statement.Ack (record { height = 1; phase = 1; signer = signer; value = a }); signature = [] })
 
@@ -140,6 +155,7 @@ TwoLocksHeld = held_values (to_round_3 ++ Round 4 ∷ Round 5 ∷ Round 6 ∷ re
 abbrev pub first_report : Report
 first_report = record { height = 1; phase = 1; signer = 0; all = false; initial = a; proper = a ∷ []; locked = [] }
 
+-- the first report of replica 0 that proposed [a=1] has these 23 bytes
 abbrev pub ReportSpelled : Type 0
 ReportSpelled =
     (report_bytes first_report
@@ -147,6 +163,7 @@ ReportSpelled =
     ∷ 0x01 ∷ 0x03 ∷ 0x61 ∷ 0x3d ∷ 0x31 ∷ 0x01 ∷ 0x01 ∷ 0x03 ∷ 0x61 ∷ 0x3d ∷ 0x31 ∷ 0x00 ∷ [])
     × (length (report_bytes first_report) ≡ 23)
 
+-- that report with a signature of two bytes
 abbrev pub signed_report : SignedStatement
 signed_report = record { statement = statement.Report first_report; signature = 5 ∷ 6 ∷ [] }
 
@@ -154,6 +171,7 @@ signed_report = record { statement = statement.Report first_report; signature = 
 abbrev pub by_signer : ℕ → SignedReport
 by_signer signer = record { report = record first_report { signer = signer }; signature = 7 ∷ [] }
 
+-- a lock on [a=1] with this proof
 abbrev pub signed_lock : List SignedReport → SignedStatement
 signed_lock proof = record { statement = statement.Lock (record { height = 1; phase = 1; signer = 1; value = a; proof = proof }); signature = [] }
 
@@ -174,12 +192,15 @@ BatchLimits =
 
 -- ---- digits and checksums (RFC 8554, sections 3.1.3 and 4.4)
 
+-- W4 with H5
 abbrev pub w4 : Params
 w4 = record { width = 4; chains = 67; shift = 4; height = 5; ots_code = 3; lms_code = 5 }
 
+-- W8 with H5
 abbrev pub w8 : Params
 w8 = record { width = 8; chains = 34; shift = 0; height = 5; ots_code = 4; lms_code = 5 }
 
+-- two digits of the standard's example, and the checksums of 32 zero bytes
 abbrev pub DigitsAndChecksums : Type 0
 DigitsAndChecksums =
     (coef (0x12 ∷ 0x34 ∷ []) 7 1 ≡ 0) × (coef (0x12 ∷ 0x34 ∷ []) 0 4 ≡ 1)
@@ -214,6 +235,7 @@ PursePays =
 
 -- ---- histories
 
+-- the transaction a=1
 abbrev pub tx_a : List ℕ
 tx_a = 0x61 ∷ 0x3d ∷ 0x31 ∷ []
 
@@ -228,5 +250,6 @@ first_entries =
     ∷ record { event = event.Execute; reply = reply.Executed (Err (record {})) }
     ∷ []
 
+-- these entries are a replay
 abbrev pub FirstEntriesReplay : Type 0
 FirstEntriesReplay = Replay (four KvStore) [] 0 first_entries

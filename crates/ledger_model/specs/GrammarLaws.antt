@@ -14,9 +14,11 @@ IsBytes bytes = (i : ℕ) → slice_index bytes i < 256
 abbrev pub FramesReadAreSpelled : Type 0
 FramesReadAreSpelled = (bytes : List ℕ) (s : SignedStatement) → IsBytes bytes → reading bytes ≡ Some s → SpellsFrame bytes s
 
+-- the same of statements
 abbrev pub StatementsReadAreSpelled : Type 0
 StatementsReadAreSpelled = (bytes : List ℕ) (s : Statement) → IsBytes bytes → statement_reading bytes ≡ Some s → Spells bytes s
 
+-- and of the bodies of frames
 abbrev pub BodiesReadAreSpelled : Type 0
 BodiesReadAreSpelled =
     (bytes : List ℕ) (s : SignedStatement) → IsBytes bytes → body_reading bytes ≡ Some s
@@ -26,9 +28,11 @@ BodiesReadAreSpelled =
 abbrev pub FramesSpelledAreRead : Type 0
 FramesSpelledAreRead = (s : SignedStatement) → IsFrame s → reading (frame_bytes s) ≡ Some s
 
+-- the same of statements
 abbrev pub StatementsSpelledAreRead : Type 0
 StatementsSpelledAreRead = (s : Statement) → IsStatement s → statement_reading (statement_bytes s) ≡ Some s
 
+-- and of the bodies of frames
 abbrev pub BodiesSpelledAreRead : Type 0
 BodiesSpelledAreRead = (s : SignedStatement) → IsStatement s.statement → IsSignature s.signature → body_reading (body_bytes s) ≡ Some s
 

@@ -10,6 +10,7 @@ pub record SignedLock : Type 0 where
   pub lock : Lock
   pub signature : List ℕ
 
+-- the lock as a signed statement
 abbrev pub as_statement : SignedLock → SignedStatement
 as_statement s = record { statement = statement.Lock s.lock; signature = s.signature }
 

@@ -13,5 +13,6 @@ tx_bytes tx = length tx ∷ tx
 abbrev pub tx_cmp : List ℕ → List ℕ → Ordering
 tx_cmp = on tx_bytes (slice_cmp nat_cmp)
 
+-- the order of values: that of their encodings
 abbrev pub value_cmp : Value → Value → Ordering
 value_cmp = on value_bytes (slice_cmp nat_cmp)

@@ -12,12 +12,15 @@ use Rattle.std.proofs.lemmas.Bool.{false≢true, eqb-true}
 use Rattle.ledger_model.specs.Values.{Value, value_bytes, same_value}
 use Rattle.ledger_model.specs.Order.{tx_bytes, tx_cmp, value_cmp}
 
+-- the order of transactions is total
 pub tx_total : IsTotalOrder tx_cmp
 tx_total = on_total tx_bytes nat_list_cmp_total
 
+-- so is the order of values
 pub value_total : IsTotalOrder value_cmp
 value_total = on_total value_bytes nat_list_cmp_total
 
+-- being the same value is an equivalence
 pub same_value-equiv : IsEquivalence same_value
 same_value-equiv = lists_equiv nat_list_eq_equiv
 
@@ -79,14 +82,18 @@ lengths_first E R ties xs ys =
     ∙ sym (lists_ties R ties xs ys) ∙ e)
     (λ e. lists_ties R ties xs ys ∙ second_tied (nat_cmp (length xs) (length ys)) (slice_cmp R xs ys) e)
 
+-- transactions are equal in the order just where their bytes are the same
 pub tx_ties : (x y : List ℕ) → pointwise nat_eq x y ≡ is_eq (tx_cmp x y)
 tx_ties = lengths_first nat_eq nat_cmp unsigned_ties
 
+-- values are equal in the order just where they are the same
 pub value_ties : (v w : Value) → same_value v w ≡ is_eq (value_cmp v w)
 value_ties v w = lengths_first (pointwise nat_eq) tx_cmp tx_ties v w ∙ ap is_eq (sym (value_cmp-parts v w))
 
+-- as a partial order it compares all transactions
 pub tx_partial : IsPartialOrder (pointwise nat_eq) (as_partial_cmp tx_cmp)
 tx_partial = po tx_total tx_ties
 
+-- and all values
 pub value_partial : IsPartialOrder same_value (as_partial_cmp value_cmp)
 value_partial = po value_total value_ties

@@ -59,6 +59,7 @@ pub record ProperSet : Type 0 where
 abbrev pub only_own : Value → ProperSet
 only_own own = record { own = own; all = false; explicit = own ∷ [] }
 
+-- the value is proper: all are, or it is by name
 abbrev pub is_proper : ProperSet → Value → Bool
 is_proper proper v = proper.all || list_any (same_value v) proper.explicit
 
@@ -78,6 +79,7 @@ absorbed config id reports proper = record {
 abbrev pub is_found_by : Config → List Report → Value → Bool
 is_found_by config reports v = nat_le (quorum config) (count_where (λ p. finds p v) reports)
 
+-- the first of the values, if there is one
 abbrev pub first_value : List Value → Option Value
 first_value [] = None
 first_value (v ∷ vs) = Some v

@@ -12,6 +12,7 @@ use Rattle.ledger_model.specs.Values.{Value}
 use Rattle.ledger_model.specs.Validity.{ascends_within, signers_of}
 use Rattle.ledger_model.specs.Spelling.{are_ascending}
 
+-- what f reads on from what was read, if anything was
 infixl 10 ◌>>=◌
 abbrev pub ◌>>=◌ : {A B : Type 0} → Option A → (A → Option B) → Option B
 (Some x) >>= f = f x
@@ -25,13 +26,16 @@ only_if test x = if test then Some x else None
 abbrev pub guarded : {A : Type 0} → Bool → Option A → Option A
 guarded test read = if test then read else None
 
+-- the first n bytes, and those behind them
 abbrev pub bytes_at : ℕ → List ℕ → Option (List ℕ × List ℕ)
 bytes_at n bytes = only_if (nat_le n (length bytes)) (take n bytes, drop n bytes)
 
+-- the first byte, and those behind it
 abbrev pub byte_at : List ℕ → Option (ℕ × List ℕ)
 byte_at [] = None
 byte_at (b ∷ bytes) = Some (b, bytes)
 
+-- a number of this width, its highest byte first
 abbrev pub number_at : Width → List ℕ → Option (ℕ × List ℕ)
 number_at w bytes = do
   n ← bytes_at (byte_len w) bytes
@@ -43,6 +47,7 @@ tx_at bytes = do
   len ← byte_at bytes
   guarded (nat_le 1 len.0 && nat_le len.0 64) (bytes_at len.0 len.1)
 
+-- so many transactions
 unfoldable pub txs_at : ℕ → List ℕ → Option (Value × List ℕ)
 txs_at zero bytes = Some ([], bytes)
 txs_at (suc n) bytes = do
@@ -50,11 +55,13 @@ txs_at (suc n) bytes = do
   rest ← txs_at n tx.1
   Some (tx.0 ∷ rest.0, rest.1)
 
+-- a value: how many transactions, 0 to 16, and those
 unfoldable pub value_at : List ℕ → Option (Value × List ℕ)
 value_at bytes = do
   count ← byte_at bytes
   guarded (nat_le count.0 16) (txs_at count.0 count.1)
 
+-- so many values
 unfoldable pub values_at : ℕ → List ℕ → Option (List Value × List ℕ)
 values_at zero bytes = Some ([], bytes)
 values_at (suc n) bytes = do
@@ -94,6 +101,7 @@ pub record Place : Type 0 where
   pub phase : ℕ
   pub signer : ℕ
 
+-- its height, its phase and its signer
 unfoldable pub place_at : List ℕ → Option (Place × List ℕ)
 place_at bytes = do
   height ← positive_at bytes
@@ -101,6 +109,7 @@ place_at bytes = do
   signer ← byte_at phase.1
   Some (record { height = height.0; phase = phase.0; signer = signer.0 }, signer.1)
 
+-- a report, from behind its first byte on
 unfoldable pub report_at : List ℕ → Option (Report × List ℕ)
 report_at bytes = do
   place ← place_at bytes
@@ -118,6 +127,7 @@ signed_at bytes = do
   signature ← signature_at report.1
   Some (record { report = report.0; signature = signature.0 }, signature.1)
 
+-- so many signed reports
 unfoldable pub proof_at : ℕ → List ℕ → Option (List SignedReport × List ℕ)
 proof_at zero bytes = Some ([], bytes)
 proof_at (suc n) bytes = do
@@ -125,6 +135,7 @@ proof_at (suc n) bytes = do
   rest ← proof_at n first.1
   Some (first.0 ∷ rest.0, rest.1)
 
+-- a lock, from behind its first byte on: 3 to 12 reports whose signers ascend
 unfoldable pub lock_at : List ℕ → Option (Lock × List ℕ)
 lock_at bytes = do
   place ← place_at bytes
@@ -134,12 +145,14 @@ lock_at bytes = do
   only_if (ascends_within 0 256 (signers_of reports.0))
       (record { height = place.0.height; phase = place.0.phase; signer = place.0.signer; value = v.0; proof = reports.0 }, reports.1)
 
+-- an acknowledgement, from behind its first byte on
 unfoldable pub ack_at : List ℕ → Option (Ack × List ℕ)
 ack_at bytes = do
   place ← place_at bytes
   v ← value_at place.1
   Some (record { height = place.0.height; phase = place.0.phase; signer = place.0.signer; value = v.0 }, v.1)
 
+-- a statement: its first byte says of which kind it is
 unfoldable pub statement_at : List ℕ → Option (Statement × List ℕ)
 statement_at bytes = byte_at bytes >>= (λ kind.
     if kind.0 == 1 then report_at kind.1 >>= (λ r. Some (statement.Report r.0, r.1))

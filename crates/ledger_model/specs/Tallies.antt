@@ -11,6 +11,7 @@ abbrev pub flat : {X : Type 0} → Option (Option X) → Option X
 flat None = None
 flat (Some place) = place
 
+-- what was read of replica r, if anything was
 abbrev pub read_of : {X : Type 0} → Places X → ℕ → Option X
 read_of places r = flat (slice_get places r)
 

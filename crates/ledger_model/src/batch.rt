@@ -1,3 +1,4 @@
+//! Transactions, batches of them, and the keys of queries, with their limits.
 ghost use Rattle.std.specs.Prelude.{◌≡◌, ◌<◌, ◌≤◌, ◌↔◌, length, IfOk, IsErrOf, vec_len};
 
 use std::alloc::{AllocError, Global};

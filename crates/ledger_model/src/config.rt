@@ -1,3 +1,4 @@
+//! The configuration of a cluster: N replicas, of which t may lie, with N >= 3t+1.
 ghost use Rattle.std.specs.Prelude.{◌≡◌, ◌*◌, ◌+◌, ◌<◌, ◌≤◌, ◌↔◌, IfOk, IsErrOf};
 ghost use Rattle.ledger_model.specs.declared.config.ConfigFault.TheVariants.{TooFew, TooMany, NoFault};
 

@@ -1,3 +1,4 @@
+//! The events that a replica takes; `specs/Lawful` says what each is answered.
 use crate::{Height, Key};
 use bytes::Bytes;
 use std::alloc::AllocError;

@@ -1,3 +1,4 @@
+//! The history of a replica: each event that it took, with its reply.
 use crate::{Event, ReplicaId, Reply};
 use std::marker::Model;
 

@@ -1,3 +1,4 @@
+//! The ledger: the batches that were committed, one a height.
 use crate::Batch;
 use std::alloc::{AllocError, Global};
 use std::marker::Model;

@@ -1,3 +1,4 @@
+//! What a replica answers to each event.
 ghost use Rattle.std.specs.Prelude.{◌≡◌, IfOk};
 
 use crate::{Batch, Height, ReplicaId};

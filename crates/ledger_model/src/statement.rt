@@ -1,3 +1,4 @@
+//! What replicas tell each other: reports, locks and acknowledgements.
 ghost use Rattle.std.specs.Prelude.{◌≡◌};
 ghost use Rattle.std.specs.List.{list_any, list_all};
 ghost use Rattle.ledger_model.specs.Values.{same_value};

@@ -1,3 +1,4 @@
+//! One step of a chain, as one block of SHA-256.
 use crate::{Identifier, Seed};
 use sha2::{Digest, Sha256};
 

@@ -1,3 +1,4 @@
+//! The digits of a digest and of its checksum.
 ghost use Rattle.std.specs.Prelude.{◌≡◌, ◌<◌, ◌++◌, ◌*◌, ◌/◌, length};
 ghost use Rattle.std.specs.Int.{w16, to_be_bytes};
 ghost use Rattle.ledger_model.specs.Signatures.{coef, checksum};

@@ -1,3 +1,4 @@
+//! What the hashes of RFC 8554 have in common, and the digest of a message.
 ghost use Rattle.std.specs.Prelude.{◌≡◌, ◌++◌, ◌≤◌, length, take};
 ghost use Rattle.std.specs.Int.{w16, w32, to_be_bytes, from_be_bytes};
 ghost use Rattle.sha2.specs.Hashers.{Holds256};

@@ -1,3 +1,4 @@
+//! The identifier of a key pair.
 use std::marker::Model;
 
 /// The identifier of a key pair, 16 bytes: `I` of RFC 8554.

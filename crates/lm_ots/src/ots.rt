@@ -1,3 +1,4 @@
+//! One leaf: its public value, its signature, and the public value that a signature leads to.
 ghost use Rattle.std.specs.Prelude.{◌≡◌, ◌↔◌, ◌*◌, ◌-◌, IfOk, IfSome, IsSome, length, map, take};
 ghost use Rattle.std.specs.List.{range_with_len};
 ghost use Rattle.std.specs.Int.{w32, from_be_bytes};

@@ -1,3 +1,5 @@
+//! The parameter sets: W4 or W8 with H5 or H10.
+
 /// The width of a digit: how many bits of a digest one chain signs.
 #[derive(Clone, Copy, Debug, PartialEq, Eq)]
 pub enum Width {

@@ -1,3 +1,4 @@
+//! The secret seed of a key pair.
 use std::marker::Model;
 
 /// The secret that all chains begin from, 32 bytes (RFC 8554, Appendix A).

@@ -1,3 +1,4 @@
+//! A public key: its scheme, the identifier of its pair, and the root of its tree.
 use lm_ots::{Identifier, Params, read_u32};
 use std::marker::Model;
 use thiserror::Error;

@@ -1,3 +1,4 @@
+//! The hashes at the nodes of a tree.
 ghost use Rattle.std.specs.Prelude.{◌≡◌, ◌==◌, ◌<◌, ◌^◌, ◌/◌, ◌%◌, if◌then◌else◌};
 ghost use Rattle.ledger_model.specs.Signatures.{leaf_hash, node_hash, sibling};
 

@@ -1,3 +1,4 @@
+//! A tree over all leaves of a key pair, with the hash at each node.
 use crate::PublicKey;
 use crate::nodes::{leaf_hash, node_hash, sibling};
 use lm_ots::{Identifier, Params, Seed, public_hash};

@@ -1,3 +1,4 @@
+//! The verification of a signature.
 ghost use Rattle.std.specs.Prelude.{◌≡◌, ◌*◌, length};
 ghost use Rattle.ledger_model.specs.Signatures.{verifies, root_above};
 ghost use Rattle.lm_ots.specs.Parameters.{levels_of};

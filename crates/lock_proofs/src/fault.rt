@@ -1,3 +1,4 @@
+//! Why a lock is not accepted.
 use thiserror::Error;
 
 /// Why a lock isn't valid: the first that fits, in this order.

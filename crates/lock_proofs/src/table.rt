@@ -1,3 +1,4 @@
+//! The locks that a replica holds at one height.
 ghost use Rattle.std.specs.Prelude.{◌≡◌, ◌≤◌, false, not, length, filter, take_while, slice_get, vec_capacity};
 ghost use Rattle.std.specs.Option.{option_map_or};
 ghost use Rattle.ledger_model.specs.Values.{same_value, is_below};

@@ -1,3 +1,4 @@
+//! A lock whose signature and proof (its certificate of N-t signed reports) were checked.
 ghost use Rattle.std.specs.Prelude.{◌≡◌, IfOk, IsOk};
 ghost use Rattle.ledger_model.specs.Validity.{ValidLock as IsValid};
 ghost use Rattle.ledger_model.specs.Rules.{first_of};

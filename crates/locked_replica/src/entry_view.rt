@@ -1,3 +1,4 @@
+//! An entry of a history, as it is lent.
 use ledger_model::{Entry, Event, Reply};
 use std::marker::Model;
 

@@ -1,3 +1,4 @@
+//! Why a replica takes no event.
 ghost use Rattle.std.specs.Prelude.{◌≡◌};
 ghost use Rattle.locked_replica.specs.declared.fault.ApplyFault.TheVariants.{NoMemory};
 

@@ -1,3 +1,4 @@
+//! A replica: its history and what it keeps of it, changed by one event at a time.
 use crate::core_state::Core;
 use crate::entry_view::EntryView;
 use crate::fault::ApplyFault;

@@ -1,3 +1,4 @@
+//! Numbers and bytes from the front of a slice.
 ghost use Rattle.std.specs.Prelude.{◌≡◌, ◌<◌, ◌↔◌, ◌==◌, [], ◌∷◌, length, take, drop, IfOk, IsErr, OnOk, OnErr};
 ghost use Rattle.std.specs.Int.{w16, w32, from_be_bytes};
 

@@ -1,3 +1,4 @@
+//! Numbers and bytes at the end of a vector.
 ghost use Rattle.std.specs.Prelude.{◌≡◌, [], ◌∷◌, ◌++◌, OnOk, OnErr};
 ghost use Rattle.std.specs.Int.{w16, w32, to_be_bytes};
 

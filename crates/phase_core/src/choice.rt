@@ -1,3 +1,4 @@
+//! The value that the owner of a phase locks.
 ghost use Rattle.std.specs.Prelude.{◌≡◌, true, false, Some, None, ◌++◌, option_copied, IfOk, IfSome, IfNone};
 ghost use Rattle.std.specs.List.{flat_map};
 ghost use Rattle.ledger_model.specs.Values.{Value};

@@ -1,3 +1,4 @@
+//! Whether the acknowledgements of a lock decide its value.
 ghost use Rattle.std.specs.Prelude.{◌≡◌};
 ghost use Rattle.ledger_model.specs.Tallies.{all_read};
 ghost use Rattle.ledger_model.specs.Phases.{is_decided_by};

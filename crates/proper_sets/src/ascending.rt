@@ -1,3 +1,4 @@
+//! Batches in ascending order, each once.
 ghost use Rattle.std.specs.Prelude.{◌≡◌, [], not, filter, take, IfOk, OnOk, OnErr, IsTrue};
 ghost use Rattle.std.specs.List.{list_any, position};
 ghost use Rattle.ledger_model.specs.Values.{same_value, is_below, with_value};

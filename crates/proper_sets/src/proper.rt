@@ -1,3 +1,4 @@
+//! What is proper for a replica: its own initial value, others by name, or all.
 use crate::ascending::Ascending;
 use crate::reported::PhaseReports;
 use ledger_model::{Batch, Config, ReplicaId, SignedReport};

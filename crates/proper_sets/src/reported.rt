@@ -1,3 +1,4 @@
+//! What the reports of one phase make proper.
 ghost use Rattle.std.specs.Prelude.{◌≡◌, ◌||◌, length, filter, nat_le, OnOk};
 ghost use Rattle.std.specs.List.{list_all};
 ghost use Rattle.ledger_model.specs.Values.{same_value};

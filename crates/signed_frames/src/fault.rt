@@ -1,3 +1,4 @@
+//! What is wrong with bytes that should be a frame, or a stream of frames.
 ghost use Rattle.std.specs.Prelude.{◌≡◌};
 ghost use Rattle.signed_frames.specs.declared.fault.FrameFault.TheVariants.{NoMemory};
 

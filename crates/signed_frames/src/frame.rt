@@ -1,3 +1,4 @@
+//! A frame: the bytes of a signed statement, and what it lends of them.
 use crate::lending::report_at;
 use crate::parsing::{LENGTH_LEN, message_in, parts_of};
 use crate::{HEADER_LEN, LentReport};

@@ -1,3 +1,4 @@
+//! A reader of frames from a stream that comes in pieces.
 use crate::splitting::{End, read_on};
 use crate::{Frame, FrameFault};
 use bytes::BytesMut;

@@ -1,3 +1,4 @@
+//! Why bytes are no statement.
 ghost use Rattle.std.specs.Prelude.{◌≡◌};
 ghost use Rattle.statements.specs.declared.fault.DecodeFault.TheVariants.{Malformed, NoMemory};
 

@@ -1,3 +1,4 @@
+//! A tally: the first reading of each replica, one place a replica.
 ghost use Rattle.std.specs.Prelude.{◌≡◌, ◌<◌, ◌≤◌, Bool, None, Some, length, replicate, slice_set, option_copied, IfOk, if◌then◌else◌};
 ghost use Rattle.std.specs.Option.{is_none};
 ghost use Rattle.std.specs.Fn.{ComputesKey};
