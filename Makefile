@@ -1,16 +1,39 @@
-# demo: proves and builds the program, signs a report and delivers it; prints `accepted`.
+# demo: proves and builds the program, side by side what doesn't stand on each other, and delivers one report: `accepted`.
+# test: the merge gate (every proof from nothing, the must-fail edits, the tests), then the built program in real pipes,
+#       and the file lines that the documents name.
 # bench: proves and builds the benchmark, and prints what keys and signatures cost on this machine.
-# test: the merge gate (every proof from nothing, the must-fail edits, the tests), then the built program in real pipes.
+# prove-NAME: proves a library and what it stands on; what was said is in crates/NAME/out/said.
+# One of them at a time in one tree: the gate sets crates/*/out aside while it runs.
+# What the checker said in the gate is in gate.log; a line for each crate and each edit appears.
+SHELL := bash
+.SHELLFLAGS := -o pipefail -c
 .PHONY: demo bench test
 
+crates := $(shell sed -n 's/^\([a-z_]*\):.*/\1/p' crates.txt)
+below = $(filter $(crates),$(shell sed -n 's/^$(1)://p' crates.txt))
+
+define library
+.PHONY: prove-$(1)
+prove-$(1): $(addprefix prove-,$(call below,$(1)))
+	@cd crates/$(1) && mkdir -p out && began=$$$$(date +%s) && { rt lib >out/said 2>&1 || { tail -n 20 out/said; exit 1; }; } \
+	    && echo "$(1): proved in $$$$(($$$$(date +%s) - began)) s"
+endef
+$(foreach crate,$(crates),$(eval $(call library,$(crate))))
+
 demo:
-	@cd crates/abft && rt run -- --help >/dev/null
-	@crates/abft/out/abft sign report | crates/abft/out/abft deliver
+	@echo "proving the crates below the program, $$(nproc) at a time:"
+	@$(MAKE) --no-print-directory -j$$(nproc) $(addprefix prove-,$(call below,abft))
+	@cd crates/abft && mkdir -p out && { rt run -- --version >out/said 2>&1 || { tail -n 20 out/said; exit 1; }; }
+	@echo "abft sign report | abft deliver"
+	@said=$$(crates/abft/out/abft sign report | crates/abft/out/abft deliver) && echo "$$said" && test "$$said" = accepted
 
 bench:
 	@cd crates/lms_speed && rt run </dev/null >/dev/null
 	@crates/lms_speed/out/lms_speed table
 
+# The scripts take the programs that `rt ci` has just made.
 test:
-	rt ci
-	tests/end_to_end.sh
+	@rt ci 2>&1 | tee gate.log | grep -E --line-buffered '^rt: |^[0-9]+ passed, ' || { tail -n 300 gate.log; exit 1; }
+	ABFT=$(CURDIR)/crates/abft/out/abft tests/end_to_end.sh
+	LMS_SPEED=$(CURDIR)/crates/lms_speed/out/lms_speed tests/benchmark.sh
+	tests/documents.sh

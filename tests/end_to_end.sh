@@ -1,92 +1,241 @@
 #!/usr/bin/env bash
-# The built program in real pipes: statuses, standard output and standard error.
-# Builds it first if it isn't there. The last line is `N passed, M failed`.
+# The built program `abft` in real pipes. The last line is `N passed, M failed`.
 set -u
 cd "$(dirname "$0")/.." || exit 1
-abft=$PWD/crates/abft/out/abft
-room=$(mktemp -d)
-trap 'rm -rf "$room"' EXIT
-passed=0
-failed=0
+. tests/harness.sh
+build abft --help
+abft=$built
 
-if [ ! -x "$abft" ]; then
-    if ! (cd crates/abft && rt run -- --help) >"$room/build" 2>&1; then
-        tail -n 20 "$room/build"
-        echo "0 passed, 1 failed"
-        exit 1
-    fi
-fi
-
-count() {
-    if [ "$1" = yes ]; then
-        passed=$((passed + 1))
-    else
-        failed=$((failed + 1))
-        printf 'failed: %s: status %s; output:\n%s\n' "$2" "$got" "$(head -c 300 "$room/out")"
-    fi
+# signs NAME DIGEST OPTIONS..: the frame has this SHA-256, which another implementation of the formats gave
+signs() {
+    runs "$1" 0 "$2  -"$'\n' "'$abft' sign ${*:3} | sha256sum"
 }
 
-# runs NAME STATUS OUTPUT COMMAND..: the status, the whole standard output, and nothing on standard error
-runs() {
-    local name=$1 status=$2 output=$3
-    shift 3
-    bash -o pipefail -c "$*" >"$room/out" 2>"$room/err"
-    got=$?
-    if [ "$got" = "$status" ] && [ "$(cat "$room/out")" = "$output" ] && [ ! -s "$room/err" ]; then
-        count yes
-    else
-        count no "$name"
-    fi
-}
-
-# faults NAME STATUS COMMAND..: the status, nothing on standard output, and something on standard error
-faults() {
-    local name=$1 status=$2
-    shift 2
-    bash -c "$*" >"$room/out" 2>"$room/err"
-    got=$?
-    if [ "$got" = "$status" ] && [ ! -s "$room/out" ] && [ -s "$room/err" ]; then
-        count yes
-    else
-        count no "$name"
-    fi
+# refuses ERROR WORDS..: a fault of usage, told by this line
+refuses() {
+    faults "$1" 2 "$1"$'\n' "'$abft' ${*:2} </dev/null"
 }
 
 report="'$abft' sign report"
 ack="'$abft' sign ack"
 deliver="'$abft' deliver"
+ones=$(printf '1%.0s' {1..64})
 
-runs 'a report is accepted' 0 'accepted' "$report | $deliver"
-runs 'and then repeated' 0 $'accepted\nignored 7 Repeated' "($report; $report) | $deliver"
-runs 'an acknowledgement is early' 0 'ignored 4 WrongRound' "$ack | $deliver"
-runs 'a frame without its last byte' 1 'cut' "$report | head -c 2376 | $deliver"
-runs 'no round is open' 0 'ignored 4 WrongRound' "$report | $deliver --rounds 0"
-runs 'another height is open' 0 'ignored 3 NoRow' "$report | $deliver --height 2"
-runs 'the own report' 0 'ignored 7 Repeated' "$report --replica 1 | $deliver"
-runs 'another phase' 0 'ignored 5 WrongPhase' "$report --phase 2 | $deliver"
-runs 'another seed' 0 'ignored 8 BadSignature' "$report --seed $(printf '1%.0s' {1..64}) | $deliver"
-runs 'a signature with a byte changed' 0 'ignored 8 BadSignature' \
-    "($report | head -c 2376; printf X) | $deliver"
-runs 'a wide key' 0 'accepted' "$report --w 8 | $deliver --w 8"
-runs 'a tall tree' 0 'accepted' "$report --tree 10 | $deliver --tree 10"
-runs 'a wide key and a tall tree' 0 'accepted' "$report --w 8 --tree 10 | $deliver --w 8 --tree 10"
-runs 'a wide key to narrow ones' 0 'ignored 8 BadSignature' "$report --w 8 | $deliver"
-runs 'a tall tree to short ones' 0 'ignored 8 BadSignature' "$report --tree 10 | $deliver"
-runs 'the length in the tallest tree' 0 '2537' "$report --tree 10 | wc -c"
-runs 'too long' 1 'fault 1 TooLong' "printf '\\000\\002\\111\\361' | $deliver"
-runs 'malformed' 1 'fault 2 Malformed' "printf '\\000\\000\\000\\001x' | $deliver"
-runs 'no input' 0 '' "$deliver </dev/null"
-runs 'byte by byte' 0 'accepted' "$report | dd bs=1 status=none | $deliver"
+# What is signed.
+signs 'the frame of a report' fef5daf079e8b79d180887781eafc7d7cf0f08b4e121cde58481074a6409a561 report
+signs 'the frame of an acknowledgement' 7d79f5305780476abd4108db26bbaa087caea9822025c1a686228f4885fc6364 ack
+signs 'a frame under a wide key' a04eda7e31c29f1f518583b0b724a00ab835f49d22c12e515e9e93130b076e18 \
+    report --replica 2 --value b=7 --height 4096 --phase 1000000000 --w 8 --seed "$ones"
+signs 'a frame in a larger cluster' b113df2cf81f4f1f9e2c836ac0c4d2dc5c8a13c24d658203c5c5b57e4aee84d6 \
+    ack --replica 6 --n 7 --t 2 --value "'k=\\00v'" --height 9 --phase 3
+signs 'a frame under a tall tree' e166d5da347005c0059f3877ff185008b2c48903f4028d030cd853e270966c7a ack --tree 10
 runs 'the report is spelled exactly' 0 '00000945010000000100000001000001''03613d31010103613d3100092c' \
     "$report | head -c 29 | od -An -v -tx1 | tr -d ' \\n'"
-runs 'its length' 0 '2377' "$report | wc -c"
-faults 'no subcommand' 2 "'$abft' </dev/null"
-faults 'an unknown option' 2 "$report --speed 1"
-faults 'no cluster' 2 "$report --n 3"
-faults 'a height too far' 2 "$deliver --height 5 </dev/null"
-faults 'a second round' 2 "$deliver --rounds 2 </dev/null"
-faults 'no transaction' 2 "$report --value ''"
-faults 'standard output that takes nothing' 3 "$report >/dev/full"
+runs 'its length' 0 $'2377\n' "$report | wc -c"
+runs 'the length in the tallest tree' 0 $'2537\n' "$report --tree 10 | wc -c"
 
-printf '%d passed, %d failed\n' "$passed" "$failed"
-[ "$failed" = 0 ]
+# What is delivered.
+runs 'a report is accepted' 0 $'accepted\n' "$report | $deliver"
+runs 'and then repeated' 0 $'accepted\nignored 7 Repeated\n' "($report; $report) | $deliver"
+runs 'byte by byte' 0 $'accepted\n' "$report | dd bs=1 status=none | $deliver"
+runs 'a wide key' 0 $'accepted\n' "$report --w 8 | $deliver --w 8"
+runs 'a tall tree' 0 $'accepted\n' "$report --tree 10 | $deliver --tree 10"
+runs 'a wide key and a tall tree' 0 $'accepted\n' "$report --w 8 --tree 10 | $deliver --w 8 --tree 10"
+runs 'a larger cluster' 0 $'accepted\n' "$report --n 5 --replica 4 | $deliver --n 5"
+runs 'another seed, in digits of either case' 0 $'accepted\n' "$report --seed ${ones%??}Ff | $deliver --seed ${ones%??}fF"
+runs 'an acknowledgement is early' 0 $'ignored 4 WrongRound\n' "$ack | $deliver"
+runs 'no round is open' 0 $'ignored 4 WrongRound\n' "$report | $deliver --rounds 0"
+runs 'another height is open' 0 $'ignored 3 NoRow\n' "$report | $deliver --height 2"
+runs 'the own report' 0 $'ignored 7 Repeated\n' "$report --replica 1 | $deliver"
+runs 'another phase' 0 $'ignored 5 WrongPhase\n' "$report --phase 2 | $deliver"
+runs 'a signer beyond the cluster' 0 $'ignored 2 Signer\n' "$report --n 5 --replica 4 | $deliver"
+runs 'a signature of another seed' 0 $'ignored 8 BadSignature\n' "$report --seed $ones | $deliver"
+runs 'a signature with a byte changed' 0 $'ignored 8 BadSignature\n' "($report | head -c 2376; printf X) | $deliver"
+runs 'a wide key to narrow ones' 0 $'ignored 8 BadSignature\n' "$report --w 8 | $deliver"
+runs 'a tall tree to short ones' 0 $'ignored 8 BadSignature\n' "$report --tree 10 | $deliver"
+runs 'no input' 0 '' "$deliver </dev/null"
+runs 'a frame without its last byte' 1 $'cut\n' "$report | head -c 2376 | $deliver"
+runs 'too long' 1 $'fault 1 TooLong\n' "printf '\\000\\002\\111\\361' | $deliver"
+runs 'malformed' 1 $'fault 2 Malformed\n' "printf '\\000\\000\\000\\001x' | $deliver"
+runs 'an empty frame' 1 $'fault 2 Malformed\n' "printf '\\000\\000\\000\\000' | $deliver"
+runs 'too long after a report' 1 $'accepted\nfault 1 TooLong\n' "($report; printf '\\000\\002\\111\\361') | $deliver"
+
+# A history has 65,536 entries: a submission, a proposal, a round end and 65,533 frames.
+"$abft" sign ack --w 8 >"$room/acks"
+for _ in {1..8}; do
+    cat "$room/acks" "$room/acks" >"$room/twice"
+    mv "$room/twice" "$room/acks"
+done
+yes 'ignored 4 WrongRound' | head -n 65533 >"$room/wanted-out"
+printf 'error: the history is full\n' >"$room/wanted-err"
+check 'a full history' 3 "(for _ in {1..256}; do cat '$room/acks'; done) 2>/dev/null | $deliver"
+
+# What the words say.
+refuses "error: what to sign is 'report' or 'ack', not 'vote'" sign vote
+refuses "error: --n is a number from 4 to 13, not 'abc'" sign report --n abc
+refuses "error: --n is a number from 4 to 13, not '3'" deliver --n 3
+refuses "error: --n is a number from 4 to 13, not '14'" sign report --n 14 --t 4
+refuses "error: --n 6 is too few for --t 2: n is at least 3t + 1" deliver --n 6 --t 2
+refuses "error: --t is a number from 1 to 4, not '0'" sign report --t 0
+refuses "error: --t is a number from 1 to 4, not '+1'" sign report --t +1
+refuses "error: --kind is 1, not '2'" sign report --kind 2
+refuses "error: --w is 4 or 8, not '5'" sign report --w 5
+refuses "error: --w is 4 or 8, not '16'" sign report --w 16
+refuses "error: --tree is 5 or 10, not '6'" deliver --tree 6
+refuses "error: --seed is 64 hexadecimal digits, not '00'" sign report --seed 00
+refuses "error: --replica is a number from 0 to 3, not '4'" sign report --replica 4
+refuses "error: --replica is a number from 0 to 6, not '7'" deliver --n 7 --replica 7
+refuses "error: --height is a number from 1 to 4096, not '4097'" sign report --height 4097
+refuses "error: --height is a number from 1 to 4096, not ''" sign report --height "''"
+refuses "error: --phase is a number from 1 to 1000000000, not '0'" sign report --phase 0
+refuses "error: --phase is a number from 1 to 1000000000, not '4294967296'" sign report --phase 4294967296
+refuses "error: --height is a number from 1 to 4, not '5'" deliver --height 5
+refuses "error: --rounds is 0 or 1, not '2'" deliver --rounds 2
+refuses 'error: --value has a space: write it \20' sign report --value "'a b'"
+refuses "error: --value has ',': write it \\2c" deliver --value a,b
+refuses "error: --value has '[': write it \\5b" sign report --value "'a['"
+refuses 'error: --value has the byte c3: write it \c3' sign report --value $'h\xc3\xa9'
+refuses 'error: --value has \61: write it a' sign report --value "'\\61'"
+refuses "error: --value has '\\' without two lower-case hexadecimal digits behind it" sign report --value "'\\5C'"
+refuses "error: --value is a transaction of 1 to 64 bytes, not ''" sign report --value "''"
+refuses "error: --value is a transaction of 1 to 64 bytes, not '${ones}1'" sign report --value "${ones}1"
+refuses 'error: a word of the command line is not UTF-8' sign report --value $'\xff'
+refuses 'error: a word of the command line is not UTF-8' $'\xff'
+refuses "error: 'abft' requires a subcommand but one was not provided
+  [subcommands: sign, deliver, help]
+
+Usage: abft <COMMAND>
+
+For more information, try '--help'."
+refuses "error: unrecognized subcommand 'vote'
+
+Usage: abft <COMMAND>
+
+For more information, try '--help'." vote
+refuses "error: the following required arguments were not provided:
+  <what>
+
+Usage: abft sign <what>
+
+For more information, try '--help'." sign
+refuses "error: unexpected argument '--speed' found
+
+  tip: a similar argument exists: '--seed'
+
+Usage: abft sign --seed <seed> <what>
+
+For more information, try '--help'." sign report --speed 1
+refuses "error: a value is required for '--value <value>' but none was supplied
+
+For more information, try '--help'." deliver --value
+refuses "error: the argument '--n <n>' cannot be used multiple times
+
+Usage: abft deliver [OPTIONS]
+
+For more information, try '--help'." deliver --n 4 --n 4
+
+# Streams that fail.
+full='error: No space left on device (os error 28)'$'\n'
+closed='error: Bad file descriptor (os error 9)'$'\n'
+gone='error: Broken pipe (os error 32)'$'\n'
+faults 'a frame to a full disk' 3 "$full" "$report >/dev/full"
+faults 'a line to a full disk' 3 "$full" "$report | $deliver >/dev/full"
+faults 'help to a full disk' 3 "$full" "'$abft' --help >/dev/full"
+faults 'the version to a full disk' 3 "$full" "'$abft' --version >/dev/full"
+faults 'a frame to a closed output' 3 "$closed" "$report >&-"
+faults 'a line to a closed output' 3 "$closed" "$report | $deliver >&-"
+faults 'help to a closed output' 3 "$closed" "'$abft' sign --help >&-"
+faults 'a closed input' 3 "$closed" "$deliver <&-"
+faults 'an input that is a folder' 3 'error: Is a directory (os error 21)'$'\n' "$deliver <."
+faults 'a reader that is gone' 3 "$gone" "(sleep 0.3; $report) | true"
+faults 'a reader of help that is gone' 3 "$gone" "(sleep 0.3; '$abft' --help) | true"
+runs 'a fault to a closed error stream' 2 '' "$report --n 3 2>&-"
+
+# Help and the version.
+runs 'the version' 0 $'abft 0.1.0\n' "'$abft' --version"
+cat >"$room/common" <<'EOT'
+      --n <n>              How many replicas there are, 4 to 13 [default: 4]
+      --t <t>              How many may lie, 1 to 4, with 3t+1 <= n [default: 1]
+      --kind <kind>        The application: 1 is a key-value store [default: 1]
+      --w <w>              Bits of a digit of a signature: 4 or 8 [default: 4]
+      --tree <tree>        Height of a signature tree: 5 or 10 [default: 5]
+      --seed <seed>        The seed of all keys, 64 hexadecimal digits [default: 0000000000000000000000000000000000000000000000000000000000000000]
+EOT
+: >"$room/wanted-err"
+cat >"$room/wanted-out" <<'EOT'
+A Byzantine fault tolerant replicated ledger
+
+Usage: abft <COMMAND>
+
+Commands:
+  sign     Signs a report or an acknowledgement, and writes its frame to standard output
+  deliver  Delivers the frames of standard input to a replica, and prints what it answers
+  help     Print this message or the help of the given subcommand(s)
+
+Options:
+  -h, --help     Print help
+  -V, --version  Print version
+
+Example:
+  abft sign report --replica 2 --value b=7 | abft deliver --replica 1
+EOT
+check 'help' 0 "'$abft' --help"
+{
+    cat <<'EOT'
+Signs a report or an acknowledgement, and writes its frame to standard output
+
+Usage: abft sign [OPTIONS] <what>
+
+Arguments:
+  <what>  What to sign: report or ack
+
+Options:
+EOT
+    cat "$room/common"
+    cat <<'EOT'
+      --replica <replica>  Who signs, below n [default: 0]
+      --height <height>    The height, 1 to 4096 [default: 1]
+      --phase <phase>      The phase, 1 to 1000000000 [default: 1]
+      --value <value>      The one transaction of the batch [default: a=1]
+  -h, --help               Print help
+
+Each call signs with leaf 0 of the replica's key pair, so one-time keys are used again and again.
+That is no way to use them but for trying things out: use the seed for nothing else.
+EOT
+} >"$room/wanted-out"
+check 'help of sign' 0 "'$abft' sign --help"
+{
+    cat <<'EOT'
+Delivers the frames of standard input to a replica, and prints what it answers
+
+Usage: abft deliver [OPTIONS]
+
+Options:
+EOT
+    cat "$room/common"
+    cat <<'EOT'
+      --replica <replica>  Which replica, below n [default: 1]
+      --value <value>      The transaction that it submits [default: a=1]
+      --height <height>    The height that it opens, 1 to 4 [default: 1]
+      --rounds <rounds>    How many rounds it ends, 0 or 1 [default: 1]
+  -h, --help               Print help
+
+Lines, one for each frame:
+  accepted         the frame was read
+  ignored N CAUSE  it was ignored: the cause's number and name, as in 'ignored 7 Repeated'
+
+The last line, where the stream is wrong:
+  fault 1 TooLong    a frame longer than 150000 bytes was announced
+  fault 2 Malformed  a frame is not spelled as one
+  cut                the stream ends within a frame
+
+Exit status:
+  0  each frame was delivered
+  1  'fault' or 'cut' was printed
+  2  a fault of usage
+  3  want of memory, a full history, or a failed read or write
+EOT
+} >"$room/wanted-out"
+check 'help of deliver' 0 "'$abft' deliver --help"
+
+finish

@@ -60,6 +60,14 @@ impl<A: Application> Executor<A> {
         self.app.query(key, height)
     }
 
+    /// How many blocks were run: the committed height.
+    pub fn height(&self) -> u32
+        ensures { result ≡ self.now.height }
+    {
+        let info = self.app.info();
+        info.height
+    }
+
     /// How many blocks were run, and the hash of the state.
     pub fn info(&self) -> Info
         ensures { TellsOf self.now result }

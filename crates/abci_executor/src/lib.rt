@@ -9,8 +9,3 @@ mod executor;
 
 pub use block::{MAX_HEIGHT, run_block};
 pub use executor::Executor;
-
-#[cfg(test)]
-mod idle_counter;
-#[cfg(test)]
-mod tests;

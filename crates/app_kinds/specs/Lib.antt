@@ -4,3 +4,4 @@ pub mod Wrapped
 pub mod Sorted
 pub mod Purses
 pub mod Balances
+pub mod Chosen

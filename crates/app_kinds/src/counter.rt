@@ -30,11 +30,15 @@ pub struct Counter {
     committed: u64,
     working: Option<u64>,
     height: u32,
+    /// The hash of the committed state.
+    hash: [u8; 32],
 }
 
 impl Model for Counter {
-    ghost use Rattle.std.specs.Prelude.{◌+◌, ◌<◌, ◌^◌};
+    ghost use Rattle.std.specs.Prelude.{◌≡◌, ◌+◌, ◌<◌, ◌^◌};
     ghost use Rattle.std.specs.Option.{option_map, ForSome};
+    ghost use Rattle.sha2.specs.Sha256.{sha256};
+    ghost use Rattle.ledger_model.specs.Applications.{state_bytes};
     ghost use Rattle.ledger_model.specs.Applications.{Machine};
     ghost use Rattle.ledger_model.specs.Applications.AppState.{Count};
     ghost use Rattle.ledger_model.specs.declared.config.AppKind.TheVariants as kind;
@@ -48,7 +52,7 @@ impl Model for Counter {
       height = c.height;
     } };
 
-    ghost invariant = { λ c. ForSome c.working (λ _. c.height + 1 < 2 ^ 32) };
+    ghost invariant = { λ c. ForSome c.working (λ _. c.height + 1 < 2 ^ 32) × (c.hash ≡ sha256 (state_bytes (Count c.committed))) };
 }
 
 impl Counter {
@@ -65,6 +69,7 @@ impl Counter {
             committed: 0,
             working: None,
             height: 0,
+            hash: hash_of(0),
         }
     }
 }
@@ -75,7 +80,7 @@ impl Application for Counter {
     fn info(&self) -> Info {
         Info {
             height: self.height,
-            hash: hash_of(self.committed),
+            hash: self.hash,
         }
     }
 
@@ -107,7 +112,8 @@ impl Application for Counter {
         let count = self.working.take().unwrap();
         self.committed = count;
         self.height += 1;
-        hash_of(count)
+        self.hash = hash_of(count);
+        self.hash
     }
 
     fn query(&self, key: &[u8], height: u32) -> Result<Option<Vec<u8>>, QueryFault> {

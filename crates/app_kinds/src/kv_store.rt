@@ -22,11 +22,15 @@ pub struct KvStore {
     committed: Pairs,
     working: Option<Pairs>,
     height: u32,
+    /// The hash of the committed state.
+    hash: [u8; 32],
 }
 
 impl Model for KvStore {
-    ghost use Rattle.std.specs.Prelude.{◌+◌, ◌<◌, ◌^◌};
+    ghost use Rattle.std.specs.Prelude.{◌≡◌, ◌+◌, ◌<◌, ◌^◌};
     ghost use Rattle.std.specs.Option.{option_map, ForSome};
+    ghost use Rattle.sha2.specs.Sha256.{sha256};
+    ghost use Rattle.ledger_model.specs.Applications.{state_bytes};
     ghost use Rattle.ledger_model.specs.Applications.{Machine};
     ghost use Rattle.ledger_model.specs.Applications.AppState.{Pairs as PairState};
     ghost use Rattle.ledger_model.specs.declared.config.AppKind.TheVariants as kind;
@@ -40,7 +44,7 @@ impl Model for KvStore {
       height = s.height;
     } };
 
-    ghost invariant = { λ s. ForSome s.working (λ _. s.height + 1 < 2 ^ 32) };
+    ghost invariant = { λ s. ForSome s.working (λ _. s.height + 1 < 2 ^ 32) × (s.hash ≡ sha256 (state_bytes (PairState s.committed))) };
 }
 
 impl KvStore {
@@ -52,11 +56,14 @@ impl KvStore {
     pub fn new(alloc: Global) -> Self
         ensures { result ≡ run kind.KvStore [] }
     {
+        let committed = Pairs::new(alloc);
+        let hash = committed.hash();
         KvStore {
             alloc,
-            committed: Pairs::new(alloc),
+            committed,
             working: None,
             height: 0,
+            hash,
         }
     }
 }
@@ -67,7 +74,7 @@ impl Application for KvStore {
     fn info(&self) -> Info {
         Info {
             height: self.height,
-            hash: self.committed.hash(),
+            hash: self.hash,
         }
     }
 
@@ -99,7 +106,8 @@ impl Application for KvStore {
         let pairs = self.working.take().unwrap();
         self.committed = pairs;
         self.height += 1;
-        self.committed.hash()
+        self.hash = self.committed.hash();
+        self.hash
     }
 
     fn query(&self, key: &[u8], height: u32) -> Result<Option<Vec<u8>>, QueryFault> {

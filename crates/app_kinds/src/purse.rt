@@ -27,11 +27,15 @@ pub struct Purse {
     committed: Accounts,
     working: Option<Accounts>,
     height: u32,
+    /// The hash of the committed state.
+    hash: [u8; 32],
 }
 
 impl Model for Purse {
-    ghost use Rattle.std.specs.Prelude.{◌+◌, ◌<◌, ◌^◌};
+    ghost use Rattle.std.specs.Prelude.{◌≡◌, ◌+◌, ◌<◌, ◌^◌};
     ghost use Rattle.std.specs.Option.{option_map, ForSome};
+    ghost use Rattle.sha2.specs.Sha256.{sha256};
+    ghost use Rattle.ledger_model.specs.Applications.{state_bytes};
     ghost use Rattle.ledger_model.specs.Applications.{Machine};
     ghost use Rattle.ledger_model.specs.Applications.AppState.{Accounts as AccountState};
     ghost use Rattle.ledger_model.specs.declared.config.AppKind.TheVariants as kind;
@@ -45,7 +49,7 @@ impl Model for Purse {
       height = p.height;
     } };
 
-    ghost invariant = { λ p. ForSome p.working (λ _. p.height + 1 < 2 ^ 32) };
+    ghost invariant = { λ p. ForSome p.working (λ _. p.height + 1 < 2 ^ 32) × (p.hash ≡ sha256 (state_bytes (AccountState p.committed))) };
 }
 
 impl Purse {
@@ -57,11 +61,14 @@ impl Purse {
     pub fn new(alloc: Global) -> Self
         ensures { result ≡ run kind.Purse [] }
     {
+        let committed = Accounts::new();
+        let hash = committed.hash();
         Purse {
             alloc,
-            committed: Accounts::new(),
+            committed,
             working: None,
             height: 0,
+            hash,
         }
     }
 }
@@ -72,7 +79,7 @@ impl Application for Purse {
     fn info(&self) -> Info {
         Info {
             height: self.height,
-            hash: self.committed.hash(),
+            hash: self.hash,
         }
     }
 
@@ -104,7 +111,8 @@ impl Application for Purse {
         let accounts = self.working.take().unwrap();
         self.committed = accounts;
         self.height += 1;
-        self.committed.hash()
+        self.hash = self.committed.hash();
+        self.hash
     }
 
     fn query(&self, key: &[u8], height: u32) -> Result<Option<Vec<u8>>, QueryFault> {

@@ -4,6 +4,8 @@
 #[cfg(test)]
 mod box_tests;
 #[cfg(test)]
+mod kind_tests;
+#[cfg(test)]
 mod pool_tests;
 #[cfg(test)]
 mod tests;

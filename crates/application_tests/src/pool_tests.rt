@@ -1,6 +1,6 @@
 //! The pool with real applications: what is refused and in which order, what is proposed, what a block takes out.
 
-use super::tests::{batch, execute};
+use super::tests::execute;
 use abci_executor::Executor;
 use app_kinds::{Counter, KvStore};
 use batch_pool::{Pool, SubmitFault};
@@ -9,6 +9,7 @@ use std::alloc::Global;
 use std::hash::RandomState;
 use std::process::Abort;
 use std::test::Fail;
+use test_support::batch;
 
 const EMPTY: Result<(), SubmitFault> = Err(SubmitFault::Refused(SubmitRefusal::Empty));
 
@@ -98,7 +99,7 @@ fn a_block_takes_its_transactions_out(rt: HostRuntime) -> Result<(), Fail> {
     let alloc = rt.alloc();
     let mut executor = Executor::new(Counter::new(alloc))?;
     let mut pool = pool_of_numbers(&rt, alloc, RandomState::new(&rt)?, 1024, executor.app())?;
-    let block = batch(&rt, alloc, &[&[0, 2], &[0, 0], &[0, 1]])?;
+    let block = batch(alloc, &[&[0, 2], &[0, 0], &[0, 1]])?;
     let done = execute(&rt, alloc, &mut executor, &block)?;
     assert_eq!(rt; done.codes.as_slice(), [2, 0, 0].as_slice());
     pool.after_block(&block, executor.app());

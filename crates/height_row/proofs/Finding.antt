@@ -7,6 +7,7 @@ use Rattle.std.proofs.lemmas.Bool.{cases_Bool, eqb-true, ltb-true, ltb-false, fa
 use Rattle.std.proofs.lemmas.List.Folds.{find_at, find-append, find-set, find_past}
 use Rattle.std.proofs.lemmas.List.Quantifiers.{position-Some}
 use Rattle.std.proofs.lemmas.Option.{slice_get_past, slice_get_read}
+use Rattle.ledger_model.specs.declared.config.Config.{Config}
 use Rattle.instance.specs.Rows.{Row}
 use Rattle.height_row.specs.Heights.{row_at, AreApart}
 
@@ -124,3 +125,42 @@ module _ (rows : List Row) (h : ℕ) (row : Row) (same : row.height ≡ h) where
 pub not_open : (o : Option (Bor Row)) (b : Bool) (found : Option Row) → option_copied o ≡ found → b ≡ is_some o → b ≡ false → found ≡ None
 not_open None b found is tested none = sym is
 not_open (Some x) b found is tested none = absurd (false≢true (sym none ∙ tested))
+
+-- ---- whose they are
+
+-- the row is of this cluster and this replica
+abbrev pub IsOf : Config → ℕ → Row → Type 0
+IsOf config id row = (row.config ≡ config) × (row.id ≡ id)
+
+abbrev pub IsOwn : Config → ℕ → ℕ → Row → Type 0
+IsOwn config id h row = (row.config ≡ config) × (row.id ≡ id) × (row.height ≡ h)
+
+module _ (config : Config) (id : ℕ) where
+  pub own_at : (rows : List Row) → AllByRecursion (IsOf config id) rows → (h : ℕ) (row : Row) → row_at rows h ≡ Some row → IsOwn config id h row
+  own_at [] all h row is = absurd (cc is)
+  own_at (x ∷ xs) all h row is =
+      elim (cases_Bool (x.height == h)) [
+        | inl here ↦ (let same : x ≡ row = cc (rw here at is) in subst (IsOwn config id h) same (all.0.0, all.0.1, eqb-true _ _ here))
+        | inr there ↦ own_at xs all.1 h row (rw there at is)
+      ]
+
+  -- and of that which is put in the place of another
+  pub own_put : (rows : List Row) (h place : ℕ) (new : Row) → AllByRecursion (IsOf config id) rows → position (is_of h) rows ≡ Some place → IsOwn config id h new
+      → (other : ℕ) (row : Row) → row_at (slice_set rows place new) other ≡ Some row → IsOwn config id other row
+  own_put rows h place new all found own other row is =
+      let put : IsPut rows h place new = is_put new found own.2 in
+      elim (cases_Bool (other == h)) [
+        | inl here ↦ (let same = eqb-true other h here in subst (λ n. IsOwn config id n row) (sym same) (subst (IsOwn config id h) (put.only row (subst (λ n. row_at (slice_set rows place new) n ≡ Some row) same is)) own))
+        | inr there ↦ own_at rows all other row (sym (put.apart other (λ e. false≢true (sym there ∙ eq-eqb other h e))) ∙ is)
+      ]
+
+  -- and of one more
+  pub own_push : (rows : List Row) (h : ℕ) (new : Row) → AllByRecursion (IsOf config id) rows → row_at rows h ≡ None → IsOwn config id h new
+      → (other : ℕ) (row : Row) → row_at (rows ++ new ∷ []) other ≡ Some row → IsOwn config id other row
+  own_push rows h new all none own other row is =
+      elim (cases_Bool (other == h)) [
+        | inl here ↦ (let same = eqb-true other h here in
+            let only : new ≡ row = cc (sym (row_at-push rows h new own.2 none) ∙ subst (λ n. row_at (rows ++ new ∷ []) n ≡ Some row) same is) in
+            subst (λ n. IsOwn config id n row) (sym same) (subst (IsOwn config id h) only own))
+        | inr there ↦ own_at rows all other row (sym (others_stay-push rows h new own.2 other (λ e. false≢true (sym there ∙ eq-eqb other h e))) ∙ is)
+      ]

@@ -34,6 +34,11 @@ open_answer rows committed h = first_fault (
 abbrev pub AreApart : ℕ → List Row → List Row → Type 0
 AreApart h old new = (other : ℕ) → (other ≡ h → ⊥) → row_at new other ≡ row_at old other
 
+-- each height that is open is this replica's, in this cluster
+abbrev pub AreOwn : Heights → Type 0
+AreOwn heights =
+    (h : ℕ) (row : Row) → row_at heights.rows h ≡ Some row → (row.config ≡ heights.config) × (row.id ≡ heights.id) × (row.height ≡ h)
+
 -- it is the same replica's
 pub record IsSameReplica (old new : Heights) : Type 0 where
   pub config : new.config ≡ old.config

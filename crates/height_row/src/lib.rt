@@ -4,6 +4,3 @@
 mod row;
 
 pub use row::HeightRow;
-
-#[cfg(test)]
-mod tests;

@@ -33,7 +33,7 @@ impl Model for HeightRow {
 
 impl HeightRow {
     ghost use Rattle.std.specs.Prelude.{◌≡◌, ◌<◌, ◌≤◌, ◌+◌, ◌++◌, ◌∷◌, ℕ, ◌==◌, List, [], map, Some, is_some, true, IfOk, OnOk, OnErr};
-    ghost use Rattle.std.specs.List.{flat_map, position};
+    ghost use Rattle.std.specs.List.{flat_map, position, AllByRecursion};
     ghost use Rattle.std.specs.Option.{option_copied};
     ghost use Rattle.ledger_model.specs.Rounds.{place_of};
     ghost use Rattle.ledger_model.specs.Notes.{Note, Proposed, Round, Read, clock_of, signer_of};
@@ -46,13 +46,14 @@ impl HeightRow {
     ghost use Rattle.instance.specs.Matching.{Matches, only_rounds};
     ghost use Rattle.instance.specs.Reads.{opened_row, IsSameHeight};
     ghost use Rattle.instance.specs.Plans.{planned, made_by, Fits, IsSignedIn};
-    ghost use Rattle.instance.specs.Laws.{MakesRight};
-    ghost use Rattle.height_row.specs.Heights.{row_at, decided_in, open_answer, AreApart, IsSameReplica};
+    ghost use Rattle.instance.specs.Laws.{MakesRight, IsLockSentOn};
+    ghost use Rattle.height_row.specs.Heights.{row_at, decided_in, open_answer, AreApart, AreOwn, IsSameReplica};
 
     /// No height is open yet.
     pub fn new(alloc: Global, config: &Config, id: ReplicaId) -> Self
         requires { id < config.now.replicas }
-        ensures { result ≡ record { config = config.now; id = id; rows = [] } }
+        ensures row { result ≡ record { config = config.now; id = id; rows = [] } }
+        ensures own { AreOwn result }
     {
         HeightRow {
             config: *config,
@@ -63,7 +64,8 @@ impl HeightRow {
 
     /// The height, if it is open.
     pub fn get(&self, height: Height) -> Option<&Instance>
-        ensures { option_copied result ≡ row_at self.now.rows height }
+        ensures row { option_copied result ≡ row_at self.now.rows height }
+        ensures own { AreOwn self.now }
     {
         find_height(&self.instances, height)
     }
@@ -74,6 +76,7 @@ impl HeightRow {
         // It is what was decided by every log that the height matches.
         ensures decided { (row : Row) → row_at self.now.rows height ≡ Some row → (ring : Ring) (log : List Note)
             → Matches ring row log → option_copied result ≡ decided_of row.config log }
+        ensures own { AreOwn self.now }
     {
         self.get(height)?.decided()
     }
@@ -98,11 +101,13 @@ impl HeightRow {
         ensures err { OnErr result (self.new ≡ self.old) }
         ensures apart { AreApart height self.old.rows self.new.rows }
         ensures same { IsSameReplica self.old self.new }
+        ensures own { AreOwn self.new }
     {
+        let is_open = self.get(height).is_some();
         if height.number() == 0 || 4096 < height.number() {
             return Ok(Err(ProposeRefusal::Closed));
         }
-        if self.get(height).is_some() {
+        if is_open {
             return Ok(Err(ProposeRefusal::AlreadyOpen));
         }
         if committed + 4 < height.number() {
@@ -147,6 +152,7 @@ impl HeightRow {
         ensures open { is_some (row_at self.new.rows (height_of frame.statement)) ≡ true }
         ensures apart { AreApart (height_of frame.statement) self.old.rows self.new.rows }
         ensures same { IsSameReplica self.old self.new }
+        ensures own { AreOwn self.new }
     {
         let place = self.position(statements::height(frame.statement()));
         self.instances[place].read(alloc, ring, frame, clock)
@@ -162,6 +168,10 @@ impl HeightRow {
             → Matches ring row log → clock_of log ≡ clock → MakesRight ring row log plan.making) }
         ensures sends_on { IfOk result (λ plan. (row : Row) → row_at self.now.rows height ≡ Some row → (ring : Ring) (log : List Note)
             → Matches ring row log → clock_of log ≡ clock → place_of (clock + 1) ≡ 4 → plan.sends_on ≡ map frame_bytes (held_locks log)) }
+        // Each of those frames reads back as a signed lock of the height.
+        ensures readable { IfOk result (λ plan. (row : Row) → row_at self.now.rows height ≡ Some row → (ring : Ring) (log : List Note)
+            → Matches ring row log → AllByRecursion (IsLockSentOn ring height) plan.sends_on) }
+        ensures own { AreOwn self.now }
     {
         let place = self.position(height);
         self.instances[place].plan_end(alloc, clock)
@@ -180,6 +190,7 @@ impl HeightRow {
         ensures open { is_some (row_at self.new.rows height) ≡ true }
         ensures apart { AreApart height self.old.rows self.new.rows }
         ensures same { IsSameReplica self.old self.new }
+        ensures own { AreOwn self.new }
     {
         let place = self.position(height);
         self.instances[place].close(plan, signing, clock);

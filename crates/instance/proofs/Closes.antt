@@ -15,10 +15,10 @@ use Rattle.ledger_model.specs.Tallies.{all_read}
 use Rattle.instance.specs.declared.plan.Making.TheVariants as making
 use Rattle.instance.specs.declared.plan.Signing.{Signing}
 use Rattle.instance.specs.Rows.{Row}
-use Rattle.instance.specs.Matching.{Matches, IsSpelled}
+use Rattle.instance.specs.Matching.{Matches, IsSound}
 use Rattle.instance.specs.Plans.{Planned, makes_only, own_report, locking_of, lock_making, ack_making, decides_now, planned, made_by, Fits, IsSignedIn, forgotten, in_round, with_ends, with_all}
 use Rattle.instance.specs.Laws.{Closes}
-use Rattle.instance.proofs.SpelledRows.{closes_spelled}
+use Rattle.instance.proofs.SoundRows.{closes_sound}
 use Rattle.instance.proofs.ClosesReports.{closes_reports}
 use Rattle.instance.proofs.ClosesLock.{closes_lock}
 use Rattle.instance.proofs.ClosesAcks.{closes_acks}
@@ -75,7 +75,7 @@ module _ (ring : Ring) (log : List Note) (g : Signing) where
   -- by this plan, from what is kept of the round
   abbrev ClosedBy : Planned → Row → Type 0
   ClosedBy plan row =
-      Fits plan.making g → IsSignedIn ring g → IsSpelled (with_all (made_by plan.making g) (with_ends plan row))
+      Fits plan.making g → IsSignedIn ring g → IsSound ring (with_all (made_by plan.making g) (with_ends plan row))
       → Matches ring (with_all (made_by plan.making g) (with_ends plan row)) (log ++ Round (clock_of log + 1) ∷ flat_map (made_notes log (clock_of log + 1)) (made_by plan.making g))
 
   closed_by : (plan is : Planned) (row now : Row) → plan ≡ is → row ≡ now → ClosedBy is now → ClosedBy plan row
@@ -86,20 +86,20 @@ module _ (ring : Ring) (log : List Note) (g : Signing) where
       let d : ℕ = clock_of log + 1 in
       elim (cases_eq (place_of d) 1) [
         | inl first ↦ closed_by (planned row d) (reports_plan row d) (in_round d row) (forgotten row) (planned_first row d first) (forgotten_first row d first)
-            (λ fits signed spelled. closes_reports ring row log old first g fits signed spelled)
+            (λ fits signed sound. closes_reports ring row log old first g fits signed sound)
         | inr later ↦ elim (cases_eq (place_of d) 2) [
           | inl second ↦ closed_by (planned row d) (lock_plan row d) (in_round d row) row (planned_second row d second) (kept_later row d later)
-              (λ fits signed spelled. closes_lock ring row log old second (locking_of row (phase_of d)) g fits spelled)
+              (λ fits signed sound. closes_lock ring row log old second (locking_of row (phase_of d)) g fits sound)
           | inr after ↦ elim (cases_eq (place_of d) 3) [
             | inl third ↦ closed_by (planned row d) (acks_plan row d) (in_round d row) row (planned_third row d third) (kept_later row d later)
-                (λ fits signed spelled. closes_acks ring row log old third g fits spelled)
+                (λ fits signed sound. closes_acks ring row log old third g fits sound)
             | inr last ↦
                 (let fourth : place_of d ≡ 4 = omega arith in
                 closed_by (planned row d) (release_plan row d) (in_round d row) row (planned_last row d fourth) (kept_later row d later)
-                (λ fits signed spelled. closes_release ring row log old fourth spelled))
+                (λ fits signed sound. closes_release ring row log old fourth sound))
           ]
         ]
       ]
 
 pub closes : Closes
-closes ring row log g old fits signed = at_each_place ring log g row old fits signed (closes_spelled ring row log g old fits signed)
+closes ring row log g old fits signed = at_each_place ring log g row old fits signed (closes_sound ring row log g old fits signed)

@@ -21,7 +21,7 @@ use Rattle.instance.specs.declared.plan.Making.TheVariants as making
 use Rattle.instance.specs.declared.plan.Signing.{Signing}
 use Rattle.instance.specs.declared.plan.Signing.TheVariants as signing
 use Rattle.instance.specs.Rows.{Row}
-use Rattle.instance.specs.Matching.{Matches, MatchesIn, IsSpelled}
+use Rattle.instance.specs.Matching.{Matches, MatchesIn, IsSound}
 use Rattle.instance.specs.Plans.{makes_only, ack_making, own_ack_of, made_by, Fits, with_ends, with_all, added}
 use Rattle.instance.proofs.OpenedRounds.{IsNext, alone, with_read, unread, next_alone, next_read, held_alone, held_read, read_now, read_none, read_before, made_before, proper_kept, taken_before, decided_before, kept_before, or_else-none, frame_of}
 use Rattle.instance.proofs.PlaceLists.{empty_places, added_length, added_read, added_there}
@@ -41,15 +41,15 @@ module _ (ring : Ring) (row : Row) (log : List Note) (old : Matches ring row log
   phase = phase_of (clock_of log + 1)
 
   opens_acks : (more : List Note) (acks : Places Ack) → IsNext log more → held_locks (log ++ more) ≡ held_locks log
-      → AreKept row (log ++ more) phase acks → IsSpelled (with_acks row acks) → Matches ring (with_acks row acks) (log ++ more)
-  opens_acks more acks next held are spelled =
+      → AreKept row (log ++ more) phase acks → IsSound ring (with_acks row acks) → Matches ring (with_acks row acks) (log ++ more)
+  opens_acks more acks next held are sound =
       let k : ℕ = phase in
       let before : phase_of (clock_of log) ≡ k = omega arith in
       let was : MatchesIn ring row log k = subst (MatchesIn ring row log) before old in
       let all : MatchesIn ring (with_acks row acks) (log ++ more) k = record {
         cluster = was.cluster;
         member = was.member;
-        spelled = spelled;
+        sound = sound;
         opened = initial_of-append log more row.proper.own was.opened;
         timely = next.timely;
         made_by_now = next.made;
@@ -119,47 +119,47 @@ module _ (ring : Ring) (row : Row) (log : List Note) (old : Matches ring row log
   abbrev log_with : List SignedStatement → List Note
   log_with made = log ++ Round (clock_of log + 1) ∷ flat_map (made_notes log (clock_of log + 1)) made
 
-  none_made : (m : Making) → IsSpelled (kept_with m []) → Matches ring (kept_with m []) (log_with [])
-  none_made m spelled = opens_acks (alone log) row.acks (next_alone log old.timely old.made_by_now) (held_alone log old.timely old.made_by_now) none_kept spelled
+  none_made : (m : Making) → IsSound ring (kept_with m []) → Matches ring (kept_with m []) (log_with [])
+  none_made m sound = opens_acks (alone log) row.acks (next_alone log old.timely old.made_by_now) (held_alone log old.timely old.made_by_now) none_kept sound
 
-  one_made : (m : Making) (v : Value) (signature : List ℕ) → IsSpelled (kept_with m (frame v signature ∷ []))
+  one_made : (m : Making) (v : Value) (signature : List ℕ) → IsSound ring (kept_with m (frame v signature ∷ []))
       → Matches ring (kept_with m (frame v signature ∷ [])) (log_with (frame v signature ∷ []))
-  one_made m v signature spelled =
+  one_made m v signature sound =
       let f : SignedStatement = frame v signature in
       opens_acks (with_read log f.statement f) (added row.acks row.id (own v))
       (next_read log old.timely old.made_by_now f.statement f (eq-eqb phase phase refl))
       (held_read log old.timely old.made_by_now f.statement f refl)
-      (one_kept v signature) spelled
+      (one_kept v signature) sound
 
   -- each way to make it, or not
   abbrev Closed : Making → Signing → Type 0
-  Closed m g = Fits m g → IsSpelled (kept_with m (made_by m g)) → Matches ring (kept_with m (made_by m g)) (log_with (made_by m g))
+  Closed m g = Fits m g → IsSound ring (kept_with m (made_by m g)) → Matches ring (kept_with m (made_by m g)) (log_with (made_by m g))
 
   to_itself : (v : Value) (g : Signing) → Closed (making.ToItself (own v)) g
-  to_itself v signing.Mute fits spelled = none_made (making.ToItself (own v)) spelled
-  to_itself v signing.NothingToSign fits spelled = one_made (making.ToItself (own v)) v [] spelled
-  to_itself v (signing.Signed own_frame) fits spelled = absurd fits
+  to_itself v signing.Mute fits sound = none_made (making.ToItself (own v)) sound
+  to_itself v signing.NothingToSign fits sound = one_made (making.ToItself (own v)) v [] sound
+  to_itself v (signing.Signed own_frame) fits sound = absurd fits
 
   to_sign : (v : Value) (g : Signing) → Closed (making.ToSign (statement.Ack (own v))) g
-  to_sign v signing.Mute fits spelled = none_made (making.ToSign (statement.Ack (own v))) spelled
-  to_sign v signing.NothingToSign fits spelled = absurd fits
-  to_sign v (signing.Signed own_frame) fits spelled = made_as (sym (frame_of own_frame.frame (statement.Ack (own v)) fits.0)) spelled
+  to_sign v signing.Mute fits sound = none_made (making.ToSign (statement.Ack (own v))) sound
+  to_sign v signing.NothingToSign fits sound = absurd fits
+  to_sign v (signing.Signed own_frame) fits sound = made_as (sym (frame_of own_frame.frame (statement.Ack (own v)) fits.0)) sound
     where
-      made_as : frame v own_frame.frame.signature ≡ own_frame.frame → IsSpelled (kept_with (making.ToSign (statement.Ack (own v))) (own_frame.frame ∷ []))
+      made_as : frame v own_frame.frame.signature ≡ own_frame.frame → IsSound ring (kept_with (making.ToSign (statement.Ack (own v))) (own_frame.frame ∷ []))
           → Matches ring (kept_with (making.ToSign (statement.Ack (own v))) (own_frame.frame ∷ [])) (log_with (own_frame.frame ∷ []))
       made_as is =
-          subst (λ f. IsSpelled (kept_with (making.ToSign (statement.Ack (own v))) (f ∷ [])) → Matches ring (kept_with (making.ToSign (statement.Ack (own v))) (f ∷ [])) (log_with (f ∷ [])))
+          subst (λ f. IsSound ring (kept_with (making.ToSign (statement.Ack (own v))) (f ∷ [])) → Matches ring (kept_with (making.ToSign (statement.Ack (own v))) (f ∷ [])) (log_with (f ∷ [])))
           is (one_made (making.ToSign (statement.Ack (own v))) v own_frame.frame.signature)
 
   by_value : (o : Option Value) (g : Signing) → Closed (ack_making row phase o) g
-  by_value None signing.Mute fits spelled = none_made making.Nothing spelled
-  by_value None signing.NothingToSign fits spelled = none_made making.Nothing spelled
-  by_value None (signing.Signed own_frame) fits spelled = absurd fits
-  by_value (Some v) g fits spelled =
+  by_value None signing.Mute fits sound = none_made making.Nothing sound
+  by_value None signing.NothingToSign fits sound = none_made making.Nothing sound
+  by_value None (signing.Signed own_frame) fits sound = absurd fits
+  by_value (Some v) g fits sound =
       (elim (owner_of row.config phase == row.id) as (λ b. Closed (if b then making.ToItself (own v) else making.ToSign (statement.Ack (own v))) g) [
         | true ↦ to_itself v g
         | false ↦ to_sign v g
-      ]) fits spelled
+      ]) fits sound
 
   pub closes_acks : (g : Signing) → Closed (ack_making row phase row.taken) g
   closes_acks g = by_value row.taken g

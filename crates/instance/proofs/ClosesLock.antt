@@ -29,7 +29,7 @@ use Rattle.instance.specs.declared.plan.Making.TheVariants as making
 use Rattle.instance.specs.declared.plan.Signing.{Signing}
 use Rattle.instance.specs.declared.plan.Signing.TheVariants as signing
 use Rattle.instance.specs.Rows.{Row}
-use Rattle.instance.specs.Matching.{Matches, MatchesIn, IsSpelled, proper_phase}
+use Rattle.instance.specs.Matching.{Matches, MatchesIn, IsSound, proper_phase}
 use Rattle.instance.specs.Plans.{lock_making, own_lock, made_by, Fits, with_all}
 use Rattle.instance.proofs.OpenedRounds.{IsNext, alone, with_made, with_read, unread, unmade, next_alone, next_made, next_read, held_alone, held_made, read_now, read_nothing, read_none, made_none, made_now, made_and_read, read_before, read_later, proper_before, decided_before, kept_before, none_taken, first_phase, next_phase, or_else-none, frame_of}
 use Rattle.instance.proofs.PlaceLists.{find_only}
@@ -69,15 +69,15 @@ module _ (ring : Ring) (row : Row) (log : List Note) (old : Matches ring row log
       ∙ absorbs_a_phase row.config row.id log phase row.proper.own (reports_of (all_read row.reports)) old.member (omega arith) (are_read_in ring row log phase was)
 
   opens_lock : (more : List Note) (table : List SignedLock) (taken : Option Value) (made : Option Lock) → IsNext log more
-      → IsLockKept (log ++ more) phase table taken made → IsSpelled (with_lock_of row table taken made) → Matches ring (with_lock_of row table taken made) (log ++ more)
+      → IsLockKept (log ++ more) phase table taken made → IsSound ring (with_lock_of row table taken made) → Matches ring (with_lock_of row table taken made) (log ++ more)
   unfolding absorbed
-  opens_lock more table taken made next is spelled =
+  opens_lock more table taken made next is sound =
       let k : ℕ = phase in
       let after : proper_phase (clock_of (log ++ more)) ≡ k + 1 = ap proper_phase next.clock ∙ next_phase (clock_of log + 1) (λ e. omega arith) in
       let all : MatchesIn ring (with_lock_of row table taken made) (log ++ more) k = record {
         cluster = was.cluster;
         member = was.member;
-        spelled = spelled;
+        sound = sound;
         opened = initial_of-append log more row.proper.own was.opened;
         timely = next.timely;
         made_by_now = next.made;
@@ -201,10 +201,10 @@ module _ (ring : Ring) (row : Row) (log : List Note) (old : Matches ring row log
   log_with made = log ++ Round (clock_of log + 1) ∷ flat_map (made_notes log (clock_of log + 1)) made
 
   abbrev Closed : Making → Signing → Type 0
-  Closed m g = Fits m g → IsSpelled (kept_with (made_by m g)) → Matches ring (kept_with (made_by m g)) (log_with (made_by m g))
+  Closed m g = Fits m g → IsSound ring (kept_with (made_by m g)) → Matches ring (kept_with (made_by m g)) (log_with (made_by m g))
 
-  none_made : IsSpelled (kept_with []) → Matches ring (kept_with []) (log_with [])
-  none_made spelled = opens_lock (alone log) row.table row.taken row.made (next_alone log old.timely old.made_by_now) none_kept spelled
+  none_made : IsSound ring (kept_with []) → Matches ring (kept_with []) (log_with [])
+  none_made sound = opens_lock (alone log) row.table row.taken row.made (next_alone log old.timely old.made_by_now) none_kept sound
 
   -- by whether four locks on other values are held
   abbrev kept_if : Value → List ℕ → Bool → Row
@@ -215,30 +215,30 @@ module _ (ring : Ring) (row : Row) (log : List Note) (old : Matches ring row log
   log_if v signature full =
       log ++ Round (clock_of log + 1) ∷ Made (clock_of log + 1) (statement.Lock (own v)) ∷ ((if not full then Read (clock_of log + 1) (frame v signature) ∷ [] else []) ++ [])
 
-  made_if : (v : Value) (signature : List ℕ) (full : Bool) → IsSpelled (kept_if v signature full) → Matches ring (kept_if v signature full) (log_if v signature full)
-  made_if v signature true spelled =
-      opens_lock (with_made log (statement.Lock (own v))) row.table row.taken (Some (own v)) (next_made log old.timely old.made_by_now (statement.Lock (own v))) (made_kept v) spelled
-  made_if v signature false spelled =
+  made_if : (v : Value) (signature : List ℕ) (full : Bool) → IsSound ring (kept_if v signature full) → Matches ring (kept_if v signature full) (log_if v signature full)
+  made_if v signature true sound =
+      opens_lock (with_made log (statement.Lock (own v))) row.table row.taken (Some (own v)) (next_made log old.timely old.made_by_now (statement.Lock (own v))) (made_kept v) sound
+  made_if v signature false sound =
       opens_lock (with_read log (statement.Lock (own v)) (frame v signature)) (with_lock (signed_own v signature) row.table) (Some v) (Some (own v))
       (next_read log old.timely old.made_by_now (statement.Lock (own v)) (frame v signature)
       (cond-false (nat_eq (place_of (clock_of log + 1)) 4) (nat_le phase phase) (nat_eq phase phase) (ne_eqb (place_of (clock_of log + 1)) 4 (λ e. omega arith)) ∙ eq-eqb phase phase refl))
-      (read_kept v signature) spelled
+      (read_kept v signature) sound
 
-  one_made : (v : Value) (signature : List ℕ) → IsSpelled (kept_with (frame v signature ∷ [])) → Matches ring (kept_with (frame v signature ∷ [])) (log_with (frame v signature ∷ []))
-  one_made v signature spelled =
+  one_made : (v : Value) (signature : List ℕ) → IsSound ring (kept_with (frame v signature ∷ [])) → Matches ring (kept_with (frame v signature ∷ [])) (log_with (frame v signature ∷ []))
+  one_made v signature sound =
       subst (λ b. Matches ring (kept_if v signature (has_four_others v row.table)) (log_if v signature b)) (full_alike log row.table was.locks v)
-      (made_if v signature (has_four_others v row.table) spelled)
+      (made_if v signature (has_four_others v row.table) sound)
 
   to_sign : (v : Value) (g : Signing) → Closed (making.ToSign (statement.Lock (own v))) g
-  to_sign v signing.Mute fits spelled = none_made spelled
-  to_sign v signing.NothingToSign fits spelled = absurd fits
-  to_sign v (signing.Signed own_frame) fits spelled = made_as (sym (frame_of own_frame.frame (statement.Lock (own v)) fits.0)) spelled
+  to_sign v signing.Mute fits sound = none_made sound
+  to_sign v signing.NothingToSign fits sound = absurd fits
+  to_sign v (signing.Signed own_frame) fits sound = made_as (sym (frame_of own_frame.frame (statement.Lock (own v)) fits.0)) sound
     where
-      made_as : frame v own_frame.frame.signature ≡ own_frame.frame → IsSpelled (kept_with (own_frame.frame ∷ [])) → Matches ring (kept_with (own_frame.frame ∷ [])) (log_with (own_frame.frame ∷ []))
-      made_as is = subst (λ f. IsSpelled (kept_with (f ∷ [])) → Matches ring (kept_with (f ∷ [])) (log_with (f ∷ []))) is (one_made v own_frame.frame.signature)
+      made_as : frame v own_frame.frame.signature ≡ own_frame.frame → IsSound ring (kept_with (own_frame.frame ∷ [])) → Matches ring (kept_with (own_frame.frame ∷ [])) (log_with (own_frame.frame ∷ []))
+      made_as is = subst (λ f. IsSound ring (kept_with (f ∷ [])) → Matches ring (kept_with (f ∷ [])) (log_with (f ∷ []))) is (one_made v own_frame.frame.signature)
 
   pub closes_lock : (o : Option Value) (g : Signing) → Closed (lock_making row phase o) g
-  closes_lock None signing.Mute fits spelled = none_made spelled
-  closes_lock None signing.NothingToSign fits spelled = none_made spelled
-  closes_lock None (signing.Signed own_frame) fits spelled = absurd fits
-  closes_lock (Some v) g fits spelled = to_sign v g fits spelled
+  closes_lock None signing.Mute fits sound = none_made sound
+  closes_lock None signing.NothingToSign fits sound = none_made sound
+  closes_lock None (signing.Signed own_frame) fits sound = absurd fits
+  closes_lock (Some v) g fits sound = to_sign v g fits sound

@@ -19,7 +19,7 @@ use Rattle.ledger_model.proofs.Goodness.{initial_of-append}
 use Rattle.ledger_model.proofs.Staying.{from_below, find_none, acked_known, decided_stays}
 use Rattle.phase_core.proofs.Logs.{decided_is_acked}
 use Rattle.instance.specs.Rows.{Row}
-use Rattle.instance.specs.Matching.{Matches, MatchesIn, IsSpelled}
+use Rattle.instance.specs.Matching.{Matches, MatchesIn, IsSound}
 use Rattle.instance.specs.Plans.{decides_now}
 use Rattle.instance.proofs.OpenedRounds.{IsNext, alone, next_alone, held_alone, read_before, made_before, proper_kept, taken_before, kept_before}
 use Rattle.instance.proofs.PlaceLists.{find_only}
@@ -96,13 +96,13 @@ module _ (ring : Ring) (row : Row) (log : List Note) (old : Matches ring row log
   abbrev then_decided : Row
   then_decided = record row { decided = or_else row.decided (decides_now row row.made) }
 
-  pub closes_release : IsSpelled then_decided → Matches ring then_decided (log ++ alone log)
-  closes_release spelled =
+  pub closes_release : IsSound ring then_decided → Matches ring then_decided (log ++ alone log)
+  closes_release sound =
       let k : ℕ = phase in
       let all : MatchesIn ring then_decided (log ++ alone log) k = record {
         cluster = was.cluster;
         member = was.member;
-        spelled = spelled;
+        sound = sound;
         opened = initial_of-append log (alone log) row.proper.own was.opened;
         timely = next.timely;
         made_by_now = next.made;

@@ -25,7 +25,7 @@ use Rattle.instance.specs.declared.plan.Making.TheVariants as making
 use Rattle.instance.specs.declared.plan.Signing.{Signing}
 use Rattle.instance.specs.declared.plan.Signing.TheVariants as signing
 use Rattle.instance.specs.Rows.{Row}
-use Rattle.instance.specs.Matching.{Matches, MatchesIn, IsSpelled, IsKept}
+use Rattle.instance.specs.Matching.{Matches, MatchesIn, IsSound, IsKept}
 use Rattle.instance.specs.Plans.{Planned, makes_only, own_report, made_by, Fits, IsSignedIn, forgotten, with_ends, with_all, added}
 use Rattle.instance.proofs.OpenedRounds.{IsNext, alone, with_read, next_alone, next_read, held_alone, held_read, read_now, read_none, read_later, made_later, proper_kept, decided_before, none_taken, or_else-none, frame_of}
 use Rattle.instance.proofs.PlaceLists.{none_read, none_there, added_length, added_read, added_there}
@@ -47,13 +47,13 @@ record AreKept (ring : Ring) (row : Row) (log : List Note) (k : ℕ) (reports : 
 
 module _ (ring : Ring) (row : Row) (log : List Note) (old : Matches ring row log) (place : place_of (clock_of log + 1) ≡ 1) where
   opens_phase : (more : List Note) (reports : Places SignedReport) → IsNext log more → held_locks (log ++ more) ≡ held_locks log
-      → AreKept ring row (log ++ more) (phase_of (clock_of log + 1)) reports → IsSpelled (in_phase row reports) → Matches ring (in_phase row reports) (log ++ more)
+      → AreKept ring row (log ++ more) (phase_of (clock_of log + 1)) reports → IsSound ring (in_phase row reports) → Matches ring (in_phase row reports) (log ++ more)
   opens_phase more reports next held are spelled =
       let k : ℕ = phase_of (clock_of log + 1) in
       let all : MatchesIn ring (in_phase row reports) (log ++ more) k = record {
         cluster = old.cluster;
         member = old.member;
-        spelled = spelled;
+        sound = spelled;
         opened = initial_of-append log more row.proper.own old.opened;
         timely = next.timely;
         made_by_now = next.made;
@@ -131,7 +131,7 @@ module _ (ring : Ring) (row : Row) (log : List Note) (old : Matches ring row log
   log_with made = log ++ Round (clock_of log + 1) ∷ flat_map (made_notes log (clock_of log + 1)) made
 
   one_made : (signature : List ℕ) → IsTrue (is_signed ring (frame signature)) → IsFrame (frame signature)
-      → IsSpelled (kept_with (frame signature ∷ [])) → Matches ring (kept_with (frame signature ∷ [])) (log_with (frame signature ∷ []))
+      → IsSound ring (kept_with (frame signature ∷ [])) → Matches ring (kept_with (frame signature ∷ [])) (log_with (frame signature ∷ []))
   one_made signature signed is_frame spelled =
       let f : SignedStatement = frame signature in
       opens_phase (with_read log f.statement f) (added (no_reports row) row.id (own signature))
@@ -140,7 +140,7 @@ module _ (ring : Ring) (row : Row) (log : List Note) (old : Matches ring row log
       (one_kept signature signed is_frame) spelled
 
   pub closes_reports : (g : Signing) → Fits reporting.making g → IsSignedIn ring g
-      → IsSpelled (kept_with (made_by reporting.making g)) → Matches ring (kept_with (made_by reporting.making g)) (log_with (made_by reporting.making g))
+      → IsSound ring (kept_with (made_by reporting.making g)) → Matches ring (kept_with (made_by reporting.making g)) (log_with (made_by reporting.making g))
   closes_reports signing.Mute fits signed spelled =
       opens_phase (alone log) (no_reports row) (next_alone log old.timely old.made_by_now) (held_alone log old.timely old.made_by_now) none_kept spelled
   closes_reports signing.NothingToSign fits signed spelled = absurd fits
@@ -148,7 +148,7 @@ module _ (ring : Ring) (row : Row) (log : List Note) (old : Matches ring row log
       made_as (sym (frame_of own_frame.frame (statement.Report (own_report row (phase_of (clock_of log + 1)))) fits.0)) signed.0 signed.1 spelled
     where
       made_as : frame own_frame.frame.signature ≡ own_frame.frame → IsTrue (is_signed ring own_frame.frame) → IsFrame own_frame.frame
-          → IsSpelled (kept_with (own_frame.frame ∷ [])) → Matches ring (kept_with (own_frame.frame ∷ [])) (log_with (own_frame.frame ∷ []))
+          → IsSound ring (kept_with (own_frame.frame ∷ [])) → Matches ring (kept_with (own_frame.frame ∷ [])) (log_with (own_frame.frame ∷ []))
       made_as is =
-          subst (λ f. IsTrue (is_signed ring f) → IsFrame f → IsSpelled (kept_with (f ∷ [])) → Matches ring (kept_with (f ∷ [])) (log_with (f ∷ [])))
+          subst (λ f. IsTrue (is_signed ring f) → IsFrame f → IsSound ring (kept_with (f ∷ [])) → Matches ring (kept_with (f ∷ [])) (log_with (f ∷ [])))
           is (one_made own_frame.frame.signature)

@@ -4,9 +4,11 @@ use Rattle.std.specs.Prelude.{map, nat_eq, Option, Some, None, is_some, slice_se
 use Rattle.std.specs.List.{list_any}
 use Rattle.std.specs.Cmp.{both_ways}
 use Rattle.std.proofs.Math.Bool.{or_comm, or_assoc}
-use Rattle.std.proofs.lemmas.Bool.{eqb-true, eq-eqb}
+use Rattle.std.specs.Option.{is_none}
+use Rattle.std.proofs.lemmas.Bool.{cases_Bool, eqb-true, eq-eqb}
 use Rattle.ledger_model.specs.Tallies.{Places, all_read, read_of}
 use Rattle.ledger_model.proofs.Lists.{any_has, has_any}
+use Rattle.instance.specs.Plans.{added}
 use Rattle.instance.proofs.KeptReadings.{read_at, at_read}
 
 -- a test of what a function gives
@@ -49,3 +51,11 @@ read_put (place ∷ places) zero zero x y h = inl (refl, cc)
 read_put (place ∷ places) zero (suc q) x y h = inr h
 read_put (place ∷ places) (suc r) zero x y h = inr h
 read_put (place ∷ places) (suc r) (suc q) x y h = elim (read_put places r q x y h) [ inl new ↦ inl (ap suc new.0, new.1) | inr old ↦ inr old ]
+
+pub read_added : {X : Type 0} (places : Places X) (r q : ℕ) (x y : X) → read_of (added places r x) q ≡ Some y
+    → ((q ≡ r) × (x ≡ y)) ⊎ (read_of places q ≡ Some y)
+read_added places r q x y h =
+    elim (cases_Bool (is_none (read_of places r))) [
+      | inl free ↦ read_put places r q x y (rw free at h)
+      | inr full ↦ inr (rw full at h)
+    ]

@@ -7,7 +7,8 @@ pub mod Opens
 pub mod Answering
 pub mod SpelledTables
 pub mod ChosenValues
-pub mod SpelledRows
+pub mod SoundRows
+pub mod SpelledPlans
 pub mod OneRead
 pub mod NewParts
 pub mod ReadNotes

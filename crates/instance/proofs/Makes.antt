@@ -1,18 +1,22 @@
 -- What a plan makes is what may be made.
 use Rattle.std.proofs.Common.{◌≡◌, ℕ, ◌+◌, ◌<◌, true, false, ◌&&◌, inl, inr, List, [], ◌∷◌, refl, sym, ap, subst, ◌∙◌, arith}
 use Rattle.std.specs.Prelude.{nat_eq, map, Option, Some, None, IfSome}
-use Rattle.std.proofs.lemmas.Bool.{cases_Bool, eqb-true, ne_eqb}
+use Rattle.std.proofs.lemmas.Bool.{cases_Bool, eqb-true, ne_eqb, and_parts}
+use Rattle.std.specs.List.{list_all}
 use Rattle.std.proofs.lemmas.Simd.{map-map}
 use Rattle.ledger_model.specs.declared.config.Config.{Config}
 use Rattle.ledger_model.specs.declared.statement.Statement.TheVariants as statement
 use Rattle.ledger_model.specs.Values.{Value}
 use Rattle.ledger_model.specs.Rounds.{phase_of, place_of, owner_of}
-use Rattle.ledger_model.specs.Notes.{Note, clock_of}
+use Rattle.ledger_model.specs.Notes.{Note, Has, clock_of}
 use Rattle.ledger_model.specs.Locks.{value_taken, held_values}
 use Rattle.ledger_model.specs.Logs.{own_ack}
-use Rattle.ledger_model.specs.Rules.{Ring, report_of, acks_of}
+use Rattle.ledger_model.specs.Rules.{Ring, is_signed, with_signature, report_of, acks_of}
 use Rattle.ledger_model.specs.Spelling.{IsValue, IsAck, frame_bytes}
-use Rattle.ledger_model.specs.LockTables.{as_statement}
+use Rattle.ledger_model.specs.LockTables.{SignedLock, as_statement}
+use Rattle.ledger_model.specs.Validity.{is_quorate, is_supporting}
+use Rattle.ledger_model.proofs.FrameReading.{reading-again}
+use Rattle.ledger_model.proofs.Lists.{has_map}
 use Rattle.ledger_model.specs.Phases.{reports_of, chosen}
 use Rattle.ledger_model.specs.Tallies.{all_read}
 use Rattle.lock_proofs.specs.Tables.{values_of}
@@ -23,9 +27,9 @@ use Rattle.instance.specs.declared.plan.Making.TheVariants as making
 use Rattle.instance.specs.Rows.{Row}
 use Rattle.instance.specs.Matching.{Matches, MatchesIn}
 use Rattle.instance.specs.Plans.{own_report, own_lock, own_ack_of, locking_of, lock_making, ack_making}
-use Rattle.instance.specs.Laws.{Makes, SendsOn, MakesRight}
+use Rattle.instance.specs.Laws.{Makes, SendsOn, SendsLocks, IsLockSentOn, MakesRight}
 use Rattle.instance.proofs.KeptReadings.{are_read_in, kept_spelled}
-use Rattle.instance.proofs.ChosenValues.{chosen_found, none_chosen, chosen_spelled}
+use Rattle.instance.proofs.ChosenValues.{each_from, chosen_found, none_chosen, chosen_spelled}
 use Rattle.instance.proofs.OwnLocks.{own_lock_right, own_lock_spelled, proof_signed}
 
 -- ---- what an owner acknowledges to itself
@@ -81,11 +85,11 @@ module _ (ring : Ring) (row : Row) (log : List Note) (m : Matches ring row log) 
         unsent = sym (no_own_ack row.config row.id row.height log (clock_of log + 1) third);
         spelled = (
           record {
-            place = record { heights = m.spelled.heights; phases = (omega arith, omega arith); signers = (let member = m.member in let bounded = m.cluster.bounded in omega arith) };
-            initial = m.spelled.own;
-            proper = m.spelled.proper;
-            some = m.spelled.some;
-            locked = m.spelled.locked;
+            place = record { heights = m.sound.spelled.heights; phases = (omega arith, omega arith); signers = (let member = m.member in let bounded = m.cluster.bounded in omega arith) };
+            initial = m.sound.spelled.own;
+            proper = m.sound.spelled.proper;
+            some = m.sound.spelled.some;
+            locked = m.sound.spelled.locked;
           },
           tt,
         );
@@ -112,7 +116,7 @@ module _ (ring : Ring) (row : Row) (log : List Note) (m : Matches ring row log) 
   chosen_right now not_first second third mine (Some v) e =
       let k = phase_of (clock_of log + 1) in
       let found = chosen_found row.config (reports_of (all_read row.reports)) row.proper.own v e in
-      let value = chosen_spelled row.config (reports_of (all_read row.reports)) row.proper.own m.spelled.own (kept_spelled ring row log k now) v e in
+      let value = chosen_spelled row.config (reports_of (all_read row.reports)) row.proper.own m.sound.spelled.own (kept_spelled ring row log k now) v e in
       record {
         may = rw (not_first, second, mine) (inl (own_lock row k v, refl, own_lock_right ring row log k now v found));
         unsent = sym (no_own_ack row.config row.id row.height log (clock_of log + 1) third);
@@ -155,7 +159,7 @@ module _ (ring : Ring) (row : Row) (log : List Note) (m : Matches ring row log) 
       let member = m.member in
       let bounded = m.cluster.bounded in
       let spelled : IsAck (own_ack_of row (phase_of (clock_of log + 1)) v) =
-      record { place = record { heights = m.spelled.heights; phases = (omega arith, omega arith); signers = omega arith }; value = value } in
+      record { place = record { heights = m.sound.spelled.heights; phases = (omega arith, omega arith); signers = omega arith }; value = value } in
       elim (cases_Bool (nat_eq (owner_of row.config (phase_of (clock_of log + 1))) row.id)) [
         | inl mine ↦ rw mine (record {
           may = rw (not_first, not_second, third) (ap (acks_of row.id row.height (phase_of (clock_of log + 1))) e);
@@ -192,7 +196,7 @@ makes ring row log m early =
               let place : place_of (clock_of log + 1) ≡ 3 = eqb-true (place_of (clock_of log + 1)) 3 third in
               let same : phase_of (clock_of log) ≡ phase_of (clock_of log + 1) = omega arith in
               let taken : row.taken ≡ value_taken log (phase_of (clock_of log + 1)) = subst (λ k. row.taken ≡ value_taken log k) same m.taken in
-              rw (not_first, not_second, third) (ack_right ring row log m early not_first not_second third row.taken taken m.spelled.taken)
+              rw (not_first, not_second, third) (ack_right ring row log m early not_first not_second third row.taken taken m.sound.spelled.taken)
           | inr not_third ↦ rw (not_first, not_second, not_third) (nothing_right ring row log m early not_first not_second not_third)
         ]
       ]
@@ -204,3 +208,31 @@ sends_on ring row log m place =
     let second : nat_eq (place_of (clock_of log + 1)) 2 ≡ false = ne_eqb (place_of (clock_of log + 1)) 2 (λ e. omega (arith, e)) in
     let third : nat_eq (place_of (clock_of log + 1)) 3 ≡ false = ne_eqb (place_of (clock_of log + 1)) 3 (λ e. omega (arith, e)) in
     rw (first, second, third) (sym (map-map frame_bytes as_statement row.table) ∙ ap (map frame_bytes) m.locks)
+
+-- what is sent on are locks of the height, signed
+pub sends_locks : SendsLocks
+sends_locks ring row log c m =
+    elim (cases_Bool (nat_eq (place_of c) 1)) [
+      | inl first ↦ rw first tt
+      | inr not_first ↦ elim (cases_Bool (nat_eq (place_of c) 2)) [
+        | inl second ↦ rw (not_first, second) tt
+        | inr not_second ↦ elim (cases_Bool (nat_eq (place_of c) 3)) [
+          | inl third ↦ rw (not_first, not_second, third) tt
+          | inr not_third ↦ rw (not_first, not_second, not_third) (each_from (IsLockSentOn ring row.height) (map (λ s. frame_bytes (as_statement s)) row.table) sent)
+        ]
+      ]
+    ]
+  where
+    sent : (frame : List ℕ) → Has (map (λ s. frame_bytes (as_statement s)) row.table) frame → IsLockSentOn ring row.height frame
+    sent frame h =
+        let s = has_map (λ (x : SignedLock). frame_bytes (as_statement x)) row.table frame h in
+        let held = m.sound.held s.0 s.1.0 in
+        let proved = and_parts (is_quorate row.config s.0.lock && list_all (λ p. is_signed ring (with_signature p)) s.0.lock.proof) (is_supporting s.0.lock) held.proved in
+        subst (IsLockSentOn ring row.height) s.1.1 (record {
+          lock = s.0;
+          is = refl;
+          reads = reading-again (as_statement s.0) held.frame;
+          of_height = held.of_height;
+          signed = held.signed;
+          proof_signed = (and_parts (is_quorate row.config s.0.lock) (list_all (λ p. is_signed ring (with_signature p)) s.0.lock.proof) proved.0).1;
+        })

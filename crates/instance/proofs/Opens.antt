@@ -138,13 +138,17 @@ pub opens : Opens
 opens config id height own ring log cluster member heights value only = record {
   cluster = cluster;
   member = member;
-  spelled = record {
-    heights = heights;
-    own = value;
-    proper = record { few = omega arith; each = (value, tt); ascend = refl };
-    some = omega arith;
-    locked = record { few = omega arith; each = tt; ascend = refl };
-    taken = tt;
+  sound = record {
+    spelled = record {
+      heights = heights;
+      own = value;
+      proper = record { few = omega arith; each = (value, tt); ascend = refl };
+      some = omega arith;
+      locked = record { few = omega arith; each = tt; ascend = refl };
+      taken = tt;
+      reports = λ r s e. absurd (none_is_some (read_of (replicate config.replicas None) r) s (unread_at SignedReport config.replicas r) e);
+    };
+    held = λ s none. absurd none;
   };
   opened = begins own log only;
   timely = record { past = λ c s has. absurd (none_read own log only c s has); of_phase = λ c s has place. absurd (none_read own log only c (as_statement s) has) };

@@ -81,7 +81,7 @@ module _ (ring : Ring) (row : Row) (log : List Note) (k : ℕ) (m : MatchesIn ri
         let member = m.member in
         let len = proof_length in
         record {
-          place = record { heights = m.spelled.heights; phases = (some, few); signers = omega arith };
+          place = record { heights = m.sound.spelled.heights; phases = (some, few); signers = omega arith };
           value = value;
           count = (omega arith, omega arith);
           each = each_from IsSigned (own_lock row k v).proof (λ s h. (in_proof s h).kept.spelled);

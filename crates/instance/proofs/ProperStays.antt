@@ -13,7 +13,7 @@ use Rattle.ledger_model.specs.Values.{Value, same_value}
 use Rattle.ledger_model.specs.Locks.{names}
 use Rattle.ledger_model.specs.Rounds.{round_at, number_of}
 use Rattle.ledger_model.specs.Notes.{Note, Proposed, Round, Made, Read, Has, reads_in, was_read, is_report}
-use Rattle.ledger_model.specs.Proper.{others_reported, is_named, values_in, has_initial, is_split, are_all_named, is_all_proper, cut, proper_values}
+use Rattle.ledger_model.specs.Proper.{others_reported, is_named, listed_by_other, values_in, has_initial, is_split, are_all_named, is_all_proper, cut, proper_values}
 use Rattle.ledger_model.proofs.Staying.{any_append}
 use Rattle.proper_sets.specs.Laws.{proper_at}
 
@@ -77,8 +77,8 @@ module _ (config : Config) (id : ℕ) (log more : List Note) (j : ℕ) (none : N
       nat_lt (2 * config.faults) (others_stay (λ p. true) i + 1)
       && list_all (λ v. nat_le (number_of config (λ r. initial_stays own v r i)) config.faults) (own ∷ values_stay (λ p. p.initial ∷ []) i)
 
-  listed_stays : filter (is_named config id (log ++ more) j) (values_in (λ p. p.proper) j (log ++ more)) ≡ filter (is_named config id log j) (values_in (λ p. p.proper) j log)
-  listed_stays = λ i. filter (λ v. named_stays v i) (values_stay (λ p. p.proper) i)
+  listed_stays : filter (is_named config id (log ++ more) j) (values_in (listed_by_other id) j (log ++ more)) ≡ filter (is_named config id log j) (values_in (listed_by_other id) j log)
+  listed_stays = λ i. filter (λ v. named_stays v i) (values_stay (listed_by_other id) i)
 
 -- ---- all phases before k
 

@@ -26,13 +26,13 @@ use Rattle.lock_proofs.proofs.ReleasedLocks.{releases_locks}
 use Rattle.lock_proofs.proofs.KeptLocks.{keeps_locks}
 use Rattle.lock_proofs.proofs.TimelyLogs.{stays_timely}
 use Rattle.instance.specs.Rows.{Row}
-use Rattle.instance.specs.Matching.{Matches, MatchesIn, IsSpelled}
+use Rattle.instance.specs.Matching.{Matches, MatchesIn, IsSound}
 use Rattle.instance.specs.Reads.{row_causes, is_kept_already, after_read}
 use Rattle.instance.specs.Laws.{Reads}
 use Rattle.instance.proofs.Answering.{OnTime, on_time, round_is}
 use Rattle.instance.proofs.NewParts.{report_put, ack_put, lock_taken_now}
 use Rattle.instance.proofs.OneRead.{ReportsMatch, LockMatches, AcksMatch, and_read, made_same, clock_same, made_before, reports_stay, acks_stay, lock_stays, proper_stays, decision_same}
-use Rattle.instance.proofs.SpelledRows.{reads_spelled}
+use Rattle.instance.proofs.SoundRows.{reads_sound}
 
 -- what a row keeps is all of what it kept but for these parts
 abbrev with_parts : Row → List SignedLock → Places SignedReport → Option Value → Places Ack → Row
@@ -59,7 +59,7 @@ module _ (ring : Ring) (row : Row) (log : List Note) (s : SignedStatement) (m : 
 
   -- the row with new parts matches where the parts do
   assembled : (table : List SignedLock) (reports : Places SignedReport) (taken : Option Value) (acks : Places Ack)
-      → IsSpelled (with_parts row table reports taken acks) → held_locks after ≡ map as_statement table
+      → IsSound ring (with_parts row table reports taken acks) → held_locks after ≡ map as_statement table
       → ReportsMatch ring row.config.replicas row.height after (phase_of (clock_of log)) reports → LockMatches after (phase_of (clock_of log)) taken
       → AcksMatch row.config.replicas after (phase_of (clock_of log)) acks
       → Matches ring (with_parts row table reports taken acks) after
@@ -67,7 +67,7 @@ module _ (ring : Ring) (row : Row) (log : List Note) (s : SignedStatement) (m : 
       subst (λ c. MatchesIn ring (with_parts row table reports taken acks) after (phase_of c)) (sym (clock_same log (clock_of log) s)) (record {
         cluster = m.cluster;
         member = m.member;
-        spelled = spelled;
+        sound = spelled;
         opened = initial_of-append log (Read (clock_of log) s ∷ []) row.proper.own m.opened;
         timely = stays_timely log (Read (clock_of log) s) m.timely
             (and_from (nat_eq (clock_of log) (clock_of log)) (has_phase (clock_of log) s.statement) (eq-eqb (clock_of log) (clock_of log) refl) a.on_time.phase);
@@ -114,7 +114,7 @@ module _ (ring : Ring) (row : Row) (log : List Note) (signature : List ℕ) (m :
 
   abbrev Next : Statement → Type 0
   Next s = Accepted ring row (clock_of log) (signed_with s) → signer_of s < row.config.replicas → height_of s ≡ row.height → IsFrame (signed_with s)
-      → IsSpelled (after_read row (clock_of log) (signed_with s)) → Matches ring (after_read row (clock_of log) (signed_with s)) (and_read log (clock_of log) (signed_with s))
+      → IsSound ring (after_read row (clock_of log) (signed_with s)) → Matches ring (after_read row (clock_of log) (signed_with s)) (and_read log (clock_of log) (signed_with s))
 
   read_report : (r : Report) → Next (statement.Report r)
   read_report r a below height frame spelled =
@@ -136,7 +136,7 @@ module _ (ring : Ring) (row : Row) (log : List Note) (signature : List ℕ) (m :
     abbrev lock : SignedLock
     lock = record { lock = l; signature = signature }
 
-    lock_taken : nat_eq (place_of now) 2 ≡ true → IsSpelled (lock_next l true) → Matches ring (lock_next l true) (and_read log now (as_statement lock))
+    lock_taken : nat_eq (place_of now) 2 ≡ true → IsSound ring (lock_next l true) → Matches ring (lock_next l true) (and_read log now (as_statement lock))
     lock_taken second spelled =
         let place = eqb-true (place_of now) 2 second in
         let here = round_is now 2 place a.on_time.some in
@@ -152,7 +152,7 @@ module _ (ring : Ring) (row : Row) (log : List Note) (signature : List ℕ) (m :
         (lock_taken_now log k lock now here phase unread)
         (acks_stay log now (as_statement lock) row.config.replicas k row.acks (λ test. and_right (nat_eq now (round_at 3 k)) false refl) acks_before)
 
-    lock_releases : nat_eq (place_of now) 2 ≡ false → IsSpelled (lock_next l false) → Matches ring (lock_next l false) (and_read log now (as_statement lock))
+    lock_releases : nat_eq (place_of now) 2 ≡ false → IsSound ring (lock_next l false) → Matches ring (lock_next l false) (and_read log now (as_statement lock))
     lock_releases second spelled =
         let fourth : nat_eq (place_of now) 4 ≡ true = rw second at a.on_time.place in
         let place = eqb-true (place_of now) 4 fourth in
@@ -164,7 +164,7 @@ module _ (ring : Ring) (row : Row) (log : List Note) (signature : List ℕ) (m :
         (lock_stays log now (as_statement lock) k (λ test. and_left (nat_eq now (round_at 2 k)) (test l) other) row.taken lock_before)
         (acks_stay log now (as_statement lock) row.config.replicas k row.acks (λ test. and_right (nat_eq now (round_at 3 k)) false refl) acks_before)
 
-    lock_read : (b : Bool) → nat_eq (place_of now) 2 ≡ b → IsSpelled (lock_next l b) → Matches ring (lock_next l b) (and_read log now (as_statement lock))
+    lock_read : (b : Bool) → nat_eq (place_of now) 2 ≡ b → IsSound ring (lock_next l b) → Matches ring (lock_next l b) (and_read log now (as_statement lock))
     lock_read true second spelled = lock_taken second spelled
     lock_read false second spelled = lock_releases second spelled
 
@@ -185,4 +185,4 @@ module _ (ring : Ring) (row : Row) (log : List Note) (signature : List ℕ) (m :
 
 pub reads : Reads
 reads ring row log s m below height frame ok =
-    read_one ring row log s.signature m s.statement (accepted ring row (clock_of log) s ok) below height frame (reads_spelled ring row log s m frame ok)
+    read_one ring row log s.signature m s.statement (accepted ring row (clock_of log) s ok) below height frame (reads_sound ring row log s m height frame ok)

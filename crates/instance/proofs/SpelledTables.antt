@@ -1,6 +1,6 @@
 -- Tables of locks and sets of proper values whose values have a spelling.
-use Rattle.std.proofs.Common.{◌≡◌, ℕ, ◌≤◌, Bool, false, not, inl, inr, List, [], ◌∷◌, ◌++◌, length, take, subst, arith}
-use Rattle.std.specs.Prelude.{filter}
+use Rattle.std.proofs.Common.{◌≡◌, ℕ, ◌≤◌, Bool, true, false, not, cond, inl, inr, List, [], ◌∷◌, ◌++◌, length, take, subst, arith}
+use Rattle.std.specs.Prelude.{filter, ◌==◌}
 use Rattle.std.specs.List.{flat_map}
 use Rattle.std.proofs.lemmas.List.{length-map}
 use Rattle.ledger_model.specs.declared.config.Config.{Config}
@@ -9,7 +9,7 @@ use Rattle.ledger_model.specs.Values.{Value, same_value, with_value, ascending}
 use Rattle.ledger_model.specs.Notes.{Has}
 use Rattle.ledger_model.specs.Spelling.{IsValue, IsValueList, IsReport}
 use Rattle.ledger_model.specs.LockTables.{SignedLock, with_lock, has_four_others}
-use Rattle.ledger_model.specs.Proper.{cut}
+use Rattle.ledger_model.specs.Proper.{listed_by_other, cut}
 use Rattle.ledger_model.specs.Phases.{ProperSet, absorbed, is_named_by, named_values}
 use Rattle.ledger_model.proofs.Lists.{with_value_has, has_with, has_map, filter_has, take_has, ascending_has, has_cases, flat_map_has}
 use Rattle.ledger_model.proofs.Below.{ascending_ascends, with_value_ascends}
@@ -72,6 +72,9 @@ cut-some own vs =
     let others = take 3 (filter (λ v. not (same_value own v)) (ascending vs)) in
     some_there (with_value own others) own (has_with own others)
 
+listed_there : (p : Report) (id : ℕ) (v : Value) → Has (listed_by_other id p) v → Has p.proper v
+listed_there p id v = elim (p.signer == id) as (λ b. Has (cond b [] p.proper) v → Has p.proper v) [ true ↦ λ h. absurd h | false ↦ λ h. h ]
+
 -- what is proper once the reports of a phase are absorbed
 pub record IsSpelledSet (proper : ProperSet) : Type 0 where
   pub own : IsValue proper.own
@@ -87,8 +90,8 @@ absorbed-spelled config id reports proper h spelled = record {
       (λ v k. elim (has_cases proper.explicit (named_values config id reports) v k) [
         | inl old ↦ each_has IsValue proper.explicit v h.explicit.each old
         | inr new ↦
-            let f = flat_map_has (λ (p : Report). p.proper) reports v (filter_has (is_named_by config id reports) (flat_map (λ (p : Report). p.proper) reports) v new).0 in
-            each_has IsValue f.0.proper v (spelled f.0 f.1.0).proper.each f.1.1
+            let f = flat_map_has (listed_by_other id) reports v (filter_has (is_named_by config id reports) (flat_map (listed_by_other id) reports) v new).0 in
+            each_has IsValue f.0.proper v (spelled f.0 f.1.0).proper.each (listed_there f.0 id v f.1.1)
       ]);
   some = cut-some proper.own (proper.explicit ++ named_values config id reports);
 }

@@ -12,11 +12,11 @@ use Rattle.ledger_model.specs.Rounds.{phase_of, place_of, round_at}
 use Rattle.ledger_model.specs.Notes.{Note, Proposed, Round, Made, Read, Has, clock_of, initial_of, is_report, is_lock, is_ack, was_read, was_made}
 use Rattle.ledger_model.specs.Locks.{value_taken, decided_of}
 use Rattle.ledger_model.specs.Lawful.{held_locks}
-use Rattle.ledger_model.specs.Rules.{Ring, is_signed, with_signature}
+use Rattle.ledger_model.specs.Rules.{Ring, is_signed, with_signature, is_proved}
 use Rattle.ledger_model.specs.Phases.{reports_of}
 use Rattle.ledger_model.specs.Tallies.{all_read, read_of}
-use Rattle.ledger_model.specs.LockTables.{as_statement}
-use Rattle.ledger_model.specs.Spelling.{IsSigned, IsValue, IsValueList}
+use Rattle.ledger_model.specs.LockTables.{SignedLock, as_statement}
+use Rattle.ledger_model.specs.Spelling.{IsFrame, IsSigned, IsValue, IsValueList}
 use Rattle.lock_proofs.specs.Tables.{values_of}
 use Rattle.proper_sets.specs.Laws.{proper_at}
 use Rattle.lock_proofs.specs.Laws.{IsTimely}
@@ -41,6 +41,11 @@ pub record IsCluster (config : Config) : Type 0 where
   pub bounded : config.replicas ≤ 13
   pub tolerant : 1 ≤ config.faults
 
+-- a report that is kept at the place of replica r is that replica's, and can be spelled with its signature
+pub record IsKeptReport (r : ℕ) (s : SignedReport) : Type 0 where
+  pub of_signer : s.report.signer ≡ r
+  pub spelled : IsSigned s
+
 -- what is kept can be spelled
 pub record IsSpelled (row : Row) : Type 0 where
   pub heights : (1 ≤ row.height) × (row.height < 2 ^ 32)
@@ -49,12 +54,25 @@ pub record IsSpelled (row : Row) : Type 0 where
   pub some : 1 ≤ length row.proper.explicit
   pub locked : IsValueList (values_of row.table)
   pub taken : IfSome row.taken IsValue
+  pub reports : (r : ℕ) (s : SignedReport) → read_of row.reports r ≡ Some s → IsKeptReport r s
 
--- what is kept matches the log, where k is the open phase
+-- a lock that is held: it is of this height and has a frame, and its signature and those of its reports verify
+pub record IsHeldLock (ring : Ring) (config : Config) (height : ℕ) (s : SignedLock) : Type 0 where
+  pub of_height : s.lock.height ≡ height
+  pub frame : IsFrame (as_statement s)
+  pub signed : IsTrue (is_signed ring (as_statement s))
+  pub proved : IsTrue (is_proved config ring s.lock)
+
+-- what is kept can be spelled, and each held lock is one
+pub record IsSound (ring : Ring) (row : Row) : Type 0 where
+  pub spelled : IsSpelled row
+  pub held : (s : SignedLock) → Has row.table s → IsHeldLock ring row.config row.height s
+
+-- what is kept matches the log, where k is the open phase: at clock 0 that is phase 0, in which nothing is read or made
 pub record MatchesIn (ring : Ring) (row : Row) (log : List Note) (k : ℕ) : Type 0 where
   pub cluster : IsCluster row.config
   pub member : row.id < row.config.replicas
-  pub spelled : IsSpelled row
+  pub sound : IsSound ring row
   pub opened : initial_of log ≡ Some row.proper.own
   pub timely : IsTimely log
   pub made_by_now : (c : ℕ) (s : Statement) → Has log (Made c s) → c ≤ clock_of log

@@ -15,6 +15,3 @@ mod rounds;
 
 pub use height::Instance;
 pub use plan::{Making, OwnFrame, Plan, Signing};
-
-#[cfg(test)]
-mod tests;

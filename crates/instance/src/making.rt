@@ -1,7 +1,7 @@
 //! What is made as a round opens.
 use crate::height::Instance;
 use crate::plan::{Making, Plan};
-use crate::rounds::{Place, owner_of, phase_of, place_of};
+use crate::rounds::{Place, phase_of, place_of};
 use bytes::Bytes;
 use ledger_model::{Ack, Batch, Batches, Lock, LockProof, Phase, Report, SignedReport, Statement};
 use phase_core::{choose, decides};
@@ -21,7 +21,8 @@ impl Instance {
     ghost use Rattle.lock_proofs.specs.Tables.{values_of};
     ghost use Rattle.instance.specs.Matching.{Matches};
     ghost use Rattle.instance.specs.Plans.{planned, own_report, own_lock, own_ack_of, locking_of, decides_now};
-    ghost use Rattle.instance.specs.Laws.{MakesRight};
+    ghost use Rattle.std.specs.List.{AllByRecursion};
+    ghost use Rattle.instance.specs.Laws.{MakesRight, IsLockSentOn};
 
     /// The values of the locks that are held, ascending.
     fn held_values(&self, alloc: Global) -> Result<Vec<Batch>, AllocError>
@@ -55,7 +56,7 @@ impl Instance {
         ensures { IfOk result (λ proof. proof.items
             ≡ take (quorum self.now.config) (filter (λ s. finds s.report value.now) (all_read self.now.reports))) }
     {
-        let quorum = usize::from(self.config.replicas - self.config.faults);
+        let quorum = usize::from(self.config.quorum());
         let mut proof = Vec::with_capacity(alloc, quorum)?;
         let places = self.reports.places();
         for place in places {
@@ -86,7 +87,7 @@ impl Instance {
     fn locking(&self, phase: Phase) -> Result<Option<Batch>, AllocError>
         ensures { IfOk result (λ value. value ≡ locking_of self.now phase) }
     {
-        if owner_of(&self.config, phase) != self.id {
+        if self.config.owner_of(phase) != self.id {
             return Ok(None);
         }
         choose(&self.config, &self.reports, self.proper.own())
@@ -163,7 +164,7 @@ impl Instance {
             signer: self.id,
             value: value.copy()?,
         };
-        let making = if owner_of(&self.config, phase) == self.id {
+        let making = if self.config.owner_of(phase) == self.id {
             Making::ToItself(ack)
         } else {
             Making::ToSign(Statement::Ack(ack))
@@ -197,6 +198,9 @@ impl Instance {
         // In a lock-release round it sends on the locks that are held.
         ensures sends_on { IfOk result (λ plan. (ring : Ring) (log : List Note) → Matches ring self.now log → clock_of log ≡ clock
             → place_of (clock + 1) ≡ 4 → plan.sends_on ≡ map frame_bytes (held_locks log)) }
+        // Each of those frames reads back as a signed lock of this height.
+        ensures readable { IfOk result (λ plan. (ring : Ring) (log : List Note) → Matches ring self.now log
+            → AllByRecursion (IsLockSentOn ring self.now.height) plan.sends_on) }
     {
         let round = clock + 1;
         match place_of(round) {

@@ -5,7 +5,7 @@ ghost use Rattle.instance.specs.Places.{number_of};
 ghost use Rattle.instance.specs.Reads.{cause_told};
 
 use crate::height::Instance;
-use crate::rounds::{Place, owner_of, phase_of, place_of};
+use crate::rounds::{Place, phase_of, place_of};
 use key_ring::KeyRing;
 use ledger_model::{Ack, Config, Ignored, Signature, SignedReport, Statement};
 use lock_proofs::{LockFault, TableFull, check_lock, is_signed};
@@ -40,7 +40,7 @@ fn has_owner(config: &Config, statement: &Statement) -> bool
     ensures { result ≡ has_owner config.now statement.now }
 {
     match statement {
-        Statement::Lock(lock) => lock.signer == owner_of(config, lock.phase),
+        Statement::Lock(lock) => lock.signer == config.owner_of(lock.phase),
         Statement::Report(_) | Statement::Ack(_) => true,
     }
 }

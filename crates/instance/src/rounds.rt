@@ -1,9 +1,9 @@
 //! The four rounds of a phase.
 ghost use Rattle.std.specs.Prelude.{◌≡◌, ◌≤◌, ◌==◌};
-ghost use Rattle.ledger_model.specs.Rounds.{phase_of, place_of, owner_of};
+ghost use Rattle.ledger_model.specs.Rounds.{phase_of, place_of};
 ghost use Rattle.instance.specs.Places.{number_of};
 
-use ledger_model::{Config, Phase, ReplicaId};
+use ledger_model::Phase;
 
 /// The place of a round in its phase.
 #[derive(Clone, Copy, PartialEq, Eq)]
@@ -37,11 +37,4 @@ pub(crate) fn phase_of(round: u32) -> Phase
     ensures { result ≡ phase_of round }
 {
     Phase::new(round.div_ceil(4))
-}
-
-/// The owner of a phase, which may make its lock.
-pub(crate) fn owner_of(config: &Config, phase: Phase) -> ReplicaId
-    ensures { result ≡ owner_of config.now phase }
-{
-    ReplicaId::new((phase.number() % u32::from(config.replicas)) as u8)
 }

@@ -12,6 +12,3 @@ mod signer;
 pub use fault::SignFault;
 pub use ring::KeyRing;
 pub use signer::Signer;
-
-#[cfg(test)]
-mod tests;

@@ -1,6 +1,7 @@
 //! The public keys of the replicas, by number.
 use ledger_model::ReplicaId;
-use lms_tree::PublicKey;
+use lms_tree::{PublicKey, verify};
+use std::alloc::AllocError;
 use std::marker::Model;
 
 /// The public keys of a cluster's replicas, by number.
@@ -18,8 +19,9 @@ impl Model for KeyRing {
 }
 
 impl KeyRing {
-    ghost use Rattle.std.specs.Prelude.{◌≡◌, slice_get};
+    ghost use Rattle.std.specs.Prelude.{◌≡◌, IfOk, slice_get};
     ghost use Rattle.std.specs.Option.{option_copied};
+    ghost use Rattle.ledger_model.specs.Rules.{is_signed_by};
 
     /// The ring of these keys, that of replica 0 first.
     pub fn new(keys: Vec<PublicKey>) -> Self
@@ -33,5 +35,25 @@ impl KeyRing {
         ensures { option_copied result ≡ slice_get self.now replica }
     {
         self.keys.get(usize::from(replica.number()))
+    }
+
+    /// Whether the signature is one of the message under the signer's key (RFC 8554, section 5.4.2); false where the ring has
+    /// no key of that number. It takes no memory.
+    pub fn verifies(&self, signer: ReplicaId, message: &[u8], signature: &[u8]) -> bool
+        ensures { result ≡ is_signed_by (slice_get self.now signer) message.now signature.now }
+    {
+        match self.key(signer) {
+            Some(key) => verify(key, message, signature),
+            None => false,
+        }
+    }
+
+    /// The same ring once more.
+    pub fn copy(&self) -> Result<Self, AllocError>
+        ensures { IfOk result (λ ring. ring ≡ self.now) }
+    {
+        Ok(KeyRing {
+            keys: self.keys.clone()?,
+        })
     }
 }

@@ -14,9 +14,17 @@ use Rattle.ledger_model.specs.declared.event.Event.TheVariants as event
 use Rattle.ledger_model.specs.declared.reply.Reply.TheVariants as reply
 use Rattle.ledger_model.specs.declared.reply.SubmitRefusal.TheVariants as refusal
 use Rattle.ledger_model.specs.declared.reply.ProposeRefusal.TheVariants as closed
+use Rattle.ledger_model.specs.declared.reply.Ignored.{Ignored}
+use Rattle.ledger_model.specs.declared.reply.Ignored.TheVariants as cause
+use Rattle.ledger_model.specs.declared.world.WorldStep.{WorldStep}
+use Rattle.ledger_model.specs.declared.world.WorldStep.TheVariants as step
+use Rattle.ledger_model.specs.declared.world.WorldReply.{WorldReply}
+use Rattle.ledger_model.specs.declared.world.WorldReply.TheVariants as answer
+use Rattle.ledger_model.specs.declared.world.WorldRefusal.TheVariants as refused
 use Rattle.ledger_model.specs.Values.{Value, value_bytes}
 use Rattle.ledger_model.specs.Notes.{Note, Proposed, Round, Made, Read}
 use Rattle.ledger_model.specs.Locks.{decided_of, held_values}
+use Rattle.ledger_model.specs.Logs.{log_of}
 use Rattle.ledger_model.specs.Proper.{is_all_proper, proper_values}
 use Rattle.ledger_model.specs.Spelling.{report_bytes, frame_bytes}
 use Rattle.ledger_model.specs.Reading.{reading, value_at}
@@ -24,7 +32,8 @@ use Rattle.ledger_model.specs.Signatures.{Params, coef, checksum}
 use Rattle.ledger_model.specs.Applications.{codes}
 use Rattle.ledger_model.specs.Replies.{check_reply, query_reply}
 use Rattle.ledger_model.specs.Commits.{pool_after_block}
-use Rattle.ledger_model.specs.Lawful.{Replay}
+use Rattle.ledger_model.specs.Lawful.{held_locks, Replay}
+use Rattle.ledger_model.specs.Worlds.{World, beginning, Runs}
 
 -- a cluster of four replicas, of which one may lie
 abbrev pub four : AppKind → Config
@@ -98,6 +107,13 @@ abbrev pub TwoAgree : Type 0
 TwoAgree =
     let reports = reads 1 a false (a ∷ []) ∷ reads 2 b false (b ∷ []) ∷ [] in
     (proper_of a reports ≡ a ∷ []) × (all_of a reports ≡ false)
+
+-- the own report lists d, and two others name every value: d isn't proper by name; it is where one of the two lists it
+abbrev pub OwnListingIsNoOthers : Type 0
+OwnListingIsNoOthers =
+    let own_lists = reads 0 a false (d ∷ []) ∷ reads 1 a true (a ∷ []) ∷ reads 2 a true (a ∷ []) ∷ [] in
+    let other_lists = reads 1 a true (d ∷ []) ∷ reads 2 a true (a ∷ []) ∷ [] in
+    (proper_of a own_lists ≡ a ∷ []) × (all_of a own_lists ≡ true) × (proper_of a other_lists ≡ a ∷ d ∷ [])
 
 -- two others name every value
 abbrev pub TwoNameAll : Type 0
@@ -253,3 +269,66 @@ first_entries =
 -- these entries are a replay
 abbrev pub FirstEntriesReplay : Type 0
 FirstEntriesReplay = Replay (four KvStore) [] 0 first_entries
+
+-- the frame of the first report
+abbrev pub first_frame : List ℕ
+first_frame = frame_bytes signed_report
+
+-- the frame of a signer that is no replica
+abbrev pub strange_frame : List ℕ
+strange_frame = frame_bytes (record { statement = statement.Report (record first_report { signer = 200 }); signature = 5 ∷ 6 ∷ [] })
+
+-- a round end of a replica that has nothing to send
+abbrev pub quiet_end : Entry
+quiet_end = record { event = event.RoundEnd; reply = reply.RoundEnded (Ok (record { mute = false; frames = [] })) }
+
+-- a frame is ignored for this cause
+abbrev pub ignores : List ℕ → Ignored → Entry
+ignores bytes why = record { event = event.Deliver bytes; reply = reply.Delivered (Err why) }
+
+-- at replica 0, whose ring has no key: round 1 is opened with no height open; what isn't a frame, a stranger's frame and one of an unopened
+-- height come; height 1 is opened in mid phase, and then that frame's signature doesn't verify
+abbrev pub round_entries : List Entry
+round_entries =
+    quiet_end ∷ ignores (7 ∷ []) cause.Malformed ∷ ignores strange_frame cause.Signer ∷ ignores first_frame cause.NoRow
+    ∷ record { event = event.Propose 1; reply = reply.Proposed (Ok []) } ∷ ignores first_frame cause.BadSignature ∷ []
+
+-- these entries are a replay
+abbrev pub RoundEntriesReplay : Type 0
+RoundEntriesReplay = Replay (four KvStore) [] 0 round_entries
+
+-- what was proposed and opened and which report was read stands in the log of its height, and in no other
+abbrev pub LogOfARound : Type 0
+LogOfARound =
+    let entries = record { event = event.Propose 1; reply = reply.Proposed (Ok a) } ∷ quiet_end
+    ∷ record { event = event.Deliver first_frame; reply = reply.Delivered (Ok tt) } ∷ [] in
+    (log_of (four KvStore) 2 1 entries ≡ Proposed a ∷ Round 1 ∷ Read 1 signed_report ∷ [])
+    × (log_of (four KvStore) 2 2 entries ≡ Round 1 ∷ [])
+
+-- a lock that was taken is sent on as it was read
+abbrev pub LockSentOn : Type 0
+LockSentOn = held_locks (to_round_3 ++ Round 4 ∷ []) ≡ record { statement = statement.Lock (a_lock 1 1 a); signature = [] } ∷ []
+
+-- ---- a world of replicas 0, 2 and 3, where replica 1 lies
+
+-- replica 4 doesn't exist, replica 1 is a liar's, nothing was sent yet; then a transaction is handed in, and a liar's byte comes
+abbrev pub world_steps : List WorldStep
+world_steps = step.Submit 4 tx_a ∷ step.Submit 1 tx_a ∷ step.Pass 0 0 2 ∷ step.Submit 0 tx_a ∷ step.Inject 2 (7 ∷ []) ∷ []
+
+-- what these steps are answered
+abbrev pub world_answers : List WorldReply
+world_answers =
+    answer.Refused refused.NoSuchReplica ∷ answer.Refused refused.Liar ∷ answer.Refused refused.NoSuchFrame
+    ∷ answer.Done 0 0 ∷ answer.Done 2 0 ∷ []
+
+-- the world after them
+abbrev pub world_after : World
+world_after = record {
+  histories = record { replica = 0; entries = record { event = event.Submit tx_a; reply = reply.Submitted (Ok tt) } ∷ [] }
+      ∷ record { replica = 2; entries = ignores (7 ∷ []) cause.Malformed ∷ [] } ∷ record { replica = 3; entries = [] } ∷ [];
+  order = 0 ∷ 2 ∷ [];
+}
+
+-- this is a run
+abbrev pub WorldRuns : Type 0
+WorldRuns = Runs (four KvStore) [] (beginning (0 ∷ 2 ∷ 3 ∷ [])) world_steps world_answers world_after

@@ -11,7 +11,7 @@ use Rattle.ledger_model.specs.Rounds.{round_at, quorum}
 use Rattle.ledger_model.specs.Notes.{Note, is_report, is_ack, was_read}
 use Rattle.ledger_model.specs.Locks.{names, finds}
 use Rattle.ledger_model.specs.Validity.{ascends_within}
-use Rattle.ledger_model.specs.Proper.{cut}
+use Rattle.ledger_model.specs.Proper.{listed_by_other, cut}
 use Rattle.ledger_model.specs.Tallies.{count_where}
 
 -- the reports without their signatures
@@ -63,9 +63,9 @@ only_own own = record { own = own; all = false; explicit = own ∷ [] }
 abbrev pub is_proper : ProperSet → Value → Bool
 is_proper proper v = proper.all || list_any (same_value v) proper.explicit
 
--- the values that more than t others name and that a report lists
+-- the values that more than t others name and that one of them lists
 abbrev pub named_values : Config → ℕ → List Report → List Value
-named_values config id reports = filter (is_named_by config id reports) (flat_map (λ p. p.proper) reports)
+named_values config id reports = filter (is_named_by config id reports) (flat_map (listed_by_other id) reports)
 
 -- what is proper for replica id after it absorbs the reports of one phase
 unfoldable pub absorbed : Config → ℕ → List Report → ProperSet → ProperSet

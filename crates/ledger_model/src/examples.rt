@@ -1,5 +1,5 @@
 //! Worked examples, which the definitions compute.
-ghost use Rattle.ledger_model.specs.Examples.{TwoNameOne, ThreeDiffer, TwoAgree, TwoNameAll, CutToFour, ThreeAcksDecide, LockReleased, TwoLocksHeld, ReportSpelled, FramesReadBack, BatchLimits, DigitsAndChecksums, CounterCounts, CounterChecks, PursePays, FirstEntriesReplay};
+ghost use Rattle.ledger_model.specs.Examples.{TwoNameOne, ThreeDiffer, TwoAgree, TwoNameAll, CutToFour, ThreeAcksDecide, LockReleased, TwoLocksHeld, ReportSpelled, FramesReadBack, BatchLimits, DigitsAndChecksums, CounterCounts, CounterChecks, PursePays, FirstEntriesReplay, OwnListingIsNoOthers, LogOfARound, LockSentOn, RoundEntriesReplay, WorldRuns};
 
 /// What more than t others name is proper, beside the own value.
 pub fn two_name_one()
@@ -19,6 +19,11 @@ pub fn two_agree()
 /// Where more than t others name every value, every value is proper.
 pub fn two_name_all()
     ensures { TwoNameAll }
+{}
+
+/// A value that the own report alone lists isn't proper by name, although more than t others name every value.
+pub fn own_listing_is_no_others()
+    ensures { OwnListingIsNoOthers }
 {}
 
 /// At most four values are proper by name: the own one and the least three of the others.
@@ -81,4 +86,26 @@ pub fn purse_pays()
 /// A history of six entries is the replay of its events.
 pub fn first_entries_replay()
     ensures { FirstEntriesReplay }
+{}
+
+/// What was proposed, opened and read at a height stands in the log of that height alone.
+pub fn log_of_a_round()
+    ensures { LogOfARound }
+{}
+
+/// A held lock is sent on as the frame in which it was read.
+pub fn lock_sent_on()
+    ensures { LockSentOn }
+{}
+
+/// A round is opened with nothing to send; bytes that aren't a frame, a stranger's frame and one of an unopened height are
+/// ignored by their causes, and so is a report without a key for it.
+pub fn round_entries_replay()
+    ensures { RoundEntriesReplay }
+{}
+
+/// Steps of a world: a replica that isn't there, a liar and a frame that nobody sent are refused; an event and a liar's bytes
+/// each add an entry.
+pub fn world_runs()
+    ensures { WorldRuns }
 {}

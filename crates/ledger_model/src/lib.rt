@@ -10,6 +10,7 @@ mod ids;
 pub mod laws;
 mod ledger;
 mod order;
+mod quorums;
 mod reply;
 mod statement;
 mod world;
@@ -29,6 +30,3 @@ pub use statement::{
     Ack, Batches, Lock, LockProof, Report, Signature, SignedReport, SignedStatement, Statement,
 };
 pub use world::{WorldRefusal, WorldReply, WorldStep};
-
-#[cfg(test)]
-mod tests;

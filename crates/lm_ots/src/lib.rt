@@ -18,6 +18,3 @@ pub use identifier::Identifier;
 pub use ots::{candidate, public_hash, sign, signed_steps};
 pub use params::{Params, TreeHeight, Width};
 pub use seed::Seed;
-
-#[cfg(test)]
-mod tests;

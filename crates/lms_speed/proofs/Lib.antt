@@ -1,3 +1,1 @@
 pub mod KeyLemmas
-pub mod NumberLemmas
-pub mod RequestLemmas

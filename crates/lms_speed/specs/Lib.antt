@@ -1,3 +1,1 @@
-pub mod Blocks
-pub mod Words
 pub mod Requests

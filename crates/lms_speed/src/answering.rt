@@ -1,10 +1,9 @@
 //! What is answered to a request.
 ghost use Rattle.std.specs.Prelude.{◌≡◌, IfOk, codes, string_bytes, if◌then◌else◌};
-ghost use Rattle.std.specs.Str.{IsUtf8};
 ghost use Rattle.hex.specs.Hex.{encode_lower};
 ghost use Rattle.ledger_model.specs.Signatures.{public_key, signature_of, verifies};
 ghost use Rattle.lm_ots.specs.Parameters.{numbers_of};
-ghost use Rattle.lms_speed.specs.Requests.{Answers, IsAnswer};
+ghost use Rattle.lms_speed.specs.Requests.{IsAnswer};
 
 use crate::fault::ProgramFault;
 use crate::parsing::parse;
@@ -82,9 +81,7 @@ fn reply<C: Clock>(clock: &C, alloc: Global, request: Request) -> Result<String,
 }
 
 /// The answer to a text: what it asks for, or `bad` where it asks for nothing.
-fn answer_text<C: Clock>(clock: &C, alloc: Global, text: &str) -> Result<String, ProgramFault>
-    ensures { IfOk result (λ answer. Answers text.now (string_bytes answer)) }
-{
+fn answer_text<C: Clock>(clock: &C, alloc: Global, text: &str) -> Result<String, ProgramFault> {
     match parse(alloc, text)? {
         Some(request) => reply(clock, alloc, request),
         None => Ok(String::from_str(alloc, BAD)?),
@@ -92,9 +89,7 @@ fn answer_text<C: Clock>(clock: &C, alloc: Global, text: &str) -> Result<String,
 }
 
 /// The answer to a line, without its end. A line that is no text asks for nothing.
-pub fn answer<C: Clock>(clock: &C, alloc: Global, line: &[u8]) -> Result<String, ProgramFault>
-    ensures { IsUtf8 line.now → IfOk result (λ answer. Answers line.now (string_bytes answer)) }
-{
+pub fn answer<C: Clock>(clock: &C, alloc: Global, line: &[u8]) -> Result<String, ProgramFault> {
     match str::from_utf8(line) {
         Ok(text) => answer_text(clock, alloc, text),
         Err(_) => Ok(String::from_str(alloc, BAD)?),

@@ -4,7 +4,6 @@
 mod answering;
 mod checks;
 mod fault;
-mod ideal;
 mod parsing;
 mod rates;
 mod request;
@@ -38,6 +37,3 @@ fn run_host(rt: &HostRuntime) -> io::Result<u8> {
     let mut faults = rt.stderr();
     Ok(run(rt, alloc, &words, &mut reader, &mut writer, &mut faults))
 }
-
-#[cfg(test)]
-mod tests;

@@ -3,6 +3,7 @@ use crate::answering::answer;
 use crate::checks::check;
 use crate::fault::ProgramFault;
 use crate::table::write_table;
+use plain_text::decimal;
 use std::alloc::Global;
 use std::io::{BufRead, Write};
 use std::time::{Clock, Duration};
@@ -16,10 +17,13 @@ const BAD_USAGE: u8 = 2;
 /// Memory ran out, or a stream or the clock failed.
 const STOPPED: u8 = 3;
 
-/// How many seconds each figure of the table is measured.
-const SECONDS: u64 = 2;
+/// How many seconds each figure of the table is measured, where the words don't say it.
+const SECONDS: u32 = 2;
 
-const USAGE: &str = "usage: lms_speed [table]";
+/// The most seconds that they may say.
+const MAX_SECONDS: u32 = 60;
+
+const USAGE: &str = "usage: lms_speed [table [SECONDS]], SECONDS from 0 to 60";
 
 /// Runs the program on its words, of which the first is its name, and answers its exit status: 0 done, 1 an operation that
 /// is wrong, 2 bad usage, 3 no memory or a failed stream or clock.
@@ -31,10 +35,10 @@ pub fn run<C: Clock, R: BufRead, W: Write, F: Write>(
     writer: &mut W,
     faults: &mut F,
 ) -> u8 {
-    let done = match words {
-        [] | [_] => check_and_answer(clock, alloc, reader, writer),
-        [_, "table"] => write_table(clock, alloc, writer, Duration::from_secs(SECONDS)),
-        _ => {
+    let done = match read_words(words) {
+        Some(Asked::Answers) => check_and_answer(clock, alloc, reader, writer),
+        Some(Asked::Table(time)) => write_table(clock, alloc, writer, time),
+        None => {
             let _ = writeln!(faults, "{USAGE}");
             return BAD_USAGE;
         }
@@ -46,6 +50,26 @@ pub fn run<C: Clock, R: BufRead, W: Write, F: Write>(
             status_of(&fault)
         }
     }
+}
+
+/// What the words ask for.
+#[derive(Clone, Copy)]
+enum Asked {
+    /// An answer to each line.
+    Answers,
+    /// The table of figures, each measured for at least this time.
+    Table(Duration),
+}
+
+/// What the words ask for, if they are a command line.
+fn read_words(words: &[&str]) -> Option<Asked> {
+    let seconds = match words {
+        [] | [_] => return Some(Asked::Answers),
+        [_, "table"] => SECONDS,
+        [_, "table", seconds] => decimal(seconds).filter(|seconds| *seconds <= MAX_SECONDS)?,
+        _ => return None,
+    };
+    Some(Asked::Table(Duration::from_secs(u64::from(seconds))))
 }
 
 /// The exit status after a fault.

@@ -1,6 +1,5 @@
 //! The table of figures.
 use crate::fault::ProgramFault;
-use crate::ideal::{blocks, key_generation_blocks, signature_blocks};
 use crate::rates::{SEED, pace};
 use crate::request::Operation;
 use crate::timing::measure;
@@ -8,6 +7,7 @@ use crate::work::{
     IDENTIFIER, LONG_MESSAGE, LongDigests, MESSAGE, OneBlockDigests, signatures_of, tree_of,
 };
 use lm_ots::{Identifier, Params, TreeHeight, Width};
+use lms_blocks::{blocks, key_generation_blocks, signature_blocks};
 use std::alloc::Global;
 use std::io::Write;
 use std::num::nearest_u64_to_f64;

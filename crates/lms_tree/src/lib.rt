@@ -14,6 +14,3 @@ mod verification;
 pub use key::{KeyFault, PublicKey};
 pub use tree::Tree;
 pub use verification::verify;
-
-#[cfg(test)]
-mod tests;

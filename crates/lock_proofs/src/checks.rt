@@ -11,7 +11,7 @@ use ledger_model::{Config, Lock, SignedReport};
 pub fn is_of_owner(config: &Config, lock: &Lock) -> bool
     ensures { result ≡ (lock.now.signer == owner_of config.now lock.now.phase) }
 {
-    u32::from(lock.signer.number()) == lock.phase.number() % u32::from(config.replicas)
+    lock.signer == config.owner_of(lock.phase)
 }
 
 /// Whether the signers ascend, below the number of replicas.
@@ -37,12 +37,12 @@ fn are_of_its_phase(lock: &Lock, reports: &[SignedReport]) -> bool
         && signed.report.phase == lock.phase)
 }
 
-/// Whether the lock's proof has as many reports as a lock needs, of different replicas and of its height and phase.
+/// Whether the lock's proof has N-t reports, of different replicas and of its height and phase.
 pub fn is_quorate(config: &Config, lock: &Lock) -> bool
     ensures { result ≡ is_quorate config.now lock.now }
 {
     let reports = lock.proof.as_slice();
-    reports.len() == usize::from(config.replicas - config.faults)
+    reports.len() == usize::from(config.quorum())
         && do_signers_ascend(config, reports)
         && are_of_its_phase(lock, reports)
 }

@@ -15,6 +15,3 @@ pub use fault::{LockFault, TableFull};
 pub use signatures::is_signed;
 pub use table::LockTable;
 pub use valid::{ValidLock, check_lock};
-
-#[cfg(test)]
-mod tests;

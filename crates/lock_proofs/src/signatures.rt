@@ -1,32 +1,21 @@
 //! Which signatures of a lock's frame verify.
 
 ghost use Rattle.std.specs.Prelude.{◌≡◌, Some, slice_get};
-ghost use Rattle.ledger_model.specs.Rules.{is_signed, is_signed_by, with_signature};
+ghost use Rattle.ledger_model.specs.Rules.{is_signed, with_signature};
 ghost use Rattle.signed_frames.specs.Lending.{proof_of};
 ghost use Rattle.lock_proofs.specs.Faults.{are_signed};
 
 use key_ring::KeyRing;
-use ledger_model::{Lock, ReplicaId, SignedReport};
-use lms_tree::verify;
+use ledger_model::{Lock, SignedReport};
 use signed_frames::Frame;
 use statements::signer;
-
-/// Whether the signature is one of the message under the signer's key.
-fn is_signed_by(ring: &KeyRing, signer: ReplicaId, message: &[u8], signature: &[u8]) -> bool
-    ensures { result ≡ is_signed_by (slice_get ring.now signer) message.now signature.now }
-{
-    match ring.key(signer) {
-        Some(key) => verify(key, message, signature),
-        None => false,
-    }
-}
 
 /// Whether a frame's signature is its signer's.
 pub fn is_signed(ring: &KeyRing, frame: &Frame) -> bool
     ensures { result ≡ is_signed ring.now frame.now }
 {
     let signer = signer(frame.statement());
-    is_signed_by(ring, signer, frame.statement_bytes(), frame.signature())
+    ring.verifies(signer, frame.statement_bytes(), frame.signature())
 }
 
 /// Whether the signature of the report at this place of a lock's frame is its signer's, over the report's bytes as they
@@ -36,7 +25,7 @@ fn is_report_signed(ring: &KeyRing, frame: &Frame, place: usize, signed: &Signed
     ensures { result ≡ is_signed ring.now (with_signature signed.now) }
 {
     match frame.lent_report(place) {
-        Some(lent) => is_signed_by(ring, signed.report.signer, lent.bytes(), lent.signature()),
+        Some(lent) => ring.verifies(signed.report.signer, lent.bytes(), lent.signature()),
         None => unreachable!(),
     }
 }

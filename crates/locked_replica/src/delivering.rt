@@ -6,7 +6,6 @@ use crate::core_state::Core;
 use bytes::Bytes;
 use key_ring::KeyRing;
 use ledger_model::{Config, Ignored, Statement};
-use lms_tree::verify;
 use signed_frames::Frame;
 use statements::DecodeFault;
 use std::alloc::{AllocError, Global};
@@ -16,10 +15,7 @@ fn is_signed(ring: &KeyRing, frame: &Frame) -> bool
     ensures { result ≡ is_signed ring.now frame.now }
 {
     let signer = statements::signer(frame.statement());
-    match ring.key(signer) {
-        Some(key) => verify(key, frame.statement_bytes(), frame.signature()),
-        None => false,
-    }
+    ring.verifies(signer, frame.statement_bytes(), frame.signature())
 }
 
 impl Core {

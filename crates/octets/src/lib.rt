@@ -6,6 +6,3 @@ mod writing;
 
 pub use cursor::{Cursor, Short};
 pub use writing::{put_bytes, put_u8, put_u16, put_u32};
-
-#[cfg(test)]
-mod tests;

@@ -15,7 +15,7 @@ fn is_found(config: &Config, reports: &Tally<SignedReport>, value: &Batch) -> bo
     ensures { result ≡ is_found_by config.now (reports_of (all_read reports.now)) value.now }
 {
     let count = reports.count_where(|signed| signed.report.finds(value));
-    count >= usize::from(config.replicas - config.faults)
+    count >= usize::from(config.quorum())
 }
 
 /// The lesser of the two.
@@ -64,7 +64,7 @@ fn least_told<'a>(config: &Config, reports: &'a Tally<SignedReport>) -> Option<&
 /// The value that the owner of a phase locks by the reports that it read in it, one of each replica: its own initial value if
 /// enough of them find it, else the least that enough find, in the byte order of encodings.
 ///
-/// Enough are as many as there are replicas without those that may lie.
+/// Enough are N-t (a quorum).
 pub fn choose(
     config: &Config,
     reports: &Tally<SignedReport>,

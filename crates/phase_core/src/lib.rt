@@ -7,6 +7,3 @@ pub mod laws;
 
 pub use choice::choose;
 pub use decision::decides;
-
-#[cfg(test)]
-mod tests;

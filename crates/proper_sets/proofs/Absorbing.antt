@@ -12,7 +12,7 @@ use Rattle.ledger_model.specs.Notes.{Note, Has}
 use Rattle.ledger_model.specs.Locks.{names}
 use Rattle.ledger_model.specs.Rounds.{count_from, number_of}
 use Rattle.ledger_model.specs.Values.{Value, same_value}
-use Rattle.ledger_model.specs.Proper.{reported, others_reported, is_named, values_in, has_initial, is_split, are_all_named, is_all_proper, cut, proper_values}
+use Rattle.ledger_model.specs.Proper.{reported, others_reported, is_named, listed_by_other, values_in, has_initial, is_split, are_all_named, is_all_proper, cut, proper_values}
 use Rattle.ledger_model.specs.Tallies.{count_where}
 use Rattle.ledger_model.specs.Phases.{AreReadIn, is_named_by, are_all_named_by, initials, is_split_among, named_values}
 use Rattle.ledger_model.proofs.Lists.{any_has, has_any, all_has, all_from, has_flat_map, has_map, filter_has, has_filter, flat_map_has, has_left, has_right, has_cases, same_value-equal}
@@ -150,7 +150,7 @@ module _ (config : Config) (id : ℕ) (log : List Note) (k : ℕ) (own : Value) 
 
   -- the values that are named in a phase before n
   abbrev named_before : ℕ → ℕ → List Value
-  named_before n j = cond (nat_lt j n) (filter (is_named config id log j) (values_in (λ p. p.proper) j log)) []
+  named_before n j = cond (nat_lt j n) (filter (is_named config id log j) (values_in (listed_by_other id) j log)) []
 
   from_before : (x : Value) → Has (flat_map (named_before k) (range_with_len 1 k) ++ named_values config id reports) x → Has (flat_map (named_before (k + 1)) (range_with_len 1 (k + 1))) x
   from_before x h =
@@ -160,16 +160,16 @@ module _ (config : Config) (id : ℕ) (log : List Note) (k : ℕ) (own : Value) 
             elim (cases_Bool (nat_lt j.0 k)) [
               | inl lt ↦
                   (let less = ltb-true j.0 k lt in
-                  let listed : Has (filter (is_named config id log j.0) (values_in (λ p. p.proper) j.0 log)) x = simp lt at j.1.1 in
+                  let listed : Has (filter (is_named config id log j.0) (values_in (listed_by_other id) j.0 log)) x = simp lt at j.1.1 in
                   let still : nat_lt j.0 (k + 1) ≡ true = lt-ltb j.0 (k + 1) (omega arith) in
                   has_flat_map (named_before (k + 1)) (range_with_len 1 (k + 1)) j.0 x (has_range 1 (k + 1) j.0 (range_from 1 k j.0 j.1.0) (omega arith)) (rw still listed))
               | inr past ↦ (let none : Has [] x = simp past at j.1.1 in absurd none)
             ])
         | inr new ↦
-            (let f = filter_has (is_named_by config id reports) (flat_map (λ p. p.proper) reports) x new in
+            (let f = filter_has (is_named_by config id reports) (flat_map (listed_by_other id) reports) x new in
             let now : nat_lt k (k + 1) ≡ true = lt-ltb k (k + 1) (omega arith) in
             has_flat_map (named_before (k + 1)) (range_with_len 1 (k + 1)) k x (has_range 1 (k + 1) k one (omega arith))
-            (rw now (has_filter (is_named config id log k) (values_in (λ p. p.proper) k log) x (values_noted (λ p. p.proper) k config log reports read x f.0) (named_is x ∙ f.1))))
+            (rw now (has_filter (is_named config id log k) (values_in (listed_by_other id) k log) x (values_noted (listed_by_other id) k config log reports read x f.0) (named_is x ∙ f.1))))
       ]
 
   to_before : (x : Value) → Has (flat_map (named_before (k + 1)) (range_with_len 1 (k + 1))) x → Has (flat_map (named_before k) (range_with_len 1 k) ++ named_values config id reports) x
@@ -178,7 +178,7 @@ module _ (config : Config) (id : ℕ) (log : List Note) (k : ℕ) (own : Value) 
       elim (cases_Bool (nat_lt j.0 (k + 1))) [
         | inl lt ↦
             (let less = ltb-true j.0 (k + 1) lt in
-            let listed : Has (filter (is_named config id log j.0) (values_in (λ p. p.proper) j.0 log)) x = simp lt at j.1.1 in
+            let listed : Has (filter (is_named config id log j.0) (values_in (listed_by_other id) j.0 log)) x = simp lt at j.1.1 in
             elim (cases_lt j.0 k) [
               | inl before ↦
                   (let old : nat_lt j.0 k ≡ true = lt-ltb j.0 k before in
@@ -186,10 +186,10 @@ module _ (config : Config) (id : ℕ) (log : List Note) (k : ℕ) (own : Value) 
                   (has_flat_map (named_before k) (range_with_len 1 k) j.0 x (has_range 1 k j.0 (range_from 1 (k + 1) j.0 j.1.0) (omega arith)) (rw old listed)))
               | inr now ↦
                   (let is : j.0 ≡ k = omega arith in
-                  let here : Has (filter (is_named config id log k) (values_in (λ p. p.proper) k log)) x = subst (λ i. Has (filter (is_named config id log i) (values_in (λ p. p.proper) i log)) x) is listed in
-                  let f = filter_has (is_named config id log k) (values_in (λ p. p.proper) k log) x here in
+                  let here : Has (filter (is_named config id log k) (values_in (listed_by_other id) k log)) x = subst (λ i. Has (filter (is_named config id log i) (values_in (listed_by_other id) i log)) x) is listed in
+                  let f = filter_has (is_named config id log k) (values_in (listed_by_other id) k log) x here in
                   has_right (flat_map (named_before k) (range_with_len 1 k)) (named_values config id reports) x
-                  (has_filter (is_named_by config id reports) (flat_map (λ p. p.proper) reports) x (values_read (λ p. p.proper) k config log reports read x f.0) (sym (named_is x) ∙ f.1)))
+                  (has_filter (is_named_by config id reports) (flat_map (listed_by_other id) reports) x (values_read (listed_by_other id) k config log reports read x f.0) (sym (named_is x) ∙ f.1)))
             ])
         | inr past ↦ (let none : Has [] x = simp past at j.1.1 in absurd none)
       ]

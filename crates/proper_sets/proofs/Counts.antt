@@ -10,6 +10,7 @@ use Rattle.std.proofs.lemmas.Grind.{flat_map-append}
 use Rattle.ledger_model.specs.declared.statement.Report.{Report}
 use Rattle.ledger_model.specs.declared.statement.SignedReport.{SignedReport}
 use Rattle.ledger_model.specs.Values.{Value}
+use Rattle.ledger_model.specs.Proper.{listed_by_other}
 use Rattle.ledger_model.specs.Tallies.{Places, all_read, count_where}
 use Rattle.ledger_model.specs.Phases.{reports_of, others_where, initials}
 use Rattle.tally.proofs.Readings.{all_read_more}
@@ -90,24 +91,24 @@ initials_pass own initial test places =
 
 -- ---- listed values
 
--- the values that the report at a place lists
-abbrev pub listed_at : Option SignedReport → List Value
-listed_at None = []
-listed_at (Some s) = s.report.proper
+-- the values that the report at a place lists, where it is another's
+abbrev pub listed_at : ℕ → Option SignedReport → List Value
+listed_at own None = []
+listed_at own (Some s) = listed_by_other own s.report
 
-pub listed_more : (test : Value → Bool) (places : Places SignedReport) (i : ℕ) (place : Option SignedReport) → i < length places → place ≡ get_or places i place
-    → filter test (flat_map (λ p. p.proper) (reports_of (all_read (take (i + 1) places))))
-    ≡ filter test (flat_map (λ p. p.proper) (reports_of (all_read (take i places)))) ++ filter test (listed_at place)
-listed_more test places i place h is =
-    ap (λ signed. filter test (flat_map (λ p. p.proper) (reports_of signed))) (all_read_more places i place h is)
-    ∙ ap (λ reports. filter test (flat_map (λ p. p.proper) reports)) (map-append (λ s. s.report) (all_read (take i places)) (cons_option place []))
-    ∙ ap (filter test) (flat_map-append (λ p. p.proper) (reports_of (all_read (take i places))) (reports_of (cons_option place [])))
-    ∙ filter-append test (flat_map (λ p. p.proper) (reports_of (all_read (take i places)))) (flat_map (λ p. p.proper) (reports_of (cons_option place [])))
-    ∙ ap (λ vs. filter test (flat_map (λ p. p.proper) (reports_of (all_read (take i places)))) ++ filter test vs) (alone place)
+pub listed_more : (own : ℕ) (test : Value → Bool) (places : Places SignedReport) (i : ℕ) (place : Option SignedReport) → i < length places → place ≡ get_or places i place
+    → filter test (flat_map (listed_by_other own) (reports_of (all_read (take (i + 1) places))))
+    ≡ filter test (flat_map (listed_by_other own) (reports_of (all_read (take i places)))) ++ filter test (listed_at own place)
+listed_more own test places i place h is =
+    ap (λ signed. filter test (flat_map (listed_by_other own) (reports_of signed))) (all_read_more places i place h is)
+    ∙ ap (λ reports. filter test (flat_map (listed_by_other own) reports)) (map-append (λ s. s.report) (all_read (take i places)) (cons_option place []))
+    ∙ ap (filter test) (flat_map-append (listed_by_other own) (reports_of (all_read (take i places))) (reports_of (cons_option place [])))
+    ∙ filter-append test (flat_map (listed_by_other own) (reports_of (all_read (take i places)))) (flat_map (listed_by_other own) (reports_of (cons_option place [])))
+    ∙ ap (λ vs. filter test (flat_map (listed_by_other own) (reports_of (all_read (take i places)))) ++ filter test vs) (alone place)
   where
-    alone : (place : Option SignedReport) → flat_map (λ p. p.proper) (reports_of (cons_option place [])) ≡ listed_at place
+    alone : (place : Option SignedReport) → flat_map (listed_by_other own) (reports_of (cons_option place [])) ≡ listed_at own place
     alone None = refl
-    alone (Some s) = append-nil s.report.proper
+    alone (Some s) = append-nil (listed_by_other own s.report)
 
 pub filter_more : {X : Type 0} (test : X → Bool) (xs : List X) (i : ℕ) (x : X) → i < length xs → x ≡ get_or xs i x
     → filter test (take (i + 1) xs) ≡ filter test (take i xs) ++ filter test (x ∷ [])

@@ -10,6 +10,3 @@ mod proper;
 mod reported;
 
 pub use proper::Proper;
-
-#[cfg(test)]
-mod tests;

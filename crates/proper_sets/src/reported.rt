@@ -3,11 +3,12 @@ ghost use Rattle.std.specs.Prelude.{◌≡◌, ◌||◌, length, filter, nat_le,
 ghost use Rattle.std.specs.List.{list_all};
 ghost use Rattle.ledger_model.specs.Values.{same_value};
 ghost use Rattle.ledger_model.specs.Tallies.{all_read, count_where};
+ghost use Rattle.ledger_model.specs.Proper.{listed_by_other};
 ghost use Rattle.ledger_model.specs.Phases.{reports_of, is_named_by, are_all_named_by, initials, is_split_among, named_values};
 ghost use Rattle.proper_sets.specs.Puts.{with_values};
 
 use crate::ascending::Ascending;
-use ledger_model::{Batch, Config, ReplicaId, SignedReport};
+use ledger_model::{Batch, Config, ReplicaId, Report, SignedReport};
 use std::alloc::AllocError;
 use tally::Tally;
 
@@ -94,23 +95,26 @@ impl PhaseReports<'_> {
         all <= usize::from(self.config.faults)
     }
 
-    /// Adds the values that more than t others name and that a report lists.
+    /// Adds the values that more than t others name and that one of them lists.
     pub(crate) fn put_named(&self, values: &mut Ascending) -> Result<(), AllocError>
         ensures { OnOk result (values.new ≡ with_values (named_values self.now.config.now self.now.own (reports_of (all_read self.now.reports.now))) values.old) }
     {
         for place in self.reports.places() {
             if let Some(signed) = place {
-                self.put_named_of(signed.report.proper.as_slice(), values)?;
+                self.put_named_by(&signed.report, values)?;
             }
         }
         Ok(())
     }
 
-    /// Adds those of the listed values that more than t others name.
-    fn put_named_of(&self, listed: &[Batch], values: &mut Ascending) -> Result<(), AllocError>
-        ensures { OnOk result (values.new ≡ with_values (filter (is_named_by self.now.config.now self.now.own (reports_of (all_read self.now.reports.now))) listed.now) values.old) }
+    /// Adds those of the values that another's report lists which more than t others name.
+    fn put_named_by(&self, report: &Report, values: &mut Ascending) -> Result<(), AllocError>
+        ensures { OnOk result (values.new ≡ with_values (filter (is_named_by self.now.config.now self.now.own (reports_of (all_read self.now.reports.now))) (listed_by_other self.now.own report.now)) values.old) }
     {
-        for value in listed {
+        if report.signer == self.own {
+            return Ok(());
+        }
+        for value in report.proper.as_slice() {
             if self.is_named(value) {
                 values.put(value)?;
             }

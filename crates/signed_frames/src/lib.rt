@@ -19,6 +19,3 @@ pub const MAX_BODY_LEN: usize = 150_000;
 
 /// The bytes of a body's length, which stands in front of it.
 const HEADER_LEN: usize = 4;
-
-#[cfg(test)]
-mod tests;

@@ -19,6 +19,3 @@ pub use fault::DecodeFault;
 pub use fields::{MAX_SIGNATURE_LEN, take_signature_bytes};
 pub use lengths::{encoded_len, report_len, reports_len};
 pub use parts::{height, phase, signer};
-
-#[cfg(test)]
-mod tests;

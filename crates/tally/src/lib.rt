@@ -4,6 +4,3 @@
 mod places;
 
 pub use places::Tally;
-
-#[cfg(test)]
-mod tests;

@@ -5,4 +5,4 @@ use Rattle.app_kinds.proofs.kv_store.KvStore.new.Goals as goal
 
 pub returns : goal.returns
 unfolding run state_of accepted
-returns c = let none : c.new.result ≡ [] = c.new.ensures in rw none refl
+returns c = let none : c.new-committed.result ≡ [] = c.new-committed.ensures in rw none refl

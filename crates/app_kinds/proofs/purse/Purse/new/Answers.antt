@@ -5,4 +5,4 @@ use Rattle.app_kinds.proofs.purse.Purse.new.Goals as goal
 
 pub returns : goal.returns
 unfolding run accepted
-returns c = rw c.new.ensures refl
+returns c = rw c.new-committed.ensures refl

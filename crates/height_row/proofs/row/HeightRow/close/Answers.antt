@@ -1,5 +1,5 @@
 use Rattle.std.proofs.Common.{sym, ◌∙◌, arith}
-use Rattle.height_row.proofs.Finding.{place_within, is_held, is_put}
+use Rattle.height_row.proofs.Finding.{all_there, place_within, is_held, is_put, own_put}
 use Rattle.height_row.proofs.row.HeightRow.close.Goals as goal
 
 pub index_mut-requires : goal.index_mut-requires
@@ -31,3 +31,11 @@ returns-clause-apart c =
     let found = rw (sym c.self.view_is) at c.position-place.ensures in
     let old = is_held c.index_mut.result.now found c.index_mut.ensures.value in
     rw (sym c.self.view_is) ((is_put c.close.new.self found (c.close.ensures.same.height ∙ old.height)).apart)
+
+pub returns-clause-own : goal.returns-clause-own
+returns-clause-own c =
+    let found = rw (sym c.self.view_is) at c.position-place.ensures in
+    let old = is_held c.index_mut.result.now found c.index_mut.ensures.value in
+    let same = all_there _ c.self.inside.instances.items c.position-place.result c.index_mut.result.now c.self.invariant.1 old.within c.index_mut.ensures.value in
+    own_put _ _ c.self.inside.instances.items c.args.height c.position-place.result c.close.new.self c.self.invariant.1 found
+    (c.close.ensures.same.config ∙ same.0, c.close.ensures.same.id ∙ same.1, c.close.ensures.same.height ∙ old.height)

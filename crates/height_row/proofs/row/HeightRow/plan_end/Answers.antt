@@ -1,6 +1,8 @@
-use Rattle.std.proofs.Common.{sym, arith}
+use Rattle.std.proofs.Common.{sym, subst, arith}
+use Rattle.std.specs.List.{AllByRecursion}
+use Rattle.instance.specs.Laws.{IsLockSentOn}
 use Rattle.std.proofs.lemmas.Result.{IfOk-weaker}
-use Rattle.height_row.proofs.Finding.{place_within, is_held}
+use Rattle.height_row.proofs.Finding.{place_within, is_held, own_at}
 use Rattle.height_row.proofs.row.HeightRow.plan_end.Goals as goal
 
 pub index-requires : goal.index-requires
@@ -25,3 +27,13 @@ returns-clause-sends_on c =
     let held = is_held c.index.result.now (rw (sym c.self.view_is) at c.position-place.ensures) c.index.ensures in
     IfOk-weaker c.plan_end.result _ _ (λ plan is row was ring log matches.
     is ring log (rw (sym (held.only row (rw (sym c.self.view_is) at was))) at matches)) c.plan_end.ensures.sends_on
+
+pub returns-clause-own : goal.returns-clause-own
+returns-clause-own c = rw (sym c.self.view_is) (own_at _ _ c.self.inside.instances.items c.self.invariant.1)
+
+pub returns-clause-readable : goal.returns-clause-readable
+returns-clause-readable c =
+    let held = is_held c.index.result.now (rw (sym c.self.view_is) at c.position-place.ensures) c.index.ensures in
+    IfOk-weaker c.plan_end.result _ _ (λ plan is row was ring log matches.
+    subst (λ h. AllByRecursion (IsLockSentOn ring h) plan.sends_on) held.height
+    (is ring log (rw (sym (held.only row (rw (sym c.self.view_is) at was))) at matches))) c.plan_end.ensures.readable

@@ -1,7 +1,7 @@
 use Rattle.std.proofs.Common.{◌≡◌, sym, ap, ◌∙◌, arith}
 use Rattle.std.proofs.lemmas.Result.{IfOk-weaker}
 use Rattle.ledger_model.specs.Logs.{height_of}
-use Rattle.height_row.proofs.Finding.{all_there, place_within, is_held, is_put}
+use Rattle.height_row.proofs.Finding.{all_there, place_within, is_held, is_put, own_put}
 use Rattle.height_row.proofs.row.HeightRow.read.Goals as goal
 
 pub index_mut-requires : goal.index_mut-requires
@@ -52,3 +52,12 @@ returns-clause-apart c =
     let found = rw (sym c.self.view_is, height) at c.position-place.ensures in
     let held = is_held c.index_mut.result.now found c.index_mut.ensures.value in
     rw (sym c.self.view_is) ((is_put c.read.new.self found (c.read.ensures.same.height ∙ held.height)).apart)
+
+pub returns-clause-own : goal.returns-clause-own
+returns-clause-own c =
+    let height = c.height.ensures ∙ ap height_of c.statement.ensures.statement in
+    let found = rw (sym c.self.view_is, height) at c.position-place.ensures in
+    let held = is_held c.index_mut.result.now found c.index_mut.ensures.value in
+    let same = all_there _ c.self.inside.instances.items c.position-place.result c.index_mut.result.now c.self.invariant.1 held.within c.index_mut.ensures.value in
+    own_put _ _ c.self.inside.instances.items _ c.position-place.result c.read.new.self c.self.invariant.1 found
+    (c.read.ensures.same.config ∙ same.0, c.read.ensures.same.id ∙ same.1, c.read.ensures.same.height ∙ held.height)

@@ -5,14 +5,14 @@ use Rattle.ledger_model.specs.Phases.{reports_of, is_named_by}
 use Rattle.proper_sets.proofs.Counts.{listed_more}
 use Rattle.proper_sets.proofs.Orders.{with_values-append}
 use Rattle.proper_sets.proofs.reported.PhaseReports.put_named.Goals as goal
-use Rattle.proper_sets.proofs.reported.PhaseReports.put_named.Goals.{in-Some+in_ok-put_named_of, in_default}
+use Rattle.proper_sets.proofs.reported.PhaseReports.put_named.Goals.{in-Some+in_ok-put_named_by, in_default}
 
 pub loop-place-preserved : goal.loop-place-preserved
 loop-place-preserved c =
-    let more = listed_more (is_named_by c.args.self.now.config.now c.args.self.now.own (reports_of (all_read c.args.self.now.reports.now)))
+    let more = listed_more c.args.self.now.own (is_named_by c.args.self.now.config.now c.args.self.now.own (reports_of (all_read c.args.self.now.reports.now)))
     c.places-place-items.result.now c.loop-place.place-index c.place-item.result c.loop-place-test.true c.place-item.is in
     rw (more, with_values-append)
     (elim c.match-place.branch [
-      | in-Some+in_ok-put_named_of w ↦ rw (w.values-is, w.in_ok-put_named_of.ensures, ← c.loop-place.invariant, w.in-Some.is, w.as_slice.ensures) refl
+      | in-Some+in_ok-put_named_by w ↦ rw (w.values-is, w.in_ok-put_named_by.ensures, ← c.loop-place.invariant, w.in-Some.is) refl
       | in_default w ↦ (let none : c.place-item.result ≡ None = search rules in rw (w.values-is, ← c.loop-place.invariant, none) refl)
     ])

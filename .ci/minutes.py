@@ -1,0 +1,127 @@
+#!/usr/bin/env python3
+"""Runs a command, and tells what the proofs under it cost: processor minutes for each crate, for its own proof, for that
+of its tests, and for its must-fail edits.
+
+    .ci/minutes.py [--table FILE] COMMAND..
+
+It looks at the processes of the prover twice a second, and takes from each how much processor time it had when it was
+last seen. The table goes to standard output, and with --table into FILE too. The status is that of the command."""
+import os
+import resource
+import subprocess
+import sys
+import threading
+import time
+
+PARTS = ("proof", "tests", "edits")
+TICKS = os.sysconf("SC_CLK_TCK")
+
+
+def stat_of(process):
+    """The parent of a process and its processor seconds, those of its ended children among them."""
+    with open(f"/proc/{process}/stat", encoding="utf-8", errors="replace") as it:
+        fields = it.read().rpartition(")")[2].split()
+    return int(fields[1]), sum(int(x) for x in fields[11:15]) / TICKS
+
+
+def part_of(process):
+    """The crate that a process of the prover is at, and for which part, or None where it is none of the prover."""
+    with open(f"/proc/{process}/cmdline", "rb") as it:
+        words = it.read().decode(errors="replace").split("\0")
+    if os.path.basename(words[0]) != "rattle" or "--crate-name" not in words:
+        return None
+    crate = words[words.index("--crate-name") + 1]
+    if os.path.basename(os.readlink(f"/proc/{process}/cwd")).startswith("rt-edit-"):
+        return crate, "edits"
+    return crate, "tests" if "--test" in words else "proof"
+
+
+def rss_of(process):
+    with open(f"/proc/{process}/statm", encoding="utf-8") as it:
+        return int(it.read().split()[1]) * resource.getpagesize()
+
+
+class Sampler:
+    """What was seen of the prover's processes below one process."""
+
+    def __init__(self, root):
+        self.root, self.seen, self.memory, self.is_over = root, {}, 0, False
+
+    def look(self):
+        parents, seconds = {}, {}
+        for name in os.listdir("/proc"):
+            if name.isdigit():
+                try:
+                    parents[int(name)], seconds[int(name)] = stat_of(name)
+                except (OSError, ValueError, IndexError):
+                    pass
+        held = 0
+        for process in parents:
+            above = process
+            while above in parents and above != self.root:
+                above = parents[above]
+            if above != self.root:
+                continue
+            try:
+                part = part_of(process)
+                if part:
+                    self.seen[process, part] = seconds[process]
+                    held += rss_of(process)
+            except (OSError, ValueError, IndexError):
+                pass
+        self.memory = max(self.memory, held)
+
+    def run(self):
+        while not self.is_over:
+            self.look()
+            time.sleep(0.5)
+
+    def minutes(self):
+        """Processor minutes by crate and part."""
+        found = {}
+        for (_, (crate, part)), seconds in self.seen.items():
+            row = found.setdefault(crate, dict.fromkeys(PARTS, 0.0))
+            row[part] += seconds / 60
+        return found
+
+
+def table_of(rows):
+    """The table in Markdown: the dearest crate first."""
+    lines = ["| Crate | proof | tests | edits | together |", "|---|---|---|---|---|"]
+    rows = sorted(rows.items(), key=lambda row: -sum(row[1].values()))
+    total = {part: sum(row[part] for _, row in rows) for part in PARTS}
+    for name, row in [*((f"`{name}`", row) for name, row in rows), ("all", total)]:
+        cells = [f"{row[part]:.1f}" if row[part] else "" for part in PARTS]
+        lines.append(f"| {name} | {' | '.join(cells)} | {sum(row.values()):.1f} |")
+    return "\n".join(lines)
+
+
+def main(words):
+    to = None
+    if words[:1] == ["--table"]:
+        to, words = words[1], words[2:]
+    began = time.monotonic()
+    running = subprocess.Popen(words)
+    sampler = Sampler(running.pid)
+    looking = threading.Thread(target=sampler.run, daemon=True)
+    looking.start()
+    status = running.wait()
+    sampler.is_over = True
+    looking.join()
+    used = resource.getrusage(resource.RUSAGE_CHILDREN)
+    wall, processor = (time.monotonic() - began) / 60, (used.ru_utime + used.ru_stime) / 60
+    processors = len(os.sched_getaffinity(0))
+    said = (
+        f"{wall:.0f} minutes by the clock on {processors} processors, {processor:.0f} processor minutes, "
+        f"at most {sampler.memory / 2**30:.1f} GiB at once in the prover\n\n"
+        f"Processor minutes by crate:\n\n{table_of(sampler.minutes())}"
+    )
+    print(f"\n{said}", flush=True)
+    if to:
+        with open(to, "w", encoding="utf-8") as file:
+            file.write(f"{said}\n")
+    return status
+
+
+if __name__ == "__main__":
+    sys.exit(main(sys.argv[1:]))

@@ -1,5 +1,0 @@
-pub mod Chains
-pub mod WrittenLemmas
-pub mod MatchesLemmas
-pub mod RingLemmas
-pub mod NumberLemmas

@@ -1,9 +1,0 @@
--- the keys so far are those of the first replicas
-use Rattle.std.proofs.Common.{◌≡◌, length}
-use Rattle.key_ring.specs.Signers.{key_of}
-use Rattle.abft.specs.Keys.{secret_of}
-use Rattle.abft.proofs.RingLemmas.{AreFirst}
-use Rattle.abft.proofs.keys.ring.Given as goal
-
-abbrev pub invariant-loop-replica : goal.invariant-loop-replica
-invariant-loop-replica l = (length l.keys.items ≡ l.replica) × AreFirst (λ r. key_of (secret_of l.cluster r)) l.replica l.keys.items

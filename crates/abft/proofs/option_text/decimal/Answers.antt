@@ -1,8 +1,0 @@
-use Rattle.std.proofs.Common.{ℕ, ◌≤◌, Option, IfNone, IsTrue, sym, subst}
-use Rattle.std.specs.Str.Parse.{digits_value}
-use Rattle.abft.specs.Texts.{is_decimal}
-use Rattle.abft.proofs.NumberLemmas.{too_large}
-use Rattle.abft.proofs.option_text.decimal.Goals as goal
-
-pub returns-clause-none : goal.returns-clause-none
-returns-clause-none c = subst (λ (o : Option ℕ). IfNone o (IsTrue (is_decimal c.args.text.now) → 4294967296 ≤ digits_value 10 c.args.text.now)) (sym c.ok.ensures.value) (too_large c.args.text.now c.parse.result c.parse.ensures.value.0)

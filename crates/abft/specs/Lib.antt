@@ -1,5 +1,0 @@
-pub mod CommandLine
-pub mod Texts
-pub mod Options
-pub mod Keys
-pub mod Statements

@@ -1,0 +1,90 @@
+//! Which locks are held.
+
+use super::frames::check;
+use ledger_model::Phase;
+use lock_proofs::{LockTable, TableFull, ValidLock};
+use std::alloc::Global;
+use std::test::Fail;
+use test_support::Cluster;
+
+// Four replicas, and the locks that one of them holds.
+#[derive(Drop)]
+struct Holder {
+    alloc: Global,
+    cluster: Cluster,
+    table: LockTable,
+}
+
+impl Holder {
+    fn new(alloc: Global) -> Result<Self, Fail> {
+        Ok(Holder {
+            alloc,
+            cluster: Cluster::new(alloc, 4, 1)?,
+            table: LockTable::new(alloc)?,
+        })
+    }
+
+    // A valid lock of a phase, on the value that begins with this letter.
+    fn lock(&mut self, phase: u8, letter: u8) -> Result<ValidLock, Fail> {
+        let bytes = self.cluster.lock_frame(phase, phase % 4, letter, 3)?;
+        let config = self.cluster.config();
+        Ok(check(self.alloc, &config, self.cluster.ring(), &bytes)??)
+    }
+
+    fn take(&mut self, phase: u8, letter: u8) -> Result<Result<(), TableFull>, Fail> {
+        let lock = self.lock(phase, letter)?;
+        Ok(self.table.take(lock))
+    }
+
+    fn take_all(&mut self, locks: &[(u8, u8)]) -> Result<(), Fail> {
+        for (phase, letter) in locks {
+            self.take(*phase, *letter)??;
+        }
+        Ok(())
+    }
+
+    // Such a lock is read in a phase.
+    fn release(&mut self, phase: u8, letter: u8, now: u32) -> Result<(), Fail> {
+        let lock = self.lock(phase, letter)?;
+        self.table.release(&lock, Phase::new(now));
+        Ok(())
+    }
+
+    // The phase of each lock, and the first byte of its value.
+    fn held(&self) -> Result<Vec<(u32, u8)>, Fail> {
+        let mut held = Vec::new(self.alloc);
+        for lock in self.table.held() {
+            let first = lock.value().transactions().first();
+            let letter = first.and_then(|tx| tx.as_bytes().first()).copied();
+            held.push((lock.phase().number(), letter.unwrap_or(0)))?;
+        }
+        Ok(held)
+    }
+
+    fn holds(&self, wanted: &[(u32, u8)]) -> Result<bool, Fail> {
+        Ok(self.held()?.as_slice() == wanted)
+    }
+}
+
+#[test]
+fn holds_four_values_and_renews_them(rt: HostRuntime) -> Result<(), Fail> {
+    let mut holder = Holder::new(rt.alloc())?;
+    holder.take_all(&[(1, b'c'), (2, b'a'), (3, b'd'), (4, b'b')])?;
+    assert_eq!(rt; holder.take(5, b'e')?, Err(TableFull));
+    assert!(rt; holder.holds(&[(2, b'a'), (4, b'b'), (1, b'c'), (3, b'd')])?);
+    assert_eq!(rt; holder.take(6, b'b')?, Ok(()));
+    assert!(rt; holder.holds(&[(2, b'a'), (6, b'b'), (1, b'c'), (3, b'd')])?);
+    Ok(())
+}
+
+#[test]
+fn releases_other_values_of_no_later_phase(rt: HostRuntime) -> Result<(), Fail> {
+    let mut holder = Holder::new(rt.alloc())?;
+    holder.take_all(&[(1, b'a'), (2, b'b'), (3, b'c'), (5, b'd')])?;
+    // before its phase it releases nothing
+    holder.release(3, b'b', 2)?;
+    assert_eq!(rt; holder.table.held().len(), 4);
+    holder.release(3, b'b', 3)?;
+    assert!(rt; holder.holds(&[(2, b'b'), (5, b'd')])?);
+    Ok(())
+}

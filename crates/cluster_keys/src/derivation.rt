@@ -1,0 +1,32 @@
+//! From a cluster's seed to the key pair of a replica.
+ghost use Rattle.std.specs.Prelude.{◌≡◌, [], ◌∷◌, ◌++◌, IfOk};
+ghost use Rattle.sha2.specs.Sha256.{sha256};
+ghost use Rattle.cluster_keys.specs.Keys.{secret_of};
+
+use key_ring::Signer;
+use ledger_model::ReplicaId;
+use lm_ots::{Identifier, Seed};
+use settings::Cluster;
+use sha2::{Digest, Sha256};
+use std::alloc::{AllocError, Global};
+
+/// What the seed gives a replica for a purpose: SHA-256 of the seed, the replica's number and the purpose's.
+fn derived(cluster: &Cluster, replica: u8, purpose: u8) -> [u8; 32]
+    ensures { result ≡ sha256 (cluster.now.seed ++ replica ∷ purpose ∷ []) }
+{
+    let mut hasher = Sha256::new();
+    hasher.update(cluster.seed.as_slice());
+    hasher.update([replica, purpose].as_slice());
+    hasher.finalize()
+}
+
+/// The key pair of a replica: its identifier is the first half of what the seed gives for purpose 0, its secret seed what
+/// it gives for purpose 1. No leaf of it is used. Its whole tree is computed.
+pub fn key_pair(alloc: Global, cluster: &Cluster, replica: ReplicaId) -> Result<Signer, AllocError>
+    ensures { IfOk result (λ signer. signer ≡ record { secret = secret_of cluster.now replica; used = 0 }) }
+{
+    let mut identifier = [0; 16];
+    identifier.copy_from_slice(&derived(cluster, replica.number(), 0)[..16]);
+    let seed = Seed::new(derived(cluster, replica.number(), 1));
+    Signer::new(alloc, cluster.params, Identifier::new(identifier), seed)
+}

@@ -1,0 +1,65 @@
+//! What one replica holds of the cluster's keys: its own key pair, and the public keys of all.
+ghost use Rattle.std.specs.Prelude.{◌≡◌, ◌<◌, ℕ, Some, IfOk, length, slice_get};
+ghost use Rattle.key_ring.specs.Signers.{key_of};
+ghost use Rattle.cluster_keys.specs.Keys.{secret_of};
+
+use crate::derivation::key_pair;
+use key_ring::{KeyRing, Signer};
+use ledger_model::ReplicaId;
+use lms_tree::PublicKey;
+use settings::Cluster;
+use std::alloc::{AllocError, Global};
+
+/// The public key of `other`, for the replica `own` that has the key pair `signer`: its own tree is not computed again.
+fn public_key(
+    alloc: Global,
+    cluster: &Cluster,
+    own: ReplicaId,
+    signer: &Signer,
+    other: ReplicaId,
+) -> Result<PublicKey, AllocError>
+    requires own { signer.now.secret ≡ secret_of cluster.now own }
+    ensures { IfOk result (λ key. key ≡ key_of (secret_of cluster.now other)) }
+{
+    if other == own {
+        return Ok(signer.public());
+    }
+    let pair = key_pair(alloc, cluster, other)?;
+    Ok(pair.public())
+}
+
+/// The public keys of all replicas by number, for the replica `own` that has the key pair `signer`.
+fn ring(
+    alloc: Global,
+    cluster: &Cluster,
+    own: ReplicaId,
+    signer: &Signer,
+) -> Result<KeyRing, AllocError>
+    requires own { signer.now.secret ≡ secret_of cluster.now own }
+    ensures keys { IfOk result (λ ring. (r : ℕ) → r < cluster.now.config.replicas
+        → slice_get ring r ≡ Some (key_of (secret_of cluster.now r))) }
+    ensures len { IfOk result (λ ring. length ring ≡ cluster.now.config.replicas) }
+{
+    let mut keys = Vec::new(alloc);
+    for replica in 0..cluster.config.replicas {
+        keys.push(public_key(alloc, cluster, own, signer, ReplicaId::new(replica))?)?;
+    }
+    Ok(KeyRing::new(keys))
+}
+
+/// The key pair of a replica, with no leaf used, and the public keys of all replicas by number. Each replica's tree is
+/// computed once.
+pub fn signer_and_ring(
+    alloc: Global,
+    cluster: &Cluster,
+    own: ReplicaId,
+) -> Result<(Signer, KeyRing), AllocError>
+    ensures signer { IfOk result (λ keys. keys.0 ≡ record { secret = secret_of cluster.now own; used = 0 }) }
+    ensures ring { IfOk result (λ keys. (r : ℕ) → r < cluster.now.config.replicas
+        → slice_get keys.1 r ≡ Some (key_of (secret_of cluster.now r))) }
+    ensures len { IfOk result (λ keys. length keys.1 ≡ cluster.now.config.replicas) }
+{
+    let signer = key_pair(alloc, cluster, own)?;
+    let ring = ring(alloc, cluster, own, &signer)?;
+    Ok((signer, ring))
+}

@@ -1,0 +1,64 @@
+-- From the matches of the words to the subcommand that they name.
+use Rattle.std.proofs.Common.{◌≡◌, ◌∙◌, true, List, refl, sym, ap, subst, codes, inl, inr}
+use Rattle.std.specs.Prelude.{◌⊎◌, Option, Some, None, option_map}
+use Rattle.std.proofs.lemmas.Option.{same_Some}
+use Rattle.clap.specs.Words.{App, Row, Text, HasMatchesOf, is_simple, found_of, rows_of, subcommand_of, subcommand_name_of, subcommand_rows_of}
+use Rattle.clap.specs.declared.parser.matches.ArgMatches.{ArgMatches}
+use Rattle.clap.specs.declared.parser.matches.ArgMatches.TheViews.{out-ArgMatches, out-SubCommand}
+use Rattle.std.specs.Box.{box_value}
+use Rattle.clap.proofs.OnLiterals.{clap_on_literals}
+use Rattle.command_line.specs.Grammar.{abft_app}
+use Rattle.command_line.specs.Options.{Sets, SetsSign, SetsDeliver}
+use Rattle.settings.specs.declared.sign.SignSettings.{SignSettings}
+use Rattle.settings.specs.declared.deliver.DeliverSettings.{DeliverSettings}
+use Rattle.settings.specs.declared.Settings.{Settings}
+use Rattle.settings.specs.declared.Settings.TheVariants as settings
+
+-- the program's command is one whose matches are known
+pub abft_is_simple : is_simple abft_app ≡ true
+unfolding clap_on_literals
+abft_is_simple = refl
+
+-- a pair by its parts
+pub pair_is : {A B : Type 0} (o : Option (A × B)) (x : A) (y : B) → option_map (λ (p : A × B). p.0) o ≡ Some x → option_map (λ (p : A × B). p.1) o ≡ Some y → o ≡ Some (x, y)
+pair_is None x y first second = absurd cc
+pair_is (Some (a, b)) x y first second = let f : a ≡ x = same_Some a x first in let g : b ≡ y = same_Some b y second in rw (f, g) refl
+
+-- the first parts of what a map into pairs gives
+firsts : {A B C : Type 0} (f : A → B) (g : A → C) → (o : Option A) → option_map (λ (p : B × C). p.0) (option_map (λ a. (f a, g a)) o) ≡ option_map f o
+firsts f g None = refl
+firsts f g (Some a) = refl
+
+-- the name among the subcommand's rows
+name_is : (m : ArgMatches) → option_map (λ p. p.0) (subcommand_rows_of m) ≡ subcommand_name_of m
+name_is m = firsts (λ b. (out-SubCommand (box_value b)).name.now) (λ b. rows_of (found_of (out-SubCommand (box_value b)).matches)) (out-ArgMatches m).subcommand
+
+pub subcommand_is : (m : ArgMatches) (app : App) (words : List Text) (name : Text) (rows : List Row) → app ≡ abft_app → HasMatchesOf app words m
+    → Some name ≡ subcommand_name_of m → Some rows ≡ option_map (λ p. p.1) (subcommand_rows_of m) → subcommand_of abft_app words ≡ Some (name, rows)
+subcommand_is m app words name rows is has named rowed =
+    sym (ap (λ a. subcommand_of a words) is) ∙ sym ((has (ap is_simple is ∙ abft_is_simple)).1) ∙ pair_is (subcommand_rows_of m) name rows (name_is m ∙ sym named) (sym rowed)
+
+-- the subcommand that the words name is the one of the matches
+rows_is : (m : ArgMatches) (app : App) (words : List Text) → app ≡ abft_app → HasMatchesOf app words m → subcommand_of abft_app words ≡ subcommand_rows_of m
+rows_is m app words is has = sym (ap (λ a. subcommand_of a words) is) ∙ sym ((has (ap is_simple is ∙ abft_is_simple)).1)
+
+-- whatever is set is set by a subcommand of one of two names
+named : (o : Option (Text × List Row)) (s : Settings) → Sets o s → (option_map (λ p. p.0) o ≡ Some (codes "sign")) ⊎ (option_map (λ p. p.0) o ≡ Some (codes "deliver"))
+named None s sets = absurd sets
+named (Some p) (settings.Sign t) sets = inl (ap (λ n. Some n) sets.0)
+named (Some p) (settings.Deliver t) sets = inr (ap (λ n. Some n) sets.0)
+
+pub names_one : (m : ArgMatches) (app : App) (words : List Text) → app ≡ abft_app → HasMatchesOf app words m
+    → (s : Settings) → Sets (subcommand_of abft_app words) s → (subcommand_name_of m ≡ Some (codes "sign")) ⊎ (subcommand_name_of m ≡ Some (codes "deliver"))
+names_one m app words is has s sets =
+    subst (λ o. (o ≡ Some (codes "sign")) ⊎ (o ≡ Some (codes "deliver"))) (name_is m)
+    (named (subcommand_rows_of m) s (subst (λ o. Sets o s) (rows_is m app words is has) sets))
+
+-- what is set by `sign`, and what by `deliver`
+pub sets_sign : {W : Type 0} (rows : List Row) (s : Settings) → ((t : SignSettings) → SetsSign rows t → W) → Sets (Some (codes "sign", rows)) s → W
+sets_sign rows (settings.Sign t) then sets = then t sets.1
+sets_sign rows (settings.Deliver t) then sets = let bad : codes "sign" ≡ codes "deliver" = sets.0 in absurd cc
+
+pub sets_deliver : {W : Type 0} (rows : List Row) (s : Settings) → ((t : DeliverSettings) → SetsDeliver rows t → W) → Sets (Some (codes "deliver", rows)) s → W
+sets_deliver rows (settings.Deliver t) then sets = then t sets.1
+sets_deliver rows (settings.Sign t) then sets = let bad : codes "deliver" ≡ codes "sign" = sets.0 in absurd cc

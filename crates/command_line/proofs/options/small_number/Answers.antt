@@ -1,0 +1,10 @@
+use Rattle.std.proofs.Common.{ℕ}
+use Rattle.clap.specs.Words.{found_of, rows_of}
+use Rattle.command_line.specs.Options.{IsNumber}
+use Rattle.command_line.proofs.NumberLemmas.{on_err}
+use Rattle.command_line.proofs.options.small_number.Goals as goal
+
+pub returns-in_err-number-clause-none : goal.returns-in_err-number-clause-none
+returns-in_err-number-clause-none c =
+    on_err {X = (n : ℕ) → IsNumber (rows_of (found_of c.args.matches.now)) c.args.name.now c.args.least c.args.most n → ⊥} _
+    (λ n i. c.in_err-number.ensures.none n (rw (c.from.ensures, c.from-2.ensures) i))

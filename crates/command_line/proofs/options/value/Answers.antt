@@ -1,0 +1,18 @@
+use Rattle.std.proofs.Common.{◌≡◌, ◌∙◌, ◌≤◌, length, ap, rules, sym, subst, false}
+use Rattle.std.specs.Prelude.{is_ok}
+use Rattle.std.specs.Vec.{vec_len}
+use Rattle.std.proofs.lemmas.Option.{same_Some}
+use Rattle.plain_text.specs.Transactions.{StandsFor}
+use Rattle.plain_text.proofs.TransactionLemmas.{stands_once}
+use Rattle.command_line.proofs.NumberLemmas.{is_transaction}
+use Rattle.command_line.proofs.options.value.Goals as goal
+
+pub returns-in_default-clause-none : goal.returns-in_default-clause-none
+returns-in_default-clause-none c = λ tx i.
+    let text : i.text ≡ c.in_ok-text.text.now = same_Some i.text c.in_ok-text.text.now (sym i.has ∙ c.in_ok-text.ensures.some) in
+    let read : StandsFor c.in_ok-text.text.now c.in_ok-bytes.bytes.items = c.in_ok-bytes.ensures.some in
+    let same : tx ≡ c.in_ok-bytes.bytes.items = stands_once c.in_ok-text.text.now tx c.in_ok-bytes.bytes.items (subst (λ t. StandsFor t tx) text i.bytes) read in
+    let len : length tx ≡ vec_len c.in_ok-bytes.bytes = ap length same ∙ (search rules) in
+    let bad : is_ok c.new.result ≡ false = search (rules, c.in_default.not-Ok, c.in_default.is) in
+    is_transaction c.new.result (vec_len c.in_ok-bytes.bytes) c.new.ensures.empty c.new.ensures.too_long bad
+    (subst (λ n. 1 ≤ n) len i.some) (subst (λ n. n ≤ 64) len i.short)

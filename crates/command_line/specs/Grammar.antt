@@ -1,0 +1,46 @@
+-- The command line of the program, in clap's words: which options each subcommand has, and their defaults.
+use Rattle.std.specs.Prelude.{Some, true, [], ◌∷◌, codes}
+use Rattle.clap.specs.Words.{App, Rule, Text, new_app, new_rule, with_rule, with_subcommand}
+
+-- an option with a value: its name, and the value where the words name none
+abbrev pub option_rule : Text → Text → Rule
+option_rule name default = record (new_rule name) { long = Some name; defaults = default ∷ [] }
+
+-- the options of every subcommand
+abbrev pub with_common : App → App
+with_common a =
+    with_rule (with_rule (with_rule (with_rule (with_rule (with_rule a
+    (option_rule (codes "n") (codes "4")))
+    (option_rule (codes "t") (codes "1")))
+    (option_rule (codes "kind") (codes "1")))
+    (option_rule (codes "w") (codes "4")))
+    (option_rule (codes "tree") (codes "5")))
+    (option_rule (codes "seed") (codes "0000000000000000000000000000000000000000000000000000000000000000"))
+
+-- what is to be signed: a word that is required
+abbrev pub what_rule : Rule
+what_rule = record (new_rule (codes "what")) { required = true }
+
+abbrev pub sign_app : App
+sign_app =
+    with_rule (with_rule (with_rule (with_rule (with_rule (with_common (new_app (codes "sign")))
+    what_rule)
+    (option_rule (codes "replica") (codes "0")))
+    (option_rule (codes "height") (codes "1")))
+    (option_rule (codes "phase") (codes "1")))
+    (option_rule (codes "value") (codes "a=1"))
+
+abbrev pub deliver_app : App
+deliver_app =
+    with_rule (with_rule (with_rule (with_rule (with_common (new_app (codes "deliver")))
+    (option_rule (codes "replica") (codes "1")))
+    (option_rule (codes "value") (codes "a=1")))
+    (option_rule (codes "height") (codes "1")))
+    (option_rule (codes "rounds") (codes "1"))
+
+-- a subcommand is required, and `--version` is there
+abbrev pub at_top : App → App
+at_top a = record a { top = record a.top { has_version = true; subcommand_required = true } }
+
+abbrev pub abft_app : App
+abft_app = with_subcommand (with_subcommand (at_top (new_app (codes "abft"))) sign_app.top) deliver_app.top

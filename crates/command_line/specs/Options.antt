@@ -1,0 +1,106 @@
+-- What the words of a command line set: each option by the value that its matches hold, which is its default where the words name none.
+use Rattle.std.specs.Prelude.{◌≡◌, ℕ, ◌≤◌, ◌+◌, ◌-◌, ◌*◌, IsTrue, List, length, codes, Option, Some, None, Ok, ◌⊎◌}
+use Rattle.std.specs.Str.Parse.{digits_value}
+use Rattle.hex.specs.Hex.{decode_sized}
+use Rattle.clap.specs.Words.{Row, Text, first_of, kind_of}
+use Rattle.clap.specs.declared.error.ErrorKind.TheVariants as kind
+use Rattle.ledger_model.specs.declared.config.AppKind.TheVariants.{KvStore}
+use Rattle.lm_ots.specs.Parameters.{bits_of, levels_of}
+use Rattle.command_line.specs.declared.usage_fault.UsageFault.{UsageFault}
+use Rattle.command_line.specs.declared.usage_fault.UsageFault.TheVariants as fault
+use Rattle.settings.specs.declared.cluster.Cluster.{Cluster}
+use Rattle.settings.specs.declared.sign.SignSettings.{SignSettings}
+use Rattle.settings.specs.declared.deliver.DeliverSettings.{DeliverSettings}
+use Rattle.settings.specs.declared.Settings.{Settings}
+use Rattle.settings.specs.declared.Settings.TheVariants as settings
+use Rattle.settings.specs.declared.sign.What.{What}
+use Rattle.settings.specs.declared.sign.What.TheVariants.{Report, Ack}
+use Rattle.plain_text.specs.Numbers.{is_decimal}
+use Rattle.plain_text.specs.Transactions.{StandsFor}
+
+-- the option's value is a decimal number within the limits
+pub record IsNumber (rows : List Row) (name : Text) (low high n : ℕ) : Type 0 where
+  pub text : Text
+  pub has : first_of name rows ≡ Some text
+  pub decimal : IsTrue (is_decimal text)
+  pub number : digits_value 10 text ≡ n
+  pub least : low ≤ n
+  pub most : n ≤ high
+
+-- the option's value is 64 hexadecimal digits of these bytes
+pub record IsSeed (rows : List Row) (seed : List ℕ) : Type 0 where
+  pub text : Text
+  pub has : first_of (codes "seed") rows ≡ Some text
+  pub decoded : decode_sized text 32 ≡ Ok seed
+
+-- the option's value is written as this transaction
+pub record IsWritten (rows : List Row) (name : Text) (tx : List ℕ) : Type 0 where
+  pub text : Text
+  pub has : first_of name rows ≡ Some text
+  pub bytes : StandsFor text tx
+  pub some : 1 ≤ length tx
+  pub short : length tx ≤ 64
+
+-- the options of every subcommand
+pub record SetsCluster (rows : List Row) (cluster : Cluster) : Type 0 where
+  pub n : IsNumber rows (codes "n") 0 255 cluster.config.replicas
+  pub t : IsNumber rows (codes "t") 0 255 cluster.config.faults
+  pub kind : IsNumber rows (codes "kind") 1 1 1
+  pub app : cluster.config.kind ≡ KvStore
+  pub enough : 3 * cluster.config.faults + 1 ≤ cluster.config.replicas
+  pub bounded : cluster.config.replicas ≤ 13
+  pub tolerant : 1 ≤ cluster.config.faults
+  pub w : IsNumber rows (codes "w") 4 8 (bits_of cluster.params.width)
+  pub tree : IsNumber rows (codes "tree") 5 10 (levels_of cluster.params.height)
+  pub seed : IsSeed rows cluster.seed
+
+abbrev pub word_of : What → Text
+word_of Report = codes "report"
+word_of Ack = codes "ack"
+
+pub record SetsSign (rows : List Row) (s : SignSettings) : Type 0 where
+  pub cluster : SetsCluster rows s.cluster
+  pub what : first_of (codes "what") rows ≡ Some (word_of s.what)
+  pub replica : IsNumber rows (codes "replica") 0 (s.cluster.config.replicas - 1) s.replica
+  pub height : IsNumber rows (codes "height") 1 4096 s.height
+  pub phase : IsNumber rows (codes "phase") 1 1000000000 s.phase
+  pub value : IsWritten rows (codes "value") s.value
+
+pub record SetsDeliver (rows : List Row) (s : DeliverSettings) : Type 0 where
+  pub cluster : SetsCluster rows s.cluster
+  pub replica : IsNumber rows (codes "replica") 0 (s.cluster.config.replicas - 1) s.replica
+  pub value : IsWritten rows (codes "value") s.value
+  pub height : IsNumber rows (codes "height") 1 4 s.height
+  pub rounds : IsNumber rows (codes "rounds") 0 1 s.rounds
+
+-- the subcommand that the words name, and its options
+abbrev pub Sets : Option (Text × List Row) → Settings → Type 0
+Sets None s = ⊥
+Sets (Some found) (settings.Sign s) = (found.0 ≡ codes "sign") × SetsSign found.1 s
+Sets (Some found) (settings.Deliver s) = (found.0 ≡ codes "deliver") × SetsDeliver found.1 s
+
+-- the fault says that memory ran out, here or in clap
+abbrev pub WantsMemory : UsageFault → Type 0
+WantsMemory (fault.CommandLine error) = kind_of error ≡ kind.OutOfMemory
+WantsMemory (fault.Number option least most word) = ⊥
+WantsMemory (fault.Seed word) = ⊥
+WantsMemory (fault.TooFew replicas faults) = ⊥
+WantsMemory (fault.Spelling why) = ⊥
+WantsMemory (fault.NoTransaction word) = ⊥
+WantsMemory (fault.What word) = ⊥
+WantsMemory (fault.Missing option) = ⊥
+WantsMemory fault.NoSubcommand = ⊥
+WantsMemory fault.NoMemory = Unit {0}
+
+-- the words ask for the help or the version
+abbrev pub AsksForText : UsageFault → Type 0
+AsksForText (fault.CommandLine error) = (kind_of error ≡ kind.DisplayHelp) ⊎ (kind_of error ≡ kind.DisplayVersion)
+AsksForText (fault.Number option least most word) = ⊥
+AsksForText (fault.Seed word) = ⊥
+AsksForText (fault.TooFew replicas faults) = ⊥
+AsksForText (fault.Spelling why) = ⊥
+AsksForText (fault.NoTransaction word) = ⊥
+AsksForText (fault.What word) = ⊥
+AsksForText (fault.Missing option) = ⊥
+AsksForText fault.NoSubcommand = ⊥
+AsksForText fault.NoMemory = ⊥

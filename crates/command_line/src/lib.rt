@@ -1,0 +1,10 @@
+//! The command line of `abft`: what its words set. The one crate that reads words with clap.
+#![tactic(auto)]
+
+mod grammar;
+mod options;
+mod settings_of_words;
+mod usage_fault;
+
+pub use settings_of_words::settings;
+pub use usage_fault::UsageFault;

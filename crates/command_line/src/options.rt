@@ -1,0 +1,158 @@
+//! The options of a command line, read from its matches.
+ghost use Rattle.std.specs.Prelude.{◌≡◌, ℕ, List, ◌≤◌, ◌-◌, IfOk, IfErr, OnErr, Some, None, codes};
+ghost use Rattle.clap.specs.Words.{found_of, rows_of, first_of};
+ghost use Rattle.lm_ots.specs.Parameters.{bits_of, levels_of};
+ghost use Rattle.command_line.specs.Options.{IsNumber, IsSeed, IsWritten, SetsCluster, WantsMemory, word_of};
+ghost use Rattle.settings.specs.declared.cluster.Cluster.{Cluster};
+ghost use Rattle.settings.specs.declared.sign.What.{What};
+ghost use Rattle.lm_ots.specs.declared.params.Width.{Width};
+ghost use Rattle.lm_ots.specs.declared.params.TreeHeight.{TreeHeight};
+
+use crate::usage_fault::UsageFault;
+use clap::ArgMatches;
+use hex::FromHex;
+use ledger_model::{AppKind, Config, Tx};
+use lm_ots::{Params, TreeHeight, Width};
+use plain_text::{decimal, written};
+use settings::{Cluster, What};
+use std::alloc::Global;
+
+/// The text of an option.
+fn text<'a>(matches: &ArgMatches<'a>, name: &'static str) -> Result<&'a str, UsageFault<'a>>
+    ensures some { IfOk result (λ t. first_of name.now (rows_of (found_of matches.now)) ≡ Some t.now) }
+    ensures none { OnErr result (first_of name.now (rows_of (found_of matches.now)) ≡ None) }
+{
+    match matches.get_str(name) {
+        Some(text) => Ok(text),
+        None => Err(UsageFault::Missing(name)),
+    }
+}
+
+/// The fault of an option whose text is none of its numbers.
+fn no_number<'a>(
+    matches: &ArgMatches<'a>,
+    option: &'static str,
+    least: u32,
+    most: u32,
+) -> UsageFault<'a> {
+    UsageFault::Number {
+        option,
+        least,
+        most,
+        word: matches.get_str(option).unwrap_or(""),
+    }
+}
+
+/// An option that is a decimal number within its limits.
+pub(crate) fn number<'a>(
+    matches: &ArgMatches<'a>,
+    name: &'static str,
+    least: u32,
+    most: u32,
+) -> Result<u32, UsageFault<'a>>
+    ensures some { IfOk result (λ n. IsNumber (rows_of (found_of matches.now)) name.now least most n) }
+    ensures none { OnErr result ((n : ℕ) → IsNumber (rows_of (found_of matches.now)) name.now least most n → ⊥) }
+{
+    let text = text(matches, name)?;
+    match decimal(text) {
+        Some(number) if least <= number && number <= most => Ok(number),
+        _ => Err(no_number(matches, name, least, most)),
+    }
+}
+
+/// A number below 256.
+pub(crate) fn small_number<'a>(
+    matches: &ArgMatches<'a>,
+    name: &'static str,
+    least: u8,
+    most: u8,
+) -> Result<u8, UsageFault<'a>>
+    ensures some { IfOk result (λ n. IsNumber (rows_of (found_of matches.now)) name.now least most n) }
+    ensures none { OnErr result ((n : ℕ) → IsNumber (rows_of (found_of matches.now)) name.now least most n → ⊥) }
+{
+    let number = number(matches, name, u32::from(least), u32::from(most))?;
+    Ok(number as u8)
+}
+
+/// The option `--value`: one transaction.
+pub(crate) fn value<'a>(alloc: Global, matches: &ArgMatches<'a>) -> Result<Tx, UsageFault<'a>>
+    ensures some { IfOk result (λ tx. IsWritten (rows_of (found_of matches.now)) (codes "value") tx) }
+    ensures none { IfErr result (λ e. (tx : List ℕ) → IsWritten (rows_of (found_of matches.now)) (codes "value") tx → WantsMemory e) }
+{
+    let text = text(matches, "value")?;
+    let bytes = written(alloc, text)?;
+    let Ok(tx) = Tx::new(bytes) else {
+        return Err(UsageFault::NoTransaction(text));
+    };
+    Ok(tx)
+}
+
+/// The word that says what is to be signed.
+pub(crate) fn what<'a>(matches: &ArgMatches<'a>) -> Result<What, UsageFault<'a>>
+    ensures some { IfOk result (λ w. first_of (codes "what") (rows_of (found_of matches.now)) ≡ Some (word_of w)) }
+    ensures none { OnErr result ((w : What) → first_of (codes "what") (rows_of (found_of matches.now)) ≡ Some (word_of w) → ⊥) }
+{
+    let word = text(matches, "what")?;
+    match word {
+        "report" => Ok(What::Report),
+        "ack" => Ok(What::Ack),
+        _ => Err(UsageFault::What(word)),
+    }
+}
+
+/// The option `--seed`.
+fn seed<'a>(matches: &ArgMatches<'a>) -> Result<[u8; 32], UsageFault<'a>>
+    ensures some { IfOk result (λ s. IsSeed (rows_of (found_of matches.now)) s) }
+    ensures none { OnErr result ((s : List ℕ) → IsSeed (rows_of (found_of matches.now)) s → ⊥) }
+{
+    let text = text(matches, "seed")?;
+    match <[u8; 32] as FromHex>::from_hex(text) {
+        Ok(seed) => Ok(seed),
+        Err(_) => Err(UsageFault::Seed(text)),
+    }
+}
+
+/// The option `--w`.
+fn width<'a>(matches: &ArgMatches<'a>) -> Result<Width, UsageFault<'a>>
+    ensures some { IfOk result (λ w. IsNumber (rows_of (found_of matches.now)) (codes "w") 4 8 (bits_of w)) }
+    ensures none { OnErr result ((w : Width) → IsNumber (rows_of (found_of matches.now)) (codes "w") 4 8 (bits_of w) → ⊥) }
+{
+    match number(matches, "w", 4, 8)? {
+        4 => Ok(Width::W4),
+        8 => Ok(Width::W8),
+        _ => Err(no_number(matches, "w", 4, 8)),
+    }
+}
+
+/// The option `--tree`.
+fn tree_height<'a>(matches: &ArgMatches<'a>) -> Result<TreeHeight, UsageFault<'a>>
+    ensures some { IfOk result (λ h. IsNumber (rows_of (found_of matches.now)) (codes "tree") 5 10 (levels_of h)) }
+    ensures none { OnErr result ((h : TreeHeight) → IsNumber (rows_of (found_of matches.now)) (codes "tree") 5 10 (levels_of h) → ⊥) }
+{
+    match number(matches, "tree", 5, 10)? {
+        5 => Ok(TreeHeight::H5),
+        10 => Ok(TreeHeight::H10),
+        _ => Err(no_number(matches, "tree", 5, 10)),
+    }
+}
+
+/// The options that every subcommand has.
+pub(crate) fn cluster<'a>(matches: &ArgMatches<'a>) -> Result<Cluster, UsageFault<'a>>
+    ensures some { IfOk result (λ c. SetsCluster (rows_of (found_of matches.now)) c) }
+    ensures none { OnErr result ((c : Cluster) → SetsCluster (rows_of (found_of matches.now)) c → ⊥) }
+{
+    let replicas = small_number(matches, "n", 4, Config::MAX_REPLICAS)?;
+    let faults = small_number(matches, "t", 1, 4)?;
+    let _kind = small_number(matches, "kind", 1, 1)?;
+    let Ok(config) = Config::new(replicas, faults, AppKind::KvStore) else {
+        return Err(UsageFault::TooFew { replicas, faults });
+    };
+    let width = width(matches)?;
+    let height = tree_height(matches)?;
+    let seed = seed(matches)?;
+    Ok(Cluster {
+        config,
+        params: Params { width, height },
+        seed,
+    })
+}

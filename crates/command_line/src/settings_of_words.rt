@@ -1,0 +1,86 @@
+//! What the words of a command line set.
+ghost use Rattle.std.specs.Prelude.{◌≡◌, map, true, IfOk, IfErr};
+ghost use Rattle.clap.specs.Words.{found_of, rows_of, subcommand_of, takes};
+ghost use Rattle.command_line.specs.Grammar.{abft_app};
+ghost use Rattle.command_line.specs.Options.{SetsSign, SetsDeliver, Sets, WantsMemory};
+ghost use Rattle.settings.specs.declared.sign.SignSettings.{SignSettings};
+ghost use Rattle.settings.specs.declared.deliver.DeliverSettings.{DeliverSettings};
+ghost use Rattle.settings.specs.declared.Settings.{Settings};
+
+use crate::grammar::abft_command;
+use crate::options::{cluster, number, small_number, value, what};
+use crate::usage_fault::UsageFault;
+use clap::ArgMatches;
+use ledger_model::{Height, Phase, ReplicaId};
+use settings::{DeliverSettings, Settings, SignSettings};
+use std::alloc::Global;
+
+/// `abft sign`, by its matches.
+fn sign_settings<'a>(
+    alloc: Global,
+    matches: &ArgMatches<'a>,
+) -> Result<SignSettings, UsageFault<'a>>
+    ensures some { IfOk result (λ s. SetsSign (rows_of (found_of matches.now)) s) }
+    ensures none { IfErr result (λ e. (s : SignSettings) → SetsSign (rows_of (found_of matches.now)) s → WantsMemory e) }
+{
+    let cluster = cluster(matches)?;
+    let what = what(matches)?;
+    let replica = small_number(matches, "replica", 0, cluster.config.replicas - 1)?;
+    let height = number(matches, "height", 1, 4096)?;
+    let phase = number(matches, "phase", 1, 1_000_000_000)?;
+    let value = value(alloc, matches)?;
+    Ok(SignSettings {
+        cluster,
+        what,
+        replica: ReplicaId::new(replica),
+        height: Height::new(height),
+        phase: Phase::new(phase),
+        value,
+    })
+}
+
+/// `abft deliver`, by its matches.
+fn deliver_settings<'a>(
+    alloc: Global,
+    matches: &ArgMatches<'a>,
+) -> Result<DeliverSettings, UsageFault<'a>>
+    ensures some { IfOk result (λ s. SetsDeliver (rows_of (found_of matches.now)) s) }
+    ensures none { IfErr result (λ e. (s : DeliverSettings) → SetsDeliver (rows_of (found_of matches.now)) s → WantsMemory e) }
+{
+    let cluster = cluster(matches)?;
+    let replica = small_number(matches, "replica", 0, cluster.config.replicas - 1)?;
+    let value = value(alloc, matches)?;
+    let height = number(matches, "height", 1, 4)?;
+    let rounds = number(matches, "rounds", 0, 1)?;
+    Ok(DeliverSettings {
+        cluster,
+        replica: ReplicaId::new(replica),
+        value,
+        height: Height::new(height),
+        rounds,
+    })
+}
+
+/// What the words of a command line ask for; the first word is the program's name.
+///
+/// Each option has the value that the words give it, or else its default, within its limits. An `Err` says what is
+/// wrong, or holds the help that was asked for.
+pub fn settings<'a>(alloc: Global, words: &'a [&'a str]) -> Result<Settings, UsageFault<'a>>
+    ensures set { IfOk result (λ s. Sets (subcommand_of abft_app (map (λ w. w.now) words.entry.now)) s) }
+    ensures refused { IfErr result (λ e. takes abft_app (map (λ w. w.now) words.entry.now) ≡ true
+        → (s : Settings) → Sets (subcommand_of abft_app (map (λ w. w.now) words.entry.now)) s → WantsMemory e) }
+{
+    let command = abft_command(alloc)?;
+    let matches = match command.try_get_matches_from(words) {
+        Ok(matches) => matches,
+        Err(error) => return Err(UsageFault::CommandLine(error)),
+    };
+    let Some((name, options)) = matches.subcommand() else {
+        return Err(UsageFault::NoSubcommand);
+    };
+    match name {
+        "sign" => Ok(Settings::Sign(sign_settings(alloc, options)?)),
+        "deliver" => Ok(Settings::Deliver(deliver_settings(alloc, options)?)),
+        _ => Err(UsageFault::NoSubcommand),
+    }
+}

@@ -1,0 +1,149 @@
+//! What is wrong with a command line.
+ghost use Rattle.std.specs.Prelude.{◌≡◌};
+ghost use Rattle.command_line.specs.declared.usage_fault.UsageFault.TheVariants.{NoMemory};
+ghost use Rattle.plain_text.specs.declared.spelling_fault.SpellingFault.TheVariants as spelling;
+
+use clap::error::ErrorKind;
+use ledger_model::Tx;
+use plain_text::SpellingFault;
+use std::alloc::AllocError;
+use std::error::Error;
+use std::fmt;
+
+/// Why the words of a command line set nothing: what was wrong, and what was wanted.
+#[derive(Debug, Drop)]
+pub enum UsageFault<'a> {
+    /// The words are no command line of the program, or ask for help or the version.
+    CommandLine(clap::Error),
+    /// The word at this option is none of its numbers.
+    Number {
+        option: &'static str,
+        least: u32,
+        most: u32,
+        word: &'a str,
+    },
+    /// The word at `--seed` is not 64 hexadecimal digits.
+    Seed(&'a str),
+    /// Fewer replicas than three times those that may lie, and one more.
+    TooFew {
+        replicas: u8,
+        faults: u8,
+    },
+    /// The word at `--value` spells no transaction.
+    Spelling(SpellingFault),
+    /// The word at `--value` spells no byte, or more than a transaction has.
+    NoTransaction(&'a str),
+    /// What is to be signed is neither a report nor an acknowledgement.
+    What(&'a str),
+    /// An option without a default is not there.
+    Missing(&'static str),
+    /// No subcommand is there.
+    NoSubcommand,
+    /// Memory ran out.
+    NoMemory,
+}
+
+impl UsageFault<'_> {
+    ghost use Rattle.std.specs.Prelude.{◌↔◌, IsTrue};
+    ghost use Rattle.command_line.specs.Options.{AsksForText, WantsMemory};
+
+    /// Whether this is the help or the version, which the words ask for: no fault, and for standard output.
+    pub fn is_asked_for(&self) -> bool
+        ensures { IsTrue result ↔ AsksForText self.now }
+    {
+        match self {
+            UsageFault::CommandLine(error) => !error.use_stderr(),
+            _ => false,
+        }
+    }
+
+    /// Whether memory ran out, here or in clap.
+    pub fn is_want_of_memory(&self) -> bool
+        ensures { IsTrue result ↔ WantsMemory self.now }
+    {
+        match self {
+            UsageFault::NoMemory => true,
+            UsageFault::CommandLine(error) => error.kind() == ErrorKind::OutOfMemory,
+            _ => false,
+        }
+    }
+}
+
+/// Whether the option takes the two ends of its limits, and nothing between them.
+fn takes_its_ends_alone(option: &str) -> bool {
+    matches!(option, "w" | "tree" | "rounds")
+}
+
+/// Writes which numbers an option takes, and what stands there.
+fn show_number<W: fmt::Write>(
+    f: &mut fmt::Formatter<W>,
+    option: &str,
+    least: u32,
+    most: u32,
+    word: &str,
+) -> fmt::Result {
+    if least == most {
+        write!(f, "error: --{option} is {least}, not '{word}'")
+    } else if takes_its_ends_alone(option) {
+        write!(f, "error: --{option} is {least} or {most}, not '{word}'")
+    } else {
+        write!(
+            f,
+            "error: --{option} is a number from {least} to {most}, not '{word}'"
+        )
+    }
+}
+
+impl fmt::Display for UsageFault<'_> {
+    fn fmt<W: fmt::Write>(&self, f: &mut fmt::Formatter<W>) -> fmt::Result {
+        match self {
+            UsageFault::CommandLine(error) => write!(f, "{error}"),
+            UsageFault::Number {
+                option,
+                least,
+                most,
+                word,
+            } => show_number(f, option, *least, *most, word),
+            UsageFault::Seed(word) => {
+                write!(f, "error: --seed is 64 hexadecimal digits, not '{word}'")
+            }
+            UsageFault::TooFew { replicas, faults } => write!(
+                f,
+                "error: --n {replicas} is too few for --t {faults}: n is at least 3t + 1"
+            ),
+            UsageFault::Spelling(fault) => write!(f, "error: --value {fault}"),
+            UsageFault::NoTransaction(word) => write!(
+                f,
+                "error: --value is a transaction of 1 to {} bytes, not '{word}'",
+                Tx::MAX_LEN
+            ),
+            UsageFault::What(word) => {
+                write!(f, "error: what to sign is 'report' or 'ack', not '{word}'")
+            }
+            UsageFault::Missing(option) => write!(f, "error: --{option} is missing"),
+            UsageFault::NoSubcommand => write!(f, "error: a subcommand is missing"),
+            UsageFault::NoMemory => write!(f, "error: out of memory"),
+        }
+    }
+}
+
+impl Error for UsageFault<'_> {}
+
+impl From<AllocError> for UsageFault<'_> {
+    ghost from_gives = { λ _ e. e ≡ NoMemory };
+
+    fn from(_error: AllocError) -> Self {
+        UsageFault::NoMemory
+    }
+}
+
+impl From<SpellingFault> for UsageFault<'_> {
+    ghost from_gives = { λ fault e. fault ≡ spelling.NoMemory → e ≡ NoMemory };
+
+    fn from(fault: SpellingFault) -> Self {
+        match fault {
+            SpellingFault::NoMemory => UsageFault::NoMemory,
+            fault => UsageFault::Spelling(fault),
+        }
+    }
+}

@@ -1,0 +1,46 @@
+//! The frame of the statement, signed with the first leaf.
+ghost use Rattle.std.specs.Prelude.{◌≡◌, ◌≤◌, true, length, IfOk};
+ghost use Rattle.ledger_model.specs.Signatures.{verifies};
+ghost use Rattle.ledger_model.specs.Spelling.{statement_bytes};
+ghost use Rattle.key_ring.specs.Signers.{key_of, signed_with};
+ghost use Rattle.cluster_keys.specs.Keys.{secret_of};
+ghost use Rattle.frame_signing.specs.Statements.{said};
+
+use crate::statement::statement;
+use cluster_keys::key_pair;
+use key_ring::{SignFault, Signer};
+use settings::SignSettings;
+use signed_frames::Frame;
+use statements::encode;
+use std::alloc::{AllocError, Global};
+
+/// The signature of a message with the first leaf of a key pair.
+fn sign_first(alloc: Global, mut signer: Signer, message: &[u8]) -> Result<Vec<u8>, AllocError>
+    requires { signer.used ≡ 0 }
+    ensures signature { IfOk result (λ signature. signature.items ≡ signed_with signer.secret 0 message.now) }
+    ensures verifies { IfOk result (λ signature.
+        verifies (key_of signer.secret) message.now signature.items ≡ true) }
+    ensures short { IfOk result (λ signature. length signature.items ≤ 2508) }
+{
+    match signer.sign(alloc, message) {
+        Ok(signature) => Ok(signature),
+        Err(SignFault::NoMemory) => Err(AllocError),
+        Err(SignFault::Exhausted) => unreachable!(),
+    }
+}
+
+/// The frame of the statement, signed with the first leaf of the replica's key pair.
+pub fn signed_frame(alloc: Global, settings: &SignSettings) -> Result<Frame, AllocError>
+    ensures said { IfOk result (λ frame. frame.statement ≡ said settings.now) }
+    ensures signed { IfOk result (λ frame. frame.signature
+        ≡ signed_with (secret_of settings.now.cluster settings.now.replica) 0 (statement_bytes frame.statement)) }
+    ensures verifies { IfOk result (λ frame. verifies (key_of (secret_of settings.now.cluster settings.now.replica))
+        (statement_bytes frame.statement) frame.signature ≡ true) }
+{
+    let statement = statement(alloc, settings)?;
+    let message = encode(alloc, &statement)?;
+    let signer = key_pair(alloc, &settings.cluster, settings.replica)?;
+    let signature = sign_first(alloc, signer, &message)?;
+    let frame = Frame::build(alloc, statement, &signature)?;
+    Ok(frame)
+}

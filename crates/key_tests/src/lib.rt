@@ -1,0 +1,13 @@
+//! One-time signatures, trees over them, and key pairs that use each leaf once, against RFC 8554. This crate has tests alone.
+#![tactic(auto)]
+
+#[cfg(test)]
+mod block_tests;
+#[cfg(test)]
+mod ots_tests;
+#[cfg(test)]
+mod ring_tests;
+#[cfg(test)]
+mod tree_tests;
+#[cfg(test)]
+mod vectors;

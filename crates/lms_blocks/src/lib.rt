@@ -1,0 +1,86 @@
+//! How many blocks of SHA-256 an operation takes if it does nothing but hash (RFC 8554).
+#![tactic(auto)]
+
+ghost use Rattle.std.specs.Prelude.{◌≡◌, ◌+◌, ◌*◌, ◌<◌, ◌≤◌, ◌^◌, length};
+ghost use Rattle.ledger_model.specs.Signatures.{digit, message_digest, sum_up};
+ghost use Rattle.lm_ots.specs.Parameters.{numbers_of};
+ghost use Rattle.lms_blocks.specs.Blocks.{blocks_of, leaf_blocks, path_blocks, signing_blocks, tree_blocks, verification_blocks};
+
+use lm_ots::{Identifier, Params, signed_steps};
+
+/// The length in bytes of what each hash but that of a chain's step begins with, `I || u32(q) || u16(mark)`.
+const FRONT: u64 = 22;
+
+/// The length in bytes of a hash.
+const HASH: u64 = 32;
+
+/// How many blocks SHA-256 makes of so many bytes.
+pub fn blocks(len: u64) -> u64
+    requires { len < 2 ^ 32 }
+    ensures { result ≡ blocks_of len }
+{
+    (len + 9).div_ceil(64)
+}
+
+/// The blocks of a leaf, once its chains are at their ends: its public value (RFC 8554, section 4.3), and the hash at its
+/// node (section 5.3).
+fn leaf_blocks(params: Params) -> u64
+    ensures { result ≡ leaf_blocks (numbers_of params) }
+{
+    let ends = HASH * u64::from(params.width.chains());
+    blocks(FRONT + ends) + blocks(FRONT + HASH)
+}
+
+/// The blocks of the inner nodes from a leaf up to the root (RFC 8554, section 5.4.2).
+fn path_blocks(params: Params) -> u64
+    ensures { result ≡ path_blocks (numbers_of params) }
+{
+    u64::from(params.height.levels()) * blocks(FRONT + 2 * HASH)
+}
+
+/// The blocks of a key generation: each chain begins with one block and takes all its steps; then the leaves and the
+/// inner nodes (RFC 8554, sections 4.3 and 5.3, Appendix A).
+pub fn key_generation_blocks(params: Params) -> u64
+    ensures { result ≡ tree_blocks (numbers_of params) }
+{
+    let leaves = u64::from(params.leaves());
+    let chain = 1 + u64::from(params.width.last_step());
+    let leaf = u64::from(params.width.chains()) * chain + leaf_blocks(params);
+    leaves * leaf + (leaves - 1) * blocks(FRONT + 2 * HASH)
+}
+
+/// The blocks of making one signature, and of verifying it.
+#[derive(Clone, Copy)]
+pub struct SignatureBlocks {
+    pub signing: u64,
+    pub verification: u64,
+}
+
+/// The blocks of a signature with this leaf and randomizer, the tree being there, and of its verification: the steps of
+/// its chains, the beginnings of the chains and the randomizer, which only the signer makes, the digest of the message,
+/// and the leaf and the path, which only the verifier does.
+pub fn signature_blocks(
+    params: Params,
+    identifier: &Identifier,
+    leaf: u32,
+    randomizer: &[u8],
+    message: &[u8],
+) -> SignatureBlocks
+    requires { length message.now < 2 ^ 31 }
+    ensures signing { result.signing ≡ signing_blocks (numbers_of params) (sum_up (digit (numbers_of params)
+        (message_digest identifier.now leaf randomizer.now message.now)) (numbers_of params).chains) (length message.now) }
+    ensures verification { result.verification ≡ verification_blocks (numbers_of params) (sum_up (digit (numbers_of params)
+        (message_digest identifier.now leaf randomizer.now message.now)) (numbers_of params).chains) (length message.now) }
+{
+    let steps = u64::from(signed_steps(params, identifier, leaf, randomizer, message));
+    let chains = u64::from(params.width.chains());
+    let all_steps = chains * u64::from(params.width.last_step());
+    let digest = blocks(FRONT + HASH + message.len() as u64);
+    SignatureBlocks {
+        signing: steps + chains + 1 + digest,
+        verification: all_steps.saturating_sub(steps)
+            + digest
+            + leaf_blocks(params)
+            + path_blocks(params),
+    }
+}

@@ -1,0 +1,35 @@
+//! Numbers in decimal digits.
+ghost use Rattle.std.specs.Prelude.{◌≡◌, ◌≤◌, ◌^◌, IsTrue, IfSome, IfNone};
+ghost use Rattle.std.specs.List.{list_all};
+ghost use Rattle.std.specs.Str.Parse.{digits_value};
+ghost use Rattle.plain_text.specs.Numbers.{is_digit, is_decimal};
+
+fn is_digit(byte: u8) -> bool
+    ensures { result ≡ is_digit byte }
+{
+    byte.is_ascii_digit()
+}
+
+fn are_digits(bytes: &[u8]) -> bool
+    ensures { result ≡ list_all is_digit bytes.now }
+{
+    bytes.iter().all(|byte| is_digit(*byte))
+}
+
+fn is_decimal(text: &str) -> bool
+    ensures { result ≡ is_decimal text.now }
+{
+    let bytes = text.as_bytes();
+    !bytes.is_empty() && are_digits(bytes)
+}
+
+/// The decimal number that the text is, if it is one below 2^32. Zeros in front are taken; a sign is not.
+pub fn decimal(text: &str) -> Option<u32>
+    ensures value { IfSome result (λ n. IsTrue (is_decimal text.now) × (digits_value 10 text.now ≡ n)) }
+    ensures none { IfNone result (IsTrue (is_decimal text.now) → 2 ^ 32 ≤ digits_value 10 text.now) }
+{
+    if !is_decimal(text) {
+        return None;
+    }
+    text.parse::<u32>().ok()
+}

@@ -1,0 +1,10 @@
+//! The program over any streams: its subcommands, what it prints, and its exit statuses.
+#![tactic(auto)]
+
+mod frame_stream;
+mod line;
+mod printing;
+mod program_fault;
+mod running;
+
+pub use running::{refuse_words, run};

@@ -1,0 +1,159 @@
+//! Replica 0 of four, whose ring has its own key alone, applies events.
+
+use bytes::Bytes;
+use key_ring::{KeyRing, Signer};
+use ledger_model::{
+    Addressee, AppKind, Config, Event, Height, Key, ProposeRefusal, ReplicaId, Reply, RoundEnded,
+    SubmitRefusal,
+};
+use lm_ots::{Identifier, Params, Seed, TreeHeight, Width};
+use locked_replica::{ApplyFault, State};
+use std::alloc::Global;
+use std::test::Fail;
+
+const PARAMS: Params = Params {
+    width: Width::W4,
+    height: TreeHeight::H5,
+};
+
+fn signer(alloc: Global) -> Result<Signer, Fail> {
+    Ok(Signer::new(alloc, PARAMS, Identifier::new([7; 16]), Seed::new([9; 32]))?)
+}
+
+fn replica(alloc: Global) -> Result<State, Fail> {
+    let signer = signer(alloc)?;
+    let config = Config::new(4, 1, AppKind::KvStore)?;
+    let ring = KeyRing::new(vec![in alloc; signer.public()]?);
+    Ok(State::new(alloc, config, ReplicaId::new(0), signer, ring))
+}
+
+fn submit(bytes: &'static [u8]) -> Event {
+    Event::Submit(Bytes::from_static(bytes))
+}
+
+fn propose(height: u32) -> Event {
+    Event::Propose(Height::new(height))
+}
+
+// What is known of a replica at once: its entries, its round, the height of its application, and whether it has no entry.
+fn numbers(state: &State) -> (usize, u32, u32, bool) {
+    (state.len(), state.clock(), state.height(), state.is_empty())
+}
+
+#[test]
+fn a_new_replica_has_no_history(rt: HostRuntime) -> Result<(), Fail> {
+    let state = replica(rt.alloc())?;
+    assert_eq!(rt; numbers(&state), (0, 0, 0, true));
+    assert!(rt; state.entry(0).is_none());
+    Ok(())
+}
+
+// Why a submit is refused, if it is.
+fn submitted(state: &mut State, bytes: &'static [u8]) -> Result<Result<(), SubmitRefusal>, Fail> {
+    let index = state.apply(submit(bytes))?;
+    answer_at(state, index)
+}
+
+fn answer_at(state: &State, index: usize) -> Result<Result<(), SubmitRefusal>, Fail> {
+    let entry = state.entry(index).ok_or("the entry is there")?;
+    match entry.reply() {
+        Reply::Submitted(given) => Ok(*given),
+        _ => Err(Fail::from("a submit is answered as one")),
+    }
+}
+
+#[test]
+fn submits_are_refused_by_their_causes(rt: HostRuntime) -> Result<(), Fail> {
+    let mut state = replica(rt.alloc())?;
+    for (bytes, answer) in [
+        (b"a=1".as_slice(), Ok(())),
+        (b"a=1".as_slice(), Err(SubmitRefusal::Duplicate)),
+        (b"".as_slice(), Err(SubmitRefusal::Empty)),
+        ([7; 65].as_slice(), Err(SubmitRefusal::TooLong)),
+    ] {
+        assert_eq!(rt; submitted(&mut state, bytes)?, answer);
+    }
+    assert_eq!(rt; numbers(&state), (4, 0, 0, false));
+    Ok(())
+}
+
+// How many transactions the proposal of a height has, or why there is none.
+fn proposed(state: &mut State, height: u32) -> Result<Result<usize, ProposeRefusal>, Fail> {
+    let index = state.apply(propose(height))?;
+    proposal_at(state, index)
+}
+
+fn proposal_at(state: &State, index: usize) -> Result<Result<usize, ProposeRefusal>, Fail> {
+    let entry = state.entry(index).ok_or("the entry is there")?;
+    match entry.reply() {
+        Reply::Proposed(Ok(batch)) => Ok(Ok(batch.transactions().len())),
+        Reply::Proposed(Err(refusal)) => Ok(Err(*refusal)),
+        _ => Err(Fail::from("a propose is answered as one")),
+    }
+}
+
+#[test]
+fn a_height_is_opened_or_refused_by_its_cause(rt: HostRuntime) -> Result<(), Fail> {
+    let mut state = replica(rt.alloc())?;
+    assert_eq!(rt; submitted(&mut state, b"a=1")?, Ok(()));
+    for (height, answer) in [
+        (0, Err(ProposeRefusal::Closed)),
+        (4097, Err(ProposeRefusal::Closed)),
+        (5, Err(ProposeRefusal::TooFar)),
+        (1, Ok(1)),
+    ] {
+        assert_eq!(rt; proposed(&mut state, height)?, answer);
+    }
+    Ok(())
+}
+
+// Whether one frame of this length is sent to all.
+fn is_one_to_all(ended: &RoundEnded, len: usize) -> bool {
+    match ended.frames.as_slice() {
+        [sent] => sent.addressee == Addressee::All && sent.frame.len() == len,
+        _ => false,
+    }
+}
+
+// Whether the entry is a round end that is not mute and sends one frame of this length to all.
+fn sends_one(state: &State, index: usize, len: usize) -> Result<bool, Fail> {
+    let entry = state.entry(index).ok_or("the entry is there")?;
+    match (entry.event(), entry.reply()) {
+        (Event::RoundEnd, Reply::RoundEnded(Ok(ended))) => {
+            Ok(!ended.mute && is_one_to_all(ended, len))
+        }
+        _ => Ok(false),
+    }
+}
+
+#[test]
+fn a_report_is_sent_as_the_first_round_opens(rt: HostRuntime) -> Result<(), Fail> {
+    let mut state = replica(rt.alloc())?;
+    assert_eq!(rt; submitted(&mut state, b"a=1")?, Ok(()));
+    assert_eq!(rt; proposed(&mut state, 1)?, Ok(1));
+    let index = state.apply(Event::RoundEnd)?;
+    assert!(rt; sends_one(&state, index, 2377)?);
+    assert_eq!(rt; numbers(&state), (3, 1, 0, false));
+    Ok(())
+}
+
+fn is_not_yet(state: &mut State, event: Event) -> bool {
+    state.apply(event) == Err(ApplyFault::NotYet)
+}
+
+fn query(alloc: Global) -> Result<Event, Fail> {
+    Ok(Event::Query(Key::new(Vec::new(alloc))?, Height::new(0)))
+}
+
+#[test]
+fn what_is_left_out_is_not_yet_taken(rt: HostRuntime) -> Result<(), Fail> {
+    let mut state = replica(rt.alloc())?;
+    assert_eq!(rt; proposed(&mut state, 1)?, Ok(0));
+    state.apply(Event::RoundEnd)?;
+    assert!(rt; is_not_yet(&mut state, Event::RoundEnd));
+    assert!(rt; is_not_yet(&mut state, Event::Execute));
+    assert!(rt; is_not_yet(&mut state, propose(2)));
+    assert!(rt; is_not_yet(&mut state, query(rt.alloc())?));
+    assert_eq!(rt; state.len(), 2);
+    Ok(())
+}

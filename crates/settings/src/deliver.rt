@@ -1,0 +1,19 @@
+//! What `abft deliver` is asked for.
+ghost use Rattle.std.specs.Prelude.{◌<◌};
+
+use crate::cluster::Cluster;
+use ledger_model::{Height, ReplicaId, Tx};
+
+/// The settings of `abft deliver`: which replica, and what it does before the first frame is delivered.
+#[derive(Drop)]
+pub struct DeliverSettings {
+    pub cluster: Cluster,
+    pub replica: ReplicaId,
+    /// The transaction that it submits.
+    pub value: Tx,
+    /// The height that it opens.
+    pub height: Height,
+    /// How many rounds it ends.
+    pub rounds: u32,
+    ghost below: { replica < cluster.config.replicas },
+}

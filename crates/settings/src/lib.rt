@@ -1,0 +1,17 @@
+//! What the words of a command line set, as plain values.
+#![tactic(auto)]
+
+mod cluster;
+mod deliver;
+mod sign;
+
+pub use cluster::Cluster;
+pub use deliver::DeliverSettings;
+pub use sign::{SignSettings, What};
+
+/// What the words of a command line ask for.
+#[derive(Drop)]
+pub enum Settings {
+    Sign(SignSettings),
+    Deliver(DeliverSettings),
+}

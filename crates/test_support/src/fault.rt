@@ -1,0 +1,35 @@
+//! Why something was not built.
+
+use std::alloc::{AllocError, AllocFailed};
+use thiserror::Error;
+
+/// Why something was not built.
+#[derive(Clone, Copy, Debug, PartialEq, Eq, Error)]
+pub enum BuildFault {
+    #[error("out of memory")]
+    NoMemory,
+    /// A transaction of no byte or of more than 64, or more than 16 of them.
+    #[error("no such value")]
+    NoValue,
+    /// Numbers of replicas and of faults that make no cluster, or a replica that is not in it.
+    #[error("no such replica")]
+    NoReplica,
+    /// The replica's key pair has no leaf left.
+    #[error("nothing was signed")]
+    NotSigned,
+    /// A frame too long to be one.
+    #[error("no such frame")]
+    NoFrame,
+}
+
+impl From<AllocError> for BuildFault {
+    fn from(_error: AllocError) -> BuildFault {
+        BuildFault::NoMemory
+    }
+}
+
+impl<T: Drop> From<AllocFailed<T>> for BuildFault {
+    fn from(_error: AllocFailed<T>) -> BuildFault {
+        BuildFault::NoMemory
+    }
+}

@@ -1,0 +1,35 @@
+#!/usr/bin/env bash
+# What the documents name is there: each `NAME` (`FILE:LINE`) stands in that line, and each file named below crates/, docs/
+# or tests/ exists. The last line is `N passed, M failed`.
+set -u
+cd "$(dirname "$0")/.." || exit 1
+passed=0
+failed=0
+
+count() {
+    if [ "$1" = yes ]; then
+        passed=$((passed + 1))
+    else
+        failed=$((failed + 1))
+        printf 'failed: %s\n' "$2"
+    fi
+}
+
+while read -r name file line; do
+    if sed -n "${line}p" "$file" 2>/dev/null | grep -qw -- "$name"; then
+        count yes
+    else
+        count no "$name is not in line $line of $file"
+    fi
+done < <(grep -ohE '`[A-Za-z_]+` \(`[^`]*:[0-9]+`' README.md docs/*.md | sed -E 's/`([A-Za-z_]+)` \(`([^`]*):([0-9]+)`/\1 \2 \3/')
+
+while read -r file; do
+    if [ -e "$file" ]; then
+        count yes
+    else
+        count no "there is no $file"
+    fi
+done < <(grep -ohE '`(crates|docs|tests)/[A-Za-z0-9_/.-]*[A-Za-z0-9_]' README.md docs/*.md | tr -d '`' | grep -v -e '/out/' -e NAME | sort -u)
+
+printf '%d passed, %d failed\n' "$passed" "$failed"
+[ "$failed" = 0 ]
