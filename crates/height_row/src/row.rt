@@ -41,12 +41,12 @@ impl HeightRow {
     ghost use Rattle.ledger_model.specs.Logs.{height_of, made_notes};
     ghost use Rattle.ledger_model.specs.Rules.{Ring, answer_to};
     ghost use Rattle.ledger_model.specs.Lawful.{held_locks};
-    ghost use Rattle.ledger_model.specs.Spelling.{IsValue, frame_bytes};
+    ghost use Rattle.ledger_model.specs.Spelling.{IsValue, IsStatement, frame_bytes};
     ghost use Rattle.instance.specs.Rows.{Row};
     ghost use Rattle.instance.specs.Matching.{Matches, only_rounds};
     ghost use Rattle.instance.specs.Reads.{opened_row, IsSameHeight};
     ghost use Rattle.instance.specs.Plans.{planned, made_by, Fits, IsSignedIn};
-    ghost use Rattle.instance.specs.Laws.{MakesRight, IsLockSentOn};
+    ghost use Rattle.instance.specs.Laws.{MakesRight, IsLockSentOn, statements_in};
     ghost use Rattle.height_row.specs.Heights.{row_at, decided_in, open_answer, AreApart, AreOwn, IsSameReplica};
 
     /// No height is open yet.
@@ -166,6 +166,8 @@ impl HeightRow {
         ensures plan { IfOk result (λ plan. (row : Row) → row_at self.now.rows height ≡ Some row → plan ≡ planned row (clock + 1)) }
         ensures makes { IfOk result (λ plan. (row : Row) → row_at self.now.rows height ≡ Some row → (ring : Ring) (log : List Note)
             → Matches ring row log → clock_of log ≡ clock → MakesRight ring row log plan.making) }
+        // What it makes can be spelled, whatever log there is.
+        ensures spelled { IfOk result (λ plan. AllByRecursion IsStatement (statements_in plan.making)) }
         ensures sends_on { IfOk result (λ plan. (row : Row) → row_at self.now.rows height ≡ Some row → (ring : Ring) (log : List Note)
             → Matches ring row log → clock_of log ≡ clock → place_of (clock + 1) ≡ 4 → plan.sends_on ≡ map frame_bytes (held_locks log)) }
         // Each of those frames reads back as a signed lock of the height.

@@ -9,6 +9,7 @@ pub mod SpelledTables
 pub mod ChosenValues
 pub mod SoundRows
 pub mod SpelledPlans
+pub mod SpelledSteps
 pub mod OneRead
 pub mod NewParts
 pub mod ReadNotes

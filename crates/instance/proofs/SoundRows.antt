@@ -47,13 +47,13 @@ abbrev AreKeptReports : Places SignedReport → Type 0
 AreKeptReports reports = (r : ℕ) (s : SignedReport) → read_of reports r ≡ Some s → IsKeptReport r s
 
 -- other locks and reports, and another value that was taken; what else was read, made or decided doesn't matter
-spelled_with : {row : Row} {table : List SignedLock} {taken : Option Value} {reports : Places SignedReport} {acks : Places Ack} {made : Option Lock} {decided : Option Value}
+pub spelled_with : {row : Row} {table : List SignedLock} {taken : Option Value} {reports : Places SignedReport} {acks : Places Ack} {made : Option Lock} {decided : Option Value}
     → IsSpelled row → IsValueList (values_of table) → IfSome taken IsValue → AreKeptReports reports
     → IsSpelled (record row { table = table; reports = reports; acks = acks; taken = taken; made = made; decided = decided })
 spelled_with h locked taken reports = record { heights = h.heights; own = h.own; proper = h.proper; some = h.some; locked = locked; taken = taken; reports = reports }
 
 -- a report more, at its signer's place
-with_report : (places : Places SignedReport) (r : ℕ) (s : SignedReport) → AreKeptReports places → s.report.signer ≡ r → IsSigned s
+pub with_report : (places : Places SignedReport) (r : ℕ) (s : SignedReport) → AreKeptReports places → s.report.signer ≡ r → IsSigned s
     → (q : ℕ) (x : SignedReport) → ((q ≡ r) × (s ≡ x)) ⊎ (read_of places q ≡ Some x) → IsKeptReport q x
 with_report places r s before signer spelled q x (inl new) = subst (IsKeptReport q) new.1 (record { of_signer = signer ∙ sym new.0; spelled = spelled })
 with_report places r s before signer spelled q x (inr old) = before q x old
@@ -142,7 +142,7 @@ ends_spelled row c h =
     ]
 
 -- a report that is planned is one's own
-planned_report : (row : Row) (c : ℕ) (s : Statement) → (planned row c).making ≡ making.ToSign s → IsOwnReport row s
+pub planned_report : (row : Row) (c : ℕ) (s : Statement) → (planned row c).making ≡ making.ToSign s → IsOwnReport row s
 planned_report row c s is r e =
     elim (cases_Bool (nat_eq (place_of c) 1)) [
       | inl first ↦ (let f : making.ToSign (statement.Report (own_report row (phase_of c))) ≡ making.ToSign (statement.Report r) = (rw first at is) ∙ ap making.ToSign e in cc)

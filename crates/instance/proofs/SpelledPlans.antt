@@ -1,6 +1,6 @@
 -- What a replica plans to make can be spelled, where what it keeps can.
-use Rattle.std.proofs.Common.{◌≡◌, ℕ, ◌+◌, ◌<◌, ◌≤◌, true, inl, inr, List, length, refl, arith, leb-true}
-use Rattle.std.specs.Prelude.{nat_eq, ◌^◌, filter, Option, Some, None, IfSome}
+use Rattle.std.proofs.Common.{◌≡◌, ℕ, ◌+◌, ◌<◌, ◌≤◌, true, inl, inr, List, length, refl, sym, ap, subst, ◌∙◌, arith, leb-true}
+use Rattle.std.specs.Prelude.{nat_eq, ◌^◌, ◌-◌, filter, Option, Some, None, IfSome}
 use Rattle.std.specs.List.{AllByRecursion}
 use Rattle.std.proofs.lemmas.Bool.{cases_Bool}
 use Rattle.std.proofs.lemmas.List.{length-take-le}
@@ -9,17 +9,19 @@ use Rattle.ledger_model.specs.Values.{Value}
 use Rattle.ledger_model.specs.Rounds.{phase_of, place_of, owner_of, quorum}
 use Rattle.ledger_model.specs.Locks.{finds}
 use Rattle.ledger_model.specs.Spelling.{IsValue, IsSigned, IsPlace, IsLock, IsAck, IsReport, IsStatement}
-use Rattle.ledger_model.specs.Phases.{reports_of, is_found_by, chosen}
+use Rattle.ledger_model.specs.Phases.{reports_of, is_found_by, chosen, absorbed}
 use Rattle.ledger_model.specs.Tallies.{all_read, count_where}
 use Rattle.ledger_model.specs.Validity.{ascends_within, signers_of}
 use Rattle.ledger_model.proofs.Lists.{filter_has, take_has}
 use Rattle.phase_core.proofs.Counts.{count_signed}
 use Rattle.instance.specs.Rows.{Row}
-use Rattle.instance.specs.Matching.{IsSpelled}
-use Rattle.instance.specs.Plans.{planned, own_report, own_lock, own_ack_of, locking_of, lock_making, ack_making}
+use Rattle.instance.specs.Matching.{IsSpelled, IsSpelledSet}
+use Rattle.instance.specs.Plans.{Planned, planned, own_report, own_lock, own_ack_of, locking_of, lock_making, ack_making}
 use Rattle.instance.specs.Laws.{statements_in}
 use Rattle.instance.proofs.KeptReadings.{read_at, read_ascends, take-within, filter-within, ascends_higher}
 use Rattle.instance.proofs.ChosenValues.{each_from, chosen_found, chosen_spelled}
+use Rattle.proper_sets.specs.Known.{Known}
+use Rattle.instance.proofs.SpelledTables.{absorbed-spelled}
 use Rattle.instance.proofs.SoundRows.{each_spelled}
 
 module _ (row : Row) (h : IsSpelled row) (member : row.id < row.config.replicas) (k : ℕ) (some : 1 ≤ k) (few : k < 2 ^ 32) where
@@ -113,3 +115,31 @@ planned_spelled row h member places c early =
       | inl mine ↦ rw mine (ack_spelled row h member k some few v value, tt)
       | inr other ↦ rw other (ack_spelled row h member k some few v value, tt)
     ]
+
+-- a plan of round d, which is not before the first
+pub spelled_at : (row : Row) (d : ℕ) (plan : Planned) → IsSpelled row → row.id < row.config.replicas → length row.reports ≡ row.config.replicas
+    → 1 ≤ d → d ≤ 4000000000 → plan ≡ planned row d → AllByRecursion IsStatement (statements_in plan.making)
+spelled_at row d plan h member places some few is =
+    let before : d ≡ (d - 1) + 1 = omega (arith, some) in
+    subst (λ (p : Planned). AllByRecursion IsStatement (statements_in p.making)) (sym (is ∙ ap (planned row) before))
+    (planned_spelled row h member places (d - 1) (omega (arith, some, few)))
+
+-- what a plan makes proper
+pub proper_spelled : (row : Row) (d : ℕ) (plan : Planned) (known : Known) → IsSpelled row → plan ≡ planned row d → plan.proper ≡ Some known → IsSpelledSet known.set
+proper_spelled row d plan known h is some = of_planned (ap (λ (p : Planned). p.proper) (sym is) ∙ some)
+  where
+    of_planned : (planned row d).proper ≡ Some known → IsSpelledSet known.set
+    of_planned e =
+        elim (cases_Bool (nat_eq (place_of d) 1)) [
+          | inl first ↦ (let f : None ≡ Some known = rw first at e in cc)
+          | inr not_first ↦ elim (cases_Bool (nat_eq (place_of d) 2)) [
+            | inl second ↦
+                (let f : Some (record { config = row.config; set = absorbed row.config row.id (reports_of (all_read row.reports)) row.proper }) ≡ Some known = rw (not_first, second) at e in
+                let same : absorbed row.config row.id (reports_of (all_read row.reports)) row.proper ≡ known.set = cc in
+                subst IsSpelledSet same (absorbed-spelled row.config row.id (reports_of (all_read row.reports)) row.proper (record { own = h.own; explicit = h.proper; some = h.some }) (each_spelled row h)))
+            | inr not_second ↦ elim (cases_Bool (nat_eq (place_of d) 3)) [
+              | inl third ↦ (let f : None ≡ Some known = rw (not_first, not_second, third) at e in cc)
+              | inr not_third ↦ (let f : None ≡ Some known = rw (not_first, not_second, not_third) at e in cc)
+            ]
+          ]
+        ]

@@ -18,6 +18,7 @@ use Rattle.lock_proofs.proofs.TableLaws.{with_lock-table, filter-table}
 use Rattle.lock_proofs.proofs.ValueLists.{has_value, with_lock-values}
 use Rattle.proper_sets.proofs.Orders.{filter-ascends, take-ascends}
 use Rattle.proper_sets.proofs.Cuts.{IsSmall-cut}
+use Rattle.instance.specs.Matching.{IsSpelledSet}
 use Rattle.instance.proofs.ChosenValues.{each_from, each_has}
 
 -- ---- tables
@@ -76,11 +77,6 @@ listed_there : (p : Report) (id : ℕ) (v : Value) → Has (listed_by_other id p
 listed_there p id v = elim (p.signer == id) as (λ b. Has (cond b [] p.proper) v → Has p.proper v) [ true ↦ λ h. absurd h | false ↦ λ h. h ]
 
 -- what is proper once the reports of a phase are absorbed
-pub record IsSpelledSet (proper : ProperSet) : Type 0 where
-  pub own : IsValue proper.own
-  pub explicit : IsValueList proper.explicit
-  pub some : 1 ≤ length proper.explicit
-
 pub absorbed-spelled : (config : Config) (id : ℕ) (reports : List Report) (proper : ProperSet) → IsSpelledSet proper → ((p : Report) → Has reports p → IsReport p)
     → IsSpelledSet (absorbed config id reports proper)
 unfolding absorbed

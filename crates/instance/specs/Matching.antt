@@ -13,7 +13,7 @@ use Rattle.ledger_model.specs.Notes.{Note, Proposed, Round, Made, Read, Has, clo
 use Rattle.ledger_model.specs.Locks.{value_taken, decided_of}
 use Rattle.ledger_model.specs.Lawful.{held_locks}
 use Rattle.ledger_model.specs.Rules.{Ring, is_signed, with_signature, is_proved}
-use Rattle.ledger_model.specs.Phases.{reports_of}
+use Rattle.ledger_model.specs.Phases.{ProperSet, reports_of}
 use Rattle.ledger_model.specs.Tallies.{all_read, read_of}
 use Rattle.ledger_model.specs.LockTables.{SignedLock, as_statement}
 use Rattle.ledger_model.specs.Spelling.{IsFrame, IsSigned, IsValue, IsValueList}
@@ -45,6 +45,12 @@ pub record IsCluster (config : Config) : Type 0 where
 pub record IsKeptReport (r : ℕ) (s : SignedReport) : Type 0 where
   pub of_signer : s.report.signer ≡ r
   pub spelled : IsSigned s
+
+-- what is proper can be spelled
+pub record IsSpelledSet (proper : ProperSet) : Type 0 where
+  pub own : IsValue proper.own
+  pub explicit : IsValueList proper.explicit
+  pub some : 1 ≤ length proper.explicit
 
 -- what is kept can be spelled
 pub record IsSpelled (row : Row) : Type 0 where

@@ -135,6 +135,17 @@ IsLockingOf making.Nothing locking = Unit {0}
 IsLockingOf (making.ToSign s) locking = IsLocking s locking
 IsLockingOf (making.ToItself a) locking = Unit {0}
 
+-- a report that is made is the replica's own
+abbrev pub IsOwn : ℕ → Statement → Type 0
+IsOwn id (statement.Report r) = r.signer ≡ id
+IsOwn id (statement.Lock l) = Unit {0}
+IsOwn id (statement.Ack a) = Unit {0}
+
+abbrev pub MakesOwn : ℕ → Making → Type 0
+MakesOwn id making.Nothing = Unit {0}
+MakesOwn id (making.ToSign s) = IsOwn id s
+MakesOwn id (making.ToItself a) = Unit {0}
+
 -- ---- what is kept then
 
 -- as place 1 opens, the phase before is forgotten

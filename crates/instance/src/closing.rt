@@ -4,6 +4,7 @@ use crate::plan::{Making, OwnFrame, Plan, Signing};
 use crate::rounds::{Place, place_of};
 use ledger_model::{Batch, SignedReport, Statement};
 use lock_proofs::ValidLock;
+use proper_sets::Proper;
 
 impl Instance {
     ghost use Rattle.std.specs.Prelude.{◌≡◌, ◌<◌, ◌≤◌, ◌+◌, ◌++◌, ◌∷◌, List, [], true};
@@ -11,8 +12,9 @@ impl Instance {
     ghost use Rattle.ledger_model.specs.Notes.{Note, Round, clock_of};
     ghost use Rattle.ledger_model.specs.Logs.{made_notes};
     ghost use Rattle.ledger_model.specs.Rules.{Ring};
-    ghost use Rattle.instance.specs.Matching.{Matches};
-    ghost use Rattle.instance.specs.Plans.{planned, made_by, Fits, IsSignedIn, closed, forgotten, with_all, with_own, IsLocking, IsLockingOf};
+    ghost use Rattle.ledger_model.specs.Locks.{or_else};
+    ghost use Rattle.instance.specs.Matching.{Matches, IsSpelledSet};
+    ghost use Rattle.instance.specs.Plans.{planned, made_by, Fits, IsSignedIn, closed, forgotten, with_all, with_own, IsLocking, IsLockingOf, IsOwn, MakesOwn};
     ghost use Rattle.instance.specs.Reads.{IsSameHeight};
 
     /// Forgets what was read and made in a phase. It takes no memory.
@@ -25,12 +27,33 @@ impl Instance {
         self.made = None;
     }
 
+    /// Keeps another set of what is proper. It takes no memory.
+    fn put_proper(&mut self, proper: Proper)
+        requires config { proper.config ≡ self.old.config }
+        requires spelled { IsSpelledSet proper.set }
+        ensures { self.new ≡ record self.old { proper = proper.set } }
+    {
+        self.proper = proper;
+    }
+
+    /// Keeps what is decided, if nothing was decided before. It takes no memory.
+    fn put_decided(&mut self, decided: Option<Batch>)
+        ensures { self.new ≡ record self.old { decided = or_else self.old.decided decided } }
+    {
+        if self.decided.is_none() {
+            self.decided = decided;
+        }
+    }
+
     /// Keeps a statement of one's own that was signed. It takes no memory.
     fn put_signed(&mut self, statement: Statement, own: OwnFrame, locking: Option<Batch>)
         requires frame { own.frame ≡ record { statement = statement; signature = own.signature } }
         requires locking { IsLocking statement locking }
+        requires own { IsOwn self.old.id statement }
         ensures { self.new ≡ with_own own.frame self.old }
     {
+        // The frame shows that what it holds can be spelled.
+        let _ = own.frame.statement();
         match statement {
             Statement::Report(report) => {
                 let signature = own.signature;
@@ -53,6 +76,7 @@ impl Instance {
     fn put_own(&mut self, making: Making, signing: Signing, locking: Option<Batch>)
         requires fits { Fits making signing }
         requires locking { IsLockingOf making locking }
+        requires own { MakesOwn self.old.id making }
         ensures { self.new ≡ with_all (made_by making signing) self.old }
     {
         match (making, signing) {
@@ -79,6 +103,8 @@ impl Instance {
             → Matches ring self.new (log ++ Round (clock + 1) ∷ flat_map (made_notes log (clock + 1)) (made_by plan.making signing)) }
         ensures same { IsSameHeight self.old self.new }
     {
+        // What is kept is opened for the proof that it can be spelled.
+        let _ = &self.height;
         let Plan {
             making,
             proper,
@@ -90,11 +116,9 @@ impl Instance {
             self.forget_phase();
         }
         if let Some(proper) = proper {
-            self.proper = proper;
+            self.put_proper(proper);
         }
-        if self.decided.is_none() {
-            self.decided = decided;
-        }
+        self.put_decided(decided);
         self.put_own(making, signing, locking);
     }
 }

@@ -26,6 +26,7 @@ pub struct Instance {
 impl Model for Instance {
     ghost use Rattle.std.specs.Prelude.{◌≡◌, ◌<◌, length};
     ghost use Rattle.instance.specs.Rows.{Row};
+    ghost use Rattle.instance.specs.Matching.{IsSpelled};
 
     ghost Value = { Row };
 
@@ -43,7 +44,19 @@ impl Model for Instance {
     } };
 
     ghost invariant = { λ i. (i.proper.config ≡ i.config) × (i.id < i.config.replicas)
-        × (length i.reports ≡ i.config.replicas) × (length i.acks ≡ i.config.replicas) };
+        × (length i.reports ≡ i.config.replicas) × (length i.acks ≡ i.config.replicas)
+        × IsSpelled (record {
+          config = i.config;
+          id = i.id;
+          height = i.height;
+          proper = i.proper.set;
+          table = i.locks;
+          reports = i.reports;
+          acks = i.acks;
+          taken = i.taken;
+          made = i.made;
+          decided = i.decided;
+        }) };
 }
 
 impl Instance {

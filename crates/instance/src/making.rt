@@ -22,7 +22,8 @@ impl Instance {
     ghost use Rattle.instance.specs.Matching.{Matches};
     ghost use Rattle.instance.specs.Plans.{planned, own_report, own_lock, own_ack_of, locking_of, decides_now};
     ghost use Rattle.std.specs.List.{AllByRecursion};
-    ghost use Rattle.instance.specs.Laws.{MakesRight, IsLockSentOn};
+    ghost use Rattle.ledger_model.specs.Spelling.{IsStatement};
+    ghost use Rattle.instance.specs.Laws.{MakesRight, IsLockSentOn, statements_in};
 
     /// The values of the locks that are held, ascending.
     fn held_values(&self, alloc: Global) -> Result<Vec<Batch>, AllocError>
@@ -119,8 +120,11 @@ impl Instance {
     fn plan_report(&self, alloc: Global, round: u32) -> Result<Plan, AllocError>
         requires round { round ≤ 4000000000 }
         requires place { place_of round ≡ 1 }
-        ensures { IfOk result (λ plan. plan ≡ planned self.now round) }
+        ensures plan { IfOk result (λ plan. plan ≡ planned self.now round) }
+        ensures spelled { IfOk result (λ plan. AllByRecursion IsStatement (statements_in plan.making)) }
     {
+        // What is kept is opened for the proof that it can be spelled.
+        let _ = &self.height;
         let report = self.own_report(alloc, phase_of(round))?;
         Ok(Plan::making_of(alloc, Making::ToSign(Statement::Report(report))))
     }
@@ -129,7 +133,8 @@ impl Instance {
     fn plan_lock(&self, alloc: Global, round: u32) -> Result<Plan, AllocError>
         requires round { round ≤ 4000000000 }
         requires place { place_of round ≡ 2 }
-        ensures { IfOk result (λ plan. plan ≡ planned self.now round) }
+        ensures plan { IfOk result (λ plan. plan ≡ planned self.now round) }
+        ensures spelled { IfOk result (λ plan. AllByRecursion IsStatement (statements_in plan.making)) }
     {
         let phase = phase_of(round);
         let mut proper = self.proper.copy()?;
@@ -152,7 +157,8 @@ impl Instance {
     fn plan_ack(&self, alloc: Global, round: u32) -> Result<Plan, AllocError>
         requires round { round ≤ 4000000000 }
         requires place { place_of round ≡ 3 }
-        ensures { IfOk result (λ plan. plan ≡ planned self.now round) }
+        ensures plan { IfOk result (λ plan. plan ≡ planned self.now round) }
+        ensures spelled { IfOk result (λ plan. AllByRecursion IsStatement (statements_in plan.making)) }
     {
         let phase = phase_of(round);
         let Some(value) = &self.taken else {
@@ -195,6 +201,8 @@ impl Instance {
         // It makes what may be made, by every log that the instance matches.
         ensures makes { IfOk result (λ plan. (ring : Ring) (log : List Note) → Matches ring self.now log → clock_of log ≡ clock
             → MakesRight ring self.now log plan.making) }
+        // What it makes can be spelled, whatever log there is.
+        ensures spelled { IfOk result (λ plan. AllByRecursion IsStatement (statements_in plan.making)) }
         // In a lock-release round it sends on the locks that are held.
         ensures sends_on { IfOk result (λ plan. (ring : Ring) (log : List Note) → Matches ring self.now log → clock_of log ≡ clock
             → place_of (clock + 1) ≡ 4 → plan.sends_on ≡ map frame_bytes (held_locks log)) }

@@ -64,6 +64,7 @@ impl Instance {
     ghost use Rattle.ledger_model.specs.Notes.{Note, Read, clock_of, signer_of, is_report, is_lock, is_ack};
     ghost use Rattle.ledger_model.specs.Logs.{height_of};
     ghost use Rattle.ledger_model.specs.Rules.{answer_to, first_of};
+    ghost use Rattle.ledger_model.specs.Spelling.{IsFrame};
     ghost use Rattle.ledger_model.specs.Tallies.{read_of};
     ghost use Rattle.instance.specs.Matching.{Matches};
     ghost use Rattle.instance.specs.Reads.{round_causes, row_causes, report_causes, lock_causes, ack_causes, is_kept_already, after_read, if_accepted, IsSameHeight};
@@ -110,6 +111,7 @@ impl Instance {
         requires kind { IsTrue (is_report (λ r. true) frame.statement) }
         requires signer { signer_of frame.statement < self.old.config.replicas }
         requires first { read_of self.old.reports (signer_of frame.statement) ≡ None }
+        requires frame { IsFrame frame }
         ensures answer { IfOk result (λ r. r ≡ first_of (report_causes ring.now frame)) }
         ensures after { (round : ℕ) → IfOk result (λ r. self.new ≡ if_accepted r (after_read self.old round frame) self.old) }
         ensures err { OnErr result (self.new ≡ self.old) }
@@ -167,6 +169,7 @@ impl Instance {
         requires kind { IsTrue (is_lock (λ l. true) frame.statement) }
         requires round { round ≤ 4000000000 }
         requires owner { has_owner self.old.config frame.statement ≡ true }
+        requires frame { IsFrame frame }
         ensures answer { IfOk result (λ r. r ≡ first_of (lock_causes self.old ring.now round frame)) }
         ensures after { IfOk result (λ r. self.new ≡ if_accepted r (after_read self.old round frame) self.old) }
         ensures err { OnErr result (self.new ≡ self.old) }

@@ -20,7 +20,7 @@ pub enum ProgramFault {
 /// What an operation answered that it never may.
 #[derive(Clone, Copy, Debug, PartialEq, Eq, Error)]
 pub enum CheckFault {
-    #[error("the public key is not that of the standard's test case")]
+    #[error("the public key is not the one of RFC 8554, Appendix F")]
     Root,
     #[error("a signature doesn't lead to the public value of its leaf")]
     Candidate,

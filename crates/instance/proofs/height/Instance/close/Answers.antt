@@ -1,6 +1,8 @@
 use Rattle.std.proofs.Common.{rules, ◌+◌, sym, subst, ap, ◌∙◌}
 use Rattle.instance.specs.Plans.{made_by, closed}
 use Rattle.instance.specs.Reads.{IsSameHeight}
+use Rattle.instance.specs.Matching.{IsSpelled}
+use Rattle.instance.proofs.SpelledPlans.{proper_spelled}
 use Rattle.instance.proofs.AtClock.{closes_at}
 use Rattle.instance.proofs.SameHeight.{same_closed}
 use Rattle.instance.proofs.height.Instance.close.Goals as goal
@@ -17,3 +19,9 @@ returns-clause-same c =
     let row = c.args.self.now in
     let made = made_by c.args.plan.making c.args.signing in
     subst (IsSameHeight row) (sym (returns-clause-row c ∙ ap (λ p. closed row (c.args.clock + 1) p made) c.requires.plan)) (same_closed row (c.args.clock + 1) made)
+
+pub put_proper-requires-clause-spelled : goal.put_proper-requires-clause-spelled
+put_proper-requires-clause-spelled c =
+    let i = c.self.invariant in
+    let spelled : IsSpelled c.args.self.now = rw (sym c.self.view_is) i.4 in
+    proper_spelled c.args.self.now (c.args.clock + 1) c.args.plan c.in-Some.proper spelled c.requires.plan (rw (sym c.plan.view_is) c.in-Some.is)

@@ -1,6 +1,9 @@
-use Rattle.std.proofs.Common.{rules, ◌++◌, ◌∷◌, [], sym, subst, arith}
+use Rattle.std.proofs.Common.{rules, ◌++◌, ◌∷◌, [], refl, sym, subst, arith}
+use Rattle.std.specs.Prelude.{None}
+use Rattle.std.proofs.lemmas.List.{length-replicate}
 use Rattle.ledger_model.specs.Notes.{Proposed}
-use Rattle.instance.specs.Matching.{Matches, IsCluster}
+use Rattle.instance.specs.Matching.{Matches, IsCluster, IsSpelled}
+use Rattle.instance.specs.Reads.{opened_row}
 use Rattle.instance.proofs.Opens.{opens}
 use Rattle.instance.proofs.height.Instance.open.Goals as goal
 
@@ -14,3 +17,12 @@ returns-clause-matches c = λ ring log rounds.
     let cluster : IsCluster config = record { enough = config.enough; bounded = config.bounded; tolerant = config.tolerant } in
     subst (λ row. Matches ring row (log ++ Proposed own ∷ [])) (sym (returns-clause-row c))
     (opens config c.args.id c.args.height own ring log cluster c.requires.member (c.requires.height.0, omega (arith, c.requires.height.1)) c.requires.value rounds)
+
+pub invariant_of-result : goal.invariant_of-result
+invariant_of-result c =
+    let config = c.args.config.now in
+    let row = opened_row config c.args.id c.args.height c.args.initial.now in
+    let cluster : IsCluster config = record { enough = config.enough; bounded = config.bounded; tolerant = config.tolerant } in
+    let spelled : IsSpelled row = (opens config c.args.id c.args.height c.args.initial.now [] [] cluster c.requires.member (c.requires.height.0, omega (arith, c.requires.height.1)) c.requires.value refl).sound.spelled in
+    rw (c.in_ok-new.ensures.config, c.in_ok-new.ensures.set, c.in_ok-new-2.ensures, c.in_ok-new-3.ensures, c.in_ok-new-4.ensures)
+    (refl, c.requires.member, length-replicate _ None, length-replicate _ None, spelled)

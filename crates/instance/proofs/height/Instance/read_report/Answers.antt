@@ -1,0 +1,16 @@
+use Rattle.std.proofs.Common.{refl, sym, subst, ◌∙◌}
+use Rattle.ledger_model.specs.Spelling.{IsReport, IsSignature, IsStatement}
+use Rattle.instance.proofs.SpelledSteps.{keeps_report}
+use Rattle.instance.proofs.height.Instance.read_report.Goals as goal
+
+pub invariant_of-self : goal.invariant_of-self
+invariant_of-self c =
+    let i = c.self.invariant in
+    let report : IsReport c.in-Report.report = subst IsStatement (sym c.in-Report.ensures) c.requires.frame.statement in
+    let same = c.new-signature.ensures ∙ c.in_ok-from_slice.ensures.items ∙ c.signature.ensures in (
+      i.0,
+      i.1,
+      c.add.ensures.places ∙ i.2,
+      i.3,
+      keeps_report i.4 _ _ _ refl (record { report = report; signature = subst IsSignature (sym same) c.requires.frame.signature }) (rw (c.add.ensures.added) at c.add.ensures.after),
+    )
