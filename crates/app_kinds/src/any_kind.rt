@@ -22,7 +22,9 @@ impl AnyKind {
 
     /// The application of this kind before the first block.
     pub fn new(alloc: Global, kind: AppKind) -> Self
-        ensures { machine_of result ≡ run kind [] }
+        ensures new { machine_of result ≡ run kind [] }
+        // It is one that an executor may begin with.
+        ensures kind { (machine_of result).kind ≡ kind }
     {
         match kind {
             AppKind::KvStore => AnyKind::KvStore(KvStore::new(alloc)),
