@@ -1,4 +1,5 @@
-# demo: proves and builds the program, side by side what doesn't stand on each other, and delivers one report: `accepted`.
+# demo: proves and builds the program, crate by crate, each on all processors (two of them can't run side by side, since each
+#       keeps others out of the crates below it), and delivers one report: `accepted`.
 # test: the merge gate (every proof from nothing, the must-fail edits, the tests), then the built program in real pipes,
 #       and the file lines that the documents name.
 # bench: proves and builds the benchmark, and prints what keys and signatures cost on this machine.
@@ -15,15 +16,15 @@ below = $(filter $(crates),$(shell sed -n 's/^$(1)://p' crates.txt))
 define library
 .PHONY: prove-$(1)
 prove-$(1): $(addprefix prove-,$(call below,$(1)))
-	@cd crates/$(1) && mkdir -p out && began=$$$$(date +%s) && { rt lib >out/said 2>&1 || { tail -n 20 out/said; exit 1; }; } \
+	@cd crates/$(1) && mkdir -p out && began=$$$$(date +%s) && { rt lib --jobs $$$$(nproc) >out/said 2>&1 || { tail -n 20 out/said; exit 1; }; } \
 	    && echo "$(1): proved in $$$$(($$$$(date +%s) - began)) s"
 endef
 $(foreach crate,$(crates),$(eval $(call library,$(crate))))
 
 demo:
-	@echo "proving the crates below the program, $$(nproc) at a time:"
-	@$(MAKE) --no-print-directory -j$$(nproc) $(addprefix prove-,$(call below,abft))
-	@cd crates/abft && mkdir -p out && { rt run -- --version >out/said 2>&1 || { tail -n 20 out/said; exit 1; }; }
+	@echo "proving the crates below the program, on $$(nproc) processors:"
+	@$(MAKE) --no-print-directory $(addprefix prove-,$(call below,abft))
+	@cd crates/abft && mkdir -p out && { rt run --jobs $$(nproc) -- --version >out/said 2>&1 || { tail -n 20 out/said; exit 1; }; }
 	@echo "abft sign report | abft deliver"
 	@said=$$(crates/abft/out/abft sign report | crates/abft/out/abft deliver) && echo "$$said" && test "$$said" = accepted
 

@@ -5,7 +5,8 @@ of its tests, and for its must-fail edits.
     .ci/minutes.py [--table FILE] COMMAND..
 
 It looks at the processes of the prover twice a second, and takes from each how much processor time it had when it was
-last seen. The table goes to standard output, and with --table into FILE too. The status is that of the command."""
+last seen. The table goes to standard output, and with --table into FILE too, as a page. The status is that of the
+command."""
 import os
 import resource
 import subprocess
@@ -14,6 +15,12 @@ import threading
 import time
 
 PARTS = ("proof", "tests", "edits")
+PAGE = """# What the gate costs
+
+One run of the gate, as `.ci/run` wrote it down: every crate proved from nothing, the tests proved and run, each must-fail
+edit tried. The budget is 60 minutes by the clock on four processors.
+
+"""
 TICKS = os.sysconf("SC_CLK_TCK")
 
 
@@ -119,7 +126,7 @@ def main(words):
     print(f"\n{said}", flush=True)
     if to:
         with open(to, "w", encoding="utf-8") as file:
-            file.write(f"{said}\n")
+            file.write(f"{PAGE}{said}\n")
     return status
 
 
