@@ -1,5 +1,5 @@
-# demo: proves and builds the program, crate by crate, each on all processors (two of them can't run side by side, since each
-#       keeps others out of the crates below it), and delivers one report: `accepted`.
+# demo: proves and builds the program, and delivers one report: `accepted`. First the three crates that stand on no other, since
+#       most wait for the largest of them; then those above side by side, each on one processor. A line for each as it is proved.
 # test: the merge gate (every proof from nothing, the must-fail edits, the tests), then the built program in real pipes,
 #       and the file lines that the documents name.
 # bench: proves and builds the benchmark, and prints what keys and signatures cost on this machine.
@@ -22,8 +22,11 @@ endef
 $(foreach crate,$(crates),$(eval $(call library,$(crate))))
 
 demo:
-	@echo "proving the crates below the program, on $$(nproc) processors:"
-	@$(MAKE) --no-print-directory $(addprefix prove-,$(call below,abft))
+	@echo "proving the crates below the program, and the program, on $$(nproc) processors:"
+	@$(MAKE) --no-print-directory -j3 prove-ledger_model prove-octets prove-plain_text
+	@cd crates/program && mkdir -p out && rt all check --jobs $$((2 * $$(nproc))) 2>&1 | tee out/said | while read -r line; do \
+	    case $$line in "== "*) crate=$${line#== };; logic=proved*) echo "$$crate: proved after $$SECONDS s";; esac; done \
+	    || { grep -E 'error|not proved|no proof|failed' out/said | tail -n 40; exit 1; }
 	@cd crates/abft && mkdir -p out && { rt run --jobs $$(nproc) -- --version >out/said 2>&1 || { tail -n 20 out/said; exit 1; }; }
 	@echo "abft sign report | abft deliver"
 	@said=$$(crates/abft/out/abft sign report | crates/abft/out/abft deliver) && echo "$$said" && test "$$said" = accepted

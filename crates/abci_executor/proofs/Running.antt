@@ -1,6 +1,6 @@
 -- The calls of a block, one after another.
 use Rattle.std.proofs.Common.{◌≡◌, ℕ, ◌+◌, ◌<◌, List, [], ◌∷◌, ◌++◌, Some, refl, sym, ap, subst, ◌∙◌, length, get_or, take}
-use Rattle.std.specs.Prelude.{Option, IsSome, Result, Ok, Err, IfOk}
+use Rattle.std.specs.Prelude.{Option, None, IsSome, Result, Ok, Err, IfOk, OnErr}
 use Rattle.std.proofs.lemmas.List.{append-nil, take_more, length-append}
 use Rattle.std.proofs.lemmas.Grind.{flat_map-append}
 use Rattle.sha2.specs.Sha256.{sha256}
@@ -8,8 +8,9 @@ use Rattle.ledger_model.specs.declared.reply.BlockResult.{BlockResult}
 use Rattle.ledger_model.specs.Values.{Value}
 use Rattle.ledger_model.specs.Applications.{Machine, AppState, accepted, codes, code_after, run, state_bytes, transactions_of}
 use Rattle.ledger_model.specs.Replies.{block_reply}
-use Rattle.abci.specs.Meaning.{state_after, without_work, Begins, GoesOn, DeliversTo, CommitsTo}
-use Rattle.abci_executor.specs.Blocks.{DeliversAll, RunsBlock, AddsBlock}
+use Rattle.abci.specs.declared.info.Info.{Info}
+use Rattle.abci.specs.Meaning.{state_after, without_work, Begins, GoesOn, DeliversTo, CommitsTo, TellsOf, LosesWork}
+use Rattle.abci_executor.specs.Blocks.{DeliversAll, IsReached, AddsBlock, TellsOfBlocks}
 use Rattle.abci_executor.proofs.Behind.{accepted-append, codes-snoc}
 
 -- a machine that has a working state goes on from itself, and from step to step
@@ -52,6 +53,18 @@ delivers_next old mid new all i tx answered now code within is_tx is_now before 
     let more : take (i + 1) all ≡ take i all ++ tx ∷ [] = take_more all i tx within ∙ ap (λ (t : List ℕ). take i all ++ t ∷ []) (sym is_tx) in
     rw (more, is_now) (delivers_more old mid new (take i all) tx answered code before delivered)
 
+-- what running a block answers and leaves, where these transactions led to the committed state
+pub record RunsBehind (txs : List (List ℕ)) (old : Machine) (batch : Value) (block : BlockResult) (new : Machine) : Type 0 where
+  pub height : block.height ≡ old.height + 1
+  pub codes_in_order : block.codes ≡ codes old.kind (accepted old.kind [] txs) batch
+  pub hash : block.hash ≡ sha256 (state_bytes new.committed)
+  pub state : new ≡ record old { committed = state_after old.kind (txs ++ batch); working = None; height = old.height + 1 }
+
+-- what running a block answers and leaves, by the transactions before
+abbrev pub RunsBlock : Machine → Value → BlockResult → Machine → Type 0
+RunsBlock old batch block new =
+    (txs : List (List ℕ)) → old.committed ≡ state_after old.kind txs → RunsBehind txs old batch block new
+
 -- BeginBlock, the transactions, EndBlock and Commit
 pub runs_block : (old begun delivered ended new : Machine) (batch : Value) (height : ℕ) (answered hash : List ℕ) → height ≡ old.height + 1 → Begins old begun
     → DeliversAll begun batch answered delivered → ended ≡ delivered → CommitsTo ended hash new
@@ -70,7 +83,7 @@ runs_block old begun delivered ended new batch height answered hash next begins 
     }
 
 -- the same by blocks
-pub adds_block : (old new : Machine) (batch : Value) (block : BlockResult) → RunsBlock old batch block new → AddsBlock old batch block new
+pub adds_block : (old new : Machine) (batch : Value) (block : BlockResult) → RunsBlock old batch block new → AddsBlock (without_work old) batch block new
 unfolding run block_reply
 adds_block old new batch block runs =
     λ batches led.
@@ -90,12 +103,37 @@ adds_block old new batch block runs =
 
 -- the same between blocks
 pub adds_between : {E : Type 0} (old new : Machine) (batch : Value) (answer : Result BlockResult E) → IfOk answer (λ block. AddsBlock old batch block new)
-    → IfOk answer (λ block. AddsBlock (without_work old) batch block (without_work new))
+    → IfOk answer (λ block. AddsBlock old batch block (without_work new))
 unfolding run
 adds_between old new batch (Ok block) adds = λ batches led. let a = adds batches led in (a.0, ap without_work (a.1))
 adds_between old new batch (Err fault) adds = tt
+
+-- some blocks led to the machine that is left
+pub reached_after : {E : Type 0} (old new : Machine) (batch : Value) (answer : Result BlockResult E) → IsReached (without_work old)
+    → IfOk answer (λ block. AddsBlock (without_work old) batch block new) → OnErr answer (LosesWork old new) → IsReached (without_work new)
+unfolding run
+reached_after old new batch (Ok block) reached adds lost =
+    let a = adds reached.0 reached.1 in
+    let kind : old.kind ≡ new.kind = sym (ap (λ (m : Machine). m.kind) a.1) in
+    let all = reached.0 ++ batch ∷ [] in
+    (all, ap without_work (a.1) ∙ ap (λ k. run k all) kind)
+reached_after old new batch (Err fault) reached adds lost =
+    let same : without_work new ≡ without_work old = ap without_work lost in
+    subst IsReached (sym same) reached
 
 -- an application that ran no block has no unfinished one
 pub opens : (m : Machine) → m ≡ run m.kind [] → without_work m ≡ m
 unfolding run
 opens m opening = ap (λ (w : Option AppState). let n : Machine = record m { working = w } in n) (sym (ap (λ (n : Machine). n.working) opening))
+
+-- no blocks led to it
+pub reached_first : (m : Machine) → m ≡ run m.kind [] → IsReached (without_work m)
+reached_first m opening = ([], opens m opening ∙ opening)
+
+-- what an application tells of itself is told of its blocks
+pub tells_of_blocks : (m : Machine) (info : Info) → TellsOf m info → TellsOfBlocks (without_work m) info
+unfolding run
+tells_of_blocks m info tells = λ batches led. (
+  tells.0 ∙ ap (λ (n : Machine). n.height) led,
+  tells.1 ∙ ap (λ (n : Machine). sha256 (state_bytes n.committed)) led,
+)

@@ -1,33 +1,44 @@
--- What running a block on an application means, by the transactions or the blocks that led to its committed state.
-use Rattle.std.specs.Prelude.{◌≡◌, ℕ, ◌+◌, List, [], ◌∷◌, ◌++◌, Some, None}
-use Rattle.sha2.specs.Sha256.{sha256}
+-- What the calls on an application answer and leave, by the blocks that led to its committed state.
+use Rattle.std.specs.Prelude.{◌≡◌, ℕ, List, [], ◌∷◌, ◌++◌, length, Option, Some, None, Result, Ok, Err}
 use Rattle.ledger_model.specs.declared.reply.BlockResult.{BlockResult}
+use Rattle.ledger_model.specs.declared.reply.QueryAnswer.{QueryAnswer}
+use Rattle.ledger_model.specs.declared.reply.NotHeld.{NotHeld}
 use Rattle.ledger_model.specs.Values.{Value}
-use Rattle.ledger_model.specs.Applications.{Machine, accepted, codes, run, state_bytes}
-use Rattle.ledger_model.specs.Replies.{block_reply}
-use Rattle.abci.specs.Meaning.{state_after, without_work}
+use Rattle.ledger_model.specs.Applications.{Machine, accepted, codes, run, hash_of}
+use Rattle.ledger_model.specs.Replies.{block_reply, query_reply}
+use Rattle.abci.specs.declared.info.Info.{Info}
+use Rattle.abci.specs.declared.info.QueryFault.{QueryFault}
+use Rattle.abci.specs.declared.info.QueryFault.TheVariants as fault
+use Rattle.abci.specs.Meaning.{state_after}
 
--- the codes of transactions in the block that began, and the machine behind them
+-- some blocks led to the machine
+abbrev pub IsReached : Machine → Type 0
+IsReached m = (batches : List Value) × (m ≡ run m.kind batches)
+
+-- the answer is that to one block more than led to the machine, and so is the machine that is left
+abbrev pub AddsBlock : Machine → Value → BlockResult → Machine → Type 0
+AddsBlock old batch block new =
+    (batches : List Value) → old ≡ run old.kind batches
+    → (block ≡ block_reply old.kind batches batch) × (new ≡ run old.kind (batches ++ batch ∷ []))
+
+-- what is replied to a key at a height where these blocks led to the machine
+abbrev pub Replies : Machine → List ℕ → ℕ → Result QueryAnswer NotHeld → Type 0
+Replies m key height reply = (batches : List Value) → m ≡ run m.kind batches → reply ≡ query_reply m.kind batches key height
+
+-- what is told of the blocks that led to the machine: how many they are, and the hash of what they led to
+abbrev pub TellsOfBlocks : Machine → Info → Type 0
+TellsOfBlocks m info =
+    (batches : List Value) → m ≡ run m.kind batches → (info.height ≡ length batches) × (info.hash ≡ hash_of m.kind batches)
+
+-- the reply to a query, unless memory ran out
+abbrev pub reply_of : Result QueryAnswer QueryFault → Option (Result QueryAnswer NotHeld)
+reply_of (Ok answer) = Some (Ok answer)
+reply_of (Err fault.NotHeld) = Some (Err (record {}))
+reply_of (Err fault.NoMemory) = None
+
+-- the codes of transactions in the block that began, and the machine behind them, by the transactions before
 abbrev pub DeliversAll : Machine → List (List ℕ) → List ℕ → Machine → Type 0
 DeliversAll old batch answered new =
     (txs : List (List ℕ)) → old.committed ≡ state_after old.kind txs
     → (answered ≡ codes old.kind (accepted old.kind [] txs) batch)
     × (new ≡ record old { working = Some (state_after old.kind (txs ++ batch)) })
-
--- what running a block answers and leaves, where these transactions led to the committed state
-pub record RunsBehind (txs : List (List ℕ)) (old : Machine) (batch : Value) (block : BlockResult) (new : Machine) : Type 0 where
-  pub height : block.height ≡ old.height + 1
-  pub codes_in_order : block.codes ≡ codes old.kind (accepted old.kind [] txs) batch
-  pub hash : block.hash ≡ sha256 (state_bytes new.committed)
-  pub state : new ≡ record old { committed = state_after old.kind (txs ++ batch); working = None; height = old.height + 1 }
-
--- what running a block answers and leaves
-abbrev pub RunsBlock : Machine → Value → BlockResult → Machine → Type 0
-RunsBlock old batch block new =
-    (txs : List (List ℕ)) → old.committed ≡ state_after old.kind txs → RunsBehind txs old batch block new
-
--- the same where these blocks led to the committed state: the answer is that to one block more, and so is the machine
-abbrev pub AddsBlock : Machine → Value → BlockResult → Machine → Type 0
-AddsBlock old batch block new =
-    (batches : List Value) → without_work old ≡ run old.kind batches
-    → (block ≡ block_reply old.kind batches batch) × (new ≡ run old.kind (batches ++ batch ∷ []))

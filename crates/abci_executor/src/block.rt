@@ -1,27 +1,24 @@
 //! The calls of one block: BeginBlock, DeliverTx for each transaction, EndBlock and Commit.
 ghost use Rattle.std.specs.Prelude.{◌≡◌, ◌<◌, [], Some, IfOk, OnOk, OnErr};
-ghost use Rattle.abci.specs.Meaning.{GoesOn, LosesWork};
-ghost use Rattle.abci_executor.specs.Blocks.{DeliversAll, RunsBlock, AddsBlock};
+ghost use Rattle.ledger_model.specs.Limits.{max_height};
+ghost use Rattle.abci.specs.Meaning.{GoesOn, LosesWork, without_work};
+ghost use Rattle.abci_executor.specs.Blocks.{DeliversAll, AddsBlock};
 
 use abci::Application;
 use ledger_model::{Batch, BlockResult, Codes, Height, Tx};
 use std::alloc::{AllocError, Global};
 
-/// The highest block that is run.
-pub const MAX_HEIGHT: u32 = 4096;
-
 /// Runs the next block: the calls of ABCI 0.17.0 in the order that it prescribes, and what they gave.
 ///
-/// The application's committed state is one that transactions led to, and at most 4095 blocks were run. The only error is want
-/// of memory. It leaves the committed state and the height as they were, so that the block can be run once more.
+/// Blocks led to the application's committed state, fewer than [`Height::MAX`]. An unfinished block is dropped. The only error is want
+/// of memory. It leaves the committed state and the height as they were, so that this block or another can be run.
 pub fn run_block<A: Application>(
     alloc: Global,
     app: &mut A,
     batch: &Batch,
 ) -> Result<BlockResult, AllocError>
-    requires low { (A.machine app.old).height < MAX_HEIGHT }
-    ensures ok { IfOk result (λ block. RunsBlock (A.machine app.old) batch.now block (A.machine app.new)) }
-    ensures by_blocks { IfOk result (λ block. AddsBlock (A.machine app.old) batch.now block (A.machine app.new)) }
+    requires low { (A.machine app.old).height < max_height }
+    ensures ok { IfOk result (λ block. AddsBlock (without_work (A.machine app.old)) batch.now block (A.machine app.new)) }
     ensures err { OnErr result (LosesWork (A.machine app.old) (A.machine app.new)) }
 {
     let room = Vec::with_capacity(alloc, batch.transactions().len())?;

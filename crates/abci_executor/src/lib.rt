@@ -1,11 +1,11 @@
 //! Runs blocks on an application, by ABCI's calls.
 //!
 //! [`run_block`] makes the calls of one block, and an [`Executor`] runs one block after another. What they answer and leave
-//! is said by the transactions, or by the blocks, that led to the application's committed state.
+//! is said by the blocks that led to the application's committed state.
 #![tactic(auto)]
 
 mod block;
 mod executor;
 
-pub use block::{MAX_HEIGHT, run_block};
+pub use block::run_block;
 pub use executor::Executor;

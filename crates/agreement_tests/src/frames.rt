@@ -6,7 +6,7 @@ ghost use Rattle.lock_proofs.specs.LockFrames.{IsLockFrame};
 use bytes::Bytes;
 use key_ring::KeyRing;
 use ledger_model::{Config, Statement};
-use lock_proofs::{LockFault, ValidLock, check_lock};
+use lock_proofs::{LockFault, LockFrame, check_lock};
 use signed_frames::Frame;
 use std::alloc::Global;
 use std::test::Fail;
@@ -27,7 +27,7 @@ pub(crate) fn parsed_lock(alloc: Global, bytes: &[u8]) -> Result<Frame, Fail>
     }
 }
 
-fn checked(config: &Config, ring: &KeyRing, frame: Frame) -> Result<ValidLock, LockFault>
+fn checked(config: &Config, ring: &KeyRing, frame: Frame) -> Result<LockFrame, LockFault>
     requires { IsLockFrame frame }
 {
     check_lock(config, ring, frame)
@@ -39,6 +39,6 @@ pub(crate) fn check(
     config: &Config,
     ring: &KeyRing,
     bytes: &[u8],
-) -> Result<Result<ValidLock, LockFault>, Fail> {
+) -> Result<Result<LockFrame, LockFault>, Fail> {
     Ok(checked(config, ring, parsed_lock(alloc, bytes)?))
 }

@@ -3,12 +3,12 @@
 ghost use Rattle.std.specs.Prelude.{◌≡◌, IfOk};
 
 use super::frames::parsed;
-use instance::{Instance, Making, Plan, Signing};
+use instance::{Instance, Made, Plan};
 use key_ring::KeyRing;
 use ledger_model::{AppKind, Config, Height, Ignored, ReplicaId, Report, Statement};
 use std::alloc::Global;
 use std::test::Fail;
-use test_support::{Cluster, ack_bytes, report_bytes, spelled_value, value};
+use test_support::{Cluster, ack_bytes, report_bytes, value};
 
 // A replica at height 1, and the round that is open.
 #[derive(Drop)]
@@ -26,7 +26,7 @@ impl Replica {
         if id >= 4 {
             return Err(Fail::from("no replica"));
         }
-        let own = spelled_value(alloc, b"a=1")?;
+        let own = value(alloc, b"a=1")?;
         let instance = Instance::open(alloc, &config, ReplicaId::new(id), Height::new(1), &own)?;
         Ok(Replica {
             alloc,
@@ -49,7 +49,7 @@ impl Replica {
             return Err(Fail::from("too late"));
         }
         let plan = self.instance.plan_end(self.alloc, self.clock)?;
-        self.instance.close(plan, Signing::Mute, self.clock);
+        self.instance.close(plan.ending, Made::Mute, self.clock);
         self.clock += 1;
         Ok(())
     }
@@ -58,8 +58,8 @@ impl Replica {
     fn ignores(&mut self, ring: &KeyRing, bytes: &[u8]) -> Result<Option<Ignored>, Fail> {
         let frame = parsed(self.alloc, bytes)?;
         if self.clock > 1000
-            || statements::signer(frame.statement()).number() >= 4
-            || statements::height(frame.statement()) != self.instance.height()
+            || frame.statement().signer().number() >= 4
+            || frame.statement().height() != self.instance.height()
         {
             return Err(Fail::from("no frame of the height"));
         }
@@ -231,7 +231,7 @@ fn is_on_own(alloc: Global, report: &Report) -> Result<bool, Fail> {
 
 // Whether the report of replica 2 in this phase is to be made, on [a=1] alone.
 fn makes_report(alloc: Global, plan: &Plan, phase: u32) -> Result<bool, Fail> {
-    let Making::ToSign(Statement::Report(report)) = plan.making() else {
+    let Some(Statement::Report(report)) = &plan.statement else {
         return Ok(false);
     };
     Ok(numbers(report) == (1, phase, 2, false, 1, 0) && is_on_own(alloc, report)?)
@@ -244,7 +244,7 @@ fn reports_at(alloc: Global, clock: u32, phase: u32) -> Result<bool, Fail> {
 
 fn is_idle_at(alloc: Global, clock: u32) -> Result<bool, Fail> {
     let plan = at(alloc, 2, clock)?.plan()?;
-    Ok(plan.sends_on().is_empty() && matches!(plan.making(), Making::Nothing))
+    Ok(plan.ending.sends_on().is_empty() && plan.statement.is_none())
 }
 
 // As the first round of a phase opens a replica reports; who read nothing makes nothing as the others open.
@@ -273,7 +273,7 @@ fn owner_with_reports(alloc: Global, cluster: &mut Cluster) -> Result<Replica, F
 
 // Whether the lock of phase 1 on [a=1] is to be made, with three reports.
 fn makes_lock(alloc: Global, plan: &Plan) -> Result<bool, Fail> {
-    let Making::ToSign(Statement::Lock(lock)) = plan.making() else {
+    let Some(Statement::Lock(lock)) = &plan.statement else {
         return Ok(false);
     };
     let numbers = (
@@ -304,7 +304,7 @@ fn taker(alloc: Global, cluster: &Cluster, lock: &[u8]) -> Result<Replica, Fail>
 
 // Whether replica 0 is to acknowledge the lock of phase 1 on [a=1].
 fn makes_ack(alloc: Global, plan: &Plan) -> Result<bool, Fail> {
-    let Making::ToSign(Statement::Ack(ack)) = plan.making() else {
+    let Some(Statement::Ack(ack)) = &plan.statement else {
         return Ok(false);
     };
     let numbers = (ack.height.number(), ack.phase.number(), ack.signer.number());
@@ -313,7 +313,7 @@ fn makes_ack(alloc: Global, plan: &Plan) -> Result<bool, Fail> {
 
 // Whether just this frame is sent on.
 fn sends_on(plan: &Plan, frame: &[u8]) -> bool {
-    match plan.sends_on() {
+    match plan.ending.sends_on() {
         [sent] => sent.as_slice() == frame,
         _ => false,
     }

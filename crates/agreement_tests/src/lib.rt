@@ -3,6 +3,10 @@
 #![tactic(auto)]
 
 #[cfg(test)]
+mod callers;
+#[cfg(test)]
+mod cluster_tests;
+#[cfg(test)]
 mod frames;
 #[cfg(test)]
 mod height_tests;

@@ -1,7 +1,7 @@
 //! Which locks are valid.
 
 use super::frames::{check, parsed, parsed_lock};
-use lock_proofs::{LockFault, ValidLock, is_signed};
+use lock_proofs::{LockFault, LockFrame, is_signed};
 use std::alloc::Global;
 use std::test::Fail;
 use test_support::{Cluster, lock_bytes, report_bytes};
@@ -35,7 +35,7 @@ fn with_another_last_byte(mut bytes: Vec<u8>) -> Vec<u8> {
 }
 
 // Whether the lock is on one transaction, of this owner and phase, and has the frame of these bytes.
-fn is_as_told(lock: &ValidLock, owner: u8, phase: u32, bytes: &[u8]) -> bool {
+fn is_as_told(lock: &LockFrame, owner: u8, phase: u32, bytes: &[u8]) -> bool {
     lock.frame().as_bytes() == bytes
         && lock.lock().signer.number() == owner
         && lock.phase().number() == phase
@@ -55,7 +55,7 @@ fn accepts_a_lock_with_three_reports_among_four(rt: HostRuntime) -> Result<(), F
 fn an_own_lock_is_taken_unchecked(rt: HostRuntime) -> Result<(), Fail> {
     let mut cluster = Cluster::new(rt.alloc(), 4, 1)?;
     let bytes = cluster.lock_frame(2, 2, b'a', 3)?;
-    let lock = ValidLock::of_own(parsed_lock(rt.alloc(), &bytes)?);
+    let lock = LockFrame::of_own(parsed_lock(rt.alloc(), &bytes)?);
     assert!(rt; is_as_told(&lock, 2, 2, &bytes));
     Ok(())
 }

@@ -4,13 +4,13 @@ ghost use Rattle.std.specs.Prelude.{◌≡◌};
 
 use super::frames::parsed;
 use height_row::HeightRow;
-use instance::{Making, Plan, Signing};
+use instance::{Made, Plan};
 use key_ring::KeyRing;
 use ledger_model::{AppKind, Config, Height, Ignored, ProposeRefusal, ReplicaId, Statement};
 use signed_frames::Frame;
 use std::alloc::Global;
 use std::test::Fail;
-use test_support::{Cluster, report_bytes, spelled_value};
+use test_support::{Cluster, report_bytes, value};
 
 #[derive(Drop)]
 struct Replica {
@@ -37,7 +37,7 @@ impl Replica {
         if committed > 4096 {
             return Err(Fail::from("too many are committed"));
         }
-        let own = spelled_value(self.alloc, b"a=1")?;
+        let own = value(self.alloc, b"a=1")?;
         let height = Height::new(height);
         let answer = self.row.open(self.alloc, height, &own, committed)?;
         Ok(answer.err())
@@ -56,7 +56,7 @@ impl Replica {
             return Err(Fail::from("no round ends there"));
         }
         let plan = self.row.plan_end(self.alloc, height, self.clock)?;
-        self.row.close(height, plan, Signing::Mute, self.clock);
+        self.row.close(height, plan.ending, Made::Mute, self.clock);
         Ok(())
     }
 
@@ -70,9 +70,9 @@ impl Replica {
 
     // Why the frame is ignored, if it is.
     fn ignores(&mut self, ring: &KeyRing, frame: Frame) -> Result<Option<Ignored>, Fail> {
-        let height = statements::height(frame.statement());
+        let height = frame.statement().height();
         if self.clock > 1000
-            || statements::signer(frame.statement()).number() >= 4
+            || frame.statement().signer().number() >= 4
             || self.row.get(height).is_none()
         {
             return Err(Fail::from("no frame of an open height"));
@@ -117,11 +117,30 @@ fn a_height_is_refused_by_the_first_cause(rt: HostRuntime) -> Result<(), Fail> {
     Ok(())
 }
 
+// The open heights, as they stand.
+fn open_heights(replica: &Replica) -> Result<Vec<u32>, Fail> {
+    let mut heights = Vec::new(replica.alloc);
+    for instance in replica.row.instances() {
+        heights.push(instance.height().number())?;
+    }
+    Ok(heights)
+}
+
+#[test]
+fn open_heights_ascend(rt: HostRuntime) -> Result<(), Fail> {
+    let mut replica = Replica::new(rt.alloc())?;
+    for height in [3, 1, 4, 2] {
+        assert_eq!(rt; replica.refuses(height, 0)?, None);
+    }
+    assert_eq!(rt; open_heights(&replica)?.as_slice(), [1, 2, 3, 4].as_slice());
+    Ok(())
+}
+
 // The height that is named in the report that is to be made at this height, 0 for none.
 fn reported_height(replica: &Replica, height: u32) -> Result<u32, Fail> {
     let plan = replica.plan(Height::new(height))?;
-    match plan.making() {
-        Making::ToSign(Statement::Report(report)) => Ok(report.height.number()),
+    match &plan.statement {
+        Some(Statement::Report(report)) => Ok(report.height.number()),
         _ => Ok(0),
     }
 }

@@ -2,7 +2,7 @@
 
 use super::frames::check;
 use ledger_model::Phase;
-use lock_proofs::{LockTable, TableFull, ValidLock};
+use lock_proofs::{LockFrame, LockTable, TableFull};
 use std::alloc::Global;
 use std::test::Fail;
 use test_support::Cluster;
@@ -25,10 +25,16 @@ impl Holder {
     }
 
     // A valid lock of a phase, on the value that begins with this letter.
-    fn lock(&mut self, phase: u8, letter: u8) -> Result<ValidLock, Fail> {
+    fn lock(&mut self, phase: u8, letter: u8) -> Result<LockFrame, Fail> {
         let bytes = self.cluster.lock_frame(phase, phase % 4, letter, 3)?;
         let config = self.cluster.config();
         Ok(check(self.alloc, &config, self.cluster.ring(), &bytes)??)
+    }
+
+    // Whether the table has room for the value that begins with this letter.
+    fn has_room(&mut self, letter: u8) -> Result<bool, Fail> {
+        let lock = self.lock(5, letter)?;
+        Ok(self.table.has_room_for(lock.value()))
     }
 
     fn take(&mut self, phase: u8, letter: u8) -> Result<Result<(), TableFull>, Fail> {
@@ -70,6 +76,10 @@ impl Holder {
 fn holds_four_values_and_renews_them(rt: HostRuntime) -> Result<(), Fail> {
     let mut holder = Holder::new(rt.alloc())?;
     holder.take_all(&[(1, b'c'), (2, b'a'), (3, b'd'), (4, b'b')])?;
+    assert_eq!(rt;
+        (holder.has_room(b'e')?, holder.has_room(b'b')?),
+        (false, true)
+    );
     assert_eq!(rt; holder.take(5, b'e')?, Err(TableFull));
     assert!(rt; holder.holds(&[(2, b'a'), (4, b'b'), (1, b'c'), (3, b'd')])?);
     assert_eq!(rt; holder.take(6, b'b')?, Ok(()));

@@ -16,6 +16,7 @@ use Rattle.sha2.specs.Hashers.{Holds256}
 use Rattle.sha2.specs.declared.Sha256.{Sha256}
 use Rattle.ledger_model.specs.Applications.{same_bytes, state_bytes}
 use Rattle.ledger_model.specs.Applications.AppState.{Pairs}
+use Rattle.ledger_model.specs.Limits.{max_tx_len}
 use Rattle.app_kinds.specs.Sorted.{Pair, shown, AreShort}
 
 abbrev pub Entry : Type 0
@@ -80,7 +81,7 @@ unfolding IsStrictlySortedBy
 sorted-shown [] sorted = tt
 sorted-shown (e ∷ es) sorted = (all-shown e.0 es sorted.0, sorted-shown es sorted.1)
 
-pub AreShort-insert_entry : (ps : List Pair) (k v : List ℕ) → AreShort ps → length k ≤ 64 → length v ≤ 64 → AreShort (insert_entry byte_cmp ps k v)
+pub AreShort-insert_entry : (ps : List Pair) (k v : List ℕ) → AreShort ps → length k ≤ max_tx_len → length v ≤ max_tx_len → AreShort (insert_entry byte_cmp ps k v)
 AreShort-insert_entry [] k v short kept kept' = (kept, kept', tt)
 AreShort-insert_entry (p ∷ ps) k v short key value = by (byte_cmp k p.0) (AreShort-insert_entry ps k v short.2 key value)
   where
@@ -118,7 +119,7 @@ feeds-end h all fed =
     let e : fed.so_far ≡ state_bytes (Pairs all) = sym (append-nil fed.so_far) ∙ fed.ends in
     rw (← e) fed.holds
 
-pub short-next : (left : List Entry) (e : Entry) (rest : List Entry) → left ≡ e ∷ rest → AreShort (shown left) → (length e.0.items ≤ 64) × (length e.1.items ≤ 64) × AreShort (shown rest)
+pub short-next : (left : List Entry) (e : Entry) (rest : List Entry) → left ≡ e ∷ rest → AreShort (shown left) → (length e.0.items ≤ max_tx_len) × (length e.1.items ≤ max_tx_len) × AreShort (shown rest)
 short-next left e rest is short = rw is at short
 
 pub length-shown : (es : List Entry) → length (shown es) ≡ length es

@@ -1,7 +1,6 @@
 -- What the store keeps, said of transactions.
 use Rattle.std.proofs.Common.{◌≡◌, ℕ, List, [], ◌∷◌, ◌++◌, refl, sym, ap, ◌∙◌, subst}
 use Rattle.std.specs.List.Sorted.{IsStrictlySortedBy}
-use Rattle.std.specs.Prelude.{Result, Ok, Err, OnOk}
 use Rattle.std.specs.Map.{keys_of as entry_keys, lookup}
 use Rattle.std.specs.BTreeMap.{insert_entry}
 use Rattle.ledger_model.specs.Applications.{state_of, code_after, held_at, accepted, same_bytes, key_of, value_in}
@@ -34,8 +33,3 @@ state-set txs tx ps qs e sorted is =
 pub held-stored : (done : List (List ℕ)) (ps : List Pair) (key : List ℕ) → Pairs ps ≡ state_of KvStore done → lookup (same_bytes key) ps ≡ held_at KvStore done key
 unfolding held_at
 held-stored done ps key e = ap (lookup (same_bytes key)) (pairs_of-state done ps e) ∙ lookup-stored done key
-
--- two facts of one success
-pub OnOk-both : {X Y : Type 0} (r : Result X Y) (P Q R : Type 0) → (P → Q → R) → OnOk r P → OnOk r Q → OnOk r R
-OnOk-both (Ok x) P Q R f p q = f p q
-OnOk-both (Err y) P Q R f p q = p

@@ -1,6 +1,7 @@
 -- What contracts see of the pairs of a store.
 use Rattle.std.specs.Prelude.{ℕ, ◌≤◌, List, [], ◌∷◌, length, map, Vec}
 use Rattle.std.specs.declared.alloc.Global.{Global}
+use Rattle.ledger_model.specs.Limits.{max_tx_len}
 
 abbrev pub Pair : Type 0
 Pair = List ℕ × List ℕ
@@ -9,7 +10,7 @@ Pair = List ℕ × List ℕ
 abbrev pub shown : List (Vec ℕ Global × Vec ℕ Global) → List Pair
 shown entries = map (λ e. (e.0.items, e.1.items)) entries
 
--- each key and value has at most 64 bytes
+-- each key and value is no longer than a transaction
 abbrev pub AreShort : List Pair → Type 0
 AreShort [] = Unit {0}
-AreShort (p ∷ ps) = (length p.0 ≤ 64) × (length p.1 ≤ 64) × AreShort ps
+AreShort (p ∷ ps) = (length p.0 ≤ max_tx_len) × (length p.1 ≤ max_tx_len) × AreShort ps

@@ -1,4 +1,5 @@
 //! One account of a purse.
+
 /// An account: what it holds, and how many transfers it sent.
 #[derive(Clone, Copy)]
 pub struct Account {

@@ -1,12 +1,18 @@
-//! The accounts of a purse.
-ghost use Rattle.std.specs.Prelude.{◌≡◌, length};
+//! The state of a purse: what each of its accounts holds.
+ghost use Rattle.std.specs.Prelude.{◌≡◌, ℕ, List, length, IfOk, IfErr};
 ghost use Rattle.sha2.specs.Sha256.{sha256};
-ghost use Rattle.ledger_model.specs.Applications.{state_bytes};
+ghost use Rattle.ledger_model.specs.declared.config.AppKind.TheVariants as kind;
+ghost use Rattle.ledger_model.specs.Applications.{state_of, code_after, state_bytes};
 ghost use Rattle.ledger_model.specs.Applications.AppState.{Accounts as AccountState};
-ghost use Rattle.app_kinds.specs.Purses.{shown};
+ghost use Rattle.app_kinds.specs.Codes.{code_of};
+ghost use Rattle.app_kinds.specs.Purses.{shown, IsTransferOf, CanMove};
 
 use crate::account::Account;
+use crate::kind_state::KindState;
+use crate::refusal::Refusal;
+use crate::transfer::Transfer;
 use sha2::{Digest, Sha256};
+use std::alloc::{AllocError, Global};
 use std::marker::Model;
 
 /// How many accounts there are, one for each number of a byte.
@@ -36,32 +42,8 @@ impl Model for Accounts {
 }
 
 impl Accounts {
-    ghost use Rattle.std.specs.Prelude.{◌≢◌, ◌+◌, ◌-◌, ◌<◌, ◌≤◌, ◌^◌, [], slice_set};
-    ghost use Rattle.ledger_model.specs.declared.config.AppKind.TheVariants as kind;
-    ghost use Rattle.ledger_model.specs.Applications.{state_of};
-    ghost use Rattle.app_kinds.specs.Purses.{balance_at, nonce_at, total_of};
-
-    /// Each account holds 1000.
-    pub fn new() -> Self
-        ensures { AccountState result ≡ state_of kind.Purse [] }
-    {
-        let account = Account {
-            balance: OPENING_BALANCE,
-            nonce: 0,
-        };
-        Accounts {
-            accounts: [account; ACCOUNTS],
-        }
-    }
-
-    /// The same accounts once more.
-    pub fn copy(&self) -> Self
-        ensures { result ≡ self.now }
-    {
-        Accounts {
-            accounts: self.accounts,
-        }
-    }
+    ghost use Rattle.std.specs.Prelude.{◌≢◌, ◌+◌, ◌-◌, ◌<◌, ◌≤◌, ◌^◌, slice_set};
+    ghost use Rattle.app_kinds.specs.Purses.{balance_at, nonce_at};
 
     /// The account of a number.
     pub fn account(&self, number: u8) -> Account
@@ -92,13 +74,96 @@ impl Accounts {
             nonce: receiver.nonce,
         };
     }
+}
 
-    /// The SHA-256 of the encoding: `03`, and for each account `u32 balance || u32 nonce`.
-    pub fn hash(&self) -> [u8; 32]
-        ensures { result ≡ sha256 (state_bytes (AccountState self.now)) }
-    {
+impl KindState for Accounts {
+    ghost use Rattle.ledger_model.specs.declared.config.AppKind.TheVariants as kind;
+    ghost use Rattle.ledger_model.specs.Applications.AppState.{Accounts as AccountState};
+
+    ghost of_kind = { kind.Purse };
+
+    ghost state = { AccountState };
+
+    /// Each account holds 1000.
+    fn opening(_alloc: Global) -> Self {
+        let account = Account {
+            balance: OPENING_BALANCE,
+            nonce: 0,
+        };
+        Accounts {
+            accounts: [account; ACCOUNTS],
+        }
+    }
+
+    fn copy(&self) -> Result<Self, AllocError> {
+        Ok(Accounts {
+            accounts: self.accounts,
+        })
+    }
+
+    /// Moves the amount where the transfer is accepted.
+    fn deliver(&mut self, _alloc: Global, tx: &[u8]) -> Result<u32, AllocError> {
+        match test_delivery(self, tx) {
+            Ok(transfer) => {
+                self.transfer(transfer.from, transfer.to, transfer.amount);
+                Ok(0)
+            }
+            Err(refusal) => Ok(refusal.code()),
+        }
+    }
+
+    /// Code 3 never comes, since the sender may get what it lacks.
+    fn check(&self, tx: &[u8]) -> u32 {
+        let Some(transfer) = Transfer::read(tx) else {
+            return Refusal::Misspelled.code();
+        };
+        if transfer.nonce < self.account(transfer.from).nonce {
+            return Refusal::OutOfTurn.code();
+        }
+        if transfer.from == transfer.to {
+            return Refusal::ToItself.code();
+        }
+        0
+    }
+
+    /// The account of a key of one byte: `u32 balance || u32 nonce`.
+    fn held(&self, alloc: Global, key: &[u8]) -> Result<Option<Vec<u8>>, AllocError> {
+        if key.len() != 1 {
+            return Ok(None);
+        }
+        let bytes = self.account(key[0]).to_bytes();
+        Ok(Some(Vec::from_slice(alloc, &bytes)?))
+    }
+
+    /// The encoding is `03`, and for each account `u32 balance || u32 nonce`.
+    fn hash(&self) -> [u8; 32] {
         hash_of(&self.accounts)
     }
+}
+
+/// The transfer of a transaction that is accepted.
+fn test_delivery(accounts: &Accounts, tx: &[u8]) -> Result<Transfer, Refusal>
+    ensures transfer { IfOk result (λ transfer. IsTransferOf tx.now transfer) }
+    ensures possible { IfOk result (λ transfer. CanMove accounts.now transfer) }
+    ensures passes { IfOk result (λ transfer. (done : List (List ℕ)) → AccountState accounts.now ≡ state_of kind.Purse done
+        → code_after kind.Purse done tx.now ≡ 0) }
+    ensures refused { IfErr result (λ refusal. (done : List (List ℕ)) → AccountState accounts.now ≡ state_of kind.Purse done
+        → code_after kind.Purse done tx.now ≡ code_of refusal) }
+{
+    let Some(transfer) = Transfer::read(tx) else {
+        return Err(Refusal::Misspelled);
+    };
+    let sender = accounts.account(transfer.from);
+    if transfer.nonce != sender.nonce || sender.nonce == u32::MAX {
+        return Err(Refusal::OutOfTurn);
+    }
+    if sender.balance < transfer.amount {
+        return Err(Refusal::Overdrawn);
+    }
+    if transfer.from == transfer.to {
+        return Err(Refusal::ToItself);
+    }
+    Ok(transfer)
 }
 
 /// The SHA-256 of the encoding of these accounts.

@@ -1,28 +1,29 @@
-//! The three applications of the ledger, and two wrappers round any application.
+//! The three applications of the ledger, and wrappers round any application.
 //!
 //! Each application is a state machine behind ABCI's calls: what a call answers is what the definitions of `ledger_model`
 //! say of the whole list of accepted transactions. [`KvStore`] keeps values by key, [`Counter`] accepts numbers in turn,
-//! and [`Purse`] moves amounts between accounts. [`AnyKind`] is one of them, chosen at run time. [`Counted`] counts the transactions that are delivered to another
-//! application, and [`Refusing`] lets one of them find no memory.
+//! and [`Purse`] moves amounts between accounts; each is one [`StateMachine`] over a state of its own. [`AnyKind`] is one of
+//! them, chosen at run time. [`Counted`] counts the transactions that are delivered to another application, and [`Refusing`]
+//! lets one of them find no memory.
 #![tactic(auto)]
 
 mod account;
 mod accounts;
-mod answers;
 mod any_kind;
+mod assignment;
+mod count;
 mod counted;
-mod counter;
-mod kv_store;
+mod kind_state;
+mod kinds;
 pub mod laws;
 mod pairs;
-mod purse;
 mod refusal;
 mod refusing;
+mod state_machine;
 mod transfer;
 
 pub use any_kind::AnyKind;
 pub use counted::Counted;
-pub use counter::Counter;
-pub use kv_store::KvStore;
-pub use purse::Purse;
+pub use kinds::{Counter, KvStore, Purse};
 pub use refusing::Refusing;
+pub use state_machine::StateMachine;

@@ -1,11 +1,14 @@
-//! Values by key, in the keys' order.
+//! The state of a store: values by key, in the keys' order.
 ghost use Rattle.std.specs.Prelude.{◌≡◌, ◌+◌, ◌≤◌, ℕ, List, [], ◌∷◌, ◌++◌, length};
 ghost use Rattle.sha2.specs.Hashers.{Holds256};
 ghost use Rattle.sha2.specs.Sha256.{sha256};
 ghost use Rattle.ledger_model.specs.Applications.{state_bytes};
+ghost use Rattle.ledger_model.specs.Limits.{max_tx_len};
 ghost use Rattle.ledger_model.specs.Applications.AppState.{Pairs as PairState};
 ghost use Rattle.app_kinds.specs.Sorted.{shown, AreShort};
 
+use crate::assignment::key_and_value;
+use crate::kind_state::KindState;
 use sha2::{Digest, Sha256};
 use std::alloc::{AllocError, Global};
 use std::collections::BTreeMap;
@@ -14,7 +17,7 @@ use std::marker::Model;
 /// What stands before the pairs in the bytes that are hashed.
 const PAIRS: u8 = 1;
 
-/// Values by key, each at most 64 bytes.
+/// Values by key. Both are parts of a transaction, so no longer than one.
 #[derive(Drop)]
 pub struct Pairs {
     values: BTreeMap<Vec<u8>, Vec<u8>>,
@@ -32,7 +35,7 @@ impl Model for Pairs {
 }
 
 impl Pairs {
-    ghost use Rattle.std.specs.Prelude.{OnOk, OnErr, IfOk, option_map};
+    ghost use Rattle.std.specs.Prelude.{OnOk, OnErr, option_map};
     ghost use Rattle.std.specs.Ordering.{nat_cmp};
     ghost use Rattle.std.specs.Cmp.Lexicographic.{slice_cmp};
     ghost use Rattle.std.specs.List.Sorted.{IsStrictlySortedBy};
@@ -40,28 +43,10 @@ impl Pairs {
     ghost use Rattle.std.specs.BTreeMap.{insert_entry};
     ghost use Rattle.ledger_model.specs.Applications.{same_bytes};
 
-    /// No pairs.
-    pub fn new(alloc: Global) -> Self
-        ensures { result ≡ [] }
-    {
-        Pairs {
-            values: BTreeMap::new(alloc),
-        }
-    }
-
-    /// The same pairs once more.
-    pub fn copy(&self) -> Result<Self, AllocError>
-        ensures { IfOk result (λ pairs. pairs ≡ self.now) }
-    {
-        Ok(Pairs {
-            values: self.values.clone()?,
-        })
-    }
-
     /// Sets the value of a key. Without memory the pairs are as before.
     pub fn set(&mut self, alloc: Global, key: &[u8], value: &[u8]) -> Result<(), AllocError>
-        requires key { length key.now ≤ 64 }
-        requires value { length value.now ≤ 64 }
+        requires key { length key.now ≤ max_tx_len }
+        requires value { length value.now ≤ max_tx_len }
         ensures ok { OnOk result (self.new ≡ insert_entry (slice_cmp nat_cmp) self.old key.now value.now) }
         ensures ordered { OnOk result (IsStrictlySortedBy (slice_cmp nat_cmp) (keys_of self.old)) }
         ensures err { OnErr result (self.new ≡ self.old) }
@@ -78,11 +63,51 @@ impl Pairs {
     {
         self.values.get(key)
     }
+}
 
-    /// The SHA-256 of the encoding: `01 || u64 count`, and for each pair `u8 length || key || u8 length || value`.
-    pub fn hash(&self) -> [u8; 32]
-        ensures { result ≡ sha256 (state_bytes (PairState self.now)) }
-    {
+impl KindState for Pairs {
+    ghost use Rattle.ledger_model.specs.declared.config.AppKind.TheVariants as kind;
+    ghost use Rattle.ledger_model.specs.Applications.AppState.{Pairs as PairState};
+
+    ghost of_kind = { kind.KvStore };
+
+    ghost state = { PairState };
+
+    /// No pairs.
+    fn opening(alloc: Global) -> Self {
+        Pairs {
+            values: BTreeMap::new(alloc),
+        }
+    }
+
+    fn copy(&self) -> Result<Self, AllocError> {
+        Ok(Pairs {
+            values: self.values.clone()?,
+        })
+    }
+
+    /// Sets what the transaction says. Its code is 0.
+    fn deliver(&mut self, alloc: Global, tx: &[u8]) -> Result<u32, AllocError> {
+        let (key, value) = key_and_value(tx);
+        self.set(alloc, key, value)?;
+        Ok(0)
+    }
+
+    /// No store refuses a transaction.
+    #[tactic(auto, unfolding(ledger_model::specs::Applications::check_after))]
+    fn check(&self, _tx: &[u8]) -> u32 {
+        0
+    }
+
+    fn held(&self, alloc: Global, key: &[u8]) -> Result<Option<Vec<u8>>, AllocError> {
+        match self.get(key) {
+            Some(value) => Ok(Some(Vec::from_slice(alloc, value.as_slice())?)),
+            None => Ok(None),
+        }
+    }
+
+    /// The encoding is `01 || u64 count`, and for each pair `u8 length || key || u8 length || value`.
+    fn hash(&self) -> [u8; 32] {
         hash_of(&self.values)
     }
 }
@@ -104,7 +129,7 @@ fn hash_of(values: &BTreeMap<Vec<u8>, Vec<u8>>) -> [u8; 32]
 
 /// Adds a key or a value to what is hashed, its length before it.
 fn add_piece(hasher: &mut Sha256, piece: &[u8])
-    requires { length piece.now ≤ 64 }
+    requires { length piece.now ≤ max_tx_len }
     ensures { (m : List ℕ) → Holds256 hasher.old m → Holds256 hasher.new (m ++ length piece.now ∷ piece.now) }
 {
     hasher.update([piece.len() as u8]);

@@ -1,4 +1,5 @@
 //! Why a transaction is refused, and the code that says so.
+
 /// Why an application refuses a transaction.
 #[derive(Clone, Copy)]
 pub enum Refusal {

@@ -1,4 +1,5 @@
 //! Transfers, as the transactions of a purse spell them.
+
 /// A transfer, as a transaction spells it.
 #[derive(Clone, Copy)]
 pub struct Transfer {

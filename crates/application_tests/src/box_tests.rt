@@ -5,40 +5,59 @@ use app_kinds::{Counted, Counter, KvStore, Purse};
 use ledger_model::{Height, Tx};
 use std::alloc::Global;
 use std::boxed::Box;
-use std::process::Abort;
 use std::test::Fail;
+use test_support::tx;
 
-/// Plays a block of one transaction through a box, and gives its code.
-fn play<R: Abort>(rt: &R, app: &mut Box<dyn Application + Send>, tx: &Tx) -> Result<u32, Fail> {
-    let height = app.info().height;
-    assert!(rt; height < 1000);
-    if height == 0 {
-        app.init_chain()?;
+/// An application whose type is not known.
+type AnyApp = Box<dyn Application + Send>;
+
+/// Plays a first block of one transaction through a box: its code, and whether Info then tells Commit's hash.
+fn play(app: &mut AnyApp, tx: &Tx) -> Result<(u32, bool), Fail> {
+    if app.info().height != 0 {
+        return Err(Fail::from("a block was run"));
     }
-    assert_eq!(rt; app.check_tx(tx, CheckKind::New), 0);
-    app.begin_block(Height::new(height + 1))?;
+    app.init_chain()?;
+    app.begin_block(Height::new(1))?;
     let code = app.deliver_tx(tx)?;
     app.end_block()?;
     let hash = app.commit();
-    assert_eq!(rt; app.info().hash, hash);
-    Ok(code)
+    Ok((code, app.info().hash == hash))
 }
 
-// One function plays each kind, wrapped or not.
+/// Whether a transaction is accepted, by CheckTx and in the first block. One function plays each kind, wrapped or not.
+fn accepts(alloc: Global, app: &mut AnyApp, bytes: &[u8]) -> Result<bool, Fail> {
+    let tx = tx(alloc, bytes)?;
+    let offered = app.check_tx(&tx, CheckKind::New);
+    Ok(offered == 0 && play(app, &tx)? == (0, true))
+}
+
+/// Whether it holds this under a key at height 1.
+fn holds(app: &AnyApp, key: &[u8], wanted: &[u8]) -> Result<bool, Fail> {
+    Ok(
+        app.query(key, 1)?
+            .is_some_and(|value| value.as_slice() == wanted),
+    )
+}
+
 #[test]
-fn every_kind_plays_a_block_in_a_box(rt: HostRuntime) -> Result<(), Fail> {
-    let alloc = rt.alloc();
-    let set = Tx::new(Vec::from_slice(alloc, b"a=1")?)?;
-    let mut store: Box<dyn Application + Send> = Box::new(alloc, KvStore::new(alloc))?;
-    assert_eq!(rt; play(&rt, &mut store, &set)?, 0);
-    let held = store.query(b"a", 1)?;
-    assert!(rt; held.is_some_and(|bytes| bytes.as_slice() == b"1".as_slice()));
-    let first = Tx::new(Vec::from_slice(alloc, &[0])?)?;
-    let mut counter: Box<dyn Application + Send> = Box::new(alloc, Counter::new(alloc))?;
-    assert_eq!(rt; play(&rt, &mut counter, &first)?, 0);
-    let transfer = Tx::new(Vec::from_slice(alloc, &[0, 1, 0, 0, 0, 5, 0, 0, 0, 0])?)?;
-    let mut purse: Box<dyn Application + Send> = Box::new(alloc, Counted::new(Purse::new(alloc)))?;
-    assert_eq!(rt; play(&rt, &mut purse, &transfer)?, 0);
-    assert_eq!(rt; purse.info().height, 1);
+fn a_store_plays_a_block_in_a_box(rt: HostRuntime) -> Result<(), Fail> {
+    let mut store: AnyApp = Box::new(rt.alloc(), KvStore::new(rt.alloc()))?;
+    assert!(rt; accepts(rt.alloc(), &mut store, b"a=1")?);
+    assert!(rt; holds(&store, b"a", b"1")?);
+    Ok(())
+}
+
+#[test]
+fn a_counter_plays_a_block_in_a_box(rt: HostRuntime) -> Result<(), Fail> {
+    let mut counter: AnyApp = Box::new(rt.alloc(), Counter::new(rt.alloc()))?;
+    assert!(rt; accepts(rt.alloc(), &mut counter, &[0])?);
+    Ok(())
+}
+
+#[test]
+fn a_counted_purse_plays_a_block_in_a_box(rt: HostRuntime) -> Result<(), Fail> {
+    let mut purse: AnyApp = Box::new(rt.alloc(), Counted::new(Purse::new(rt.alloc())))?;
+    assert!(rt; accepts(rt.alloc(), &mut purse, &[0, 1, 0, 0, 0, 5, 0, 0, 0, 0])?);
+    assert!(rt; purse.info().height == 1);
     Ok(())
 }

@@ -9,3 +9,7 @@ mod kind_tests;
 mod pool_tests;
 #[cfg(test)]
 mod tests;
+#[cfg(test)]
+mod trace_tests;
+#[cfg(test)]
+mod traced;

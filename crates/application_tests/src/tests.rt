@@ -1,10 +1,10 @@
 //! Blocks on the executor, and what waits for them.
 
 use abci::{Application, Info};
-use abci_executor::{Executor, MAX_HEIGHT};
+use abci_executor::Executor;
 use app_kinds::{AnyKind, Counted, Counter, KvStore, Refusing};
 use batch_pool::{Pool, SubmitFault};
-use ledger_model::{AppKind, Batch, BlockResult, Height, SubmitRefusal, Tx};
+use ledger_model::{AppKind, Batch, BlockResult, Height, SubmitRefusal};
 use std::alloc::{AllocError, Global};
 use std::hash::RandomState;
 use std::process::Abort;
@@ -36,122 +36,218 @@ const COUNT_OF_THREE: [u8; 32] = [
 ];
 
 /// Runs the next block.
-pub(crate) fn execute<R: Abort, A: Application>(
+fn execute<R: Abort, A: Application>(
     rt: &R,
     alloc: Global,
     executor: &mut Executor<A>,
     block: &Batch,
 ) -> Result<BlockResult, AllocError> {
-    let height = executor.info().height;
-    assert!(rt; height < MAX_HEIGHT);
+    let height = executor.height();
+    assert!(rt; height < Height::MAX);
     executor.execute(alloc, block)
+}
+
+/// Runs a block of these transactions, and tells whether it has this number, these codes and this hash.
+pub(crate) fn answers<R: Abort, A: Application>(
+    rt: &R,
+    alloc: Global,
+    executor: &mut Executor<A>,
+    transactions: &[&[u8]],
+    (number, codes, hash): (u32, &[u32], [u8; 32]),
+) -> Result<bool, Fail> {
+    let block = batch(alloc, transactions)?;
+    let done = execute(rt, alloc, executor, &block)?;
+    Ok(done.height.number() == number && done.codes.as_slice() == codes && done.hash == hash)
+}
+
+/// Runs a block, whose transactions the pool then takes out, and tells whether it has these codes.
+pub(crate) fn is_run<R: Abort, A: Application>(
+    rt: &R,
+    alloc: Global,
+    executor: &mut Executor<A>,
+    pool: &mut Pool,
+    block: &Batch,
+    codes: &[u32],
+) -> Result<bool, Fail> {
+    let done = execute(rt, alloc, executor, block)?;
+    pool.after_block(block, executor.app());
+    Ok(done.codes.as_slice() == codes)
+}
+
+/// Whether a pool answers this to a transaction.
+pub(crate) fn submits<A: Application>(
+    pool: &mut Pool,
+    app: &A,
+    bytes: &[u8],
+    wanted: Result<(), SubmitFault>,
+) -> bool {
+    pool.submit(bytes, app) == wanted
+}
+
+/// Whether a key has this value, told with the last block's height.
+fn holds<A: Application>(
+    executor: &Executor<A>,
+    key: &[u8],
+    last: u32,
+    wanted: &[u8],
+) -> Result<bool, Fail> {
+    let answer = executor.query(key, 0)?;
+    let value = answer.value;
+    Ok(answer.height.number() == last && value.is_some_and(|bytes| bytes.as_slice() == wanted))
+}
+
+/// Whether an executor tells this height and this hash.
+fn tells<A: Application>(executor: &Executor<A>, height: u32, hash: [u8; 32]) -> bool {
+    executor.info() == Info { height, hash }
 }
 
 #[test]
 fn an_empty_block_has_a_height_and_a_hash(rt: HostRuntime) -> Result<(), Fail> {
-    let alloc = rt.alloc();
-    let mut executor = Executor::new(KvStore::new(alloc))?;
-    let none = batch(alloc, &[])?;
-    let block = execute(&rt, alloc, &mut executor, &none)?;
-    assert_eq!(rt; block.height, Height::new(1));
-    assert!(rt; block.codes.as_slice().is_empty());
-    assert_eq!(rt; block.hash, EMPTY_STORE);
+    let mut executor = Executor::new(KvStore::new(rt.alloc()))?;
+    let wanted = (1, [].as_slice(), EMPTY_STORE);
+    assert!(rt; answers(&rt, rt.alloc(), &mut executor, &[], wanted)?);
     Ok(())
 }
 
-// The second delivery finds no memory; the block is then begun anew.
-#[test]
-fn a_block_that_found_no_memory_is_run_again(rt: HostRuntime) -> Result<(), Fail> {
-    let alloc = rt.alloc();
-    let app = Counted::new(Refusing::new(Counter::new(alloc), 2));
-    let mut executor = Executor::new(app)?;
+// Whether a block finds no memory at its second delivery, and leaves the executor as it began.
+fn finds_no_memory<R: Abort>(
+    rt: &R,
+    alloc: Global,
+    executor: &mut Executor<Counted<Refusing<Counter>>>,
+) -> Result<bool, Fail> {
     let block = batch(alloc, &[&[0], &[1], &[2]])?;
-    assert!(rt; execute(&rt, alloc, &mut executor, &block).is_err());
-    assert_eq!(rt;
-        executor.info(),
-        Info {
-            height: 0,
-            hash: COUNT_OF_ZERO
-        }
+    let failed = execute(rt, alloc, executor, &block).is_err();
+    Ok(failed && tells(executor, 0, COUNT_OF_ZERO) && executor.app().delivered() == 2)
+}
+
+// Another block, which names the same numbers, is then run from the same state.
+#[test]
+fn after_a_block_that_found_no_memory_another_is_run(rt: HostRuntime) -> Result<(), Fail> {
+    let alloc = rt.alloc();
+    let mut executor = Executor::new(Counted::new(Refusing::new(Counter::new(alloc), 2)))?;
+    assert!(rt; finds_no_memory(&rt, alloc, &mut executor)?);
+    let wanted = (1, [0, 0, 0].as_slice(), COUNT_OF_THREE);
+    assert!(rt;
+        answers(
+            &rt,
+            alloc,
+            &mut executor,
+            &[&[0, 0], &[0, 1], &[0, 2]],
+            wanted
+        )?
     );
-    assert_eq!(rt; executor.app().delivered(), 2);
-    let done = execute(&rt, alloc, &mut executor, &block)?;
-    assert_eq!(rt; done.height, Height::new(1));
-    assert_eq!(rt; done.codes.as_slice(), [0, 0, 0].as_slice());
-    assert_eq!(rt; done.hash, COUNT_OF_THREE);
-    assert_eq!(rt; executor.app().delivered(), 5);
-    let count = executor.query(b"count", 1)?;
-    assert!(rt; count.is_some_and(|bytes| bytes.as_slice() == [0, 0, 0, 0, 0, 0, 0, 3].as_slice()));
+    assert!(rt; executor.app().delivered() == 5);
+    assert!(rt; holds(&executor, b"count", 1, &[0, 0, 0, 0, 0, 0, 0, 3])?);
     Ok(())
 }
 
-// Two transactions name the number 0: the block has one, and the other is refused then.
+// Whether a pool takes two transactions that name the number 0, and none of nine bytes.
+fn takes_two<A: Application>(pool: &mut Pool, app: &A) -> bool {
+    let rejected = Err(SubmitFault::Refused(SubmitRefusal::Rejected(1)));
+    submits(pool, app, &[0], Ok(()))
+        && submits(pool, app, &[0, 0], Ok(()))
+        && submits(pool, app, &[0; 9], rejected)
+        && pool.len() == 2
+}
+
+// Whether a block with one of the two leaves none: the other is refused then.
+fn drops_the_other<R: Abort>(
+    rt: &R,
+    alloc: Global,
+    executor: &mut Executor<Counter>,
+    pool: &mut Pool,
+) -> Result<bool, Fail> {
+    let two = takes_two(pool, executor.app());
+    let block = batch(alloc, &[&[0]])?;
+    Ok(two && is_run(rt, alloc, executor, pool, &block, &[0])? && pool.is_empty())
+}
+
 #[test]
 fn a_recheck_drops_what_came_too_late(rt: HostRuntime) -> Result<(), Fail> {
-    let alloc = rt.alloc();
-    let mut executor = Executor::new(Counter::new(alloc))?;
-    let mut pool = Pool::new(alloc, RandomState::new(&rt)?);
-    pool.submit(&[0], executor.app())?;
-    pool.submit(&[0, 0], executor.app())?;
-    let long = pool.submit(&[0; 9], executor.app());
-    assert_eq!(rt; long, Err(SubmitFault::Refused(SubmitRefusal::Rejected(1))));
-    assert_eq!(rt; pool.len(), 2);
-    let block = batch(alloc, &[&[0]])?;
-    let done = execute(&rt, alloc, &mut executor, &block)?;
-    assert_eq!(rt; done.codes.as_slice(), [0].as_slice());
-    pool.after_block(&block, executor.app());
-    assert!(rt; pool.is_empty());
+    let mut pool = Pool::new(rt.alloc(), RandomState::new(&rt)?);
+    let mut executor = Executor::new(Counter::new(rt.alloc()))?;
+    assert!(rt; drops_the_other(&rt, rt.alloc(), &mut executor, &mut pool)?);
     Ok(())
+}
+
+// Runs what a pool of one transaction proposes, and tells whether that transaction waited until then and not longer.
+fn is_proposed_and_run<R: Abort, A: Application>(
+    rt: &R,
+    alloc: Global,
+    executor: &mut Executor<A>,
+    pool: &mut Pool,
+) -> Result<bool, Fail> {
+    let block = pool.reap()?;
+    let waiting = pool.len();
+    let done = is_run(rt, alloc, executor, pool, &block, &[0])?;
+    Ok(done && block.transactions().len() == 1 && waiting == 1 && pool.is_empty())
+}
+
+// Whether a transaction that is submitted comes into the next block.
+fn comes_into_the_next_block<R: Abort>(
+    rt: &R,
+    alloc: Global,
+    executor: &mut Executor<KvStore>,
+    random: RandomState,
+) -> Result<bool, Fail> {
+    let mut pool = Pool::new(alloc, random);
+    let taken = submits(&mut pool, executor.app(), b"a=1", Ok(()));
+    Ok(is_proposed_and_run(rt, alloc, executor, &mut pool)? && taken)
 }
 
 #[test]
 fn what_waits_is_proposed_run_and_taken_out(rt: HostRuntime) -> Result<(), Fail> {
-    let alloc = rt.alloc();
-    let mut executor = Executor::new(KvStore::new(alloc))?;
-    let mut pool = Pool::new(alloc, RandomState::new(&rt)?);
-    pool.submit(b"a=1", executor.app())?;
-    let block = pool.reap(alloc)?;
-    assert_eq!(rt; block.transactions().len(), 1);
-    assert_eq!(rt; pool.len(), 1);
-    let done = execute(&rt, alloc, &mut executor, &block)?;
-    assert_eq!(rt; done.codes.as_slice(), [0].as_slice());
-    assert_eq!(rt;
-        executor.info(),
-        Info {
-            height: 1,
-            hash: ONE_PAIR
-        }
-    );
-    pool.after_block(&block, executor.app());
-    assert!(rt; pool.is_empty());
-    let value = executor.query(b"a", 0)?;
-    assert!(rt; value.is_some_and(|bytes| bytes.as_slice() == b"1".as_slice()));
+    let random = RandomState::new(&rt)?;
+    let mut executor = Executor::new(KvStore::new(rt.alloc()))?;
+    assert!(rt; comes_into_the_next_block(&rt, rt.alloc(), &mut executor, random)?);
+    assert!(rt; tells(&executor, 1, ONE_PAIR));
+    assert!(rt; holds(&executor, b"a", 1, b"1")?);
     Ok(())
+}
+
+// Whether an application accepts a transaction in its next block.
+fn accepts<R: Abort, A: Application>(
+    rt: &R,
+    alloc: Global,
+    executor: &mut Executor<A>,
+    tx: &[u8],
+) -> Result<bool, Fail> {
+    let block = batch(alloc, &[tx])?;
+    Ok(execute(rt, alloc, executor, &block)?.codes.as_slice() == [0].as_slice())
+}
+
+// Whether an application of a kind begins at height 0, accepts a transaction in its first block, and then holds this.
+fn is_played<R: Abort>(
+    rt: &R,
+    alloc: Global,
+    kind: AppKind,
+    tx: &[u8],
+    (key, held): (&[u8], &[u8]),
+) -> Result<bool, Fail> {
+    let mut executor = Executor::new(AnyKind::new(alloc, kind))?;
+    let is_new = executor.height() == 0;
+    let accepted = accepts(rt, alloc, &mut executor, tx)?;
+    Ok(is_new && accepted && executor.height() == 1 && holds(&executor, key, 1, held)?)
 }
 
 // Each kind, chosen at run time, runs a block of its own: its code, its height, and what it then holds.
 #[test]
 fn a_kind_is_chosen_at_run_time(rt: HostRuntime) -> Result<(), Fail> {
-    let alloc = rt.alloc();
-    let kinds: [(AppKind, &[u8], &[u8], &[u8]); 3] = [
-        (AppKind::KvStore, b"a=1", b"a", b"1"),
-        (AppKind::Counter, &[0], b"count", &[0, 0, 0, 0, 0, 0, 0, 1]),
+    let kinds: [(AppKind, &[u8], (&[u8], &[u8])); 3] = [
+        (AppKind::KvStore, b"a=1", (b"a", b"1")),
+        (
+            AppKind::Counter,
+            &[0],
+            (b"count", &[0, 0, 0, 0, 0, 0, 0, 1]),
+        ),
         (
             AppKind::Purse,
             &[0, 1, 0, 0, 0, 5, 0, 0, 0, 0],
-            &[0],
-            &[0, 0, 3, 227, 0, 0, 0, 1],
+            (&[0], &[0, 0, 3, 227, 0, 0, 0, 1]),
         ),
     ];
-    for (kind, tx, key, held) in kinds {
-        let mut executor = Executor::new(AnyKind::new(alloc, kind))?;
-        assert_eq!(rt; executor.height(), 0);
-        let block = batch(alloc, &[tx])?;
-        let done = execute(&rt, alloc, &mut executor, &block)?;
-        assert_eq!(rt; done.codes.as_slice(), [0].as_slice());
-        assert_eq!(rt; executor.height(), 1);
-        let found = executor.query(key, 1)?;
-        assert!(rt; found.is_some_and(|bytes| bytes.as_slice() == held));
+    for (kind, tx, held) in kinds {
+        assert!(rt; is_played(&rt, rt.alloc(), kind, tx, held)?);
     }
     Ok(())
 }

@@ -1,1 +1,3 @@
-pub mod ByBlocks
+pub mod Checked
+pub mod Entries
+pub mod Refusals

@@ -1,13 +1,16 @@
 //! The pool: the transactions that wait for a block, in the order in which they came.
-ghost use Rattle.std.specs.Prelude.{◌≡◌, ◌<◌, ◌≤◌, ◌==◌, ◌↔◌, false, nat_lt, [], ◌∷◌, ◌++◌, length, take, IfOk, OnOk, IfSome, is_ok, if◌then◌else◌};
-ghost use Rattle.ledger_model.specs.Commits.{is_among};
+ghost use Rattle.std.specs.Prelude.{◌≡◌, ◌<◌, ◌≤◌, ◌==◌, false, not, [], ◌∷◌, ◌++◌, length, take, IfOk, OnOk, IfSome, is_ok, if◌then◌else◌};
+ghost use Rattle.std.specs.Map.Iter.{ShowsInOrder, deref};
+ghost use Rattle.ledger_model.specs.declared.batch.Tx.{Tx as TxValue};
+ghost use Rattle.ledger_model.specs.Limits.{max_tx_len, max_batch_len, max_pool_len};
+ghost use Rattle.ledger_model.specs.Pools.{is_among, first_fault, own_refusals};
 ghost use Rattle.batch_pool.specs.Distinct.{NoneTwice};
-ghost use Rattle.batch_pool.specs.Pools.{RefusesFirst, SubmitsTo, SubmitsAfter, LeavesWaiting, LeavesAfter, StaysBy, answer_of, without_tx, length_answer};
+ghost use Rattle.batch_pool.specs.Pools.{Answers, Leaves, StaysBy, answer_of, own_part};
 
 use crate::SubmitFault;
-use crate::waiting::Waiting;
 use abci::{Application, CheckKind};
-use indexmap::IndexSet;
+use indexmap::IndexMap;
+use indexmap::map::Values;
 use ledger_model::{Batch, SubmitRefusal, Tx};
 use std::alloc::{AllocError, Global};
 use std::hash::RandomState;
@@ -16,7 +19,8 @@ use std::marker::Model;
 /// The transactions that wait for a block, in the order in which they came.
 #[derive(Drop)]
 pub struct Pool {
-    waiting: IndexSet<Waiting, RandomState>,
+    /// Each transaction under its bytes, by which it is found without taking memory.
+    waiting: IndexMap<Vec<u8>, Tx, RandomState>,
 }
 
 impl Model for Pool {
@@ -24,30 +28,29 @@ impl Model for Pool {
 
     ghost Value = { List (List ℕ) };
 
-    ghost use Rattle.batch_pool.specs.Distinct.{NoneTwice};
+    ghost use Rattle.indexmap.specs.IndexMap.{values};
+    ghost use Rattle.ledger_model.specs.Limits.{max_pool_len};
+    ghost use Rattle.batch_pool.specs.Keyed.{AreKeyed};
 
-    ghost view = { λ p. p.waiting.keys };
+    ghost view = { λ p. values p.waiting };
 
-    ghost invariant = { λ p. (length p.waiting.keys ≤ 1024) × NoneTwice p.waiting.keys };
+    ghost invariant = { λ p. (length p.waiting.entries ≤ max_pool_len) × AreKeyed p.waiting.entries };
 }
 
 impl Pool {
-    /// The most transactions that wait.
-    pub const MAX_LEN: usize = 1024;
-
     /// An empty pool, which allocates nothing yet. Its hashes have these random keys.
     pub fn new(alloc: Global, random: RandomState) -> Self
         ensures { result ≡ [] }
     {
         Pool {
-            waiting: IndexSet::with_hasher(alloc, random),
+            waiting: IndexMap::with_hasher(alloc, random),
         }
     }
 
     /// How many transactions wait: at most 1024, and none of them twice.
     pub fn len(&self) -> usize
         ensures len { result ≡ length self.now }
-        ensures bounded { length self.now ≤ Self.MAX_LEN }
+        ensures bounded { length self.now ≤ max_pool_len }
         ensures distinct { NoneTwice self.now }
     {
         self.waiting.len()
@@ -60,58 +63,70 @@ impl Pool {
         self.waiting.is_empty()
     }
 
+    /// The transactions, in the order in which they came.
+    pub fn transactions(&self) -> Values<'_, Vec<u8>, Tx>
+        ensures all { result ≡ self.now }
+        ensures in_order { ShowsInOrder (deref {X = TxValue}) }
+    {
+        self.waiting.values()
+    }
+
     /// Takes in a transaction, as the last one.
     ///
-    /// The refusals are tested in the order of `SubmitRefusal`; `Rejected` has the code of CheckTx. `NoMemory` may come in place
-    /// of what comes after `TooLong`. At each fault the pool stays as it was.
+    /// The refusals are tested in the order of `SubmitRefusal`; `Rejected` has the code of CheckTx. The pool's own come whatever
+    /// memory there is, and `NoMemory` only where none of them fits. At each fault the pool stays as it was.
     pub fn submit<A: Application>(&mut self, bytes: &[u8], app: &A) -> Result<(), SubmitFault>
-        ensures empty { (result ≡ Err (SubmitFault.Refused SubmitRefusal.Empty)) ↔ (length bytes.now ≡ 0) }
-        ensures too_long { (result ≡ Err (SubmitFault.Refused SubmitRefusal.TooLong)) ↔ (Tx.MAX_LEN < length bytes.now) }
-        ensures own { IfSome (answer_of result) (RefusesFirst self.old bytes.now) }
-        ensures answer { IfSome (answer_of result) (SubmitsTo (A.machine app.now) self.old bytes.now) }
-        ensures by_blocks { IfSome (answer_of result) (SubmitsAfter (A.machine app.now) self.old bytes.now) }
+        ensures own { own_part result ≡ first_fault (own_refusals self.old bytes.now) tt }
+        ensures answer { IfSome (answer_of result) (Answers (A.machine app.now) self.old bytes.now) }
         ensures pool { self.new ≡ (if is_ok result then self.old ++ bytes.now ∷ [] else self.old) }
     {
-        let admitted = self.admit(bytes, app)?;
-        match self.waiting.insert(admitted) {
+        if let Err(refusal) = self.own_refusal(bytes) {
+            return Err(SubmitFault::Refused(refusal));
+        }
+        let alloc = *self.waiting.allocator();
+        let tx = transaction(alloc, bytes)?;
+        let code = app.check_tx(&tx, CheckKind::New);
+        if code != 0 {
+            return Err(SubmitFault::Refused(SubmitRefusal::Rejected(code)));
+        }
+        let key = Vec::from_slice(alloc, bytes)?;
+        match self.waiting.insert(key, tx) {
             Ok(_) => Ok(()),
             Err(_) => Err(SubmitFault::NoMemory),
         }
     }
 
-    /// The transaction that the bytes are, if it is to be taken in.
-    fn admit<A: Application>(&self, bytes: &[u8], app: &A) -> Result<Waiting, SubmitFault>
-        ensures empty { (without_tx result ≡ Err (SubmitFault.Refused SubmitRefusal.Empty)) ↔ (length bytes.now ≡ 0) }
-        ensures too_long { (without_tx result ≡ Err (SubmitFault.Refused SubmitRefusal.TooLong)) ↔ (Tx.MAX_LEN < length bytes.now) }
-        ensures own { IfSome (answer_of (without_tx result)) (RefusesFirst self.now bytes.now) }
-        ensures answer { IfSome (answer_of (without_tx result)) (SubmitsTo (A.machine app.now) self.now bytes.now) }
-        ensures tx { IfOk result (λ tx. tx ≡ bytes.now) }
-        ensures fresh { IfOk result (λ tx. is_among self.now tx ≡ false) }
-        ensures room { IfOk result (λ _. length self.now < Self.MAX_LEN) }
+    /// The first of the pool's own refusals that fits the bytes. It takes no memory.
+    fn own_refusal(&self, bytes: &[u8]) -> Result<(), SubmitRefusal>
+        ensures first { result ≡ first_fault (own_refusals self.now bytes.now) tt }
+        ensures some { OnOk result (1 ≤ length bytes.now) }
+        ensures short { OnOk result (length bytes.now ≤ max_tx_len) }
+        ensures fresh { OnOk result (is_among self.now bytes.now ≡ false) }
+        ensures room { OnOk result (length self.now < max_pool_len) }
     {
-        let candidate = Waiting::new(transaction(*self.waiting.allocator(), bytes)?);
-        if self.waiting.contains(&candidate) {
-            return Err(SubmitFault::Refused(SubmitRefusal::Duplicate));
+        if bytes.is_empty() {
+            return Err(SubmitRefusal::Empty);
         }
-        if self.waiting.len() >= Self::MAX_LEN {
-            return Err(SubmitFault::Refused(SubmitRefusal::Full));
+        if bytes.len() > Tx::MAX_LEN {
+            return Err(SubmitRefusal::TooLong);
         }
-        let code = app.check_tx(candidate.tx(), CheckKind::New);
-        if code != 0 {
-            return Err(SubmitFault::Refused(SubmitRefusal::Rejected(code)));
+        if self.waiting.contains_key(bytes) {
+            return Err(SubmitRefusal::Duplicate);
         }
-        Ok(candidate)
+        if self.len() >= Tx::MAX_WAITING {
+            return Err(SubmitRefusal::Full);
+        }
+        Ok(())
     }
 
     /// The first 16 transactions, or all of fewer. They stay in the pool.
-    pub fn reap(&self, alloc: Global) -> Result<Batch, AllocError>
-        ensures { IfOk result (λ batch. batch ≡ take 16 self.now) }
+    pub fn reap(&self) -> Result<Batch, AllocError>
+        ensures { IfOk result (λ batch. batch ≡ take max_batch_len self.now) }
     {
-        let waiting = self.waiting.as_slice();
-        let count = waiting.len().min(Batch::MAX_LEN);
-        let mut transactions = Vec::with_capacity(alloc, count)?;
-        for held in &waiting[..count] {
-            transactions.push(held.tx().copy()?)?;
+        let count = self.len().min(Batch::MAX_LEN);
+        let mut transactions = Vec::with_capacity(*self.waiting.allocator(), count)?;
+        for index in 0..count {
+            transactions.push(self.waiting[index].copy()?)?;
         }
         match Batch::new(transactions) {
             Ok(batch) => Ok(batch),
@@ -123,29 +138,27 @@ impl Pool {
     ///
     /// It takes no memory.
     pub fn after_block<A: Application>(&mut self, block: &Batch, app: &A)
-        ensures left { LeavesWaiting (A.machine app.now) block.now self.old self.new }
-        ensures by_blocks { LeavesAfter (A.machine app.now) block.now self.old self.new }
+        ensures { Leaves (A.machine app.now) block.now self.old self.new }
     {
-        self.waiting.retain(|held| !is_in(block, held.tx()));
-        self.waiting.retain(|held| stays(held, app));
+        self.waiting.retain(
+            |_key: &Vec<u8>, tx: &mut Tx| -> bool
+                ensures { (result ≡ not (is_among block.entry.now tx.old)) × (tx.new ≡ tx.old) }
+            { !is_in(block, tx) },
+        );
+        self.waiting.retain(
+            |_key: &Vec<u8>, tx: &mut Tx| -> bool
+                ensures { StaysBy (A.machine app.entry.now) tx.old result × (tx.new ≡ tx.old) }
+            { stays(tx, app) },
+        );
     }
 }
 
-/// The transaction that the bytes are.
-fn transaction(alloc: Global, bytes: &[u8]) -> Result<Tx, SubmitFault>
-    ensures answer { IfSome (answer_of (without_tx result)) (λ answer. answer ≡ length_answer bytes.now) }
-    ensures tx { IfOk result (λ tx. tx ≡ bytes.now) }
-    ensures empty { (without_tx result ≡ Err (SubmitFault.Refused SubmitRefusal.Empty)) ↔ (length bytes.now ≡ 0) }
-    ensures too_long { (without_tx result ≡ Err (SubmitFault.Refused SubmitRefusal.TooLong)) ↔ (Tx.MAX_LEN < length bytes.now) }
-    ensures some { OnOk result ((length bytes.now == 0) ≡ false) }
-    ensures short { OnOk result (nat_lt 64 (length bytes.now) ≡ false) }
+/// The transaction of 1 to 64 bytes.
+fn transaction(alloc: Global, bytes: &[u8]) -> Result<Tx, AllocError>
+    requires some { 1 ≤ length bytes.now }
+    requires short { length bytes.now ≤ max_tx_len }
+    ensures { IfOk result (λ tx. tx ≡ bytes.now) }
 {
-    if bytes.is_empty() {
-        return Err(SubmitFault::Refused(SubmitRefusal::Empty));
-    }
-    if bytes.len() > Tx::MAX_LEN {
-        return Err(SubmitFault::Refused(SubmitRefusal::TooLong));
-    }
     match Tx::new(Vec::from_slice(alloc, bytes)?) {
         Ok(tx) => Ok(tx),
         Err(_) => unreachable!(),
@@ -160,8 +173,8 @@ fn is_in(block: &Batch, tx: &Tx) -> bool
 }
 
 /// Whether the application accepts a transaction still.
-fn stays<A: Application>(held: &Waiting, app: &A) -> bool
-    ensures { StaysBy (A.machine app.now) held.now result }
+fn stays<A: Application>(tx: &Tx, app: &A) -> bool
+    ensures { StaysBy (A.machine app.now) tx.now result }
 {
-    app.check_tx(held.tx(), CheckKind::Recheck) == 0
+    app.check_tx(tx, CheckKind::Recheck) == 0
 }

@@ -6,43 +6,61 @@ use std::test::Fail;
 // the first bytes of a report: its kind, its height, and a signature's length
 const BYTES: [u8; 7] = [1, 0, 0, 0x24, 0xf1, 0x09, 0x2c];
 
-#[test]
-fn reads_from_the_front(rt: HostRuntime) -> Result<(), Fail> {
-    let mut cursor = Cursor::new(&BYTES);
-    assert_eq!(rt; cursor.len(), 7);
-    assert!(rt; !cursor.is_empty());
-    assert_eq!(rt; cursor.take_u8()?, 1);
-    assert_eq!(rt; cursor.take_u32()?, 9457);
-    assert_eq!(rt; cursor.rest(), [9u8, 44].as_slice());
-    assert!(rt; cursor.take_u32().is_err());
-    assert_eq!(rt; cursor.take_u16()?, 2348);
-    assert!(rt; cursor.is_empty());
-    assert!(rt; cursor.take_u8().is_err());
-    assert!(rt; cursor.take_u16().is_err());
-    Ok(())
+fn is_u8(cursor: &mut Cursor<'_>, wanted: Option<u8>) -> bool {
+    cursor.take_u8().ok() == wanted
+}
+
+fn is_u16(cursor: &mut Cursor<'_>, wanted: Option<u16>) -> bool {
+    cursor.take_u16().ok() == wanted
+}
+
+fn is_u32(cursor: &mut Cursor<'_>, wanted: Option<u32>) -> bool {
+    cursor.take_u32().ok() == wanted
+}
+
+fn are_bytes(cursor: &mut Cursor<'_>, count: usize, wanted: Option<&[u8]>) -> bool {
+    cursor.take_bytes(count).ok() == wanted
+}
+
+fn has_rest(cursor: &Cursor<'_>, wanted: &[u8]) -> bool {
+    cursor.rest() == wanted
+        && cursor.len() == wanted.len()
+        && cursor.is_empty() == wanted.is_empty()
 }
 
 #[test]
-fn takes_some_bytes(rt: HostRuntime) -> Result<(), Fail> {
+fn reads_from_the_front(rt: HostRuntime) {
     let mut cursor = Cursor::new(&BYTES);
-    assert_eq!(rt; cursor.take_bytes(3)?, [1u8, 0, 0].as_slice());
-    assert!(rt; cursor.take_bytes(5).is_err());
-    assert_eq!(rt;
-        cursor.take_bytes(4)?,
-        [0x24u8, 0xf1, 0x09, 0x2c].as_slice()
-    );
-    assert_eq!(rt; cursor.take_bytes(0)?, [].as_slice());
+    assert!(rt; has_rest(&cursor, &BYTES));
+    assert!(rt; is_u8(&mut cursor, Some(1)) && is_u32(&mut cursor, Some(9457)));
+    assert!(rt; is_u32(&mut cursor, None) && has_rest(&cursor, &[9, 44]));
+    assert!(rt; is_u16(&mut cursor, Some(2348)) && has_rest(&cursor, &[]));
+    assert!(rt; is_u8(&mut cursor, None) && is_u16(&mut cursor, None));
+}
+
+#[test]
+fn takes_some_bytes(rt: HostRuntime) {
+    let mut cursor = Cursor::new(&BYTES);
+    assert!(rt; are_bytes(&mut cursor, 3, Some(&[1, 0, 0])));
+    assert!(rt; are_bytes(&mut cursor, 5, None));
+    assert!(rt; are_bytes(&mut cursor, 4, Some(&[0x24, 0xf1, 0x09, 0x2c])));
+    assert!(rt; are_bytes(&mut cursor, 0, Some(&[])));
+}
+
+// The first bytes of the report.
+fn put_numbers(out: &mut Vec<u8>) -> Result<(), Fail> {
+    put_u8(out, 1)?;
+    put_u32(out, 9457)?;
+    put_u16(out, 2348)?;
     Ok(())
 }
 
 #[test]
 fn puts_at_the_end(rt: HostRuntime) -> Result<(), Fail> {
     let mut out = Vec::new(rt.alloc());
-    put_u8(&mut out, 1)?;
-    put_u32(&mut out, 9457)?;
-    put_u16(&mut out, 2348)?;
-    assert_eq!(rt; out.as_slice(), BYTES.as_slice());
+    put_numbers(&mut out)?;
+    assert!(rt; out.as_slice() == BYTES.as_slice());
     put_bytes(&mut out, b"ab")?;
-    assert_eq!(rt; out.len(), 9);
+    assert!(rt; out.len() == 9);
     Ok(())
 }

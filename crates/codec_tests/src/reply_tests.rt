@@ -60,8 +60,8 @@ fn are_alike(event: &Event, other: &Event) -> bool {
     }
 }
 
-fn is_copied(event: &Event) -> Result<bool, Fail> {
-    Ok(are_alike(&event.copy()?, event))
+fn is_copied(event: Event) -> Result<bool, Fail> {
+    Ok(are_alike(&event.copy()?, &event))
 }
 
 fn query(alloc: Global) -> Result<Event, Fail> {
@@ -70,61 +70,74 @@ fn query(alloc: Global) -> Result<Event, Fail> {
 }
 
 #[test]
-fn events_are_copied(rt: HostRuntime) -> Result<(), Fail> {
+fn events_with_bytes_are_copied(rt: HostRuntime) -> Result<(), Fail> {
     let alloc = rt.alloc();
-    assert!(rt; is_copied(&Event::Submit(bytes_of(alloc, b"a=1")?))?);
-    assert!(rt; is_copied(&Event::Deliver(bytes_of(alloc, b"f")?))?);
-    assert!(rt; is_copied(&query(alloc)?)?);
-    for event in [
-        Event::Propose(Height::new(3)),
-        Event::RoundEnd,
-        Event::Execute,
-    ] {
-        assert!(rt; is_copied(&event)?);
-    }
+    assert!(rt; is_copied(Event::Submit(bytes_of(alloc, b"a=1")?))?);
+    assert!(rt; is_copied(Event::Deliver(bytes_of(alloc, b"f")?))?);
+    assert!(rt; is_copied(query(alloc)?)?);
     Ok(())
 }
 
-fn is_submitted(reply: &Reply, refusal: SubmitRefusal) -> bool {
-    matches!(reply, Reply::Submitted(Err(given)) if *given == refusal)
+#[test]
+fn events_without_bytes_are_copied(rt: HostRuntime) -> Result<(), Fail> {
+    assert!(rt; is_copied(Event::Propose(Height::new(3)))?);
+    assert!(rt; is_copied(Event::RoundEnd)?);
+    assert!(rt; is_copied(Event::Execute)?);
+    Ok(())
 }
 
-fn is_proposed(reply: &Reply, refusal: ProposeRefusal) -> bool {
-    matches!(reply, Reply::Proposed(Err(given)) if *given == refusal)
+// Whether two replies are one refusal.
+fn are_one_refusal(reply: &Reply, other: &Reply) -> bool {
+    match (reply, other) {
+        (Reply::Submitted(Err(one)), Reply::Submitted(Err(two))) => one == two,
+        (Reply::Proposed(Err(one)), Reply::Proposed(Err(two))) => one == two,
+        (Reply::Delivered(Err(one)), Reply::Delivered(Err(two))) => one == two,
+        (Reply::RoundEnded(Err(LastRound)), Reply::RoundEnded(Err(LastRound)))
+        | (Reply::Executed(Err(NothingDecided)), Reply::Executed(Err(NothingDecided)))
+        | (Reply::Queried(Err(NotHeld)), Reply::Queried(Err(NotHeld))) => true,
+        _ => false,
+    }
 }
 
-fn is_ignored(reply: &Reply, cause: Ignored) -> bool {
-    matches!(reply, Reply::Delivered(Err(given)) if *given == cause)
+fn refusal_is_copied(reply: Reply) -> Result<bool, Fail> {
+    Ok(are_one_refusal(&reply.copy()?, &reply))
 }
 
 #[test]
 fn refusals_are_copied(rt: HostRuntime) -> Result<(), Fail> {
-    let rejected = SubmitRefusal::Rejected(2);
-    assert!(rt; is_submitted(&Reply::Submitted(Err(rejected)).copy()?, rejected));
-    let too_far = ProposeRefusal::TooFar;
-    assert!(rt; is_proposed(&Reply::Proposed(Err(too_far)).copy()?, too_far));
-    let repeated = Ignored::Repeated;
-    assert!(rt; is_ignored(&Reply::Delivered(Err(repeated)).copy()?, repeated));
+    assert!(rt; refusal_is_copied(Reply::Submitted(Err(SubmitRefusal::Rejected(2))))?);
+    assert!(rt; refusal_is_copied(Reply::Proposed(Err(ProposeRefusal::TooFar)))?);
+    assert!(rt; refusal_is_copied(Reply::Delivered(Err(Ignored::Repeated)))?);
     Ok(())
 }
 
 #[test]
 fn want_of_something_is_copied(rt: HostRuntime) -> Result<(), Fail> {
-    let ended = Reply::RoundEnded(Err(LastRound));
-    assert!(rt; matches!(&ended.copy()?, Reply::RoundEnded(Err(LastRound))));
-    let executed = Reply::Executed(Err(NothingDecided));
-    assert!(rt; matches!(&executed.copy()?, Reply::Executed(Err(NothingDecided))));
-    let queried = Reply::Queried(Err(NotHeld));
-    assert!(rt; matches!(&queried.copy()?, Reply::Queried(Err(NotHeld))));
+    assert!(rt; refusal_is_copied(Reply::RoundEnded(Err(LastRound)))?);
+    assert!(rt; refusal_is_copied(Reply::Executed(Err(NothingDecided)))?);
+    assert!(rt; refusal_is_copied(Reply::Queried(Err(NotHeld)))?);
     Ok(())
 }
 
-// Whether the proposal of `[a=1]` is copied.
-fn proposal_is_copied(alloc: Global) -> Result<bool, Fail> {
-    match Reply::Proposed(Ok(value(alloc, b"a=1")?)).copy()? {
-        Reply::Proposed(Ok(batch)) => Ok(batch == value(alloc, b"a=1")?),
+fn proposed(alloc: Global) -> Result<Reply, Fail> {
+    Ok(Reply::Proposed(Ok(value(alloc, b"a=1")?)))
+}
+
+// The copy of a reply.
+fn copied(reply: Reply) -> Result<Reply, Fail> {
+    Ok(reply.copy()?)
+}
+
+// Whether this is the proposal of `[a=1]`.
+fn is_proposal(alloc: Global, reply: &Reply) -> Result<bool, Fail> {
+    match reply {
+        Reply::Proposed(Ok(batch)) => Ok(*batch == value(alloc, b"a=1")?),
         _ => Ok(false),
     }
+}
+
+fn proposal_is_copied(alloc: Global) -> Result<bool, Fail> {
+    is_proposal(alloc, &copied(proposed(alloc)?)?)
 }
 
 fn ended(alloc: Global) -> Result<Reply, Fail> {
@@ -134,11 +147,15 @@ fn ended(alloc: Global) -> Result<Reply, Fail> {
     })))
 }
 
-fn end_is_copied(alloc: Global) -> Result<bool, Fail> {
-    match ended(alloc)?.copy()? {
-        Reply::RoundEnded(Ok(end)) => Ok(end.mute && are_sent(&end.frames, b"abc")),
-        _ => Ok(false),
+fn is_end(reply: &Reply) -> bool {
+    match reply {
+        Reply::RoundEnded(Ok(end)) => end.mute && are_sent(&end.frames, b"abc"),
+        _ => false,
     }
+}
+
+fn end_is_copied(alloc: Global) -> Result<bool, Fail> {
+    Ok(is_end(&copied(ended(alloc)?)?))
 }
 
 #[test]
@@ -161,11 +178,15 @@ fn is_block(block: &BlockResult) -> bool {
         && block.codes.as_slice() == [0, 2].as_slice()
 }
 
-fn executed_is_copied(alloc: Global) -> Result<bool, Fail> {
-    match Reply::Executed(Ok(block(alloc)?)).copy()? {
-        Reply::Executed(Ok(copied)) => Ok(is_block(&copied)),
-        _ => Ok(false),
+fn is_execution(reply: &Reply) -> bool {
+    match reply {
+        Reply::Executed(Ok(block)) => is_block(block),
+        _ => false,
     }
+}
+
+fn executed_is_copied(alloc: Global) -> Result<bool, Fail> {
+    Ok(is_execution(&copied(Reply::Executed(Ok(block(alloc)?)))?))
 }
 
 #[test]
@@ -189,11 +210,15 @@ fn is_held(answer: &QueryAnswer) -> bool {
     }
 }
 
-fn queried_is_copied(alloc: Global) -> Result<bool, Fail> {
-    match Reply::Queried(Ok(held(alloc)?)).copy()? {
-        Reply::Queried(Ok(copied)) => Ok(is_held(&copied)),
-        _ => Ok(false),
+fn is_answer(reply: &Reply) -> bool {
+    match reply {
+        Reply::Queried(Ok(answer)) => is_held(answer),
+        _ => false,
     }
+}
+
+fn queried_is_copied(alloc: Global) -> Result<bool, Fail> {
+    Ok(is_answer(&copied(Reply::Queried(Ok(held(alloc)?)))?))
 }
 
 #[test]

@@ -1,15 +1,17 @@
 //! Statements and their bytes.
+ghost use Rattle.std.specs.Prelude.{IfOk};
+ghost use Rattle.ledger_model.specs.Spelling.{IsStatement};
 
 use super::spellings::{ACK, ALL_REPORT, REPORT, lock_of};
 use ledger_model::{Signature, Statement};
 use octets::Cursor;
 use statements::{
-    DecodeFault, copy_signature, copy_statement, decode, encode, encoded_len, height, phase,
-    report_len, reports_len, signer, take_signature_bytes, take_statement,
+    DecodeFault, decode, encode, encoded_len, report_len, reports_len, take_signature_bytes,
+    take_statement,
 };
 use std::alloc::Global;
 use std::test::Fail;
-use test_support::{ack_bytes, report_bytes};
+use test_support::{ack_bytes, report_bytes, value};
 
 fn is_malformed(alloc: Global, bytes: &[u8]) -> bool {
     matches!(decode(alloc, bytes), Err(DecodeFault::Malformed))
@@ -24,10 +26,16 @@ fn is_malformed_at(alloc: Global, at: usize, byte: u8) -> bool {
     is_malformed(alloc, &changed)
 }
 
+// A statement that is decoded and copied is one still, so that it can be encoded.
+fn copied(alloc: Global, bytes: &[u8]) -> Result<Statement, Fail>
+    ensures { IfOk result (λ statement. IsStatement statement) }
+{
+    Ok(decode(alloc, bytes)?.copy()?)
+}
+
 // The bytes, decoded, copied and encoded again.
 fn again(alloc: Global, bytes: &[u8]) -> Result<Vec<u8>, Fail> {
-    let statement = decode(alloc, bytes)?;
-    Ok(encode(alloc, &copy_statement(alloc, &statement)?)?)
+    Ok(encode(alloc, &copied(alloc, bytes)?)?)
 }
 
 fn is_written_as_read(alloc: Global, bytes: &[u8]) -> Result<bool, Fail> {
@@ -40,9 +48,9 @@ fn len_of(alloc: Global, bytes: &[u8]) -> Result<usize, Fail> {
 
 fn place_of(statement: &Statement) -> (u8, u32, u32) {
     (
-        signer(statement).number(),
-        height(statement).number(),
-        phase(statement).number(),
+        statement.signer().number(),
+        statement.height().number(),
+        statement.phase().number(),
     )
 }
 
@@ -83,13 +91,43 @@ fn is_initial(alloc: Global, bytes: &[u8], tx: &[u8]) -> Result<bool, Fail> {
 
 #[test]
 fn reads_reports_and_acknowledgements(rt: HostRuntime) -> Result<(), Fail> {
-    let alloc = rt.alloc();
-    assert_eq!(rt; shown(alloc, &REPORT)?, ('r', (0, 1, 1)));
-    assert_eq!(rt; shown(alloc, &ALL_REPORT)?, ('r', (9, 2, 3)));
-    assert_eq!(rt; shown(alloc, &ACK)?, ('a', (2, 1, 1)));
-    assert_eq!(rt; told(alloc, &REPORT)?, (false, 1, 1, 0));
-    assert_eq!(rt; told(alloc, &ALL_REPORT)?, (true, 0, 2, 1));
-    assert!(rt; is_initial(alloc, &REPORT, b"a=1")?);
+    for (bytes, wanted) in [
+        (REPORT.as_slice(), ('r', (0, 1, 1))),
+        (&ALL_REPORT, ('r', (9, 2, 3))),
+        (&ACK, ('a', (2, 1, 1))),
+    ] {
+        assert_eq!(rt; shown(rt.alloc(), bytes)?, wanted);
+    }
+    Ok(())
+}
+
+#[test]
+fn reads_what_reports_tell(rt: HostRuntime) -> Result<(), Fail> {
+    assert!(rt; told(rt.alloc(), &REPORT)? == (false, 1, 1, 0));
+    assert!(rt; told(rt.alloc(), &ALL_REPORT)? == (true, 0, 2, 1));
+    assert!(rt; is_initial(rt.alloc(), &REPORT, b"a=1")?);
+    Ok(())
+}
+
+// Whether a report finds the batch of one transaction.
+fn finds(alloc: Global, bytes: &[u8], tx: &[u8]) -> Result<bool, Fail> {
+    let Statement::Report(report) = decode(alloc, bytes)? else {
+        return Err(Fail::from("it is a report"));
+    };
+    Ok(report.finds(&value(alloc, tx)?))
+}
+
+// The second has ALL, and locks [z] alone.
+#[test]
+fn a_decoded_report_finds_values(rt: HostRuntime) -> Result<(), Fail> {
+    for (bytes, tx, wanted) in [
+        (REPORT.as_slice(), b"a=1".as_slice(), true),
+        (&REPORT, b"b=2", false),
+        (&ALL_REPORT, b"z", true),
+        (&ALL_REPORT, b"a=1", false),
+    ] {
+        assert!(rt; finds(rt.alloc(), bytes, tx)? == wanted);
+    }
     Ok(())
 }
 
@@ -127,9 +165,9 @@ fn batch_bytes(alloc: Global, count: u8, len: u8) -> Result<Vec<u8>, Fail> {
 #[test]
 fn writes_what_was_read(rt: HostRuntime) -> Result<(), Fail> {
     let alloc = rt.alloc();
-    assert!(rt; is_written_as_read(alloc, &REPORT)?);
-    assert!(rt; is_written_as_read(alloc, &ALL_REPORT)?);
-    assert!(rt; is_written_as_read(alloc, &ACK)?);
+    for bytes in [REPORT.as_slice(), &ALL_REPORT, &ACK] {
+        assert!(rt; is_written_as_read(alloc, bytes)?);
+    }
     assert!(rt; is_written_as_read(alloc, &lock_of(alloc, 3, &[0, 2, 3])?)?);
     assert!(rt; is_written_as_read(alloc, &batch_bytes(alloc, 16, 64)?)?);
     Ok(())
@@ -160,11 +198,15 @@ fn len_of_proof(alloc: Global) -> Result<usize, Fail> {
 #[test]
 fn counts_bytes(rt: HostRuntime) -> Result<(), Fail> {
     let alloc = rt.alloc();
-    assert_eq!(rt; len_of(alloc, &REPORT)?, 23);
-    assert_eq!(rt; len_of(alloc, &ACK)?, 15);
-    assert_eq!(rt; len_of(alloc, &batch_bytes(alloc, 16, 64)?)?, 1051);
-    assert_eq!(rt; len_of(alloc, &lock_of(alloc, 3, &[0, 1, 2])?)?, 97);
-    assert_eq!(rt; lens_of_reports(alloc)?, (21, 81));
+    assert!(rt; len_of(alloc, &REPORT)? == 23 && len_of(alloc, &ACK)? == 15);
+    assert!(rt; len_of(alloc, &batch_bytes(alloc, 16, 64)?)? == 1051);
+    assert!(rt; len_of(alloc, &lock_of(alloc, 3, &[0, 1, 2])?)? == 97);
+    Ok(())
+}
+
+#[test]
+fn counts_the_bytes_of_reports(rt: HostRuntime) -> Result<(), Fail> {
+    assert!(rt; lens_of_reports(rt.alloc())? == (21, 81));
     Ok(())
 }
 
@@ -174,14 +216,20 @@ fn is_malformed_lock(alloc: Global, count: u8, signers: &[u8]) -> Result<bool, F
 
 #[test]
 fn counts_the_reports_of_a_lock(rt: HostRuntime) -> Result<(), Fail> {
-    let alloc = rt.alloc();
     let thirteen = [0u8, 1, 2, 3, 4, 5, 6, 7, 8, 9, 10, 11, 12];
-    assert!(rt; is_malformed_lock(alloc, 2, &[0, 2])?);
-    assert!(rt; is_malformed_lock(alloc, 3, &[0, 2])?);
-    assert!(rt; is_malformed_lock(alloc, 3, &[0, 2, 2])?);
-    assert!(rt; is_malformed_lock(alloc, 3, &[2, 0, 3])?);
-    assert!(rt; !is_malformed_lock(alloc, 12, &thirteen[..12])?);
-    assert!(rt; is_malformed_lock(alloc, 13, &thirteen)?);
+    for (count, signers, wanted) in [
+        (2, [0u8, 2].as_slice(), true),
+        (3, &[0, 2], true),
+        (3, &[0, 2, 2], true),
+        (3, &[2, 0, 3], true),
+        (12, &thirteen[..12], false),
+        (13, &thirteen, true),
+    ] {
+        assert!(rt;
+            is_malformed_lock(rt.alloc(), count, signers)? == wanted,
+            "{count}"
+        );
+    }
     Ok(())
 }
 
@@ -244,9 +292,8 @@ fn counts_transactions(rt: HostRuntime) -> Result<(), Fail> {
     let alloc = rt.alloc();
     assert_eq!(rt; batch_bytes(alloc, 16, 64)?.len(), 10 + 1041);
     for (count, len, wanted) in [(17, 1, true), (1, 65, true), (1, 0, true), (0, 0, false)] {
-        assert_eq!(rt;
-            is_malformed_batch(alloc, count, len)?,
-            wanted,
+        assert!(rt;
+            is_malformed_batch(alloc, count, len)? == wanted,
             "{count} {len}"
         );
     }
@@ -256,29 +303,31 @@ fn counts_transactions(rt: HostRuntime) -> Result<(), Fail> {
 #[test]
 fn copies_a_signature(rt: HostRuntime) -> Result<(), Fail> {
     let signature = Signature::new(Vec::from_slice(rt.alloc(), &[5, 6])?);
-    assert_eq!(rt;
-        copy_signature(rt.alloc(), &signature)?.as_bytes(),
-        [5u8, 6].as_slice()
-    );
+    assert_eq!(rt; signature.copy()?.as_bytes(), [5u8, 6].as_slice());
     Ok(())
 }
 
 // The signer of the statement at the cursor, if there is one.
 fn taken(alloc: Global, cursor: &mut Cursor<'_>) -> Option<u8> {
     match take_statement(alloc, cursor) {
-        Ok(statement) => Some(signer(&statement).number()),
+        Ok(statement) => Some(statement.signer().number()),
         Err(_) => None,
     }
+}
+
+// Whether an acknowledgement of replica 2 stands at the front of these bytes, and no statement behind it.
+fn has_one_ack(alloc: Global, bytes: &[u8], rest: &[u8]) -> bool {
+    let mut cursor = Cursor::new(bytes);
+    taken(alloc, &mut cursor) == Some(2)
+        && taken(alloc, &mut cursor).is_none()
+        && cursor.rest() == rest
 }
 
 #[test]
 fn takes_from_the_front(rt: HostRuntime) -> Result<(), Fail> {
     let mut bytes = Vec::from_slice(rt.alloc(), &ACK)?;
     bytes.extend_from_slice(&[0, 2, 5, 6, 7])?;
-    let mut cursor = Cursor::new(&bytes);
-    assert_eq!(rt; taken(rt.alloc(), &mut cursor), Some(2));
-    assert_eq!(rt; taken(rt.alloc(), &mut cursor), None);
-    assert_eq!(rt; cursor.rest(), [0u8, 2, 5, 6, 7].as_slice());
+    assert!(rt; has_one_ack(rt.alloc(), &bytes, &[0, 2, 5, 6, 7]));
     Ok(())
 }
 
@@ -300,6 +349,10 @@ fn sevens(alloc: Global, len: &[u8], count: u16) -> Result<Vec<u8>, Fail> {
     Ok(bytes)
 }
 
+fn sevens_taken(alloc: Global, len: &[u8], count: u16) -> Result<(Option<usize>, usize), Fail> {
+    Ok(signature_taken(&sevens(alloc, len, count)?))
+}
+
 // A signature has at most 2508 bytes.
 #[test]
 fn takes_signatures(rt: HostRuntime) -> Result<(), Fail> {
@@ -310,24 +363,22 @@ fn takes_signatures(rt: HostRuntime) -> Result<(), Fail> {
         ([9, 0xcc], 2507, (None, 2509)),
         ([9, 0xcd], 2512, (None, 2514)),
     ] {
-        let bytes = sevens(rt.alloc(), &len, count)?;
-        assert_eq!(rt; signature_taken(&bytes), wanted, "{count}");
+        assert!(rt; sevens_taken(rt.alloc(), &len, count)? == wanted, "{count}");
     }
-    assert_eq!(rt; signature_taken(&[7]), (None, 1));
+    assert!(rt; signature_taken(&[7]) == (None, 1));
     Ok(())
+}
+
+// Whether this is taken as a signature's bytes, and these are left.
+fn takes(cursor: &mut Cursor<'_>, wanted: Result<&[u8], DecodeFault>, rest: &[u8]) -> bool {
+    take_signature_bytes(cursor) == wanted && cursor.rest() == rest
 }
 
 // The bytes behind the length are the signature, and stay behind the cursor; what is too short stays before it.
 #[test]
-fn takes_the_bytes_of_a_signature(rt: HostRuntime) -> Result<(), Fail> {
+fn takes_the_bytes_of_a_signature(rt: HostRuntime) {
     let bytes = [0, 2, 5, 6, 7];
     let mut cursor = Cursor::new(&bytes);
-    assert_eq!(rt; take_signature_bytes(&mut cursor)?, [5, 6].as_slice());
-    assert_eq!(rt; cursor.rest(), [7].as_slice());
-    assert_eq!(rt;
-        take_signature_bytes(&mut cursor).err(),
-        Some(DecodeFault::Malformed)
-    );
-    assert_eq!(rt; cursor.rest(), [7].as_slice());
-    Ok(())
+    assert!(rt; takes(&mut cursor, Ok([5, 6].as_slice()), &[7]));
+    assert!(rt; takes(&mut cursor, Err(DecodeFault::Malformed), &[7]));
 }

@@ -6,40 +6,40 @@ use ledger_model::{
 };
 use std::alloc::Global;
 use std::cmp::Ordering;
+use std::process::Abort;
 use std::test::Fail;
 use test_support::{batch, tx, value, values};
 
+// Whether a cluster has its numbers and its kind, or why there is none.
+fn config_shows(replicas: u8, faults: u8) -> Result<bool, ConfigFault> {
+    let config = Config::new(replicas, faults, AppKind::Purse)?;
+    Ok((config.replicas, config.faults, config.kind) == (replicas, faults, AppKind::Purse))
+}
+
 #[test]
 fn sizes_of_clusters(rt: HostRuntime) {
-    let table = [
-        (3, 1, Some(ConfigFault::TooFew)),
-        (12, 4, Some(ConfigFault::TooFew)),
-        (4, 1, None),
-        (13, 4, None),
-        (14, 4, Some(ConfigFault::TooMany)),
-        (5, 0, Some(ConfigFault::NoFault)),
-        (0, 0, Some(ConfigFault::TooFew)),
-        (255, 255, Some(ConfigFault::TooFew)),
-    ];
-    for (replicas, faults, want) in table {
-        match Config::new(replicas, faults, AppKind::Purse) {
-            Ok(config) => {
-                assert_eq!(rt; None, want, "{replicas} replicas");
-                assert_eq!(rt;
-                    (config.replicas, config.faults, config.kind),
-                    (replicas, faults, AppKind::Purse)
-                );
-            }
-            Err(fault) => assert_eq!(rt; Some(fault), want, "{replicas} replicas"),
-        }
+    for (replicas, faults, wanted) in [
+        (3, 1, Err(ConfigFault::TooFew)),
+        (12, 4, Err(ConfigFault::TooFew)),
+        (4, 1, Ok(true)),
+        (13, 4, Ok(true)),
+        (14, 4, Err(ConfigFault::TooMany)),
+        (5, 0, Err(ConfigFault::NoFault)),
+        (0, 0, Err(ConfigFault::TooFew)),
+        (255, 255, Err(ConfigFault::TooFew)),
+    ] {
+        assert!(rt;
+            config_shows(replicas, faults) == wanted,
+            "{replicas} replicas"
+        );
     }
 }
 
 #[test]
 fn numbers(rt: HostRuntime) {
-    assert_eq!(rt; Height::new(4096).number(), 4096);
-    assert_eq!(rt; Phase::new(7).number(), 7);
-    assert_eq!(rt; ReplicaId::new(12).number(), 12);
+    assert!(rt; Height::new(4096).number() == 4096);
+    assert!(rt; Phase::new(7).number() == 7);
+    assert!(rt; ReplicaId::new(12).number() == 12);
     assert!(rt; Height::new(9) < Height::new(10));
 }
 
@@ -63,8 +63,11 @@ fn lengths_of_transactions_and_keys(rt: HostRuntime) -> Result<(), Fail> {
         (64, Ok(true), Ok(true)),
         (65, Err(TxFault::TooLong), Err(KeyFault::TooLong)),
     ] {
-        assert_eq!(rt; tx_shows(rt.alloc(), &long[..len])?, of_tx, "{len} bytes");
-        assert_eq!(rt; key_shows(rt.alloc(), &long[..len])?, of_key, "{len} bytes");
+        assert!(rt; tx_shows(rt.alloc(), &long[..len])? == of_tx, "{len} bytes");
+        assert!(rt;
+            key_shows(rt.alloc(), &long[..len])? == of_key,
+            "{len} bytes"
+        );
     }
     Ok(())
 }
@@ -72,7 +75,7 @@ fn lengths_of_transactions_and_keys(rt: HostRuntime) -> Result<(), Fail> {
 #[test]
 fn a_key_is_copied(rt: HostRuntime) -> Result<(), Fail> {
     let copied = Key::new(Vec::from_slice(rt.alloc(), b"count")?)?.copy()?;
-    assert_eq!(rt; copied.as_bytes(), b"count".as_slice());
+    assert!(rt; copied.as_bytes() == b"count".as_slice());
     Ok(())
 }
 
@@ -87,7 +90,7 @@ fn are_same_tx(alloc: Global, tx: &Tx, bytes: &[u8]) -> Result<bool, Fail> {
 #[test]
 fn a_transaction_is_copied(rt: HostRuntime) -> Result<(), Fail> {
     let copied = tx_of(rt.alloc(), b"a=1")?.copy()?;
-    assert_eq!(rt; copied.as_bytes(), b"a=1".as_slice());
+    assert!(rt; copied.as_bytes() == b"a=1".as_slice());
     assert!(rt; are_same_tx(rt.alloc(), &copied, b"a=1")?);
     assert!(rt; !are_same_tx(rt.alloc(), &copied, b"a=2")?);
     Ok(())
@@ -97,13 +100,22 @@ fn order_of(alloc: Global, first: &[u8], second: &[u8]) -> Result<Ordering, Fail
     Ok(tx_of(alloc, first)?.cmp(&tx_of(alloc, second)?))
 }
 
+fn is_below(alloc: Global, first: &[u8], second: &[u8]) -> Result<bool, Fail> {
+    Ok(tx_of(alloc, first)? < tx_of(alloc, second)?)
+}
+
 // Shorter ones come first.
 #[test]
 fn order_of_transactions(rt: HostRuntime) -> Result<(), Fail> {
     let alloc = rt.alloc();
-    assert_eq!(rt; order_of(alloc, b"z", b"aa")?, Ordering::Less);
-    assert_eq!(rt; order_of(alloc, b"ab", b"aa")?, Ordering::Greater);
-    assert_eq!(rt; order_of(alloc, b"ab", b"ab")?, Ordering::Equal);
+    for (first, second, order, below) in [
+        (b"z".as_slice(), b"aa".as_slice(), Ordering::Less, true),
+        (b"ab", b"aa", Ordering::Greater, false),
+        (b"ab", b"ab", Ordering::Equal, false),
+    ] {
+        assert!(rt; order_of(alloc, first, second)? == order);
+        assert!(rt; is_below(alloc, first, second)? == below);
+    }
     Ok(())
 }
 
@@ -136,13 +148,19 @@ fn a_batch_is_copied(rt: HostRuntime) -> Result<(), Fail> {
     Ok(())
 }
 
+// Whether these are transactions of these bytes.
+fn are_spelled(transactions: &[Tx], wanted: &[&[u8]]) -> bool {
+    transactions.len() == wanted.len()
+        && transactions
+            .iter()
+            .zip(wanted)
+            .all(|(tx, bytes)| tx.as_bytes() == *bytes)
+}
+
 #[test]
 fn a_batch_shows_its_transactions(rt: HostRuntime) -> Result<(), Fail> {
     let made = batch(rt.alloc(), &[b"a=1", b"b=2"])?;
-    for (tx, bytes) in made.transactions().iter().zip([b"a=1", b"b=2"]) {
-        assert_eq!(rt; tx.as_bytes(), bytes.as_slice());
-    }
-    assert_eq!(rt; made.transactions().len(), 2);
+    assert!(rt; are_spelled(made.transactions(), &[b"a=1", b"b=2"]));
     Ok(())
 }
 
@@ -156,15 +174,20 @@ fn in_order(alloc: Global) -> Result<Vec<Batch>, Fail> {
     Ok(made)
 }
 
+// Compares each of these batches with each other one.
+fn compare_all<R: Abort>(rt: &R, values: &[Batch]) {
+    for (i, value) in values.iter().enumerate() {
+        for (j, other) in values.iter().enumerate() {
+            assert!(rt; value.cmp(other) == i.cmp(&j), "{i} and {j}");
+            assert!(rt; (value < other) == (i < j), "{i} and {j}");
+        }
+    }
+}
+
 #[test]
 fn order_of_batches(rt: HostRuntime) -> Result<(), Fail> {
     let values = in_order(rt.alloc())?;
-    for (i, value) in values.iter().enumerate() {
-        for (j, other) in values.iter().enumerate() {
-            assert_eq!(rt; value.cmp(other), i.cmp(&j), "{i} and {j}");
-            assert_eq!(rt; value < other, i < j, "{i} and {j}");
-        }
-    }
+    compare_all(&rt, values.as_slice());
     Ok(())
 }
 

@@ -33,14 +33,14 @@ firsts f g (Some a) = refl
 name_is : (m : ArgMatches) → option_map (λ p. p.0) (subcommand_rows_of m) ≡ subcommand_name_of m
 name_is m = firsts (λ b. (out-SubCommand (box_value b)).name.now) (λ b. rows_of (found_of (out-SubCommand (box_value b)).matches)) (out-ArgMatches m).subcommand
 
-pub subcommand_is : (m : ArgMatches) (app : App) (words : List Text) (name : Text) (rows : List Row) → app ≡ abft_app → HasMatchesOf app words m
-    → Some name ≡ subcommand_name_of m → Some rows ≡ option_map (λ p. p.1) (subcommand_rows_of m) → subcommand_of abft_app words ≡ Some (name, rows)
-subcommand_is m app words name rows is has named rowed =
-    sym (ap (λ a. subcommand_of a words) is) ∙ sym ((has (ap is_simple is ∙ abft_is_simple)).1) ∙ pair_is (subcommand_rows_of m) name rows (name_is m ∙ sym named) (sym rowed)
+-- the subcommand's name and rows are what the matches give one by one
+pub found_is : (m : ArgMatches) (name : Text) (rows : List Row) → Some name ≡ subcommand_name_of m → Some rows ≡ option_map (λ p. p.1) (subcommand_rows_of m)
+    → subcommand_rows_of m ≡ Some (name, rows)
+found_is m name rows named rowed = pair_is (subcommand_rows_of m) name rows (name_is m ∙ sym named) (sym rowed)
 
--- the subcommand that the words name is the one of the matches
-rows_is : (m : ArgMatches) (app : App) (words : List Text) → app ≡ abft_app → HasMatchesOf app words m → subcommand_of abft_app words ≡ subcommand_rows_of m
-rows_is m app words is has = sym (ap (λ a. subcommand_of a words) is) ∙ sym ((has (ap is_simple is ∙ abft_is_simple)).1)
+-- the subcommand of the matches is the one that the words name
+pub rows_are : (m : ArgMatches) (app : App) (words : List Text) → app ≡ abft_app → HasMatchesOf app words m → subcommand_rows_of m ≡ subcommand_of abft_app words
+rows_are m app words is has = (has (ap is_simple is ∙ abft_is_simple)).1 ∙ ap (λ a. subcommand_of a words) is
 
 -- whatever is set is set by a subcommand of one of two names
 named : (o : Option (Text × List Row)) (s : Settings) → Sets o s → (option_map (λ p. p.0) o ≡ Some (codes "sign")) ⊎ (option_map (λ p. p.0) o ≡ Some (codes "deliver"))
@@ -48,11 +48,8 @@ named None s sets = absurd sets
 named (Some p) (settings.Sign t) sets = inl (ap (λ n. Some n) sets.0)
 named (Some p) (settings.Deliver t) sets = inr (ap (λ n. Some n) sets.0)
 
-pub names_one : (m : ArgMatches) (app : App) (words : List Text) → app ≡ abft_app → HasMatchesOf app words m
-    → (s : Settings) → Sets (subcommand_of abft_app words) s → (subcommand_name_of m ≡ Some (codes "sign")) ⊎ (subcommand_name_of m ≡ Some (codes "deliver"))
-names_one m app words is has s sets =
-    subst (λ o. (o ≡ Some (codes "sign")) ⊎ (o ≡ Some (codes "deliver"))) (name_is m)
-    (named (subcommand_rows_of m) s (subst (λ o. Sets o s) (rows_is m app words is has) sets))
+pub names_one : (m : ArgMatches) (s : Settings) → Sets (subcommand_rows_of m) s → (subcommand_name_of m ≡ Some (codes "sign")) ⊎ (subcommand_name_of m ≡ Some (codes "deliver"))
+names_one m s sets = subst (λ o. (o ≡ Some (codes "sign")) ⊎ (o ≡ Some (codes "deliver"))) (name_is m) (named (subcommand_rows_of m) s sets)
 
 -- what is set by `sign`, and what by `deliver`
 pub sets_sign : {W : Type 0} (rows : List Row) (s : Settings) → ((t : SignSettings) → SetsSign rows t → W) → Sets (Some (codes "sign", rows)) s → W

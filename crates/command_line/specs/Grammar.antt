@@ -1,10 +1,16 @@
 -- The command line of the program, in clap's words: which options each subcommand has, and their defaults.
-use Rattle.std.specs.Prelude.{Some, true, [], ◌∷◌, codes}
+use Rattle.std.specs.Prelude.{Some, true, List, [], ◌∷◌, codes}
 use Rattle.clap.specs.Words.{App, Rule, Text, new_app, new_rule, with_rule, with_subcommand}
+use Rattle.command_line.specs.declared.grammar.ValueOption.{ValueOption}
 
 -- an option with a value: its name, and the value where the words name none
 abbrev pub option_rule : Text → Text → Rule
 option_rule name default = record (new_rule name) { long = Some name; defaults = default ∷ [] }
+
+-- options with values, in turn
+abbrev pub with_options : App → List ValueOption → App
+with_options a [] = a
+with_options a (o ∷ os) = with_options (with_rule a (option_rule o.name.now o.default.now)) os
 
 -- the options of every subcommand
 abbrev pub with_common : App → App
@@ -21,22 +27,29 @@ with_common a =
 abbrev pub what_rule : Rule
 what_rule = record (new_rule (codes "what")) { required = true }
 
-abbrev pub sign_app : App
-sign_app =
-    with_rule (with_rule (with_rule (with_rule (with_rule (with_common (new_app (codes "sign")))
-    what_rule)
+-- the options of `abft sign` alone
+abbrev pub with_sign : App → App
+with_sign a =
+    with_rule (with_rule (with_rule (with_rule a
     (option_rule (codes "replica") (codes "0")))
     (option_rule (codes "height") (codes "1")))
     (option_rule (codes "phase") (codes "1")))
     (option_rule (codes "value") (codes "a=1"))
 
-abbrev pub deliver_app : App
-deliver_app =
-    with_rule (with_rule (with_rule (with_rule (with_common (new_app (codes "deliver")))
+abbrev pub sign_app : App
+sign_app = with_sign (with_rule (with_common (new_app (codes "sign"))) what_rule)
+
+-- the options of `abft deliver` alone
+abbrev pub with_deliver : App → App
+with_deliver a =
+    with_rule (with_rule (with_rule (with_rule a
     (option_rule (codes "replica") (codes "1")))
     (option_rule (codes "value") (codes "a=1")))
     (option_rule (codes "height") (codes "1")))
     (option_rule (codes "rounds") (codes "1"))
+
+abbrev pub deliver_app : App
+deliver_app = with_deliver (with_common (new_app (codes "deliver")))
 
 -- a subcommand is required, and `--version` is there
 abbrev pub at_top : App → App

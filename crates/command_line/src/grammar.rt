@@ -1,8 +1,8 @@
 //! The grammar of the command line, as clap is told it: subcommands, options, defaults and help.
-ghost use Rattle.std.specs.Prelude.{◌≡◌, ◌∷◌, [], IfOk, Some, false};
-ghost use Rattle.clap.specs.Words.{app_of, with_rule};
+ghost use Rattle.std.specs.Prelude.{◌≡◌, IfOk, codes, false};
+ghost use Rattle.clap.specs.Words.{app_of, new_app, with_rule};
 ghost use Rattle.clap.specs.declared.builder.command.Command.TheViews.{out-Command as fields_of};
-ghost use Rattle.command_line.specs.Grammar.{option_rule, what_rule, with_common, sign_app, deliver_app, abft_app};
+ghost use Rattle.command_line.specs.Grammar.{option_rule, with_options, sign_app, deliver_app, at_top, abft_app};
 
 use clap::{Arg, Command};
 use std::alloc::{AllocError, Global};
@@ -36,73 +36,127 @@ Exit status:
   2  a fault of usage
   3  want of memory, a full history, or a failed read or write";
 
-/// The command with one option more, which has a value and a default.
+/// An option that has a value: its name, its value where the words name none, and its help.
+#[derive(Clone, Copy)]
+struct ValueOption {
+    name: &'static str,
+    default: &'static str,
+    help: &'static str,
+}
+
+/// The options that every subcommand has.
+const COMMON: [ValueOption; 6] = [
+    ValueOption {
+        name: "n",
+        default: "4",
+        help: "How many replicas there are, 4 to 13",
+    },
+    ValueOption {
+        name: "t",
+        default: "1",
+        help: "How many may lie, 1 to 4, with 3t+1 <= n",
+    },
+    ValueOption {
+        name: "kind",
+        default: "1",
+        help: "The application: 1 is a key-value store",
+    },
+    ValueOption {
+        name: "w",
+        default: "4",
+        help: "Bits of a digit of a signature: 4 or 8",
+    },
+    ValueOption {
+        name: "tree",
+        default: "5",
+        help: "Height of a signature tree: 5 or 10",
+    },
+    ValueOption {
+        name: "seed",
+        default: "0000000000000000000000000000000000000000000000000000000000000000",
+        help: "The seed of all keys, 64 hexadecimal digits",
+    },
+];
+
+/// The options of `abft sign` alone.
+const SIGN: [ValueOption; 4] = [
+    ValueOption {
+        name: "replica",
+        default: "0",
+        help: "Who signs, below n",
+    },
+    ValueOption {
+        name: "height",
+        default: "1",
+        help: "The height, 1 to 4096",
+    },
+    ValueOption {
+        name: "phase",
+        default: "1",
+        help: "The phase, 1 to 1000000000",
+    },
+    ValueOption {
+        name: "value",
+        default: "a=1",
+        help: "The one transaction of the batch",
+    },
+];
+
+/// The options of `abft deliver` alone.
+const DELIVER: [ValueOption; 4] = [
+    ValueOption {
+        name: "replica",
+        default: "1",
+        help: "Which replica, below n",
+    },
+    ValueOption {
+        name: "value",
+        default: "a=1",
+        help: "The transaction that it submits",
+    },
+    ValueOption {
+        name: "height",
+        default: "1",
+        help: "The height that it opens, 1 to 4",
+    },
+    ValueOption {
+        name: "rounds",
+        default: "1",
+        help: "How many rounds it ends, 0 or 1",
+    },
+];
+
+/// The command with one option more.
 fn with_option<'a>(
     alloc: Global,
     command: Command<'a>,
-    name: &'a str,
-    default: &'a str,
-    help: &'a str,
+    option: &ValueOption,
 ) -> Result<Command<'a>, AllocError>
     requires { (fields_of command).has_globals ≡ false }
-    ensures app { IfOk result (λ c. app_of c ≡ with_rule (app_of command.entry) (option_rule name.entry.now default.entry.now)) }
+    ensures app { IfOk result (λ c. app_of c ≡ with_rule (app_of command.entry) (option_rule option.now.name.now option.now.default.now)) }
     ensures local { IfOk result (λ c. (fields_of c).has_globals ≡ false) }
 {
-    let option = Arg::new(alloc, name)
-        .long(name)
-        .default_value(default)
-        .help(help);
-    command.arg(option)
+    let arg = Arg::new(alloc, option.name)
+        .long(option.name)
+        .default_value(option.default)
+        .help(option.help);
+    command.arg(arg)
 }
 
-/// The command with the options that every subcommand has.
-fn with_common<'a>(alloc: Global, command: Command<'a>) -> Result<Command<'a>, AllocError>
+/// The command with these options more, in turn.
+fn with_options<'a>(
+    alloc: Global,
+    command: Command<'a>,
+    options: &[ValueOption],
+) -> Result<Command<'a>, AllocError>
     requires { (fields_of command).has_globals ≡ false }
-    ensures app { IfOk result (λ c. app_of c ≡ with_common (app_of command.entry)) }
+    ensures app { IfOk result (λ c. app_of c ≡ with_options (app_of command.entry) options.now) }
     ensures local { IfOk result (λ c. (fields_of c).has_globals ≡ false) }
 {
-    let command = with_option(
-        alloc,
-        command,
-        "n",
-        "4",
-        "How many replicas there are, 4 to 13",
-    )?;
-    let command = with_option(
-        alloc,
-        command,
-        "t",
-        "1",
-        "How many may lie, 1 to 4, with 3t+1 <= n",
-    )?;
-    let command = with_option(
-        alloc,
-        command,
-        "kind",
-        "1",
-        "The application: 1 is a key-value store",
-    )?;
-    let command = with_option(
-        alloc,
-        command,
-        "w",
-        "4",
-        "Bits of a digit of a signature: 4 or 8",
-    )?;
-    let command = with_option(
-        alloc,
-        command,
-        "tree",
-        "5",
-        "Height of a signature tree: 5 or 10",
-    )?;
-    let command = with_option(
-        alloc,
-        command,
-        "seed",
-        "0000000000000000000000000000000000000000000000000000000000000000",
-        "The seed of all keys, 64 hexadecimal digits",
-    )?;
+    let mut command = command;
+    for option in options {
+        command = with_option(alloc, command, option)?;
+    }
     Ok(command)
 }
 
@@ -114,22 +168,12 @@ fn sign_command<'a>(alloc: Global) -> Result<Command<'a>, AllocError>
     let command = Command::new(alloc, "sign")
         .about("Signs a report or an acknowledgement, and writes its frame to standard output")
         .after_help(REUSE);
-    let command = with_common(alloc, command)?;
+    let command = with_options(alloc, command, &COMMON)?;
     let what = Arg::new(alloc, "what")
         .required(true)
         .help("What to sign: report or ack");
     let command = command.arg(what)?;
-    let command = with_option(alloc, command, "replica", "0", "Who signs, below n")?;
-    let command = with_option(alloc, command, "height", "1", "The height, 1 to 4096")?;
-    let command = with_option(alloc, command, "phase", "1", "The phase, 1 to 1000000000")?;
-    let command = with_option(
-        alloc,
-        command,
-        "value",
-        "a=1",
-        "The one transaction of the batch",
-    )?;
-    Ok(command)
+    with_options(alloc, command, &SIGN)
 }
 
 /// `abft deliver`.
@@ -140,44 +184,27 @@ fn deliver_command<'a>(alloc: Global) -> Result<Command<'a>, AllocError>
     let command = Command::new(alloc, "deliver")
         .about("Delivers the frames of standard input to a replica, and prints what it answers")
         .after_help(LINES);
-    let command = with_common(alloc, command)?;
-    let command = with_option(alloc, command, "replica", "1", "Which replica, below n")?;
-    let command = with_option(
-        alloc,
-        command,
-        "value",
-        "a=1",
-        "The transaction that it submits",
-    )?;
-    let command = with_option(
-        alloc,
-        command,
-        "height",
-        "1",
-        "The height that it opens, 1 to 4",
-    )?;
-    let command = with_option(
-        alloc,
-        command,
-        "rounds",
-        "1",
-        "How many rounds it ends, 0 or 1",
-    )?;
-    Ok(command)
+    let command = with_options(alloc, command, &COMMON)?;
+    with_options(alloc, command, &DELIVER)
+}
+
+/// The command of the program, without its subcommands.
+fn top_command<'a>(alloc: Global) -> Command<'a>
+    ensures { app_of result ≡ at_top (new_app (codes "abft")) }
+{
+    Command::new(alloc, "abft")
+        .about("A Byzantine fault tolerant replicated ledger")
+        .version(VERSION)
+        .after_help(EXAMPLE)
+        .subcommand_required(true)
 }
 
 /// The command line of the program.
 pub(crate) fn abft_command<'a>(alloc: Global) -> Result<Command<'a>, AllocError>
     ensures { IfOk result (λ c. app_of c ≡ abft_app) }
 {
-    let command = Command::new(alloc, "abft")
-        .about("A Byzantine fault tolerant replicated ledger")
-        .version(VERSION)
-        .after_help(EXAMPLE)
-        .subcommand_required(true);
     let sign = sign_command(alloc)?;
-    let command = command.subcommand(sign)?;
+    let command = top_command(alloc).subcommand(sign)?;
     let deliver = deliver_command(alloc)?;
-    let command = command.subcommand(deliver)?;
-    Ok(command)
+    command.subcommand(deliver)
 }

@@ -1,6 +1,6 @@
 //! What the words of a command line set.
 ghost use Rattle.std.specs.Prelude.{◌≡◌, map, true, IfOk, IfErr};
-ghost use Rattle.clap.specs.Words.{found_of, rows_of, subcommand_of, takes};
+ghost use Rattle.clap.specs.Words.{found_of, rows_of, subcommand_of, subcommand_rows_of, takes};
 ghost use Rattle.command_line.specs.Grammar.{abft_app};
 ghost use Rattle.command_line.specs.Options.{SetsSign, SetsDeliver, Sets, WantsMemory};
 ghost use Rattle.settings.specs.declared.sign.SignSettings.{SignSettings};
@@ -61,6 +61,33 @@ fn deliver_settings<'a>(
     })
 }
 
+/// The matches of the words; the first word is the program's name.
+fn matches_of<'a>(alloc: Global, words: &'a [&'a str]) -> Result<ArgMatches<'a>, UsageFault<'a>>
+    ensures found { IfOk result (λ m. subcommand_rows_of m ≡ subcommand_of abft_app (map (λ w. w.now) words.entry.now)) }
+    ensures refused { IfErr result (λ e. takes abft_app (map (λ w. w.now) words.entry.now) ≡ true → WantsMemory e) }
+{
+    let command = abft_command(alloc)?;
+    match command.try_get_matches_from(words) {
+        Ok(matches) => Ok(matches),
+        Err(error) => Err(UsageFault::CommandLine(error)),
+    }
+}
+
+/// What the subcommand of the matches asks for.
+fn settings_of<'a>(alloc: Global, matches: &ArgMatches<'a>) -> Result<Settings, UsageFault<'a>>
+    ensures set { IfOk result (λ s. Sets (subcommand_rows_of matches.now) s) }
+    ensures refused { IfErr result (λ e. (s : Settings) → Sets (subcommand_rows_of matches.now) s → WantsMemory e) }
+{
+    let Some((name, options)) = matches.subcommand() else {
+        return Err(UsageFault::NoSubcommand);
+    };
+    match name {
+        "sign" => Ok(Settings::Sign(sign_settings(alloc, options)?)),
+        "deliver" => Ok(Settings::Deliver(deliver_settings(alloc, options)?)),
+        _ => Err(UsageFault::NoSubcommand),
+    }
+}
+
 /// What the words of a command line ask for; the first word is the program's name.
 ///
 /// Each option has the value that the words give it, or else its default, within its limits. An `Err` says what is
@@ -70,17 +97,6 @@ pub fn settings<'a>(alloc: Global, words: &'a [&'a str]) -> Result<Settings, Usa
     ensures refused { IfErr result (λ e. takes abft_app (map (λ w. w.now) words.entry.now) ≡ true
         → (s : Settings) → Sets (subcommand_of abft_app (map (λ w. w.now) words.entry.now)) s → WantsMemory e) }
 {
-    let command = abft_command(alloc)?;
-    let matches = match command.try_get_matches_from(words) {
-        Ok(matches) => matches,
-        Err(error) => return Err(UsageFault::CommandLine(error)),
-    };
-    let Some((name, options)) = matches.subcommand() else {
-        return Err(UsageFault::NoSubcommand);
-    };
-    match name {
-        "sign" => Ok(Settings::Sign(sign_settings(alloc, options)?)),
-        "deliver" => Ok(Settings::Deliver(deliver_settings(alloc, options)?)),
-        _ => Err(UsageFault::NoSubcommand),
-    }
+    let matches = matches_of(alloc, words)?;
+    settings_of(alloc, &matches)
 }

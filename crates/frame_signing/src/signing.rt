@@ -1,5 +1,6 @@
 //! The frame of the statement, signed with the first leaf.
 ghost use Rattle.std.specs.Prelude.{◌≡◌, ◌≤◌, true, length, IfOk};
+ghost use Rattle.ledger_model.specs.Limits.{max_signature_len};
 ghost use Rattle.ledger_model.specs.Signatures.{verifies};
 ghost use Rattle.ledger_model.specs.Spelling.{statement_bytes};
 ghost use Rattle.key_ring.specs.Signers.{key_of, signed_with};
@@ -10,8 +11,7 @@ use crate::statement::statement;
 use cluster_keys::key_pair;
 use key_ring::{SignFault, Signer};
 use settings::SignSettings;
-use signed_frames::Frame;
-use statements::encode;
+use signed_frames::{Frame, UnsignedFrame};
 use std::alloc::{AllocError, Global};
 
 /// The signature of a message with the first leaf of a key pair.
@@ -20,7 +20,7 @@ fn sign_first(alloc: Global, mut signer: Signer, message: &[u8]) -> Result<Vec<u
     ensures signature { IfOk result (λ signature. signature.items ≡ signed_with signer.secret 0 message.now) }
     ensures verifies { IfOk result (λ signature.
         verifies (key_of signer.secret) message.now signature.items ≡ true) }
-    ensures short { IfOk result (λ signature. length signature.items ≤ 2508) }
+    ensures short { IfOk result (λ signature. length signature.items ≤ max_signature_len) }
 {
     match signer.sign(alloc, message) {
         Ok(signature) => Ok(signature),
@@ -37,10 +37,8 @@ pub fn signed_frame(alloc: Global, settings: &SignSettings) -> Result<Frame, All
     ensures verifies { IfOk result (λ frame. verifies (key_of (secret_of settings.now.cluster settings.now.replica))
         (statement_bytes frame.statement) frame.signature ≡ true) }
 {
-    let statement = statement(alloc, settings)?;
-    let message = encode(alloc, &statement)?;
+    let unsigned = UnsignedFrame::new(alloc, statement(alloc, settings)?)?;
     let signer = key_pair(alloc, &settings.cluster, settings.replica)?;
-    let signature = sign_first(alloc, signer, &message)?;
-    let frame = Frame::build(alloc, statement, &signature)?;
-    Ok(frame)
+    let signature = sign_first(alloc, signer, unsigned.statement_bytes())?;
+    unsigned.with_signature(&signature)
 }

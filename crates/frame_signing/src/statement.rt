@@ -1,6 +1,8 @@
 //! The statement that is to be signed.
 ghost use Rattle.std.specs.Prelude.{◌≡◌, ◌≤◌, ◌∷◌, [], length, IfOk};
-ghost use Rattle.ledger_model.specs.Spelling.{IsStatement, IsValue};
+ghost use Rattle.ledger_model.specs.Limits.{max_tx_len};
+ghost use Rattle.ledger_model.specs.Spelling.{IsStatement};
+ghost use Rattle.ledger_model.specs.Values.{IsValue};
 ghost use Rattle.frame_signing.specs.Statements.{said};
 
 use ledger_model::{Ack, Batch, Batches, Report, Statement, Tx};
@@ -10,7 +12,7 @@ use std::alloc::{AllocError, Global};
 /// The batch of one transaction.
 fn batch_of(alloc: Global, bytes: &[u8]) -> Result<Batch, AllocError>
     requires some { 1 ≤ length bytes.now }
-    requires short { length bytes.now ≤ 64 }
+    requires short { length bytes.now ≤ max_tx_len }
     ensures batch { IfOk result (λ batch. batch ≡ bytes.now ∷ []) }
     ensures spelled { IfOk result (λ batch. IsValue batch) }
 {

@@ -1,14 +1,18 @@
 -- The row of a height, by its place in the list.
-use Rattle.std.proofs.Common.{◌≡◌, ℕ, zero, suc, ◌<◌, inl, inr, Bool, true, false, List, [], ◌∷◌, ◌++◌, length, get_or, Bor, refl, sym, ap, subst, ◌∙◌, arith, eq-eqb}
-use Rattle.std.specs.Prelude.{◌==◌, nat_lt, Option, Some, None, is_some, slice_get, slice_set}
+use Rattle.std.proofs.Common.{◌≡◌, ℕ, zero, suc, ◌<◌, inl, inr, Bool, true, false, List, [], ◌∷◌, length, get_or, Bor, refl, sym, ap, subst, ◌∙◌, arith, eq-eqb}
+use Rattle.std.specs.Prelude.{◌==◌, nat_lt, Option, Some, None, IfSome, is_some, slice_get, slice_set}
 use Rattle.std.specs.List.{find, position, position_or_len, AllByRecursion}
-use Rattle.std.specs.Option.{option_or, option_copied}
+use Rattle.std.specs.Option.{option_copied}
 use Rattle.std.proofs.lemmas.Bool.{cases_Bool, eqb-true, ltb-true, ltb-false, false≢true, ne_eqb}
-use Rattle.std.proofs.lemmas.List.Folds.{find_at, find-append, find-set, find_past}
+use Rattle.std.proofs.lemmas.List.Folds.{find_at, find-set, find_past}
 use Rattle.std.proofs.lemmas.List.Quantifiers.{position-Some}
 use Rattle.std.proofs.lemmas.Option.{slice_get_past, slice_get_read}
 use Rattle.ledger_model.specs.declared.config.Config.{Config}
+use Rattle.ledger_model.specs.declared.statement.Statement.{Statement}
+use Rattle.ledger_model.specs.Notes.{signer_of}
+use Rattle.ledger_model.specs.Logs.{height_of}
 use Rattle.instance.specs.Rows.{Row}
+use Rattle.instance.specs.Plans.{IsOwnStatement}
 use Rattle.height_row.specs.Heights.{row_at, AreApart}
 
 -- whether it is the height's
@@ -29,15 +33,16 @@ all_there P (row ∷ rows) (suc place) now all within is = all_there P rows plac
 -- ---- its place
 
 module _ (rows : List Row) (h : ℕ) where
-  -- a height that is open has one
-  pub has_place : position (is_of h) rows ≡ None → is_some (row_at rows h) ≡ true → ⊥
-  has_place none opened =
+  pub found_nowhere : position (is_of h) rows ≡ None → find (is_of h) rows ≡ None
+  found_nowhere none =
       elim (cases_Bool (nat_lt (position_or_len (is_of h) rows) (length rows))) [
         | inl within ↦ absurd (cc (rw within at none))
-        | inr past ↦
-            let nothing = row_at-find rows h ∙ find_at (is_of h) rows ∙ slice_get_past rows (position_or_len (is_of h) rows) (ltb-false _ _ past) in
-            false≢true (sym (ap is_some nothing) ∙ opened)
+        | inr past ↦ find_at (is_of h) rows ∙ slice_get_past rows (position_or_len (is_of h) rows) (ltb-false _ _ past)
       ]
+
+  -- a height that is open has one
+  pub has_place : position (is_of h) rows ≡ None → is_some (row_at rows h) ≡ true → ⊥
+  has_place none opened = false≢true (sym (ap is_some (row_at-find rows h ∙ found_nowhere none)) ∙ opened)
 
   module _ (place : ℕ) (found : position (is_of h) rows ≡ Some place) where
     place_parts : (place ≡ position_or_len (is_of h) rows) × (place < length rows)
@@ -83,11 +88,18 @@ pub record IsHeld (rows : List Row) (h place : ℕ) (now : Row) : Type 0 where
   pub height : now.height ≡ h
   pub held : row_at rows h ≡ Some now
   pub only : (row : Row) → row_at rows h ≡ Some row → now ≡ row
+  pub alike : (row : Row) → slice_get rows place ≡ Some row → row.height ≡ now.height
 
 pub is_held : {rows : List Row} {h place : ℕ} (now : Row) → position (is_of h) rows ≡ Some place → now ≡ get_or rows place now → IsHeld rows h place now
 is_held {rows} {h} {place} now found value =
     let there = held rows h place found now value in
-    record { within = place_within rows h place found; height = height_is rows h place found now value; held = there; only = λ row was. cc (sym there ∙ was) }
+    record {
+      within = place_within rows h place found;
+      height = height_is rows h place found now value;
+      held = there;
+      only = λ row was. cc (sym there ∙ was);
+      alike = λ row is. (let same : row ≡ now = cc (sym is ∙ placed rows h place found ∙ there) in ap (λ r. r.height) same);
+    }
 
 pub record IsPut (rows : List Row) (h place : ℕ) (new : Row) : Type 0 where
   pub opened : is_some (row_at (slice_set rows place new) h) ≡ true
@@ -98,28 +110,6 @@ pub is_put : {rows : List Row} {h place : ℕ} (new : Row) → position (is_of h
 is_put {rows} {h} {place} new found same =
     let there = row_at-set rows h place found new same in
     record { opened = ap is_some there; only = λ row is. cc (sym there ∙ is); apart = others_stay rows h place found new same }
-
--- ---- a row more
-
-module _ (rows : List Row) (h : ℕ) (row : Row) (same : row.height ≡ h) where
-  pub row_at-push : row_at rows h ≡ None → row_at (rows ++ row ∷ []) h ≡ Some row
-  row_at-push none =
-      row_at-find (rows ++ row ∷ []) h
-      ∙ find-append (is_of h) rows (row ∷ [])
-      ∙ ap (λ o. option_or o (find (is_of h) (row ∷ []))) (sym (row_at-find rows h) ∙ none)
-      ∙ simp (eq-eqb row.height h same) refl
-
-  pub others_stay-push : (other : ℕ) → (other ≡ h → ⊥) → row_at (rows ++ row ∷ []) other ≡ row_at rows other
-  others_stay-push other differs =
-      row_at-find (rows ++ row ∷ []) other
-      ∙ find-append (is_of other) rows (row ∷ [])
-      ∙ ap (option_or (find (is_of other) rows)) (simp (ne_eqb row.height other (λ e. differs (sym e ∙ same))) refl)
-      ∙ or_nothing (find (is_of other) rows)
-      ∙ sym (row_at-find rows other)
-    where
-      or_nothing : (o : Option Row) → option_or o None ≡ o
-      or_nothing None = refl
-      or_nothing (Some x) = refl
 
 -- what is not found is not open
 pub not_open : (o : Option (Bor Row)) (b : Bool) (found : Option Row) → option_copied o ≡ found → b ≡ is_some o → b ≡ false → found ≡ None
@@ -154,13 +144,15 @@ module _ (config : Config) (id : ℕ) where
         | inr there ↦ own_at rows all other row (sym (put.apart other (λ e. false≢true (sym there ∙ eq-eqb other h e))) ∙ is)
       ]
 
-  -- and of one more
-  pub own_push : (rows : List Row) (h : ℕ) (new : Row) → AllByRecursion (IsOf config id) rows → row_at rows h ≡ None → IsOwn config id h new
-      → (other : ℕ) (row : Row) → row_at (rows ++ new ∷ []) other ≡ Some row → IsOwn config id other row
-  own_push rows h new all none own other row is =
-      elim (cases_Bool (other == h)) [
-        | inl here ↦ (let same = eqb-true other h here in
-            let only : new ≡ row = cc (sym (row_at-push rows h new own.2 none) ∙ subst (λ n. row_at (rows ++ new ∷ []) n ≡ Some row) same is) in
-            subst (λ n. IsOwn config id n row) (sym same) (subst (IsOwn config id h) only own))
-        | inr there ↦ own_at rows all other row (sym (others_stay-push rows h new own.2 other (λ e. false≢true (sym there ∙ eq-eqb other h e))) ∙ is)
-      ]
+-- ---- what is chosen there
+
+IfSome-weaker : {X : Type 0} {P Q : X → Type 0} (o : Option X) → ((x : X) → P x → Q x) → IfSome o P → IfSome o Q
+IfSome-weaker None f h = tt
+IfSome-weaker (Some x) f h = f x h
+
+module _ (row : Row) (sent : Option Statement) where
+  pub own_signer : {id : ℕ} → row.id ≡ id → IfSome sent (IsOwnStatement row) → IfSome sent (λ s. signer_of s ≡ id)
+  own_signer same own = IfSome-weaker sent (λ s h. h.signer ∙ same) own
+
+  pub own_height : {h : ℕ} → row.height ≡ h → IfSome sent (IsOwnStatement row) → IfSome sent (λ s. height_of s ≡ h)
+  own_height same own = IfSome-weaker sent (λ s h. h.height ∙ same) own

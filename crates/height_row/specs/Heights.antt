@@ -1,5 +1,7 @@
 -- The heights that a replica has opened.
-use Rattle.std.specs.Prelude.{◌≡◌, ℕ, ◌+◌, ◌==◌, nat_lt, ◌||◌, List, [], ◌∷◌, Option, Some, None, is_some, Result, if◌then◌else◌}
+use Rattle.std.specs.List.{AllByRecursion}
+use Rattle.std.specs.Prelude.{◌≡◌, ℕ, ◌+◌, ◌<◌, ◌==◌, nat_lt, slice_get, suc, ◌||◌, List, [], ◌∷◌, Option, Some, None, is_some, Result, if◌then◌else◌}
+use Rattle.ledger_model.specs.Limits.{max_height, max_ahead}
 use Rattle.ledger_model.specs.declared.config.Config.{Config}
 use Rattle.ledger_model.specs.declared.reply.ProposeRefusal.{ProposeRefusal}
 use Rattle.ledger_model.specs.declared.reply.ProposeRefusal.TheVariants as refusal
@@ -18,6 +20,7 @@ abbrev pub row_at : List Row → ℕ → Option Row
 row_at [] h = None
 row_at (row ∷ rows) h = if row.height == h then Some row else row_at rows h
 
+-- what was decided there, if the height is open and something was
 abbrev pub decided_in : Option Row → Option Value
 decided_in None = None
 decided_in (Some row) = row.decided
@@ -25,10 +28,24 @@ decided_in (Some row) = row.decided
 -- why a height is not opened, where so many blocks are committed: the first that fits
 abbrev pub open_answer : List Row → ℕ → ℕ → Result (Unit {0}) ProposeRefusal
 open_answer rows committed h = first_fault (
-    ((h == 0) || nat_lt 4096 h, refusal.Closed)
+    ((h == 0) || nat_lt max_height h, refusal.Closed)
     ∷ (is_some (row_at rows h), refusal.AlreadyOpen)
-    ∷ (nat_lt (committed + 4) h, refusal.TooFar)
+    ∷ (nat_lt (committed + max_ahead) h, refusal.TooFar)
     ∷ []) tt
+
+-- how many rows in front are of lower heights
+abbrev pub place_for : ℕ → List Row → ℕ
+place_for h [] = 0
+place_for h (row ∷ rows) = if nat_lt row.height h then suc (place_for h rows) else 0
+
+-- each height is below those behind it
+abbrev pub AreAscending : List Row → Type 0
+AreAscending [] = Unit {0}
+AreAscending (row ∷ rows) = AllByRecursion (λ later. row.height < later.height) rows × AreAscending rows
+
+-- each stands for its height
+abbrev pub AreFound : List Row → Type 0
+AreFound rows = (place : ℕ) (row : Row) → slice_get rows place ≡ Some row → row_at rows row.height ≡ Some row
 
 -- the other heights are as they were
 abbrev pub AreApart : ℕ → List Row → List Row → Type 0

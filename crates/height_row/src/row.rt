@@ -2,15 +2,16 @@
 ghost use Rattle.std.specs.Prelude.{◌≡◌, ◌==◌};
 ghost use Rattle.std.specs.List.{find, position};
 ghost use Rattle.std.specs.Option.{option_copied};
+ghost use Rattle.height_row.specs.Heights.{place_for, AreAscending};
 
-use instance::{Instance, Plan, Signing};
+use instance::{Ending, Instance, Made, Plan};
 use key_ring::KeyRing;
 use ledger_model::{Batch, Config, Height, Ignored, ProposeRefusal, ReplicaId};
 use signed_frames::Frame;
 use std::alloc::{AllocError, Global};
 use std::marker::Model;
 
-/// The heights that a replica has opened. Contracts see a `Heights`.
+/// The heights that a replica has opened, in ascending order. Contracts see a `Heights`.
 #[derive(Drop)]
 pub struct HeightRow {
     config: Config,
@@ -21,33 +22,35 @@ pub struct HeightRow {
 impl Model for HeightRow {
     ghost use Rattle.std.specs.Prelude.{◌≡◌, ◌<◌, List};
     ghost use Rattle.std.specs.List.{AllByRecursion};
-    ghost use Rattle.height_row.specs.Heights.{Heights};
+    ghost use Rattle.height_row.specs.Heights.{Heights, AreAscending};
 
     ghost Value = { Heights };
 
     ghost view = { λ r. record { config = r.config; id = r.id; rows = r.instances.items } };
 
     ghost invariant = { λ r. (r.id < r.config.replicas)
-        × AllByRecursion (λ row. (row.config ≡ r.config) × (row.id ≡ r.id)) r.instances.items };
+        × AllByRecursion (λ row. (row.config ≡ r.config) × (row.id ≡ r.id)) r.instances.items
+        × AreAscending r.instances.items };
 }
 
 impl HeightRow {
-    ghost use Rattle.std.specs.Prelude.{◌≡◌, ◌<◌, ◌≤◌, ◌+◌, ◌++◌, ◌∷◌, ℕ, ◌==◌, List, [], map, Some, is_some, true, IfOk, OnOk, OnErr};
-    ghost use Rattle.std.specs.List.{flat_map, position, AllByRecursion};
+    ghost use Rattle.std.specs.Prelude.{◌≡◌, ◌<◌, ◌≤◌, ◌+◌, ◌++◌, ◌∷◌, ℕ, ◌==◌, List, [], map, Some, is_some, true, IsTrue, IfOk, IfSome, OnOk, OnErr};
+    ghost use Rattle.std.specs.List.{position, AllByRecursion};
     ghost use Rattle.std.specs.Option.{option_copied};
     ghost use Rattle.ledger_model.specs.Rounds.{place_of};
-    ghost use Rattle.ledger_model.specs.Notes.{Note, Proposed, Round, Read, clock_of, signer_of};
+    ghost use Rattle.ledger_model.specs.Notes.{Note, Proposed, Read, clock_of, signer_of};
     ghost use Rattle.ledger_model.specs.Locks.{decided_of};
-    ghost use Rattle.ledger_model.specs.Logs.{height_of, made_notes};
+    ghost use Rattle.ledger_model.specs.Logs.{height_of};
     ghost use Rattle.ledger_model.specs.Rules.{Ring, answer_to};
-    ghost use Rattle.ledger_model.specs.Lawful.{held_locks};
-    ghost use Rattle.ledger_model.specs.Spelling.{IsValue, IsStatement, frame_bytes};
+    ghost use Rattle.ledger_model.specs.Lawful.{held_locks, are_signed_reports};
+    ghost use Rattle.ledger_model.specs.Spelling.{IsStatement, frame_bytes};
     ghost use Rattle.instance.specs.Rows.{Row};
     ghost use Rattle.instance.specs.Matching.{Matches, only_rounds};
     ghost use Rattle.instance.specs.Reads.{opened_row, IsSameHeight};
-    ghost use Rattle.instance.specs.Plans.{planned, made_by, Fits, IsSignedIn};
-    ghost use Rattle.instance.specs.Laws.{MakesRight, IsLockSentOn, statements_in};
-    ghost use Rattle.height_row.specs.Heights.{row_at, decided_in, open_answer, AreApart, AreOwn, IsSameReplica};
+    ghost use Rattle.instance.specs.Plans.{chosen_statement, ended, IsOwnMade};
+    ghost use Rattle.instance.specs.Laws.{MayBeSent, MayClose, IsSignedMade, IsLockSentOn, opened_by};
+    ghost use Rattle.height_row.specs.Heights.{row_at, decided_in, open_answer, AreApart, AreAscending, AreFound, AreOwn, IsSameReplica};
+    ghost use Rattle.ledger_model.specs.Limits.{last_round, max_height};
 
     /// No height is open yet.
     pub fn new(alloc: Global, config: &Config, id: ReplicaId) -> Self
@@ -70,6 +73,17 @@ impl HeightRow {
         find_height(&self.instances, height)
     }
 
+    /// What is kept of each open height, by ascending height.
+    pub fn instances(&self) -> &[Instance]
+        ensures rows { result.now ≡ self.now.rows }
+        ensures ascend { AreAscending self.now.rows }
+        // Each stands for its height.
+        ensures found { AreFound self.now.rows }
+        ensures own { AreOwn self.now }
+    {
+        self.instances.as_slice()
+    }
+
     /// The value that was decided at the height, if one was.
     pub fn decided_at(&self, height: Height) -> Option<&Batch>
         ensures row { option_copied result ≡ decided_in (row_at self.now.rows height) }
@@ -82,7 +96,7 @@ impl HeightRow {
     }
 
     /// Opens a height with the own initial value, `committed` blocks being committed. The refusals are tested in the order
-    /// Closed (0, or above 4096), AlreadyOpen, TooFar (above committed + 4). They change nothing, nor does want of memory.
+    /// Closed (0, or above the last), AlreadyOpen, TooFar (more than [`Height::MAX_AHEAD`] above `committed`). They change nothing, nor does want of memory.
     pub fn open(
         &mut self,
         alloc: Global,
@@ -90,8 +104,7 @@ impl HeightRow {
         initial: &Batch,
         committed: u32,
     ) -> Result<Result<(), ProposeRefusal>, AllocError>
-        requires committed { committed ≤ 4096 }
-        requires value { IsValue initial.now }
+        requires committed { committed ≤ max_height }
         ensures answer { IfOk result (λ r. r ≡ open_answer self.old.rows committed height) }
         // The height is open then, and matches every log in which rounds were opened, and then the height.
         ensures opened { IfOk result (λ r. OnOk r (row_at self.new.rows height ≡ Some (opened_row self.old.config self.old.id height initial.now))) }
@@ -104,17 +117,18 @@ impl HeightRow {
         ensures own { AreOwn self.new }
     {
         let is_open = self.get(height).is_some();
-        if height.number() == 0 || 4096 < height.number() {
+        if height.number() == 0 || Height::MAX < height.number() {
             return Ok(Err(ProposeRefusal::Closed));
         }
         if is_open {
             return Ok(Err(ProposeRefusal::AlreadyOpen));
         }
-        if committed + 4 < height.number() {
+        if committed + Height::MAX_AHEAD < height.number() {
             return Ok(Err(ProposeRefusal::TooFar));
         }
         let instance = Instance::open(alloc, &self.config, self.id, height, initial)?;
-        self.instances.push(instance)?;
+        let place = count_below(&self.instances, height);
+        self.instances.insert(place, instance)?;
         Ok(Ok(()))
     }
 
@@ -140,7 +154,7 @@ impl HeightRow {
     ) -> Result<Result<(), Ignored>, AllocError>
         requires signer { signer_of frame.statement < self.old.config.replicas }
         requires open { is_some (row_at self.old.rows (height_of frame.statement)) ≡ true }
-        requires clock { clock ≤ 4000000000 }
+        requires clock { clock ≤ last_round }
         // What is answered, and what it leaves, by every log that the height matches.
         ensures answer { IfOk result (λ r. (row : Row) → row_at self.old.rows (height_of frame.statement) ≡ Some row → (log : List Note)
             → Matches ring.now row log → clock_of log ≡ clock → r ≡ answer_to row.config ring.now log frame) }
@@ -154,65 +168,87 @@ impl HeightRow {
         ensures same { IsSameReplica self.old self.new }
         ensures own { AreOwn self.new }
     {
-        let place = self.position(statements::height(frame.statement()));
+        let place = self.position(frame.statement().height());
         self.instances[place].read(alloc, ring, frame, clock)
     }
 
-    /// What is to be done at an open height as the next round opens, `clock` being the number of the one that closes. Nothing
-    /// changes yet.
+    /// What is to be done at an open height as the next round opens, `clock` being the number of the one that closes: the
+    /// statement that this replica chooses to send, and all else. Nothing changes yet.
     pub fn plan_end(&self, alloc: Global, height: Height, clock: u32) -> Result<Plan, AllocError>
         requires open { is_some (row_at self.now.rows height) ≡ true }
-        requires clock { clock < 4000000000 }
-        ensures plan { IfOk result (λ plan. (row : Row) → row_at self.now.rows height ≡ Some row → plan ≡ planned row (clock + 1)) }
-        ensures makes { IfOk result (λ plan. (row : Row) → row_at self.now.rows height ≡ Some row → (ring : Ring) (log : List Note)
-            → Matches ring row log → clock_of log ≡ clock → MakesRight ring row log plan.making) }
-        // What it makes can be spelled, whatever log there is.
-        ensures spelled { IfOk result (λ plan. AllByRecursion IsStatement (statements_in plan.making)) }
+        requires clock { clock < last_round }
+        ensures statement { IfOk result (λ plan. (row : Row) → row_at self.now.rows height ≡ Some row → plan.statement ≡ chosen_statement row (clock + 1)) }
+        ensures ending { IfOk result (λ plan. (row : Row) → row_at self.now.rows height ≡ Some row → plan.ending ≡ ended row (clock + 1)) }
+        // It chooses what may be sent, by every log that the height matches.
+        ensures may { IfOk result (λ plan. (row : Row) → row_at self.now.rows height ≡ Some row → (ring : Ring) (log : List Note)
+            → Matches ring row log → clock_of log ≡ clock → MayBeSent row log (clock + 1) plan.statement) }
+        // The reports in the proof of a lock are signed.
+        ensures proofs { IfOk result (λ plan. (row : Row) → row_at self.now.rows height ≡ Some row → (ring : Ring) (log : List Note)
+            → Matches ring row log → clock_of log ≡ clock → IfSome plan.statement (λ s. IsTrue (are_signed_reports ring s))) }
+        // The statement is the replica's, of this height, and can be spelled, whatever log there is.
+        ensures signer { IfOk result (λ plan. IfSome plan.statement (λ s. signer_of s ≡ self.now.id)) }
+        ensures height { IfOk result (λ plan. IfSome plan.statement (λ s. height_of s ≡ height)) }
+        ensures spelled { IfOk result (λ plan. IfSome plan.statement IsStatement) }
+        // In a lock-release round it sends on the locks that are held.
         ensures sends_on { IfOk result (λ plan. (row : Row) → row_at self.now.rows height ≡ Some row → (ring : Ring) (log : List Note)
-            → Matches ring row log → clock_of log ≡ clock → place_of (clock + 1) ≡ 4 → plan.sends_on ≡ map frame_bytes (held_locks log)) }
+            → Matches ring row log → clock_of log ≡ clock → place_of (clock + 1) ≡ 4 → plan.ending.sends_on ≡ map frame_bytes (held_locks log)) }
         // Each of those frames reads back as a signed lock of the height.
         ensures readable { IfOk result (λ plan. (row : Row) → row_at self.now.rows height ≡ Some row → (ring : Ring) (log : List Note)
-            → Matches ring row log → AllByRecursion (IsLockSentOn ring height) plan.sends_on) }
+            → Matches ring row log → AllByRecursion (IsLockSentOn ring height) plan.ending.sends_on) }
         ensures own { AreOwn self.now }
     {
         let place = self.position(height);
         self.instances[place].plan_end(alloc, clock)
     }
 
-    /// Opens the next round at an open height: puts the plan in place, which was made for it, and the own statement, if it was
-    /// made. It takes no memory.
-    pub fn close(&mut self, height: Height, plan: Plan, signing: Signing, clock: u32)
+    /// Opens the next round at an open height: puts in place what was prepared for its end, and what of its own the replica
+    /// makes in it. It takes no memory.
+    pub fn close(&mut self, height: Height, ending: Ending, made: Made, clock: u32)
         requires open { is_some (row_at self.old.rows height) ≡ true }
-        requires clock { clock < 4000000000 }
-        requires plan { (row : Row) → row_at self.old.rows height ≡ Some row → plan ≡ planned row (clock + 1) }
-        requires fits { Fits plan.making signing }
+        requires clock { clock < last_round }
+        requires ending { (row : Row) → row_at self.old.rows height ≡ Some row → ending ≡ ended row (clock + 1) }
+        requires own { IsOwnMade self.old.id made }
+        // Every log that the height matched, and by which this may be made, goes on with the round and with what is made.
         ensures matches { (row new : Row) → row_at self.old.rows height ≡ Some row → row_at self.new.rows height ≡ Some new
-            → (ring : Ring) (log : List Note) → Matches ring row log → clock_of log ≡ clock → IsSignedIn ring signing
-            → Matches ring new (log ++ Round (clock + 1) ∷ flat_map (made_notes log (clock + 1)) (made_by plan.making signing)) }
+            → (ring : Ring) (log : List Note) → Matches ring row log → clock_of log ≡ clock → MayClose row log (clock + 1) made
+            → IsSignedMade ring made → Matches ring new (opened_by row log (clock + 1) made) }
         ensures open { is_some (row_at self.new.rows height) ≡ true }
         ensures apart { AreApart height self.old.rows self.new.rows }
         ensures same { IsSameReplica self.old self.new }
         ensures own { AreOwn self.new }
     {
         let place = self.position(height);
-        self.instances[place].close(plan, signing, clock);
+        self.instances[place].close(ending, made, clock);
+    }
+}
+
+/// How many instances are of lower heights: the place of one of this height.
+fn count_below(instances: &[Instance], height: Height) -> usize
+    requires ascend { AreAscending instances.now }
+    ensures { result ≡ place_for height instances.now }
+{
+    instances.partition_point(|instance| instance.height() < height)
+}
+
+/// Where the instance of the height stands, if there is one.
+fn position_of(instances: &[Instance], height: Height) -> Option<usize>
+    requires ascend { AreAscending instances.now }
+    ensures { result ≡ position (λ row. row.height == height) instances.now }
+{
+    let place = count_below(instances, height);
+    let instance = instances.get(place)?;
+    if instance.height() == height {
+        Some(place)
+    } else {
+        None
     }
 }
 
 /// The instance of the height, if there is one.
 fn find_height(instances: &[Instance], height: Height) -> Option<&Instance>
+    requires ascend { AreAscending instances.now }
     ensures { option_copied result ≡ find (λ row. row.height == height) instances.now }
 {
-    instances
-        .iter()
-        .find(|instance| instance.height() == height)
-}
-
-/// Where the instance of the height stands, if there is one.
-fn position_of(instances: &[Instance], height: Height) -> Option<usize>
-    ensures { result ≡ position (λ row. row.height == height) instances.now }
-{
-    instances
-        .iter()
-        .position(|instance| instance.height() == height)
+    let place = position_of(instances, height)?;
+    instances.get(place)
 }

@@ -1,12 +1,8 @@
 -- The answer by what is kept is the answer by the log.
-use Rattle.std.proofs.Common.{◌≡◌, ℕ, zero, suc, ◌<◌, Bool, true, false, not, ◌&&◌, ◌||◌, inl, inr, List, [], ◌∷◌, refl, sym, ap, ◌∙◌, arith}
+use Rattle.std.proofs.Common.{◌≡◌, ℕ, zero, suc, ◌<◌, Bool, true, false, not, ◌&&◌, ◌||◌, inl, inr, List, refl, sym, ap, ◌∙◌, arith}
 use Rattle.std.specs.Prelude.{nat_eq}
 use Rattle.std.specs.Option.{option_map_or}
 use Rattle.std.proofs.lemmas.Bool.{cases_Bool, eqb-true, or_parts, lt-ltb, not-false}
-use Rattle.ledger_model.specs.declared.config.Config.{Config}
-use Rattle.ledger_model.specs.declared.reply.Ignored.{Ignored}
-use Rattle.ledger_model.specs.declared.reply.Ignored.TheVariants as cause
-use Rattle.ledger_model.specs.declared.statement.SignedStatement.{SignedStatement}
 use Rattle.ledger_model.specs.declared.statement.Statement.{Statement}
 use Rattle.ledger_model.specs.declared.statement.Statement.TheVariants as statement
 use Rattle.ledger_model.specs.Values.{same_value}
@@ -14,13 +10,14 @@ use Rattle.ledger_model.specs.Rounds.{phase_of, place_of, round_at}
 use Rattle.ledger_model.specs.Notes.{Note, clock_of, signer_of, is_report, is_lock, is_ack, was_read, was_made}
 use Rattle.ledger_model.specs.LockTables.{has_four_others}
 use Rattle.ledger_model.specs.Tallies.{all_read}
-use Rattle.ledger_model.specs.Rules.{Ring, has_place, has_phase, has_owner, is_signed, is_proved, is_repeated, is_table_full, is_not_mine, first_of, causes}
+use Rattle.ledger_model.specs.Rules.{Ring, has_place, has_phase, is_repeated, is_table_full, is_not_mine, first_of, place_causes, proof_causes, causes}
 use Rattle.lock_proofs.proofs.HeldLocks.{full_alike}
 use Rattle.instance.specs.Rows.{Row}
 use Rattle.instance.specs.Matching.{Matches}
 use Rattle.instance.specs.Reads.{is_kept_already}
 use Rattle.instance.specs.Laws.{Answers}
-use Rattle.instance.proofs.KeptPlaces.{any_mapped, taken_place}
+use Rattle.ledger_model.proofs.Lists.{any_mapped}
+use Rattle.instance.proofs.KeptPlaces.{taken_place}
 
 -- ---- where a statement is of the open round and phase
 
@@ -56,59 +53,30 @@ module _ (ring : Ring) (row : Row) (log : List Note) (m : Matches ring row log) 
   repeated_alike : (s : Statement) → OnTime now s → is_kept_already row now s ≡ is_repeated log s
   repeated_alike (statement.Report r) t =
       let here = round_is now 1 (eqb-true (place_of now) 1 t.place) t.some in
-      taken_place (λ s. s.report.signer) row.reports (λ q s h. (m.kept q s h).of_signer) r.signer
+      taken_place (λ s. s.report.signer) row.reports (λ q s h. (m.reports.kept q s h).of_signer) r.signer
       ∙ sym (any_mapped (λ p. nat_eq p.signer r.signer) (λ s. s.report) (all_read row.reports))
-      ∙ sym (m.reports (λ p. nat_eq p.signer r.signer)) ∙ ap (λ c. was_read log c (is_report (λ p. nat_eq p.signer r.signer))) (sym here)
+      ∙ sym (m.reports.same (λ p. nat_eq p.signer r.signer)) ∙ ap (λ c. was_read log c (is_report (λ p. nat_eq p.signer r.signer))) (sym here)
   repeated_alike (statement.Lock l) t =
       elim (cases_Bool (nat_eq (place_of now) 2)) [
         | inl second ↦
             let here = round_is now 2 (eqb-true (place_of now) 2 second) t.some in
-            ap (λ b. nat_eq (place_of now) 2 && b) (sym m.locked ∙ ap (λ c. was_read log c (is_lock (λ l. true))) (sym here))
+            ap (λ b. nat_eq (place_of now) 2 && b) (sym m.lock.locked ∙ ap (λ c. was_read log c (is_lock (λ l. true))) (sym here))
         | inr other ↦ rw other refl
       ]
   repeated_alike (statement.Ack a) t =
       let here = round_is now 3 (eqb-true (place_of now) 3 t.place) t.some in
-      taken_place (λ b. b.signer) row.acks m.ackers a.signer
-      ∙ sym (m.acks (λ b. nat_eq b.signer a.signer)) ∙ ap (λ c. was_read log c (is_ack (λ b. nat_eq b.signer a.signer))) (sym here)
+      taken_place (λ b. b.signer) row.acks m.acks.ackers a.signer
+      ∙ sym (m.acks.same (λ b. nat_eq b.signer a.signer)) ∙ ap (λ c. was_read log c (is_ack (λ b. nat_eq b.signer a.signer))) (sym here)
 
   table_alike : (s : Statement) → (nat_eq (place_of now) 2 && is_lock (λ l. has_four_others l.value row.table) s) ≡ is_table_full log s
   table_alike s = λ i. nat_eq (place_of now) 2 && is_lock (λ l. full_alike log row.table m.locks l.value i) s
 
-  not_mine_alike : (s : Statement) → OnTime now s → is_ack (λ a. not (option_map_or (λ l. same_value a.value l.value) row.made false)) s ≡ is_not_mine log s
+  not_mine_alike : (s : Statement) → OnTime now s → is_ack (λ a. not (option_map_or (same_value a.value) row.made false)) s ≡ is_not_mine log s
   not_mine_alike (statement.Report r) t = refl
   not_mine_alike (statement.Lock l) t = refl
   not_mine_alike (statement.Ack a) t =
       let phase : a.phase ≡ phase_of now = eqb-true a.phase (phase_of now) t.phase in
-      ap not (sym (m.made (λ l. same_value a.value l.value)) ∙ ap (λ k. was_made log (round_at 2 k) (is_lock (λ l. same_value a.value l.value))) (sym phase))
-
--- a cause that both lists begin with
-same_first : {C : Type 0} (b : Bool) (e : C) (xs ys : List (Bool × C)) → (b ≡ false → first_of xs ≡ first_of ys) → first_of ((b, e) ∷ xs) ≡ first_of ((b, e) ∷ ys)
-same_first true e xs ys same = refl
-same_first false e xs ys same = same refl
-
--- the causes from the owner on, by what is repeated, for what there is no place, and what is not of the own lock
-abbrev later_causes : Config → Ring → SignedStatement → Bool → Bool → Bool → List (Bool × Ignored)
-later_causes config ring s repeated full not_mine =
-    (not (has_owner config s.statement), cause.NotOwner)
-    ∷ (repeated, cause.Repeated)
-    ∷ (not (is_signed ring s), cause.BadSignature)
-    ∷ (is_lock (λ l. not (is_proved config ring l)) s.statement, cause.BadProof)
-    ∷ (full, cause.TableFull)
-    ∷ (not_mine, cause.NotMine)
-    ∷ []
-
-module _ (ring : Ring) (row : Row) (log : List Note) (s : SignedStatement) (m : Matches ring row log) where
-  abbrev kept_later : List (Bool × Ignored)
-  kept_later = later_causes row.config ring s (is_kept_already row (clock_of log) s.statement)
-      (nat_eq (place_of (clock_of log)) 2 && is_lock (λ l. has_four_others l.value row.table) s.statement)
-      (is_ack (λ a. not (option_map_or (λ l. same_value a.value l.value) row.made false)) s.statement)
-
-  abbrev log_later : List (Bool × Ignored)
-  log_later = later_causes row.config ring s (is_repeated log s.statement) (is_table_full log s.statement) (is_not_mine log s.statement)
-
-  later_alike : OnTime (clock_of log) s.statement → first_of kept_later ≡ first_of log_later
-  later_alike t = λ i. first_of (later_causes row.config ring s (repeated_alike ring row log m s.statement t i)
-      (table_alike ring row log m s.statement i) (not_mine_alike ring row log m s.statement t i))
+      ap not (sym (m.lock.made (same_value a.value)) ∙ ap (λ k. was_made log (round_at 2 k) (is_lock (λ l. same_value a.value l.value))) (sym phase))
 
 pub answers : Answers
 unfolding causes
@@ -116,6 +84,13 @@ answers ring row log s m below =
     let round : Bool = nat_eq (clock_of log) 0 || not (has_place (place_of (clock_of log)) s.statement) in
     let phase : Bool = not (has_phase (clock_of log) s.statement) in
     rw (lt-ltb (signer_of s.statement) row.config.replicas below, m.opened)
-    (same_first round cause.WrongRound ((phase, cause.WrongPhase) ∷ kept_later ring row log s m) ((phase, cause.WrongPhase) ∷ log_later ring row log s m) (λ on_round.
-    same_first phase cause.WrongPhase (kept_later ring row log s m) (log_later ring row log s m) (λ on_phase.
-    later_alike ring row log s m (on_time (clock_of log) s.statement on_round on_phase))))
+    (elim (cases_Bool round) [
+      | inl late ↦ rw late refl
+      | inr on_round ↦ elim (cases_Bool phase) [
+        | inl other ↦ rw (on_round, other) refl
+        | inr on_phase ↦
+            let t = on_time (clock_of log) s.statement on_round on_phase in
+            λ i. first_of (place_causes row.config (clock_of log) (repeated_alike ring row log m s.statement t i) s.statement
+            (proof_causes row.config ring (table_alike ring row log m s.statement i) (not_mine_alike ring row log m s.statement t i) s))
+      ]
+    ])

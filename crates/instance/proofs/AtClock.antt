@@ -1,24 +1,25 @@
 -- The laws, said of a clock and a plan that are given.
 use Rattle.std.proofs.Common.{◌≡◌, ℕ, ◌+◌, ◌<◌, List, [], ◌∷◌, ◌++◌, sym, ap, subst, ◌∙◌}
-use Rattle.std.specs.Prelude.{map, Ok, Result}
-use Rattle.std.specs.List.{flat_map}
+use Rattle.std.specs.Prelude.{map, Option, Some, None, IfSome, IsTrue, Ok, Result}
+use Rattle.std.specs.List.{AllByRecursion}
 use Rattle.ledger_model.specs.declared.reply.Ignored.{Ignored}
 use Rattle.ledger_model.specs.declared.statement.SignedStatement.{SignedStatement}
 use Rattle.ledger_model.specs.Rounds.{place_of}
-use Rattle.ledger_model.specs.Notes.{Note, Round, Read, clock_of, signer_of}
-use Rattle.ledger_model.specs.Logs.{height_of, made_notes}
+use Rattle.ledger_model.specs.Notes.{Note, Read, clock_of, signer_of}
+use Rattle.ledger_model.specs.Logs.{height_of}
 use Rattle.ledger_model.specs.Rules.{Ring, answer_to, first_of}
-use Rattle.ledger_model.specs.Lawful.{held_locks}
+use Rattle.ledger_model.specs.Lawful.{held_locks, are_signed_reports}
+use Rattle.ledger_model.specs.declared.statement.Statement.{Statement}
 use Rattle.ledger_model.specs.Spelling.{IsFrame, frame_bytes}
-use Rattle.instance.specs.declared.plan.Signing.{Signing}
+use Rattle.instance.specs.declared.made.Made.{Made}
 use Rattle.instance.specs.Rows.{Row}
 use Rattle.instance.specs.Matching.{Matches}
 use Rattle.instance.specs.Reads.{row_causes, after_read}
-use Rattle.instance.specs.Plans.{Planned, planned, made_by, Fits, IsSignedIn, closed}
-use Rattle.instance.specs.Laws.{MakesRight}
+use Rattle.instance.specs.Plans.{Ended, MaySend, chosen_statement, ended, closed}
+use Rattle.instance.specs.Laws.{MayBeSent, MayClose, IsLockSentOn, IsSignedMade, IsFrameMade, opened_by}
 use Rattle.instance.proofs.Answering.{answers}
 use Rattle.instance.proofs.ReadNotes.{reads}
-use Rattle.instance.proofs.Makes.{makes, sends_on}
+use Rattle.instance.proofs.Makes.{allows, allowed, chooses, proves_signed, sends_on, sends_locks}
 use Rattle.instance.proofs.Closes.{closes}
 
 pub answers_at : (ring : Ring) (row : Row) (log : List Note) (c : ℕ) (s : SignedStatement) (r : Result (Unit {0}) Ignored)
@@ -36,26 +37,41 @@ reads_at ring row new log c s ok is member height frame matches clock =
     subst (λ r. Matches ring r (log ++ Read c s ∷ [])) (sym is)
     (subst (λ n. Matches ring (after_read row n s) (log ++ Read n s ∷ [])) clock (reads ring row log s matches member height frame at_clock))
 
-pub makes_at : (ring : Ring) (row : Row) (log : List Note) (c : ℕ) (plan : Planned)
-    → plan ≡ planned row (c + 1) → c < 4000000000 → Matches ring row log → clock_of log ≡ c → MakesRight ring row log plan.making
-makes_at ring row log c plan is low matches clock =
-    let planned_is : planned row (clock_of log + 1) ≡ plan = ap (λ n. planned row (n + 1)) clock ∙ sym is in
-    subst (λ p. MakesRight ring row log p.making) planned_is (makes ring row log matches (subst (λ n. n < 4000000000) (sym clock) low))
+pub allows_at : (ring : Ring) (row : Row) (log : List Note) (c : ℕ) (sent : Option Statement)
+    → MaySend row (c + 1) sent → Matches ring row log → clock_of log ≡ c → MayBeSent row log (c + 1) sent
+allows_at ring row log c sent may matches clock =
+    subst (λ n. MayBeSent row log (n + 1) sent) clock (allows ring row log sent matches (subst (λ n. MaySend row (n + 1) sent) (sym clock) may))
 
-pub sends_at : (ring : Ring) (row : Row) (log : List Note) (c : ℕ) (plan : Planned)
-    → plan ≡ planned row (c + 1) → Matches ring row log → clock_of log ≡ c → place_of (c + 1) ≡ 4
-    → plan.sends_on ≡ map frame_bytes (held_locks log)
-sends_at ring row log c plan is matches clock place =
-    ap (λ (p : Planned). p.sends_on) (is ∙ ap (λ n. planned row (n + 1)) (sym clock))
+pub allowed_at : (ring : Ring) (row : Row) (log : List Note) (c : ℕ) (sent : Option Statement)
+    → MayBeSent row log (c + 1) sent → Matches ring row log → clock_of log ≡ c → MaySend row (c + 1) sent
+allowed_at ring row log c sent may matches clock =
+    subst (λ n. MaySend row (n + 1) sent) clock (allowed ring row log sent matches (subst (λ n. MayBeSent row log (n + 1) sent) (sym clock) may))
+
+pub chooses_at : (ring : Ring) (row : Row) (log : List Note) (c : ℕ) → Matches ring row log → clock_of log ≡ c → MaySend row (c + 1) (chosen_statement row (c + 1))
+chooses_at ring row log c matches clock = subst (λ n. MaySend row (n + 1) (chosen_statement row (n + 1))) clock (chooses ring row log matches)
+
+pub signed_at : (ring : Ring) (row : Row) (log : List Note) (c : ℕ) (sent : Option Statement)
+    → MaySend row (c + 1) sent → Matches ring row log → clock_of log ≡ c → IfSome sent (λ s. IsTrue (are_signed_reports ring s))
+signed_at ring row log c None may matches clock = tt
+signed_at ring row log c (Some s) may matches clock = proves_signed ring row log s matches (subst (λ n. MaySend row (n + 1) (Some s)) (sym clock) may)
+
+pub sends_at : (ring : Ring) (row : Row) (log : List Note) (c : ℕ) (ending : Ended)
+    → ending ≡ ended row (c + 1) → Matches ring row log → clock_of log ≡ c → place_of (c + 1) ≡ 4
+    → ending.sends_on ≡ map frame_bytes (held_locks log)
+sends_at ring row log c ending is matches clock place =
+    ap (λ (e : Ended). e.sends_on) (is ∙ ap (λ n. ended row (n + 1)) (sym clock))
     ∙ sends_on ring row log matches (ap (λ n. place_of (n + 1)) clock ∙ place)
 
-pub closes_at : (ring : Ring) (row new : Row) (log : List Note) (c : ℕ) (plan : Planned) (g : Signing)
-    → plan ≡ planned row (c + 1) → new ≡ closed row (c + 1) plan (made_by plan.making g) → Fits plan.making g → IsSignedIn ring g
-    → Matches ring row log → clock_of log ≡ c
-    → Matches ring new (log ++ Round (c + 1) ∷ flat_map (made_notes log (c + 1)) (made_by plan.making g))
-closes_at ring row new log c plan g is then fits signed matches clock =
-    let planned_is : planned row (clock_of log + 1) ≡ plan = ap (λ n. planned row (n + 1)) clock ∙ sym is in
-    let base = closes ring row log g matches (subst (λ p. Fits p.making g) (sym planned_is) fits) signed in
-    subst (λ r. Matches ring r (log ++ Round (c + 1) ∷ flat_map (made_notes log (c + 1)) (made_by plan.making g))) (sym then)
-    (subst (λ n. Matches ring (closed row (n + 1) plan (made_by plan.making g)) (log ++ Round (n + 1) ∷ flat_map (made_notes log (n + 1)) (made_by plan.making g))) clock
-    (subst (λ p. Matches ring (closed row (clock_of log + 1) p (made_by p.making g)) (log ++ Round (clock_of log + 1) ∷ flat_map (made_notes log (clock_of log + 1)) (made_by p.making g))) planned_is base))
+pub readable_at : (ring : Ring) (row : Row) (log : List Note) (c : ℕ) (ending : Ended)
+    → ending ≡ ended row (c + 1) → Matches ring row log → AllByRecursion (IsLockSentOn ring row.height) ending.sends_on
+readable_at ring row log c ending is matches =
+    subst (λ (e : Ended). AllByRecursion (IsLockSentOn ring row.height) e.sends_on) (sym is) (sends_locks ring row log (c + 1) matches)
+
+pub closes_at : (ring : Ring) (row new : Row) (log : List Note) (c : ℕ) (ending : Ended) (m : Made)
+    → ending ≡ ended row (c + 1) → new ≡ closed row (c + 1) ending m → IsFrameMade m
+    → Matches ring row log → clock_of log ≡ c → MayClose row log (c + 1) m → IsSignedMade ring m
+    → Matches ring new (opened_by row log (c + 1) m)
+closes_at ring row new log c ending m is then frame matches clock may signed =
+    subst (λ r. Matches ring r (opened_by row log (c + 1) m)) (sym (then ∙ ap (λ e. closed row (c + 1) e m) is))
+    (subst (λ n. Matches ring (closed row (n + 1) (ended row (n + 1)) m) (opened_by row log (n + 1) m)) clock
+    (closes ring row log m matches (subst (λ n. MayClose row log (n + 1) m) (sym clock) may) signed frame))

@@ -1,7 +1,7 @@
 -- As place 1 opens: the phase before is forgotten, and the own report is the first that is read.
 use Rattle.std.proofs.Common.{◌≡◌, ℕ, ◌+◌, Bool, inl, inr, List, [], ◌∷◌, ◌++◌, length, refl, sym, ap, subst, ◌∙◌, arith}
 use Rattle.std.specs.Prelude.{Some, None, replicate, IsTrue}
-use Rattle.std.specs.List.{list_any, flat_map}
+use Rattle.std.specs.List.{list_any}
 use Rattle.std.proofs.Math.Bool.{or-false}
 use Rattle.std.proofs.lemmas.Bool.{eq-eqb}
 use Rattle.std.proofs.lemmas.List.{length-replicate}
@@ -9,100 +9,106 @@ use Rattle.ledger_model.specs.declared.statement.Ack.{Ack}
 use Rattle.ledger_model.specs.declared.statement.Report.{Report}
 use Rattle.ledger_model.specs.declared.statement.SignedReport.{SignedReport}
 use Rattle.ledger_model.specs.declared.statement.SignedStatement.{SignedStatement}
-use Rattle.ledger_model.specs.declared.statement.Statement.TheVariants as statement
 use Rattle.ledger_model.specs.Rounds.{phase_of, place_of, round_at}
-use Rattle.ledger_model.specs.Notes.{Note, Round, Read, Has, clock_of, is_report, was_read}
-use Rattle.ledger_model.specs.Locks.{or_else}
-use Rattle.ledger_model.specs.Logs.{made_notes}
+use Rattle.ledger_model.specs.Notes.{Note, Read, Has, clock_of, is_report, was_read}
 use Rattle.ledger_model.specs.Lawful.{held_locks}
-use Rattle.ledger_model.specs.Rules.{Ring, is_signed}
+use Rattle.ledger_model.specs.Rules.{Ring, is_signed, with_signature}
 use Rattle.ledger_model.specs.Phases.{reports_of}
 use Rattle.ledger_model.specs.Spelling.{IsFrame}
 use Rattle.ledger_model.specs.Tallies.{Places, all_read, read_of}
-use Rattle.ledger_model.proofs.Lists.{has_right}
-use Rattle.ledger_model.proofs.Goodness.{initial_of-append}
-use Rattle.instance.specs.declared.plan.Making.TheVariants as making
-use Rattle.instance.specs.declared.plan.Signing.{Signing}
-use Rattle.instance.specs.declared.plan.Signing.TheVariants as signing
+use Rattle.ledger_model.proofs.Lists.{has_right, has_cases}
 use Rattle.instance.specs.Rows.{Row}
-use Rattle.instance.specs.Matching.{Matches, MatchesIn, IsSound, IsKept}
-use Rattle.instance.specs.Plans.{Planned, makes_only, own_report, made_by, Fits, IsSignedIn, forgotten, with_ends, with_all, added}
-use Rattle.instance.proofs.OpenedRounds.{IsNext, alone, with_read, next_alone, next_read, held_alone, held_read, read_now, read_none, read_later, made_later, proper_kept, decided_before, none_taken, or_else-none, frame_of}
-use Rattle.instance.proofs.PlaceLists.{none_read, none_there, added_length, added_read, added_there}
-
--- what is kept of the phase as it opens
-abbrev in_phase : Row → Places SignedReport → Row
-in_phase row reports =
-    record row { reports = reports; acks = replicate row.config.replicas None; taken = None; made = None; decided = or_else row.decided None }
+use Rattle.instance.specs.Matching.{Matches, ReportsMatch, LockMatches, AcksMatch, IsSound, IsKept}
+use Rattle.instance.specs.Plans.{own_report, forgotten, with_own, added}
+use Rattle.instance.proofs.KeptPlaces.{there_now}
+use Rattle.instance.proofs.NewParts.{signed_is}
+use Rattle.instance.proofs.OpenedRounds.{IsNext, alone, with_read, next_alone, next_read, held_alone, held_read, read_now, read_none, read_later, made_later, proper_kept, decided_before, none_taken, with_parts, opens_next}
+use Rattle.instance.proofs.PlaceLists.{none_read, none_there, added_is, added_length, added_read, added_there}
 
 -- places of which nothing was read
-abbrev no_reports : Row → Places SignedReport
-no_reports row = replicate row.config.replicas None
-
--- the reports that were read in phase k are kept
-record AreKept (ring : Ring) (row : Row) (log : List Note) (k : ℕ) (reports : Places SignedReport) : Type 0 where
-  places : length reports ≡ row.config.replicas
-  same : (test : Report → Bool) → was_read log (round_at 1 k) (is_report test) ≡ list_any test (reports_of (all_read reports))
-  kept : (r : ℕ) (s : SignedReport) → read_of reports r ≡ Some s → IsKept ring row.height log k r s
+abbrev none_yet : {X : Type 0} → Row → Places X
+none_yet row = replicate row.config.replicas None
 
 module _ (ring : Ring) (row : Row) (log : List Note) (old : Matches ring row log) (place : place_of (clock_of log + 1) ≡ 1) where
+  abbrev k : ℕ
+  k = phase_of (clock_of log + 1)
+
+  at : round_at 1 k ≡ clock_of log + 1
+  at = omega arith
+
+  -- nothing was made of the phase, nor acknowledged in it
+  no_lock : (more : List Note) → IsNext log more → LockMatches (log ++ more) k None None
+  no_lock more next = record {
+    locked = read_later log more next (round_at 2 k) _ (omega arith);
+    taken = sym (none_taken (log ++ more) k (λ test. read_later log more next (round_at 2 k) test (omega arith)));
+    made = λ test. made_later log more next (round_at 2 k) _ (omega arith);
+  }
+
+  no_acks : (more : List Note) → IsNext log more → AcksMatch row.config.replicas (log ++ more) k (none_yet row)
+  no_acks more next = record {
+    count = length-replicate row.config.replicas None;
+    same = λ test. read_later log more next (round_at 3 k) _ (omega arith) ∙ sym (ap (list_any test) (none_read row.config.replicas));
+    ackers = λ r a e. absurd (cc (none_there {X = Ack} row.config.replicas r));
+  }
+
   opens_phase : (more : List Note) (reports : Places SignedReport) → IsNext log more → held_locks (log ++ more) ≡ held_locks log
-      → AreKept ring row (log ++ more) (phase_of (clock_of log + 1)) reports → IsSound ring (in_phase row reports) → Matches ring (in_phase row reports) (log ++ more)
-  opens_phase more reports next held are spelled =
-      let k : ℕ = phase_of (clock_of log + 1) in
-      let all : MatchesIn ring (in_phase row reports) (log ++ more) k = record {
-        cluster = old.cluster;
-        member = old.member;
-        sound = spelled;
-        opened = initial_of-append log more row.proper.own old.opened;
-        timely = next.timely;
-        made_by_now = next.made;
-        proper = old.proper ∙ proper_kept log more next row.config row.id row.proper.own (λ e. omega arith);
-        locks = old.locks ∙ sym held;
-        decided = or_else-none row.decided ∙ old.decided ∙ sym (decided_before log more next row.config (omega arith));
-        report_places = are.places;
-        reports = are.same;
-        kept = are.kept;
-        locked = read_later log more next (round_at 2 k) _ (omega arith);
-        taken = sym (none_taken (log ++ more) k (λ test. read_later log more next (round_at 2 k) test (omega arith)));
-        made = λ test. made_later log more next (round_at 2 k) _ (omega arith);
-        made_in = tt;
-        ack_places = length-replicate row.config.replicas None;
-        acks = λ test. read_later log more next (round_at 3 k) _ (omega arith) ∙ sym (ap (list_any test) (none_read row.config.replicas));
-        ackers = λ r a e. absurd (cc (none_there {X = Ack} row.config.replicas r));
-      } in
-      subst (λ c. MatchesIn ring (in_phase row reports) (log ++ more) (phase_of c)) (sym next.clock) all
+      → ReportsMatch ring row.config.replicas row.height (log ++ more) k reports
+      → IsSound ring (with_parts ring row log old row.proper row.table reports (none_yet row) None None row.decided)
+      → Matches ring (with_parts ring row log old row.proper row.table reports (none_yet row) None None row.decided) (log ++ more)
+  opens_phase more reports next held are sound =
+      opens_next ring row log old more row.proper row.table reports (none_yet row) None None row.decided next sound refl
+      (old.proper ∙ proper_kept log more next row.config row.id row.proper.own (λ e. omega arith))
+      (old.locks ∙ sym held)
+      (old.decided ∙ sym (decided_before log more next row.config (omega arith)))
+      are (no_lock more next) (no_acks more next)
 
-  none_kept : AreKept ring row (log ++ alone log) (phase_of (clock_of log + 1)) (no_reports row)
-  none_kept =
-      let k : ℕ = phase_of (clock_of log + 1) in
-      let at : round_at 1 k ≡ clock_of log + 1 = omega arith in
-      record {
-        places = length-replicate row.config.replicas None;
-        same = λ test. ap (λ c. was_read (log ++ alone log) c (is_report test)) at ∙ read_none log old.timely old.made_by_now (is_report test)
-            ∙ sym (ap (λ xs. list_any test (reports_of xs)) (none_read row.config.replicas));
-        kept = λ r s e. absurd (cc (none_there {X = SignedReport} row.config.replicas r));
-      }
+  abbrev was_read_in : List Note → ℕ → (Report → Bool) → Bool
+  was_read_in notes c test = was_read notes c (is_report test)
 
-  -- the own report, with its signature
+  -- no report was read in the round before it opened
+  not_yet : (s : SignedReport) → Has log (Read (clock_of log + 1) (with_signature s)) → ⊥
+  not_yet s has = let past = old.timely.past (clock_of log + 1) (with_signature s) has in omega arith
+
+  not_read : (s : SignedReport) → Has (log ++ alone log) (Read (clock_of log + 1) (with_signature s)) → ⊥
+  not_read s has = elim (has_cases log (alone log) (Read (clock_of log + 1) (with_signature s)) has) [
+    | inl before ↦ not_yet s before
+    | inr new ↦ elim new [ inl e ↦ absurd (cc) | inr none ↦ none ]
+  ]
+
+  read_is : {c : ℕ} {f g : SignedStatement} → Read c f ≡ Read c g → f ≡ g
+  read_is e = cc
+
+  -- ---- nothing is made
+
+  none_kept : ReportsMatch ring row.config.replicas row.height (log ++ alone log) k (none_yet row)
+  none_kept = record {
+    count = length-replicate row.config.replicas None;
+    same = λ test. ap (λ c. was_read_in (log ++ alone log) c test) at ∙ read_none log old.timely old.made_by_now (is_report test)
+        ∙ sym (ap (λ xs. list_any test (reports_of xs)) (none_read row.config.replicas));
+    kept = λ r s e. absurd (cc (none_there {X = SignedReport} row.config.replicas r));
+    every = λ s has. absurd (not_read s (subst (λ c. Has (log ++ alone log) (Read c (with_signature s))) at has));
+  }
+
+  pub closes_mute : IsSound ring (forgotten row) → Matches ring (forgotten row) (log ++ alone log)
+  closes_mute sound = opens_phase (alone log) (none_yet row) (next_alone log old.timely old.made_by_now) (held_alone log old.timely old.made_by_now) none_kept sound
+
+  -- ---- the own report is made, with its signature
+
   abbrev own : List ℕ → SignedReport
-  own signature = record { report = own_report row (phase_of (clock_of log + 1)); signature = signature }
+  own signature = record { report = own_report row k; signature = signature }
 
   abbrev frame : List ℕ → SignedStatement
-  frame signature = record { statement = statement.Report (own_report row (phase_of (clock_of log + 1))); signature = signature }
+  frame signature = with_signature (own signature)
 
   one_kept : (signature : List ℕ) → IsTrue (is_signed ring (frame signature)) → IsFrame (frame signature)
-      → AreKept ring row (log ++ with_read log (frame signature).statement (frame signature)) (phase_of (clock_of log + 1))
-      (added (no_reports row) row.id (own signature))
+      → ReportsMatch ring row.config.replicas row.height (log ++ with_read log (frame signature).statement (frame signature)) k (added (none_yet row) row.id (own signature))
   one_kept signature signed spelled =
-      let k : ℕ = phase_of (clock_of log + 1) in
       let f : SignedStatement = frame signature in
       let more : List Note = with_read log f.statement f in
-      let at : round_at 1 k ≡ clock_of log + 1 = omega arith in
       let none = none_read {X = SignedReport} row.config.replicas in
-      let all : length (no_reports row) ≡ row.config.replicas = length-replicate row.config.replicas None in
+      let all : length (none_yet {X = SignedReport} row) ≡ row.config.replicas = length-replicate row.config.replicas None in
       let member = old.member in
-      let first : all_read (added (no_reports row) row.id (own signature)) ≡ own signature ∷ [] = added_read (no_reports row) row.id (own signature) none (omega arith) in
+      let first : all_read (added (none_yet row) row.id (own signature)) ≡ own signature ∷ [] = added_read (none_yet row) row.id (own signature) none (omega arith) in
       let kept : IsKept ring row.height (log ++ more) k row.id (own signature) = record {
         of_height = refl;
         of_phase = refl;
@@ -112,43 +118,36 @@ module _ (ring : Ring) (row : Row) (log : List Note) (old : Matches ring row log
         read = subst (λ c. Has (log ++ more) (Read c f)) (sym at) (has_right log more (Read (clock_of log + 1) f) (inr (inr (inl refl))));
       } in
       record {
-        places = added_length (no_reports row) row.id (own signature) none ∙ length-replicate row.config.replicas None;
-        same = λ test. ap (λ c. was_read (log ++ more) c (is_report test)) at ∙ read_now log old.timely old.made_by_now f.statement f (is_report test)
+        count = added_length (none_yet row) row.id (own signature) none ∙ length-replicate row.config.replicas None;
+        same = λ test. ap (λ c. was_read_in (log ++ more) c test) at ∙ read_now log old.timely old.made_by_now f.statement f (is_report test)
             ∙ sym (ap (λ xs. list_any test (reports_of xs)) first ∙ or-false (test (own signature).report));
         kept = λ r s e.
-            let there = added_there (no_reports row) row.id (own signature) none r s e in
+            let there = added_there (none_yet row) row.id (own signature) none r s e in
             subst (λ q. IsKept ring row.height (log ++ more) k q s) (sym there.0) (subst (λ x. IsKept ring row.height (log ++ more) k row.id x) there.1 kept);
+        every = λ s has. elim (has_cases log more (Read (clock_of log + 1) (with_signature s)) (subst (λ c. Has (log ++ more) (Read c (with_signature s))) at has)) [
+          | inl before ↦ absurd (not_yet s before)
+          | inr new ↦ elim new [
+            | inl e ↦ absurd (cc)
+            | inr then ↦ elim then [
+              | inl e ↦ absurd (cc)
+              | inr last ↦ elim last [
+                | inl e ↦
+                    (let is : own signature ≡ s = signed_is (own signature) s (read_is e) in
+                    subst (λ x. read_of (added (none_yet row) row.id (own signature)) x.report.signer ≡ Some x) is
+                    (ap (λ ps. read_of ps row.id) (added_is (none_yet row) row.id (own signature) none) ∙ there_now (none_yet row) row.id (own signature) (omega arith)))
+                | inr none_left ↦ absurd none_left
+              ]
+            ]
+          ]
+        ];
       }
 
-  abbrev reporting : Planned
-  reporting = makes_only (making.ToSign (statement.Report (own_report row (phase_of (clock_of log + 1)))))
-
-  -- what is kept, and the log, where these statements were made
-  abbrev kept_with : List SignedStatement → Row
-  kept_with made = with_all made (with_ends reporting (forgotten row))
-
-  abbrev log_with : List SignedStatement → List Note
-  log_with made = log ++ Round (clock_of log + 1) ∷ flat_map (made_notes log (clock_of log + 1)) made
-
-  one_made : (signature : List ℕ) → IsTrue (is_signed ring (frame signature)) → IsFrame (frame signature)
-      → IsSound ring (kept_with (frame signature ∷ [])) → Matches ring (kept_with (frame signature ∷ [])) (log_with (frame signature ∷ []))
-  one_made signature signed is_frame spelled =
+  pub closes_reported : (signature : List ℕ) → IsTrue (is_signed ring (frame signature)) → IsFrame (frame signature)
+      → IsSound ring (with_own (frame signature) (forgotten row))
+      → Matches ring (with_own (frame signature) (forgotten row)) (log ++ with_read log (frame signature).statement (frame signature))
+  closes_reported signature signed is_frame sound =
       let f : SignedStatement = frame signature in
-      opens_phase (with_read log f.statement f) (added (no_reports row) row.id (own signature))
-      (next_read log old.timely old.made_by_now f.statement f (eq-eqb (phase_of (clock_of log + 1)) (phase_of (clock_of log + 1)) refl))
+      opens_phase (with_read log f.statement f) (added (none_yet row) row.id (own signature))
+      (next_read log old.timely old.made_by_now f.statement f (eq-eqb k k refl))
       (held_read log old.timely old.made_by_now f.statement f refl)
-      (one_kept signature signed is_frame) spelled
-
-  pub closes_reports : (g : Signing) → Fits reporting.making g → IsSignedIn ring g
-      → IsSound ring (kept_with (made_by reporting.making g)) → Matches ring (kept_with (made_by reporting.making g)) (log_with (made_by reporting.making g))
-  closes_reports signing.Mute fits signed spelled =
-      opens_phase (alone log) (no_reports row) (next_alone log old.timely old.made_by_now) (held_alone log old.timely old.made_by_now) none_kept spelled
-  closes_reports signing.NothingToSign fits signed spelled = absurd fits
-  closes_reports (signing.Signed own_frame) fits signed spelled =
-      made_as (sym (frame_of own_frame.frame (statement.Report (own_report row (phase_of (clock_of log + 1)))) fits.0)) signed.0 signed.1 spelled
-    where
-      made_as : frame own_frame.frame.signature ≡ own_frame.frame → IsTrue (is_signed ring own_frame.frame) → IsFrame own_frame.frame
-          → IsSound ring (kept_with (own_frame.frame ∷ [])) → Matches ring (kept_with (own_frame.frame ∷ [])) (log_with (own_frame.frame ∷ []))
-      made_as is =
-          subst (λ f. IsTrue (is_signed ring f) → IsFrame f → IsSound ring (kept_with (f ∷ [])) → Matches ring (kept_with (f ∷ [])) (log_with (f ∷ [])))
-          is (one_made own_frame.frame.signature)
+      (one_kept signature signed is_frame) sound

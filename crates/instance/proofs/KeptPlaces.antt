@@ -1,6 +1,6 @@
 -- Places with one element more, and which places are empty.
-use Rattle.std.proofs.Common.{◌≡◌, ℕ, zero, suc, ◌<◌, Bool, ◌||◌, true, ◌⊎◌, inl, inr, List, [], ◌∷◌, length, refl, sym, ap, ◌∙◌, arith}
-use Rattle.std.specs.Prelude.{map, nat_eq, Option, Some, None, is_some, slice_set}
+use Rattle.std.proofs.Common.{◌≡◌, ℕ, zero, suc, ◌<◌, Bool, ◌||◌, true, ◌⊎◌, inl, inr, [], ◌∷◌, length, refl, sym, ap, ◌∙◌, arith}
+use Rattle.std.specs.Prelude.{nat_eq, Option, Some, None, is_some, slice_set}
 use Rattle.std.specs.List.{list_any}
 use Rattle.std.specs.Cmp.{both_ways}
 use Rattle.std.proofs.Math.Bool.{or_comm, or_assoc}
@@ -10,11 +10,6 @@ use Rattle.ledger_model.specs.Tallies.{Places, all_read, read_of}
 use Rattle.ledger_model.proofs.Lists.{any_has, has_any}
 use Rattle.instance.specs.Plans.{added}
 use Rattle.instance.proofs.KeptReadings.{read_at, at_read}
-
--- a test of what a function gives
-pub any_mapped : {X Y : Type 0} (test : Y → Bool) (f : X → Y) (xs : List X) → list_any test (map f xs) ≡ list_any (λ x. test (f x)) xs
-any_mapped test f [] = refl
-any_mapped test f (x ∷ xs) = ap (λ b. test (f x) || b) (any_mapped test f xs)
 
 some_value : {X : Type 0} (o : Option X) → is_some o ≡ true → (x : X) × (o ≡ Some x)
 some_value (Some x) h = (x, refl)
@@ -51,6 +46,19 @@ read_put (place ∷ places) zero zero x y h = inl (refl, cc)
 read_put (place ∷ places) zero (suc q) x y h = inr h
 read_put (place ∷ places) (suc r) zero x y h = inr h
 read_put (place ∷ places) (suc r) (suc q) x y h = elim (read_put places r q x y h) [ inl new ↦ inl (ap suc new.0, new.1) | inr old ↦ inr old ]
+
+-- what is put into a place stands there, and what stood at another still does
+pub there_now : {X : Type 0} (places : Places X) (r : ℕ) (x : X) → r < length places → read_of (slice_set places r (Some x)) r ≡ Some x
+there_now [] r x below = absurd (omega arith)
+there_now (place ∷ places) zero x below = refl
+there_now (place ∷ places) (suc r) x below = there_now places r x (omega arith)
+
+pub there_still : {X : Type 0} (places : Places X) (r q : ℕ) (x y : X) → read_of places r ≡ None → read_of places q ≡ Some y → read_of (slice_set places r (Some x)) q ≡ Some y
+there_still [] r q x y none some = cc
+there_still (place ∷ places) zero zero x y none some = cc
+there_still (place ∷ places) zero (suc q) x y none some = some
+there_still (place ∷ places) (suc r) zero x y none some = some
+there_still (place ∷ places) (suc r) (suc q) x y none some = there_still places r q x y none some
 
 pub read_added : {X : Type 0} (places : Places X) (r q : ℕ) (x y : X) → read_of (added places r x) q ≡ Some y
     → ((q ≡ r) × (x ≡ y)) ⊎ (read_of places q ≡ Some y)

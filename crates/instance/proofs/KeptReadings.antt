@@ -1,52 +1,15 @@
 -- What is kept of a phase, with one place for each replica, is what was read in it.
-use Rattle.std.proofs.Common.{◌≡◌, ℕ, zero, suc, ◌+◌, ◌≤◌, Bool, true, false, cond, inl, inr, List, [], ◌∷◌, length, refl, sym, ap, subst, arith}
-use Rattle.std.specs.Prelude.{map, filter, take, Option, Some, None}
+use Rattle.std.proofs.Common.{◌≡◌, ℕ, zero, suc, ◌+◌, ◌≤◌, true, inl, inr, List, [], ◌∷◌, length, refl, sym, ap, subst, arith}
+use Rattle.std.specs.Prelude.{map, Option, Some, None}
 use Rattle.std.proofs.lemmas.Simd.{map-map}
-use Rattle.ledger_model.specs.declared.statement.Report.{Report}
-use Rattle.ledger_model.specs.declared.statement.SignedReport.{SignedReport}
 use Rattle.ledger_model.specs.Notes.{Note, Has}
-use Rattle.ledger_model.specs.Spelling.{IsReport}
 use Rattle.ledger_model.specs.Tallies.{all_read, read_of}
 use Rattle.ledger_model.specs.Validity.{ascends_within}
 use Rattle.ledger_model.specs.Rules.{Ring}
 use Rattle.ledger_model.specs.Phases.{reports_of, AreReadIn, AreAcksIn}
-use Rattle.ledger_model.proofs.Lists.{has_map}
-use Rattle.ledger_model.proofs.Counting.{ascends_parts, ascends_from}
+use Rattle.ledger_model.proofs.Counting.{ascends_from, ascends_lower}
 use Rattle.instance.specs.Rows.{Row}
 use Rattle.instance.specs.Matching.{MatchesIn}
-
--- ---- numbers that ascend
-
-pub ascends_lower : (low from high : ℕ) (xs : List ℕ) → low ≤ from → ascends_within from high xs ≡ true → ascends_within low high xs ≡ true
-ascends_lower low from high [] le h = refl
-ascends_lower low from high (x ∷ xs) le h =
-    let parts = ascends_parts from high x xs h in
-    ascends_from low high x xs (omega (arith, parts.0)) parts.1.0 parts.1.1
-
-pub ascends_higher : (low high end : ℕ) (xs : List ℕ) → high ≤ end → ascends_within low high xs ≡ true → ascends_within low end xs ≡ true
-ascends_higher low high end [] le h = refl
-ascends_higher low high end (x ∷ xs) le h =
-    let parts = ascends_parts low high x xs h in
-    ascends_from low end x xs parts.0 (omega (arith, parts.1.0)) (ascends_higher (x + 1) high end xs le parts.1.1)
-
-pub filter-within : {X : Type 0} (key : X → ℕ) (p : X → Bool) (low high : ℕ) (xs : List X) → ascends_within low high (map key xs) ≡ true
-    → ascends_within low high (map key (filter p xs)) ≡ true
-filter-within key p low high [] h = refl
-filter-within key p low high (x ∷ xs) h =
-    let parts = ascends_parts low high (key x) (map key xs) h in
-    let rest = filter-within key p (key x + 1) high xs parts.1.1 in
-    elim (p x) as (λ b. ascends_within low high (map key (cond b (x ∷ filter p xs) (filter p xs))) ≡ true) [
-      | true ↦ ascends_from low high (key x) (map key (filter p xs)) parts.0 parts.1.0 rest
-      | false ↦ ascends_lower low (key x + 1) high (map key (filter p xs)) (omega (arith, parts.0)) rest
-    ]
-
-pub take-within : {X : Type 0} (key : X → ℕ) (n low high : ℕ) (xs : List X) → ascends_within low high (map key xs) ≡ true
-    → ascends_within low high (map key (take n xs)) ≡ true
-take-within key zero low high xs h = refl
-take-within key (suc n) low high [] h = refl
-take-within key (suc n) low high (x ∷ xs) h =
-    let parts = ascends_parts low high (key x) (map key xs) h in
-    ascends_from low high (key x) (map key (take n xs)) parts.0 parts.1.0 (take-within key n (key x + 1) high xs parts.1.1)
 
 -- ---- elements, each at the place of its number
 
@@ -88,20 +51,13 @@ at_read (Some y ∷ places) (suc r) x h = inr (at_read places r x h)
 module _ (ring : Ring) (row : Row) (log : List Note) (k : ℕ) (m : MatchesIn ring row log k) where
   -- the reports with their signatures, by ascending signer
   pub signers_ascend : ascends_within 0 row.config.replicas (map (λ s. s.report.signer) (all_read row.reports)) ≡ true
-  signers_ascend = read_ascends (λ s. s.report.signer) row.config.replicas row.reports m.report_places (λ r s h. (m.kept r s h).of_signer)
+  signers_ascend = read_ascends (λ s. s.report.signer) row.config.replicas row.reports m.reports.count (λ r s h. (m.reports.kept r s h).of_signer)
 
   pub are_read_in : AreReadIn row.config log k (reports_of (all_read row.reports))
   are_read_in = record {
-    same = m.reports;
+    same = m.reports.same;
     signers = subst (λ rs. ascends_within 0 row.config.replicas rs ≡ true) (sym (map-map (λ p. p.signer) (λ s. s.report) (all_read row.reports))) signers_ascend;
   }
 
   pub are_acks_in : AreAcksIn row.config log k (all_read row.acks)
-  are_acks_in = record { same = m.acks; signers = read_ascends (λ a. a.signer) row.config.replicas row.acks m.ack_places m.ackers }
-
-  -- each of them has a spelling
-  pub kept_spelled : (p : Report) → Has (reports_of (all_read row.reports)) p → IsReport p
-  kept_spelled p h =
-      let signed = has_map (λ (s : SignedReport). s.report) (all_read row.reports) p h in
-      let at = read_at row.reports signed.0 signed.1.0 in
-      subst IsReport signed.1.1 (m.kept at.0 signed.0 at.1).spelled.report
+  are_acks_in = record { same = m.acks.same; signers = read_ascends (λ a. a.signer) row.config.replicas row.acks m.acks.count m.acks.ackers }

@@ -7,6 +7,7 @@ pub mod Opens
 pub mod Answering
 pub mod SpelledTables
 pub mod ChosenValues
+pub mod MaySend
 pub mod SoundRows
 pub mod SpelledPlans
 pub mod SpelledSteps
@@ -28,4 +29,3 @@ pub mod AnsweredCauses
 pub mod SameHeight
 pub mod AtClock
 pub mod ReadOutcome
-pub mod PlanOutcome

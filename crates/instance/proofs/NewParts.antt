@@ -1,6 +1,6 @@
 -- What a phase is filled with once one statement more is read in the open round.
 use Rattle.std.proofs.Common.{◌≡◌, ℕ, ◌<◌, Bool, true, false, ◌&&◌, ◌||◌, inl, inr, List, [], ◌∷◌, refl, sym, ap, subst, ◌∙◌, arith}
-use Rattle.std.specs.Prelude.{nat_eq, Some, None, IsTrue, slice_set}
+use Rattle.std.specs.Prelude.{nat_eq, Option, Some, None, IsTrue, slice_set}
 use Rattle.std.specs.List.{filter_map}
 use Rattle.std.proofs.lemmas.List.{length-set}
 use Rattle.std.proofs.lemmas.Bool.{and_from, and_parts, eq-eqb, both_ways, or_cases, or_right}
@@ -17,17 +17,22 @@ use Rattle.ledger_model.specs.LockTables.{SignedLock, as_statement}
 use Rattle.ledger_model.specs.Rules.{Ring, is_signed, with_signature}
 use Rattle.ledger_model.specs.Spelling.{IsSigned}
 use Rattle.ledger_model.specs.Tallies.{Places, all_read, read_of}
-use Rattle.ledger_model.proofs.Lists.{has_right, same_value-refl, same_value-equal}
+use Rattle.ledger_model.proofs.Lists.{has_right, has_cases, same_value-refl, same_value-equal, any_mapped, find_only}
 use Rattle.ledger_model.proofs.LockSafety.{has_read, took_tells}
 use Rattle.ledger_model.proofs.Staying.{filter_map-append}
-use Rattle.instance.specs.Matching.{IsKept}
-use Rattle.instance.proofs.KeptPlaces.{any_mapped, any_put, read_put}
-use Rattle.instance.proofs.PlaceLists.{find_only}
-use Rattle.instance.proofs.OneRead.{ReportsMatch, LockMatches, AcksMatch, and_read, read_more, kept_stays}
+use Rattle.instance.specs.Matching.{ReportsMatch, LockMatches, AcksMatch, IsKept}
+use Rattle.instance.proofs.KeptPlaces.{any_put, read_put, there_now, there_still}
+use Rattle.instance.proofs.OneRead.{and_read, read_more, made_same, kept_stays}
 
 -- a test of a statement that is read in the round itself
 read_now : (log : List Note) (c d : ℕ) (s : SignedStatement) → c ≡ d → (test : Statement → Bool) → was_read (and_read log c s) d test ≡ (was_read log d test || test s.statement)
 read_now log c d s now test = read_more log c s d test ∙ ap (λ b. was_read log d test || (b && test s.statement)) (eq-eqb c d now)
+
+pub signed_is : (p s : SignedReport) → with_signature p ≡ with_signature s → p ≡ s
+signed_is p s e =
+    let signature : p.signature ≡ s.signature = ap (λ (x : SignedStatement). x.signature) e in
+    let report : p.report ≡ s.report = cc (ap (λ (x : SignedStatement). x.statement) e) in
+    λ i. record { report = report i; signature = signature i }
 
 -- ---- a report
 
@@ -51,6 +56,13 @@ module _ (ring : Ring) (replicas height : ℕ) (log : List Note) (k : ℕ) (plac
         read = has_right log (Read c (with_signature p) ∷ []) (Read (round_at 1 k) (with_signature p)) (inl (ap (λ d. Read d (with_signature p)) now));
       })
       | inr old ↦ kept_stays log c (with_signature p) ring height k r s (before.kept r s old)
+    ];
+    every = λ s has. elim (has_cases log (Read c (with_signature p) ∷ []) (Read (round_at 1 k) (with_signature s)) has) [
+      | inl old ↦ there_still places p.report.signer s.report.signer p s none (before.every s old)
+      | inr new ↦ elim new [
+        | inl e ↦ (let is : p ≡ s = signed_is p s cc in subst (λ x. read_of (slice_set places p.report.signer (Some p)) x.report.signer ≡ Some x) is (there_now places p.report.signer p (omega (arith, below, before.count))))
+        | inr none ↦ absurd none
+      ]
     ];
   }
 
@@ -92,10 +104,11 @@ module _ (log : List Note) (k : ℕ) (s : SignedLock) (c : ℕ) (now : c ≡ rou
   value_now = takes_value s.lock.value ∙ or_right (took log s.lock.value k) (nat_eq s.lock.phase k && same_value s.lock.value s.lock.value)
       (and_from (nat_eq s.lock.phase k) (same_value s.lock.value s.lock.value) (eq-eqb s.lock.phase k of_phase) (same_value-refl s.lock.value))
 
-  pub lock_taken_now : LockMatches with_it k (Some s.lock.value)
-  lock_taken_now = record {
+  pub lock_taken_now : (taken made : Option Value) → LockMatches log k taken made → LockMatches with_it k (Some s.lock.value) made
+  lock_taken_now taken made before = record {
     locked = read_now log c (round_at 2 k) (as_statement s) now (is_lock (λ l. true)) ∙ or_right (was_read log (round_at 2 k) (is_lock (λ l. true))) true refl;
     taken = sym (find_only (λ v. took with_it v k) (filter_map value_read with_it) s.lock.value
         (subst (λ vs. Has vs s.lock.value) (sym (filter_map-append value_read log (Read c (as_statement s) ∷ [])))
         (has_right (filter_map value_read log) (s.lock.value ∷ []) s.lock.value (inl refl))) value_now only_value);
+    made = λ test. made_same log c (as_statement s) (round_at 2 k) (is_lock (λ l. test l.value)) ∙ before.made test;
   }

@@ -1,10 +1,10 @@
 -- What a log says of a phase once one statement more is read in the open round.
-use Rattle.std.proofs.Common.{◌≡◌, ℕ, ◌/◌, ◌<◌, ◌≤◌, Bool, true, false, ◌&&◌, ◌||◌, inl, inr, List, [], ◌∷◌, ◌++◌, length, refl, sym, ap, ◌∙◌, arith}
-use Rattle.std.specs.Prelude.{find, nat_eq, Option, Some, is_some}
-use Rattle.std.specs.List.{list_any, filter_map}
+use Rattle.std.proofs.Common.{◌≡◌, ℕ, ◌/◌, ◌<◌, ◌≤◌, Bool, true, false, ◌&&◌, ◌||◌, inl, inr, List, [], ◌∷◌, ◌++◌, refl, sym, ap, ◌∙◌, arith}
+use Rattle.std.specs.Prelude.{find, nat_eq, Option, Some}
+use Rattle.std.specs.List.{filter_map}
 use Rattle.std.proofs.Math.Bool.{or-false}
 use Rattle.std.proofs.lemmas.List.Folds.{list_any-append}
-use Rattle.std.proofs.lemmas.Bool.{cases_Bool, eq-eqb, both_ways}
+use Rattle.std.proofs.lemmas.Bool.{cases_Bool, and_from, eq-eqb, both_ways}
 use Rattle.ledger_model.specs.declared.config.Config.{Config}
 use Rattle.ledger_model.specs.declared.statement.Ack.{Ack}
 use Rattle.ledger_model.specs.declared.statement.Lock.{Lock}
@@ -16,32 +16,15 @@ use Rattle.ledger_model.specs.Values.{Value, same_value}
 use Rattle.ledger_model.specs.Rounds.{phase_of, place_of, round_at}
 use Rattle.ledger_model.specs.Notes.{Note, Made, Read, Has, clock_of, is_report, is_lock, is_ack, reads_in, was_read, makes_in, was_made}
 use Rattle.ledger_model.specs.Locks.{took, value_read, lock_value, value_taken, decided_by, decided_of}
-use Rattle.ledger_model.specs.Phases.{reports_of}
-use Rattle.ledger_model.specs.Rules.{Ring}
-use Rattle.ledger_model.specs.Tallies.{Places, all_read, read_of}
+use Rattle.ledger_model.specs.Rules.{Ring, with_signature}
+use Rattle.ledger_model.specs.Tallies.{Places}
 use Rattle.ledger_model.proofs.Lists.{has_left, has_cases, has_filter_map}
 use Rattle.ledger_model.proofs.LockSafety.{took_tells}
 use Rattle.ledger_model.proofs.Staying.{From, decided_stays, find_same, find_append, filter_map-append}
 use Rattle.lock_proofs.proofs.GrowingLogs.{same_clock}
 use Rattle.proper_sets.specs.Laws.{proper_at}
-use Rattle.instance.specs.Matching.{IsKept, proper_phase}
+use Rattle.instance.specs.Matching.{ReportsMatch, LockMatches, AcksMatch, IsKept, proper_phase}
 use Rattle.instance.proofs.ProperStays.{NoneRead, proper_at-stays}
-
--- ---- the parts of a row that a phase fills
-
-pub record ReportsMatch (ring : Ring) (replicas height : ℕ) (log : List Note) (k : ℕ) (places : Places SignedReport) : Type 0 where
-  pub count : length places ≡ replicas
-  pub same : (test : Report → Bool) → was_read log (round_at 1 k) (is_report test) ≡ list_any test (reports_of (all_read places))
-  pub kept : (r : ℕ) (s : SignedReport) → read_of places r ≡ Some s → IsKept ring height log k r s
-
-pub record LockMatches (log : List Note) (k : ℕ) (value : Option Value) : Type 0 where
-  pub locked : was_read log (round_at 2 k) (is_lock (λ l. true)) ≡ is_some value
-  pub taken : value ≡ value_taken log k
-
-pub record AcksMatch (replicas : ℕ) (log : List Note) (k : ℕ) (places : Places Ack) : Type 0 where
-  pub count : length places ≡ replicas
-  pub same : (test : Ack → Bool) → was_read log (round_at 3 k) (is_ack test) ≡ list_any test (all_read places)
-  pub ackers : (r : ℕ) (a : Ack) → read_of places r ≡ Some a → a.signer ≡ r
 
 -- a value that was taken was read
 took_known : (log : List Note) (v : Value) (k : ℕ) → took log v k ≡ true → Has (filter_map value_read log) v
@@ -90,7 +73,17 @@ module _ (log : List Note) (c : ℕ) (s : SignedStatement) where
     count = h.count;
     same = λ test. read_same (round_at 1 k) (is_report test) (none test) ∙ h.same test;
     kept = λ r p e. kept_stays ring height k r p (h.kept r p e);
+    every = λ p has. elim (has_cases log (Read c s ∷ []) (Read (round_at 1 k) (with_signature p)) has) [
+      | inl old ↦ h.every p old
+      | inr new ↦ elim new [ inl e ↦ absurd (both_ways (nat_eq c (round_at 1 k) && is_report (λ r. true) s.statement) (none (λ r. true)) (reads_so p e)) | inr none ↦ absurd none ]
+    ];
   }
+    where
+      reads_so : (p : SignedReport) → Read c s ≡ Read (round_at 1 k) (with_signature p) → (nat_eq c (round_at 1 k) && is_report (λ r. true) s.statement) ≡ true
+      reads_so p e =
+          let now : c ≡ round_at 1 k = cc in
+          let is : s ≡ with_signature p = cc in
+          and_from (nat_eq c (round_at 1 k)) (is_report (λ r. true) s.statement) (eq-eqb c (round_at 1 k) now) (ap (λ (x : SignedStatement). is_report (λ r. true) x.statement) is)
 
   pub acks_stay : (replicas k : ℕ) (places : Places Ack) → ((test : Ack → Bool) → (nat_eq c (round_at 3 k) && is_ack test s.statement) ≡ false)
       → AcksMatch replicas log k places → AcksMatch replicas and_read k places
@@ -110,10 +103,11 @@ module _ (log : List Note) (c : ℕ) (s : SignedStatement) where
         ∙ ap (find (λ v. took log v k)) (filter_map-append value_read log (Read c s ∷ []))
         ∙ find_append (λ v. took log v k) (filter_map value_read log) (filter_map value_read (Read c s ∷ [])) (λ v has e. took_known log v k e)
 
-    pub lock_stays : (value : Option Value) → LockMatches log k value → LockMatches and_read k value
-    lock_stays value h = record {
+    pub lock_stays : (taken made : Option Value) → LockMatches log k taken made → LockMatches and_read k taken made
+    lock_stays taken made h = record {
       locked = read_same (round_at 2 k) (is_lock (λ l. true)) (none (λ l. true)) ∙ h.locked;
       taken = h.taken ∙ sym value_same;
+      made = λ test. made_same (round_at 2 k) (is_lock (λ l. test l.value)) ∙ h.made test;
     }
 
 -- ---- what is proper and decided, as a statement is read in the open round

@@ -1,30 +1,35 @@
 -- A round opens: what a log says with the notes of it.
 use Rattle.std.proofs.Common.{◌≡◌, ℕ, ◌+◌, ◌*◌, ◌/◌, ◌<◌, ◌≤◌, Bool, true, false, ◌&&◌, ◌||◌, inl, inr, List, [], ◌∷◌, ◌++◌, refl, sym, ap, subst, ◌∙◌, append_assoc, arith}
-use Rattle.std.specs.Prelude.{nat_eq, Option, Some, None}
+use Rattle.std.specs.Prelude.{map, nat_eq, Option, Some, None}
 use Rattle.std.specs.List.{list_any, filter_map, find}
 use Rattle.std.proofs.Math.Bool.{or-false}
 use Rattle.std.proofs.lemmas.Bool.{false_from_ne_true, and_from, cases_eq, eq-eqb, ne_eqb, cond-true, cond-false}
 use Rattle.std.proofs.lemmas.List.Folds.{list_any-append}
 use Rattle.ledger_model.specs.declared.config.Config.{Config}
+use Rattle.ledger_model.specs.declared.statement.Ack.{Ack}
 use Rattle.ledger_model.specs.declared.statement.SignedReport.{SignedReport}
 use Rattle.ledger_model.specs.declared.statement.SignedStatement.{SignedStatement}
 use Rattle.ledger_model.specs.declared.statement.Statement.{Statement}
 use Rattle.ledger_model.specs.Values.{Value}
 use Rattle.ledger_model.specs.Rounds.{phase_of, place_of, round_at}
-use Rattle.ledger_model.specs.Notes.{Note, Round, Made, Read, Has, clock_of, reads_in, was_read, makes_in, was_made}
+use Rattle.ledger_model.specs.Notes.{Note, Round, Made, Read, Has, clock_of, is_report, is_lock, is_ack, reads_in, was_read, makes_in, was_made}
 use Rattle.ledger_model.specs.Locks.{took, value_read, lock_value, value_taken, or_else, decided_by, decided_of}
 use Rattle.ledger_model.specs.Lawful.{held_locks}
-use Rattle.ledger_model.specs.Rules.{Ring, has_phase}
+use Rattle.ledger_model.specs.LockTables.{SignedLock, as_statement}
+use Rattle.ledger_model.specs.Phases.{ProperSet}
+use Rattle.ledger_model.specs.Tallies.{Places}
+use Rattle.ledger_model.specs.Rules.{Ring, has_phase, with_signature}
 use Rattle.ledger_model.proofs.Lists.{has_cases, has_left, has_filter_map}
 use Rattle.ledger_model.proofs.LockSafety.{read_has, took_tells}
 use Rattle.ledger_model.proofs.Agreement.{made_has}
-use Rattle.ledger_model.proofs.Goodness.{clock_of-append}
+use Rattle.ledger_model.proofs.Goodness.{clock_of-append, initial_of-append}
 use Rattle.ledger_model.proofs.Staying.{From, from_below, from_append, read_stays, made_stays, decided_stays, find_same, find_append, find_none, filter_map-append}
 use Rattle.lock_proofs.specs.Laws.{IsTimely}
 use Rattle.proper_sets.specs.Laws.{proper_at}
 use Rattle.lock_proofs.proofs.TimelyLogs.{stays_timely}
 use Rattle.lock_proofs.proofs.KeptLocks.{keeps_locks}
-use Rattle.instance.specs.Matching.{proper_phase, IsKept}
+use Rattle.instance.specs.Rows.{Row}
+use Rattle.instance.specs.Matching.{Matches, MatchesIn, ReportsMatch, LockMatches, AcksMatch, IsSound, proper_phase, IsKept}
 use Rattle.instance.proofs.ProperStays.{proper_at-stays}
 
 -- what was made, was made by the open round
@@ -272,6 +277,42 @@ module _ (log more : List Note) (next : IsNext log more) where
     read = has_left log more _ kept.read;
   }
 
+  -- ---- what a phase brought in earlier rounds
+
+  pub reports_before : (ring : Ring) (replicas height k : ℕ) (places : Places SignedReport) → round_at 1 k ≤ clock_of log
+      → ReportsMatch ring replicas height log k places → ReportsMatch ring replicas height (log ++ more) k places
+  reports_before ring replicas height k places past h = record {
+    count = h.count;
+    same = λ test. read_before (round_at 1 k) (is_report test) past ∙ h.same test;
+    kept = λ r s e. kept_before ring height k r s (h.kept r s e);
+    every = λ s has. elim (has_cases log more (Read (round_at 1 k) (with_signature s)) has) [
+      | inl old ↦ h.every s old
+      | inr new ↦ (let from = next.from.reads (round_at 1 k) (with_signature s) new in absurd (omega arith))
+    ];
+  }
+
+  pub lock_before : (k : ℕ) (taken made : Option Value) → round_at 2 k ≤ clock_of log → LockMatches log k taken made → LockMatches (log ++ more) k taken made
+  lock_before k taken made past h = record {
+    locked = read_before (round_at 2 k) (is_lock (λ l. true)) past ∙ h.locked;
+    taken = h.taken ∙ sym (taken_before k past);
+    made = λ test. made_before (round_at 2 k) (is_lock (λ l. test l.value)) past ∙ h.made test;
+  }
+
+  pub acks_before : (replicas k : ℕ) (places : Places Ack) → round_at 3 k ≤ clock_of log → AcksMatch replicas log k places → AcksMatch replicas (log ++ more) k places
+  acks_before replicas k places past h = record {
+    count = h.count;
+    same = λ test. read_before (round_at 3 k) (is_ack test) past ∙ h.same test;
+    ackers = h.ackers;
+  }
+
+  -- no acknowledgement was read yet, nor is now
+  pub acks_later : (replicas k : ℕ) (places : Places Ack) → IsTimely log → clock_of log + 1 < round_at 3 k → AcksMatch replicas log k places → AcksMatch replicas (log ++ more) k places
+  acks_later replicas k places timely later h = record {
+    count = h.count;
+    same = λ test. read_later (round_at 3 k) (is_ack test) later ∙ sym (unread log (round_at 3 k) (is_ack test) timely (omega arith)) ∙ h.same test;
+    ackers = h.ackers;
+  }
+
 -- no value is taken where no lock was read
 pub none_taken : (log : List Note) (k : ℕ) → ((test : Statement → Bool) → was_read log (round_at 2 k) test ≡ false) → value_taken log k ≡ None
 none_taken log k none = find_none (λ v. took log v k) (filter_map value_read log) (λ v has e. absurd (cc (none _)))
@@ -288,3 +329,34 @@ frame_of f s e = ap (λ (x : Statement). signed_as x) e
   where
     signed_as : Statement → SignedStatement
     signed_as x = record { statement = x; signature = f.signature }
+
+-- ---- what is kept matches the log with the next round where its parts do
+
+module _ (ring : Ring) (row : Row) (log : List Note) (old : Matches ring row log) where
+  abbrev pub with_parts : ProperSet → List SignedLock → Places SignedReport → Places Ack → Option Value → Option Value → Option Value → Row
+  with_parts proper table reports acks taken made decided =
+      record row { proper = proper; table = table; reports = reports; acks = acks; taken = taken; made = made; decided = decided }
+
+  pub opens_next : (more : List Note) (proper : ProperSet) (table : List SignedLock) (reports : Places SignedReport) (acks : Places Ack) (taken made decided : Option Value)
+      → IsNext log more → IsSound ring (with_parts proper table reports acks taken made decided)
+      → proper.own ≡ row.proper.own → proper ≡ proper_at row.config row.id (log ++ more) (proper_phase (clock_of (log ++ more))) row.proper.own
+      → map as_statement table ≡ held_locks (log ++ more) → decided ≡ decided_of row.config (log ++ more)
+      → ReportsMatch ring row.config.replicas row.height (log ++ more) (phase_of (clock_of log + 1)) reports
+      → LockMatches (log ++ more) (phase_of (clock_of log + 1)) taken made
+      → AcksMatch row.config.replicas (log ++ more) (phase_of (clock_of log + 1)) acks
+      → Matches ring (with_parts proper table reports acks taken made decided) (log ++ more)
+  opens_next more proper table reports acks taken made decided next sound own is locks decides are lock ack =
+      let all : MatchesIn ring (with_parts proper table reports acks taken made decided) (log ++ more) (phase_of (clock_of log + 1)) = record {
+        member = old.member;
+        sound = sound;
+        opened = initial_of-append log more row.proper.own old.opened ∙ ap Some (sym own);
+        timely = next.timely;
+        made_by_now = next.made;
+        proper = is ∙ ap (proper_at row.config row.id (log ++ more) (proper_phase (clock_of (log ++ more)))) (sym own);
+        locks = locks;
+        decided = decides;
+        reports = are;
+        lock = lock;
+        acks = ack;
+      } in
+      subst (λ c. MatchesIn ring (with_parts proper table reports acks taken made decided) (log ++ more) (phase_of c)) (sym next.clock) all

@@ -1,6 +1,6 @@
 -- A height that is just opened matches a log of rounds and of what was proposed.
 use Rattle.std.proofs.Common.{◌≡◌, ℕ, zero, suc, ◌+◌, ◌*◌, ◌/◌, ◌≤◌, Bool, true, false, not, ◌&&◌, ◌||◌, cond, inl, inr, List, [], ◌∷◌, ◌++◌, refl, sym, ap, ◌∙◌, arith}
-use Rattle.std.specs.Prelude.{replicate, nat_eq, nat_lt, Option, Some, None}
+use Rattle.std.specs.Prelude.{nat_eq, nat_lt, Option, Some, None}
 use Rattle.std.specs.List.{list_any, filter_map, flat_map, range_with_len}
 use Rattle.std.proofs.lemmas.List.{length-replicate}
 use Rattle.std.proofs.lemmas.Bool.{cases_Bool, and_right, le-ltb}
@@ -16,12 +16,13 @@ use Rattle.ledger_model.specs.Locks.{value_read, value_made, value_taken, held_v
 use Rattle.ledger_model.specs.Lawful.{held_locks}
 use Rattle.ledger_model.specs.Proper.{is_split, are_all_named, is_all_proper, cut, proper_values}
 use Rattle.ledger_model.specs.Phases.{only_own, reports_of}
-use Rattle.ledger_model.specs.Tallies.{all_read, read_of}
 use Rattle.ledger_model.specs.LockTables.{as_statement}
+use Rattle.ledger_model.specs.Rules.{with_signature}
 use Rattle.proper_sets.specs.Laws.{proper_at}
-use Rattle.instance.specs.Matching.{only_rounds, IsCluster}
+use Rattle.instance.specs.Matching.{only_rounds}
 use Rattle.instance.specs.Laws.{Opens}
 use Rattle.ledger_model.proofs.Staying.{any_append}
+use Rattle.instance.proofs.PlaceLists.{none_read, none_there}
 use Rattle.instance.proofs.ProperStays.{proper_at-stays}
 
 -- ---- nothing was read or made
@@ -44,12 +45,12 @@ module _ (own : Value) where
   unmade (Made d s ∷ log) h c test = cc
   unmade (Read d s ∷ log) h c test = cc
 
-  none_read : (log : List Note) → only_rounds log ≡ true → (c : ℕ) (s : SignedStatement) → Has (opened log) (Read c s) → ⊥
-  none_read [] h c s has = elim has [ inl e ↦ absurd (cc) | inr none ↦ none ]
-  none_read (Round d ∷ log) h c s has = elim has [ inl e ↦ absurd (cc) | inr later ↦ none_read log h c s later ]
-  none_read (Proposed v ∷ log) h c s has = cc
-  none_read (Made d u ∷ log) h c s has = cc
-  none_read (Read d u ∷ log) h c s has = cc
+  none_read_in : (log : List Note) → only_rounds log ≡ true → (c : ℕ) (s : SignedStatement) → Has (opened log) (Read c s) → ⊥
+  none_read_in [] h c s has = elim has [ inl e ↦ absurd (cc) | inr none ↦ none ]
+  none_read_in (Round d ∷ log) h c s has = elim has [ inl e ↦ absurd (cc) | inr later ↦ none_read_in log h c s later ]
+  none_read_in (Proposed v ∷ log) h c s has = cc
+  none_read_in (Made d u ∷ log) h c s has = cc
+  none_read_in (Read d u ∷ log) h c s has = cc
 
   none_made : (log : List Note) → only_rounds log ≡ true → (c : ℕ) (s : Statement) → Has (opened log) (Made c s) → ⊥
   none_made [] h c s has = elim has [ inl e ↦ absurd (cc) | inr none ↦ none ]
@@ -100,13 +101,13 @@ none_listed : (k : ℕ) (js : List ℕ) → ◌≡◌ {A = List Value} (flat_map
 none_listed k [] = refl
 none_listed k (j ∷ js) = elim (cases_Bool (nat_lt j k)) [ inl lt ↦ rw lt (none_listed k js) | inr ge ↦ rw ge (none_listed k js) ]
 
-module _ (config : Config) (id k : ℕ) (own : Value) (cluster : IsCluster config) where
+module _ (config : Config) (id k : ℕ) (own : Value) where
   none_all_named : (j : ℕ) → are_all_named config id [] j ≡ false
   none_all_named j = rw (no_others id 0 config.replicas) (le-ltb config.faults 0 (omega arith))
 
   none_split : (j : ℕ) → is_split config id [] j own ≡ false
   none_split j =
-      let few : 0 + 1 ≤ 2 * config.faults = omega (arith, cluster.tolerant) in rw (no_others id 0 config.replicas, le-ltb (2 * config.faults) (0 + 1) few) refl
+      let tolerant = config.tolerant in let few : 0 + 1 ≤ 2 * config.faults = omega (arith, tolerant) in rw (no_others id 0 config.replicas, le-ltb (2 * config.faults) (0 + 1) few) refl
 
   not_all : is_all_proper config id [] k own ≡ false
   unfolding is_all_proper
@@ -120,23 +121,8 @@ module _ (config : Config) (id k : ℕ) (own : Value) (cluster : IsCluster confi
   only_own-empty : proper_at config id [] k own ≡ only_own own
   only_own-empty = λ i. record { own = own; all = not_all i; explicit = own_alone i }
 
--- ---- empty places
-
-unread_places : (X : Type 0) (n : ℕ) → all_read {X = X} (replicate n None) ≡ []
-unread_places X zero = refl
-unread_places X (suc n) = unread_places X n
-
-unread_at : (X : Type 0) (n r : ℕ) → read_of {X = X} (replicate n None) r ≡ None
-unread_at X zero r = refl
-unread_at X (suc n) zero = refl
-unread_at X (suc n) (suc r) = unread_at X n r
-
-none_is_some : {X : Type 0} (o : Option X) (x : X) → o ≡ None → o ≡ Some x → ⊥
-none_is_some o x none some = cc
-
 pub opens : Opens
-opens config id height own ring log cluster member heights value only = record {
-  cluster = cluster;
+opens config id height own ring log member heights value only = record {
   member = member;
   sound = record {
     spelled = record {
@@ -146,24 +132,26 @@ opens config id height own ring log cluster member heights value only = record {
       some = omega arith;
       locked = record { few = omega arith; each = tt; ascend = refl };
       taken = tt;
-      reports = λ r s e. absurd (none_is_some (read_of (replicate config.replicas None) r) s (unread_at SignedReport config.replicas r) e);
+      reports = λ r s e. absurd (cc (none_there {X = SignedReport} config.replicas r, e));
     };
     held = λ s none. absurd none;
   };
   opened = begins own log only;
-  timely = record { past = λ c s has. absurd (none_read own log only c s has); of_phase = λ c s has place. absurd (none_read own log only c (as_statement s) has) };
+  timely = record { past = λ c s has. absurd (none_read_in own log only c s has); of_phase = λ c s has place. absurd (none_read_in own log only c (as_statement s) has) };
   made_by_now = λ c s has. absurd (none_made own log only c s has);
-  proper = sym (proper_at-stays config id [] (opened own log) _ own (λ j one below s has. none_read own log only (round_at 1 j) s has) ∙ only_own-empty config id _ own cluster);
+  proper = sym (proper_at-stays config id [] (opened own log) _ own (λ j one below s has. none_read_in own log only (round_at 1 j) s has) ∙ only_own-empty config id _ own);
   locks = sym (none_held own log only);
   decided = sym (none_decided own log only config);
-  report_places = length-replicate config.replicas None;
-  reports = λ test. unread own log only _ (is_report test) ∙ sym (ap (λ ss. list_any test (reports_of ss)) (unread_places SignedReport config.replicas));
-  kept = λ r s e. absurd (none_is_some (read_of (replicate config.replicas None) r) s (unread_at SignedReport config.replicas r) e);
-  locked = unread own log only _ (is_lock (λ l. true));
-  taken = sym (none_taken own log only _);
-  made = λ test. unmade own log only _ (is_lock test);
-  made_in = tt;
-  ack_places = length-replicate config.replicas None;
-  acks = λ test. unread own log only _ (is_ack test) ∙ sym (ap (list_any test) (unread_places Ack config.replicas));
-  ackers = λ r a e. absurd (none_is_some (read_of (replicate config.replicas None) r) a (unread_at Ack config.replicas r) e);
+  reports = record {
+    count = length-replicate config.replicas None;
+    same = λ test. unread own log only _ (is_report test) ∙ sym (ap (λ ss. list_any test (reports_of ss)) (none_read {X = SignedReport} config.replicas));
+    kept = λ r s e. absurd (cc (none_there {X = SignedReport} config.replicas r, e));
+    every = λ s has. absurd (none_read_in own log only _ (with_signature s) has);
+  };
+  lock = record { locked = unread own log only _ (is_lock (λ l. true)); taken = sym (none_taken own log only _); made = λ test. unmade own log only _ (is_lock (λ l. test l.value)) };
+  acks = record {
+    count = length-replicate config.replicas None;
+    same = λ test. unread own log only _ (is_ack test) ∙ sym (ap (list_any test) (none_read {X = Ack} config.replicas));
+    ackers = λ r a e. absurd (cc (none_there {X = Ack} config.replicas r, e));
+  };
 }

@@ -1,22 +1,11 @@
 -- Lists with one place for each replica.
-use Rattle.std.proofs.Common.{◌≡◌, ℕ, zero, suc, ◌<◌, Bool, true, false, inl, inr, List, [], ◌∷◌, length, refl, sym, ap, ◌∙◌, arith}
+use Rattle.std.proofs.Common.{◌≡◌, ℕ, zero, suc, ◌<◌, true, false, inl, inr, [], ◌∷◌, length, refl, sym, ap, ◌∙◌, arith}
 use Rattle.std.specs.Prelude.{Some, None, slice_set, replicate}
-use Rattle.std.specs.List.{list_any, find}
-use Rattle.std.proofs.lemmas.Bool.{cases_Bool, both_ways}
+use Rattle.std.specs.List.{list_any}
 use Rattle.std.proofs.lemmas.List.{length-set}
-use Rattle.ledger_model.specs.Notes.{Has}
 use Rattle.ledger_model.specs.Tallies.{Places, all_read, read_of}
 use Rattle.instance.specs.Plans.{added}
 use Rattle.instance.proofs.KeptPlaces.{read_put}
-
--- the only element that passes
-pub find_only : {X : Type 0} (p : X → Bool) (xs : List X) (x : X) → Has xs x → p x ≡ true → ((y : X) → p y ≡ true → y ≡ x) → find p xs ≡ Some x
-find_only p [] x has e only = absurd has
-find_only p (y ∷ ys) x has e only =
-    elim (cases_Bool (p y)) [
-      | inl passes ↦ simp passes (ap Some (only y passes))
-      | inr fails ↦ simp fails (elim has [ inl is ↦ absurd (both_ways (p y) fails (ap p is ∙ e)) | inr later ↦ find_only p ys x later e only ])
-    ]
 
 module _ {X : Type 0} where
   -- ---- places of which nothing was read
@@ -50,7 +39,7 @@ module _ {X : Type 0} where
   first_set (None ∷ places) (suc r) x e below = first_set places r x e (omega arith)
 
   module _ (places : Places X) (r : ℕ) (x : X) (none : all_read places ≡ []) where
-    added_is : added places r x ≡ slice_set places r (Some x)
+    pub added_is : added places r x ≡ slice_set places r (Some x)
     added_is = rw (empty_there places r none) refl
 
     pub added_length : length (added places r x) ≡ length places

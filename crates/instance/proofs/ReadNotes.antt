@@ -26,12 +26,12 @@ use Rattle.lock_proofs.proofs.ReleasedLocks.{releases_locks}
 use Rattle.lock_proofs.proofs.KeptLocks.{keeps_locks}
 use Rattle.lock_proofs.proofs.TimelyLogs.{stays_timely}
 use Rattle.instance.specs.Rows.{Row}
-use Rattle.instance.specs.Matching.{Matches, MatchesIn, IsSound}
+use Rattle.instance.specs.Matching.{Matches, MatchesIn, ReportsMatch, LockMatches, AcksMatch, IsSound}
 use Rattle.instance.specs.Reads.{row_causes, is_kept_already, after_read}
 use Rattle.instance.specs.Laws.{Reads}
 use Rattle.instance.proofs.Answering.{OnTime, on_time, round_is}
 use Rattle.instance.proofs.NewParts.{report_put, ack_put, lock_taken_now}
-use Rattle.instance.proofs.OneRead.{ReportsMatch, LockMatches, AcksMatch, and_read, made_same, clock_same, made_before, reports_stay, acks_stay, lock_stays, proper_stays, decision_same}
+use Rattle.instance.proofs.OneRead.{and_read, clock_same, made_before, reports_stay, acks_stay, lock_stays, proper_stays, decision_same}
 use Rattle.instance.proofs.SoundRows.{reads_sound}
 
 -- what a row keeps is all of what it kept but for these parts
@@ -60,12 +60,11 @@ module _ (ring : Ring) (row : Row) (log : List Note) (s : SignedStatement) (m : 
   -- the row with new parts matches where the parts do
   assembled : (table : List SignedLock) (reports : Places SignedReport) (taken : Option Value) (acks : Places Ack)
       → IsSound ring (with_parts row table reports taken acks) → held_locks after ≡ map as_statement table
-      → ReportsMatch ring row.config.replicas row.height after (phase_of (clock_of log)) reports → LockMatches after (phase_of (clock_of log)) taken
+      → ReportsMatch ring row.config.replicas row.height after (phase_of (clock_of log)) reports → LockMatches after (phase_of (clock_of log)) taken row.made
       → AcksMatch row.config.replicas after (phase_of (clock_of log)) acks
       → Matches ring (with_parts row table reports taken acks) after
   assembled table reports taken acks spelled held reports_match lock_matches acks_match =
       subst (λ c. MatchesIn ring (with_parts row table reports taken acks) after (phase_of c)) (sym (clock_same log (clock_of log) s)) (record {
-        cluster = m.cluster;
         member = m.member;
         sound = spelled;
         opened = initial_of-append log (Read (clock_of log) s ∷ []) row.proper.own m.opened;
@@ -75,16 +74,9 @@ module _ (ring : Ring) (row : Row) (log : List Note) (s : SignedStatement) (m : 
         proper = m.proper ∙ sym (proper_stays row.config log s row.id row.proper.own);
         locks = sym held;
         decided = m.decided ∙ sym (decision_same row.config log s);
-        report_places = reports_match.count;
-        reports = reports_match.same;
-        kept = reports_match.kept;
-        locked = lock_matches.locked;
-        taken = lock_matches.taken;
-        made = λ test. made_same log (clock_of log) s (round_at 2 (phase_of (clock_of log))) (is_lock test) ∙ m.made test;
-        made_in = m.made_in;
-        ack_places = acks_match.count;
-        acks = acks_match.same;
-        ackers = acks_match.ackers;
+        reports = reports_match;
+        lock = lock_matches;
+        acks = acks_match;
       })
 
 -- ---- by kind
@@ -100,15 +92,6 @@ module _ (ring : Ring) (row : Row) (log : List Note) (signature : List ℕ) (m :
   abbrev k : ℕ
   k = phase_of (clock_of log)
 
-  reports_before : ReportsMatch ring row.config.replicas row.height log k row.reports
-  reports_before = record { count = m.report_places; same = m.reports; kept = m.kept }
-
-  lock_before : LockMatches log k row.taken
-  lock_before = record { locked = m.locked; taken = m.taken }
-
-  acks_before : AcksMatch row.config.replicas log k row.acks
-  acks_before = record { count = m.ack_places; same = m.acks; ackers = m.ackers }
-
   abbrev signed_with : Statement → SignedStatement
   signed_with s = record { statement = s; signature = signature }
 
@@ -122,10 +105,10 @@ module _ (ring : Ring) (row : Row) (log : List Note) (signature : List ℕ) (m :
       let here = round_is now 1 (eqb-true (place_of now) 1 a.on_time.place) a.on_time.some in
       assembled ring row log (with_signature p) m a row.table (slice_set row.reports r.signer (Some p)) row.taken row.acks spelled
       (keeps_locks log (Read now (with_signature p)) m.timely refl ∙ sym m.locks)
-      (report_put ring row.config.replicas row.height log k row.reports p reports_before
+      (report_put ring row.config.replicas row.height log k row.reports p m.reports
       now here below (empty_place (read_of row.reports r.signer) a.new) height (eqb-true r.phase k a.on_time.phase) a.signed (record { report = frame.statement; signature = frame.signature }))
-      (lock_stays log now (with_signature p) k (λ test. and_right (nat_eq now (round_at 2 k)) false refl) row.taken lock_before)
-      (acks_stay log now (with_signature p) row.config.replicas k row.acks (λ test. and_right (nat_eq now (round_at 3 k)) false refl) acks_before)
+      (lock_stays log now (with_signature p) k (λ test. and_right (nat_eq now (round_at 2 k)) false refl) row.taken row.made m.lock)
+      (acks_stay log now (with_signature p) row.config.replicas k row.acks (λ test. and_right (nat_eq now (round_at 3 k)) false refl) m.acks)
 
   -- what is kept of a lock: at place 2 it is taken, and at place 4 it releases others
   abbrev lock_next : Lock → Bool → Row
@@ -145,12 +128,12 @@ module _ (ring : Ring) (row : Row) (log : List Note) (signature : List ℕ) (m :
         let of_phase : nat_eq l.phase k ≡ true = rw later at a.on_time.phase in
         let phase = eqb-true l.phase k of_phase in
         let first : is_some row.taken ≡ false = rw second at a.new in
-        let unread : was_read log (round_at 2 k) (is_lock (λ m. true)) ≡ false = m.locked ∙ first in
+        let unread : was_read log (round_at 2 k) (is_lock (λ m. true)) ≡ false = m.lock.locked ∙ first in
         assembled ring row log (as_statement lock) m a (with_lock lock row.table) row.reports (Some l.value) row.acks spelled
         (takes_a_lock log row.table k lock m.timely m.locks some here phase (ap (λ c. was_read log c (is_lock (λ m. true))) here ∙ unread))
-        (reports_stay log now (as_statement lock) ring row.config.replicas row.height k row.reports (λ test. and_right (nat_eq now (round_at 1 k)) false refl) reports_before)
-        (lock_taken_now log k lock now here phase unread)
-        (acks_stay log now (as_statement lock) row.config.replicas k row.acks (λ test. and_right (nat_eq now (round_at 3 k)) false refl) acks_before)
+        (reports_stay log now (as_statement lock) ring row.config.replicas row.height k row.reports (λ test. and_right (nat_eq now (round_at 1 k)) false refl) m.reports)
+        (lock_taken_now log k lock now here phase unread row.taken row.made m.lock)
+        (acks_stay log now (as_statement lock) row.config.replicas k row.acks (λ test. and_right (nat_eq now (round_at 3 k)) false refl) m.acks)
 
     lock_releases : nat_eq (place_of now) 2 ≡ false → IsSound ring (lock_next l false) → Matches ring (lock_next l false) (and_read log now (as_statement lock))
     lock_releases second spelled =
@@ -160,9 +143,9 @@ module _ (ring : Ring) (row : Row) (log : List Note) (signature : List ℕ) (m :
         let other : nat_eq now (round_at 2 k) ≡ false = ne_eqb now (round_at 2 k) (λ e. omega (arith, e, place, a.on_time.some)) in
         assembled ring row log (as_statement lock) m a (released k l row.table) row.reports row.taken row.acks spelled
         (releases_locks log row.table k lock m.timely m.locks here)
-        (reports_stay log now (as_statement lock) ring row.config.replicas row.height k row.reports (λ test. and_right (nat_eq now (round_at 1 k)) false refl) reports_before)
-        (lock_stays log now (as_statement lock) k (λ test. and_left (nat_eq now (round_at 2 k)) (test l) other) row.taken lock_before)
-        (acks_stay log now (as_statement lock) row.config.replicas k row.acks (λ test. and_right (nat_eq now (round_at 3 k)) false refl) acks_before)
+        (reports_stay log now (as_statement lock) ring row.config.replicas row.height k row.reports (λ test. and_right (nat_eq now (round_at 1 k)) false refl) m.reports)
+        (lock_stays log now (as_statement lock) k (λ test. and_left (nat_eq now (round_at 2 k)) (test l) other) row.taken row.made m.lock)
+        (acks_stay log now (as_statement lock) row.config.replicas k row.acks (λ test. and_right (nat_eq now (round_at 3 k)) false refl) m.acks)
 
     lock_read : (b : Bool) → nat_eq (place_of now) 2 ≡ b → IsSound ring (lock_next l b) → Matches ring (lock_next l b) (and_read log now (as_statement lock))
     lock_read true second spelled = lock_taken second spelled
@@ -174,9 +157,9 @@ module _ (ring : Ring) (row : Row) (log : List Note) (signature : List ℕ) (m :
       let here = round_is now 3 (eqb-true (place_of now) 3 a.on_time.place) a.on_time.some in
       assembled ring row log s m a row.table row.reports row.taken (slice_set row.acks b.signer (Some b)) spelled
       (keeps_locks log (Read now s) m.timely refl ∙ sym m.locks)
-      (reports_stay log now s ring row.config.replicas row.height k row.reports (λ test. and_right (nat_eq now (round_at 1 k)) false refl) reports_before)
-      (lock_stays log now s k (λ test. and_right (nat_eq now (round_at 2 k)) false refl) row.taken lock_before)
-      (ack_put row.config.replicas log k row.acks b signature acks_before now here below (empty_place (read_of row.acks b.signer) a.new))
+      (reports_stay log now s ring row.config.replicas row.height k row.reports (λ test. and_right (nat_eq now (round_at 1 k)) false refl) m.reports)
+      (lock_stays log now s k (λ test. and_right (nat_eq now (round_at 2 k)) false refl) row.taken row.made m.lock)
+      (ack_put row.config.replicas log k row.acks b signature m.acks now here below (empty_place (read_of row.acks b.signer) a.new))
 
   read_one : (s : Statement) → Next s
   read_one (statement.Report r) a below height frame spelled = read_report r a below height frame spelled

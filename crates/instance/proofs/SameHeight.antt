@@ -1,6 +1,7 @@
 -- What a round end, or a statement that is read, leaves of a height.
-use Rattle.std.proofs.Common.{◌≡◌, ℕ, Bool, true, false, List, [], ◌∷◌, refl, ◌∙◌}
-use Rattle.std.specs.Prelude.{◌==◌, Ok, Err, Result, if◌then◌else◌}
+use Rattle.std.proofs.Common.{◌≡◌, ℕ, Bool, true, false, inl, inr, List, [], ◌∷◌, refl, ◌∙◌}
+use Rattle.std.specs.Prelude.{◌==◌, nat_eq, Ok, Err, Result, if◌then◌else◌}
+use Rattle.std.proofs.lemmas.Bool.{cases_Bool}
 use Rattle.ledger_model.specs.declared.reply.Ignored.{Ignored}
 use Rattle.ledger_model.specs.declared.statement.SignedStatement.{SignedStatement}
 use Rattle.ledger_model.specs.declared.statement.Statement.{Statement}
@@ -10,7 +11,8 @@ use Rattle.ledger_model.specs.Phases.{absorbed}
 use Rattle.ledger_model.specs.LockTables.{has_four_others}
 use Rattle.instance.specs.Rows.{Row}
 use Rattle.instance.specs.Reads.{after_read, with_statement, if_accepted, IsSameHeight}
-use Rattle.instance.specs.Plans.{Planned, planned, forgotten, in_round, with_ends, or_set, with_own, with_own_statement, with_all, closed}
+use Rattle.instance.specs.declared.made.Made.{Made}
+use Rattle.instance.specs.Plans.{ended, forgotten, in_round, with_ends, or_set, made_by, with_own, with_own_statement, with_all, closed}
 
 same_trans : (a b c : Row) → IsSameHeight a b → IsSameHeight b c → IsSameHeight a c
 same_trans a b c p q = record { config = q.config ∙ p.config; id = q.id ∙ p.id; height = q.height ∙ p.height; own = q.own ∙ p.own }
@@ -52,28 +54,27 @@ same_round : (row : Row) (c : ℕ) → IsSameHeight row (in_round c row)
 same_round row c = same_if (place_of c == 1) row _ _ (record { config = refl; id = refl; height = refl; own = refl }) (same_self row)
 
 -- what becomes proper is so beside the same own value
-own_stays : (row : Row) (one two three : Bool) (p q r s : Planned)
-    → (or_set p.proper row.proper).own ≡ row.proper.own → (or_set q.proper row.proper).own ≡ row.proper.own
-    → (or_set r.proper row.proper).own ≡ row.proper.own → (or_set s.proper row.proper).own ≡ row.proper.own
-    → (or_set (if one then p else if two then q else if three then r else s).proper row.proper).own ≡ row.proper.own
-own_stays row true two three p q r s hp hq hr hs = hp
-own_stays row false true three p q r s hp hq hr hs = hq
-own_stays row false false true p q r s hp hq hr hs = hr
-own_stays row false false false p q r s hp hq hr hs = hs
+ended_own : (row : Row) (c : ℕ) → (or_set (ended row c).proper row.proper).own ≡ row.proper.own
+unfolding ended absorbed
+ended_own row c =
+    elim (cases_Bool (nat_eq (place_of c) 1)) [
+      | inl first ↦ rw first refl
+      | inr not_first ↦ elim (cases_Bool (nat_eq (place_of c) 2)) [
+        | inl second ↦ rw (not_first, second) refl
+        | inr not_second ↦ elim (cases_Bool (nat_eq (place_of c) 3)) [ inl third ↦ rw (not_first, not_second, third) refl | inr not_third ↦ rw (not_first, not_second, not_third) refl ]
+      ]
+    ]
 
-planned_own : (row : Row) (c : ℕ) → (or_set (planned row c).proper row.proper).own ≡ row.proper.own
-unfolding absorbed
-planned_own row c = own_stays row (place_of c == 1) (place_of c == 2) (place_of c == 3) _ _ _ _ refl refl refl refl
-
-pub same_closed : (row : Row) (c : ℕ) (made : List SignedStatement) → IsSameHeight row (closed row c (planned row c) made)
-same_closed row c made =
+pub same_closed : (row : Row) (c : ℕ) (m : Made) → IsSameHeight row (closed row c (ended row c) m)
+unfolding closed
+same_closed row c m =
     let opened = in_round c row in
-    let ended = with_ends (planned row c) opened in
+    let begun = with_ends (ended row c) opened in
     let round = same_round row c in
-    same_trans row ended (with_all made ended)
+    same_trans row begun (with_all (made_by (ended row c).unsent m) begun)
     (record { config = round.config; id = round.id; height = round.height; own = ends (place_of c == 1) })
-    (same_all ended made)
+    (same_all begun (made_by (ended row c).unsent m))
   where
-    ends : (b : Bool) → (or_set (planned row c).proper (if b then forgotten row else row).proper).own ≡ row.proper.own
-    ends true = planned_own row c
-    ends false = planned_own row c
+    ends : (b : Bool) → (or_set (ended row c).proper (if b then forgotten row else row).proper).own ≡ row.proper.own
+    ends true = ended_own row c
+    ends false = ended_own row c

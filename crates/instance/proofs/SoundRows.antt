@@ -2,7 +2,7 @@
 use Rattle.std.proofs.Common.{◌≡◌, ◌⊎◌, ℕ, ◌+◌, true, false, ◌&&◌, not, inl, inr, List, refl, sym, ap, subst, ◌∙◌, arith}
 use Rattle.std.specs.Prelude.{nat_eq, IsTrue, Option, Some, None, Ok, IfSome}
 use Rattle.std.specs.List.{list_all}
-use Rattle.std.proofs.lemmas.Bool.{cases_Bool, eqb-true, not-false, and_parts, and_from}
+use Rattle.std.proofs.lemmas.Bool.{cases_Bool, not-false, and_from}
 use Rattle.ledger_model.specs.declared.reply.Ignored.TheVariants as cause
 use Rattle.ledger_model.specs.declared.statement.Ack.{Ack}
 use Rattle.ledger_model.specs.declared.statement.Lock.{Lock}
@@ -11,34 +11,31 @@ use Rattle.ledger_model.specs.declared.statement.Statement.{Statement}
 use Rattle.ledger_model.specs.declared.statement.Statement.TheVariants as statement
 use Rattle.ledger_model.specs.declared.statement.Report.{Report}
 use Rattle.ledger_model.specs.declared.statement.SignedStatement.{SignedStatement}
-use Rattle.ledger_model.specs.Values.{Value}
+use Rattle.ledger_model.specs.Values.{Value, IsValue}
 use Rattle.ledger_model.specs.Logs.{height_of}
 use Rattle.ledger_model.specs.Validity.{is_quorate, is_supporting}
-use Rattle.ledger_model.specs.Rounds.{phase_of, place_of, owner_of}
-use Rattle.ledger_model.specs.Notes.{Note, Has, clock_of, is_lock}
+use Rattle.ledger_model.specs.Rounds.{phase_of, place_of}
+use Rattle.ledger_model.specs.Notes.{Note, Has, clock_of, signer_of, is_lock}
 use Rattle.ledger_model.specs.Rules.{Ring, with_signature, is_signed, is_proved, first_of}
-use Rattle.ledger_model.specs.Spelling.{IsFrame, IsReport, IsSigned, IsValue, IsValueList, IsStatement}
+use Rattle.ledger_model.specs.Spelling.{IsFrame, IsReport, IsSigned, IsValueList, IsStatement}
 use Rattle.ledger_model.specs.LockTables.{SignedLock, with_lock, has_four_others, ends_hold}
-use Rattle.ledger_model.specs.Phases.{reports_of, is_found_by}
+use Rattle.ledger_model.specs.Phases.{reports_of}
 use Rattle.ledger_model.specs.Tallies.{Places, all_read, read_of}
 use Rattle.lock_proofs.specs.Tables.{values_of}
-use Rattle.ledger_model.proofs.Lists.{filter_has, has_map}
+use Rattle.ledger_model.proofs.Lists.{all_from, filter_has, has_map}
 use Rattle.ledger_model.proofs.Steps.{none_fits}
-use Rattle.instance.specs.declared.plan.Making.{Making}
-use Rattle.instance.specs.declared.plan.Making.TheVariants as making
-use Rattle.instance.specs.declared.plan.Signing.{Signing}
-use Rattle.instance.specs.declared.plan.Signing.TheVariants as signing
+use Rattle.instance.specs.declared.made.Made.{Made}
+use Rattle.instance.specs.declared.made.Made.TheVariants as made
 use Rattle.instance.specs.Rows.{Row}
 use Rattle.instance.specs.Matching.{Matches, MatchesIn, IsKeptReport, IsSpelled, IsHeldLock, IsSound}
 use Rattle.instance.specs.Reads.{row_causes, with_statement, after_read}
-use Rattle.instance.specs.Plans.{planned, own_report, own_lock, own_ack_of, locking_of, lock_making, ack_making, with_own_statement, with_own, with_all, made_by, with_ends, in_round, closed, Fits, IsSignedIn}
-use Rattle.instance.specs.Laws.{ReadsSound, ClosesSound}
+use Rattle.instance.specs.Plans.{ended, MaySend, unsent_frames, made_by, IsOwnMade, in_round, with_ends, with_own_statement, with_own, with_all, closed}
+use Rattle.instance.specs.Laws.{ReadsSound, IsSignedMade, IsFrameMade}
 use Rattle.lock_proofs.proofs.ValueLists.{with_lock_has}
-use Rattle.instance.proofs.ChosenValues.{chosen_found}
+use Rattle.instance.proofs.MaySend.{own_allowed, lock_allowed}
 use Rattle.instance.proofs.KeptReadings.{read_at}
 use Rattle.instance.proofs.KeptPlaces.{read_put, read_added}
 use Rattle.instance.proofs.PlaceLists.{none_there}
-use Rattle.instance.proofs.OwnLocks.{own_lock_right, proof_signed}
 use Rattle.instance.proofs.SpelledTables.{with_lock-spelled, filter-spelled, absorbed-spelled}
 
 -- ---- what is kept can be spelled
@@ -47,7 +44,7 @@ abbrev AreKeptReports : Places SignedReport → Type 0
 AreKeptReports reports = (r : ℕ) (s : SignedReport) → read_of reports r ≡ Some s → IsKeptReport r s
 
 -- other locks and reports, and another value that was taken; what else was read, made or decided doesn't matter
-pub spelled_with : {row : Row} {table : List SignedLock} {taken : Option Value} {reports : Places SignedReport} {acks : Places Ack} {made : Option Lock} {decided : Option Value}
+pub spelled_with : {row : Row} {table : List SignedLock} {taken : Option Value} {reports : Places SignedReport} {acks : Places Ack} {made : Option Value} {decided : Option Value}
     → IsSpelled row → IsValueList (values_of table) → IfSome taken IsValue → AreKeptReports reports
     → IsSpelled (record row { table = table; reports = reports; acks = acks; taken = taken; made = made; decided = decided })
 spelled_with h locked taken reports = record { heights = h.heights; own = h.own; proper = h.proper; some = h.some; locked = locked; taken = taken; reports = reports }
@@ -105,15 +102,17 @@ own_spelled row s h frame own = by_kind s.statement refl frame.statement
         ]
     by_kind (statement.Ack a) is spelled = spelled_with h h.locked h.taken h.reports
 
-made_spelled : (ring : Ring) (row : Row) (plan : Making) (g : Signing) → IsSpelled row → Fits plan g → IsSignedIn ring g
-    → ((s : Statement) → plan ≡ making.ToSign s → IsOwnReport row s) → IsSpelled (with_all (made_by plan g) row)
-made_spelled ring row (making.ToItself a) signing.NothingToSign h fits signed own = spelled_with h h.locked h.taken h.reports
-made_spelled ring row (making.ToSign s) (signing.Signed frame) h fits signed own = own_spelled row frame.frame h signed.1 (λ r is. own s refl r (sym fits.0 ∙ is))
-made_spelled ring row making.Nothing g h fits signed own = h
-made_spelled ring row (making.ToItself a) signing.Mute h fits signed own = h
-made_spelled ring row (making.ToItself a) (signing.Signed frame) h fits signed own = h
-made_spelled ring row (making.ToSign s) signing.Mute h fits signed own = h
-made_spelled ring row (making.ToSign s) signing.NothingToSign h fits signed own = h
+unsent_spelled : (row : Row) (unsent : Option Ack) → IsSpelled row → IsSpelled (with_all (unsent_frames unsent) row)
+unsent_spelled row None h = h
+unsent_spelled row (Some a) h = spelled_with h h.locked h.taken h.reports
+
+signer_own : (row : Row) (s : Statement) → signer_of s ≡ row.id → IsOwnReport row s
+signer_own row s own r is = subst (λ x. signer_of x ≡ row.id) is own
+
+made_spelled : (row : Row) (unsent : Option Ack) (m : Made) → IsSpelled row → IsFrameMade m → IsOwnMade row.id m → IsSpelled (with_all (made_by unsent m) row)
+made_spelled row unsent made.Mute h frame own = h
+made_spelled row unsent made.Unsent h frame own = unsent_spelled row unsent h
+made_spelled row unsent (made.Sent f) h frame own = unsent_spelled (with_own f row) unsent (own_spelled row f h frame (signer_own row f.statement own))
 
 -- ---- the end of a round
 
@@ -125,7 +124,8 @@ each_spelled row h p has =
     subst IsReport signed.1.1 (h.reports at.0 signed.0 at.1).spelled.report
 
 -- what is kept as the next round opens, before anything is made
-pub ends_spelled : (row : Row) (c : ℕ) → IsSpelled row → IsSpelled (with_ends (planned row c) (in_round c row))
+pub ends_spelled : (row : Row) (c : ℕ) → IsSpelled row → IsSpelled (with_ends (ended row c) (in_round c row))
+unfolding ended
 ends_spelled row c h =
     elim (cases_Bool (nat_eq (place_of c) 1)) [
       | inl first ↦ rw first (spelled_with h h.locked tt (λ r s e. absurd (cc (none_there {X = SignedReport} row.config.replicas r, e))))
@@ -141,41 +141,14 @@ ends_spelled row c h =
       ]
     ]
 
--- a report that is planned is one's own
-pub planned_report : (row : Row) (c : ℕ) (s : Statement) → (planned row c).making ≡ making.ToSign s → IsOwnReport row s
-planned_report row c s is r e =
-    elim (cases_Bool (nat_eq (place_of c) 1)) [
-      | inl first ↦ (let f : making.ToSign (statement.Report (own_report row (phase_of c))) ≡ making.ToSign (statement.Report r) = (rw first at is) ∙ ap making.ToSign e in cc)
-      | inr not_first ↦ elim (cases_Bool (nat_eq (place_of c) 2)) [
-        | inl second ↦ absurd (no_lock (locking_of row (phase_of c)) ((rw (not_first, second) at is) ∙ ap making.ToSign e))
-        | inr not_second ↦ elim (cases_Bool (nat_eq (place_of c) 3)) [
-          | inl third ↦ absurd (no_ack row.taken ((rw (not_first, not_second, third) at is) ∙ ap making.ToSign e))
-          | inr not_third ↦ (let f : making.Nothing ≡ making.ToSign (statement.Report r) = (rw (not_first, not_second, not_third) at is) ∙ ap making.ToSign e in cc)
-        ]
-      ]
-    ]
-  where
-    no_lock : (o : Option Value) → lock_making row (phase_of c) o ≡ making.ToSign (statement.Report r) → ⊥
-    no_lock None f = cc
-    no_lock (Some v) f = cc
-
-    no_ack : (o : Option Value) → ack_making row (phase_of c) o ≡ making.ToSign (statement.Report r) → ⊥
-    no_ack None f = cc
-    no_ack (Some v) f = elim (cases_Bool (nat_eq (owner_of row.config (phase_of c)) row.id)) [
-      | inl mine ↦ (let g : making.ToItself (own_ack_of row (phase_of c) v) ≡ making.ToSign (statement.Report r) = rw mine at f in cc)
-      | inr other ↦ (let g : making.ToSign (statement.Ack (own_ack_of row (phase_of c) v)) ≡ making.ToSign (statement.Report r) = rw other at f in cc)
-    ]
-
 -- the own number stays
-ends_id : (row : Row) (c : ℕ) → (with_ends (planned row c) (in_round c row)).id ≡ row.id
+ends_id : (row : Row) (c : ℕ) → (with_ends (ended row c) (in_round c row)).id ≡ row.id
 ends_id row c = elim (cases_Bool (nat_eq (place_of c) 1)) [ inl first ↦ rw first refl | inr later ↦ rw later refl ]
 
-closes_spelled : (ring : Ring) (row : Row) (log : List Note) (g : Signing) → Matches ring row log → Fits (planned row (clock_of log + 1)).making g → IsSignedIn ring g
-    → IsSpelled (closed row (clock_of log + 1) (planned row (clock_of log + 1)) (made_by (planned row (clock_of log + 1)).making g))
-closes_spelled ring row log g m fits signed =
-    made_spelled ring (with_ends (planned row (clock_of log + 1)) (in_round (clock_of log + 1) row)) (planned row (clock_of log + 1)).making g
-    (ends_spelled row (clock_of log + 1) m.sound.spelled) fits signed
-    (λ s is r e. planned_report row (clock_of log + 1) s is r e ∙ sym (ends_id row (clock_of log + 1)))
+pub closed_spelled : (row : Row) (c : ℕ) (m : Made) → IsSpelled row → IsFrameMade m → IsOwnMade row.id m → IsSpelled (closed row c (ended row c) m)
+unfolding closed
+closed_spelled row c m h frame own =
+    made_spelled (with_ends (ended row c) (in_round c row)) (ended row c).unsent m (ends_spelled row c h) frame (subst (λ id. IsOwnMade id m) (sym (ends_id row c)) own)
 
 -- ---- the locks that are held
 
@@ -224,58 +197,33 @@ reads_sound ring row log s m height frame ok = record {
   held = read_held ring row (clock_of log) s.signature s.statement m.sound (λ l is. lock_held ring row (clock_of log) s l is height frame ok);
 }
 
--- the lock that is planned is one, once it is signed
-planned_lock : (ring : Ring) (row : Row) (log : List Note) → Matches ring row log → (l : Lock) → (planned row (clock_of log + 1)).making ≡ making.ToSign (statement.Lock l)
+-- ---- what is made
+
+-- what is kept allows it
+abbrev pub MayMakeOf : Row → ℕ → Made → Type 0
+MayMakeOf row c made.Mute = Unit {0}
+MayMakeOf row c made.Unsent = MaySend row c None
+MayMakeOf row c (made.Sent f) = MaySend row c (Some f.statement)
+
+pub own_made : (row : Row) (c : ℕ) (m : Made) → MayMakeOf row c m → IsOwnMade row.id m
+own_made row c made.Mute may = tt
+own_made row c made.Unsent may = tt
+own_made row c (made.Sent f) may = (own_allowed row c f.statement may).signer
+
+-- a lock that is allowed is one, once it is signed
+allowed_lock : (ring : Ring) (row : Row) (log : List Note) → Matches ring row log → (l : Lock) → MaySend row (clock_of log + 1) (Some (statement.Lock l))
     → (l.height ≡ row.height) × IsTrue (is_proved row.config ring l)
-planned_lock ring row log m l is =
-    let c : ℕ = clock_of log + 1 in
-    let k : ℕ = phase_of c in
-    elim (cases_Bool (nat_eq (place_of c) 1)) [
-      | inl first ↦ absurd (no_report (rw first at is))
-      | inr not_first ↦ elim (cases_Bool (nat_eq (place_of c) 2)) [
-        | inl second ↦
-            let place : place_of c ≡ 2 = eqb-true (place_of c) 2 second in
-            let same : phase_of (clock_of log) ≡ k = omega arith in
-            chosen_lock (subst (MatchesIn ring row log) same m) (locking_of row k) (locking_is k) (rw (not_first, second) at is)
-        | inr not_second ↦ elim (cases_Bool (nat_eq (place_of c) 3)) [
-          | inl third ↦ absurd (no_ack k row.taken (rw (not_first, not_second, third) at is))
-          | inr not_third ↦ absurd (nothing (rw (not_first, not_second, not_third) at is))
-        ]
-      ]
-    ]
-  where
-    no_report : {r : Report} → making.ToSign (statement.Report r) ≡ making.ToSign (statement.Lock l) → ⊥
-    no_report e = cc
-
-    nothing : making.Nothing ≡ making.ToSign (statement.Lock l) → ⊥
-    nothing e = cc
-
-    no_ack : (k : ℕ) (o : Option Value) → ack_making row k o ≡ making.ToSign (statement.Lock l) → ⊥
-    no_ack k None e = cc
-    no_ack k (Some v) e = elim (cases_Bool (nat_eq (owner_of row.config k) row.id)) [
-      | inl mine ↦ (let f : making.ToItself (own_ack_of row k v) ≡ making.ToSign (statement.Lock l) = rw mine at e in cc)
-      | inr other ↦ (let f : making.ToSign (statement.Ack (own_ack_of row k v)) ≡ making.ToSign (statement.Lock l) = rw other at e in cc)
-    ]
-
-    -- what is locked is found
-    locking_is : (k : ℕ) (v : Value) → locking_of row k ≡ Some v → is_found_by row.config (reports_of (all_read row.reports)) v ≡ true
-    locking_is k v e = elim (cases_Bool (nat_eq (owner_of row.config k) row.id)) [
-      | inl mine ↦ chosen_found row.config (reports_of (all_read row.reports)) row.proper.own v (rw mine at e)
-      | inr other ↦ (let f : None ≡ Some v = rw other at e in cc)
-    ]
-
-    chosen_lock : {k : ℕ} → MatchesIn ring row log k → (o : Option Value) → ((v : Value) → o ≡ Some v → is_found_by row.config (reports_of (all_read row.reports)) v ≡ true)
-        → lock_making row k o ≡ making.ToSign (statement.Lock l) → (l.height ≡ row.height) × IsTrue (is_proved row.config ring l)
-    chosen_lock now None found e = absurd cc
-    chosen_lock {k} now (Some v) found e =
-        let same : own_lock row k v ≡ l = cc in
-        let right = own_lock_right ring row log k now v (found v refl) in
-        let reports = (and_parts (list_all (λ s. is_signed ring (with_signature s)) (own_lock row k v).proof) true (proof_signed ring row log k now v)).0 in
-        subst (λ x. (x.height ≡ row.height) × IsTrue (is_proved row.config ring x)) same (
-          refl,
-          and_from (is_quorate row.config (own_lock row k v) && list_all (λ s. is_signed ring (with_signature s)) (own_lock row k v).proof) (is_supporting (own_lock row k v))
-              (and_from (is_quorate row.config (own_lock row k v)) (list_all (λ s. is_signed ring (with_signature s)) (own_lock row k v).proof) right.quorate reports) right.supporting,
-        )
+allowed_lock ring row log m l may =
+    let own = lock_allowed row (clock_of log + 1) l may in
+    let place = own.0 in
+    let same : phase_of (clock_of log) ≡ phase_of (clock_of log + 1) = omega (arith, place) in
+    let now : MatchesIn ring row log (phase_of (clock_of log + 1)) = subst (MatchesIn ring row log) same m in
+    let signed : list_all (λ s. is_signed ring (with_signature s)) l.proof ≡ true =
+    all_from (λ s. is_signed ring (with_signature s)) l.proof (λ s has. (now.reports.kept s.report.signer s (own.1.kept s has)).signed) in (
+      own.1.of_height,
+      and_from (is_quorate row.config l && list_all (λ s. is_signed ring (with_signature s)) l.proof) (is_supporting l)
+          (and_from (is_quorate row.config l) (list_all (λ s. is_signed ring (with_signature s)) l.proof) own.1.quorate signed) own.1.supporting,
+    )
 
 -- after the own statement is kept
 own_held : (ring : Ring) (row : Row) (s : SignedStatement) → IsSound ring row
@@ -289,42 +237,46 @@ own_held ring row s h new (statement.Lock l) is =
     ]
 own_held ring row s h new (statement.Ack a) is = h.held
 
-made_held : (ring : Ring) (row : Row) (plan : Making) (g : Signing) → IsSound ring row → Fits plan g → IsSignedIn ring g
-    → ((l : Lock) → plan ≡ making.ToSign (statement.Lock l) → (l.height ≡ row.height) × IsTrue (is_proved row.config ring l))
-    → AreHeld ring (with_all (made_by plan g) row)
-made_held ring row (making.ToItself a) signing.NothingToSign h fits signed right = h.held
-made_held ring row (making.ToSign s) (signing.Signed own) h fits signed right =
-    own_held ring row own.frame h
+unsent_held : (ring : Ring) (row : Row) (unsent : Option Ack) → AreHeld ring row → AreHeld ring (with_all (unsent_frames unsent) row)
+unsent_held ring row None held = held
+unsent_held ring row (Some a) held = held
+
+made_held : (ring : Ring) (row : Row) (unsent : Option Ack) (m : Made) → IsSound ring row → IsSignedMade ring m → IsFrameMade m
+    → ((f : SignedStatement) (l : Lock) → m ≡ made.Sent f → f.statement ≡ statement.Lock l → (l.height ≡ row.height) × IsTrue (is_proved row.config ring l))
+    → AreHeld ring (with_all (made_by unsent m) row)
+made_held ring row unsent made.Mute h signed frame right = h.held
+made_held ring row unsent made.Unsent h signed frame right = unsent_held ring row unsent h.held
+made_held ring row unsent (made.Sent f) h signed frame right =
+    unsent_held ring (with_own f row) unsent
+    (own_held ring row f h
     (λ l is.
-    let same : own.frame ≡ record { statement = statement.Lock l; signature = own.frame.signature } = ap (λ x. record { statement = x; signature = own.frame.signature }) is in
-    let parts = right l (ap making.ToSign (sym fits.0 ∙ is)) in
+    let same : f ≡ record { statement = statement.Lock l; signature = f.signature } = ap (λ x. record { statement = x; signature = f.signature }) is in
+    let parts = right f l refl is in
     record {
       of_height = parts.0;
-      frame = subst IsFrame same signed.1;
-      signed = subst (λ x. is_signed ring x ≡ true) same signed.0;
+      frame = subst IsFrame same frame;
+      signed = subst (λ x. is_signed ring x ≡ true) same signed;
       proved = parts.1;
     })
-    own.frame.statement refl
-made_held ring row making.Nothing g h fits signed right = h.held
-made_held ring row (making.ToItself a) signing.Mute h fits signed right = h.held
-made_held ring row (making.ToItself a) (signing.Signed own) h fits signed right = h.held
-made_held ring row (making.ToSign s) signing.Mute h fits signed right = h.held
-made_held ring row (making.ToSign s) signing.NothingToSign h fits signed right = h.held
+    f.statement refl)
 
 -- what is kept as the next round opens, before anything is made, has the same locks of the same height
-ends_alike : (row : Row) (c : ℕ) → let now = with_ends (planned row c) (in_round c row) in (now.table ≡ row.table) × (now.config ≡ row.config) × (now.height ≡ row.height)
+ends_alike : (row : Row) (c : ℕ) → let now = with_ends (ended row c) (in_round c row) in (now.table ≡ row.table) × (now.config ≡ row.config) × (now.height ≡ row.height)
 ends_alike row c = elim (cases_Bool (nat_eq (place_of c) 1)) [ inl first ↦ rw first (refl, refl, refl) | inr later ↦ rw later (refl, refl, refl) ]
 
-pub closes_sound : ClosesSound
-closes_sound ring row log g m fits signed =
+pub closes_sound : (ring : Ring) (row : Row) (log : List Note) (m : Made) → Matches ring row log → MayMakeOf row (clock_of log + 1) m → IsSignedMade ring m → IsFrameMade m
+    → IsSound ring (closed row (clock_of log + 1) (ended row (clock_of log + 1)) m)
+unfolding closed
+closes_sound ring row log m matches may signed frame =
     let c : ℕ = clock_of log + 1 in
-    let now : Row = with_ends (planned row c) (in_round c row) in
+    let now : Row = with_ends (ended row c) (in_round c row) in
     let alike = ends_alike row c in
     let held : AreHeld ring now = λ s k.
-    subst (λ n. IsHeldLock ring now.config n s) (sym alike.2) (subst (λ n. IsHeldLock ring n row.height s) (sym alike.1) (m.sound.held s (subst (λ t. Has t s) alike.0 k))) in
+    subst (λ n. IsHeldLock ring now.config n s) (sym alike.2) (subst (λ n. IsHeldLock ring n row.height s) (sym alike.1) (matches.sound.held s (subst (λ t. Has t s) alike.0 k))) in
     record {
-      spelled = closes_spelled ring row log g m fits signed;
-      held = made_held ring now (planned row c).making g (record { spelled = ends_spelled row c m.sound.spelled; held = held }) fits signed
-          (λ l is. let right = planned_lock ring row log m l is in
+      spelled = closed_spelled row c m matches.sound.spelled frame (own_made row c m may);
+      held = made_held ring now (ended row c).unsent m (record { spelled = ends_spelled row c matches.sound.spelled; held = held }) signed frame
+          (λ f l is lock.
+          let right = allowed_lock ring row log matches l (subst (λ s. MaySend row c (Some s)) lock (subst (MayMakeOf row c) is may)) in
           (right.0 ∙ sym alike.2, subst (λ n. IsTrue (is_proved n ring l)) (sym alike.1) right.1));
     }

@@ -1,27 +1,27 @@
 -- What a replica plans to make can be spelled, where what it keeps can.
-use Rattle.std.proofs.Common.{◌≡◌, ℕ, ◌+◌, ◌<◌, ◌≤◌, true, inl, inr, List, length, refl, sym, ap, subst, ◌∙◌, arith, leb-true}
-use Rattle.std.specs.Prelude.{nat_eq, ◌^◌, ◌-◌, filter, Option, Some, None, IfSome}
-use Rattle.std.specs.List.{AllByRecursion}
+use Rattle.std.proofs.Common.{◌≡◌, ℕ, ◌<◌, ◌≤◌, true, inl, inr, List, length, refl, subst, arith, leb-true}
+use Rattle.std.specs.Prelude.{nat_eq, ◌^◌, filter, Option, Some, None, IfSome}
 use Rattle.std.proofs.lemmas.Bool.{cases_Bool}
 use Rattle.std.proofs.lemmas.List.{length-take-le}
 use Rattle.ledger_model.specs.declared.statement.SignedReport.{SignedReport}
-use Rattle.ledger_model.specs.Values.{Value}
+use Rattle.ledger_model.specs.Values.{Value, IsValue}
 use Rattle.ledger_model.specs.Rounds.{phase_of, place_of, owner_of, quorum}
 use Rattle.ledger_model.specs.Locks.{finds}
-use Rattle.ledger_model.specs.Spelling.{IsValue, IsSigned, IsPlace, IsLock, IsAck, IsReport, IsStatement}
+use Rattle.ledger_model.specs.Spelling.{IsSigned, IsPlace, IsLock, IsAck, IsReport, IsStatement}
 use Rattle.ledger_model.specs.Phases.{reports_of, is_found_by, chosen, absorbed}
 use Rattle.ledger_model.specs.Tallies.{all_read, count_where}
 use Rattle.ledger_model.specs.Validity.{ascends_within, signers_of}
-use Rattle.ledger_model.proofs.Lists.{filter_has, take_has}
+use Rattle.ledger_model.proofs.Lists.{filter_has, take_has, each_from}
 use Rattle.phase_core.proofs.Counts.{count_signed}
 use Rattle.instance.specs.Rows.{Row}
 use Rattle.instance.specs.Matching.{IsSpelled, IsSpelledSet}
-use Rattle.instance.specs.Plans.{Planned, planned, own_report, own_lock, own_ack_of, locking_of, lock_making, ack_making}
-use Rattle.instance.specs.Laws.{statements_in}
-use Rattle.instance.proofs.KeptReadings.{read_at, read_ascends, take-within, filter-within, ascends_higher}
-use Rattle.instance.proofs.ChosenValues.{each_from, chosen_found, chosen_spelled}
+use Rattle.instance.specs.Plans.{own_report, own_lock, own_ack_of, locking_of, chosen_lock, sent_ack, chosen_statement, ended, IsOwnStatement}
+use Rattle.instance.proofs.KeptReadings.{read_at, read_ascends}
+use Rattle.instance.proofs.ChosenValues.{chosen_spelled}
 use Rattle.proper_sets.specs.Known.{Known}
 use Rattle.instance.proofs.SpelledTables.{absorbed-spelled}
+use Rattle.ledger_model.proofs.Counting.{take-within, filter-within, ascends_higher}
+use Rattle.phase_core.proofs.Choosing.{chosen_found}
 use Rattle.instance.proofs.SoundRows.{each_spelled}
 
 module _ (row : Row) (h : IsSpelled row) (member : row.id < row.config.replicas) (k : ℕ) (some : 1 ≤ k) (few : k < 2 ^ 32) where
@@ -67,79 +67,112 @@ module _ (row : Row) (h : IsSpelled row) (member : row.id < row.config.replicas)
           signers = ascends_higher 0 row.config.replicas 256 (signers_of (own_lock row k v).proof) (omega arith) signers_within;
         }
 
--- what is planned as round c + 1 opens
-pub planned_spelled : (row : Row) → IsSpelled row → row.id < row.config.replicas → length row.reports ≡ row.config.replicas
-    → (c : ℕ) → c < 4000000000 → AllByRecursion IsStatement (statements_in (planned row (c + 1)).making)
-planned_spelled row h member places c early =
-    elim (cases_Bool (nat_eq (place_of (c + 1)) 1)) [
-      | inl first ↦ rw first (report_spelled row h member k some few, tt)
-      | inr not_first ↦ elim (cases_Bool (nat_eq (place_of (c + 1)) 2)) [
-        | inl second ↦ rw (not_first, second) (locks (locking_of row k) (λ v e. locking_found v e) (λ v e. locking_value v e))
-        | inr not_second ↦ elim (cases_Bool (nat_eq (place_of (c + 1)) 3)) [
-          | inl third ↦ rw (not_first, not_second, third) (acks row.taken h.taken)
-          | inr not_third ↦ rw (not_first, not_second, not_third) tt
+-- what is chosen as round c opens, which is not before the first
+module _ (row : Row) (h : IsSpelled row) (member : row.id < row.config.replicas) (places : length row.reports ≡ row.config.replicas) (c : ℕ) (begun : 1 ≤ c) (early : c ≤ 4000000000) where
+  abbrev k : ℕ
+  k = phase_of c
+
+  some : 1 ≤ k
+  some = omega (arith, begun)
+
+  few : k < 2 ^ 32
+  few = omega (arith, early)
+
+  -- what is locked is chosen
+  locking_chosen : (v : Value) → locking_of row k ≡ Some v → chosen row.config (reports_of (all_read row.reports)) row.proper.own ≡ Some v
+  locking_chosen v e = elim (cases_Bool (nat_eq (owner_of row.config k) row.id)) [
+    | inl mine ↦ rw mine at e
+    | inr other ↦ (let f : None ≡ Some v = rw other at e in cc)
+  ]
+
+  locking_found : (v : Value) → locking_of row k ≡ Some v → is_found_by row.config (reports_of (all_read row.reports)) v ≡ true
+  locking_found v e = chosen_found row.config (reports_of (all_read row.reports)) row.proper.own v (locking_chosen v e)
+
+  locking_value : (v : Value) → locking_of row k ≡ Some v → IsValue v
+  locking_value v e = chosen_spelled row.config (reports_of (all_read row.reports)) row.proper.own h.own (each_spelled row h) v (locking_chosen v e)
+
+  locks : (o : Option Value) → ((v : Value) → o ≡ Some v → is_found_by row.config (reports_of (all_read row.reports)) v ≡ true) → ((v : Value) → o ≡ Some v → IsValue v)
+      → IfSome (chosen_lock row k o) IsStatement
+  locks None found value = tt
+  locks (Some v) found value = lock_spelled row h member k some few places v (found v refl) (value v refl)
+
+  acks : (o : Option Value) → IfSome o IsValue → IfSome (sent_ack row k o) IsStatement
+  acks None value = tt
+  acks (Some v) value = elim (cases_Bool (nat_eq (owner_of row.config k) row.id)) [
+    | inl mine ↦ rw mine tt
+    | inr other ↦ rw other (ack_spelled row h member k some few v value)
+  ]
+
+  pub chosen_spelled_as : IfSome (chosen_statement row c) IsStatement
+  unfolding chosen_statement
+  chosen_spelled_as = elim (cases_Bool (nat_eq (place_of c) 1)) [
+    | inl first ↦ rw first (report_spelled row h member k some few)
+    | inr not_first ↦ elim (cases_Bool (nat_eq (place_of c) 2)) [
+      | inl second ↦ rw (not_first, second) (locks (locking_of row k) locking_found locking_value)
+      | inr not_second ↦ elim (cases_Bool (nat_eq (place_of c) 3)) [
+        | inl third ↦ rw (not_first, not_second, third) (acks row.taken h.taken)
+        | inr not_third ↦ rw (not_first, not_second, not_third) tt
+      ]
+    ]
+  ]
+
+-- it is one's own
+module _ (row : Row) (c : ℕ) where
+  own_lock_chosen : (o : Option Value) → IfSome (chosen_lock row (phase_of c) o) (IsOwnStatement row)
+  own_lock_chosen None = tt
+  own_lock_chosen (Some v) = record { signer = refl; height = refl }
+
+  own_ack_sent : (o : Option Value) → IfSome (sent_ack row (phase_of c) o) (IsOwnStatement row)
+  own_ack_sent None = tt
+  own_ack_sent (Some v) = elim (cases_Bool (nat_eq (owner_of row.config (phase_of c)) row.id)) [
+    | inl mine ↦ rw mine tt
+    | inr other ↦ rw other (record { signer = refl; height = refl })
+  ]
+
+  pub chosen_own_statement : IfSome (chosen_statement row c) (IsOwnStatement row)
+  unfolding chosen_statement
+  chosen_own_statement = elim (cases_Bool (nat_eq (place_of c) 1)) [
+    | inl first ↦ rw first (record { signer = refl; height = refl })
+    | inr not_first ↦ elim (cases_Bool (nat_eq (place_of c) 2)) [
+      | inl second ↦ rw (not_first, second) (own_lock_chosen (locking_of row (phase_of c)))
+      | inr not_second ↦ elim (cases_Bool (nat_eq (place_of c) 3)) [
+        | inl third ↦ rw (not_first, not_second, third) (own_ack_sent row.taken)
+        | inr not_third ↦ rw (not_first, not_second, not_third) tt
+      ]
+    ]
+  ]
+
+-- what the end of a round makes proper
+pub proper_spelled : (row : Row) (c : ℕ) (known : Known) → IsSpelled row → (ended row c).proper ≡ Some known → IsSpelledSet known.set
+unfolding ended
+proper_spelled row c known h e =
+    elim (cases_Bool (nat_eq (place_of c) 1)) [
+      | inl first ↦ (let f : None ≡ Some known = rw first at e in cc)
+      | inr not_first ↦ elim (cases_Bool (nat_eq (place_of c) 2)) [
+        | inl second ↦
+            (let f : Some (record { config = row.config; set = absorbed row.config row.id (reports_of (all_read row.reports)) row.proper }) ≡ Some known = rw (not_first, second) at e in
+            let same : absorbed row.config row.id (reports_of (all_read row.reports)) row.proper ≡ known.set = cc in
+            subst IsSpelledSet same (absorbed-spelled row.config row.id (reports_of (all_read row.reports)) row.proper (record { own = h.own; explicit = h.proper; some = h.some }) (each_spelled row h)))
+        | inr not_second ↦ elim (cases_Bool (nat_eq (place_of c) 3)) [
+          | inl third ↦ (let f : None ≡ Some known = rw (not_first, not_second, third) at e in cc)
+          | inr not_third ↦ (let f : None ≡ Some known = rw (not_first, not_second, not_third) at e in cc)
         ]
       ]
     ]
-  where
-    k : ℕ
-    k = phase_of (c + 1)
 
-    some : 1 ≤ k
-    some = omega arith
-
-    few : k < 2 ^ 32
-    few = omega arith
-
-    -- what is locked is chosen
-    locking_chosen : (v : Value) → locking_of row k ≡ Some v → chosen row.config (reports_of (all_read row.reports)) row.proper.own ≡ Some v
-    locking_chosen v e = elim (cases_Bool (nat_eq (owner_of row.config k) row.id)) [
-      | inl mine ↦ rw mine at e
-      | inr other ↦ (let f : None ≡ Some v = rw other at e in cc)
-    ]
-
-    locking_found : (v : Value) → locking_of row k ≡ Some v → is_found_by row.config (reports_of (all_read row.reports)) v ≡ true
-    locking_found v e = chosen_found row.config (reports_of (all_read row.reports)) row.proper.own v (locking_chosen v e)
-
-    locking_value : (v : Value) → locking_of row k ≡ Some v → IsValue v
-    locking_value v e = chosen_spelled row.config (reports_of (all_read row.reports)) row.proper.own h.own (each_spelled row h) v (locking_chosen v e)
-
-    locks : (o : Option Value) → ((v : Value) → o ≡ Some v → is_found_by row.config (reports_of (all_read row.reports)) v ≡ true) → ((v : Value) → o ≡ Some v → IsValue v)
-        → AllByRecursion IsStatement (statements_in (lock_making row k o))
-    locks None found value = tt
-    locks (Some v) found value = (lock_spelled row h member k some few places v (found v refl) (value v refl), tt)
-
-    acks : (o : Option Value) → IfSome o IsValue → AllByRecursion IsStatement (statements_in (ack_making row k o))
-    acks None value = tt
-    acks (Some v) value = elim (cases_Bool (nat_eq (owner_of row.config k) row.id)) [
-      | inl mine ↦ rw mine (ack_spelled row h member k some few v value, tt)
-      | inr other ↦ rw other (ack_spelled row h member k some few v value, tt)
-    ]
-
--- a plan of round d, which is not before the first
-pub spelled_at : (row : Row) (d : ℕ) (plan : Planned) → IsSpelled row → row.id < row.config.replicas → length row.reports ≡ row.config.replicas
-    → 1 ≤ d → d ≤ 4000000000 → plan ≡ planned row d → AllByRecursion IsStatement (statements_in plan.making)
-spelled_at row d plan h member places some few is =
-    let before : d ≡ (d - 1) + 1 = omega (arith, some) in
-    subst (λ (p : Planned). AllByRecursion IsStatement (statements_in p.making)) (sym (is ∙ ap (planned row) before))
-    (planned_spelled row h member places (d - 1) (omega (arith, some, few)))
-
--- what a plan makes proper
-pub proper_spelled : (row : Row) (d : ℕ) (plan : Planned) (known : Known) → IsSpelled row → plan ≡ planned row d → plan.proper ≡ Some known → IsSpelledSet known.set
-proper_spelled row d plan known h is some = of_planned (ap (λ (p : Planned). p.proper) (sym is) ∙ some)
-  where
-    of_planned : (planned row d).proper ≡ Some known → IsSpelledSet known.set
-    of_planned e =
-        elim (cases_Bool (nat_eq (place_of d) 1)) [
-          | inl first ↦ (let f : None ≡ Some known = rw first at e in cc)
-          | inr not_first ↦ elim (cases_Bool (nat_eq (place_of d) 2)) [
-            | inl second ↦
-                (let f : Some (record { config = row.config; set = absorbed row.config row.id (reports_of (all_read row.reports)) row.proper }) ≡ Some known = rw (not_first, second) at e in
-                let same : absorbed row.config row.id (reports_of (all_read row.reports)) row.proper ≡ known.set = cc in
-                subst IsSpelledSet same (absorbed-spelled row.config row.id (reports_of (all_read row.reports)) row.proper (record { own = h.own; explicit = h.proper; some = h.some }) (each_spelled row h)))
-            | inr not_second ↦ elim (cases_Bool (nat_eq (place_of d) 3)) [
-              | inl third ↦ (let f : None ≡ Some known = rw (not_first, not_second, third) at e in cc)
-              | inr not_third ↦ (let f : None ≡ Some known = rw (not_first, not_second, not_third) at e in cc)
-            ]
-          ]
+-- its proper set is of the same cluster
+pub proper_config : (row : Row) (c : ℕ) (known : Known) → (ended row c).proper ≡ Some known → known.config ≡ row.config
+unfolding ended
+proper_config row c known e =
+    elim (cases_Bool (nat_eq (place_of c) 1)) [
+      | inl first ↦ (let f : None ≡ Some known = rw first at e in cc)
+      | inr not_first ↦ elim (cases_Bool (nat_eq (place_of c) 2)) [
+        | inl second ↦
+            (let f : Some (record { config = row.config; set = absorbed row.config row.id (reports_of (all_read row.reports)) row.proper }) ≡ Some known = rw (not_first, second) at e in
+            cc)
+        | inr not_second ↦ elim (cases_Bool (nat_eq (place_of c) 3)) [
+          | inl third ↦ (let f : None ≡ Some known = rw (not_first, not_second, third) at e in cc)
+          | inr not_third ↦ (let f : None ≡ Some known = rw (not_first, not_second, not_third) at e in cc)
         ]
+      ]
+    ]

@@ -4,8 +4,8 @@ use Rattle.std.specs.Prelude.{Option, Some, None}
 use Rattle.ledger_model.specs.declared.statement.Ack.{Ack}
 use Rattle.ledger_model.specs.declared.statement.Lock.{Lock}
 use Rattle.ledger_model.specs.declared.statement.SignedReport.{SignedReport}
-use Rattle.ledger_model.specs.Values.{Value}
-use Rattle.ledger_model.specs.Spelling.{IsValue, IsSigned}
+use Rattle.ledger_model.specs.Values.{Value, IsValue}
+use Rattle.ledger_model.specs.Spelling.{IsSigned}
 use Rattle.ledger_model.specs.LockTables.{SignedLock, with_lock, released, has_four_others, ends_hold}
 use Rattle.ledger_model.specs.Phases.{ProperSet}
 use Rattle.ledger_model.specs.Tallies.{Places, read_of}
@@ -25,7 +25,7 @@ module _ {row : Row} (h : IsSpelled row) where
       (spelled_with h h.locked h.taken (λ q x e. with_report row.reports r s h.reports signer spelled q x (read_added row.reports r q s x e)))
 
   -- a lock is taken
-  pub keeps_lock : (s : SignedLock) (table : List SignedLock) (taken : Option Value) (made : Option Lock) → IsValue s.lock.value
+  pub keeps_lock : (s : SignedLock) (table : List SignedLock) (taken made : Option Value) → IsValue s.lock.value
       → has_four_others s.lock.value row.table ≡ false → table ≡ with_lock s row.table → taken ≡ Some s.lock.value
       → IsSpelled (record row { table = table; taken = taken; made = made })
   keeps_lock s table taken made value room is then =

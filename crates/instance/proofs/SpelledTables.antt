@@ -5,13 +5,13 @@ use Rattle.std.specs.List.{flat_map}
 use Rattle.std.proofs.lemmas.List.{length-map}
 use Rattle.ledger_model.specs.declared.config.Config.{Config}
 use Rattle.ledger_model.specs.declared.statement.Report.{Report}
-use Rattle.ledger_model.specs.Values.{Value, same_value, with_value, ascending}
+use Rattle.ledger_model.specs.Values.{Value, same_value, with_value, ascending, IsValue}
 use Rattle.ledger_model.specs.Notes.{Has}
-use Rattle.ledger_model.specs.Spelling.{IsValue, IsValueList, IsReport}
+use Rattle.ledger_model.specs.Spelling.{IsValueList, IsReport}
 use Rattle.ledger_model.specs.LockTables.{SignedLock, with_lock, has_four_others}
 use Rattle.ledger_model.specs.Proper.{listed_by_other, cut}
 use Rattle.ledger_model.specs.Phases.{ProperSet, absorbed, is_named_by, named_values}
-use Rattle.ledger_model.proofs.Lists.{with_value_has, has_with, has_map, filter_has, take_has, ascending_has, has_cases, flat_map_has}
+use Rattle.ledger_model.proofs.Lists.{with_value_has, has_with, has_map, filter_has, take_has, ascending_has, has_cases, flat_map_has, each_from, each_has}
 use Rattle.ledger_model.proofs.Below.{ascending_ascends, with_value_ascends}
 use Rattle.lock_proofs.specs.Tables.{IsTable, values_of}
 use Rattle.lock_proofs.proofs.TableLaws.{with_lock-table, filter-table}
@@ -19,7 +19,6 @@ use Rattle.lock_proofs.proofs.ValueLists.{has_value, with_lock-values}
 use Rattle.proper_sets.proofs.Orders.{filter-ascends, take-ascends}
 use Rattle.proper_sets.proofs.Cuts.{IsSmall-cut}
 use Rattle.instance.specs.Matching.{IsSpelledSet}
-use Rattle.instance.proofs.ChosenValues.{each_from, each_has}
 
 -- ---- tables
 

@@ -1,22 +1,22 @@
 -- What a replica keeps of a height is what its log there says.
-use Rattle.std.specs.Prelude.{◌≡◌, ℕ, ◌+◌, ◌*◌, ◌^◌, ◌<◌, ◌≤◌, ◌==◌, Bool, true, false, IsTrue, IfSome, List, length, map, Some, is_some, if◌then◌else◌}
+use Rattle.std.specs.Prelude.{◌≡◌, ℕ, ◌+◌, ◌^◌, ◌<◌, ◌≤◌, ◌==◌, Bool, true, false, IsTrue, IfSome, List, length, map, Option, Some, is_some, if◌then◌else◌}
 use Rattle.std.specs.List.{list_any, list_all}
 use Rattle.std.specs.Option.{option_map_or}
 use Rattle.ledger_model.specs.declared.config.Config.{Config}
 use Rattle.ledger_model.specs.declared.statement.Ack.{Ack}
-use Rattle.ledger_model.specs.declared.statement.Lock.{Lock}
 use Rattle.ledger_model.specs.declared.statement.Report.{Report}
 use Rattle.ledger_model.specs.declared.statement.SignedReport.{SignedReport}
 use Rattle.ledger_model.specs.declared.statement.Statement.{Statement}
 use Rattle.ledger_model.specs.Rounds.{phase_of, place_of, round_at}
 use Rattle.ledger_model.specs.Notes.{Note, Proposed, Round, Made, Read, Has, clock_of, initial_of, is_report, is_lock, is_ack, was_read, was_made}
+use Rattle.ledger_model.specs.Values.{Value, IsValue}
 use Rattle.ledger_model.specs.Locks.{value_taken, decided_of}
 use Rattle.ledger_model.specs.Lawful.{held_locks}
 use Rattle.ledger_model.specs.Rules.{Ring, is_signed, with_signature, is_proved}
 use Rattle.ledger_model.specs.Phases.{ProperSet, reports_of}
-use Rattle.ledger_model.specs.Tallies.{all_read, read_of}
+use Rattle.ledger_model.specs.Tallies.{Places, all_read, read_of}
 use Rattle.ledger_model.specs.LockTables.{SignedLock, as_statement}
-use Rattle.ledger_model.specs.Spelling.{IsFrame, IsSigned, IsValue, IsValueList}
+use Rattle.ledger_model.specs.Spelling.{IsFrame, IsSigned, IsValueList}
 use Rattle.lock_proofs.specs.Tables.{values_of}
 use Rattle.proper_sets.specs.Laws.{proper_at}
 use Rattle.lock_proofs.specs.Laws.{IsTimely}
@@ -35,11 +35,24 @@ pub record IsKept (ring : Ring) (height : ℕ) (log : List Note) (k r : ℕ) (s 
   pub spelled : IsSigned s
   pub read : Has log (Read (round_at 1 k) (with_signature s))
 
--- as many replicas as a cluster has, of which as many may lie
-pub record IsCluster (config : Config) : Type 0 where
-  pub enough : 3 * config.faults + 1 ≤ config.replicas
-  pub bounded : config.replicas ≤ 13
-  pub tolerant : 1 ≤ config.faults
+-- the reports that were read in phase k, each at its signer's place
+pub record ReportsMatch (ring : Ring) (replicas height : ℕ) (log : List Note) (k : ℕ) (places : Places SignedReport) : Type 0 where
+  pub count : length places ≡ replicas
+  pub same : (test : Report → Bool) → was_read log (round_at 1 k) (is_report test) ≡ list_any test (reports_of (all_read places))
+  pub kept : (r : ℕ) (s : SignedReport) → read_of places r ≡ Some s → IsKept ring height log k r s
+  pub every : (s : SignedReport) → Has log (Read (round_at 1 k) (with_signature s)) → read_of places s.report.signer ≡ Some s
+
+-- the value whose lock was taken in phase k, and that of the lock that was made
+pub record LockMatches (log : List Note) (k : ℕ) (value own : Option Value) : Type 0 where
+  pub locked : was_read log (round_at 2 k) (is_lock (λ l. true)) ≡ is_some value
+  pub taken : value ≡ value_taken log k
+  pub made : (test : Value → Bool) → was_made log (round_at 2 k) (is_lock (λ l. test l.value)) ≡ option_map_or test own false
+
+-- the acknowledgements that were read in phase k, each at its signer's place
+pub record AcksMatch (replicas : ℕ) (log : List Note) (k : ℕ) (places : Places Ack) : Type 0 where
+  pub count : length places ≡ replicas
+  pub same : (test : Ack → Bool) → was_read log (round_at 3 k) (is_ack test) ≡ list_any test (all_read places)
+  pub ackers : (r : ℕ) (a : Ack) → read_of places r ≡ Some a → a.signer ≡ r
 
 -- a report that is kept at the place of replica r is that replica's, and can be spelled with its signature
 pub record IsKeptReport (r : ℕ) (s : SignedReport) : Type 0 where
@@ -76,7 +89,6 @@ pub record IsSound (ring : Ring) (row : Row) : Type 0 where
 
 -- what is kept matches the log, where k is the open phase: at clock 0 that is phase 0, in which nothing is read or made
 pub record MatchesIn (ring : Ring) (row : Row) (log : List Note) (k : ℕ) : Type 0 where
-  pub cluster : IsCluster row.config
   pub member : row.id < row.config.replicas
   pub sound : IsSound ring row
   pub opened : initial_of log ≡ Some row.proper.own
@@ -85,20 +97,12 @@ pub record MatchesIn (ring : Ring) (row : Row) (log : List Note) (k : ℕ) : Typ
   pub proper : row.proper ≡ proper_at row.config row.id log (proper_phase (clock_of log)) row.proper.own
   pub locks : map as_statement row.table ≡ held_locks log
   pub decided : row.decided ≡ decided_of row.config log
-  -- the reports of the phase
-  pub report_places : length row.reports ≡ row.config.replicas
-  pub reports : (test : Report → Bool) → was_read log (round_at 1 k) (is_report test) ≡ list_any test (reports_of (all_read row.reports))
-  pub kept : (r : ℕ) (s : SignedReport) → read_of row.reports r ≡ Some s → IsKept ring row.height log k r s
-  -- its lock
-  pub locked : was_read log (round_at 2 k) (is_lock (λ l. true)) ≡ is_some row.taken
-  pub taken : row.taken ≡ value_taken log k
-  pub made : (test : Lock → Bool) → was_made log (round_at 2 k) (is_lock test) ≡ option_map_or test row.made false
-  pub made_in : IfSome row.made (λ l. l.phase ≡ k)
-  -- its acknowledgements
-  pub ack_places : length row.acks ≡ row.config.replicas
-  pub acks : (test : Ack → Bool) → was_read log (round_at 3 k) (is_ack test) ≡ list_any test (all_read row.acks)
-  pub ackers : (r : ℕ) (a : Ack) → read_of row.acks r ≡ Some a → a.signer ≡ r
+  -- what the phase brought
+  pub reports : ReportsMatch ring row.config.replicas row.height log k row.reports
+  pub lock : LockMatches log k row.taken row.made
+  pub acks : AcksMatch row.config.replicas log k row.acks
 
+-- what is kept of a height matches its log, in the round that is open by the log
 abbrev pub Matches : Ring → Row → List Note → Type 0
 Matches ring row log = MatchesIn ring row log (phase_of (clock_of log))
 
@@ -109,5 +113,6 @@ is_round (Proposed v) = false
 is_round (Made c s) = false
 is_round (Read c s) = false
 
+-- the height was not opened yet: its log has rounds alone
 abbrev pub only_rounds : List Note → Bool
 only_rounds log = list_all is_round log

@@ -1,5 +1,5 @@
 -- What a replica that keeps so much of a height answers to a statement, and what it keeps then.
-use Rattle.std.specs.Prelude.{◌≡◌, ℕ, ◌==◌, Bool, false, not, ◌&&◌, ◌||◌, List, [], ◌∷◌, Some, None, is_some, slice_set, Result, Ok, Err, replicate, if◌then◌else◌}
+use Rattle.std.specs.Prelude.{◌≡◌, ℕ, ◌==◌, Bool, false, not, ◌&&◌, List, [], ◌∷◌, Some, None, is_some, slice_set, Result, Ok, Err, replicate, if◌then◌else◌}
 use Rattle.std.specs.Option.{option_map_or}
 use Rattle.ledger_model.specs.declared.config.Config.{Config}
 use Rattle.ledger_model.specs.declared.reply.Ignored.{Ignored}
@@ -10,7 +10,7 @@ use Rattle.ledger_model.specs.declared.statement.Statement.TheVariants as statem
 use Rattle.ledger_model.specs.Values.{Value, same_value}
 use Rattle.ledger_model.specs.Rounds.{phase_of, place_of}
 use Rattle.ledger_model.specs.Notes.{is_lock, is_ack}
-use Rattle.ledger_model.specs.Rules.{Ring, has_place, has_phase, has_owner, is_signed, is_proved}
+use Rattle.ledger_model.specs.Rules.{Ring, is_signed, is_proved, place_causes, proof_causes}
 use Rattle.ledger_model.specs.Phases.{only_own}
 use Rattle.ledger_model.specs.Tallies.{read_of}
 use Rattle.ledger_model.specs.LockTables.{with_lock, has_four_others, released}
@@ -41,25 +41,17 @@ is_kept_already row c (statement.Ack a) = is_some (read_of row.acks a.signer)
 
 -- the causes that a statement shows by itself: of another round, of another phase, not its owner's, kept already
 abbrev pub round_causes : Row → ℕ → Statement → List (Bool × Ignored)
-round_causes row c s =
-    ((c == 0) || not (has_place (place_of c) s), cause.WrongRound)
-    ∷ (not (has_phase c s), cause.WrongPhase)
-    ∷ (not (has_owner row.config s), cause.NotOwner)
-    ∷ (is_kept_already row c s, cause.Repeated)
-    ∷ []
+round_causes row c s = place_causes row.config c (is_kept_already row c s) s []
+
+-- those that come behind them
+abbrev pub kept_causes : Row → Ring → ℕ → SignedStatement → List (Bool × Ignored)
+kept_causes row ring c s =
+    proof_causes row.config ring ((place_of c == 2) && is_lock (λ l. has_four_others l.value row.table) s.statement)
+    (is_ack (λ a. not (option_map_or (same_value a.value) row.made false)) s.statement) s
 
 -- all causes in order from the fourth on, each with whether it fits in round c
 abbrev pub row_causes : Row → Ring → ℕ → SignedStatement → List (Bool × Ignored)
-row_causes row ring c s =
-    ((c == 0) || not (has_place (place_of c) s.statement), cause.WrongRound)
-    ∷ (not (has_phase c s.statement), cause.WrongPhase)
-    ∷ (not (has_owner row.config s.statement), cause.NotOwner)
-    ∷ (is_kept_already row c s.statement, cause.Repeated)
-    ∷ (not (is_signed ring s), cause.BadSignature)
-    ∷ (is_lock (λ l. not (is_proved row.config ring l)) s.statement, cause.BadProof)
-    ∷ ((place_of c == 2) && is_lock (λ l. has_four_others l.value row.table) s.statement, cause.TableFull)
-    ∷ (is_ack (λ a. not (option_map_or (λ l. same_value a.value l.value) row.made false)) s.statement, cause.NotMine)
-    ∷ []
+row_causes row ring c s = place_causes row.config c (is_kept_already row c s.statement) s.statement (kept_causes row ring c s)
 
 -- what is kept once a report, a lock, or an acknowledgement was read in round c
 abbrev pub with_statement : Row → ℕ → List ℕ → Statement → Row
@@ -69,6 +61,7 @@ with_statement row c signature (statement.Lock l) =
     else record row { table = released (phase_of c) l row.table }
 with_statement row c signature (statement.Ack a) = record row { acks = slice_set row.acks a.signer (Some a) }
 
+-- what is kept once the statement was read in round c
 abbrev pub after_read : Row → ℕ → SignedStatement → Row
 after_read row c s = with_statement row c s.signature s.statement
 
@@ -81,6 +74,7 @@ if_accepted (Err c) new old = old
 abbrev pub report_causes : Ring → SignedStatement → List (Bool × Ignored)
 report_causes ring s = (not (is_signed ring s), cause.BadSignature) ∷ []
 
+-- those of a lock
 abbrev pub lock_causes : Row → Ring → ℕ → SignedStatement → List (Bool × Ignored)
 lock_causes row ring c s =
     (not (is_signed ring s), cause.BadSignature)
@@ -88,10 +82,11 @@ lock_causes row ring c s =
     ∷ ((place_of c == 2) && is_lock (λ l. has_four_others l.value row.table) s.statement, cause.TableFull)
     ∷ []
 
+-- those of an acknowledgement
 abbrev pub ack_causes : Row → Ring → SignedStatement → List (Bool × Ignored)
 ack_causes row ring s =
     (not (is_signed ring s), cause.BadSignature)
-    ∷ (is_ack (λ a. not (option_map_or (λ l. same_value a.value l.value) row.made false)) s.statement, cause.NotMine)
+    ∷ (is_ack (λ a. not (option_map_or (same_value a.value) row.made false)) s.statement, cause.NotMine)
     ∷ []
 
 -- why a lock that is not valid is ignored

@@ -1,21 +1,28 @@
 //! What is kept as a round opens.
+ghost use Rattle.std.specs.Prelude.{◌≡◌, Some, IsTrue, true};
+ghost use Rattle.ledger_model.specs.Notes.{signer_of, is_report, is_ack};
+ghost use Rattle.ledger_model.specs.Locks.{lock_value};
+
 use crate::height::Instance;
-use crate::plan::{Making, OwnFrame, Plan, Signing};
+use crate::made::{Kept, Made, OwnFrame};
+use crate::plan::Ending;
 use crate::rounds::{Place, place_of};
-use ledger_model::{Batch, SignedReport, Statement};
-use lock_proofs::ValidLock;
+use ledger_model::{Ack, Batch, Signature, SignedReport, Statement};
+use lock_proofs::LockFrame;
 use proper_sets::Proper;
+use signed_frames::Frame;
 
 impl Instance {
-    ghost use Rattle.std.specs.Prelude.{◌≡◌, ◌<◌, ◌≤◌, ◌+◌, ◌++◌, ◌∷◌, List, [], true};
-    ghost use Rattle.std.specs.List.{flat_map};
-    ghost use Rattle.ledger_model.specs.Notes.{Note, Round, clock_of};
-    ghost use Rattle.ledger_model.specs.Logs.{made_notes};
+    ghost use Rattle.std.specs.Prelude.{◌≡◌, ◌<◌, ◌≤◌, ◌+◌, ◌++◌, ◌∷◌, List, [], Some, IsTrue, true};
+    ghost use Rattle.ledger_model.specs.Notes.{Note, clock_of, signer_of, is_report, is_ack};
     ghost use Rattle.ledger_model.specs.Rules.{Ring};
-    ghost use Rattle.ledger_model.specs.Locks.{or_else};
+    ghost use Rattle.ledger_model.specs.Spelling.{IsFrame};
+    ghost use Rattle.ledger_model.specs.Locks.{or_else, lock_value};
     ghost use Rattle.instance.specs.Matching.{Matches, IsSpelledSet};
-    ghost use Rattle.instance.specs.Plans.{planned, made_by, Fits, IsSignedIn, closed, forgotten, with_all, with_own, IsLocking, IsLockingOf, IsOwn, MakesOwn};
+    ghost use Rattle.instance.specs.Plans.{ended, made_by, unsent_frames, closed, forgotten, with_all, with_own, IsOwnMade, added};
+    ghost use Rattle.instance.specs.Laws.{MayClose, IsSignedMade, IsFrameMade, opened_by};
     ghost use Rattle.instance.specs.Reads.{IsSameHeight};
+    ghost use Rattle.ledger_model.specs.Limits.{last_round};
 
     /// Forgets what was read and made in a phase. It takes no memory.
     fn forget_phase(&mut self)
@@ -45,73 +52,101 @@ impl Instance {
         }
     }
 
-    /// Keeps a statement of one's own that was signed. It takes no memory.
-    fn put_signed(&mut self, statement: Statement, own: OwnFrame, locking: Option<Batch>)
-        requires frame { own.frame ≡ record { statement = statement; signature = own.signature } }
-        requires locking { IsLocking statement locking }
-        requires own { IsOwn self.old.id statement }
-        ensures { self.new ≡ with_own own.frame self.old }
+    /// Keeps a report of one's own, with its signature. It takes no memory.
+    fn put_report(&mut self, frame: Frame, signature: Signature)
+        requires kind { IsTrue (is_report (λ r. true) frame.statement) }
+        requires signature { signature ≡ frame.signature }
+        requires own { signer_of frame.statement ≡ self.old.id }
+        ensures { self.new ≡ with_own frame self.old }
     {
         // The frame shows that what it holds can be spelled.
-        let _ = own.frame.statement();
-        match statement {
-            Statement::Report(report) => {
-                let signature = own.signature;
-                self.reports
-                    .add(self.id, SignedReport { report, signature });
-            }
-            Statement::Lock(lock) => {
-                self.made = Some(lock);
-                if self.locks.take(ValidLock::of_own(own.frame)).is_ok() {
-                    self.taken = locking;
-                }
-            }
-            Statement::Ack(ack) => {
-                self.acks.add(self.id, ack);
-            }
-        }
+        let _ = frame.statement();
+        let Statement::Report(report) = frame.into_statement() else {
+            unreachable!()
+        };
+        self.reports
+            .add(self.id, SignedReport { report, signature });
     }
 
-    /// Keeps the statement of a plan, if it is made. It takes no memory.
-    fn put_own(&mut self, making: Making, signing: Signing, locking: Option<Batch>)
-        requires fits { Fits making signing }
-        requires locking { IsLockingOf making locking }
-        requires own { MakesOwn self.old.id making }
-        ensures { self.new ≡ with_all (made_by making signing) self.old }
+    /// Keeps a lock of one's own, whose value is given twice: as that of the lock that was made, and, where the table has a
+    /// place for the lock, as that of the lock that was taken. It takes no memory.
+    fn put_lock(&mut self, frame: Frame, made: Batch, taken: Batch)
+        requires made { lock_value frame.statement ≡ Some made }
+        requires taken { lock_value frame.statement ≡ Some taken }
+        ensures { self.new ≡ with_own frame self.old }
     {
-        match (making, signing) {
-            (Making::ToItself(ack), Signing::NothingToSign) => {
-                self.acks.add(self.id, ack);
-            }
-            (Making::ToSign(statement), Signing::Signed(own)) => {
-                self.put_signed(statement, own, locking);
-            }
-            _ => {}
+        // The frame shows that what it holds can be spelled.
+        let _ = frame.statement();
+        self.made = Some(made);
+        if self.locks.take(LockFrame::of_own(frame)).is_ok() {
+            self.taken = Some(taken);
         }
     }
 
-    /// Opens the next round, `clock` being the number of the one that closes: puts the plan in place, which was made for it,
-    /// and the statement of its own that the replica made. It takes no memory.
-    pub fn close(&mut self, plan: Plan, signing: Signing, clock: u32)
-        requires clock { clock < 4000000000 }
-        requires plan { plan ≡ planned self.old (clock + 1) }
-        requires fits { Fits plan.making signing }
-        ensures row { self.new ≡ closed self.old (clock + 1) plan (made_by plan.making signing) }
-        // Every log that the instance matched goes on with the round and with what is made in it.
+    /// Keeps an acknowledgement of one's own. It takes no memory.
+    fn put_ack(&mut self, ack: Ack)
+        ensures { self.new ≡ record self.old { acks = added self.old.acks self.old.id ack } }
+    {
+        self.acks.add(self.id, ack);
+    }
+
+    /// Keeps a signed statement of one's own. It takes no memory.
+    fn put_own(&mut self, own: OwnFrame)
+        requires own { signer_of own.statement ≡ self.old.id }
+        ensures after { self.new ≡ with_own own self.old }
+        ensures frame { IsFrame own }
+    {
+        let OwnFrame { frame, kept } = own;
+        match kept {
+            Kept::Report(signature) => self.put_report(frame, signature),
+            Kept::Lock(made, taken) => self.put_lock(frame, made, taken),
+            Kept::Ack => {
+                let Statement::Ack(ack) = frame.into_statement() else {
+                    unreachable!()
+                };
+                self.put_ack(ack);
+            }
+        }
+    }
+
+    /// Keeps what is made. It takes no memory.
+    fn put_made(&mut self, made: Made, unsent: Option<Ack>)
+        requires own { IsOwnMade self.old.id made }
+        ensures after { self.new ≡ with_all (made_by unsent made) self.old }
+        ensures frame { IsFrameMade made }
+    {
+        match made {
+            Made::Mute => return,
+            Made::Unsent => {}
+            Made::Sent(own) => self.put_own(own),
+        }
+        if let Some(ack) = unsent {
+            self.put_ack(ack);
+        }
+    }
+
+    /// Opens the next round, `clock` being the number of the one that closes: puts in place what was prepared for its end, and
+    /// what of its own the replica makes in it. It takes no memory.
+    #[tactic(auto, unfolding(crate::specs::Plans::closed))]
+    pub fn close(&mut self, ending: Ending, made: Made, clock: u32)
+        requires clock { clock < last_round }
+        requires ending { ending ≡ ended self.old (clock + 1) }
+        requires own { IsOwnMade self.old.id made }
+        ensures row { self.new ≡ closed self.old (clock + 1) ending made }
+        // Every log that the instance matched, and by which this may be made, goes on with the round and with what is made.
         ensures matches { (ring : Ring) (log : List Note) → Matches ring self.old log → clock_of log ≡ clock
-            → IsSignedIn ring signing
-            → Matches ring self.new (log ++ Round (clock + 1) ∷ flat_map (made_notes log (clock + 1)) (made_by plan.making signing)) }
+            → MayClose self.old log (clock + 1) made → IsSignedMade ring made
+            → Matches ring self.new (opened_by self.old log (clock + 1) made) }
         ensures same { IsSameHeight self.old self.new }
     {
         // What is kept is opened for the proof that it can be spelled.
         let _ = &self.height;
-        let Plan {
-            making,
+        let Ending {
             proper,
             decided,
-            locking,
+            unsent,
             ..
-        } = plan;
+        } = ending;
         if place_of(clock + 1) == Place::Reports {
             self.forget_phase();
         }
@@ -119,6 +154,6 @@ impl Instance {
             self.put_proper(proper);
         }
         self.put_decided(decided);
-        self.put_own(making, signing, locking);
+        self.put_made(made, unsent);
     }
 }

@@ -1,5 +1,5 @@
 //! Agreement at one height: what is kept of it, and how it begins.
-use ledger_model::{Ack, Batch, Config, Height, Lock, ReplicaId, SignedReport};
+use ledger_model::{Ack, Batch, Config, Height, ReplicaId, SignedReport};
 use lock_proofs::LockTable;
 use proper_sets::Proper;
 use std::alloc::{AllocError, Global};
@@ -18,8 +18,8 @@ pub struct Instance {
     pub(crate) acks: Tally<Ack>,
     /// The value whose lock was taken in the open phase.
     pub(crate) taken: Option<Batch>,
-    /// The lock that was made in the open phase.
-    pub(crate) made: Option<Lock>,
+    /// The value of the lock that was made in the open phase.
+    pub(crate) made: Option<Batch>,
     pub(crate) decided: Option<Batch>,
 }
 
@@ -65,7 +65,7 @@ impl Instance {
     ghost use Rattle.ledger_model.specs.Notes.{Note, Proposed};
     ghost use Rattle.ledger_model.specs.Locks.{decided_of};
     ghost use Rattle.ledger_model.specs.Rules.{Ring};
-    ghost use Rattle.ledger_model.specs.Spelling.{IsValue};
+    ghost use Rattle.ledger_model.specs.Limits.{max_height};
     ghost use Rattle.instance.specs.Matching.{Matches, only_rounds};
     ghost use Rattle.instance.specs.Reads.{opened_row};
 
@@ -78,8 +78,7 @@ impl Instance {
         initial: &Batch,
     ) -> Result<Self, AllocError>
         requires member { id < config.now.replicas }
-        requires height { (1 ≤ height) × (height ≤ 4096) }
-        requires value { IsValue initial.now }
+        requires height { (1 ≤ height) × (height ≤ max_height) }
         ensures row { IfOk result (λ row. row ≡ opened_row config.now id height initial.now) }
         // It matches every log in which rounds were opened, and then the height.
         ensures matches { IfOk result (λ row. (ring : Ring) (log : List Note) → only_rounds log ≡ true

@@ -6,12 +6,15 @@
 //! the call adds.
 #![tactic(auto)]
 
+mod allowing;
 mod closing;
 mod height;
+mod made;
 mod making;
 mod plan;
 mod reading;
 mod rounds;
 
 pub use height::Instance;
-pub use plan::{Making, OwnFrame, Plan, Signing};
+pub use made::{Made, OwnFrame};
+pub use plan::{Ending, Plan};

@@ -1,29 +1,30 @@
 //! What is made as a round opens.
 use crate::height::Instance;
-use crate::plan::{Making, Plan};
+use crate::plan::{Ending, Plan};
 use crate::rounds::{Place, phase_of, place_of};
 use bytes::Bytes;
 use ledger_model::{Ack, Batch, Batches, Lock, LockProof, Phase, Report, SignedReport, Statement};
-use phase_core::{choose, decides};
-use statements::{copy_batches, copy_signed};
+use phase_core::{choose, is_acknowledged};
+use proper_sets::Proper;
 use std::alloc::{AllocError, Global};
 
 impl Instance {
-    ghost use Rattle.std.specs.Prelude.{◌≡◌, ◌<◌, ◌≤◌, ◌+◌, List, map, filter, take, IfOk, true};
+    ghost use Rattle.std.specs.Prelude.{◌≡◌, ◌<◌, ◌≤◌, ◌+◌, List, map, filter, take, Some, IfOk, IfSome, IsTrue, true};
+    ghost use Rattle.std.specs.List.{AllByRecursion};
     ghost use Rattle.ledger_model.specs.Rounds.{phase_of, place_of, quorum};
     ghost use Rattle.ledger_model.specs.Notes.{Note, clock_of};
     ghost use Rattle.ledger_model.specs.Locks.{finds};
     ghost use Rattle.ledger_model.specs.Rules.{Ring};
-    ghost use Rattle.ledger_model.specs.Lawful.{held_locks};
-    ghost use Rattle.ledger_model.specs.Spelling.{frame_bytes};
+    ghost use Rattle.ledger_model.specs.Lawful.{held_locks, are_signed_reports};
+    ghost use Rattle.ledger_model.specs.Spelling.{IsStatement, frame_bytes};
+    ghost use Rattle.ledger_model.specs.Phases.{absorbed, reports_of};
     ghost use Rattle.ledger_model.specs.Tallies.{all_read};
     ghost use Rattle.ledger_model.specs.LockTables.{as_statement};
     ghost use Rattle.lock_proofs.specs.Tables.{values_of};
     ghost use Rattle.instance.specs.Matching.{Matches};
-    ghost use Rattle.instance.specs.Plans.{planned, own_report, own_lock, own_ack_of, locking_of, decides_now};
-    ghost use Rattle.std.specs.List.{AllByRecursion};
-    ghost use Rattle.ledger_model.specs.Spelling.{IsStatement};
-    ghost use Rattle.instance.specs.Laws.{MakesRight, IsLockSentOn, statements_in};
+    ghost use Rattle.instance.specs.Plans.{own_report, own_lock, locking_of, chosen_lock, own_acks, sent_ack, unsent_ack, decides_now, decides_first, chosen_statement, ended, IsOwnStatement};
+    ghost use Rattle.instance.specs.Laws.{MayBeSent, IsLockSentOn};
+    ghost use Rattle.ledger_model.specs.Limits.{last_round};
 
     /// The values of the locks that are held, ascending.
     fn held_values(&self, alloc: Global) -> Result<Vec<Batch>, AllocError>
@@ -47,7 +48,7 @@ impl Instance {
             signer: self.id,
             all: self.proper.all(),
             initial: self.proper.own().copy()?,
-            proper: Batches::new(copy_batches(alloc, self.proper.explicit())?),
+            proper: Batches::from_slice(alloc, self.proper.explicit())?,
             locked: Batches::new(self.held_values(alloc)?),
         })
     }
@@ -65,22 +66,23 @@ impl Instance {
                 && proof.len() < quorum
                 && signed.report.finds(value)
             {
-                proof.push(copy_signed(alloc, signed)?)?;
+                proof.push(signed.copy()?)?;
             }
         }
         Ok(proof)
     }
 
     /// The own lock of a phase on a value.
-    fn own_lock(&self, alloc: Global, phase: Phase, value: &Batch) -> Result<Lock, AllocError>
-        ensures { IfOk result (λ lock. lock ≡ own_lock self.now phase value.now) }
+    fn own_lock(&self, alloc: Global, phase: Phase, value: Batch) -> Result<Lock, AllocError>
+        ensures { IfOk result (λ lock. lock ≡ own_lock self.now phase value) }
     {
+        let proof = LockProof::new(self.proof(alloc, &value)?);
         Ok(Lock {
             height: self.height,
             phase,
             signer: self.id,
-            value: value.copy()?,
-            proof: LockProof::new(self.proof(alloc, value)?),
+            value,
+            proof,
         })
     }
 
@@ -88,20 +90,106 @@ impl Instance {
     fn locking(&self, phase: Phase) -> Result<Option<Batch>, AllocError>
         ensures { IfOk result (λ value. value ≡ locking_of self.now phase) }
     {
-        if self.config.owner_of(phase) != self.id {
+        if self.id != self.config.owner_of(phase) {
             return Ok(None);
         }
         choose(&self.config, &self.reports, self.proper.own())
     }
 
-    /// The value that the own lock of the phase decides, if it does.
-    fn decides_now(&self) -> Result<Option<Batch>, AllocError>
-        ensures { IfOk result (λ value. value ≡ decides_now self.now self.now.made) }
+    /// The own lock of a phase, if this replica owns the phase and may lock a value.
+    fn chosen_lock(&self, alloc: Global, phase: Phase) -> Result<Option<Statement>, AllocError>
+        ensures { IfOk result (λ chosen. chosen ≡ chosen_lock self.now phase (locking_of self.now phase)) }
+    {
+        match self.locking(phase)? {
+            None => Ok(None),
+            Some(value) => Ok(Some(Statement::Lock(self.own_lock(alloc, phase, value)?))),
+        }
+    }
+
+    /// The acknowledgement of the lock that was taken, if one was.
+    fn own_ack(&self, phase: Phase) -> Result<Option<Ack>, AllocError>
+        ensures { IfOk result (λ ack. ack ≡ own_acks self.now phase self.now.taken) }
+    {
+        match &self.taken {
+            None => Ok(None),
+            Some(value) => Ok(Some(Ack {
+                height: self.height,
+                phase,
+                signer: self.id,
+                value: value.copy()?,
+            })),
+        }
+    }
+
+    /// The acknowledgement that is sent to the owner of the phase.
+    fn sent_ack(&self, phase: Phase) -> Result<Option<Statement>, AllocError>
+        ensures { IfOk result (λ sent. sent ≡ sent_ack self.now phase self.now.taken) }
+    {
+        if self.config.owner_of(phase) == self.id {
+            return Ok(None);
+        }
+        match self.own_ack(phase)? {
+            None => Ok(None),
+            Some(ack) => Ok(Some(Statement::Ack(ack))),
+        }
+    }
+
+    /// An owner's acknowledgement of its own lock, which it isn't sent.
+    fn unsent_ack(&self, phase: Phase) -> Result<Option<Ack>, AllocError>
+        ensures { IfOk result (λ unsent. unsent ≡ unsent_ack self.now phase self.now.taken) }
+    {
+        if self.config.owner_of(phase) != self.id {
+            return Ok(None);
+        }
+        self.own_ack(phase)
+    }
+
+    /// The statement that this replica chooses to send as a round opens.
+    #[tactic(auto, unfolding(crate::specs::Plans::chosen_statement))]
+    fn chosen_statement(&self, alloc: Global, round: u32) -> Result<Option<Statement>, AllocError>
+        requires { (1 ≤ round) × (round ≤ last_round) }
+        ensures { IfOk result (λ chosen. chosen ≡ chosen_statement self.now round) }
+    {
+        let phase = phase_of(round);
+        match place_of(round) {
+            Place::Reports => Ok(Some(Statement::Report(self.own_report(alloc, phase)?))),
+            Place::Lock => self.chosen_lock(alloc, phase),
+            Place::Acknowledgements => self.sent_ack(phase),
+            Place::Release => Ok(None),
+        }
+    }
+
+    /// What is proper once the reports of the phase are taken in.
+    fn absorbed(&self) -> Result<Proper, AllocError>
+        ensures config { IfOk result (λ proper. proper.config ≡ self.now.config) }
+        ensures set { IfOk result (λ proper. proper.set
+            ≡ absorbed self.now.config self.now.id (reports_of (all_read self.now.reports)) self.now.proper) }
+    {
+        let mut proper = self.proper.copy()?;
+        proper.absorb(self.id, &self.reports)?;
+        Ok(proper)
+    }
+
+    /// The value of the own lock of the phase, if its acknowledgements decide it.
+    fn decides_now(&self, phase: Phase) -> Result<Option<Batch>, AllocError>
+        ensures { IfOk result (λ value. value ≡ decides_now self.now phase self.now.made) }
     {
         match &self.made {
-            Some(lock) if decides(&self.config, &self.acks, lock) => Ok(Some(lock.value.copy()?)),
+            Some(value) if is_acknowledged(&self.config, &self.acks, phase, value) => {
+                Ok(Some(value.copy()?))
+            }
             _ => Ok(None),
         }
+    }
+
+    /// The same, where nothing was decided before.
+    fn decides_first(&self, phase: Phase) -> Result<Option<Batch>, AllocError>
+        ensures { IfOk result (λ value. value ≡ decides_first self.now phase) }
+    {
+        if self.decided.is_some() {
+            return Ok(None);
+        }
+        self.decides_now(phase)
     }
 
     /// The frames of the held locks, by ascending value.
@@ -116,106 +204,61 @@ impl Instance {
         Ok(frames)
     }
 
-    /// As the first round of a phase opens.
-    fn plan_report(&self, alloc: Global, round: u32) -> Result<Plan, AllocError>
-        requires round { round ≤ 4000000000 }
-        requires place { place_of round ≡ 1 }
-        ensures plan { IfOk result (λ plan. plan ≡ planned self.now round) }
-        ensures spelled { IfOk result (λ plan. AllByRecursion IsStatement (statements_in plan.making)) }
+    /// What is to be done as the next round opens, whatever is sent; `clock` is the number of the round that closes. Nothing
+    /// changes yet.
+    #[tactic(auto, unfolding(crate::specs::Plans::ended))]
+    pub fn prepare_end(&self, alloc: Global, clock: u32) -> Result<Ending, AllocError>
+        requires clock { clock < last_round }
+        ensures ending { IfOk result (λ ending. ending ≡ ended self.now (clock + 1)) }
+        // In a lock-release round it sends on the locks that are held.
+        ensures sends_on { IfOk result (λ ending. (ring : Ring) (log : List Note) → Matches ring self.now log → clock_of log ≡ clock
+            → place_of (clock + 1) ≡ 4 → ending.sends_on ≡ map frame_bytes (held_locks log)) }
+        // Each of those frames reads back as a signed lock of this height.
+        ensures readable { IfOk result (λ ending. (ring : Ring) (log : List Note) → Matches ring self.now log
+            → AllByRecursion (IsLockSentOn ring self.now.height) ending.sends_on) }
+    {
+        let round = clock + 1;
+        let phase = phase_of(round);
+        let mut ending = Ending::nothing(alloc);
+        match place_of(round) {
+            Place::Reports => {}
+            Place::Lock => ending.proper = Some(self.absorbed()?),
+            Place::Acknowledgements => ending.unsent = self.unsent_ack(phase)?,
+            Place::Release => {
+                ending.sends_on = self.held_frames(alloc)?;
+                ending.decided = self.decides_first(phase)?;
+            }
+        }
+        Ok(ending)
+    }
+
+    /// What is to be done as the next round opens, `clock` being the number of the one that closes: the statement to send,
+    /// and all else. Nothing changes yet.
+    pub fn plan_end(&self, alloc: Global, clock: u32) -> Result<Plan, AllocError>
+        requires clock { clock < last_round }
+        ensures statement { IfOk result (λ plan. plan.statement ≡ chosen_statement self.now (clock + 1)) }
+        ensures ending { IfOk result (λ plan. plan.ending ≡ ended self.now (clock + 1)) }
+        // It chooses what may be sent, by every log that the instance matches.
+        ensures may { IfOk result (λ plan. (ring : Ring) (log : List Note) → Matches ring self.now log → clock_of log ≡ clock
+            → MayBeSent self.now log (clock + 1) plan.statement) }
+        // The reports in the proof of a lock are signed.
+        ensures proofs { IfOk result (λ plan. (ring : Ring) (log : List Note) → Matches ring self.now log → clock_of log ≡ clock
+            → IfSome plan.statement (λ s. IsTrue (are_signed_reports ring s))) }
+        // The statement is the replica's, of this height, and can be spelled, whatever log there is.
+        ensures own { IfOk result (λ plan. IfSome plan.statement (IsOwnStatement self.now)) }
+        ensures spelled { IfOk result (λ plan. IfSome plan.statement IsStatement) }
+        // In a lock-release round it sends on the locks that are held.
+        ensures sends_on { IfOk result (λ plan. (ring : Ring) (log : List Note) → Matches ring self.now log → clock_of log ≡ clock
+            → place_of (clock + 1) ≡ 4 → plan.ending.sends_on ≡ map frame_bytes (held_locks log)) }
+        // Each of those frames reads back as a signed lock of this height.
+        ensures readable { IfOk result (λ plan. (ring : Ring) (log : List Note) → Matches ring self.now log
+            → AllByRecursion (IsLockSentOn ring self.now.height) plan.ending.sends_on) }
     {
         // What is kept is opened for the proof that it can be spelled.
         let _ = &self.height;
-        let report = self.own_report(alloc, phase_of(round))?;
-        Ok(Plan::making_of(alloc, Making::ToSign(Statement::Report(report))))
-    }
-
-    /// As the round of locks opens.
-    fn plan_lock(&self, alloc: Global, round: u32) -> Result<Plan, AllocError>
-        requires round { round ≤ 4000000000 }
-        requires place { place_of round ≡ 2 }
-        ensures plan { IfOk result (λ plan. plan ≡ planned self.now round) }
-        ensures spelled { IfOk result (λ plan. AllByRecursion IsStatement (statements_in plan.making)) }
-    {
-        let phase = phase_of(round);
-        let mut proper = self.proper.copy()?;
-        proper.absorb(self.id, &self.reports)?;
-        let locking = self.locking(phase)?;
-        let making = match &locking {
-            None => Making::Nothing,
-            Some(value) => Making::ToSign(Statement::Lock(self.own_lock(alloc, phase, value)?)),
-        };
         Ok(Plan {
-            making,
-            sends_on: Vec::new(alloc),
-            proper: Some(proper),
-            decided: None,
-            locking,
+            statement: self.chosen_statement(alloc, clock + 1)?,
+            ending: self.prepare_end(alloc, clock)?,
         })
-    }
-
-    /// As the round of acknowledgements opens.
-    fn plan_ack(&self, alloc: Global, round: u32) -> Result<Plan, AllocError>
-        requires round { round ≤ 4000000000 }
-        requires place { place_of round ≡ 3 }
-        ensures plan { IfOk result (λ plan. plan ≡ planned self.now round) }
-        ensures spelled { IfOk result (λ plan. AllByRecursion IsStatement (statements_in plan.making)) }
-    {
-        let phase = phase_of(round);
-        let Some(value) = &self.taken else {
-            return Ok(Plan::making_of(alloc, Making::Nothing));
-        };
-        let ack = Ack {
-            height: self.height,
-            phase,
-            signer: self.id,
-            value: value.copy()?,
-        };
-        let making = if self.config.owner_of(phase) == self.id {
-            Making::ToItself(ack)
-        } else {
-            Making::ToSign(Statement::Ack(ack))
-        };
-        Ok(Plan::making_of(alloc, making))
-    }
-
-    /// As the lock-release round opens.
-    fn plan_release(&self, alloc: Global, round: u32) -> Result<Plan, AllocError>
-        requires round { round ≤ 4000000000 }
-        requires place { place_of round ≡ 4 }
-        ensures { IfOk result (λ plan. plan ≡ planned self.now round) }
-    {
-        Ok(Plan {
-            making: Making::Nothing,
-            sends_on: self.held_frames(alloc)?,
-            proper: None,
-            decided: self.decides_now()?,
-            locking: None,
-        })
-    }
-
-    /// What is to be done as the next round opens, `clock` being the number of the one that closes: the statement to make,
-    /// and the frames of locks to send on. Nothing changes yet.
-    pub fn plan_end(&self, alloc: Global, clock: u32) -> Result<Plan, AllocError>
-        requires clock { clock < 4000000000 }
-        ensures plan { IfOk result (λ plan. plan ≡ planned self.now (clock + 1)) }
-        // It makes what may be made, by every log that the instance matches.
-        ensures makes { IfOk result (λ plan. (ring : Ring) (log : List Note) → Matches ring self.now log → clock_of log ≡ clock
-            → MakesRight ring self.now log plan.making) }
-        // What it makes can be spelled, whatever log there is.
-        ensures spelled { IfOk result (λ plan. AllByRecursion IsStatement (statements_in plan.making)) }
-        // In a lock-release round it sends on the locks that are held.
-        ensures sends_on { IfOk result (λ plan. (ring : Ring) (log : List Note) → Matches ring self.now log → clock_of log ≡ clock
-            → place_of (clock + 1) ≡ 4 → plan.sends_on ≡ map frame_bytes (held_locks log)) }
-        // Each of those frames reads back as a signed lock of this height.
-        ensures readable { IfOk result (λ plan. (ring : Ring) (log : List Note) → Matches ring self.now log
-            → AllByRecursion (IsLockSentOn ring self.now.height) plan.sends_on) }
-    {
-        let round = clock + 1;
-        match place_of(round) {
-            Place::Reports => self.plan_report(alloc, round),
-            Place::Lock => self.plan_lock(alloc, round),
-            Place::Acknowledgements => self.plan_ack(alloc, round),
-            Place::Release => self.plan_release(alloc, round),
-        }
     }
 }

@@ -3,14 +3,14 @@ ghost use Rattle.std.specs.Prelude.{◌≡◌, ◌≤◌};
 ghost use Rattle.ledger_model.specs.Rules.{has_place, has_phase, has_owner};
 ghost use Rattle.instance.specs.Places.{number_of};
 ghost use Rattle.instance.specs.Reads.{cause_told};
+ghost use Rattle.ledger_model.specs.Limits.{last_round};
 
 use crate::height::Instance;
 use crate::rounds::{Place, phase_of, place_of};
 use key_ring::KeyRing;
 use ledger_model::{Ack, Config, Ignored, Signature, SignedReport, Statement};
-use lock_proofs::{LockFault, TableFull, check_lock, is_signed};
+use lock_proofs::{LockFault, check_lock, is_signed};
 use signed_frames::Frame;
-use statements::phase;
 use std::alloc::{AllocError, Global};
 
 /// Whether such statements are read in the rounds at this place.
@@ -26,12 +26,12 @@ fn has_place(place: Place, statement: &Statement) -> bool
 
 /// Whether the statement's phase is that of the round; in a lock-release round a lock may be of an earlier one.
 fn has_phase(round: u32, statement: &Statement) -> bool
-    requires { round ≤ 4000000000 }
+    requires { round ≤ last_round }
     ensures { result ≡ has_phase round statement.now }
 {
     match statement {
         Statement::Lock(lock) if place_of(round) == Place::Release => lock.phase <= phase_of(round),
-        _ => phase(statement) == phase_of(round),
+        _ => statement.phase() == phase_of(round),
     }
 }
 
@@ -68,10 +68,11 @@ impl Instance {
     ghost use Rattle.ledger_model.specs.Tallies.{read_of};
     ghost use Rattle.instance.specs.Matching.{Matches};
     ghost use Rattle.instance.specs.Reads.{round_causes, row_causes, report_causes, lock_causes, ack_causes, is_kept_already, after_read, if_accepted, IsSameHeight};
+    ghost use Rattle.ledger_model.specs.Limits.{last_round};
 
     /// Whether one such statement is kept already.
     fn is_kept_already(&self, statement: &Statement, round: u32) -> bool
-        requires { round ≤ 4000000000 }
+        requires { round ≤ last_round }
         ensures { result ≡ is_kept_already self.now round statement.now }
     {
         match statement {
@@ -83,7 +84,7 @@ impl Instance {
 
     /// The first of the causes that the statement shows by itself, if one fits.
     fn judge(&self, statement: &Statement, round: u32) -> Result<(), Ignored>
-        requires { round ≤ 4000000000 }
+        requires { round ≤ last_round }
         ensures { result ≡ first_of (round_causes self.now round statement.now) }
     {
         if round == 0 || !has_place(place_of(round), statement) {
@@ -130,11 +131,9 @@ impl Instance {
 
     /// Whether the acknowledgement is of the lock that this replica made in the phase.
     fn is_of_own_lock(&self, ack: &Ack) -> bool
-        ensures { result ≡ option_map_or (λ l. same_value ack.now.value l.value) self.now.made false }
+        ensures { result ≡ option_map_or (same_value ack.now.value) self.now.made false }
     {
-        self.made
-            .as_ref()
-            .is_some_and(|lock| ack.value == lock.value)
+        self.made.as_ref().is_some_and(|value| ack.value == *value)
     }
 
     /// Reads the first acknowledgement of its signer in this phase, if its signature verifies and it is of the own lock.
@@ -167,7 +166,7 @@ impl Instance {
         round: u32,
     ) -> Result<Result<(), Ignored>, AllocError>
         requires kind { IsTrue (is_lock (λ l. true) frame.statement) }
-        requires round { round ≤ 4000000000 }
+        requires round { round ≤ last_round }
         requires owner { has_owner self.old.config frame.statement ≡ true }
         requires frame { IsFrame frame }
         ensures answer { IfOk result (λ r. r ≡ first_of (lock_causes self.old ring.now round frame)) }
@@ -182,10 +181,13 @@ impl Instance {
             self.locks.release(&lock, phase_of(round));
             return Ok(Ok(()));
         }
-        let value = lock.value().copy()?;
-        if let Err(TableFull) = self.locks.take(lock) {
+        if !self.locks.has_room_for(lock.value()) {
             return Ok(Err(Ignored::TableFull));
         }
+        let value = lock.value().copy()?;
+        let Ok(()) = self.locks.take(lock) else {
+            unreachable!()
+        };
         self.taken = Some(value);
         Ok(Ok(()))
     }
@@ -203,7 +205,7 @@ impl Instance {
     ) -> Result<Result<(), Ignored>, AllocError>
         requires signer { signer_of frame.statement < self.old.config.replicas }
         requires height { height_of frame.statement ≡ self.old.height }
-        requires clock { clock ≤ 4000000000 }
+        requires clock { clock ≤ last_round }
         // What is answered, and what it leaves, by every log that the instance matches.
         ensures answer { IfOk result (λ r. (log : List Note) → Matches ring.now self.old log → clock_of log ≡ clock
             → r ≡ answer_to self.old.config ring.now log frame) }

@@ -2,6 +2,7 @@
 ghost use Rattle.std.specs.Prelude.{◌≡◌, ◌≤◌, ◌==◌};
 ghost use Rattle.ledger_model.specs.Rounds.{phase_of, place_of};
 ghost use Rattle.instance.specs.Places.{number_of};
+ghost use Rattle.ledger_model.specs.Limits.{last_round};
 
 use ledger_model::Phase;
 
@@ -20,7 +21,7 @@ pub(crate) enum Place {
 
 /// The place of a round, from round 1 on. Round 0 is before the first phase.
 pub(crate) fn place_of(round: u32) -> Place
-    requires { round ≤ 4000000000 }
+    requires { round ≤ last_round }
     ensures { number_of result ≡ place_of round }
 {
     match round % 4 {
@@ -33,7 +34,7 @@ pub(crate) fn place_of(round: u32) -> Place
 
 /// The phase of a round.
 pub(crate) fn phase_of(round: u32) -> Phase
-    requires { round ≤ 4000000000 }
+    requires { round ≤ last_round }
     ensures { result ≡ phase_of round }
 {
     Phase::new(round.div_ceil(4))

@@ -27,10 +27,14 @@ impl Model for Signer {
 
 impl Signer {
     ghost use Rattle.std.specs.Prelude.{◌≡◌, ◌+◌, ◌≤◌, true, length, IfOk};
+    ghost use Rattle.ledger_model.specs.Limits.{max_signature_len};
     ghost use Rattle.ledger_model.specs.Signatures.{verifies};
     ghost use Rattle.key_ring.specs.Signers.{leaves_of, key_of, SignsAs};
 
     /// The key pair of a seed, under an identifier, with no leaf used. Its tree is computed here, once.
+    ///
+    /// An identifier and a seed are to make one signer ever, of one parameter set: a second one signs with the same
+    /// leaves again, and the chains of both widths begin at the same secrets.
     pub fn new(
         alloc: Global,
         params: Params,
@@ -55,7 +59,7 @@ impl Signer {
         ensures signs { SignsAs (λ signature. signature.items) self.old message.now result self.new }
         ensures verifies { IfOk result (λ signature.
             verifies (key_of self.old.secret) message.now signature.items ≡ true) }
-        ensures short { IfOk result (λ signature. length signature.items ≤ 2508) }
+        ensures short { IfOk result (λ signature. length signature.items ≤ max_signature_len) }
     {
         let leaf = self.used;
         if leaf >= self.tree.leaves() {

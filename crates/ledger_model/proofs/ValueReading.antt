@@ -2,9 +2,9 @@
 use Rattle.std.proofs.Common.{◌≡◌, ℕ, ◌≤◌, true, ◌&&◌, List, ◌∷◌, ◌++◌, length, Some, refl, sym, ap, subst, ◌∙◌, arith, leb}
 use Rattle.std.specs.List.{flat_map, AllByRecursion}
 use Rattle.std.proofs.lemmas.Bool.{and_parts, and_from, leb-true, le-leb}
-use Rattle.ledger_model.specs.Values.{Value, value_bytes}
+use Rattle.ledger_model.specs.Values.{Value, value_bytes, IsTx, IsValue}
 use Rattle.ledger_model.specs.Order.{tx_bytes}
-use Rattle.ledger_model.specs.Spelling.{IsTx, IsValue, IsValueList, are_ascending, list_bytes}
+use Rattle.ledger_model.specs.Spelling.{IsValueList, are_ascending, list_bytes}
 use Rattle.ledger_model.specs.GrammarLaws.{IsBytes}
 use Rattle.ledger_model.specs.Reading.{◌>>=◌, only_if, guarded, bytes_at, byte_at, tx_at, txs_at, value_at, values_at, list_at}
 use Rattle.ledger_model.proofs.Readers.{bind_some, only_if-some, guarded-some, each_byte, IsReader, many_takes, many_again, byte_takes, bytes_take, bytes_again}

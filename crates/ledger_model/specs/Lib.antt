@@ -1,3 +1,4 @@
+pub mod Limits
 pub mod Values
 pub mod Order
 pub mod OrderLaws
@@ -18,6 +19,7 @@ pub mod Logs
 pub mod Rules
 pub mod Applications
 pub mod Replies
+pub mod Pools
 pub mod Commits
 pub mod Lawful
 pub mod Groups

@@ -1,5 +1,6 @@
 -- What bytes spell, if they spell anything. That this is the spelling is a law.
 use Rattle.std.specs.Prelude.{ℕ, zero, suc, ◌==◌, nat_le, Bool, true, false, ◌&&◌, List, [], ◌∷◌, length, take, drop, Option, Some, None, if◌then◌else◌}
+use Rattle.ledger_model.specs.Limits.{max_tx_len, max_batch_len, max_signature_len}
 use Rattle.std.specs.Int.{Width, w16, w32, byte_len, from_be_bytes}
 use Rattle.ledger_model.specs.declared.statement.Report.{Report}
 use Rattle.ledger_model.specs.declared.statement.Lock.{Lock}
@@ -45,7 +46,7 @@ number_at w bytes = do
 unfoldable pub tx_at : List ℕ → Option (List ℕ × List ℕ)
 tx_at bytes = do
   len ← byte_at bytes
-  guarded (nat_le 1 len.0 && nat_le len.0 64) (bytes_at len.0 len.1)
+  guarded (nat_le 1 len.0 && nat_le len.0 max_tx_len) (bytes_at len.0 len.1)
 
 -- so many transactions
 unfoldable pub txs_at : ℕ → List ℕ → Option (Value × List ℕ)
@@ -59,7 +60,7 @@ txs_at (suc n) bytes = do
 unfoldable pub value_at : List ℕ → Option (Value × List ℕ)
 value_at bytes = do
   count ← byte_at bytes
-  guarded (nat_le count.0 16) (txs_at count.0 count.1)
+  guarded (nat_le count.0 max_batch_len) (txs_at count.0 count.1)
 
 -- so many values
 unfoldable pub values_at : ℕ → List ℕ → Option (List Value × List ℕ)
@@ -80,7 +81,7 @@ list_at bytes = do
 unfoldable pub signature_at : List ℕ → Option (List ℕ × List ℕ)
 signature_at bytes = do
   len ← number_at w16 bytes
-  guarded (nat_le len.0 2508) (bytes_at len.0 len.1)
+  guarded (nat_le len.0 max_signature_len) (bytes_at len.0 len.1)
 
 -- a height or a phase: 1 or more
 unfoldable pub positive_at : List ℕ → Option (ℕ × List ℕ)

@@ -1,5 +1,8 @@
 //! Transactions, batches of them, and the keys of queries, with their limits.
 ghost use Rattle.std.specs.Prelude.{◌≡◌, ◌<◌, ◌≤◌, ◌↔◌, length, IfOk, IsErrOf, vec_len};
+ghost use Rattle.std.specs.List.{AllByRecursion};
+ghost use Rattle.ledger_model.specs.Limits.{max_tx_len, max_batch_len, max_key_len};
+ghost use Rattle.ledger_model.specs.Values.{IsTx, IsValue};
 
 use std::alloc::{AllocError, Global};
 use std::marker::Model;
@@ -21,13 +24,14 @@ pub enum TxFault {
 }
 
 impl Model for Tx {
-    ghost use Rattle.std.specs.Prelude.{◌≤◌, ℕ, List, length};
+    ghost use Rattle.std.specs.Prelude.{ℕ, List};
+    ghost use Rattle.ledger_model.specs.Values.{IsTx};
 
     ghost Value = { List ℕ };
 
     ghost view = { λ t. t.bytes.items };
 
-    ghost invariant = { λ t. (1 ≤ length t.bytes.items) × (length t.bytes.items ≤ 64) };
+    ghost invariant = { λ t. IsTx t.bytes.items };
 }
 
 impl PartialEq for Tx {
@@ -49,11 +53,15 @@ impl Tx {
     /// The most bytes of a transaction.
     pub const MAX_LEN: usize = 64;
 
+    /// The most transactions that wait for a block.
+    pub const MAX_WAITING: usize = 1024;
+
     /// The transaction of these bytes, of which there are 1 to 64.
     pub fn new(bytes: Vec<u8>) -> Result<Self, TxFault>
         ensures ok { IfOk result (λ tx. tx ≡ bytes.items) }
+        ensures spelled { IfOk result (λ tx. IsTx tx) }
         ensures empty { IsErrOf result TxFault.Empty ↔ (vec_len bytes ≡ 0) }
-        ensures too_long { IsErrOf result TxFault.TooLong ↔ (64 < vec_len bytes) }
+        ensures too_long { IsErrOf result TxFault.TooLong ↔ (max_tx_len < vec_len bytes) }
     {
         if bytes.is_empty() {
             return Err(TxFault::Empty);
@@ -68,14 +76,16 @@ impl Tx {
     pub fn as_bytes(&self) -> &[u8]
         ensures bytes { result.now ≡ self.now }
         ensures some { 1 ≤ length self.now }
-        ensures short { length self.now ≤ 64 }
+        ensures short { length self.now ≤ max_tx_len }
+        ensures spelled { IsTx self.now }
     {
         self.bytes.as_slice()
     }
 
     /// The same transaction once more.
     pub fn copy(&self) -> Result<Self, AllocError>
-        ensures { IfOk result (λ tx. tx ≡ self.now) }
+        ensures same { IfOk result (λ tx. tx ≡ self.now) }
+        ensures spelled { IfOk result (λ tx. IsTx tx) }
     {
         Ok(Tx {
             bytes: self.bytes.clone()?,
@@ -97,13 +107,14 @@ pub enum BatchFault {
 }
 
 impl Model for Batch {
-    ghost use Rattle.std.specs.Prelude.{◌≤◌, ℕ, List, length};
+    ghost use Rattle.std.specs.Prelude.{ℕ, List};
+    ghost use Rattle.ledger_model.specs.Values.{IsValue};
 
     ghost Value = { List (List ℕ) };
 
     ghost view = { λ b. b.transactions.items };
 
-    ghost invariant = { λ b. length b.transactions.items ≤ 16 };
+    ghost invariant = { λ b. IsValue b.transactions.items };
 }
 
 impl PartialEq for Batch {
@@ -127,29 +138,42 @@ impl Batch {
     /// The batch of these transactions, of which there are at most 16.
     pub fn new(transactions: Vec<Tx>) -> Result<Self, BatchFault>
         ensures ok { IfOk result (λ batch. batch ≡ transactions.items) }
-        ensures too_many { IsErrOf result BatchFault.TooMany ↔ (16 < vec_len transactions) }
+        ensures spelled { IfOk result (λ batch. IsValue batch) }
+        ensures too_many { IsErrOf result BatchFault.TooMany ↔ (max_batch_len < vec_len transactions) }
     {
         if transactions.len() > Self::MAX_LEN {
             return Err(BatchFault::TooMany);
         }
+        show_spelled(&transactions);
         Ok(Batch { transactions })
     }
 
     /// Its transactions, in order, at most 16.
     pub fn transactions(&self) -> &[Tx]
         ensures transactions { result.now ≡ self.now }
-        ensures few { length self.now ≤ 16 }
+        ensures few { length self.now ≤ max_batch_len }
+        ensures spelled { IsValue self.now }
     {
         self.transactions.as_slice()
     }
 
     /// The same batch once more.
     pub fn copy(&self) -> Result<Self, AllocError>
-        ensures { IfOk result (λ batch. batch ≡ self.now) }
+        ensures same { IfOk result (λ batch. batch ≡ self.now) }
+        ensures spelled { IfOk result (λ batch. IsValue batch) }
     {
         let alloc = *self.transactions.allocator();
         let transactions = copy_all(alloc, self.transactions.as_slice())?;
         Ok(Batch { transactions })
+    }
+}
+
+/// Shows that each is spelled, as a transaction keeps of itself. It does nothing, and the compiler leaves it out.
+fn show_spelled(transactions: &[Tx])
+    ensures { AllByRecursion IsTx transactions.now }
+{
+    for transaction in transactions {
+        let _ = transaction.as_bytes();
     }
 }
 
@@ -178,12 +202,13 @@ pub enum KeyFault {
 
 impl Model for Key {
     ghost use Rattle.std.specs.Prelude.{◌≤◌, ℕ, List, length};
+    ghost use Rattle.ledger_model.specs.Limits.{max_key_len};
 
     ghost Value = { List ℕ };
 
     ghost view = { λ k. k.name.items };
 
-    ghost invariant = { λ k. length k.name.items ≤ 64 };
+    ghost invariant = { λ k. length k.name.items ≤ max_key_len };
 }
 
 impl Key {
@@ -193,7 +218,7 @@ impl Key {
     /// The key of these bytes, of which there are at most 64.
     pub fn new(bytes: Vec<u8>) -> Result<Self, KeyFault>
         ensures ok { IfOk result (λ key. key ≡ bytes.items) }
-        ensures too_long { IsErrOf result KeyFault.TooLong ↔ (64 < vec_len bytes) }
+        ensures too_long { IsErrOf result KeyFault.TooLong ↔ (max_key_len < vec_len bytes) }
     {
         if bytes.len() > Self::MAX_LEN {
             return Err(KeyFault::TooLong);

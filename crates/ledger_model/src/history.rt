@@ -34,6 +34,9 @@ pub struct History {
 impl Entries {
     ghost use Rattle.std.specs.Prelude.{◌≡◌};
 
+    /// The most entries of a history.
+    pub const MAX_LEN: usize = 65_536;
+
     /// The entries, the first first.
     pub fn new(entries: Vec<Entry>) -> Self
         ensures { result ≡ entries.items }

@@ -68,6 +68,11 @@ pub enum Ignored {
 #[derive(Clone, Copy, Debug, PartialEq, Eq)]
 pub struct LastRound;
 
+impl LastRound {
+    /// The number of the last round.
+    pub const NUMBER: u32 = 4_000_000_000;
+}
+
 /// The next height is not decided.
 #[derive(Clone, Copy, Debug, PartialEq, Eq)]
 pub struct NothingDecided;

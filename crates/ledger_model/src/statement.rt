@@ -1,9 +1,10 @@
 //! What replicas tell each other: reports, locks and acknowledgements.
-ghost use Rattle.std.specs.Prelude.{◌≡◌};
+ghost use Rattle.std.specs.Prelude.{◌≡◌, IfOk};
 ghost use Rattle.std.specs.List.{list_any, list_all};
 ghost use Rattle.ledger_model.specs.Values.{same_value};
 
 use crate::{Batch, Height, Phase, ReplicaId};
+use std::alloc::{AllocError, Global};
 use std::marker::Model;
 
 /// A list of batches, as a report names them.
@@ -21,13 +22,22 @@ impl Model for Batches {
 }
 
 impl Batches {
-    ghost use Rattle.std.specs.Prelude.{◌≡◌};
+    ghost use Rattle.std.specs.Prelude.{◌≡◌, IfOk};
 
     /// The list of these batches, in order.
     pub fn new(batches: Vec<Batch>) -> Self
         ensures { result ≡ batches.items }
     {
         Batches { batches }
+    }
+
+    /// The list of copies of these batches, in order.
+    pub fn from_slice(alloc: Global, batches: &[Batch]) -> Result<Self, AllocError>
+        ensures { IfOk result (λ list. list ≡ batches.now) }
+    {
+        Ok(Batches {
+            batches: copy_batches(alloc, batches)?,
+        })
     }
 
     /// The batches, in order. Takes no memory.
@@ -43,6 +53,25 @@ impl Batches {
     {
         self.batches.as_slice()
     }
+
+    /// The same list once more.
+    pub fn copy(&self) -> Result<Self, AllocError>
+        ensures { IfOk result (λ list. list ≡ self.now) }
+    {
+        let alloc = *self.batches.allocator();
+        let batches = copy_batches(alloc, self.batches.as_slice())?;
+        Ok(Batches { batches })
+    }
+}
+
+fn copy_batches(alloc: Global, batches: &[Batch]) -> Result<Vec<Batch>, AllocError>
+    ensures { IfOk result (λ copied. copied.items ≡ batches.now) }
+{
+    let mut copied = Vec::with_capacity(alloc, batches.len())?;
+    for batch in batches {
+        copied.push(batch.copy()?)?;
+    }
+    Ok(copied)
 }
 
 /// The bytes of a signature.
@@ -60,7 +89,10 @@ impl Model for Signature {
 }
 
 impl Signature {
-    ghost use Rattle.std.specs.Prelude.{◌≡◌};
+    ghost use Rattle.std.specs.Prelude.{◌≡◌, IfOk};
+
+    /// The most bytes of a signature: those of RFC 8554's signatures under the parameter sets in use have no more.
+    pub const MAX_LEN: usize = 2508;
 
     /// A signature of these bytes.
     pub fn new(bytes: Vec<u8>) -> Self
@@ -74,6 +106,15 @@ impl Signature {
         ensures { result.now ≡ self.now }
     {
         self.bytes.as_slice()
+    }
+
+    /// The same signature once more.
+    pub fn copy(&self) -> Result<Self, AllocError>
+        ensures { IfOk result (λ signature. signature ≡ self.now) }
+    {
+        Ok(Signature {
+            bytes: self.bytes.clone()?,
+        })
     }
 }
 
@@ -103,7 +144,7 @@ fn holds_only(values: &[Batch], value: &Batch) -> bool
 }
 
 impl Report {
-    ghost use Rattle.std.specs.Prelude.{◌≡◌};
+    ghost use Rattle.std.specs.Prelude.{◌≡◌, IfOk};
     ghost use Rattle.ledger_model.specs.Locks.{names, finds};
 
     /// Whether the report names the value.
@@ -119,6 +160,21 @@ impl Report {
     {
         self.names(value) && holds_only(self.locked.as_slice(), value)
     }
+
+    /// The same report once more.
+    pub fn copy(&self) -> Result<Self, AllocError>
+        ensures { IfOk result (λ report. report ≡ self.now) }
+    {
+        Ok(Report {
+            height: self.height,
+            phase: self.phase,
+            signer: self.signer,
+            all: self.all,
+            initial: self.initial.copy()?,
+            proper: self.proper.copy()?,
+            locked: self.locked.copy()?,
+        })
+    }
 }
 
 /// A report and its signer's signature.
@@ -126,6 +182,20 @@ impl Report {
 pub struct SignedReport {
     pub report: Report,
     pub signature: Signature,
+}
+
+impl SignedReport {
+    ghost use Rattle.std.specs.Prelude.{◌≡◌, IfOk};
+
+    /// The same signed report once more.
+    pub fn copy(&self) -> Result<Self, AllocError>
+        ensures { IfOk result (λ signed. signed ≡ self.now) }
+    {
+        Ok(SignedReport {
+            report: self.report.copy()?,
+            signature: self.signature.copy()?,
+        })
+    }
 }
 
 /// The signed reports that support a lock.
@@ -144,7 +214,7 @@ impl Model for LockProof {
 }
 
 impl LockProof {
-    ghost use Rattle.std.specs.Prelude.{◌≡◌};
+    ghost use Rattle.std.specs.Prelude.{◌≡◌, IfOk};
 
     /// The proof that these reports are, in order.
     pub fn new(reports: Vec<SignedReport>) -> Self
@@ -159,6 +229,25 @@ impl LockProof {
     {
         self.reports.as_slice()
     }
+
+    /// The same proof once more.
+    pub fn copy(&self) -> Result<Self, AllocError>
+        ensures { IfOk result (λ proof. proof ≡ self.now) }
+    {
+        let alloc = *self.reports.allocator();
+        let reports = copy_reports(alloc, self.reports.as_slice())?;
+        Ok(LockProof { reports })
+    }
+}
+
+fn copy_reports(alloc: Global, reports: &[SignedReport]) -> Result<Vec<SignedReport>, AllocError>
+    ensures { IfOk result (λ copied. copied.items ≡ reports.now) }
+{
+    let mut copied = Vec::with_capacity(alloc, reports.len())?;
+    for signed in reports {
+        copied.push(signed.copy()?)?;
+    }
+    Ok(copied)
 }
 
 /// The choice of a phase's owner.
@@ -171,6 +260,23 @@ pub struct Lock {
     pub proof: LockProof,
 }
 
+impl Lock {
+    ghost use Rattle.std.specs.Prelude.{◌≡◌, IfOk};
+
+    /// The same lock once more.
+    pub fn copy(&self) -> Result<Self, AllocError>
+        ensures { IfOk result (λ lock. lock ≡ self.now) }
+    {
+        Ok(Lock {
+            height: self.height,
+            phase: self.phase,
+            signer: self.signer,
+            value: self.value.copy()?,
+            proof: self.proof.copy()?,
+        })
+    }
+}
+
 /// That a replica took the lock of a phase.
 #[derive(Debug, Drop)]
 pub struct Ack {
@@ -180,12 +286,79 @@ pub struct Ack {
     pub value: Batch,
 }
 
+impl Ack {
+    ghost use Rattle.std.specs.Prelude.{◌≡◌, IfOk};
+
+    /// The same acknowledgement once more.
+    pub fn copy(&self) -> Result<Self, AllocError>
+        ensures { IfOk result (λ ack. ack ≡ self.now) }
+    {
+        Ok(Ack {
+            height: self.height,
+            phase: self.phase,
+            signer: self.signer,
+            value: self.value.copy()?,
+        })
+    }
+}
+
 /// What replicas sign and send.
 #[derive(Debug, Drop)]
 pub enum Statement {
     Report(Report),
     Lock(Lock),
     Ack(Ack),
+}
+
+impl Statement {
+    ghost use Rattle.std.specs.Prelude.{◌≡◌, IfOk};
+    ghost use Rattle.ledger_model.specs.Notes.{signer_of};
+    ghost use Rattle.ledger_model.specs.Logs.{height_of};
+    ghost use Rattle.ledger_model.specs.Rules.{phase_in};
+
+    /// Who makes the statement.
+    pub fn signer(&self) -> ReplicaId
+        ensures { result ≡ signer_of self.now }
+    {
+        match self {
+            Statement::Report(report) => report.signer,
+            Statement::Lock(lock) => lock.signer,
+            Statement::Ack(ack) => ack.signer,
+        }
+    }
+
+    /// The height that the statement is about.
+    pub fn height(&self) -> Height
+        ensures { result ≡ height_of self.now }
+    {
+        match self {
+            Statement::Report(report) => report.height,
+            Statement::Lock(lock) => lock.height,
+            Statement::Ack(ack) => ack.height,
+        }
+    }
+
+    /// The phase that the statement is of.
+    pub fn phase(&self) -> Phase
+        ensures { result ≡ phase_in self.now }
+    {
+        match self {
+            Statement::Report(report) => report.phase,
+            Statement::Lock(lock) => lock.phase,
+            Statement::Ack(ack) => ack.phase,
+        }
+    }
+
+    /// The same statement once more.
+    pub fn copy(&self) -> Result<Self, AllocError>
+        ensures { IfOk result (λ statement. statement ≡ self.now) }
+    {
+        match self {
+            Statement::Report(report) => Ok(Statement::Report(report.copy()?)),
+            Statement::Lock(lock) => Ok(Statement::Lock(lock.copy()?)),
+            Statement::Ack(ack) => Ok(Statement::Ack(ack.copy()?)),
+        }
+    }
 }
 
 /// A statement and its signer's signature: what a frame spells.

@@ -15,6 +15,6 @@ mod seed;
 
 pub use hashing::{hasher_at, read_u32};
 pub use identifier::Identifier;
-pub use ots::{candidate, public_hash, sign, signed_steps};
+pub use ots::{append_signature, candidate, public_hash, sign, signed_steps};
 pub use params::{Params, TreeHeight, Width};
 pub use seed::Seed;

@@ -1,5 +1,5 @@
 //! One leaf: its public value, its signature, and the public value that a signature leads to.
-ghost use Rattle.std.specs.Prelude.{◌≡◌, ◌↔◌, ◌*◌, ◌-◌, IfOk, IfSome, IsSome, length, map, take};
+ghost use Rattle.std.specs.Prelude.{◌≡◌, ◌↔◌, ◌≤◌, ◌+◌, ◌++◌, ◌*◌, ◌-◌, IfOk, IfSome, IsSome, length, map, take, vec_len, vec_capacity};
 ghost use Rattle.std.specs.List.{range_with_len};
 ghost use Rattle.std.specs.Int.{w32, from_be_bytes};
 ghost use Rattle.ledger_model.specs.Signatures.{chain, digit, last_step, leaf_key, leaf_signature, leaf_candidate, message_digest, ots_len, part, public_value, sum_up};
@@ -49,20 +49,50 @@ pub fn sign(
         ≡ leaf_signature (numbers_of params) identifier.now seed.now leaf message.now) }
 {
     let mut signature = Vec::with_capacity(alloc, params.ots_len())?;
+    append_signature(&mut signature, params, identifier, leaf, seed, message);
+    Ok(signature)
+}
+
+/// Appends the signature of a message with a leaf, as [`sign`] makes it, to bytes that have room for it. It takes no
+/// memory.
+pub fn append_signature(
+    signature: &mut Vec<u8>,
+    params: Params,
+    identifier: &Identifier,
+    leaf: u32,
+    seed: &Seed,
+    message: &[u8],
+)
+    requires room { vec_len signature.old + ots_len (numbers_of params) ≤ vec_capacity signature.old }
+    ensures items { signature.new.items ≡ signature.old.items
+        ++ leaf_signature (numbers_of params) identifier.now seed.now leaf message.now }
+    ensures capacity { vec_capacity signature.old ≤ vec_capacity signature.new }
+{
     let mut block = StepBlock::new(identifier, leaf);
     block.derive(RANDOMIZER, seed);
     let randomizer = block.value();
-    signature.extend_from_slice(&params.width.code().to_be_bytes())?;
-    signature.extend_from_slice(randomizer)?;
+    append(signature, &params.width.code().to_be_bytes());
+    append(signature, randomizer);
     let digest = message_digest(identifier, leaf, randomizer, message);
     let digits = Digits::of(params, &digest);
     let chains = params.width.chains();
     for index in 0..chains {
         block.derive(index, seed);
         block.advance(0, digits.at(index));
-        signature.extend_from_slice(block.value())?;
+        append(signature, block.value());
     }
-    Ok(signature)
+}
+
+/// Appends a part to bytes that have room for it.
+fn append(bytes: &mut Vec<u8>, part: &[u8])
+    requires room { vec_len bytes.old + length part.now ≤ vec_capacity bytes.old }
+    ensures items { bytes.new.items ≡ bytes.old.items ++ part.now }
+    ensures len { vec_len bytes.new ≡ vec_len bytes.old + length part.now }
+    ensures capacity { vec_capacity bytes.old ≤ vec_capacity bytes.new }
+{
+    if bytes.extend_from_slice(part).is_err() {
+        unreachable!()
+    }
 }
 
 /// The public value that a signature of a message leads to (RFC 8554, section 4.6).

@@ -3,7 +3,7 @@ use std::marker::Model;
 
 /// The secret that all chains begin from, 32 bytes (RFC 8554, Appendix A).
 ///
-/// It can't be copied, compared or printed.
+/// It can't be copied, compared or printed. Its bytes are not wiped from memory when it is dropped.
 #[derive(Drop)]
 pub struct Seed {
     bytes: [u8; 32],

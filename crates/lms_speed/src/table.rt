@@ -66,13 +66,12 @@ fn long_block<C: Clock>(clock: &C, alloc: Global, time: Duration) -> Result<f64,
     Ok(pace.nanoseconds() / nearest_u64_to_f64(blocks(32 + LONG_MESSAGE as u64)))
 }
 
-/// Measures the operation of a line, and writes the line.
+/// Measures one block and then the operation of a line, and writes the line.
 fn write_row<C: Clock, W: Write>(
     clock: &C,
     alloc: Global,
     writer: &mut W,
     row: Row,
-    block: f64,
     time: Duration,
 ) -> Result<(), ProgramFault> {
     let Row {
@@ -80,6 +79,7 @@ fn write_row<C: Clock, W: Write>(
         params,
         ideal,
     } = row;
+    let block = one_block(clock, time)?;
     let pace = pace(clock, alloc, operation, params, time)?;
     let width = params.width.bits();
     let height = params.height.levels();
@@ -95,7 +95,8 @@ fn write_row<C: Clock, W: Write>(
 }
 
 /// Measures and writes the table: how many operations of each kind are done a second, and how many blocks of SHA-256 each
-/// takes, by its time and by what it hashes. Each figure is measured for at least the time.
+/// takes, by its time and by what it hashes. Each figure is measured for at least the time, and a block again before each
+/// operation, since a machine doesn't keep its pace.
 pub fn write_table<C: Clock, W: Write>(
     clock: &C,
     alloc: Global,
@@ -123,7 +124,7 @@ pub fn write_table<C: Clock, W: Write>(
             height: TreeHeight::H5,
         };
         for row in rows(alloc, params)? {
-            write_row(clock, alloc, writer, row, block, time)?;
+            write_row(clock, alloc, writer, row, time)?;
         }
     }
     Ok(())

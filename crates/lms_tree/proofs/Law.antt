@@ -13,6 +13,7 @@ use Rattle.lm_ots.specs.declared.params.TreeHeight.{TreeHeight}
 use Rattle.lm_ots.specs.declared.params.TreeHeight.TheVariants.{H5, H10}
 use Rattle.lm_ots.specs.Parameters.{numbers_of, lms_code_of, ots_code_of, levels_of}
 use Rattle.lm_ots.proofs.Law.{signed_is_candidate, length-leaf_signature, take-leaf_signature}
+use Rattle.lms_tree.specs.Keys.{scheme_of}
 use Rattle.lms_tree.specs.Laws.{SignedVerifies}
 use Rattle.lms_tree.proofs.NodeTable.{length-node, node-leaf, pow-next}
 use Rattle.lms_tree.proofs.Climb.{climb}
@@ -76,7 +77,7 @@ length-signature_of p id seed q message =
 -- what the public key of a tree is made of
 record IsKey (p : Params) (id seed key : List ℕ) : Type 0 where
   whole : length key ≡ 56
-  scheme : params_of (from_be_bytes w32 (take 4 key)) (from_be_bytes w32 (take 4 (drop 4 key))) ≡ Some (numbers_of p)
+  scheme : scheme_of key ≡ Some (numbers_of p)
   identifier : take 16 (drop 8 key) ≡ id
   root : drop 24 key ≡ node (numbers_of p) id seed (numbers_of p).height 1
 

@@ -1,5 +1,5 @@
 -- How long signatures are.
-use Rattle.std.proofs.Common.{◌≡◌, ℕ, ◌≤◌, List, length, lit≤, subst, sym, ◌∙◌, arith}
+use Rattle.std.proofs.Common.{◌≡◌, ℕ, ◌≤◌, List, length, lit≤, subst, sym}
 use Rattle.ledger_model.specs.Signatures.{signature_len, signature_of}
 use Rattle.lm_ots.specs.declared.params.Params.{Params}
 use Rattle.lm_ots.specs.declared.params.Width.{Width}

@@ -15,8 +15,10 @@ pub struct PublicKey {
 /// Why bytes are no public key.
 #[derive(Clone, Copy, Debug, PartialEq, Eq, Error)]
 pub enum KeyFault {
+    /// They are not 56.
     #[error("a public key has 56 bytes")]
     Length,
+    /// Their type codes of LMS and LM-OTS are of none of the four parameter sets.
     #[error("the type codes are of no known parameter set")]
     Scheme,
 }

@@ -1,7 +1,7 @@
 //! A tree over all leaves of a key pair, with the hash at each node.
 use crate::PublicKey;
 use crate::nodes::{leaf_hash, node_hash, sibling};
-use lm_ots::{Identifier, Params, Seed, public_hash};
+use lm_ots::{Identifier, Params, Seed, append_signature, public_hash};
 use std::alloc::{AllocError, Global};
 use std::marker::Model;
 
@@ -31,11 +31,13 @@ impl Model for Tree {
 }
 
 impl Tree {
-    ghost use Rattle.std.specs.Prelude.{◌≡◌, ◌+◌, ◌^◌, ◌<◌, ◌≤◌, true, length, IfOk};
+    ghost use Rattle.std.specs.Prelude.{◌≡◌, ◌+◌, ◌^◌, ◌<◌, ◌≤◌, ◌++◌, true, length, IfOk};
+    ghost use Rattle.ledger_model.specs.Limits.{max_signature_len};
     ghost use Rattle.ledger_model.specs.Signatures.{public_key, path, signature_of, verifies};
     ghost use Rattle.lm_ots.specs.Parameters.{numbers_of};
 
-    /// The tree of a seed, under an identifier.
+    /// The tree of a seed, under an identifier, both of which are to serve one parameter set alone: the chains of both
+    /// widths begin at the same secrets.
     pub fn build(
         alloc: Global,
         params: Params,
@@ -93,14 +95,26 @@ impl Tree {
             (numbers_of self.now.params).height 0
             (2 ^ (numbers_of self.now.params).height + leaf)) }
     {
+        let mut path = Vec::with_capacity(alloc, 32 * usize::from(self.params.height.levels()))?;
+        self.append_path(&mut path, leaf)?;
+        Ok(path)
+    }
+
+    /// Appends the path of a leaf to bytes; where memory runs out, a part of it may stand there.
+    fn append_path(&self, bytes: &mut Vec<u8>, leaf: u32) -> Result<(), AllocError>
+        requires { leaf < 2 ^ (numbers_of self.now.params).height }
+        ensures { IfOk result (λ _. bytes.new.items ≡ bytes.old.items
+            ++ path (numbers_of self.now.params) self.now.identifier self.now.seed
+            (numbers_of self.now.params).height 0
+            (2 ^ (numbers_of self.now.params).height + leaf)) }
+    {
         let levels = self.params.height.levels();
-        let mut path = Vec::with_capacity(alloc, 32 * usize::from(levels))?;
         let mut number = self.params.leaves() + leaf;
         for _ in 0..levels {
-            path.extend_from_slice(&self.nodes[sibling(number) as usize])?;
+            bytes.extend_from_slice(&self.nodes[sibling(number) as usize])?;
             number /= 2;
         }
-        Ok(path)
+        Ok(())
     }
 
     /// The signature of a message with a leaf (RFC 8554, section 5.4).
@@ -114,22 +128,20 @@ impl Tree {
         ensures verifies { IfOk result (λ signature.
             verifies (public_key (numbers_of self.now.params) self.now.identifier self.now.seed)
             message.now signature.items ≡ true) }
-        ensures short { IfOk result (λ signature. length signature.items ≤ 2508) }
+        ensures short { IfOk result (λ signature. length signature.items ≤ max_signature_len) }
     {
         let mut signature = Vec::with_capacity(alloc, self.params.signature_len())?;
-        let path = self.path(alloc, leaf)?;
-        let ots = lm_ots::sign(
-            alloc,
+        signature.extend_from_slice(&leaf.to_be_bytes())?;
+        append_signature(
+            &mut signature,
             self.params,
             &self.identifier,
             leaf,
             &self.seed,
             message,
-        )?;
-        signature.extend_from_slice(&leaf.to_be_bytes())?;
-        signature.extend_from_slice(&ots)?;
+        );
         signature.extend_from_slice(&self.params.height.code().to_be_bytes())?;
-        signature.extend_from_slice(&path)?;
+        self.append_path(&mut signature, leaf)?;
         Ok(signature)
     }
 }

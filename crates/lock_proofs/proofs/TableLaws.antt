@@ -3,7 +3,7 @@ use Rattle.std.proofs.Common.{◌≡◌, ℕ, suc, ◌+◌, ◌<◌, ◌≤◌, 
 use Rattle.std.specs.Prelude.{map, not, ◌&&◌, filter, take_while, slice_get, slice_set}
 use Rattle.std.specs.List.{insert, prefix_len}
 use Rattle.std.specs.Option.{option_map_or}
-use Rattle.std.proofs.lemmas.Bool.{and_parts, and_from, leb-false, lt-leb, false≢true, true≢false}
+use Rattle.std.proofs.lemmas.Bool.{and_parts, and_from, leb-false, false≢true, true≢false}
 use Rattle.std.proofs.lemmas.List.Filters.{length-filter_both}
 use Rattle.std.proofs.lemmas.List.{length-take}
 use Rattle.std.proofs.lemmas.List.Edits.{length-insert}
@@ -176,8 +176,3 @@ room_between s t place held p e len room is_len fits =
     let longer = length-insert t place s within in
     let same = ap length (put_between s t place held p e) in
     omega arith
-
--- ---- what `take` keeps
-
-pub few_others : (v : Value) (t : List SignedLock) (others : ℕ) → others ≡ length (filter (λ m. not (same_value v m.lock.value)) t) → others < 4 → has_four_others v t ≡ false
-few_others v t others is few = lt-leb 4 (length (filter (λ m. not (same_value v m.lock.value)) t)) (omega arith)

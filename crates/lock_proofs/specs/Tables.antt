@@ -4,6 +4,7 @@ use Rattle.ledger_model.specs.LockTables.{SignedLock}
 use Rattle.ledger_model.specs.Values.{Value}
 use Rattle.ledger_model.specs.Spelling.{are_ascending}
 
+-- the values of the locks
 abbrev pub values_of : List SignedLock → List Value
 values_of table = map (λ s. s.lock.value) table
 

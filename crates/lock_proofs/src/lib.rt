@@ -1,4 +1,4 @@
-//! Locks whose owner's signature and whose proof were checked, and the table of those that a replica holds.
+//! The frames of locks, the check whether one is valid, and the table of the locks that a replica holds.
 //!
 //! A lock is valid if it is of its phase's owner and has a proof: signed reports of its height and phase, of all replicas but
 //! as many as may lie, each of which finds its value (Dwork, Lynch and Stockmeyer 1988, Algorithm 2).
@@ -7,11 +7,12 @@
 mod checks;
 mod fault;
 pub mod laws;
+mod lock_frame;
 mod signatures;
 mod table;
-mod valid;
 
+pub use checks::{is_quorate, is_supporting};
 pub use fault::{LockFault, TableFull};
+pub use lock_frame::{LockFrame, check_lock};
 pub use signatures::is_signed;
 pub use table::LockTable;
-pub use valid::{ValidLock, check_lock};

@@ -1,42 +1,35 @@
 //! Which signatures of a lock's frame verify.
 
-ghost use Rattle.std.specs.Prelude.{◌≡◌, Some, slice_get};
-ghost use Rattle.ledger_model.specs.Rules.{is_signed, with_signature};
+ghost use Rattle.std.specs.Prelude.{◌≡◌};
+ghost use Rattle.std.specs.List.{list_all};
+ghost use Rattle.ledger_model.specs.Rules.{is_signed};
 ghost use Rattle.signed_frames.specs.Lending.{proof_of};
-ghost use Rattle.lock_proofs.specs.Faults.{are_signed};
+ghost use Rattle.lock_proofs.specs.Faults.{are_signed, is_lent_signed};
 
 use key_ring::KeyRing;
-use ledger_model::{Lock, SignedReport};
-use signed_frames::Frame;
-use statements::signer;
+use signed_frames::{Frame, LentReports};
 
 /// Whether a frame's signature is its signer's.
 pub fn is_signed(ring: &KeyRing, frame: &Frame) -> bool
     ensures { result ≡ is_signed ring.now frame.now }
 {
-    let signer = signer(frame.statement());
+    let signer = frame.statement().signer();
     ring.verifies(signer, frame.statement_bytes(), frame.signature())
 }
 
-/// Whether the signature of the report at this place of a lock's frame is its signer's, over the report's bytes as they
-/// stand in the frame.
-fn is_report_signed(ring: &KeyRing, frame: &Frame, place: usize, signed: &SignedReport) -> bool
-    requires { slice_get (proof_of frame.now.statement) place ≡ Some signed.now }
-    ensures { result ≡ is_signed ring.now (with_signature signed.now) }
+/// Whether each report of a lock's frame is signed by its signer, over the report's bytes as they stand in the frame.
+pub fn are_signed(ring: &KeyRing, frame: &Frame) -> bool
+    ensures { result ≡ are_signed ring.now (proof_of frame.now.statement) }
 {
-    match frame.lent_report(place) {
-        Some(lent) => ring.verifies(signed.report.signer, lent.bytes(), lent.signature()),
-        None => unreachable!(),
-    }
+    do_verify(ring, frame.lent_reports())
 }
 
-/// Whether each report of a lock's frame is signed by its signer.
-pub fn are_signed(ring: &KeyRing, frame: &Frame, lock: &Lock) -> bool
-    requires { proof_of frame.now.statement ≡ lock.now.proof }
-    ensures { result ≡ are_signed ring.now lock.now.proof }
+/// Whether each of the reports is signed by its signer.
+fn do_verify(ring: &KeyRing, reports: LentReports<'_>) -> bool
+    ensures { result ≡ list_all (is_lent_signed ring.now) reports.entry }
 {
-    for (place, signed) in lock.proof.as_slice().iter().enumerate() {
-        if !is_report_signed(ring, frame, place, signed) {
+    for lent in reports {
+        if !ring.verifies(lent.signer(), lent.bytes(), lent.signature()) {
             return false;
         }
     }

@@ -4,7 +4,7 @@ ghost use Rattle.std.specs.Option.{option_map_or};
 ghost use Rattle.ledger_model.specs.Values.{same_value, is_below};
 ghost use Rattle.ledger_model.specs.LockTables.{with_lock, ends_hold};
 
-use crate::{TableFull, ValidLock};
+use crate::{LockFrame, TableFull};
 use ledger_model::{Batch, Lock, Phase};
 use std::alloc::{AllocError, Global};
 use std::marker::Model;
@@ -12,7 +12,7 @@ use std::marker::Model;
 /// The locks that a replica holds at one height: at most one a value, and at most four, by ascending value.
 #[derive(Debug, Drop)]
 pub struct LockTable {
-    locks: Vec<ValidLock>,
+    locks: Vec<LockFrame>,
 }
 
 impl Model for LockTable {
@@ -28,7 +28,7 @@ impl Model for LockTable {
 }
 
 impl LockTable {
-    ghost use Rattle.std.specs.Prelude.{◌≡◌, ◌≤◌, [], length, is_err, IfOk, OnOk, OnErr};
+    ghost use Rattle.std.specs.Prelude.{◌≡◌, ◌≤◌, [], length, not, is_err, IfOk, OnOk, OnErr};
     ghost use Rattle.ledger_model.specs.LockTables.{with_lock, has_four_others, released};
     ghost use Rattle.lock_proofs.specs.Tables.{IsTable};
 
@@ -44,30 +44,38 @@ impl LockTable {
         })
     }
 
-    /// Takes the lock, in place of one on the same value. It takes no memory.
-    pub fn take(&mut self, lock: ValidLock) -> Result<(), TableFull>
+    /// Whether [`LockTable::take`] takes a lock on this value: locks on at most three others are held. It takes no memory.
+    pub fn has_room_for(&self, value: &Batch) -> bool
+        ensures { result ≡ not (has_four_others value.now self.now) }
+    {
+        number_of_others(&self.locks, value) < Self::MAX_LEN
+    }
+
+    /// Takes the lock, in place of one on the same value. Refused exactly where there is no room for its value. It takes
+    /// no memory.
+    pub fn take(&mut self, lock: LockFrame) -> Result<(), TableFull>
         ensures full { is_err result ≡ has_four_others lock.lock.value self.old }
         ensures taken { OnOk result (self.new ≡ with_lock lock self.old) }
         ensures unchanged { OnErr result (self.new ≡ self.old) }
     {
-        if number_of_others(&self.locks, lock.value()) >= Self::MAX_LEN {
+        if !self.has_room_for(lock.value()) {
             return Err(TableFull);
         }
         put(&mut self.locks, lock);
         Ok(())
     }
 
-    /// A valid lock was read in the lock-release round of phase `now`: locks on other values are held no longer, if they
+    /// A lock was read in the lock-release round of phase `now`: locks on other values are held no longer, if they
     /// are of no later phase than that lock, and that is of no later phase than `now`. It takes no memory.
-    pub fn release(&mut self, read: &ValidLock, now: Phase)
+    pub fn release(&mut self, read: &LockFrame, now: Phase)
         ensures { self.new ≡ released now read.now.lock self.old }
     {
         let read = read.lock();
         self.locks.retain(|held| !ends_hold(now, read, held.lock()));
     }
 
-    /// The locks, by ascending value, each with the frame that was checked.
-    pub fn held(&self) -> &[ValidLock]
+    /// The locks, by ascending value, each with its frame.
+    pub fn held(&self) -> &[LockFrame]
         ensures locks { result.now ≡ self.now }
         ensures table { IsTable self.now }
     {
@@ -76,7 +84,7 @@ impl LockTable {
 }
 
 /// Puts the lock in place of one on the same value, or else where the order has it. There is room for it.
-fn put(locks: &mut Vec<ValidLock>, lock: ValidLock)
+fn put(locks: &mut Vec<LockFrame>, lock: LockFrame)
     requires { length (with_lock lock locks.old.items) ≤ vec_capacity locks.old }
     ensures items { locks.new.items ≡ with_lock lock locks.old.items }
     ensures capacity { vec_capacity locks.new ≡ vec_capacity locks.old }
@@ -90,21 +98,21 @@ fn put(locks: &mut Vec<ValidLock>, lock: ValidLock)
 }
 
 /// How many locks are on other values.
-fn number_of_others(locks: &[ValidLock], value: &Batch) -> usize
+fn number_of_others(locks: &[LockFrame], value: &Batch) -> usize
     ensures { result ≡ length (filter (λ m. not (same_value value.now m.lock.value)) locks.now) }
 {
     locks.iter().filter(|held| value != held.value()).count()
 }
 
 /// How many locks on lower values stand in front: the place of one on this value.
-fn place_for(locks: &[ValidLock], value: &Batch) -> usize
+fn place_for(locks: &[LockFrame], value: &Batch) -> usize
     ensures { result ≡ length (take_while (λ m. is_below m.lock.value value.now) locks.now) }
 {
     locks.iter().take_while(|held| held.value() < value).count()
 }
 
 /// Whether the lock at this place is on the value.
-fn is_held_at(locks: &[ValidLock], place: usize, value: &Batch) -> bool
+fn is_held_at(locks: &[LockFrame], place: usize, value: &Batch) -> bool
     ensures { result ≡ option_map_or (λ m. same_value value.now m.lock.value) (slice_get locks.now place) false }
 {
     locks.get(place).is_some_and(|held| value == held.value())

@@ -12,8 +12,7 @@ use Rattle.ledger_model.specs.declared.reply.SubmitRefusal.{SubmitRefusal}
 use Rattle.ledger_model.specs.declared.reply.SubmitRefusal.TheVariants as refusal
 use Rattle.ledger_model.specs.declared.reply.ProposeRefusal.{ProposeRefusal}
 use Rattle.ledger_model.specs.declared.reply.ProposeRefusal.TheVariants as closed
-use Rattle.ledger_model.specs.Values.{Value}
-use Rattle.ledger_model.specs.Spelling.{IsByte, IsTx}
+use Rattle.ledger_model.specs.Values.{Value, IsByte, IsTx}
 use Rattle.ledger_model.specs.Rules.{Ring}
 use Rattle.ledger_model.specs.Commits.{commits_of, first_fault, is_among, submit_reply, propose_reply}
 use Rattle.ledger_model.specs.Replies.{check_reply}

@@ -34,6 +34,7 @@ pool_tests pool tx =
     ∷ (nat_le 1024 (length pool), refusal.Full)
     ∷ []
 
+-- what a pool answers to a transaction: the first cause that fits
 abbrev pub pool_answer : Value → List ℕ → Result (List ℕ) SubmitRefusal
 pool_answer pool tx = first_fault (pool_tests pool tx) tx
 

@@ -1,8 +1,7 @@
 -- What a replica keeps of its history, as contracts see it.
 use Rattle.std.specs.Prelude.{ℕ, ◌≤◌, Bool, List, Option, Some, None}
 use Rattle.std.specs.List.{AllByRecursion}
-use Rattle.ledger_model.specs.Values.{Value}
-use Rattle.ledger_model.specs.Spelling.{IsTx, IsValue}
+use Rattle.ledger_model.specs.Values.{Value, IsTx, IsValue}
 
 -- the open height: what was proposed there, and whose reports were read in the open round
 pub record Open : Type 0 where

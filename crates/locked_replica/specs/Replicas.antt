@@ -10,6 +10,7 @@ use Rattle.key_ring.specs.Signers.{key_of}
 use Rattle.locked_replica.specs.Holding.{Held}
 use Rattle.locked_replica.specs.Matching.{Matches}
 
+-- a replica as contracts see it
 pub record Replica : Type 0 where
   pub config : Config
   pub id : ℕ

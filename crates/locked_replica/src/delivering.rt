@@ -14,7 +14,7 @@ use std::alloc::{AllocError, Global};
 fn is_signed(ring: &KeyRing, frame: &Frame) -> bool
     ensures { result ≡ is_signed ring.now frame.now }
 {
-    let signer = statements::signer(frame.statement());
+    let signer = frame.statement().signer();
     ring.verifies(signer, frame.statement_bytes(), frame.signature())
 }
 
@@ -29,18 +29,18 @@ impl Core {
         ensures { result ≡ first_of (first_causes config.now ring.now self.now frame.now) }
     {
         let statement = frame.statement();
-        let signer = statements::signer(statement);
+        let signer = statement.signer();
         if signer.number() >= config.replicas {
             return Err(Ignored::Signer);
         }
         let opened = match &self.opened {
-            Some(opened) if opened.height == statements::height(statement) => opened,
+            Some(opened) if opened.height == statement.height() => opened,
             _ => return Err(Ignored::NoRow),
         };
         if self.clock == 0 || !matches!(statement, Statement::Report(_)) {
             return Err(Ignored::WrongRound);
         }
-        if statements::phase(statement).number() != 1 {
+        if statement.phase().number() != 1 {
             return Err(Ignored::WrongPhase);
         }
         if opened.reporters.contains(&signer) {
@@ -72,7 +72,7 @@ impl Core {
         if let Err(cause) = self.judge(config, ring, &frame) {
             return Ok(Err(cause));
         }
-        let signer = statements::signer(frame.statement());
+        let signer = frame.statement().signer();
         if let Some(opened) = &mut self.opened {
             opened.reporters.push(signer)?;
         }

@@ -1,7 +1,7 @@
 //! The pool of submitted transactions.
 ghost use Rattle.std.specs.Prelude.{◌≡◌, take, IfOk};
 ghost use Rattle.ledger_model.specs.Commits.{is_among};
-ghost use Rattle.ledger_model.specs.Spelling.{IsTx};
+ghost use Rattle.ledger_model.specs.Values.{IsTx};
 ghost use Rattle.locked_replica.specs.FirstRound.{pool_answer};
 
 use ledger_model::{Batch, SubmitRefusal, Tx};

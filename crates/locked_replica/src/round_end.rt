@@ -1,6 +1,6 @@
 //! The end of round 0, which opens the first round.
 ghost use Rattle.std.specs.Prelude.{◌≡◌, ◌<◌, ◌≤◌, ◌^◌, ◌+◌, IfOk, OnOk, Some, length};
-ghost use Rattle.ledger_model.specs.Spelling.{IsStatement};
+ghost use Rattle.ledger_model.specs.Limits.{max_signature_len};
 ghost use Rattle.ledger_model.specs.Reading.{reading};
 ghost use Rattle.locked_replica.specs.Holding.{CanSpell};
 ghost use Rattle.locked_replica.specs.FirstRound.{first_report, SpellsFirst};
@@ -13,8 +13,7 @@ use key_ring::Signer;
 use ledger_model::{
     Addressee, Batches, Phase, ReplicaId, Report, RoundEnded, Sent, SentFrames, Statement,
 };
-use signed_frames::Frame;
-use statements::encode;
+use signed_frames::UnsignedFrame;
 use std::alloc::{AllocError, Global};
 
 /// The report of the first phase: the initial value alone is proper, and no lock is held.
@@ -35,12 +34,11 @@ fn first_report(alloc: Global, id: ReplicaId, opened: &Opened) -> Result<Report,
 }
 
 /// The bytes of the frame of a statement and its signature.
-fn frame_bytes(alloc: Global, statement: Statement, signature: &[u8]) -> Result<Bytes, AllocError>
-    requires spelled { IsStatement statement }
-    requires signature_len { length signature.now ≤ 2508 }
-    ensures { IfOk result (λ bytes. reading bytes ≡ Some (record { statement = statement; signature = signature.now })) }
+fn frame_bytes(unsigned: UnsignedFrame, signature: &[u8]) -> Result<Bytes, AllocError>
+    requires { length signature.now ≤ max_signature_len }
+    ensures { IfOk result (λ bytes. reading bytes ≡ Some (record { statement = unsigned; signature = signature.now })) }
 {
-    let frame = Frame::build(alloc, statement, signature)?;
+    let frame = unsigned.with_signature(signature)?;
     Ok(frame.into_bytes())
 }
 
@@ -61,9 +59,9 @@ fn report_frame(
     ensures most { signer.new.used ≤ signer.old.used + 1 }
 {
     let statement = Statement::Report(first_report(alloc, id, opened)?);
-    let message = encode(alloc, &statement)?;
-    let signature = sign(alloc, signer, &message)?;
-    let frame = frame_bytes(alloc, statement, &signature)?;
+    let unsigned = UnsignedFrame::new(alloc, statement)?;
+    let signature = sign(alloc, signer, unsigned.statement_bytes())?;
+    let frame = frame_bytes(unsigned, &signature)?;
     Ok(frame)
 }
 

@@ -1,6 +1,6 @@
 -- What is chosen is found by enough, and where nothing is chosen nothing is.
-use Rattle.std.proofs.Common.{◌≡◌, Bool, true, false, inl, inr, List, [], ◌∷◌, ◌++◌, refl, sym, arith, subst, leb-true, leb-false}
-use Rattle.std.specs.Prelude.{filter, Some, None, ◌||◌, ◌&&◌}
+use Rattle.std.proofs.Common.{◌≡◌, Bool, true, false, ◌⊎◌, inl, inr, List, [], ◌∷◌, ◌++◌, refl, sym, ◌∙◌, arith, subst, leb-true, leb-false}
+use Rattle.std.specs.Prelude.{filter, Option, Some, None, IfSome, IfNone, ◌||◌, ◌&&◌}
 use Rattle.std.specs.List.{list_any, list_all}
 use Rattle.std.proofs.lemmas.Bool.{false≢true, and_parts, cases_Bool}
 use Rattle.ledger_model.specs.declared.config.Config.{Config}
@@ -11,7 +11,7 @@ use Rattle.ledger_model.specs.Rounds.{quorum}
 use Rattle.ledger_model.specs.Locks.{names, finds}
 use Rattle.ledger_model.specs.Tallies.{count_where}
 use Rattle.ledger_model.specs.Phases.{is_found_by, first_value, chosen}
-use Rattle.ledger_model.proofs.Lists.{any_has, filter_has, has_filter, has_ascending, has_left, has_right, has_flat_map, same_value-equal}
+use Rattle.ledger_model.proofs.Lists.{any_has, filter_has, has_filter, has_ascending, ascending_has, has_left, has_right, has_flat_map, same_value-equal}
 use Rattle.phase_core.specs.Least.{values_told}
 use Rattle.phase_core.proofs.Counts.{passes_alone}
 
@@ -34,7 +34,7 @@ unfolding chosen
 chosen_other config reports own e = simp e refl
 
 -- the first that is found is found
-pub first_found : (config : Config) (reports : List Report) (v : Value) → first_value (filter (is_found_by config reports) (ascending (values_told reports))) ≡ Some v → is_found_by config reports v ≡ true
+first_found : (config : Config) (reports : List Report) (v : Value) → first_value (filter (is_found_by config reports) (ascending (values_told reports))) ≡ Some v → is_found_by config reports v ≡ true
 first_found config reports v e =
     (filter_has (is_found_by config reports) (ascending (values_told reports)) v (first_has (filter (is_found_by config reports) (ascending (values_told reports))) v e)).1
 
@@ -58,7 +58,7 @@ found_is_told config reports own v fails passes =
     has_flat_map (λ q. q.proper ++ q.locked) reports p v (r.1.0) (told p.all p.proper p.locked v own (parts.0) (parts.1) (r.1.1.1))
 
 -- where nothing is found of what is told, nothing is found at all
-pub none_found : (config : Config) (reports : List Report) (own : Value) → is_found_by config reports own ≡ false
+none_found : (config : Config) (reports : List Report) (own : Value) → is_found_by config reports own ≡ false
     → first_value (filter (is_found_by config reports) (ascending (values_told reports))) ≡ None → (v : Value) → is_found_by config reports v ≡ false
 none_found config reports own fails none v =
     elim (cases_Bool (is_found_by config reports v)) [
@@ -66,3 +66,42 @@ none_found config reports own fails none v =
       | inl e ↦ absurd (none_first (filter (is_found_by config reports) (ascending (values_told reports))) v none
           (has_filter (is_found_by config reports) (ascending (values_told reports)) v (has_ascending (values_told reports) v (found_is_told config reports own v fails e)) e))
     ]
+
+-- ---- what is chosen
+
+module _ (config : Config) (reports : List Report) (own : Value) where
+  -- it is found by enough
+  pub chosen_found : (v : Value) → chosen config reports own ≡ Some v → is_found_by config reports v ≡ true
+  chosen_found v e =
+      elim (cases_Bool (is_found_by config reports own)) [
+        | inl found ↦ (let s = chosen_own config reports own found in let same : own ≡ v = cc in subst (λ w. is_found_by config reports w ≡ true) same found)
+        | inr fails ↦ first_found config reports v (sym (chosen_other config reports own fails) ∙ e)
+      ]
+
+  -- where nothing is chosen, nothing is found
+  pub none_chosen : chosen config reports own ≡ None → (v : Value) → is_found_by config reports v ≡ false
+  none_chosen e v =
+      elim (cases_Bool (is_found_by config reports own)) [
+        | inl found ↦ (let s = chosen_own config reports own found in cc)
+        | inr fails ↦ none_found config reports own fails (sym (chosen_other config reports own fails) ∙ e) v
+      ]
+
+  -- it is the own value, or a report tells it
+  pub chosen_told : (v : Value) → chosen config reports own ≡ Some v → (own ≡ v) ⊎ Has (values_told reports) v
+  chosen_told v e =
+      elim (cases_Bool (is_found_by config reports own)) [
+        | inl found ↦ (let s = chosen_own config reports own found in inl cc)
+        | inr fails ↦
+            let first : first_value (filter (is_found_by config reports) (ascending (values_told reports))) ≡ Some v = sym (chosen_other config reports own fails) ∙ e in
+            let listed = first_has (filter (is_found_by config reports) (ascending (values_told reports))) v first in
+            inr (ascending_has (values_told reports) v (filter_has (is_found_by config reports) (ascending (values_told reports)) v listed).0)
+      ]
+
+  -- the same of an option
+  pub found_if_some : (o : Option Value) → o ≡ chosen config reports own → IfSome o (λ v. is_found_by config reports v ≡ true)
+  found_if_some None e = tt
+  found_if_some (Some v) e = chosen_found v (sym e)
+
+  pub none_if_none : (o : Option Value) → o ≡ chosen config reports own → IfNone o ((v : Value) → is_found_by config reports v ≡ false)
+  none_if_none None e = none_chosen (sym e)
+  none_if_none (Some v) e = tt

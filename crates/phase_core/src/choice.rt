@@ -62,9 +62,27 @@ fn least_told<'a>(config: &Config, reports: &'a Tally<SignedReport>) -> Option<&
 }
 
 /// The value that the owner of a phase locks by the reports that it read in it, one of each replica: its own initial value if
-/// enough of them find it, else the least that enough find, in the byte order of encodings.
+/// enough of them find it, else the least that enough find, in the byte order of encodings. It takes no memory.
 ///
 /// Enough are N-t (a quorum).
+pub fn chosen_value<'a>(
+    config: &Config,
+    reports: &'a Tally<SignedReport>,
+    own: &'a Batch,
+) -> Option<&'a Batch>
+    ensures chosen { option_copied result ≡ chosen config.now (reports_of (all_read reports.now)) own.now }
+    // What is chosen is found by enough.
+    ensures found { IfSome (option_copied result) (λ v. is_found_by config.now (reports_of (all_read reports.now)) v ≡ true) }
+    // Nothing is chosen only where no value at all is found by enough.
+    ensures none { IfNone (option_copied result) ((v : Value) → is_found_by config.now (reports_of (all_read reports.now)) v ≡ false) }
+{
+    if is_found(config, reports, own) {
+        return Some(own);
+    }
+    least_told(config, reports)
+}
+
+/// A copy of the value that the owner of a phase locks ([`chosen_value`]).
 pub fn choose(
     config: &Config,
     reports: &Tally<SignedReport>,
@@ -76,10 +94,7 @@ pub fn choose(
     // Nothing is chosen only where no value at all is found by enough.
     ensures none { IfOk result (λ value. IfNone value ((v : Value) → is_found_by config.now (reports_of (all_read reports.now)) v ≡ false)) }
 {
-    if is_found(config, reports, own) {
-        return Ok(Some(own.copy()?));
-    }
-    match least_told(config, reports) {
+    match chosen_value(config, reports, own) {
         Some(value) => Ok(Some(value.copy()?)),
         None => Ok(None),
     }

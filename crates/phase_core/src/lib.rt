@@ -5,5 +5,5 @@ mod choice;
 mod decision;
 pub mod laws;
 
-pub use choice::choose;
-pub use decision::decides;
+pub use choice::{choose, chosen_value};
+pub use decision::{decides, is_acknowledged};

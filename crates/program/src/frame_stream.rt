@@ -23,23 +23,33 @@ pub(crate) enum StreamEnd {
     Faulty,
 }
 
-/// The replica of the settings, which submitted the value, opened the height and ended the rounds.
-fn started(alloc: Global, settings: &DeliverSettings) -> Result<State, ProgramFault> {
+/// The replica of the settings, to which nothing happened.
+fn replica(alloc: Global, settings: &DeliverSettings) -> Result<State, ProgramFault> {
     let (signer, ring) = signer_and_ring(alloc, &settings.cluster, settings.replica)?;
-    let mut state = State::new(
+    Ok(State::new(
         alloc,
         settings.cluster.config,
         settings.replica,
         signer,
         ring,
-    );
+    ))
+}
+
+/// Lets an event happen, whose reply isn't asked for.
+fn happen(state: &mut State, event: Event) -> Result<(), ProgramFault> {
+    state.apply(event)?;
+    Ok(())
+}
+
+/// Submits the value, opens the height and ends the rounds.
+fn start(alloc: Global, settings: &DeliverSettings, state: &mut State) -> Result<(), ProgramFault> {
     let value = Bytes::copy_from_slice(alloc, settings.value.as_bytes())?;
-    state.apply(Event::Submit(value))?;
-    state.apply(Event::Propose(settings.height))?;
+    happen(state, Event::Submit(value))?;
+    happen(state, Event::Propose(settings.height))?;
     for _ in 0..settings.rounds {
-        state.apply(Event::RoundEnd)?;
+        happen(state, Event::RoundEnd)?;
     }
-    Ok(state)
+    Ok(())
 }
 
 /// Delivers bytes to the replica, and gives what it answers.
@@ -68,6 +78,68 @@ fn deliver_all<W: Write>(
     Ok(())
 }
 
+/// Delivers the frames that a piece of the stream completes. Answers whether the stream goes on; where it is none of frames,
+/// the last line says so.
+fn deliver_piece<W: Write>(
+    alloc: Global,
+    state: &mut State,
+    frames: &mut FrameReader,
+    piece: &[u8],
+    writer: &mut W,
+) -> Result<bool, ProgramFault> {
+    match frames.feed(piece) {
+        Ok(found) => {
+            deliver_all(alloc, state, found, writer)?;
+            Ok(true)
+        }
+        Err(FrameFault::NoMemory) => Err(ProgramFault::NoMemory),
+        Err(fault) => {
+            print(alloc, writer, &Line::Fault(fault))?;
+            Ok(false)
+        }
+    }
+}
+
+/// Delivers the frames of the stream piece by piece. Answers whether it came to the stream's end; it stops earlier at what is
+/// no frame.
+fn deliver_pieces<R: Read, W: Write>(
+    alloc: Global,
+    state: &mut State,
+    frames: &mut FrameReader,
+    reader: &mut R,
+    writer: &mut W,
+) -> Result<bool, ProgramFault> {
+    let mut piece = [0; PIECE_LEN];
+    for _ in 0..u64::MAX {
+        let count = reader.read(&mut piece)?;
+        if !deliver_piece(alloc, state, frames, &piece[..count], writer)? {
+            return Ok(false);
+        }
+        if count == 0 {
+            break;
+        }
+    }
+    Ok(true)
+}
+
+/// Delivers the frames of a stream to the replica.
+fn deliver_stream<R: Read, W: Write>(
+    alloc: Global,
+    state: &mut State,
+    reader: &mut R,
+    writer: &mut W,
+) -> Result<StreamEnd, ProgramFault> {
+    let mut frames = FrameReader::new(alloc);
+    if !deliver_pieces(alloc, state, &mut frames, reader, writer)? {
+        return Ok(StreamEnd::Faulty);
+    }
+    if frames.is_between() {
+        return Ok(StreamEnd::Clean);
+    }
+    print(alloc, writer, &Line::Cut)?;
+    Ok(StreamEnd::Faulty)
+}
+
 /// Delivers the frames of a stream to the replica of the settings, and writes a line for each; the last line says what is
 /// wrong with the stream, if anything is.
 pub(crate) fn deliver<R: Read, W: Write>(
@@ -76,26 +148,7 @@ pub(crate) fn deliver<R: Read, W: Write>(
     reader: &mut R,
     writer: &mut W,
 ) -> Result<StreamEnd, ProgramFault> {
-    let mut state = started(alloc, settings)?;
-    let mut frames = FrameReader::new(alloc);
-    let mut piece = [0; PIECE_LEN];
-    for _ in 0..u64::MAX {
-        let count = reader.read(&mut piece)?;
-        match frames.feed(&piece[..count]) {
-            Ok(found) => deliver_all(alloc, &mut state, found, writer)?,
-            Err(FrameFault::NoMemory) => return Err(ProgramFault::NoMemory),
-            Err(fault) => {
-                print(alloc, writer, &Line::Fault(fault))?;
-                return Ok(StreamEnd::Faulty);
-            }
-        }
-        if count == 0 {
-            break;
-        }
-    }
-    if frames.is_between() {
-        return Ok(StreamEnd::Clean);
-    }
-    print(alloc, writer, &Line::Cut)?;
-    Ok(StreamEnd::Faulty)
+    let mut state = replica(alloc, settings)?;
+    start(alloc, settings, &mut state)?;
+    deliver_stream(alloc, &mut state, reader, writer)
 }

@@ -5,6 +5,7 @@ use crate::program_fault::ProgramFault;
 use command_line::{UsageFault, settings};
 use frame_signing::signed_frame;
 use settings::{Settings, SignSettings};
+use signed_frames::Frame;
 use std::alloc::Global;
 use std::io::{self, ErrorKind, Read, Write};
 
@@ -31,18 +32,26 @@ pub fn run<R: Read, W: Write, F: Write>(
             let done = perform(alloc, &settings, reader, writer);
             finish(alloc, done, faults)
         }
-        Err(fault) if fault.is_asked_for() => {
-            let done = show(alloc, &fault, writer);
-            finish(alloc, done, faults)
-        }
-        Err(fault) => {
-            let is_told = complain(alloc, faults, &fault);
-            if is_told && !fault.is_want_of_memory() {
-                BAD_USAGE
-            } else {
-                STOPPED
-            }
-        }
+        Err(fault) => tell(alloc, &fault, writer, faults),
+    }
+}
+
+/// Shows the help or the version if the words ask for it, or else writes what is wrong with them. Answers the exit status.
+fn tell<W: Write, F: Write>(
+    alloc: Global,
+    fault: &UsageFault<'_>,
+    writer: &mut W,
+    faults: &mut F,
+) -> u8 {
+    if fault.is_asked_for() {
+        let done = show(alloc, fault, writer);
+        return finish(alloc, done, faults);
+    }
+    let is_told = complain(alloc, faults, fault);
+    if is_told && !fault.is_want_of_memory() {
+        BAD_USAGE
+    } else {
+        STOPPED
     }
 }
 
@@ -77,6 +86,10 @@ fn sign<W: Write>(
     writer: &mut W,
 ) -> Result<StreamEnd, ProgramFault> {
     let frame = signed_frame(alloc, settings)?;
+    write_frame(&frame, writer)
+}
+
+fn write_frame<W: Write>(frame: &Frame, writer: &mut W) -> Result<StreamEnd, ProgramFault> {
     writer.write_all(frame.as_bytes())?;
     Ok(StreamEnd::Clean)
 }

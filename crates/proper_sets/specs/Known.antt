@@ -5,6 +5,7 @@ use Rattle.ledger_model.specs.declared.config.Config.{Config}
 use Rattle.ledger_model.specs.Values.{Value, same_value}
 use Rattle.ledger_model.specs.Phases.{ProperSet}
 
+-- what is proper for a replica, and in which cluster
 pub record Known : Type 0 where
   pub config : Config
   pub set : ProperSet

@@ -30,7 +30,7 @@ impl Model for Proper {
 impl Proper {
     ghost use Rattle.std.specs.Prelude.{◌≡◌, ◌≤◌, length, IfOk, OnOk, OnErr, IsTrue};
     ghost use Rattle.std.specs.List.{list_any};
-    ghost use Rattle.ledger_model.specs.Values.{same_value};
+    ghost use Rattle.ledger_model.specs.Values.{same_value, IsValue};
     ghost use Rattle.ledger_model.specs.Spelling.{are_ascending};
     ghost use Rattle.ledger_model.specs.Tallies.{all_read};
     ghost use Rattle.ledger_model.specs.Phases.{only_own, is_proper, absorbed, reports_of};
@@ -42,6 +42,7 @@ impl Proper {
     pub fn new(alloc: Global, config: &Config, initial: &Batch) -> Result<Self, AllocError>
         ensures config { IfOk result (λ proper. proper.config ≡ config.now) }
         ensures set { IfOk result (λ proper. proper.set ≡ only_own initial.now) }
+        ensures spelled { IfOk result (λ proper. IsValue initial.now) }
     {
         let mut explicit = Ascending::new(alloc);
         explicit.put(initial)?;

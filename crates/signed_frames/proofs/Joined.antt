@@ -10,7 +10,7 @@ use Rattle.signed_frames.specs.Reader.{Reader, Reading, Found, Failed, Leaves}
 use Rattle.signed_frames.proofs.Fronts.{frames_join}
 
 -- more bytes stand behind the rest
-longer : (bytes rest more : List ℕ) (frames : List SignedStatement) → Frames bytes frames rest → Frames (bytes ++ more) frames (rest ++ more)
+pub longer : (bytes rest more : List ℕ) (frames : List SignedStatement) → Frames bytes frames rest → Frames (bytes ++ more) frames (rest ++ more)
 longer bytes rest more frames f = (f.0, ap (λ (x : List ℕ). x ++ more) f.1 ∙ append_assoc (flat_map frame_bytes frames) rest more)
 
 -- there is one in both

@@ -4,4 +4,5 @@ pub mod Grammar
 pub mod Fronts
 pub mod Determined
 pub mod Joined
+pub mod Outcomes
 pub mod LockParts

@@ -1,9 +1,9 @@
 -- How many bytes a statement has at most: every frame is short enough.
-use Rattle.std.proofs.Common.{ℕ, ◌*◌, ◌≤◌, List, [], ◌∷◌, ◌++◌, length, ap, arith}
+use Rattle.std.proofs.Common.{◌≡◌, ℕ, ◌+◌, ◌-◌, ◌*◌, ◌≤◌, List, [], ◌∷◌, ◌++◌, length, drop, ap, ◌∙◌, arith}
 use Rattle.std.specs.Prelude.{if◌then◌else◌}
-use Rattle.std.specs.Int.{w32, to_be_bytes}
+use Rattle.std.specs.Int.{w16, w32, to_be_bytes}
 use Rattle.std.specs.List.{flat_map, AllByRecursion}
-use Rattle.std.proofs.lemmas.List.{length-append}
+use Rattle.std.proofs.lemmas.List.{length-append, length-drop}
 use Rattle.std.proofs.lemmas.List.Concat.{flat_map-cons}
 use Rattle.ledger_model.specs.declared.statement.Report.{Report}
 use Rattle.ledger_model.specs.declared.statement.Lock.{Lock}
@@ -12,9 +12,10 @@ use Rattle.ledger_model.specs.declared.statement.SignedReport.{SignedReport}
 use Rattle.ledger_model.specs.declared.statement.SignedStatement.{SignedStatement}
 use Rattle.ledger_model.specs.declared.statement.Statement.{Statement}
 use Rattle.ledger_model.specs.declared.statement.Statement.TheVariants as statement
-use Rattle.ledger_model.specs.Values.{Value, value_bytes}
-use Rattle.ledger_model.specs.Spelling.{IsTx, IsValue, IsValueList, IsReport, IsSigned, IsLock, IsAck, IsStatement, list_bytes, report_bytes, signature_bytes, signed_bytes, lock_bytes, ack_bytes, statement_bytes, body_bytes}
-use Rattle.signed_frames.proofs.FrameParts.{body_length}
+use Rattle.ledger_model.specs.Values.{Value, value_bytes, IsTx, IsValue}
+use Rattle.ledger_model.specs.Spelling.{SpellsFrame, IsSignature, IsValueList, IsReport, IsSigned, IsLock, IsAck, IsStatement, list_bytes, report_bytes, signature_bytes, signed_bytes, lock_bytes, ack_bytes, statement_bytes, body_bytes}
+use Rattle.signed_frames.specs.Parts.{HoldsStatement}
+use Rattle.signed_frames.proofs.FrameParts.{body_length, written}
 
 -- pieces of at most so many bytes, one after the other
 flat_bound : {X : Type 0} (P : X → Type 0) (f : X → List ℕ) (most : ℕ) → ((x : X) → P x → length (f x) ≤ most) → (xs : List X) → AllByRecursion P xs → length (flat_map f xs) ≤ most * length xs
@@ -69,7 +70,7 @@ ack_bound a is =
     omega (arith, value_bound a.value is.value, length-append start (value_bytes a.value))
 
 -- any statement
-statement_bound : (s : Statement) → IsStatement s → length (statement_bytes s) ≤ 143756
+pub statement_bound : (s : Statement) → IsStatement s → length (statement_bytes s) ≤ 143756
 unfolding statement_bytes
 statement_bound (statement.Report r) is = omega (arith, report_bound r is)
 statement_bound (statement.Lock l) is = lock_bound l is
@@ -78,3 +79,11 @@ statement_bound (statement.Ack a) is = omega (arith, ack_bound a is)
 -- so each body is short enough
 pub body_bound : (s : SignedStatement) → IsStatement s.statement → length s.signature ≤ 2508 → length (body_bytes s) ≤ 150000
 body_bound s is short = omega (arith, body_length s, statement_bound s.statement is)
+
+-- what is written round the bytes of a statement that stand there is spelled
+pub completed : (statement : Statement) (signature old headed ended bytes : List ℕ) (len : ℕ) → HoldsStatement old statement → IsSignature signature → len ≡ length old - 4 + 2 + length signature
+    → headed ≡ to_be_bytes w32 len ++ drop 4 old → ended ≡ headed ++ to_be_bytes w16 (length signature) → bytes ≡ ended ++ signature → SpellsFrame bytes (record { statement = statement; signature = signature })
+completed statement signature old headed ended bytes len h signed counts head end text =
+    let short = body_bound (record { statement = statement; signature = signature }) h.spelled signed.short in
+    written statement signature (drop 4 old) bytes len h.spelled signed short h.behind (omega (arith, counts, h.header, length-drop 4 old))
+    (text ∙ ap (λ (x : List ℕ). x ++ signature) (end ∙ ap (λ (x : List ℕ). x ++ to_be_bytes w16 (length signature)) head))

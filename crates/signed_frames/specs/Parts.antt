@@ -1,9 +1,9 @@
 -- The parts of a frame, and where they stand in its bytes.
-use Rattle.std.specs.Prelude.{◌≡◌, ℕ, ◌-◌, List, length, drop, Option, Some, Result, Ok, Err}
+use Rattle.std.specs.Prelude.{◌≡◌, ℕ, ◌-◌, ◌≤◌, List, length, drop, Option, Some, Result, Ok, Err}
 use Rattle.std.specs.Borrow.{Bor}
 use Rattle.ledger_model.specs.declared.statement.SignedStatement.{SignedStatement}
 use Rattle.ledger_model.specs.declared.statement.Statement.{Statement}
-use Rattle.ledger_model.specs.Spelling.{SpellsFrame}
+use Rattle.ledger_model.specs.Spelling.{statement_bytes, IsStatement, SpellsFrame}
 use Rattle.statements.specs.declared.fault.DecodeFault.{DecodeFault}
 use Rattle.statements.specs.Reads.{Faults}
 
@@ -15,6 +15,12 @@ GivesParts (Err fault) reading = Faults fault reading
 -- the frame whose signature is the last bytes, so many of them
 abbrev pub signed_by_last : List ℕ → Statement → ℕ → SignedStatement
 signed_by_last bytes statement len = record { statement = statement; signature = drop (length bytes - len) bytes }
+
+-- the bytes are four, and then those of a statement that can be spelled
+pub record HoldsStatement (bytes : List ℕ) (statement : Statement) : Type 0 where
+  pub header : 4 ≤ length bytes
+  pub behind : drop 4 bytes ≡ statement_bytes statement
+  pub spelled : IsStatement statement
 
 -- the bytes are the frame of the statement, and the signature is so many of the last bytes
 pub record HoldsFrame (bytes : List ℕ) (statement : Statement) (len : ℕ) : Type 0 where

@@ -19,6 +19,7 @@ pub data Reader : Type 0 where
   Found : (found : FrameFault) → Reader
   Failed : Reader
 
+-- the reader at a stage, with the bytes that it keeps
 abbrev pub reader_at : Stage → List ℕ → Reader
 reader_at stage.Reading kept = Reading kept
 reader_at (stage.Found found) kept = Found found
@@ -73,5 +74,6 @@ Begins bytes (front.Ends end) = Ends end bytes
 abbrev pub ReadsOn : List ℕ → List SignedStatement → End → List ℕ → Type 0
 ReadsOn bytes frames end rest = Frames bytes frames rest × Ends end rest
 
+-- the bytes that a splitting used are its frames, and what is behind them begins as its end says
 abbrev pub Splits : List ℕ → Split → Type 0
 Splits bytes split = (split.used ≤ length bytes) × ReadsOn bytes split.frames.items split.end (drop split.used bytes)

@@ -1,11 +1,10 @@
 //! A frame: the bytes of a signed statement, and what it lends of them.
-use crate::lending::report_at;
-use crate::parsing::{LENGTH_LEN, message_in, parts_of};
-use crate::{HEADER_LEN, LentReport};
+use crate::LentReports;
+use crate::lending::reports_in;
+use crate::parsing::{message_in, parts_of};
 use bytes::Bytes;
 use ledger_model::Statement;
-use octets::{put_bytes, put_u16, put_u32};
-use statements::{DecodeFault, copy_statement, encode};
+use statements::DecodeFault;
 use std::alloc::{AllocError, Global};
 use std::marker::Model;
 
@@ -30,13 +29,13 @@ impl Model for Frame {
 }
 
 impl Frame {
-    ghost use Rattle.std.specs.Prelude.{◌≡◌, ◌≤◌, length, IfOk, slice_get};
-    ghost use Rattle.std.specs.Option.{option_map};
+    ghost use Rattle.std.specs.Prelude.{◌≡◌, IfOk, map};
     ghost use Rattle.ledger_model.specs.declared.statement.SignedStatement.{SignedStatement};
-    ghost use Rattle.ledger_model.specs.Spelling.{statement_bytes, frame_bytes, IsFrame, IsStatement, SpellsFrame};
+    ghost use Rattle.ledger_model.specs.Spelling.{statement_bytes, frame_bytes, IsFrame, SpellsFrame};
     ghost use Rattle.ledger_model.specs.Reading.{reading};
     ghost use Rattle.statements.specs.Reads.{Gives};
     ghost use Rattle.signed_frames.specs.Lending.{lent_of, proof_of};
+    ghost use Rattle.signed_frames.specs.Parts.{signed_by_last, HoldsFrame};
 
     /// The frame that the bytes are, all of them. Malformed where they are none, NoMemory where memory ran out.
     pub fn parse(alloc: Global, bytes: Bytes) -> Result<Self, DecodeFault>
@@ -56,24 +55,16 @@ impl Frame {
         })
     }
 
-    /// The frame of a statement and its signature, which has at most 2508 bytes. No such frame is too long.
-    pub fn build(alloc: Global, statement: Statement, signature: &[u8]) -> Result<Self, AllocError>
-        requires spelled { IsStatement statement }
-        requires signature_len { length signature.now ≤ 2508 }
-        ensures { IfOk result (λ frame. frame ≡ record { statement = statement; signature = signature.now }) }
+    /// The frame of these bytes, which hold it.
+    pub(crate) fn holding(bytes: Bytes, statement: Statement, signature_len: usize) -> Self
+        requires { HoldsFrame bytes statement signature_len }
+        ensures { result ≡ signed_by_last bytes statement signature_len }
     {
-        let message = encode(alloc, &statement)?;
-        let body_len = message.len() + LENGTH_LEN + signature.len();
-        let mut bytes = Vec::with_capacity(alloc, HEADER_LEN + body_len)?;
-        put_u32(&mut bytes, body_len as u32)?;
-        put_bytes(&mut bytes, &message)?;
-        put_u16(&mut bytes, signature.len() as u16)?;
-        put_bytes(&mut bytes, signature)?;
-        Ok(Frame {
-            bytes: Bytes::from_vec(bytes)?,
+        Frame {
+            bytes,
             statement,
-            signature_len: signature.len(),
-        })
+            signature_len,
+        }
     }
 
     /// What the frame says.
@@ -106,12 +97,12 @@ impl Frame {
         &self.bytes.as_slice()[start..]
     }
 
-    /// The signed report at this place of the lock's proof, from 0 on. None where the frame is no lock's, or the proof has
-    /// not so many. Nothing is copied.
-    pub fn lent_report(&self, place: usize) -> Option<LentReport<'_>>
-        ensures { result ≡ option_map lent_of (slice_get (proof_of self.now.statement) place) }
+    /// The signed reports of the lock's proof, in order; none where the frame is no lock's. Nothing is copied, and one
+    /// after the other they are found in one pass over the frame.
+    pub fn lent_reports(&self) -> LentReports<'_>
+        ensures { result ≡ map lent_of (proof_of self.now.statement) }
     {
-        report_at(self.statement_bytes(), &self.statement, place)
+        reports_in(self.statement_bytes(), &self.statement)
     }
 
     /// The whole frame once more, which copies no byte.
@@ -138,12 +129,12 @@ impl Frame {
     }
 
     /// The same frame once more. Its bytes are shared.
-    pub fn copy(&self, alloc: Global) -> Result<Self, AllocError>
+    pub fn copy(&self) -> Result<Self, AllocError>
         ensures { IfOk result (λ frame. frame ≡ self.now) }
     {
         Ok(Frame {
             bytes: self.bytes.clone()?,
-            statement: copy_statement(alloc, &self.statement)?,
+            statement: self.statement.copy()?,
             signature_len: self.signature_len,
         })
     }

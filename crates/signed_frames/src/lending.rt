@@ -1,19 +1,19 @@
 //! The signed reports that stand in a lock's frame.
 
-ghost use Rattle.std.specs.Prelude.{◌≡◌, ◌++◌, ℕ, List, slice_get};
-ghost use Rattle.std.specs.Option.{option_map};
+ghost use Rattle.std.specs.Prelude.{◌≡◌, ◌++◌, ℕ, List, map};
 ghost use Rattle.ledger_model.specs.Spelling.{IsSigned, signed_bytes, IsLock, lock_bytes, Spells};
 ghost use Rattle.signed_frames.specs.Lending.{lent_of, proof_of};
 
 use crate::parsing::LENGTH_LEN;
-use ledger_model::{Lock, SignedReport, Statement};
+use ledger_model::{Lock, ReplicaId, SignedReport, Statement};
 use statements::{report_len, reports_len};
 use std::marker::Model;
 
-/// A signed report of a lock's proof, as it stands in the lock's frame: nothing is copied. Contracts see the two byte
-/// strings.
+/// A signed report of a lock's proof, as it stands in the lock's frame: nothing is copied. Contracts see its signer and
+/// the two byte strings.
 #[derive(Debug, Drop)]
 pub struct LentReport<'a> {
+    signer: ReplicaId,
     bytes: &'a [u8],
     signature: &'a [u8],
 }
@@ -23,10 +23,17 @@ impl<'a> Model for LentReport<'a> {
 
     ghost Value = { Lent };
 
-    ghost view = { λ r. record { bytes = r.bytes.now; signature = r.signature.now } };
+    ghost view = { λ r. record { signer = r.signer; bytes = r.bytes.now; signature = r.signature.now } };
 }
 
 impl<'a> LentReport<'a> {
+    /// Who made the report.
+    pub fn signer(&self) -> ReplicaId
+        ensures { result ≡ self.now.signer }
+    {
+        self.signer
+    }
+
     /// The bytes of the report's statement, which its signature is over.
     pub fn bytes(&self) -> &'a [u8]
         ensures { result.now ≡ self.now.bytes }
@@ -42,45 +49,85 @@ impl<'a> LentReport<'a> {
     }
 }
 
-/// The signed report that the bytes begin with.
-#[tactic(auto, unfolding(ledger_model::specs::Spelling::statement_bytes))]
-fn report_in_front<'a>(bytes: &'a [u8], signed: &SignedReport) -> LentReport<'a>
-    requires spelled { IsSigned signed.now }
-    requires front { (rest : List ℕ) × (bytes.now ≡ signed_bytes signed.now ++ rest) }
-    ensures { result ≡ lent_of signed.now }
-{
-    let (report, behind) = bytes.split_at(report_len(&signed.report));
-    let (_, behind) = behind.split_at(LENGTH_LEN);
-    let (signature, _) = behind.split_at(signed.signature.as_bytes().len());
-    LentReport {
-        bytes: report,
-        signature,
+/// The signed reports of a lock's proof, in order, as they stand in the lock's frame. Contracts see the list of those
+/// that are still to come.
+#[derive(Debug, Drop)]
+pub struct LentReports<'a> {
+    reports: &'a [SignedReport],
+    /// What spells them.
+    bytes: &'a [u8],
+}
+
+impl<'a> Model for LentReports<'a> {
+    ghost use Rattle.std.specs.Prelude.{List, map};
+    ghost use Rattle.signed_frames.specs.Lending.{Lent, lent_of, AreSpelled};
+
+    ghost Value = { List Lent };
+
+    ghost view = { λ r. map lent_of r.reports.now };
+
+    ghost invariant = { λ r. AreSpelled r.reports.now r.bytes.now };
+}
+
+impl<'a> Iterator for LentReports<'a> {
+    ghost use Rattle.std.specs.Iterator.{YieldsFirst, item_count};
+
+    type Item = LentReport<'a>;
+
+    ghost next_gives = { YieldsFirst (λ reports. reports) };
+
+    ghost remaining = { item_count (λ reports. reports) };
+
+    fn next(&mut self) -> Option<LentReport<'a>> {
+        let (signed, others) = self.reports.split_first()?;
+        let (lent, behind) = split_report(self.bytes, signed);
+        self.reports = others;
+        self.bytes = behind;
+        Some(lent)
     }
 }
 
-/// The signed report at this place of the lock that the bytes spell.
-fn report_in_lock<'a>(bytes: &'a [u8], lock: &Lock, place: usize) -> Option<LentReport<'a>>
-    requires spelled { IsLock lock.now }
-    requires bytes { bytes.now ≡ lock_bytes lock.now }
-    ensures { result ≡ option_map lent_of (slice_get lock.now.proof place) }
+/// The signed report that the bytes begin with, and what stands behind it.
+#[tactic(auto, unfolding(ledger_model::specs::Spelling::statement_bytes))]
+fn split_report<'a>(bytes: &'a [u8], signed: &SignedReport) -> (LentReport<'a>, &'a [u8])
+    requires spelled { IsSigned signed.now }
+    requires front { (rest : List ℕ) × (bytes.now ≡ signed_bytes signed.now ++ rest) }
+    ensures report { result.0 ≡ lent_of signed.now }
+    ensures behind { bytes.now ≡ signed_bytes signed.now ++ result.1.now }
 {
-    let (_, reports) = lock.proof.as_slice().split_at_checked(place)?;
-    let [signed, ..] = reports else {
-        return None;
+    let (report, behind) = bytes.split_at(report_len(&signed.report));
+    let (_, behind) = behind.split_at(LENGTH_LEN);
+    let (signature, behind) = behind.split_at(signed.signature.as_bytes().len());
+    let lent = LentReport {
+        signer: signed.report.signer,
+        bytes: report,
+        signature,
     };
-    let (_, rest) = bytes.split_at(bytes.len() - reports_len(reports));
-    Some(report_in_front(rest, signed))
+    (lent, behind)
 }
 
-/// The signed report at this place of the statement that the bytes spell. None where it is no lock, or its proof has not
-/// so many.
+/// The signed reports of the lock that the bytes spell.
+fn reports_in_lock<'a>(bytes: &'a [u8], lock: &'a Lock) -> LentReports<'a>
+    requires spelled { IsLock lock.now }
+    requires bytes { bytes.now ≡ lock_bytes lock.now }
+    ensures { result ≡ map lent_of lock.now.proof }
+{
+    let reports = lock.proof.as_slice();
+    let (_, bytes) = bytes.split_at(bytes.len() - reports_len(reports));
+    LentReports { reports, bytes }
+}
+
+/// The signed reports of the statement that the bytes spell; none where it is no lock.
 #[tactic(auto, unfolding(ledger_model::specs::Spelling::statement_bytes))]
-pub fn report_at<'a>(bytes: &'a [u8], statement: &Statement, place: usize) -> Option<LentReport<'a>>
+pub fn reports_in<'a>(bytes: &'a [u8], statement: &'a Statement) -> LentReports<'a>
     requires { Spells bytes.now statement.now }
-    ensures { result ≡ option_map lent_of (slice_get (proof_of statement.now) place) }
+    ensures { result ≡ map lent_of (proof_of statement.now) }
 {
     match statement {
-        Statement::Lock(lock) => report_in_lock(bytes, lock, place),
-        Statement::Report(_) | Statement::Ack(_) => None,
+        Statement::Lock(lock) => reports_in_lock(bytes, lock),
+        Statement::Report(_) | Statement::Ack(_) => LentReports {
+            reports: &[],
+            bytes: &[],
+        },
     }
 }

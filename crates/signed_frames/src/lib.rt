@@ -8,11 +8,13 @@ mod lending;
 mod parsing;
 mod reader;
 mod splitting;
+mod unsigned;
 
 pub use fault::FrameFault;
 pub use frame::Frame;
-pub use lending::LentReport;
+pub use lending::{LentReport, LentReports};
 pub use reader::FrameReader;
+pub use unsigned::UnsignedFrame;
 
 /// The most bytes of a frame's body.
 pub const MAX_BODY_LEN: usize = 150_000;

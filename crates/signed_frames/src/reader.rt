@@ -73,6 +73,8 @@ impl FrameReader {
             End::TooLong => FrameFault::TooLong,
             End::Malformed => FrameFault::Malformed,
         };
+        // Of what is behind a fault nothing is read any more.
+        self.kept = BytesMut::new(*self.kept.allocator());
         if frames.is_empty() {
             self.stage = Stage::Failed;
             return Err(fault);

@@ -2,5 +2,6 @@
 use Rattle.ledger_model.specs.Reading as model
 use Rattle.statements.specs.declared.places.Place.{Place}
 
+-- the place as the definitions have it
 abbrev pub place_of : Place → model.Place
 place_of p = record { height = p.height; phase = p.phase; signer = p.signer }

@@ -13,6 +13,7 @@ abbrev pub ReadsAs : {X Y : Type 0} → (X → Y) → Result X DecodeFault → L
 ReadsAs view (Ok x) left at = at ≡ Some (view x, left)
 ReadsAs view (Err fault) left at = Faults fault at
 
+-- the same, where values are seen as they are
 abbrev pub Reads : {X : Type 0} → Result X DecodeFault → List ℕ → Option (X × List ℕ) → Type 0
 Reads result left at = ReadsAs (λ x. x) result left at
 

@@ -3,8 +3,8 @@
 ghost use Rattle.std.specs.Prelude.{◌≡◌, ◌∷◌, ◌++◌, [], length, IfOk, OnOk, if◌then◌else◌};
 ghost use Rattle.std.specs.List.{flat_map, AllByRecursion};
 ghost use Rattle.std.specs.Int.{w32, to_be_bytes};
-ghost use Rattle.ledger_model.specs.Values.{value_bytes};
-ghost use Rattle.ledger_model.specs.Spelling.{list_bytes, report_bytes, signature_bytes, signed_bytes, lock_bytes, ack_bytes, statement_bytes, IsTx, IsValue, IsValueList, IsReport, IsSignature, IsSigned, IsLock, IsAck, IsStatement};
+ghost use Rattle.ledger_model.specs.Values.{value_bytes, IsTx, IsValue};
+ghost use Rattle.ledger_model.specs.Spelling.{list_bytes, report_bytes, signature_bytes, signed_bytes, lock_bytes, ack_bytes, statement_bytes, IsValueList, IsReport, IsSignature, IsSigned, IsLock, IsAck, IsStatement};
 
 use crate::decoding::{ACK, LOCK};
 use crate::lengths::encoded_len;
@@ -128,17 +128,25 @@ fn put_ack(out: &mut Vec<u8>, ack: &Ack) -> Result<(), AllocError>
     put_batch(out, &ack.value)
 }
 
-/// The one spelling of the statement.
+/// Puts the one spelling of the statement, of [`encoded_len`] bytes, at the end.
 #[tactic(auto, unfolding(ledger_model::specs::Spelling::statement_bytes))]
+pub fn put_statement(out: &mut Vec<u8>, statement: &Statement) -> Result<(), AllocError>
+    requires { IsStatement statement.now }
+    ensures { OnOk result (out.new.items ≡ out.old.items ++ statement_bytes statement.now) }
+{
+    match statement {
+        Statement::Report(report) => put_report(out, report),
+        Statement::Lock(lock) => put_lock(out, lock),
+        Statement::Ack(ack) => put_ack(out, ack),
+    }
+}
+
+/// The one spelling of the statement. Its fields have to be within their limits, as what was decoded is.
 pub fn encode(alloc: Global, statement: &Statement) -> Result<Vec<u8>, AllocError>
     requires { IsStatement statement.now }
     ensures { IfOk result (λ bytes. bytes.items ≡ statement_bytes statement.now) }
 {
     let mut out = Vec::with_capacity(alloc, encoded_len(statement))?;
-    match statement {
-        Statement::Report(report) => put_report(&mut out, report)?,
-        Statement::Lock(lock) => put_lock(&mut out, lock)?,
-        Statement::Ack(ack) => put_ack(&mut out, ack)?,
-    }
+    put_statement(&mut out, statement)?;
     Ok(out)
 }

@@ -10,9 +10,6 @@ use ledger_model::Signature;
 use octets::Cursor;
 use std::alloc::Global;
 
-/// The most bytes of a signature.
-pub const MAX_SIGNATURE_LEN: usize = 2508;
-
 pub fn take_byte(cursor: &mut Cursor) -> Result<u8, DecodeFault>
     ensures { Reads result cursor.new (byte_at cursor.old) }
 {
@@ -66,7 +63,7 @@ fn signature_from<'a>(cursor: &mut Cursor<'a>) -> Result<&'a [u8], DecodeFault>
     ensures { ReadsAs (λ bytes. bytes.now) result cursor.new (signature_at cursor.old) }
 {
     let len = usize::from(take_length(cursor)?);
-    if len > MAX_SIGNATURE_LEN {
+    if len > Signature::MAX_LEN {
         return Err(DecodeFault::Malformed);
     }
     take_slice(cursor, len)

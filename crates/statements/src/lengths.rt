@@ -2,8 +2,8 @@
 
 ghost use Rattle.std.specs.Prelude.{◌≡◌, ◌≤◌, ◌*◌, ◌∷◌, length};
 ghost use Rattle.std.specs.List.{flat_map, AllByRecursion};
-ghost use Rattle.ledger_model.specs.Values.{value_bytes};
-ghost use Rattle.ledger_model.specs.Spelling.{list_bytes, report_bytes, signed_bytes, lock_bytes, ack_bytes, statement_bytes, IsTx, IsValue, IsValueList, IsReport, IsSigned, IsLock, IsAck, IsStatement};
+ghost use Rattle.ledger_model.specs.Values.{value_bytes, IsTx, IsValue};
+ghost use Rattle.ledger_model.specs.Spelling.{list_bytes, report_bytes, signed_bytes, lock_bytes, ack_bytes, statement_bytes, IsValueList, IsReport, IsSigned, IsLock, IsAck, IsStatement};
 
 use ledger_model::{Ack, Batch, Batches, Lock, Report, SignedReport, Statement, Tx};
 

@@ -2,21 +2,12 @@
 //!
 //! They say nothing of what they give: what is known of it would make each proof of a test slower. The test compares.
 
-ghost use Rattle.std.specs.Prelude.{◌≡◌, IfOk};
-ghost use Rattle.ledger_model.specs.Spelling.{IsValue};
-
 use crate::BuildFault;
 use ledger_model::{Batch, Tx};
 use std::alloc::Global;
 
 /// The transaction of 1 to 64 bytes.
 pub fn tx(alloc: Global, bytes: &[u8]) -> Result<Tx, BuildFault> {
-    spelled_tx(alloc, bytes)
-}
-
-fn spelled_tx(alloc: Global, bytes: &[u8]) -> Result<Tx, BuildFault>
-    ensures { IfOk result (λ tx. tx ≡ bytes.now) }
-{
     match Tx::new(Vec::from_slice(alloc, bytes)?) {
         Ok(tx) => Ok(tx),
         Err(_) => Err(BuildFault::NoValue),
@@ -25,15 +16,8 @@ fn spelled_tx(alloc: Global, bytes: &[u8]) -> Result<Tx, BuildFault>
 
 /// The batch of one transaction.
 pub fn value(alloc: Global, bytes: &[u8]) -> Result<Batch, BuildFault> {
-    spelled_value(alloc, bytes)
-}
-
-/// The batch of one transaction, for who has to know that it is a value.
-pub fn spelled_value(alloc: Global, bytes: &[u8]) -> Result<Batch, BuildFault>
-    ensures { IfOk result (λ batch. IsValue batch) }
-{
     let mut transactions = Vec::with_capacity(alloc, 1)?;
-    transactions.push(spelled_tx(alloc, bytes)?)?;
+    transactions.push(tx(alloc, bytes)?)?;
     match Batch::new(transactions) {
         Ok(batch) => Ok(batch),
         Err(_) => Err(BuildFault::NoValue),

@@ -60,14 +60,20 @@ impl Cluster {
         &self.ring
     }
 
-    /// The statement with a replica's signature, whose length stands before it.
-    pub fn signed(&mut self, replica: u8, statement: &[u8]) -> Result<Vec<u8>, BuildFault> {
+    /// A replica's signature of the statement.
+    pub fn signature(&mut self, replica: u8, statement: &[u8]) -> Result<Vec<u8>, BuildFault> {
         let Some(signer) = self.signers.get_mut(usize::from(replica)) else {
             return Err(BuildFault::NoReplica);
         };
-        let Ok(signature) = signer.sign(self.alloc, statement) else {
-            return Err(BuildFault::NotSigned);
-        };
+        match signer.sign(self.alloc, statement) {
+            Ok(signature) => Ok(signature),
+            Err(_) => Err(BuildFault::NotSigned),
+        }
+    }
+
+    /// The statement with a replica's signature, whose length stands before it.
+    pub fn signed(&mut self, replica: u8, statement: &[u8]) -> Result<Vec<u8>, BuildFault> {
+        let signature = self.signature(replica, statement)?;
         let mut bytes = Vec::from_slice(self.alloc, statement)?;
         bytes.extend_from_slice(&SIGNATURE_LEN)?;
         bytes.extend_from_slice(&signature)?;

@@ -9,7 +9,7 @@ mod reports;
 mod spelled;
 
 pub use acks::ack;
-pub use batches::{batch, spelled_value, tx, value, values};
+pub use batches::{batch, tx, value, values};
 pub use cluster::Cluster;
 pub use fault::BuildFault;
 pub use reports::{Told, naming, report, signed_report};

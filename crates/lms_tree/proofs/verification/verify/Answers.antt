@@ -3,9 +3,9 @@ use Rattle.std.proofs.lemmas.List.{take_all, length-drop}
 use Rattle.std.proofs.lemmas.Bool.{false≢true}
 use Rattle.ledger_model.specs.Signatures.{root_above, leaf_hash, leaf_candidate, bytes_same}
 use Rattle.lm_ots.specs.Parameters.{numbers_of}
-use Rattle.lms_tree.proofs.Checks.{cut-from, refused, other_length, other_type, other_tree, other_leaf, checked, bytes_same-pointwise}
+use Rattle.lms_tree.proofs.Checks.{IsCut, refused, other_length, other_type, other_tree, other_leaf, checked, bytes_same-pointwise}
 use Rattle.lms_tree.proofs.verification.verify.Goals as goal
-use Rattle.lms_tree.proofs.verification.verify.Goals.{then-read_u32-code-via-then-read_u32-code, then-read_u32-code-via-else-read_u32-code+then-leaf-leaves}
+use Rattle.lms_tree.proofs.verification.verify.Goals.{then-parts-code-via-then-parts-code, then-parts-code-via-else-parts-code+then-parts-leaves}
 
 pub returns-then-signature-signature_len : goal.returns-then-signature-signature_len
 returns-then-signature-signature_len c =
@@ -13,37 +13,37 @@ returns-then-signature-signature_len c =
     refused n c.args.key.now c.args.message.now c.args.signature.now c.params-params.ensures
     (other_length n c.args.key.now c.args.message.now c.args.signature.now (λ same. c.if-signature-signature_len.true (same ∙ sym c.signature_len.ensures)))
 
-pub returns-then-read_u32-code : goal.returns-then-read_u32-code
-returns-then-read_u32-code c =
+pub returns-then-parts-code : goal.returns-then-parts-code
+returns-then-parts-code c =
     let n = numbers_of c.params-params.result in
-    let cut = cut-from n c.args.signature.now c.split_at.result.0.now c.split_at.result.1.now c.split_at-2.result.0.now c.split_at-2.result.1.now c.split_at-3.result.0.now c.split_at-3.result.1.now c.ots_len.result c.read_u32-leaf.result c.read_u32.result
-    c.split_at.ensures.front c.split_at.ensures.back c.ots_len.ensures c.split_at-2.ensures.front c.split_at-2.ensures.back c.split_at-3.ensures.front c.split_at-3.ensures.back c.read_u32-leaf.ensures c.read_u32.ensures in
-    refused n c.args.key.now c.args.message.now c.args.signature.now c.params-params.ensures (elim c.then-read_u32-code.branch [
-      | then-read_u32-code-via-then-read_u32-code w ↦ other_tree n c.args.key.now c.args.message.now c.args.signature.now _ _ _ _ cut (λ same. w.if-read_u32-code.true (same ∙ sym c.code.ensures))
-      | then-read_u32-code-via-else-read_u32-code+then-leaf-leaves w ↦ other_leaf n c.args.key.now c.args.message.now c.args.signature.now _ _ _ _ cut (omega (arith, w.leaves.ensures))
+    let told = c.cut-parts.ensures in
+    let cut : IsCut n c.args.signature.now c.cut-parts.result.leaf c.cut-parts.result.lms_code c.cut-parts.result.ots.now c.cut-parts.result.path.now = record { leaf = told.leaf; one_time = told.ots; tree_code = told.lms_code; rest = told.path } in
+    refused n c.args.key.now c.args.message.now c.args.signature.now c.params-params.ensures (elim c.then-parts-code.branch [
+      | then-parts-code-via-then-parts-code w ↦ other_tree n c.args.key.now c.args.message.now c.args.signature.now _ _ _ _ cut (λ same. w.if-parts-code.true (same ∙ sym c.code.ensures))
+      | then-parts-code-via-else-parts-code+then-parts-leaves w ↦ other_leaf n c.args.key.now c.args.message.now c.args.signature.now _ _ _ _ cut (omega (arith, w.leaves.ensures))
     ])
 
 pub returns-in_default : goal.returns-in_default
 returns-in_default c =
     let n = numbers_of c.params-params.result in
-    let cut = cut-from n c.args.signature.now c.split_at.result.0.now c.split_at.result.1.now c.split_at-2.result.0.now c.split_at-2.result.1.now c.split_at-3.result.0.now c.split_at-3.result.1.now c.ots_len.result c.read_u32-leaf.result c.read_u32.result
-    c.split_at.ensures.front c.split_at.ensures.back c.ots_len.ensures c.split_at-2.ensures.front c.split_at-2.ensures.back c.split_at-3.ensures.front c.split_at-3.ensures.back c.read_u32-leaf.ensures c.read_u32.ensures in
+    let told = c.cut-parts.ensures in
+    let cut : IsCut n c.args.signature.now c.cut-parts.result.leaf c.cut-parts.result.lms_code c.cut-parts.result.ots.now c.cut-parts.result.path.now = record { leaf = told.leaf; one_time = told.ots; tree_code = told.lms_code; rest = told.path } in
     refused n c.args.key.now c.args.message.now c.args.signature.now c.params-params.ensures
-    (other_type n c.args.key.now c.args.message.now c.args.signature.now _ _ _ _ cut (λ same. false≢true (c.in_default.ensures.fits.1 (c.split_at-2.ensures.front_len ∙ c.ots_len.ensures, same))))
+    (other_type n c.args.key.now c.args.message.now c.args.signature.now _ _ _ _ cut (λ same. false≢true (c.in_default.ensures.fits.1 (told.ots_len, same))))
 
 pub returns : goal.returns
 returns c =
     let n = numbers_of c.params-params.result in
     let key = c.args.key.now in
     let message = c.args.message.now in
-    let q = c.read_u32-leaf.result in
-    let ots = c.split_at-2.result.0.now in
-    let path = c.split_at-3.result.1.now in
+    let q = c.cut-parts.result.leaf in
+    let ots = c.cut-parts.result.ots.now in
+    let path = c.cut-parts.result.path.now in
     let id = c.identifier-identifier.result in
     let id_is = c.identifier-identifier.ensures in
     let number = 2 ^ n.height + q in
-    let cut = cut-from n c.args.signature.now c.split_at.result.0.now c.split_at.result.1.now c.split_at-2.result.0.now c.split_at-2.result.1.now c.split_at-3.result.0.now c.split_at-3.result.1.now c.ots_len.result c.read_u32-leaf.result c.read_u32.result
-    c.split_at.ensures.front c.split_at.ensures.back c.ots_len.ensures c.split_at-2.ensures.front c.split_at-2.ensures.back c.split_at-3.ensures.front c.split_at-3.ensures.back c.read_u32-leaf.ensures c.read_u32.ensures in
+    let told = c.cut-parts.ensures in
+    let cut : IsCut n c.args.signature.now c.cut-parts.result.leaf c.cut-parts.result.lms_code c.cut-parts.result.ots.now c.cut-parts.result.path.now = record { leaf = told.leaf; one_time = told.ots; tree_code = told.lms_code; rest = told.path } in
     let fits = c.in-Some.ensures.fits.0 refl in
     let whole = c.as_bytes.ensures.whole in
     let root : c.as_slice.result.now ≡ root_above id path n.height 0 number (leaf_hash id number (leaf_candidate n id q message ots)) =
@@ -57,4 +57,4 @@ returns c =
     ∙ ap (λ zs. bytes_same c.as_slice.result.now zs) key_root
     ∙ ap (λ zs. bytes_same zs (drop 24 key)) root
     ∙ ap (λ i. bytes_same (root_above i path n.height 0 number (leaf_hash i number (leaf_candidate n i q message ots))) (drop 24 key)) id_is
-    ∙ sym (checked n key message c.args.signature.now q c.read_u32.result ots path cut c.params-params.ensures whole (c.if-signature-signature_len.false ∙ c.signature_len.ensures) fits.1 (c.if-read_u32-code.false ∙ c.code.ensures) below)
+    ∙ sym (checked n key message c.args.signature.now q c.cut-parts.result.lms_code ots path cut c.params-params.ensures whole (c.if-signature-signature_len.false ∙ c.signature_len.ensures) fits.1 (c.if-parts-code.false ∙ c.code.ensures) below)

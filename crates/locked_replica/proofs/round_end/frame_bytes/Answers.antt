@@ -7,4 +7,4 @@ use Rattle.locked_replica.proofs.round_end.frame_bytes.Goals as goal
 pub returns : goal.returns
 returns c =
     let spelled = subst (SpellsFrame c.into_bytes.result) c.in_ok-frame.ensures c.into_bytes.ensures in
-    ap reading (spelled.1) ∙ reading-again (record { statement = c.args.statement; signature = c.args.signature.now }) (spelled.0)
+    ap reading (spelled.1) ∙ reading-again (record { statement = c.args.unsigned; signature = c.args.signature.now }) (spelled.0)

@@ -5,5 +5,5 @@ use Rattle.locked_replica.proofs.round_end.report_frame.Goals as goal
 
 pub returns-clause-frame : goal.returns-clause-frame
 returns-clause-frame c =
-    spells_first (key_of c.args.signer.now.secret) c.args.id c.args.opened.now c.in_ok-frame.frame c.deref.result.now c.deref-2.result.now c.in_ok-first_report.field-0
-    c.in_ok-first_report.ensures c.in_ok-frame.ensures (search rules) (search rules)
+    spells_first (key_of c.args.signer.now.secret) c.args.id c.args.opened.now c.in_ok-frame.frame c.statement_bytes.result.now c.deref.result.now c.in_ok-first_report.field-0
+    c.in_ok-first_report.ensures (search rules) (search rules) (search rules)

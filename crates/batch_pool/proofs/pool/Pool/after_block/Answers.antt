@@ -1,19 +1,27 @@
-use Rattle.std.proofs.Common.{◌∙◌, ℕ, List, [], Bool, ap, rules, filter}
+-- Each `retain` filters the transactions by a test of its own.
+use Rattle.std.proofs.Common.{◌∙◌, ℕ, List, Bool, ap, rules, filter, arith}
 use Rattle.std.specs.Prelude.{◌==◌, not}
-use Rattle.std.proofs.lemmas.Fn.{filter_same}
-use Rattle.ledger_model.specs.Applications.{check_after, accepted}
-use Rattle.ledger_model.specs.Commits.{is_among}
-use Rattle.batch_pool.proofs.ByBlocks.{leaves_after}
+use Rattle.indexmap.proofs.CallerLemmas.{filter-RetainsPairs}
+use Rattle.ledger_model.specs.Applications.{Machine}
+use Rattle.ledger_model.specs.Pools.{is_among}
+use Rattle.ledger_model.specs.Replies.{check_reply}
+use Rattle.batch_pool.specs.Keyed.{Kept}
+use Rattle.batch_pool.proofs.Entries.{txs_of, filter-txs, keyed-retained}
 use Rattle.batch_pool.proofs.pool.Pool.after_block.Goals as goal
 
-pub returns-clause-left : goal.returns-clause-left
-returns-clause-left g c =
-    λ txs led.
-    let m = g.A.Application.machine c.args.app.now in
-    let is_new : List ℕ → Bool = λ tx. not (is_among c.args.block.now tx) in
-    let passes : List ℕ → Bool = λ tx. check_after m.kind (accepted m.kind [] txs) tx == 0 in
-    filter_same _ passes _ (λ x b f called. search rules) _ _ c.retain-2.ensures.filtered
-    ∙ ap (filter passes) (filter_same _ is_new _ (λ x b f called. search rules) _ _ c.retain.ensures.filtered ∙ ap (filter is_new) c.self.view_is)
+pub invariant_of-self : goal.invariant_of-self
+invariant_of-self g c = (
+  omega (arith, c.retain.ensures.bound, c.retain-2.ensures.bound, c.self.invariant.0),
+  keyed-retained _ (λ f k v b w h call. search rules) _ _ _ c.retain-2.ensures.filtered
+      (keyed-retained _ (λ f k v b w h call. search rules) _ _ _ c.retain.ensures.filtered (c.self.invariant.1)),
+)
 
-pub returns-clause-by_blocks : goal.returns-clause-by_blocks
-returns-clause-by_blocks g c = leaves_after (g.A.Application.machine c.args.app.now) c.args.block.now c.args.self.now c.retain-2.new.self.keys (returns-clause-left g c)
+pub returns : goal.returns
+returns g c =
+    λ batches led.
+    let m : Machine = g.A.Application.machine c.args.app.now in
+    let is_new : List ℕ → Bool = λ tx. not (is_among c.args.block.now tx) in
+    let passes : List ℕ → Bool = λ tx. check_reply m.kind batches tx == 0 in
+    let first = filter-RetainsPairs _ (λ (e : Kept). is_new e.1) _ (λ k v b w h call. search rules) _ _ c.retain.ensures.filtered in
+    let second = filter-RetainsPairs _ (λ (e : Kept). passes e.1) _ (λ k v b w h call. search rules) _ _ c.retain-2.ensures.filtered in
+    ap txs_of second ∙ filter-txs passes _ ∙ ap (filter passes) (ap txs_of first ∙ filter-txs is_new _ ∙ ap (filter is_new) c.self.view_is)

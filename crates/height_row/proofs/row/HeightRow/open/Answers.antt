@@ -1,33 +1,56 @@
-use Rattle.std.proofs.Common.{◌≡◌, Some, sym, ap, ◌∙◌}
-use Rattle.height_row.proofs.Finding.{not_open, row_at-push, others_stay-push, own_at, own_push}
+use Rattle.std.proofs.Common.{◌≡◌, Some, length, sym, ap, ◌∙◌, arith}
+use Rattle.height_row.specs.Heights.{place_for}
+use Rattle.height_row.proofs.Finding.{not_open, own_at, IsOf}
+use Rattle.height_row.proofs.Ascending.{inserted_at, place_within, all_with, found_new, others_found, ascends_with}
 use Rattle.height_row.proofs.row.HeightRow.open.Goals as goal
+
+pub insert-requires : goal.insert-requires
+insert-requires c =
+    let rows = c.self.inside.instances.items in
+    let place : c.count_below-place.result ≡ place_for c.args.height rows =
+    c.count_below-place.ensures ∙ ap (place_for c.args.height) c.deref.ensures.value in
+    let within = place_within c.args.height rows in
+    let len = c.deref.ensures.len in
+    let value = ap length c.deref.ensures.value in
+    omega (arith, place, within, len, value)
+
+pub invariant_of-self-2 : goal.invariant_of-self-2
+invariant_of-self-2 c =
+    let rows = c.self.inside.instances.items in
+    let none = not_open c.get.result c.is_some-is_open.result _ (rw (sym c.self.view_is) at c.get.ensures.row) c.is_some-is_open.ensures c.if-is_open.false in
+    let is = c.in_ok-instance.ensures.row in
+    rw (inserted_at c.self.inside.instances.items _ _ c.args.height _ _ c.in_ok-insert.ensures.items c.count_below-place.ensures c.deref.ensures.value) (
+      c.self.invariant.0,
+      all_with c.in_ok-instance.instance c.args.height (ap (λ row. row.height) is) (IsOf c.self.inside.config c.self.inside.id) rows c.self.invariant.1 (ap (λ row. row.config) is, ap (λ row. row.id) is),
+      ascends_with c.in_ok-instance.instance c.args.height (ap (λ row. row.height) is) rows c.self.invariant.2 none,
+    )
 
 pub returns-clause-opened : goal.returns-clause-opened
 returns-clause-opened c =
     let none = not_open c.get.result c.is_some-is_open.result _ (rw (sym c.self.view_is) at c.get.ensures.row) c.is_some-is_open.ensures c.if-is_open.false in
     let height = ap (λ row. row.height) c.in_ok-instance.ensures.row in
-    rw (c.in_ok-push.ensures.items, sym c.self.view_is)
-    (row_at-push c.self.inside.instances.items c.args.height c.in_ok-instance.instance height none ∙ ap Some c.in_ok-instance.ensures.row)
+    rw (inserted_at c.self.inside.instances.items _ _ c.args.height _ _ c.in_ok-insert.ensures.items c.count_below-place.ensures c.deref.ensures.value, sym c.self.view_is)
+    (found_new c.in_ok-instance.instance c.args.height height c.self.inside.instances.items none ∙ ap Some c.in_ok-instance.ensures.row)
 
 pub returns-clause-matches : goal.returns-clause-matches
 returns-clause-matches c row is ring log before =
     let none = not_open c.get.result c.is_some-is_open.result _ (rw (sym c.self.view_is) at c.get.ensures.row) c.is_some-is_open.ensures c.if-is_open.false in
     let height = ap (λ row. row.height) c.in_ok-instance.ensures.row in
-    let there = row_at-push c.self.inside.instances.items c.args.height c.in_ok-instance.instance height none in
-    let same : c.in_ok-instance.instance ≡ row = cc (sym there ∙ (rw c.in_ok-push.ensures.items at is)) in
+    let there = found_new c.in_ok-instance.instance c.args.height height c.self.inside.instances.items none in
+    let same : c.in_ok-instance.instance ≡ row = cc (sym there ∙ (rw (inserted_at c.self.inside.instances.items _ _ c.args.height _ _ c.in_ok-insert.ensures.items c.count_below-place.ensures c.deref.ensures.value) at is)) in
     rw (sym same) (c.in_ok-instance.ensures.matches ring log before)
 
 pub returns-clause-apart : goal.returns-clause-apart
 returns-clause-apart c other differs =
     let height = ap (λ row. row.height) c.in_ok-instance.ensures.row in
-    rw (c.in_ok-push.ensures.items, sym c.self.view_is) (others_stay-push c.self.inside.instances.items c.args.height c.in_ok-instance.instance height other differs)
+    rw (inserted_at c.self.inside.instances.items _ _ c.args.height _ _ c.in_ok-insert.ensures.items c.count_below-place.ensures c.deref.ensures.value, sym c.self.view_is) (others_found c.in_ok-instance.instance c.args.height height c.self.inside.instances.items other differs)
 
 pub returns-clause-own : goal.returns-clause-own
 returns-clause-own c =
-    let none = not_open c.get.result c.is_some-is_open.result _ (rw (sym c.self.view_is) at c.get.ensures.row) c.is_some-is_open.ensures c.if-is_open.false in
     let is = c.in_ok-instance.ensures.row in
-    rw (c.in_ok-push.ensures.items)
-    (own_push _ _ c.self.inside.instances.items c.args.height c.in_ok-instance.instance c.self.invariant.1 none (ap (λ row. row.config) is, ap (λ row. row.id) is, ap (λ row. row.height) is))
+    let all = all_with c.in_ok-instance.instance c.args.height (ap (λ row. row.height) is) (IsOf c.self.inside.config c.self.inside.id) c.self.inside.instances.items c.self.invariant.1
+    (ap (λ row. row.config) is, ap (λ row. row.id) is) in
+    rw (inserted_at c.self.inside.instances.items _ _ c.args.height _ _ c.in_ok-insert.ensures.items c.count_below-place.ensures c.deref.ensures.value) (own_at c.self.inside.config c.self.inside.id _ all)
 
-pub returns-in_err-push-clause-own : goal.returns-in_err-push-clause-own
-returns-in_err-push-clause-own c = rw (c.in_err-push.ensures.items) (own_at _ _ c.self.inside.instances.items c.self.invariant.1)
+pub returns-in_err-insert-clause-own : goal.returns-in_err-insert-clause-own
+returns-in_err-insert-clause-own c = rw (c.in_err-insert.ensures.items) (own_at _ _ c.self.inside.instances.items c.self.invariant.1)

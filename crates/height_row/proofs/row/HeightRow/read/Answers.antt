@@ -2,6 +2,7 @@ use Rattle.std.proofs.Common.{◌≡◌, sym, ap, ◌∙◌, arith}
 use Rattle.std.proofs.lemmas.Result.{IfOk-weaker}
 use Rattle.ledger_model.specs.Logs.{height_of}
 use Rattle.height_row.proofs.Finding.{all_there, place_within, is_held, is_put, own_put}
+use Rattle.height_row.proofs.Ascending.{put_keeps}
 use Rattle.height_row.proofs.row.HeightRow.read.Goals as goal
 
 pub index_mut-requires : goal.index_mut-requires
@@ -61,3 +62,10 @@ returns-clause-own c =
     let same = all_there _ c.self.inside.instances.items c.position-place.result c.index_mut.result.now c.self.invariant.1 held.within c.index_mut.ensures.value in
     own_put _ _ c.self.inside.instances.items _ c.position-place.result c.read.new.self c.self.invariant.1 found
     (c.read.ensures.same.config ∙ same.0, c.read.ensures.same.id ∙ same.1, c.read.ensures.same.height ∙ held.height)
+
+pub invariant_of-self : goal.invariant_of-self
+invariant_of-self c =
+    let rows = c.self.inside.instances.items in
+    let held = is_held c.index_mut.result.now (rw (sym c.self.view_is) at c.position-place.ensures) c.index_mut.ensures.value in
+    let kept = put_keeps _ _ rows c.position-place.result c.index_mut.result.now c.read.new.self c.self.invariant.1 c.self.invariant.2 held.within c.index_mut.ensures.value held.alike c.read.ensures.same in
+    (c.self.invariant.0, kept.0, kept.1)

@@ -20,4 +20,4 @@ pub invariant_of-self-2 : goal.invariant_of-self-2
 invariant_of-self-2 c =
     let i = c.self.invariant in
     let frame : IsLock c.in-Ok.lock.lock = subst (λ (s : SignedStatement). IsStatement s.statement) (sym c.in-Ok.ensures.lock) c.requires.frame.statement in
-    (i.0, i.1, i.2, i.3, keeps_lock i.4 _ _ _ _ frame.value (sym c.in_default.ensures.full) c.in_default.ensures.taken (ap Some (c.in_ok-value.ensures ∙ c.value.ensures)))
+    (i.0, i.1, i.2, i.3, keeps_lock i.4 _ _ _ _ frame.value (sym c.in-Ok-take.ensures.full) c.in-Ok-take.ensures.taken (ap Some (c.in_ok-value.ensures.same ∙ c.value-2.ensures)))

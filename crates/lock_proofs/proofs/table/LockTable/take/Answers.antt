@@ -1,20 +1,18 @@
-use Rattle.std.proofs.Common.{arith}
-use Rattle.ledger_model.specs.LockTables.{with_lock}
+use Rattle.std.proofs.Common.{◌≡◌, false, arith, rules}
+use Rattle.ledger_model.specs.LockTables.{with_lock, has_four_others}
 use Rattle.lock_proofs.specs.Tables.{IsTable}
-use Rattle.lock_proofs.proofs.TableLaws.{with_lock-table, few_others}
+use Rattle.lock_proofs.proofs.TableLaws.{with_lock-table}
 use Rattle.lock_proofs.proofs.table.LockTable.take.Goals as goal
 
 pub put-requires : goal.put-requires
 put-requires c =
-    let few = few_others c.args.lock.lock.value c.self.inside.locks.items c.number_of_others.result
-    (rw (c.value.ensures, c.deref.ensures.value) at c.number_of_others.ensures) c.if-number_of_others-ge-MAX_LEN.false in
-    let table : IsTable (with_lock c.args.lock c.self.inside.locks.items) = with_lock-table c.args.lock c.self.inside.locks.items (c.self.invariant.0) few in
+    let room : has_four_others c.args.lock.lock.value c.self.inside.locks.items ≡ false = search rules in
+    let table : IsTable (with_lock c.args.lock c.self.inside.locks.items) = with_lock-table c.args.lock c.self.inside.locks.items (c.self.invariant.0) room in
     omega (arith, table.few, c.self.invariant.1)
 
 pub invariant_of-self : goal.invariant_of-self
 invariant_of-self c =
-    let few = few_others c.args.lock.lock.value c.self.inside.locks.items c.number_of_others.result
-    (rw (c.value.ensures, c.deref.ensures.value) at c.number_of_others.ensures) c.if-number_of_others-ge-MAX_LEN.false in (
-      rw c.put.ensures.items (with_lock-table c.args.lock c.self.inside.locks.items (c.self.invariant.0) few),
+    let room : has_four_others c.args.lock.lock.value c.self.inside.locks.items ≡ false = search rules in (
+      rw c.put.ensures.items (with_lock-table c.args.lock c.self.inside.locks.items (c.self.invariant.0) room),
       rw c.put.ensures.capacity (c.self.invariant.1),
     )

@@ -1,0 +1,85 @@
+//! What a caller derives from the public clauses alone: a reader knows the cluster, a sender frames what is planned, and a
+//! follower closes with what another chose.
+
+ghost use Rattle.std.specs.Prelude.{◌≡◌, ◌<◌, ◌≤◌, ◌+◌, List, Some, is_some, true, false, IfOk, IfSome, IsTrue};
+ghost use Rattle.ledger_model.specs.Limits.{last_round};
+ghost use Rattle.ledger_model.specs.Notes.{Note, clock_of, signer_of};
+ghost use Rattle.ledger_model.specs.Logs.{height_of};
+ghost use Rattle.ledger_model.specs.Rules.{answer_to};
+ghost use Rattle.instance.specs.Rows.{Row};
+ghost use Rattle.instance.specs.Matching.{Matches};
+ghost use Rattle.instance.specs.Laws.{opened_by};
+ghost use Rattle.instance.specs.declared.made.Made.TheVariants as made;
+ghost use Rattle.height_row.specs.Heights.{row_at};
+
+use height_row::HeightRow;
+use instance::{Instance, Made, OwnFrame, Plan};
+use key_ring::{KeyRing, Signer};
+use ledger_model::Ignored;
+use lock_proofs::is_signed;
+use signed_frames::{Frame, UnsignedFrame};
+use std::alloc::{AllocError, Global};
+use std::test::Fail;
+
+/// Reads a frame of an open height. What is answered is the definitions' for the cluster of the row, whichever height it is.
+pub(crate) fn reads_in_the_cluster(
+    alloc: Global,
+    row: &mut HeightRow,
+    ring: &KeyRing,
+    frame: Frame,
+    clock: u32,
+) -> Result<Result<(), Ignored>, AllocError>
+    requires signer { signer_of frame.statement < row.old.config.replicas }
+    requires open { is_some (row_at row.old.rows (height_of frame.statement)) ≡ true }
+    requires clock { clock ≤ last_round }
+    ensures { IfOk result (λ r. (kept : Row) → row_at row.old.rows (height_of frame.statement) ≡ Some kept → (log : List Note)
+        → Matches ring.now kept log → clock_of log ≡ clock → r ≡ answer_to row.old.config ring.now log frame) }
+{
+    let _ = row.get(frame.statement().height());
+    row.read(alloc, ring, frame, clock)
+}
+
+/// Signs what is planned and frames it. No log is at hand.
+pub(crate) fn frame_of_plan(
+    alloc: Global,
+    instance: &Instance,
+    signer: &mut Signer,
+    clock: u32,
+) -> Result<Option<Frame>, Fail>
+    requires clock { clock < last_round }
+    ensures { IfOk result (λ frame. IfSome frame (λ f. signer_of f.statement ≡ instance.now.id)) }
+{
+    let Plan { statement, .. } = instance.plan_end(alloc, clock)?;
+    let Some(statement) = statement else {
+        return Ok(None);
+    };
+    let unsigned = UnsignedFrame::new(alloc, statement)?;
+    let Ok(signature) = signer.sign(alloc, unsigned.statement_bytes()) else {
+        return Err(Fail::from("nothing was signed"));
+    };
+    Ok(Some(unsigned.with_signature(&signature)?))
+}
+
+/// Closes with what another replica of this number chose, if it may, and tells whether it did.
+pub(crate) fn closes_with(
+    alloc: Global,
+    instance: &mut Instance,
+    ring: &KeyRing,
+    frame: Frame,
+    clock: u32,
+) -> Result<bool, AllocError>
+    requires clock { clock < last_round }
+    // Then every log that it matched goes on with that statement.
+    ensures follows { IfOk result (λ yes. yes ≡ true → (log : List Note) → Matches ring.now instance.old log → clock_of log ≡ clock
+        → Matches ring.now instance.new (opened_by instance.old log (clock + 1) (made.Sent frame))) }
+    // Otherwise nothing changed.
+    ensures refuses { IfOk result (λ yes. yes ≡ false → instance.new ≡ instance.old) }
+{
+    if !instance.may_make(clock, Some(frame.statement())) || !is_signed(ring, &frame) {
+        return Ok(false);
+    }
+    let ending = instance.prepare_end(alloc, clock)?;
+    let own = OwnFrame::new(alloc, frame)?;
+    instance.close(ending, Made::Sent(own), clock);
+    Ok(true)
+}

@@ -1,8 +1,0 @@
--- No transfer was made before the first block.
-use Rattle.std.proofs.Common.{refl}
-use Rattle.ledger_model.specs.Applications.{state_of}
-use Rattle.app_kinds.proofs.accounts.Accounts.new.Goals as goal
-
-pub returns : goal.returns
-unfolding state_of
-returns c = refl

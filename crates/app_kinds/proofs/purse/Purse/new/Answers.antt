@@ -1,8 +1,0 @@
--- Nothing was accepted before the first block.
-use Rattle.std.proofs.Common.{refl}
-use Rattle.ledger_model.specs.Applications.{run, accepted}
-use Rattle.app_kinds.proofs.purse.Purse.new.Goals as goal
-
-pub returns : goal.returns
-unfolding run accepted
-returns c = rw c.new-committed.ensures refl

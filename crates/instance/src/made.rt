@@ -1,0 +1,71 @@
+//! What of its own a replica makes as a round opens.
+ghost use Rattle.std.specs.Prelude.{◌≡◌, IfOk};
+
+use ledger_model::{Batch, Signature, Statement};
+use signed_frames::Frame;
+use std::alloc::{AllocError, Global};
+use std::marker::Model;
+
+/// What of its own a replica makes as a round opens.
+#[derive(Debug, Drop)]
+pub enum Made {
+    /// The replica is mute: nothing.
+    Mute,
+    /// Nothing that is sent; an owner acknowledges its own lock to itself.
+    Unsent,
+    /// A statement that is signed and sent.
+    Sent(OwnFrame),
+}
+
+/// A signed statement of one's own, with room for what is kept of it. Contracts see the signed statement.
+#[derive(Debug, Drop)]
+pub struct OwnFrame {
+    pub(crate) frame: Frame,
+    pub(crate) kept: Kept,
+}
+
+/// What is kept of a statement of one's own beside its frame.
+#[derive(Debug, Drop)]
+pub(crate) enum Kept {
+    /// A report's signature.
+    Report(Signature),
+    /// The value of a lock: once as that of the lock that was made, and once as that of the lock that was taken.
+    Lock(Batch, Batch),
+    /// An acknowledgement needs nothing.
+    Ack,
+}
+
+impl Model for OwnFrame {
+    ghost use Rattle.ledger_model.specs.declared.statement.SignedStatement.{SignedStatement};
+    ghost use Rattle.ledger_model.specs.Spelling.{IsFrame};
+    ghost use Rattle.instance.specs.Kept.{IsKeptOf};
+
+    ghost Value = { SignedStatement };
+
+    ghost view = { λ o. o.frame };
+
+    ghost invariant = { λ o. IsFrame o.frame × IsKeptOf o.frame o.kept };
+}
+
+impl OwnFrame {
+    /// The frame of a statement of one's own. It takes the memory that keeping it needs.
+    pub fn new(alloc: Global, frame: Frame) -> Result<Self, AllocError>
+        ensures { IfOk result (λ own. own ≡ frame) }
+    {
+        let kept = match frame.statement() {
+            Statement::Report(_) => {
+                Kept::Report(Signature::new(Vec::from_slice(alloc, frame.signature())?))
+            }
+            Statement::Lock(lock) => Kept::Lock(lock.value.copy()?, lock.value.copy()?),
+            Statement::Ack(_) => Kept::Ack,
+        };
+        Ok(OwnFrame { frame, kept })
+    }
+
+    /// The frame, as it is sent.
+    pub fn frame(&self) -> &Frame
+        ensures { result.now ≡ self.now }
+    {
+        &self.frame
+    }
+}

@@ -1,0 +1,34 @@
+-- A pool as a list: what is answered to a transaction that is handed in, and what a block leaves.
+use Rattle.std.specs.Prelude.{ℕ, ◌==◌, nat_lt, nat_le, Bool, not, List, [], ◌∷◌, ◌++◌, length, filter, Result, Ok, Err, if◌then◌else◌}
+use Rattle.std.specs.List.{list_any}
+use Rattle.ledger_model.specs.declared.reply.SubmitRefusal.{SubmitRefusal}
+use Rattle.ledger_model.specs.declared.reply.SubmitRefusal.TheVariants as refusal
+use Rattle.ledger_model.specs.Limits.{max_tx_len, max_pool_len}
+use Rattle.ledger_model.specs.Values.{Value}
+use Rattle.ledger_model.specs.Applications.{same_bytes}
+
+-- the transaction is one of these
+abbrev pub is_among : List (List ℕ) → List ℕ → Bool
+is_among txs tx = list_any (same_bytes tx) txs
+
+-- the first fault whose test fits, or x where none does
+abbrev pub first_fault : {E X : Type 0} → List (Bool × E) → X → Result X E
+first_fault [] x = Ok x
+first_fault (c ∷ cs) x = if c.0 then Err c.1 else first_fault cs x
+
+-- the refusals of a pool by itself in their order, each with whether it fits
+abbrev pub own_refusals : Value → List ℕ → List (Bool × SubmitRefusal)
+own_refusals pool tx =
+    (length tx == 0, refusal.Empty)
+    ∷ (nat_lt max_tx_len (length tx), refusal.TooLong)
+    ∷ (is_among pool tx, refusal.Duplicate)
+    ∷ (nat_le max_pool_len (length pool), refusal.Full)
+    ∷ []
+
+-- what is answered to a transaction that is handed in, where CheckTx answers the code
+abbrev pub submit_answer : Value → List ℕ → ℕ → Result (Unit {0}) SubmitRefusal
+submit_answer pool tx code = first_fault (own_refusals pool tx ++ (not (code == 0), refusal.Rejected code) ∷ []) tt
+
+-- what a block leaves of a pool, where CheckTx then answers these codes
+abbrev pub left_after : Value → (List ℕ → ℕ) → Value → Value
+left_after block code pool = filter (λ tx. code tx == 0) (filter (λ tx. not (is_among block tx)) pool)

@@ -1,0 +1,122 @@
+//! The frame of a lock, and its check: the owner's signature, and the proof (a certificate of N-t signed reports).
+ghost use Rattle.std.specs.Prelude.{◌≡◌, IfOk, IsOk};
+ghost use Rattle.ledger_model.specs.Validity.{ValidLock};
+ghost use Rattle.ledger_model.specs.Rules.{first_of};
+ghost use Rattle.ledger_model.specs.LockTables.{as_statement};
+ghost use Rattle.lock_proofs.specs.LockFrames.{IsLockFrame, lock_in};
+ghost use Rattle.lock_proofs.specs.Faults.{faults, IsBacked, IsSigned, without_lock};
+
+use crate::LockFault;
+use crate::checks::{is_of_owner, is_quorate, is_supporting};
+use crate::signatures::{are_signed, is_signed};
+use key_ring::KeyRing;
+use ledger_model::{Batch, Config, Lock, Phase, Statement};
+use signed_frames::Frame;
+use std::marker::Model;
+
+/// The frame of a lock, and what is read off it. Contracts see the lock and its signature. Whether the lock is valid is
+/// no matter of this type: [`check_lock`] says it of those that it answers.
+#[derive(Debug, Drop)]
+pub struct LockFrame {
+    frame: Frame,
+}
+
+impl Model for LockFrame {
+    ghost use Rattle.ledger_model.specs.LockTables.{SignedLock};
+    ghost use Rattle.lock_proofs.specs.LockFrames.{IsLockFrame, lock_in};
+
+    ghost Value = { SignedLock };
+
+    ghost view = { λ v. lock_in v.frame };
+
+    ghost invariant = { λ v. IsLockFrame v.frame };
+}
+
+impl LockFrame {
+    ghost use Rattle.std.specs.Prelude.{◌≡◌};
+    ghost use Rattle.ledger_model.specs.LockTables.{as_statement};
+    ghost use Rattle.lock_proofs.specs.LockFrames.{IsLockFrame};
+
+    /// The frame of the lock that this replica made itself. Nothing is checked: whoever makes a lock answers for it.
+    pub fn of_own(frame: Frame) -> Self
+        requires { IsLockFrame frame }
+        ensures { as_statement result ≡ frame }
+    {
+        LockFrame { frame }
+    }
+
+    /// The lock.
+    pub fn lock(&self) -> &Lock
+        ensures { result.now ≡ self.now.lock }
+    {
+        match self.frame.statement() {
+            Statement::Lock(lock) => lock,
+            Statement::Report(_) | Statement::Ack(_) => unreachable!(),
+        }
+    }
+
+    /// The value that is locked.
+    pub fn value(&self) -> &Batch
+        ensures { result.now ≡ self.now.lock.value }
+    {
+        &self.lock().value
+    }
+
+    /// The phase that it is of.
+    pub fn phase(&self) -> Phase
+        ensures { result ≡ self.now.lock.phase }
+    {
+        self.lock().phase
+    }
+
+    /// The frame itself.
+    pub fn frame(&self) -> &Frame
+        ensures { result.now ≡ as_statement self.now }
+    {
+        &self.frame
+    }
+}
+
+/// The first fault that fits the lock of a frame, if one does.
+fn examine(config: &Config, ring: &KeyRing, frame: &Frame) -> Result<(), LockFault>
+    requires { IsLockFrame frame.now }
+    ensures { result ≡ first_of (faults config.now ring.now (lock_in frame.now)) }
+{
+    let Statement::Lock(lock) = frame.statement() else {
+        unreachable!()
+    };
+    if !is_of_owner(config, lock) {
+        return Err(LockFault::NotOwner);
+    }
+    if !is_signed(ring, frame) {
+        return Err(LockFault::BadSignature);
+    }
+    if !is_quorate(config, lock) || !are_signed(ring, frame) {
+        return Err(LockFault::BadProof);
+    }
+    if !is_supporting(lock) {
+        return Err(LockFault::NotSupporting);
+    }
+    Ok(())
+}
+
+/// Checks a lock's frame, which is kept in what it answers. It takes no memory.
+///
+/// The faults are tested in the order of [`LockFault`]. The signature of each report in the proof is one over the report's
+/// bytes as they stand in the frame.
+pub fn check_lock(config: &Config, ring: &KeyRing, frame: Frame) -> Result<LockFrame, LockFault>
+    requires { IsLockFrame frame }
+    // The first fault that fits is told, and where none fits, the lock of the frame.
+    ensures fault { without_lock result ≡ first_of (faults config.now ring.now (lock_in frame)) }
+    ensures lock { IfOk result (λ lock. as_statement lock ≡ frame) }
+
+    // A lock that is answered is valid.
+    ensures valid { IfOk result (λ lock. ValidLock (IsBacked ring.now) config.now lock.lock) }
+
+    // A valid lock whose own signatures verify is answered.
+    ensures only { IsSigned ring.now (lock_in frame) → ValidLock (IsBacked ring.now) config.now (lock_in frame).lock
+        → IsOk result }
+{
+    examine(config, ring, &frame)?;
+    Ok(LockFrame { frame })
+}

@@ -1,0 +1,84 @@
+//! A statement that is to be signed: its bytes, in a buffer that has room for the whole frame.
+ghost use Rattle.std.specs.Prelude.{◌≡◌, ◌≤◌, ◌++◌, length, drop};
+ghost use Rattle.std.specs.Int.{w32, to_be_bytes};
+
+use crate::parsing::LENGTH_LEN;
+use crate::{Frame, HEADER_LEN};
+use bytes::Bytes;
+use ledger_model::{Signature, Statement};
+use octets::{put_bytes, put_u16, put_u32};
+use statements::{encoded_len, put_statement};
+use std::alloc::{AllocError, Global};
+use std::marker::Model;
+
+/// A statement and its bytes, which are to be signed, with room for the frame that is made of them. Contracts see the
+/// statement.
+#[derive(Debug, Drop)]
+pub struct UnsignedFrame {
+    statement: Statement,
+    /// The place of the length, and the statement's bytes.
+    bytes: Vec<u8>,
+}
+
+impl Model for UnsignedFrame {
+    ghost use Rattle.ledger_model.specs.declared.statement.Statement.{Statement};
+    ghost use Rattle.signed_frames.specs.Parts.{HoldsStatement};
+
+    ghost Value = { Statement };
+
+    ghost view = { λ u. u.statement };
+
+    ghost invariant = { λ u. HoldsStatement u.bytes.items u.statement };
+}
+
+impl UnsignedFrame {
+    ghost use Rattle.std.specs.Prelude.{◌≡◌, ◌≤◌, length, IfOk};
+    ghost use Rattle.ledger_model.specs.Limits.{max_signature_len};
+    ghost use Rattle.ledger_model.specs.Spelling.{statement_bytes, IsStatement};
+
+    /// The statement, spelled once, with room for a length and for a signature of at most [`Signature::MAX_LEN`] bytes.
+    pub fn new(alloc: Global, statement: Statement) -> Result<Self, AllocError>
+        requires { IsStatement statement }
+        ensures { IfOk result (λ unsigned. unsigned ≡ statement) }
+    {
+        let room = HEADER_LEN + encoded_len(&statement) + LENGTH_LEN + Signature::MAX_LEN;
+        let mut bytes = Vec::with_capacity(alloc, room)?;
+        put_u32(&mut bytes, 0)?;
+        put_statement(&mut bytes, &statement)?;
+        Ok(UnsignedFrame { statement, bytes })
+    }
+
+    /// The bytes of the statement, which are to be signed.
+    pub fn statement_bytes(&self) -> &[u8]
+        ensures { result.now ≡ statement_bytes self.now }
+    {
+        &self.bytes[HEADER_LEN..]
+    }
+
+    /// The frame of the statement and its signature, which has at most [`Signature::MAX_LEN`] bytes. No such frame is too
+    /// long. The bytes are not spelled again, and the room for them is there.
+    pub fn with_signature(self, signature: &[u8]) -> Result<Frame, AllocError>
+        requires { length signature.now ≤ max_signature_len }
+        ensures { IfOk result (λ frame. frame ≡ record { statement = self; signature = signature.now }) }
+    {
+        let UnsignedFrame {
+            statement,
+            mut bytes,
+        } = self;
+        let body_len = bytes.len() - HEADER_LEN + LENGTH_LEN + signature.len();
+        put_length(&mut bytes, body_len as u32);
+        put_u16(&mut bytes, signature.len() as u16)?;
+        put_bytes(&mut bytes, signature)?;
+        let bytes = Bytes::from_vec(bytes)?;
+        Ok(Frame::holding(bytes, statement, signature.len()))
+    }
+}
+
+/// Writes the length of a body into the first bytes.
+fn put_length(bytes: &mut Vec<u8>, len: u32)
+    requires { 4 ≤ length bytes.old.items }
+    ensures { bytes.new.items ≡ to_be_bytes w32 len ++ drop 4 bytes.old.items }
+{
+    let (header, _) = bytes.as_mut_slice().split_at_mut(HEADER_LEN);
+    header.copy_from_slice(&len.to_be_bytes());
+}
