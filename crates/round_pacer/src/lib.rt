@@ -1,0 +1,44 @@
+//! When rounds end: each lasts a base time, and a millisecond more than the one before it.
+//!
+//! Round end r is due `r * base + r * (r + 1) / 2` milliseconds after the start. [`due`] tells how many ends are due by now.
+#![tactic(auto)]
+
+ghost use Rattle.std.specs.Prelude.{◌≡◌, ◌≤◌, ◌<◌, ◌+◌, ◌^◌, ℕ, nat_le};
+ghost use Rattle.round_pacer.specs.Pacing.{due_at, max_due};
+
+/// The most round ends that [`due`] answers at once.
+pub const MAX_DUE: u32 = 1024;
+
+/// How many round ends after the first `ended` are due at the time `now`, at most [`MAX_DUE`]. All times are in
+/// milliseconds.
+///
+/// It takes no memory, and ten steps after however long a pause.
+pub fn due(start: u64, now: u64, base_ms: u32, ended: u32) -> u32
+    ensures most { result ≤ max_due }
+    // Each end that is counted is due.
+    ensures due { (r : ℕ) → ended < r → r ≤ ended + result → due_at start base_ms r ≤ now }
+    // No other one is, unless as many as can be answered are due.
+    ensures rest { result < max_due → (r : ℕ) → ended + result < r → now < due_at start base_ms r }
+{
+    let mut low = 0;
+    let mut high = MAX_DUE;
+    while low < high {
+        let middle = high - (high - low) / 2;
+        if is_due(start, now, base_ms, u64::from(ended) + u64::from(middle)) {
+            low = middle;
+        } else {
+            high = middle - 1;
+        }
+    }
+    low
+}
+
+/// Whether the end of this round is due.
+fn is_due(start: u64, now: u64, base_ms: u32, round: u64) -> bool
+    requires { round < 2 ^ 33 }
+    ensures { result ≡ nat_le (due_at start base_ms round) now }
+{
+    let round = u128::from(round);
+    let due_at = u128::from(start) + round * u128::from(base_ms) + round * (round + 1) / 2;
+    due_at <= u128::from(now)
+}

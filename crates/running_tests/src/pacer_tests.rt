@@ -1,0 +1,29 @@
+//! When rounds end, by the millisecond.
+use round_pacer::due;
+
+/// A start, the time, the base time, the ends that were, and how many more are due.
+const CASES: [(u64, u64, u32, u32, u32); 12] = [
+    // With a base of 200 the ends are due 201, 403, 606 and 810 milliseconds after the start.
+    (1000, 1200, 200, 0, 0),
+    (1000, 1201, 200, 0, 1),
+    (1000, 1402, 200, 0, 1),
+    (1000, 1403, 200, 0, 2),
+    (1000, 1606, 200, 2, 1),
+    (1000, 1605, 200, 2, 0),
+    // A clock that was set back, and ends before their time.
+    (1000, 500, 200, 0, 0),
+    (1000, 1403, 200, 3, 0),
+    // The fortieth end.
+    (0, 8819, 200, 0, 39),
+    (0, 8820, 200, 0, 40),
+    // After a long pause as many as can be answered.
+    (0, u64::MAX, 60_000, 5, 1024),
+    (0, 525_823, 1, 0, 1023),
+];
+
+#[test]
+fn ends_are_due_by_the_millisecond(rt: HostRuntime) {
+    for (start, now, base, ended, wanted) in CASES {
+        assert_eq!(rt; due(start, now, base, ended), wanted, "{now} {ended}");
+    }
+}
