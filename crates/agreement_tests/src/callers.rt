@@ -1,5 +1,5 @@
-//! What a caller derives from the public clauses alone: a reader knows the cluster, a sender frames what is planned, and a
-//! follower closes with what another chose.
+//! What a caller derives from the public clauses alone: a reader knows the cluster, a sender frames what is planned, what is
+//! sent on is signed, and a follower closes with what another chose.
 
 ghost use Rattle.std.specs.Prelude.{◌≡◌, ◌<◌, ◌≤◌, ◌+◌, List, Some, is_some, true, false, IfOk, IfSome, IsTrue};
 ghost use Rattle.ledger_model.specs.Limits.{last_round};
@@ -18,6 +18,7 @@ use key_ring::{KeyRing, Signer};
 use ledger_model::Ignored;
 use lock_proofs::is_signed;
 use signed_frames::{Frame, UnsignedFrame};
+use statements::DecodeFault;
 use std::alloc::{AllocError, Global};
 use std::test::Fail;
 
@@ -58,6 +59,28 @@ pub(crate) fn frame_of_plan(
         return Err(Fail::from("nothing was signed"));
     };
     Ok(Some(unsigned.with_signature(&signature)?))
+}
+
+/// Whether what is sent on first, if anything is, is a signed lock. It always is, where some log is matched.
+pub(crate) fn sends_on_signed_locks(
+    alloc: Global,
+    instance: &Instance,
+    ring: &KeyRing,
+    clock: u32,
+) -> Result<bool, AllocError>
+    requires clock { clock < last_round }
+    requires matched { (log : List Note) × Matches ring.now instance.now log }
+    ensures { IfOk result (λ yes. yes ≡ true) }
+{
+    let ending = instance.prepare_end(alloc, clock)?;
+    let Some(bytes) = ending.sends_on().first() else {
+        return Ok(true);
+    };
+    match Frame::parse(alloc, bytes.clone()?) {
+        Ok(frame) => Ok(is_signed(ring, &frame)),
+        Err(DecodeFault::Malformed) => Ok(false),
+        Err(DecodeFault::NoMemory) => Err(AllocError),
+    }
 }
 
 /// Closes with what another replica of this number chose, if it may, and tells whether it did.

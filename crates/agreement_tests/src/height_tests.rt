@@ -319,6 +319,46 @@ fn sends_on(plan: &Plan, frame: &[u8]) -> bool {
     }
 }
 
+fn sends_nothing_on(plan: &Plan) -> bool {
+    plan.ending.sends_on().is_empty()
+}
+
+fn end_rounds(replica: &mut Replica, count: u8) -> Result<(), Fail> {
+    for _ in 0..count {
+        replica.end_round()?;
+    }
+    Ok(())
+}
+
+// Replica 0 in round 8, which holds the lock of phase 2 with this frame in place of that of phase 1 on the same value.
+fn holder(alloc: Global, cluster: &Cluster, first: &[u8], second: &[u8]) -> Result<Replica, Fail> {
+    let mut replica = taker(alloc, cluster, first)?;
+    end_rounds(&mut replica, 4)?;
+    if replica.ignores(cluster.ring(), second)?.is_some() {
+        return Err(Fail::from("the lock of phase 2 is ignored"));
+    }
+    end_rounds(&mut replica, 1)?;
+    if !sends_on(&replica.plan()?, second) {
+        return Err(Fail::from("the lock of phase 2 is not sent on"));
+    }
+    end_rounds(&mut replica, 1)?;
+    Ok(replica)
+}
+
+// A lock is renewed by a later one on its value, and ended in a lock-release round by one on another value.
+#[test]
+fn a_lock_is_renewed_and_released(rt: HostRuntime) -> Result<(), Fail> {
+    let mut cluster = four(rt.alloc())?;
+    let first = cluster.lock_frame(1, 1, b'a', 3)?;
+    let second = cluster.lock_frame(2, 2, b'a', 3)?;
+    let other = cluster.lock_frame(2, 2, b'b', 3)?;
+    let mut replica = holder(rt.alloc(), &cluster, &first, &second)?;
+    assert_eq!(rt; replica.ignores(cluster.ring(), &other)?, None);
+    end_rounds(&mut replica, 3)?;
+    assert!(rt; sends_nothing_on(&replica.plan()?));
+    Ok(())
+}
+
 // It is acknowledged as round 3 opens, and sent on as round 4 does.
 #[test]
 fn a_lock_is_acknowledged_and_sent_on(rt: HostRuntime) -> Result<(), Fail> {
