@@ -5,12 +5,15 @@ use Rattle.app_kinds.specs.declared.account.Account.{Account}
 use Rattle.app_kinds.specs.declared.transfer.Transfer.{Transfer}
 use Rattle.ledger_model.specs.Applications.{sender, receiver, amount, nonce_in}
 
+-- the balance and the nonce of each account
 abbrev pub shown : List Account → List (ℕ × ℕ)
 shown accounts = map (λ a. (a.balance, a.nonce)) accounts
 
+-- the balance of account i
 abbrev pub balance_at : List (ℕ × ℕ) → ℕ → ℕ
 balance_at accounts i = (slice_index_or accounts i (0, 0)).0
 
+-- the nonce of account i
 abbrev pub nonce_at : List (ℕ × ℕ) → ℕ → ℕ
 nonce_at accounts i = (slice_index_or accounts i (0, 0)).1
 

@@ -3,6 +3,7 @@ use Rattle.std.specs.Prelude.{ℕ, ◌≤◌, List, [], ◌∷◌, length, map, 
 use Rattle.std.specs.declared.alloc.Global.{Global}
 use Rattle.ledger_model.specs.Limits.{max_tx_len}
 
+-- a key and its value
 abbrev pub Pair : Type 0
 Pair = List ℕ × List ℕ
 

@@ -36,6 +36,7 @@ with_sign a =
     (option_rule (codes "phase") (codes "1")))
     (option_rule (codes "value") (codes "a=1"))
 
+-- `abft sign`: what is signed, and its options
 abbrev pub sign_app : App
 sign_app = with_sign (with_rule (with_common (new_app (codes "sign"))) what_rule)
 
@@ -48,6 +49,7 @@ with_deliver a =
     (option_rule (codes "height") (codes "1")))
     (option_rule (codes "rounds") (codes "1"))
 
+-- `abft deliver`: its options
 abbrev pub deliver_app : App
 deliver_app = with_deliver (with_common (new_app (codes "deliver")))
 
@@ -55,5 +57,6 @@ deliver_app = with_deliver (with_common (new_app (codes "deliver")))
 abbrev pub at_top : App → App
 at_top a = record a { top = record a.top { has_version = true; subcommand_required = true } }
 
+-- the program: its two subcommands
 abbrev pub abft_app : App
 abft_app = with_subcommand (with_subcommand (at_top (new_app (codes "abft"))) sign_app.top) deliver_app.top

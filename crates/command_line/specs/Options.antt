@@ -54,10 +54,12 @@ pub record SetsCluster (rows : List Row) (cluster : Cluster) : Type 0 where
   pub tree : IsNumber rows (codes "tree") 5 10 (levels_of cluster.params.height)
   pub seed : IsSeed rows cluster.seed
 
+-- the word that says what is to be signed
 abbrev pub word_of : What → Text
 word_of Report = codes "report"
 word_of Ack = codes "ack"
 
+-- the options of `abft sign` set these settings
 pub record SetsSign (rows : List Row) (s : SignSettings) : Type 0 where
   pub cluster : SetsCluster rows s.cluster
   pub what : first_of (codes "what") rows ≡ Some (word_of s.what)
@@ -66,6 +68,7 @@ pub record SetsSign (rows : List Row) (s : SignSettings) : Type 0 where
   pub phase : IsNumber rows (codes "phase") 1 1000000000 s.phase
   pub value : IsWritten rows (codes "value") s.value
 
+-- the options of `abft deliver` set these settings
 pub record SetsDeliver (rows : List Row) (s : DeliverSettings) : Type 0 where
   pub cluster : SetsCluster rows s.cluster
   pub replica : IsNumber rows (codes "replica") 0 (s.cluster.config.replicas - 1) s.replica

@@ -6,6 +6,7 @@ use Rattle.settings.specs.declared.sign.SignSettings.{SignSettings}
 use Rattle.settings.specs.declared.sign.What.{What}
 use Rattle.settings.specs.declared.sign.What.TheVariants.{Report, Ack}
 
+-- a report of who proposed the value and read nothing, or the acknowledgement of a lock on it
 abbrev pub said_of : What → SignSettings → Statement
 said_of Report s = statement.Report (record {
   height = s.height;

@@ -34,5 +34,6 @@ SignsAs view old message (Ok x) new = (view x ≡ signed_with old.secret old.use
 SignsAs view old message (Err fault.Exhausted) new = (leaves_of old.secret ≤ old.used) × (new ≡ old)
 SignsAs view old message (Err fault.NoMemory) new = UsesLeaf old new
 
+-- the same, where the signature is seen as its bytes
 abbrev pub Signs : Keys → List ℕ → Result (List ℕ) SignFault → Keys → Type 0
 Signs old message answer new = SignsAs (λ x. x) old message answer new
