@@ -168,7 +168,7 @@ impl Batch {
     }
 }
 
-/// Shows that each is spelled, as a transaction keeps of itself. It does nothing, and the compiler leaves it out.
+/// Shows that each is spelled, as a transaction keeps of itself. It does nothing at run time but to pass them by.
 fn show_spelled(transactions: &[Tx])
     ensures { AllByRecursion IsTx transactions.now }
 {
