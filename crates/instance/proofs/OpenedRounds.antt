@@ -21,7 +21,7 @@ use Rattle.ledger_model.specs.Tallies.{Places}
 use Rattle.ledger_model.specs.Rules.{Ring, has_phase, with_signature}
 use Rattle.ledger_model.proofs.Lists.{has_cases, has_left, has_filter_map}
 use Rattle.ledger_model.proofs.LockSafety.{read_has, took_tells}
-use Rattle.ledger_model.proofs.Agreement.{made_has}
+use Rattle.ledger_model.proofs.LockSafety.{made_has}
 use Rattle.ledger_model.proofs.Goodness.{clock_of-append, initial_of-append}
 use Rattle.ledger_model.proofs.Staying.{From, from_below, from_append, read_stays, made_stays, decided_stays, find_same, find_append, find_none, filter_map-append}
 use Rattle.lock_proofs.specs.Laws.{IsTimely}

@@ -29,4 +29,3 @@ pub mod Timelines
 pub mod Boards
 pub mod Inboxes
 pub mod Sessions
-pub mod Examples

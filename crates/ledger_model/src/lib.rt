@@ -4,10 +4,8 @@
 mod batch;
 mod config;
 mod event;
-pub mod examples;
 mod history;
 mod ids;
-pub mod laws;
 mod ledger;
 mod order;
 mod quorums;

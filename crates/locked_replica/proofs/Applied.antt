@@ -4,7 +4,7 @@ use Rattle.ledger_model.specs.declared.config.Config.{Config}
 use Rattle.ledger_model.specs.declared.history.Entry.{Entry}
 use Rattle.ledger_model.specs.Rules.{Ring}
 use Rattle.ledger_model.specs.Lawful.{Replay}
-use Rattle.ledger_model.proofs.Backing.{replays_snoc}
+use Rattle.ledger_model.proofs.Steps.{replays_snoc}
 use Rattle.locked_replica.specs.Holding.{Held}
 use Rattle.locked_replica.specs.Matching.{Matches}
 use Rattle.locked_replica.specs.Steps.{IsStep}

@@ -1,0 +1,7 @@
+pub mod StreamEnds
+pub mod Agreement
+pub mod Proposals
+pub mod Ledgers
+pub mod Backing
+pub mod WorldRuns
+pub mod Computed

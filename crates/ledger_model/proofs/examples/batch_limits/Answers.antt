@@ -1,5 +1,0 @@
-use Rattle.ledger_model.proofs.Computed.{batch_limits}
-use Rattle.ledger_model.proofs.examples.batch_limits.Goals as goal
-
-pub returns : goal.returns
-returns c = batch_limits

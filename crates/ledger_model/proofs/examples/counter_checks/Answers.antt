@@ -1,5 +1,0 @@
-use Rattle.ledger_model.proofs.Computed.{counter_checks}
-use Rattle.ledger_model.proofs.examples.counter_checks.Goals as goal
-
-pub returns : goal.returns
-returns c = counter_checks

@@ -1,5 +1,0 @@
-use Rattle.ledger_model.proofs.Computed.{digits_and_checksums}
-use Rattle.ledger_model.proofs.examples.digits_and_checksums.Goals as goal
-
-pub returns : goal.returns
-returns c = digits_and_checksums

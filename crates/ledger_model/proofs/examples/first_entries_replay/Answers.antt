@@ -1,5 +1,0 @@
-use Rattle.ledger_model.proofs.Computed.{first_entries_replay}
-use Rattle.ledger_model.proofs.examples.first_entries_replay.Goals as goal
-
-pub returns : goal.returns
-returns c = first_entries_replay

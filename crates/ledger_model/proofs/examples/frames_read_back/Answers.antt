@@ -1,5 +1,0 @@
-use Rattle.ledger_model.proofs.Computed.{frames_read_back}
-use Rattle.ledger_model.proofs.examples.frames_read_back.Goals as goal
-
-pub returns : goal.returns
-returns c = frames_read_back

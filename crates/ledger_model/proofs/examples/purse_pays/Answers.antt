@@ -1,5 +1,0 @@
-use Rattle.ledger_model.proofs.Computed.{purse_pays}
-use Rattle.ledger_model.proofs.examples.purse_pays.Goals as goal
-
-pub returns : goal.returns
-returns c = purse_pays

@@ -1,5 +1,0 @@
-use Rattle.ledger_model.proofs.Computed.{report_spelled}
-use Rattle.ledger_model.proofs.examples.report_spelled.Goals as goal
-
-pub returns : goal.returns
-returns c = report_spelled

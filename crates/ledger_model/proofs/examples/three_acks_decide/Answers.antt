@@ -1,5 +1,0 @@
-use Rattle.ledger_model.proofs.Computed.{three_acks_decide}
-use Rattle.ledger_model.proofs.examples.three_acks_decide.Goals as goal
-
-pub returns : goal.returns
-returns c = three_acks_decide

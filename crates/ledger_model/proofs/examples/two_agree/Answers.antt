@@ -1,5 +1,0 @@
-use Rattle.ledger_model.proofs.Computed.{two_agree}
-use Rattle.ledger_model.proofs.examples.two_agree.Goals as goal
-
-pub returns : goal.returns
-returns c = two_agree

@@ -1,5 +1,0 @@
-use Rattle.ledger_model.proofs.Computed.{two_locks_held}
-use Rattle.ledger_model.proofs.examples.two_locks_held.Goals as goal
-
-pub returns : goal.returns
-returns c = two_locks_held

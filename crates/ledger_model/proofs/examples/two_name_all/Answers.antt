@@ -1,5 +1,0 @@
-use Rattle.ledger_model.proofs.Computed.{two_name_all}
-use Rattle.ledger_model.proofs.examples.two_name_all.Goals as goal
-
-pub returns : goal.returns
-returns c = two_name_all

@@ -1,5 +1,0 @@
-use Rattle.ledger_model.proofs.StreamEnds.{every_stream_ends}
-use Rattle.ledger_model.proofs.laws.every_stream_ends.Goals as goal
-
-pub returns : goal.returns
-returns c = every_stream_ends

@@ -1,5 +1,0 @@
-use Rattle.ledger_model.proofs.WorldRuns.{runs_refine as refine}
-use Rattle.ledger_model.proofs.laws.runs_refine.Goals as goal
-
-pub returns : goal.returns
-returns c = λ config ring correct steps answers w replicas runs unforged. refine config ring correct steps answers w replicas runs unforged
