@@ -3,6 +3,7 @@ use Rattle.std.proofs.Common.{◌≡◌, ℕ, zero, suc, ◌<◌, ◌≤◌, inl
 use Rattle.std.specs.Prelude.{◌==◌, nat_lt, Some, None, slice_get, slice_set}
 use Rattle.std.specs.List.{insert, AllByRecursion}
 use Rattle.std.proofs.lemmas.Bool.{cases_Bool, ltb-true, ltb-false, ne_eqb}
+use Rattle.ledger_model.specs.Limits.{max_height}
 use Rattle.ledger_model.specs.declared.config.Config.{Config}
 use Rattle.instance.specs.Rows.{Row}
 use Rattle.instance.specs.Reads.{IsSameHeight}
@@ -126,4 +127,4 @@ pub put_keeps : (config : Config) (id : ℕ) (rows : List Row) (place : ℕ) (no
     → AllByRecursion (IsOf config id) (slice_set rows place new) × AreAscending (slice_set rows place new)
 put_keeps config id rows place now new all ascend within value alike same =
     let own = all_there (IsOf config id) rows place now all within value in
-    (all_put (IsOf config id) rows place new all (same.config ∙ own.0, same.id ∙ own.1), ascends_set rows place new (λ row is. alike row is ∙ sym same.height) ascend)
+    (all_put (IsOf config id) rows place new all (same.config ∙ own.0, same.id ∙ own.1, subst (λ n. n ≤ max_height) (sym same.height) own.2), ascends_set rows place new (λ row is. alike row is ∙ sym same.height) ascend)

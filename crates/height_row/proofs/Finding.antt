@@ -1,5 +1,5 @@
 -- The row of a height, by its place in the list.
-use Rattle.std.proofs.Common.{◌≡◌, ℕ, zero, suc, ◌<◌, inl, inr, Bool, true, false, List, [], ◌∷◌, length, get_or, Bor, refl, sym, ap, subst, ◌∙◌, arith, eq-eqb}
+use Rattle.std.proofs.Common.{◌≡◌, ℕ, zero, suc, ◌<◌, ◌≤◌, inl, inr, Bool, true, false, List, [], ◌∷◌, length, get_or, Bor, refl, sym, ap, subst, ◌∙◌, arith, eq-eqb}
 use Rattle.std.specs.Prelude.{◌==◌, nat_lt, Option, Some, None, IfSome, is_some, slice_get, slice_set}
 use Rattle.std.specs.List.{find, position, position_or_len, AllByRecursion}
 use Rattle.std.specs.Option.{option_copied}
@@ -7,6 +7,7 @@ use Rattle.std.proofs.lemmas.Bool.{cases_Bool, eqb-true, ltb-true, ltb-false, fa
 use Rattle.std.proofs.lemmas.List.Folds.{find_at, find-set, find_past}
 use Rattle.std.proofs.lemmas.List.Quantifiers.{position-Some}
 use Rattle.std.proofs.lemmas.Option.{slice_get_past, slice_get_read}
+use Rattle.ledger_model.specs.Limits.{max_height}
 use Rattle.ledger_model.specs.declared.config.Config.{Config}
 use Rattle.ledger_model.specs.declared.statement.Statement.{Statement}
 use Rattle.ledger_model.specs.Notes.{signer_of}
@@ -111,26 +112,22 @@ is_put {rows} {h} {place} new found same =
     let there = row_at-set rows h place found new same in
     record { opened = ap is_some there; only = λ row is. cc (sym there ∙ is); apart = others_stay rows h place found new same }
 
--- what is not found is not open
-pub not_open : (o : Option (Bor Row)) (b : Bool) (found : Option Row) → option_copied o ≡ found → b ≡ is_some o → b ≡ false → found ≡ None
-not_open None b found is tested none = sym is
-not_open (Some x) b found is tested none = absurd (false≢true (sym none ∙ tested))
-
 -- ---- whose they are
 
--- the row is of this cluster and this replica
+-- the row is of this cluster and this replica, at a height that can be opened
 abbrev pub IsOf : Config → ℕ → Row → Type 0
-IsOf config id row = (row.config ≡ config) × (row.id ≡ id)
+IsOf config id row = (row.config ≡ config) × (row.id ≡ id) × (row.height ≤ max_height)
 
+-- and stands for a height that can be opened
 abbrev pub IsOwn : Config → ℕ → ℕ → Row → Type 0
-IsOwn config id h row = (row.config ≡ config) × (row.id ≡ id) × (row.height ≡ h)
+IsOwn config id h row = (row.config ≡ config) × (row.id ≡ id) × (row.height ≡ h) × (h ≤ max_height)
 
 module _ (config : Config) (id : ℕ) where
   pub own_at : (rows : List Row) → AllByRecursion (IsOf config id) rows → (h : ℕ) (row : Row) → row_at rows h ≡ Some row → IsOwn config id h row
   own_at [] all h row is = absurd (cc is)
   own_at (x ∷ xs) all h row is =
       elim (cases_Bool (x.height == h)) [
-        | inl here ↦ (let same : x ≡ row = cc (rw here at is) in subst (IsOwn config id h) same (all.0.0, all.0.1, eqb-true _ _ here))
+        | inl here ↦ (let same : x ≡ row = cc (rw here at is) in let at = eqb-true x.height h here in subst (IsOwn config id h) same (all.0.0, all.0.1, at, subst (λ n. n ≤ max_height) at all.0.2))
         | inr there ↦ own_at xs all.1 h row (rw there at is)
       ]
 

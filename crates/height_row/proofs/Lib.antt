@@ -1,3 +1,5 @@
 pub mod Finding
 pub mod Ascending
 pub mod Placing
+pub mod Opening
+pub mod Turns

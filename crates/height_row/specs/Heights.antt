@@ -1,12 +1,15 @@
 -- The heights that a replica has opened.
 use Rattle.std.specs.List.{AllByRecursion}
-use Rattle.std.specs.Prelude.{◌≡◌, ℕ, ◌+◌, ◌<◌, ◌==◌, nat_lt, slice_get, suc, ◌||◌, List, [], ◌∷◌, Option, Some, None, is_some, Result, if◌then◌else◌}
+use Rattle.std.specs.Prelude.{◌≡◌, ℕ, ◌+◌, ◌<◌, ◌≤◌, ◌==◌, nat_lt, slice_get, suc, ◌||◌, List, [], ◌∷◌, Option, Some, None, is_some, Result, if◌then◌else◌}
 use Rattle.ledger_model.specs.Limits.{max_height, max_ahead}
 use Rattle.ledger_model.specs.declared.config.Config.{Config}
 use Rattle.ledger_model.specs.declared.reply.ProposeRefusal.{ProposeRefusal}
 use Rattle.ledger_model.specs.declared.reply.ProposeRefusal.TheVariants as refusal
 use Rattle.ledger_model.specs.Values.{Value}
 use Rattle.ledger_model.specs.Commits.{first_fault}
+use Rattle.instance.specs.declared.made.Made.{Made}
+use Rattle.instance.specs.declared.plan.Plan.{Plan}
+use Rattle.instance.specs.Plans.{chosen_statement, ended, closed}
 use Rattle.instance.specs.Rows.{Row}
 
 -- a replica of a cluster, and what it keeps of each height that it opened
@@ -51,10 +54,21 @@ AreFound rows = (place : ℕ) (row : Row) → slice_get rows place ≡ Some row 
 abbrev pub AreApart : ℕ → List Row → List Row → Type 0
 AreApart h old new = (other : ℕ) → (other ≡ h → ⊥) → row_at new other ≡ row_at old other
 
--- each height that is open is this replica's, in this cluster
+-- each height that is open is this replica's, in this cluster, and is one that can be opened
 abbrev pub AreOwn : Heights → Type 0
 AreOwn heights =
-    (h : ℕ) (row : Row) → row_at heights.rows h ≡ Some row → (row.config ≡ heights.config) × (row.id ≡ heights.id) × (row.height ≡ h)
+    (h : ℕ) (row : Row) → row_at heights.rows h ≡ Some row
+    → (row.config ≡ heights.config) × (row.id ≡ heights.id) × (row.height ≡ h) × (h ≤ max_height)
+
+-- what is to be done at a height as round c opens
+abbrev pub plan_of : ℕ → Row → Plan
+plan_of c row = record { statement = chosen_statement row c; ending = ended row c }
+
+-- what is kept of each open height once round c is open, where this is made there, in order
+abbrev pub closed_each : ℕ → List Row → List Made → List Row
+closed_each c (row ∷ rows) (m ∷ ms) = closed row c (ended row c) m ∷ closed_each c rows ms
+closed_each c (row ∷ rows) [] = row ∷ rows
+closed_each c [] ms = []
 
 -- it is the same replica's
 pub record IsSameReplica (old new : Heights) : Type 0 where

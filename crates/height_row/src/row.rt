@@ -4,6 +4,7 @@ ghost use Rattle.std.specs.List.{find, position};
 ghost use Rattle.std.specs.Option.{option_copied};
 ghost use Rattle.height_row.specs.Heights.{place_for, AreAscending};
 
+use crate::closing::{Closing, close_each, plan_each};
 use instance::{Ending, Instance, Made, Plan};
 use key_ring::KeyRing;
 use ledger_model::{Batch, Config, Height, Ignored, ProposeRefusal, ReplicaId};
@@ -20,8 +21,9 @@ pub struct HeightRow {
 }
 
 impl Model for HeightRow {
-    ghost use Rattle.std.specs.Prelude.{◌≡◌, ◌<◌, List};
+    ghost use Rattle.std.specs.Prelude.{◌≡◌, ◌<◌, ◌≤◌, List};
     ghost use Rattle.std.specs.List.{AllByRecursion};
+    ghost use Rattle.ledger_model.specs.Limits.{max_height};
     ghost use Rattle.height_row.specs.Heights.{Heights, AreAscending};
 
     ghost Value = { Heights };
@@ -29,7 +31,7 @@ impl Model for HeightRow {
     ghost view = { λ r. record { config = r.config; id = r.id; rows = r.instances.items } };
 
     ghost invariant = { λ r. (r.id < r.config.replicas)
-        × AllByRecursion (λ row. (row.config ≡ r.config) × (row.id ≡ r.id)) r.instances.items
+        × AllByRecursion (λ row. (row.config ≡ r.config) × (row.id ≡ r.id) × (row.height ≤ max_height)) r.instances.items
         × AreAscending r.instances.items };
 }
 
@@ -49,7 +51,7 @@ impl HeightRow {
     ghost use Rattle.instance.specs.Reads.{opened_row, IsSameHeight};
     ghost use Rattle.instance.specs.Plans.{chosen_statement, ended, IsOwnMade};
     ghost use Rattle.instance.specs.Laws.{MayBeSent, MayClose, IsSignedMade, IsLockSentOn, opened_by};
-    ghost use Rattle.height_row.specs.Heights.{row_at, decided_in, open_answer, AreApart, AreAscending, AreFound, AreOwn, IsSameReplica};
+    ghost use Rattle.height_row.specs.Heights.{row_at, decided_in, open_answer, plan_of, closed_each, AreApart, AreAscending, AreFound, AreOwn, IsSameReplica};
     ghost use Rattle.ledger_model.specs.Limits.{last_round, max_height};
 
     /// No height is open yet.
@@ -95,8 +97,26 @@ impl HeightRow {
         self.get(height)?.decided()
     }
 
-    /// Opens a height with the own initial value, `committed` blocks being committed. The refusals are tested in the order
-    /// Closed (0, or above the last), AlreadyOpen, TooFar (more than [`Height::MAX_AHEAD`] above `committed`). They change nothing, nor does want of memory.
+    /// Whether a height may be opened, `committed` blocks being committed. The refusals are tested in the order Closed (0, or
+    /// above the last), AlreadyOpen, TooFar (more than [`Height::MAX_AHEAD`] above `committed`). It takes no memory.
+    pub fn may_open(&self, height: Height, committed: u32) -> Result<(), ProposeRefusal>
+        requires committed { committed ≤ max_height }
+        ensures { result ≡ open_answer self.now.rows committed height }
+    {
+        if height.number() == 0 || Height::MAX < height.number() {
+            return Err(ProposeRefusal::Closed);
+        }
+        if self.get(height).is_some() {
+            return Err(ProposeRefusal::AlreadyOpen);
+        }
+        if committed + Height::MAX_AHEAD < height.number() {
+            return Err(ProposeRefusal::TooFar);
+        }
+        Ok(())
+    }
+
+    /// Opens a height with the own initial value, `committed` blocks being committed, unless [`HeightRow::may_open`] refuses it.
+    /// A refusal changes nothing, nor does want of memory.
     pub fn open(
         &mut self,
         alloc: Global,
@@ -116,15 +136,8 @@ impl HeightRow {
         ensures same { IsSameReplica self.old self.new }
         ensures own { AreOwn self.new }
     {
-        let is_open = self.get(height).is_some();
-        if height.number() == 0 || Height::MAX < height.number() {
-            return Ok(Err(ProposeRefusal::Closed));
-        }
-        if is_open {
-            return Ok(Err(ProposeRefusal::AlreadyOpen));
-        }
-        if committed + Height::MAX_AHEAD < height.number() {
-            return Ok(Err(ProposeRefusal::TooFar));
+        if let Err(refusal) = self.may_open(height, committed) {
+            return Ok(Err(refusal));
         }
         let instance = Instance::open(alloc, &self.config, self.id, height, initial)?;
         let place = count_below(&self.instances, height);
@@ -201,6 +214,18 @@ impl HeightRow {
         self.instances[place].plan_end(alloc, clock)
     }
 
+    /// The same at each open height, in order.
+    pub fn plan_ends(&self, alloc: Global, clock: u32) -> Result<Vec<Plan>, AllocError>
+        requires clock { clock < last_round }
+        ensures plans { IfOk result (λ plans. plans.items ≡ map (plan_of (clock + 1)) self.now.rows) }
+        // The statements can be spelled, whatever log there is.
+        ensures spelled { IfOk result (λ plans. AllByRecursion (λ plan. IfSome plan.statement IsStatement) plans.items) }
+        ensures ascend { AreAscending self.now.rows }
+        ensures own { AreOwn self.now }
+    {
+        plan_each(alloc, &self.instances, clock)
+    }
+
     /// Opens the next round at an open height: puts in place what was prepared for its end, and what of its own the replica
     /// makes in it. It takes no memory.
     pub fn close(&mut self, height: Height, ending: Ending, made: Made, clock: u32)
@@ -219,6 +244,19 @@ impl HeightRow {
     {
         let place = self.position(height);
         self.instances[place].close(ending, made, clock);
+    }
+
+    /// Opens the next round at each open height, in order, as [`HeightRow::close`] does at one. It takes no memory.
+    pub fn close_all(&mut self, closings: Vec<Closing>, clock: u32)
+        requires clock { clock < last_round }
+        requires endings { map (λ c. c.ending) closings.items ≡ map (λ row. ended row (clock + 1)) self.old.rows }
+        requires own { AllByRecursion (λ c. IsOwnMade self.old.id c.made) closings.items }
+        ensures rows { self.new.rows ≡ closed_each (clock + 1) self.old.rows (map (λ c. c.made) closings.items) }
+        ensures ascend { AreAscending self.new.rows }
+        ensures same { IsSameReplica self.old self.new }
+        ensures own { AreOwn self.new }
+    {
+        close_each(&mut self.instances, closings, clock);
     }
 }
 

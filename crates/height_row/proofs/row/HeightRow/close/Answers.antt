@@ -1,5 +1,6 @@
-use Rattle.std.proofs.Common.{sym, subst, ◌∙◌, arith}
+use Rattle.std.proofs.Common.{◌≤◌, sym, subst, ◌∙◌, arith}
 use Rattle.instance.specs.Plans.{IsOwnMade}
+use Rattle.ledger_model.specs.Limits.{max_height}
 use Rattle.height_row.proofs.Finding.{all_there, place_within, is_held, is_put, own_put}
 use Rattle.height_row.proofs.Ascending.{put_keeps}
 use Rattle.height_row.proofs.row.HeightRow.close.Goals as goal
@@ -47,7 +48,7 @@ returns-clause-own c =
     let old = is_held c.index_mut.result.now found c.index_mut.ensures.value in
     let same = all_there _ c.self.inside.instances.items c.position-place.result c.index_mut.result.now c.self.invariant.1 old.within c.index_mut.ensures.value in
     own_put _ _ c.self.inside.instances.items c.args.height c.position-place.result c.close.new.self c.self.invariant.1 found
-    (c.close.ensures.same.config ∙ same.0, c.close.ensures.same.id ∙ same.1, c.close.ensures.same.height ∙ old.height)
+    (c.close.ensures.same.config ∙ same.0, c.close.ensures.same.id ∙ same.1, c.close.ensures.same.height ∙ old.height, subst (λ n. n ≤ max_height) old.height same.2)
 
 pub invariant_of-self : goal.invariant_of-self
 invariant_of-self c =

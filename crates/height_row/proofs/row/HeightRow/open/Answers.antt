@@ -1,6 +1,7 @@
 use Rattle.std.proofs.Common.{◌≡◌, Some, length, sym, ap, ◌∙◌, arith}
 use Rattle.height_row.specs.Heights.{place_for}
-use Rattle.height_row.proofs.Finding.{not_open, own_at, IsOf}
+use Rattle.height_row.proofs.Finding.{own_at, IsOf}
+use Rattle.height_row.proofs.Opening.{may_be_opened}
 use Rattle.height_row.proofs.Ascending.{inserted_at, place_within, all_with, found_new, others_found, ascends_with}
 use Rattle.height_row.proofs.row.HeightRow.open.Goals as goal
 
@@ -17,26 +18,26 @@ insert-requires c =
 pub invariant_of-self-2 : goal.invariant_of-self-2
 invariant_of-self-2 c =
     let rows = c.self.inside.instances.items in
-    let none = not_open c.get.result c.is_some-is_open.result _ (rw (sym c.self.view_is) at c.get.ensures.row) c.is_some-is_open.ensures c.if-is_open.false in
+    let may = may_be_opened c.self.inside.instances.items c.args.committed c.args.height (sym (rw (sym c.self.view_is) at c.in_default.ensures)) in
     let is = c.in_ok-instance.ensures.row in
     rw (inserted_at c.self.inside.instances.items _ _ c.args.height _ _ c.in_ok-insert.ensures.items c.count_below-place.ensures c.deref.ensures.value) (
       c.self.invariant.0,
-      all_with c.in_ok-instance.instance c.args.height (ap (λ row. row.height) is) (IsOf c.self.inside.config c.self.inside.id) rows c.self.invariant.1 (ap (λ row. row.config) is, ap (λ row. row.id) is),
-      ascends_with c.in_ok-instance.instance c.args.height (ap (λ row. row.height) is) rows c.self.invariant.2 none,
+      all_with c.in_ok-instance.instance c.args.height (ap (λ row. row.height) is) (IsOf c.self.inside.config c.self.inside.id) rows c.self.invariant.1 (ap (λ row. row.config) is, ap (λ row. row.id) is, rw (ap (λ row. row.height) is) may.high),
+      ascends_with c.in_ok-instance.instance c.args.height (ap (λ row. row.height) is) rows c.self.invariant.2 may.none,
     )
 
 pub returns-clause-opened : goal.returns-clause-opened
 returns-clause-opened c =
-    let none = not_open c.get.result c.is_some-is_open.result _ (rw (sym c.self.view_is) at c.get.ensures.row) c.is_some-is_open.ensures c.if-is_open.false in
+    let may = may_be_opened c.self.inside.instances.items c.args.committed c.args.height (sym (rw (sym c.self.view_is) at c.in_default.ensures)) in
     let height = ap (λ row. row.height) c.in_ok-instance.ensures.row in
     rw (inserted_at c.self.inside.instances.items _ _ c.args.height _ _ c.in_ok-insert.ensures.items c.count_below-place.ensures c.deref.ensures.value, sym c.self.view_is)
-    (found_new c.in_ok-instance.instance c.args.height height c.self.inside.instances.items none ∙ ap Some c.in_ok-instance.ensures.row)
+    (found_new c.in_ok-instance.instance c.args.height height c.self.inside.instances.items may.none ∙ ap Some c.in_ok-instance.ensures.row)
 
 pub returns-clause-matches : goal.returns-clause-matches
 returns-clause-matches c row is ring log before =
-    let none = not_open c.get.result c.is_some-is_open.result _ (rw (sym c.self.view_is) at c.get.ensures.row) c.is_some-is_open.ensures c.if-is_open.false in
+    let may = may_be_opened c.self.inside.instances.items c.args.committed c.args.height (sym (rw (sym c.self.view_is) at c.in_default.ensures)) in
     let height = ap (λ row. row.height) c.in_ok-instance.ensures.row in
-    let there = found_new c.in_ok-instance.instance c.args.height height c.self.inside.instances.items none in
+    let there = found_new c.in_ok-instance.instance c.args.height height c.self.inside.instances.items may.none in
     let same : c.in_ok-instance.instance ≡ row = cc (sym there ∙ (rw (inserted_at c.self.inside.instances.items _ _ c.args.height _ _ c.in_ok-insert.ensures.items c.count_below-place.ensures c.deref.ensures.value) at is)) in
     rw (sym same) (c.in_ok-instance.ensures.matches ring log before)
 
@@ -47,10 +48,17 @@ returns-clause-apart c other differs =
 
 pub returns-clause-own : goal.returns-clause-own
 returns-clause-own c =
+    let may = may_be_opened c.self.inside.instances.items c.args.committed c.args.height (sym (rw (sym c.self.view_is) at c.in_default.ensures)) in
     let is = c.in_ok-instance.ensures.row in
     let all = all_with c.in_ok-instance.instance c.args.height (ap (λ row. row.height) is) (IsOf c.self.inside.config c.self.inside.id) c.self.inside.instances.items c.self.invariant.1
-    (ap (λ row. row.config) is, ap (λ row. row.id) is) in
+    (ap (λ row. row.config) is, ap (λ row. row.id) is, rw (ap (λ row. row.height) is) may.high) in
     rw (inserted_at c.self.inside.instances.items _ _ c.args.height _ _ c.in_ok-insert.ensures.items c.count_below-place.ensures c.deref.ensures.value) (own_at c.self.inside.config c.self.inside.id _ all)
 
 pub returns-in_err-insert-clause-own : goal.returns-in_err-insert-clause-own
 returns-in_err-insert-clause-own c = rw (c.in_err-insert.ensures.items) (own_at _ _ c.self.inside.instances.items c.self.invariant.1)
+
+pub returns-in-Err-clause-own : goal.returns-in-Err-clause-own
+returns-in-Err-clause-own c = rw (sym c.self.view_is) (own_at _ _ c.self.inside.instances.items c.self.invariant.1)
+
+pub returns-in_err-instance-clause-own : goal.returns-in_err-instance-clause-own
+returns-in_err-instance-clause-own c = rw (sym c.self.view_is) (own_at _ _ c.self.inside.instances.items c.self.invariant.1)

@@ -1,6 +1,7 @@
-use Rattle.std.proofs.Common.{◌≡◌, sym, ap, ◌∙◌, arith}
+use Rattle.std.proofs.Common.{◌≡◌, ◌≤◌, sym, subst, ap, ◌∙◌, arith}
 use Rattle.std.proofs.lemmas.Result.{IfOk-weaker}
 use Rattle.ledger_model.specs.Logs.{height_of}
+use Rattle.ledger_model.specs.Limits.{max_height}
 use Rattle.height_row.proofs.Finding.{all_there, place_within, is_held, is_put, own_put}
 use Rattle.height_row.proofs.Ascending.{put_keeps}
 use Rattle.height_row.proofs.row.HeightRow.read.Goals as goal
@@ -61,7 +62,7 @@ returns-clause-own c =
     let held = is_held c.index_mut.result.now found c.index_mut.ensures.value in
     let same = all_there _ c.self.inside.instances.items c.position-place.result c.index_mut.result.now c.self.invariant.1 held.within c.index_mut.ensures.value in
     own_put _ _ c.self.inside.instances.items _ c.position-place.result c.read.new.self c.self.invariant.1 found
-    (c.read.ensures.same.config ∙ same.0, c.read.ensures.same.id ∙ same.1, c.read.ensures.same.height ∙ held.height)
+    (c.read.ensures.same.config ∙ same.0, c.read.ensures.same.id ∙ same.1, c.read.ensures.same.height ∙ held.height, subst (λ n. n ≤ max_height) held.height same.2)
 
 pub invariant_of-self : goal.invariant_of-self
 invariant_of-self c =

@@ -1,0 +1,45 @@
+//! What is done at each open height as a round opens.
+ghost use Rattle.std.specs.Prelude.{◌≡◌, ◌<◌, ◌≤◌, ◌+◌, map, IfOk, IfSome};
+ghost use Rattle.std.specs.List.{AllByRecursion};
+ghost use Rattle.ledger_model.specs.Limits.{last_round};
+ghost use Rattle.ledger_model.specs.Spelling.{IsStatement};
+ghost use Rattle.height_row.specs.Closings.{AreClosings};
+ghost use Rattle.height_row.specs.Heights.{plan_of, closed_each};
+
+use instance::{Ending, Instance, Made, Plan};
+use std::alloc::{AllocError, Global};
+
+/// What is done at one open height as a round opens: what was prepared, and what of its own the replica makes.
+#[derive(Drop)]
+pub struct Closing {
+    pub ending: Ending,
+    pub made: Made,
+}
+
+/// What is to be done at each height as the next round opens, in order.
+pub(crate) fn plan_each(
+    alloc: Global,
+    instances: &[Instance],
+    clock: u32,
+) -> Result<Vec<Plan>, AllocError>
+    requires clock { clock < last_round }
+    ensures plans { IfOk result (λ plans. plans.items ≡ map (plan_of (clock + 1)) instances.now) }
+    ensures spelled { IfOk result (λ plans. AllByRecursion (λ plan. IfSome plan.statement IsStatement) plans.items) }
+{
+    let mut plans = Vec::with_capacity(alloc, instances.len())?;
+    for instance in instances {
+        plans.push(instance.plan_end(alloc, clock)?)?;
+    }
+    Ok(plans)
+}
+
+/// Opens the next round at each height, in order. It takes no memory.
+pub(crate) fn close_each(instances: &mut [Instance], closings: Vec<Closing>, clock: u32)
+    requires clock { clock < last_round }
+    requires closings { AreClosings (clock + 1) instances.old closings.items }
+    ensures { instances.new ≡ closed_each (clock + 1) instances.old (map (λ c. c.made) closings.items) }
+{
+    for (place, closing) in closings.into_iter().enumerate() {
+        instances[place].close(closing.ending, closing.made, clock);
+    }
+}

@@ -1,0 +1,102 @@
+-- A round end at which what is chosen is signed, and a mute one: each is a step.
+use Rattle.std.proofs.Common.{◌≡◌, ℕ, ◌+◌, ◌<◌, Bool, true, false, List, [], ◌∷◌, refl, sym, ap, subst, ◌∙◌}
+use Rattle.std.specs.Prelude.{Some, IsTrue, slice_get}
+use Rattle.std.specs.List.{AllByRecursion}
+use Rattle.ledger_model.specs.Limits.{last_round}
+use Rattle.ledger_model.specs.declared.event.Event.TheVariants as event
+use Rattle.ledger_model.specs.declared.history.Entry.{Entry}
+use Rattle.ledger_model.specs.declared.statement.SignedStatement.{SignedStatement}
+use Rattle.ledger_model.specs.Spelling.{statement_bytes}
+use Rattle.ledger_model.specs.Notes.{signer_of}
+use Rattle.ledger_model.specs.Logs.{log_of}
+use Rattle.ledger_model.specs.Rules.{Ring, is_signed, is_signed_by}
+use Rattle.lms_tree.specs.Trees.{Secret}
+use Rattle.key_ring.specs.Signers.{key_of}
+use Rattle.instance.specs.declared.made.Made.{Made}
+use Rattle.instance.specs.declared.made.Made.TheVariants as made
+use Rattle.instance.specs.Rows.{Row}
+use Rattle.instance.specs.Plans.{MaySend, chosen_statement}
+use Rattle.instance.specs.Laws.{IsFrameMade}
+use Rattle.instance.proofs.MaySend.{own_allowed}
+use Rattle.instance.proofs.AtClock.{chooses_at}
+use Rattle.replica_core.specs.Holding.{Held, IsHeld, Matches}
+use Rattle.replica_core.specs.RoundEnds.{AreMade, after_end, SignsFrom}
+use Rattle.replica_core.specs.Steps.{IsStep}
+use Rattle.replica_core.specs.ChosenEnds.{all_mute, IsVerifiedMade, IsFrameUnder, end_reply, MuteEnds, SignedEnds}
+use Rattle.replica_core.proofs.Elements.{each_weaker}
+use Rattle.replica_core.proofs.AscendingRows.{each_found}
+use Rattle.replica_core.proofs.RoundsEnd.{rounds_end}
+use Rattle.replica_core.proofs.UsedLeaves.{mute_leaves, signed_leaves}
+
+-- an end at which this may be made after each history that is matched is a step
+end_step : (held : Held) (mute : Bool) (ms : List Made) → IsHeld held → held.clock < last_round → (held.mute ≡ true → mute ≡ true)
+    → ((entries : List Entry) → Matches held entries → AreMade held.ring mute (held.clock + 1) held.rows ms)
+    → IsStep held event.RoundEnd (end_reply held mute ms) (after_end held mute ms)
+end_step held mute ms is_held early still are_made entries matches =
+    let end = (rounds_end held mute ms entries is_held early matches still (are_made entries matches)).0 in
+    ((subst (λ n. n < last_round) (sym matches.clock) early, end.lawful), end.signed, end.matches)
+
+-- ---- a mute end
+
+-- a mute replica may make nothing
+none_made : (ring : Ring) (c : ℕ) (rows : List Row) → AreMade ring true c rows (all_mute rows)
+none_made ring c [] = tt
+none_made ring c (row ∷ rows) = (record { silent = refl; may = tt; own = tt; signed = tt; frame = tt }, none_made ring c rows)
+
+-- an end of a round at which the replica is mute is a step, and uses no leaf
+pub mute_ends : MuteEnds
+mute_ends held is_held early = (
+  end_step held true (all_mute held.rows) is_held early (λ was. refl) (λ entries matches. none_made held.ring (held.clock + 1) held.rows),
+  mute_leaves held,
+)
+
+-- ---- one at which what is chosen is signed
+
+module _ (ring : Ring) (id : ℕ) (key : List ℕ) (in_ring : slice_get ring id ≡ Some key) (secret : Secret) (c : ℕ) where
+  -- the height is the replica's, and what is chosen there may be sent
+  abbrev HasChoice : Row → Type 0
+  HasChoice row = (row.id ≡ id) × MaySend row c (chosen_statement row c)
+
+  -- what verifies under the replica's own key is signed by the ring
+  signed_by_ring : (f : SignedStatement) → signer_of f.statement ≡ id → IsVerifiedMade key (made.Sent f) → IsTrue (is_signed ring f)
+  signed_by_ring f signer verified =
+      ap (λ n. is_signed_by (slice_get ring n) (statement_bytes f.statement) f.signature) signer
+      ∙ ap (λ o. is_signed_by o (statement_bytes f.statement) f.signature) in_ring
+      ∙ verified
+
+  -- what is chosen and signed may be made
+  chosen_made : (leaf : ℕ) (rows : List Row) (ms : List Made) → AllByRecursion HasChoice rows → SignsFrom secret leaf c rows ms
+      → AllByRecursion (IsFrameUnder key) ms → AreMade ring false c rows ms
+  chosen_made leaf [] [] choices signs verified = tt
+  chosen_made leaf [] (m ∷ ms) choices signs verified = absurd signs
+  chosen_made leaf (row ∷ rows) [] choices signs verified = absurd signs
+  chosen_made leaf (row ∷ rows) (made.Mute ∷ ms) choices signs verified = absurd signs
+  chosen_made leaf (row ∷ rows) (made.Unsent ∷ ms) choices signs verified = (
+    record { silent = refl; may = subst (MaySend row c) signs.0 choices.0.1; own = tt; signed = tt; frame = tt },
+    chosen_made leaf rows ms choices.1 signs.1 verified.1,
+  )
+  chosen_made leaf (row ∷ rows) (made.Sent f ∷ ms) choices signs verified =
+      let may = subst (MaySend row c) signs.0 choices.0.1 in
+      let own = (own_allowed row c f.statement may).signer in (
+        record { silent = refl; may = may; own = own; signed = signed_by_ring f (own ∙ choices.0.0) verified.0.1; frame = verified.0.0 },
+        chosen_made (leaf + 1) rows ms choices.1 signs.2 verified.1,
+      )
+
+-- what is chosen at each open height may be sent, after each history that is matched
+choices : (held : Held) (entries : List Entry) → IsHeld held → Matches held entries
+    → AllByRecursion (λ row. (row.id ≡ held.id) × MaySend row (held.clock + 1) (chosen_statement row (held.clock + 1))) held.rows
+choices held entries is_held matches =
+    each_found (λ row. (row.id ≡ held.id) × MaySend row (held.clock + 1) (chosen_statement row (held.clock + 1))) held.rows is_held.ascend
+    (λ h row is. (
+      (is_held.own h row is).id,
+      chooses_at held.ring row (log_of held.config held.id h entries) held.clock (matches.opened h row is) (matches.clocks h),
+    ))
+
+-- an end at which what is chosen is signed is a step, and uses a leaf for each statement that is due
+pub signed_ends : SignedEnds
+signed_ends held keys ms is_held early loud in_ring signs verified = (
+  end_step held false ms is_held early (λ was. sym loud ∙ was)
+      (λ entries matches. chosen_made held.ring held.id (key_of keys.secret) in_ring keys.secret (held.clock + 1) keys.used held.rows ms
+      (choices held entries is_held matches) signs verified),
+  signed_leaves held keys ms signs (each_weaker (IsFrameUnder (key_of keys.secret)) IsFrameMade ms (λ m is. is.0) verified),
+)

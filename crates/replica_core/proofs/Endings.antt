@@ -1,0 +1,121 @@
+-- What is done at each height as a round opens, as lists in the order of the heights.
+use Rattle.std.proofs.Common.{◌≡◌, ℕ, ◌+◌, Bool, List, [], ◌∷◌, inl, inr, refl, sym, ap, subst, ◌∙◌, arith}
+use Rattle.std.proofs.Math.Dec.{ltb}
+use Rattle.std.proofs.lemmas.Bool.{cases_lt, lt-ltb, le-ltb}
+use Rattle.ledger_model.specs.Limits.{last_round}
+use Rattle.ledger_model.specs.Logs.{notes_of}
+use Rattle.std.specs.Prelude.{map, Some, Result, Ok, Err, IfOk}
+use Rattle.std.specs.declared.alloc.AllocError.{AllocError}
+use Rattle.ledger_model.specs.declared.event.Event.TheVariants as event
+use Rattle.ledger_model.specs.declared.reply.Reply.TheVariants as reply
+use Rattle.ledger_model.specs.declared.reply.RoundEnded.{RoundEnded}
+use Rattle.key_ring.specs.Signers.{Keys}
+use Rattle.std.specs.List.{AllByRecursion}
+use Rattle.std.specs.Option.{IfSome}
+use Rattle.ledger_model.specs.declared.statement.Statement.{Statement}
+use Rattle.ledger_model.specs.Notes.{signer_of}
+use Rattle.lms_tree.specs.Trees.{Secret}
+use Rattle.instance.specs.declared.made.Made.{Made}
+use Rattle.instance.specs.declared.made.Made.TheVariants as made
+use Rattle.instance.specs.declared.plan.Plan.{Plan}
+use Rattle.instance.specs.Rows.{Row}
+use Rattle.instance.specs.Plans.{chosen_statement, ended, IsOwnMade, IsOwnStatement}
+use Rattle.instance.proofs.SpelledPlans.{chosen_own_statement}
+use Rattle.height_row.specs.declared.closing.Closing.{Closing}
+use Rattle.height_row.specs.Heights.{plan_of}
+use Rattle.replica_core.specs.Holding.{Held, IsHeld}
+use Rattle.replica_core.specs.RoundEnds.{round_ended, after_end, SignsFrom}
+use Rattle.replica_core.specs.Steps.{IsStep, UsesLeaves}
+use Rattle.replica_core.specs.ChosenEnds.{all_mute, end_reply}
+use Rattle.replica_core.proofs.AscendingRows.{each_found}
+use Rattle.replica_core.proofs.Quiet.{unheard}
+
+-- what holds of each image
+pub all_images : {X Y : Type 0} (P : Y → Type 0) (f : X → Y) (xs : List X) → AllByRecursion (λ x. P (f x)) xs → AllByRecursion P (map f xs)
+all_images P f [] all = tt
+all_images P f (x ∷ xs) all = (all.0, all_images P f xs all.1)
+
+pub of_images : {X Y : Type 0} (P : Y → Type 0) (f : X → Y) (xs : List X) → AllByRecursion P (map f xs) → AllByRecursion (λ x. P (f x)) xs
+of_images P f [] all = tt
+of_images P f (x ∷ xs) all = (all.0, of_images P f xs all.1)
+
+-- what holds of each holds of each together
+pub all_both : {X : Type 0} (P Q : X → Type 0) (xs : List X) → AllByRecursion P xs → AllByRecursion Q xs → AllByRecursion (λ x. P x × Q x) xs
+all_both P Q [] ps qs = tt
+all_both P Q (x ∷ xs) ps qs = ((ps.0, qs.0), all_both P Q xs ps.1 qs.1)
+
+-- each height ends as it is planned
+pub planned_ends : (c : ℕ) (rows : List Row) → map (λ (p : Plan). p.ending) (map (plan_of c) rows) ≡ map (λ row. ended row c) rows
+planned_ends c [] = refl
+planned_ends c (row ∷ rows) = ap (λ es. ended row c ∷ es) (planned_ends c rows)
+
+-- ---- a mute replica
+
+-- it makes nothing at each height
+pub mades_mute : (c : ℕ) (rows : List Row) (closings : List Closing) → map (λ x. x.ending) closings ≡ map (λ row. ended row c) rows
+    → AllByRecursion (λ x. x.made ≡ made.Mute) closings → map (λ x. x.made) closings ≡ all_mute rows
+mades_mute c [] [] endings mute = refl
+mades_mute c [] (x ∷ closings) endings mute = absurd cc
+mades_mute c (row ∷ rows) [] endings mute = absurd cc
+mades_mute c (row ∷ rows) (x ∷ closings) endings mute =
+    let rest : map (λ x. x.ending) closings ≡ map (λ row. ended row c) rows = cc in
+    rw mute.0 (ap (λ ms. made.Mute ∷ ms) (mades_mute c rows closings rest mute.1))
+
+-- nothing is the replica's own
+pub mute_own : (id : ℕ) (closings : List Closing) → AllByRecursion (λ x. x.made ≡ made.Mute) closings → AllByRecursion (λ x. IsOwnMade id x.made) closings
+mute_own id [] mute = tt
+mute_own id (x ∷ closings) mute = (rw mute.0 tt, mute_own id closings mute.1)
+
+-- ---- one that signs
+
+-- what is chosen is the replica's own
+chosen_own : (row : Row) (c id : ℕ) (s : Statement) → row.id ≡ id → chosen_statement row c ≡ Some s → signer_of s ≡ id
+chosen_own row c id s same is = (subst (λ o. IfSome o (IsOwnStatement row)) is (chosen_own_statement row c)).signer ∙ same
+
+-- each statement that is signed is its own
+pub signs_own : (secret : Secret) (leaf c id : ℕ) (rows : List Row) (ms : List Made) → AllByRecursion (λ row. row.id ≡ id) rows → SignsFrom secret leaf c rows ms → AllByRecursion (IsOwnMade id) ms
+signs_own secret leaf c id [] [] ids signs = tt
+signs_own secret leaf c id [] (m ∷ ms) ids signs = absurd signs
+signs_own secret leaf c id (row ∷ rows) [] ids signs = absurd signs
+signs_own secret leaf c id (row ∷ rows) (made.Mute ∷ ms) ids signs = absurd signs
+signs_own secret leaf c id (row ∷ rows) (made.Unsent ∷ ms) ids signs = (tt, signs_own secret leaf c id rows ms ids.1 signs.1)
+signs_own secret leaf c id (row ∷ rows) (made.Sent f ∷ ms) ids signs =
+    (chosen_own row c id f.statement ids.0 signs.0, signs_own secret (leaf + 1) c id rows ms ids.1 signs.2)
+
+-- each open height is the replica's
+pub each_own : (held : Held) → IsHeld held → AllByRecursion (λ row. row.id ≡ held.id) held.rows
+each_own held is_held = each_found (λ row. row.id ≡ held.id) held.rows is_held.ascend (λ h row at. (is_held.own h row at).id)
+
+-- ---- what is answered
+
+-- the end that is answered is a step
+pub step_told : (held new : Held) (mute : Bool) (ms : List Made) (result : Result RoundEnded AllocError) → IfOk result (λ r. r ≡ round_ended held mute ms)
+    → IfOk result (λ _. new ≡ after_end held mute ms) → IsStep held event.RoundEnd (end_reply held mute ms) (after_end held mute ms)
+    → IfOk result (λ r. IsStep held event.RoundEnd (reply.RoundEnded (Ok r)) new)
+step_told held new mute ms (Ok r) is after step =
+    subst (λ n. IsStep held event.RoundEnd (reply.RoundEnded (Ok r)) n) (sym after)
+    (subst (λ x. IsStep held event.RoundEnd (reply.RoundEnded (Ok x)) (after_end held mute ms)) (sym is) step)
+step_told held new mute ms (Err e) is after step = tt
+
+-- and its leaves are used
+pub leaves_told : (held : Held) (keys new : Keys) (mute : Bool) (ms : List Made) (result : Result RoundEnded AllocError) → IfOk result (λ r. r ≡ round_ended held mute ms)
+    → UsesLeaves keys held.clock (end_reply held mute ms) new → IfOk result (λ r. UsesLeaves keys held.clock (reply.RoundEnded (Ok r)) new)
+leaves_told held keys new mute ms (Ok r) is uses = subst (λ x. UsesLeaves keys held.clock (reply.RoundEnded (Ok x)) new) (sym is) uses
+leaves_told held keys new mute ms (Err e) is uses = tt
+
+-- fewer leaves are left than are due just where the leaves are fewer than those used and those due
+pub short_of : (left due leaves used : ℕ) → used + left ≡ leaves → ltb left due ≡ ltb leaves (used + due)
+short_of left due leaves used all =
+    elim (cases_lt left due) [
+      | inl fewer ↦ lt-ltb left due fewer ∙ sym (lt-ltb leaves (used + due) (omega (arith, all, fewer)))
+      | inr enough ↦ le-ltb left due enough ∙ sym (le-ltb leaves (used + due) (omega (arith, all, enough)))
+    ]
+
+-- no round is left
+pub over : (held : Held) → held.clock ≡ last_round → IsStep held event.RoundEnd (reply.RoundEnded (Err (record {}))) held
+unfolding notes_of
+over held last entries matches = (
+  matches.clock ∙ last,
+  refl,
+  unheard held entries (record { event = event.RoundEnd; reply = reply.RoundEnded (Err (record {})) }) matches refl refl refl held.pool refl (λ h. refl),
+)

@@ -1,0 +1,94 @@
+-- The next block is run.
+use Rattle.std.proofs.Common.{◌≡◌, ℕ, ◌+◌, Bool, true, false, List, [], ◌∷◌, ◌++◌, length, refl, sym, ap, subst, ◌∙◌, arith}
+use Rattle.std.specs.Prelude.{◌||◌, Option, Some, None, Result, Ok, Err}
+use Rattle.ledger_model.specs.declared.event.Event.TheVariants as event
+use Rattle.ledger_model.specs.declared.history.Entry.{Entry}
+use Rattle.ledger_model.specs.declared.reply.BlockResult.{BlockResult}
+use Rattle.ledger_model.specs.declared.reply.NothingDecided.{NothingDecided}
+use Rattle.ledger_model.specs.declared.reply.Reply.TheVariants as reply
+use Rattle.ledger_model.specs.Values.{Value}
+use Rattle.ledger_model.specs.Notes.{clock_of}
+use Rattle.ledger_model.specs.Logs.{log_of, notes_of, is_mute}
+use Rattle.ledger_model.specs.Replies.{block_reply}
+use Rattle.ledger_model.specs.Commits.{executed, decided_at, commits_of, pool_of, pool_step, pool_after_block, last_block, block_of, execute_reply}
+use Rattle.instance.specs.Matching.{Matches as MatchesAt, only_rounds}
+use Rattle.replica_core.specs.Holding.{Held, IsOneCluster, Matches}
+use Rattle.replica_core.specs.Steps.{IsStep, next_decided, execute_held, with_block, after_execute}
+use Rattle.replica_core.proofs.Histories.{pool_more, clock_more, mute_more, count_commits, commits_more, blocks_more}
+use Rattle.replica_core.proofs.Quiet.{log_stays, unheard}
+use Rattle.replica_core.proofs.Unopened.{decided_there}
+
+-- the last of the batches is the one that was put behind them
+last_of : (vs : List Value) (v : Value) → last_block (vs ++ v ∷ []) ≡ v
+last_of [] v = refl
+last_of (w ∷ []) v = refl
+last_of (w ∷ x ∷ vs) v = last_of (x ∷ vs) v
+
+module _ (held : Held) (one : IsOneCluster held) (entries : List Entry) (matches : Matches held entries) where
+  -- the height after the committed ones is decided by what is kept as by the history
+  decided_next : next_decided held ≡ decided_at held.config held.id entries (length (commits_of held.config held.id entries) + 1)
+  decided_next =
+      decided_there held entries matches one (length held.commits + 1)
+      ∙ ap (λ vs. decided_at held.config held.id entries (length vs + 1)) (sym matches.commits)
+
+  -- what is answered by what is kept is what is answered by the history
+  answered : execute_held held ≡ execute_reply held.config held.id entries
+  unfolding execute_reply
+  answered =
+      ap (block_of held.config held.commits) decided_next
+      ∙ ap (λ vs. block_of held.config vs (decided_at held.config held.id entries (length (commits_of held.config held.id entries) + 1))) (sym matches.commits)
+
+  -- nothing is decided
+  unchanged : Matches held (entries ++ record { event = event.Execute; reply = reply.Executed (Err (record {})) } ∷ [])
+  unfolding notes_of
+  unchanged = unheard held entries (record { event = event.Execute; reply = reply.Executed (Err (record {})) }) matches refl refl refl held.pool refl (λ h. refl)
+
+  -- a block is run
+  with_one : (v : Value) (b : BlockResult) → next_decided held ≡ Some v
+      → Matches (with_block held v) (entries ++ record { event = event.Execute; reply = reply.Executed (Ok b) } ∷ [])
+  unfolding notes_of
+  with_one v b is = record {
+    clock = clock_more entries entry ∙ (let c = matches.clock in omega (arith, c));
+    clocks = λ h. ap clock_of (same h) ∙ matches.clocks h;
+    opened = λ h row at. subst (λ l. MatchesAt held.ring row l) (sym (same h)) (matches.opened h row at);
+    unopened = λ h none. ap only_rounds (same h) ∙ matches.unopened h none;
+    pool =
+        pool_more held.config held.id entries entry
+        ∙ ap (λ vs. pool_step held.config vs (pool_of held.config held.id entries) event.Execute (reply.Executed (Ok b))) commits
+        ∙ ap (λ p. pool_step held.config (held.commits ++ v ∷ []) p event.Execute (reply.Executed (Ok b))) matches.pool
+        ∙ ap (λ w. pool_after_block held.config (held.commits ++ v ∷ []) w held.pool) (last_of held.commits v);
+    commits = commits;
+    blocks = blocks_more held.config held.id entries entry v matches.blocks refl decided;
+    mute = mute_more entries entry ∙ or_false (is_mute entries) ∙ matches.mute;
+  }
+    where
+      entry : Entry
+      entry = record { event = event.Execute; reply = reply.Executed (Ok b) }
+
+      same : (h : ℕ) → log_of held.config held.id h (entries ++ entry ∷ []) ≡ log_of held.config held.id h entries
+      same h = log_stays held entries entry h refl
+
+      decided : decided_at held.config held.id entries (executed entries + 1) ≡ Some v
+      decided = ap (λ n. decided_at held.config held.id entries (n + 1)) (sym (count_commits held.config held.id entries matches.blocks)) ∙ sym decided_next ∙ is
+
+      commits : commits_of held.config held.id (entries ++ entry ∷ []) ≡ held.commits ++ v ∷ []
+      commits = commits_more held.config held.id entries entry v matches.blocks refl decided ∙ ap (λ vs. vs ++ v ∷ []) matches.commits
+
+      or_false : (b : Bool) → (b || false) ≡ b
+      or_false true = refl
+      or_false false = refl
+
+-- the next block is run, or nothing is decided
+pub executes : (held : Held) (answer : Result BlockResult NothingDecided) → IsOneCluster held → answer ≡ execute_held held
+    → IsStep held event.Execute (reply.Executed answer) (after_execute held (next_decided held))
+executes held answer one is entries matches = (
+  is ∙ answered held one entries matches,
+  refl,
+  by (next_decided held) refl answer is,
+)
+  where
+    by : (o : Option Value) → next_decided held ≡ o → (a : Result BlockResult NothingDecided) → a ≡ execute_held held
+        → Matches (after_execute held o) (entries ++ record { event = event.Execute; reply = reply.Executed a } ∷ [])
+    by None none a e = subst (λ x. Matches held (entries ++ record { event = event.Execute; reply = reply.Executed x } ∷ [])) (sym (e ∙ ap (block_of held.config held.commits) none)) (unchanged held one entries matches)
+    by (Some v) some a e = subst (λ x. Matches (with_block held v) (entries ++ record { event = event.Execute; reply = reply.Executed x } ∷ [])) (sym (e ∙ ap (block_of held.config held.commits) some))
+        (with_one held one entries matches v (block_reply held.config.kind held.commits v) some)

@@ -1,0 +1,21 @@
+-- A new core matches the empty history.
+use Rattle.std.proofs.Common.{ℕ, [], refl, arith}
+use Rattle.ledger_model.specs.declared.config.Config.{Config}
+use Rattle.ledger_model.specs.Rules.{Ring}
+use Rattle.ledger_model.specs.Logs.{log_of, log_after}
+use Rattle.ledger_model.specs.Commits.{commits_of, pool_of, pool_after}
+use Rattle.replica_core.specs.Holding.{nothing_held, Matches}
+
+-- before the first event
+pub new_matches : (config : Config) (id : ℕ) (ring : Ring) → Matches (nothing_held config id ring) []
+unfolding pool_of pool_after log_of log_after commits_of
+new_matches config id ring = record {
+  clock = refl;
+  clocks = λ h. refl;
+  opened = λ h row at. cc;
+  unopened = λ h none. refl;
+  pool = refl;
+  commits = refl;
+  blocks = λ h low high. absurd (omega (arith, low, high));
+  mute = refl;
+}

@@ -1,0 +1,20 @@
+use Rattle.std.proofs.Common.{◌∙◌, ap, [], arith}
+use Rattle.ledger_model.specs.Applications.{run}
+use Rattle.height_row.specs.Heights.{Heights}
+use Rattle.replica_core.proofs.Machines.{kind_is, reached}
+use Rattle.replica_core.proofs.kept.Kept.new.Goals as goal
+
+-- src/kept.rt:75:23
+pub new-requires-3 : goal.new-requires-3
+new-requires-3 g c = reached (g.A.Application.machine c.args.app) (c.args.config.kind) [] (c.requires.opening)
+
+-- src/kept.rt:69:9
+pub invariant_of-result : goal.invariant_of-result
+invariant_of-result g c = rw c.new-4.ensures.items (
+  c.requires.member,
+  ap (λ (x : Heights). x.config) (c.new.ensures.row),
+  ap (λ (x : Heights). x.id) (c.new.ensures.row),
+  c.in_ok-new.ensures ∙ ap (λ k. run k []) (kind_is (g.A.Application.machine c.args.app) (c.args.config.kind) [] (c.requires.opening)),
+  omega arith,
+  omega arith,
+)

@@ -1,0 +1,17 @@
+use Rattle.std.proofs.Common.{◌≡◌, ◌+◌, List, ap, subst, sym, ◌∙◌}
+use Rattle.std.specs.Prelude.{map}
+use Rattle.std.specs.List.{flat_map}
+use Rattle.replica_core.specs.Sending.{frames_in}
+use Rattle.ledger_model.specs.declared.reply.Sent.{Sent}
+use Rattle.instance.specs.Plans.{ended}
+use Rattle.replica_core.specs.Holding.{Held}
+use Rattle.replica_core.proofs.ClosingFrames.{frames_of-closings}
+use Rattle.replica_core.proofs.kept.Kept.open_round.Goals as goal
+
+-- src/ending.rt:34:5
+pub returns-clause-ended : goal.returns-clause-ended
+returns-clause-ended g c =
+    let endings = subst (λ (x : Held). map (λ c. c.ending) c.args.closings.items ≡ map (λ row. ended row (x.clock + 1)) x.rows) (sym c.self.view_is) c.requires.endings in
+    rw (sym c.self.view_is)
+    (ap (λ (frames : List Sent). record { mute = c.args.mute; frames = frames })
+    (c.new.ensures ∙ c.in_ok-frames.ensures ∙ ap (flat_map (frames_in c.self.inside.config)) c.deref.ensures.value ∙ sym (frames_of-closings c.self.inside.config (c.self.inside.clock + 1) c.self.inside.rows.rows c.args.closings.items endings)))

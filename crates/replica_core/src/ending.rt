@@ -1,0 +1,166 @@
+//! A round ends, and the next one opens.
+use crate::core::Core;
+use crate::kept::Kept;
+use crate::sending::frames_to_send;
+use crate::signing::{count_due, make_all, make_none};
+use abci::Application;
+use height_row::Closing;
+use instance::Plan;
+use ledger_model::{LastRound, RoundEnded, SentFrames};
+use std::alloc::{AllocError, Global};
+
+impl<A: Application> Kept<A> {
+    ghost use Rattle.std.specs.Prelude.{◌≡◌, ◌<◌, ◌+◌, map, IfOk, IfSome, OnErr};
+    ghost use Rattle.std.specs.List.{AllByRecursion};
+    ghost use Rattle.ledger_model.specs.Limits.{last_round};
+    ghost use Rattle.ledger_model.specs.Spelling.{IsStatement};
+    ghost use Rattle.instance.specs.Plans.{ended, IsOwnMade};
+    ghost use Rattle.height_row.specs.Heights.{plan_of};
+    ghost use Rattle.replica_core.specs.Holding.{IsHeld};
+    ghost use Rattle.replica_core.specs.RoundEnds.{round_ended, after_end};
+
+    /// What is to be done at each open height as the next round opens.
+    fn plan_ends(&self, alloc: Global) -> Result<Vec<Plan>, AllocError>
+        requires clock { self.now.clock < last_round }
+        ensures plans { IfOk result (λ plans. plans.items ≡ map (plan_of (self.now.clock + 1)) self.now.rows) }
+        ensures spelled { IfOk result (λ plans. AllByRecursion (λ plan. IfSome plan.statement IsStatement) plans.items) }
+        ensures held { IsHeld self.now }
+    {
+        self.rows.plan_ends(alloc, self.clock)
+    }
+
+    /// Whether the replica is mute.
+    fn is_mute(&self) -> bool
+        ensures { result ≡ self.now.mute }
+    {
+        self.mute
+    }
+
+    /// Opens the next round, where this is done at each open height: the frames to send, and what is kept then. All memory is
+    /// taken before anything changes.
+    fn open_round(
+        &mut self,
+        alloc: Global,
+        closings: Vec<Closing>,
+        mute: bool,
+    ) -> Result<RoundEnded, AllocError>
+        requires clock { self.old.clock < last_round }
+        requires endings { map (λ c. c.ending) closings.items ≡ map (λ row. ended row (self.old.clock + 1)) self.old.rows }
+        requires own { AllByRecursion (λ c. IsOwnMade self.old.id c.made) closings.items }
+        ensures ended { IfOk result (λ r. r ≡ round_ended self.old mute (map (λ c. c.made) closings.items)) }
+        ensures after { IfOk result (λ _. self.new ≡ after_end self.old mute (map (λ c. c.made) closings.items)) }
+        ensures err { OnErr result (self.new ≡ self.old) }
+    {
+        let frames = frames_to_send(alloc, &self.config, &closings)?;
+        self.rows.close_all(closings, self.clock);
+        self.clock += 1;
+        self.mute = mute;
+        Ok(RoundEnded {
+            mute,
+            frames: SentFrames::new(frames),
+        })
+    }
+}
+
+impl<A: Application> Core<A> {
+    ghost use Rattle.std.specs.Prelude.{◌≡◌, ◌<◌, ◌≤◌, ◌+◌, map, false, true, IfOk, IfSome, OnErr, Ok};
+    ghost use Rattle.std.specs.List.{AllByRecursion};
+    ghost use Rattle.ledger_model.specs.declared.event.Event.TheVariants as event;
+    ghost use Rattle.ledger_model.specs.declared.reply.Reply.TheVariants as reply;
+    ghost use Rattle.ledger_model.specs.Limits.{last_round};
+    ghost use Rattle.ledger_model.specs.Spelling.{IsStatement};
+    ghost use Rattle.key_ring.specs.Signers.{leaves_of};
+    ghost use Rattle.height_row.specs.Heights.{plan_of};
+    ghost use Rattle.replica_core.specs.Holding.{IsHeld};
+    ghost use Rattle.replica_core.specs.Steps.{IsStep, UsesLeaves};
+    ghost use Rattle.replica_core.specs.Replicas.{IsSameReplica, due_then, is_mute_next, is_mute_then};
+
+    /// A round ends at which the replica is mute: it signs nothing.
+    fn end_mute(&mut self, alloc: Global, plans: Vec<Plan>) -> Result<RoundEnded, AllocError>
+        requires clock { self.old.held.clock < last_round }
+        requires held { IsHeld self.old.held }
+        requires plans { plans.items ≡ map (plan_of (self.old.held.clock + 1)) self.old.held.rows }
+        ensures step { IfOk result (λ r. IsStep self.old.held event.RoundEnd (reply.RoundEnded (Ok r)) self.new.held) }
+        ensures leaves { IfOk result (λ r. UsesLeaves self.old.keys self.old.held.clock (reply.RoundEnded (Ok r)) self.new.keys) }
+        ensures mute { IfOk result (λ _. self.new.held.mute ≡ true) }
+        ensures keys { self.new.keys ≡ self.old.keys }
+        ensures err { OnErr result (self.new ≡ self.old) }
+        ensures same { IsSameReplica self.old self.new }
+    {
+        let closings = make_none(alloc, plans)?;
+        self.kept.open_round(alloc, closings, true)
+    }
+
+    /// A round ends at which the replica signs what is due, for which it has the leaves.
+    fn end_signed(&mut self, alloc: Global, plans: Vec<Plan>) -> Result<RoundEnded, AllocError>
+        requires clock { self.old.held.clock < last_round }
+        requires held { IsHeld self.old.held }
+        requires plans { plans.items ≡ map (plan_of (self.old.held.clock + 1)) self.old.held.rows }
+        requires spelled { AllByRecursion (λ plan. IfSome plan.statement IsStatement) plans.items }
+        requires loud { self.old.held.mute ≡ false }
+        requires leaves { self.old.keys.used + due_then self.old ≤ leaves_of self.old.keys.secret }
+        ensures step { IfOk result (λ r. IsStep self.old.held event.RoundEnd (reply.RoundEnded (Ok r)) self.new.held) }
+        ensures leaves { IfOk result (λ r. UsesLeaves self.old.keys self.old.held.clock (reply.RoundEnded (Ok r)) self.new.keys) }
+        ensures mute { IfOk result (λ _. self.new.held.mute ≡ false) }
+        ensures least { self.old.keys.used ≤ self.new.keys.used }
+        ensures most { self.new.keys.used ≤ self.old.keys.used + due_then self.old }
+        ensures err { OnErr result (self.new ≡ record self.old { keys = self.new.keys }) }
+        ensures same { IsSameReplica self.old self.new }
+    {
+        let closings = make_all(alloc, &mut self.signer, plans)?;
+        self.kept.open_round(alloc, closings, false)
+    }
+
+    /// What is to be done at each open height as the next round opens.
+    fn plan_ends(&self, alloc: Global) -> Result<Vec<Plan>, AllocError>
+        requires clock { self.now.held.clock < last_round }
+        ensures plans { IfOk result (λ plans. plans.items ≡ map (plan_of (self.now.held.clock + 1)) self.now.held.rows) }
+        ensures spelled { IfOk result (λ plans. AllByRecursion (λ plan. IfSome plan.statement IsStatement) plans.items) }
+        ensures held { IsHeld self.now.held }
+    {
+        self.kept.plan_ends(alloc)
+    }
+
+    /// Whether the replica is mute after the next round end.
+    fn is_mute_next(&self, plans: &[Plan]) -> bool
+        requires plans { plans.now ≡ map (plan_of (self.now.held.clock + 1)) self.now.held.rows }
+        ensures mute { result ≡ is_mute_next self.now }
+        ensures loud { result ≡ false → self.now.held.mute ≡ false }
+        ensures leaves { result ≡ false → self.now.keys.used + due_then self.now ≤ leaves_of self.now.keys.secret }
+    {
+        let left = self.signer.leaves_left() as usize;
+        self.kept.is_mute() || left < count_due(plans)
+    }
+
+    /// Whether no round is left.
+    fn is_over(&self) -> bool
+        ensures over { result ≡ true → self.now.held.clock ≡ last_round }
+        ensures goes_on { result ≡ false → self.now.held.clock < last_round }
+    {
+        self.kept.clock >= LastRound::NUMBER
+    }
+
+    /// A round ends: what is due is signed, or the replica becomes mute, and the next round opens.
+    pub(crate) fn end_round(
+        &mut self,
+        alloc: Global,
+    ) -> Result<Result<RoundEnded, LastRound>, AllocError>
+        ensures step { IfOk result (λ r. IsStep self.old.held event.RoundEnd (reply.RoundEnded r) self.new.held) }
+        ensures leaves { IfOk result (λ r. UsesLeaves self.old.keys self.old.held.clock (reply.RoundEnded r) self.new.keys) }
+        ensures mute { IfOk result (λ _. self.new.held.mute ≡ is_mute_then self.old event.RoundEnd) }
+        ensures err { OnErr result (self.new ≡ record self.old { keys = self.new.keys }) }
+        ensures least { self.old.keys.used ≤ self.new.keys.used }
+        ensures most { self.new.keys.used ≤ self.old.keys.used + due_then self.old }
+        ensures same { IsSameReplica self.old self.new }
+    {
+        if self.is_over() {
+            return Ok(Err(LastRound));
+        }
+        let plans = self.plan_ends(alloc)?;
+        if self.is_mute_next(&plans) {
+            Ok(Ok(self.end_mute(alloc, plans)?))
+        } else {
+            Ok(Ok(self.end_signed(alloc, plans)?))
+        }
+    }
+}

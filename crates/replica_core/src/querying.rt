@@ -1,0 +1,25 @@
+//! The application is asked.
+use crate::kept::Kept;
+use abci::{Application, QueryFault};
+use ledger_model::{NotHeld, QueryAnswer};
+use std::alloc::AllocError;
+
+impl<A: Application> Kept<A> {
+    ghost use Rattle.std.specs.Prelude.{◌≡◌, IfOk};
+    ghost use Rattle.ledger_model.specs.Replies.{query_reply};
+
+    /// What the committed state holds under a key, at height 0 or the committed one. It changes nothing.
+    pub(crate) fn query(
+        &self,
+        key: &[u8],
+        height: u32,
+    ) -> Result<Result<QueryAnswer, NotHeld>, AllocError>
+        ensures { IfOk result (λ r. r ≡ query_reply self.now.config.kind self.now.commits key.now height) }
+    {
+        match self.executor.query(key, height) {
+            Ok(answer) => Ok(Ok(answer)),
+            Err(QueryFault::NotHeld) => Ok(Err(NotHeld)),
+            Err(QueryFault::NoMemory) => Err(AllocError),
+        }
+    }
+}

@@ -1,0 +1,137 @@
+//! The statements that are due as a round opens, signed.
+ghost use Rattle.std.specs.Prelude.{◌≡◌, ◌+◌, ◌<◌, ◌≤◌, ◌∷◌, [], true, map, IfOk, IfSome};
+ghost use Rattle.std.specs.List.{AllByRecursion};
+ghost use Rattle.ledger_model.specs.Signatures.{verifies};
+ghost use Rattle.ledger_model.specs.Spelling.{statement_bytes, IsStatement, IsFrame};
+ghost use Rattle.key_ring.specs.Signers.{leaves_of, key_of, signed_with};
+ghost use Rattle.instance.specs.Laws.{IsFrameMade};
+ghost use Rattle.replica_core.specs.Signing.{due_at, due_in, plan_spelled, SignsPlans};
+ghost use Rattle.replica_core.specs.ChosenEnds.{IsVerifiedMade};
+
+use height_row::Closing;
+use instance::{Ending, Made, OwnFrame, Plan};
+use key_ring::{SignFault, Signer};
+use signed_frames::UnsignedFrame;
+use std::alloc::{AllocError, Global};
+
+/// What is to be done at one open height, with its statement spelled.
+#[derive(Drop)]
+struct Spelled {
+    statement: Option<UnsignedFrame>,
+    ending: Ending,
+}
+
+/// How many statements are due. No more than there are plans, so that the number fits.
+pub(crate) fn count_due(plans: &[Plan]) -> usize
+    ensures { result ≡ due_in plans.now }
+{
+    plans.iter().filter(|plan| plan.statement.is_some()).count()
+}
+
+/// The plan with its statement spelled.
+fn spell(alloc: Global, plan: Plan) -> Result<Spelled, AllocError>
+    requires { IfSome plan.statement IsStatement }
+    ensures { IfOk result (λ spelled. plan_spelled spelled ≡ plan) }
+{
+    let Plan { statement, ending } = plan;
+    let statement = match statement {
+        Some(statement) => Some(UnsignedFrame::new(alloc, statement)?),
+        None => None,
+    };
+    Ok(Spelled { statement, ending })
+}
+
+/// The plans with their statements spelled, in order.
+fn spell_all(alloc: Global, plans: Vec<Plan>) -> Result<Vec<Spelled>, AllocError>
+    requires { AllByRecursion (λ plan. IfSome plan.statement IsStatement) plans.items }
+    ensures { IfOk result (λ spelled. map plan_spelled spelled.items ≡ plans.items) }
+{
+    let mut spelled = Vec::with_capacity(alloc, plans.len())?;
+    for plan in plans {
+        spelled.push(spell(alloc, plan)?)?;
+    }
+    Ok(spelled)
+}
+
+/// The statement signed with the next leaf, with room for what is kept of it. The leaf is used then, with or without memory.
+fn signed(
+    alloc: Global,
+    signer: &mut Signer,
+    unsigned: UnsignedFrame,
+) -> Result<OwnFrame, AllocError>
+    requires leaf { signer.old.used < leaves_of signer.old.secret }
+    ensures statement { IfOk result (λ own. own.statement ≡ unsigned) }
+    ensures signature { IfOk result (λ own. own.signature ≡ signed_with signer.old.secret signer.old.used (statement_bytes own.statement)) }
+    ensures verifies { IfOk result (λ own. verifies (key_of signer.old.secret) (statement_bytes own.statement) own.signature ≡ true) }
+    ensures frame { IfOk result (λ own. IsFrame own) }
+    ensures used { signer.new ≡ record signer.old { used = signer.old.used + 1 } }
+{
+    let signature = match signer.sign(alloc, unsigned.statement_bytes()) {
+        Ok(signature) => signature,
+        Err(SignFault::NoMemory) => return Err(AllocError),
+        Err(SignFault::Exhausted) => unreachable!(),
+    };
+    let frame = unsigned.with_signature(&signature)?;
+    // The frame shows that it can be spelled.
+    let _ = frame.statement();
+    OwnFrame::new(alloc, frame)
+}
+
+/// What is done at one height: its statement is signed with the next leaf, if it has one.
+fn make(alloc: Global, signer: &mut Signer, spelled: Spelled) -> Result<Closing, AllocError>
+    requires leaf { signer.old.used + due_at (plan_spelled spelled) ≤ leaves_of signer.old.secret }
+    ensures ending { IfOk result (λ closing. closing.ending ≡ spelled.ending) }
+    ensures signs { IfOk result (λ closing. SignsPlans signer.old.secret signer.old.used (plan_spelled spelled ∷ []) (closing.made ∷ [])) }
+    ensures verified { IfOk result (λ closing. IsVerifiedMade (key_of signer.old.secret) closing.made) }
+    ensures frame { IfOk result (λ closing. IsFrameMade closing.made) }
+    ensures used { signer.new ≡ record signer.old { used = signer.old.used + due_at (plan_spelled spelled) } }
+{
+    let Spelled { statement, ending } = spelled;
+    let made = match statement {
+        Some(unsigned) => Made::Sent(signed(alloc, signer, unsigned)?),
+        None => Made::Unsent,
+    };
+    Ok(Closing { ending, made })
+}
+
+/// What is done at each height, in order: each statement that is due is signed with the next leaf. All are spelled before the
+/// first is signed. Where memory runs out, leaves may be used for nothing.
+pub(crate) fn make_all(
+    alloc: Global,
+    signer: &mut Signer,
+    plans: Vec<Plan>,
+) -> Result<Vec<Closing>, AllocError>
+    requires spelled { AllByRecursion (λ plan. IfSome plan.statement IsStatement) plans.items }
+    requires leaves { signer.old.used + due_in plans.items ≤ leaves_of signer.old.secret }
+    ensures endings { IfOk result (λ closings. map (λ c. c.ending) closings.items ≡ map (λ plan. plan.ending) plans.items) }
+    // Each is its height's statement, signed.
+    ensures signs { IfOk result (λ closings. SignsPlans signer.old.secret signer.old.used plans.items (map (λ c. c.made) closings.items)) }
+    ensures verified { IfOk result (λ closings. AllByRecursion (λ c. IsVerifiedMade (key_of signer.old.secret) c.made) closings.items) }
+    ensures frames { IfOk result (λ closings. AllByRecursion (λ c. IsFrameMade c.made) closings.items) }
+    // One leaf is used for each.
+    ensures used { IfOk result (λ _. signer.new ≡ record signer.old { used = signer.old.used + due_in plans.items }) }
+    ensures secret { signer.new.secret ≡ signer.old.secret }
+    ensures least { signer.old.used ≤ signer.new.used }
+    ensures most { signer.new.used ≤ signer.old.used + due_in plans.items }
+{
+    let mut closings = Vec::with_capacity(alloc, plans.len())?;
+    for spelled in spell_all(alloc, plans)? {
+        closings.push(make(alloc, signer, spelled)?)?;
+    }
+    Ok(closings)
+}
+
+/// What a mute replica does at each height, in order: it makes nothing.
+pub(crate) fn make_none(alloc: Global, plans: Vec<Plan>) -> Result<Vec<Closing>, AllocError>
+    ensures endings { IfOk result (λ closings. map (λ c. c.ending) closings.items ≡ map (λ plan. plan.ending) plans.items) }
+    ensures mute { IfOk result (λ closings. AllByRecursion (λ c. c.made ≡ Made.Mute) closings.items) }
+{
+    let mut closings = Vec::with_capacity(alloc, plans.len())?;
+    for plan in plans {
+        closings.push(Closing {
+            ending: plan.ending,
+            made: Made::Mute,
+        })?;
+    }
+    Ok(closings)
+}
