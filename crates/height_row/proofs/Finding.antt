@@ -1,8 +1,7 @@
 -- The row of a height, by its place in the list.
-use Rattle.std.proofs.Common.{◌≡◌, ℕ, zero, suc, ◌<◌, ◌≤◌, inl, inr, Bool, true, false, List, [], ◌∷◌, length, get_or, Bor, refl, sym, ap, subst, ◌∙◌, arith, eq-eqb}
+use Rattle.std.proofs.Common.{◌≡◌, ℕ, zero, suc, ◌<◌, ◌≤◌, inl, inr, Bool, true, List, [], ◌∷◌, length, get_or, refl, sym, ap, subst, ◌∙◌, arith, eq-eqb}
 use Rattle.std.specs.Prelude.{◌==◌, nat_lt, Option, Some, None, IfSome, is_some, slice_get, slice_set}
 use Rattle.std.specs.List.{find, position, position_or_len, AllByRecursion}
-use Rattle.std.specs.Option.{option_copied}
 use Rattle.std.proofs.lemmas.Bool.{cases_Bool, eqb-true, ltb-true, ltb-false, false≢true, ne_eqb}
 use Rattle.std.proofs.lemmas.List.Folds.{find_at, find-set, find_past}
 use Rattle.std.proofs.lemmas.List.Quantifiers.{position-Some}

@@ -1,6 +1,6 @@
 -- A height that may be opened.
 use Rattle.std.proofs.Common.{◌≡◌, ℕ, ◌≤◌, Bool, true, false, List, [], ◌∷◌, ◌+◌, refl, arith}
-use Rattle.std.specs.Prelude.{◌==◌, ◌||◌, nat_lt, Option, Some, None, is_some, Result, Ok, Err}
+use Rattle.std.specs.Prelude.{◌==◌, ◌||◌, nat_lt, Option, Some, None, is_some, Ok}
 use Rattle.std.proofs.lemmas.Bool.{eqb-false, ltb-false, or_parts}
 use Rattle.ledger_model.specs.declared.reply.ProposeRefusal.{ProposeRefusal}
 use Rattle.ledger_model.specs.declared.reply.ProposeRefusal.TheVariants as refusal
@@ -15,15 +15,18 @@ pub record MayBeOpened (rows : List Row) (h : ℕ) : Type 0 where
   pub high : h ≤ max_height
   pub none : row_at rows h ≡ None
 
+-- the first two of three tests don't fit, where none does
 none_fits : (b c d : Bool) (e f g : ProposeRefusal) → first_fault {X = Unit {0}} ((b, e) ∷ (c, f) ∷ (d, g) ∷ []) tt ≡ Ok tt → (b ≡ false) × (c ≡ false)
 none_fits true c d e f g is = absurd cc
 none_fits false true d e f g is = absurd cc
 none_fits false false d e f g is = (refl, refl)
 
+-- nothing is there
 not_some : {X : Type 0} (o : Option X) → is_some o ≡ false → o ≡ None
 not_some None is = refl
 not_some (Some x) is = absurd cc
 
+-- where no refusal fits
 pub may_be_opened : (rows : List Row) (committed h : ℕ) → open_answer rows committed h ≡ Ok tt → MayBeOpened rows h
 may_be_opened rows committed h is =
     let parts = none_fits ((h == 0) || nat_lt max_height h) (is_some (row_at rows h)) (nat_lt (committed + max_ahead) h) refusal.Closed refusal.AlreadyOpen refusal.TooFar is in

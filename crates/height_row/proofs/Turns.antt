@@ -28,11 +28,12 @@ are_closings c id config (row ∷ rows) (x ∷ xs) endings of own =
     (cc, subst (λ n. IsOwnMade n x.made) (sym of.0.1) own.0, are_closings c id config rows xs (cc) of.1 own.1)
 
 module _ (c : ℕ) where
+  -- as it begins
   pub none_closed : (rows : List Row) → closed_each c rows [] ≡ rows
   none_closed [] = refl
   none_closed (row ∷ rows) = refl
 
-  -- as it comes to one of them
+  -- what holds as it comes to one of them, those before it being closed
   pub record IsTurn (rows : List Row) (xs : List Closing) (place : ℕ) (x : Closing) (rest : List Closing) (row : Row) : Type 0 where
     pub still : get_or (closed_each c rows (mades (take place xs))) place row ≡ get_or rows place row
     pub ending : x.ending ≡ ended (get_or rows place row) c
@@ -40,6 +41,7 @@ module _ (c : ℕ) where
     pub more : rest ≡ drop (suc place) xs
     pub after : slice_set (closed_each c rows (mades (take place xs))) place (closed (get_or rows place row) c x.ending x.made) ≡ closed_each c rows (mades (take (suc place) xs))
 
+  -- it comes to each so
   pub turn : (rows : List Row) (xs : List Closing) (place : ℕ) (x : Closing) (rest : List Closing) (row : Row) → AreClosings c rows xs → x ∷ rest ≡ drop place xs
       → IsTurn rows xs place x rest row
   turn [] [] zero x rest row all is = absurd cc
@@ -65,6 +67,7 @@ module _ (c : ℕ) where
         after = ap (λ l. closed r c (ended r c) y.made ∷ l) next.after;
       }
 
+  -- each has its height
   pub turn_within : (rows : List Row) (xs : List Closing) (place : ℕ) (x : Closing) (rest : List Closing) → AreClosings c rows xs → x ∷ rest ≡ drop place xs → place < length rows
   turn_within [] [] zero x rest all is = absurd cc
   turn_within [] [] (suc place) x rest all is = absurd cc
@@ -73,7 +76,7 @@ module _ (c : ℕ) where
   turn_within (r ∷ rs) (y ∷ ys) zero x rest all is = omega arith
   turn_within (r ∷ rs) (y ∷ ys) (suc place) x rest all is = (let within = turn_within rs ys place x rest all.2 is in omega (arith, within))
 
-  -- the same, of the heights as those before it are closed
+  -- the same, said of the heights as they are then
   pub record IsTurnOf (rows : List Row) (xs : List Closing) (now : List Row) (place : ℕ) (x : Closing) (rest : List Closing) (row : Row) : Type 0 where
     pub ending : x.ending ≡ ended (get_or now place row) c
     pub own : IsOwnMade (get_or now place row).id x.made
@@ -82,6 +85,7 @@ module _ (c : ℕ) where
 
   module _ (rows : List Row) (xs : List Closing) {now : List Row} {place count : ℕ} {x : Closing} {rest items : List Closing} (all : AreClosings c rows xs)
       (done : now ≡ closed_each c rows (mades (take count xs))) (left : items ≡ drop count xs) (is : items ≡ x ∷ rest) (counted : place ≡ count) where
+    -- as the loop has it
     comes : x ∷ rest ≡ drop place xs
     comes = rw counted (sym is ∙ left)
 
@@ -100,14 +104,6 @@ module _ (c : ℕ) where
           after = λ new then. rw (so_far, then, add-one, sym still) at.after;
         }
 
-  -- at the end all are closed
-  pub all_closed : (rows : List Row) (xs : List Closing) (place : ℕ) → [] ≡ drop place xs → closed_each c rows (mades (take place xs)) ≡ closed_each c rows (mades xs)
-  all_closed rows [] zero is = refl
-  all_closed rows [] (suc place) is = refl
-  all_closed rows (x ∷ xs) zero is = absurd cc
-  all_closed [] (x ∷ xs) (suc place) is = refl
-  all_closed (row ∷ rows) (x ∷ xs) (suc place) is = ap (λ l. closed row c (ended row c) x.made ∷ l) (all_closed rows xs place is)
-
   -- ---- they are the same replica's, at the same heights
 
   pub closed_own : (config : Config) (id : ℕ) (rows : List Row) (ms : List Made) → AllByRecursion (IsOf config id) rows → AllByRecursion (IsOf config id) (closed_each c rows ms)
@@ -118,6 +114,7 @@ module _ (c : ℕ) where
       let same = same_closed row c m in
       ((same.config ∙ all.0.0, same.id ∙ all.0.1, subst (λ n. n ≤ max_height) (sym same.height) all.0.2), closed_own config id rows ms all.1)
 
+  -- and they ascend
   closed_higher : (low : ℕ) (rows : List Row) (ms : List Made) → AllByRecursion (λ later. low < later.height) rows → AllByRecursion (λ later. low < later.height) (closed_each c rows ms)
   closed_higher low [] [] all = tt
   closed_higher low [] (m ∷ ms) all = tt

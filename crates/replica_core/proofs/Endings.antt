@@ -1,15 +1,15 @@
 -- What is done at each height as a round opens, as lists in the order of the heights.
-use Rattle.std.proofs.Common.{◌≡◌, ℕ, ◌+◌, Bool, List, [], ◌∷◌, inl, inr, refl, sym, ap, subst, ◌∙◌, arith}
+use Rattle.std.proofs.Common.{◌≡◌, ℕ, ◌+◌, ◌<◌, Bool, false, List, [], ◌∷◌, inl, inr, refl, sym, ap, subst, ◌∙◌, arith}
 use Rattle.std.proofs.Math.Dec.{ltb}
 use Rattle.std.proofs.lemmas.Bool.{cases_lt, lt-ltb, le-ltb}
 use Rattle.ledger_model.specs.Limits.{last_round}
 use Rattle.ledger_model.specs.Logs.{notes_of}
-use Rattle.std.specs.Prelude.{map, Some, Result, Ok, Err, IfOk}
+use Rattle.std.specs.Prelude.{map, Some, slice_get, Result, Ok, Err, IfOk}
 use Rattle.std.specs.declared.alloc.AllocError.{AllocError}
 use Rattle.ledger_model.specs.declared.event.Event.TheVariants as event
 use Rattle.ledger_model.specs.declared.reply.Reply.TheVariants as reply
 use Rattle.ledger_model.specs.declared.reply.RoundEnded.{RoundEnded}
-use Rattle.key_ring.specs.Signers.{Keys}
+use Rattle.key_ring.specs.Signers.{Keys, key_of}
 use Rattle.std.specs.List.{AllByRecursion}
 use Rattle.std.specs.Option.{IfSome}
 use Rattle.ledger_model.specs.declared.statement.Statement.{Statement}
@@ -24,9 +24,14 @@ use Rattle.instance.proofs.SpelledPlans.{chosen_own_statement}
 use Rattle.height_row.specs.declared.closing.Closing.{Closing}
 use Rattle.height_row.specs.Heights.{plan_of}
 use Rattle.replica_core.specs.Holding.{Held, IsHeld}
-use Rattle.replica_core.specs.RoundEnds.{round_ended, after_end, SignsFrom}
+use Rattle.replica_core.specs.RoundEnds.{round_ended, after_end, due, SignsFrom}
 use Rattle.replica_core.specs.Steps.{IsStep, UsesLeaves}
-use Rattle.replica_core.specs.ChosenEnds.{all_mute, end_reply}
+use Rattle.replica_core.specs.ChosenEnds.{all_mute, end_reply, IsVerifiedMade}
+use Rattle.replica_core.specs.Replicas.{Replica}
+use Rattle.replica_core.specs.Signing.{SignsPlans}
+use Rattle.instance.specs.Laws.{IsFrameMade}
+use Rattle.replica_core.proofs.SignedPlans.{signs_from}
+use Rattle.replica_core.proofs.ChosenEnds.{signed_ends}
 use Rattle.replica_core.proofs.AscendingRows.{each_found}
 use Rattle.replica_core.proofs.Quiet.{unheard}
 
@@ -119,3 +124,36 @@ over held last entries matches = (
   refl,
   unheard held entries (record { event = event.RoundEnd; reply = reply.RoundEnded (Err (record {})) }) matches refl refl refl held.pool refl (λ h. refl),
 )
+
+-- what is planned, by what is kept
+pub planned_by : (old : Replica) (held : Held) (keys : Keys) (plans : List Plan) → record { held = held; keys = keys } ≡ old
+    → plans ≡ map (plan_of (old.held.clock + 1)) old.held.rows → plans ≡ map (plan_of (held.clock + 1)) held.rows
+planned_by old held keys plans is planned = subst (λ (x : Replica). plans ≡ map (plan_of (x.held.clock + 1)) x.held.rows) (sym is) planned
+
+-- what each height is done with, where all is planned so, and signed
+module _ (old : Replica) (held : Held) (keys : Keys) (plans : List Plan) (closings : List Closing)
+    (is : record { held = held; keys = keys } ≡ old) (is_held : IsHeld old.held) (planned : plans ≡ map (plan_of (old.held.clock + 1)) old.held.rows)
+    (signs : SignsPlans keys.secret keys.used plans (map (λ (x : Closing). x.made) closings)) where
+  kept : IsHeld held
+  kept = subst (λ (x : Replica). IsHeld x.held) (sym is) is_held
+
+  from : SignsFrom keys.secret keys.used (held.clock + 1) held.rows (map (λ (x : Closing). x.made) closings)
+  from = signs_from keys.secret keys.used (held.clock + 1) held.rows (map (λ (x : Closing). x.made) closings)
+      (subst (λ ps. SignsPlans keys.secret keys.used ps (map (λ (x : Closing). x.made) closings)) (planned_by old held keys plans is planned) signs)
+
+  -- each statement is the replica's own
+  pub signed_own : AllByRecursion (λ (x : Closing). IsOwnMade held.id x.made) closings
+  signed_own = of_images (IsOwnMade held.id) (λ (x : Closing). x.made) closings
+      (signs_own keys.secret keys.used (held.clock + 1) held.id held.rows (map (λ (x : Closing). x.made) closings) (each_own held kept) from)
+
+  -- the end is a step, and uses a leaf for each
+  pub signed_step : old.held.clock < last_round → old.held.mute ≡ false → slice_get held.ring held.id ≡ Some (key_of keys.secret)
+      → AllByRecursion (λ (x : Closing). IsFrameMade x.made) closings → AllByRecursion (λ (x : Closing). IsVerifiedMade (key_of keys.secret) x.made) closings
+      → IsStep held event.RoundEnd (end_reply held false (map (λ (x : Closing). x.made) closings)) (after_end held false (map (λ (x : Closing). x.made) closings))
+      × UsesLeaves keys held.clock (end_reply held false (map (λ (x : Closing). x.made) closings)) (record keys { used = keys.used + due (held.clock + 1) held.rows })
+  signed_step early loud own_key frames verified =
+      signed_ends held keys (map (λ (x : Closing). x.made) closings) kept (subst (λ (x : Replica). x.held.clock < last_round) (sym is) early)
+      (subst (λ (x : Replica). x.held.mute ≡ false) (sym is) loud) own_key from
+      (all_both IsFrameMade (IsVerifiedMade (key_of keys.secret)) (map (λ (x : Closing). x.made) closings)
+      (all_images IsFrameMade (λ (x : Closing). x.made) closings frames)
+      (all_images (IsVerifiedMade (key_of keys.secret)) (λ (x : Closing). x.made) closings verified))

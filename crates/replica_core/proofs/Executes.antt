@@ -1,6 +1,7 @@
 -- The next block is run.
 use Rattle.std.proofs.Common.{◌≡◌, ℕ, ◌+◌, Bool, true, false, List, [], ◌∷◌, ◌++◌, length, refl, sym, ap, subst, ◌∙◌, arith}
 use Rattle.std.specs.Prelude.{◌||◌, Option, Some, None, Result, Ok, Err}
+use Rattle.std.proofs.Math.Bool.{or-false}
 use Rattle.ledger_model.specs.declared.event.Event.TheVariants as event
 use Rattle.ledger_model.specs.declared.history.Entry.{Entry}
 use Rattle.ledger_model.specs.declared.reply.BlockResult.{BlockResult}
@@ -59,7 +60,7 @@ module _ (held : Held) (one : IsOneCluster held) (entries : List Entry) (matches
         ∙ ap (λ w. pool_after_block held.config (held.commits ++ v ∷ []) w held.pool) (last_of held.commits v);
     commits = commits;
     blocks = blocks_more held.config held.id entries entry v matches.blocks refl decided;
-    mute = mute_more entries entry ∙ or_false (is_mute entries) ∙ matches.mute;
+    mute = mute_more entries entry ∙ or-false (is_mute entries) ∙ matches.mute;
   }
     where
       entry : Entry
@@ -74,9 +75,6 @@ module _ (held : Held) (one : IsOneCluster held) (entries : List Entry) (matches
       commits : commits_of held.config held.id (entries ++ entry ∷ []) ≡ held.commits ++ v ∷ []
       commits = commits_more held.config held.id entries entry v matches.blocks refl decided ∙ ap (λ vs. vs ++ v ∷ []) matches.commits
 
-      or_false : (b : Bool) → (b || false) ≡ b
-      or_false true = refl
-      or_false false = refl
 
 -- the next block is run, or nothing is decided
 pub executes : (held : Held) (answer : Result BlockResult NothingDecided) → IsOneCluster held → answer ≡ execute_held held

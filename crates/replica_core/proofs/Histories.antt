@@ -2,6 +2,7 @@
 use Rattle.std.proofs.Common.{◌≡◌, ℕ, zero, suc, ◌+◌, ◌<◌, ◌≤◌, Bool, true, false, cond, inl, inr, List, [], ◌∷◌, ◌++◌, length, refl, sym, ap, subst, ◌∙◌, append_assoc, arith}
 use Rattle.std.specs.Prelude.{◌||◌, Option, Some, is_some}
 use Rattle.std.specs.List.{list_any, filter_map, cons_option, range_with_len}
+use Rattle.std.proofs.Math.Bool.{or-false}
 use Rattle.std.proofs.lemmas.Bool.{cases_lt}
 use Rattle.ledger_model.specs.declared.config.Config.{Config}
 use Rattle.ledger_model.specs.declared.history.Entry.{Entry}
@@ -33,17 +34,13 @@ or_assoc : (a b c : Bool) → (a || (b || c)) ≡ ((a || b) || c)
 or_assoc true b c = refl
 or_assoc false b c = refl
 
-or_false : (b : Bool) → (b || false) ≡ b
-or_false true = refl
-or_false false = refl
-
 pub any_more : {X : Type 0} (p : X → Bool) → (xs ys : List X) → list_any p (xs ++ ys) ≡ (list_any p xs || list_any p ys)
 any_more p [] ys = refl
 any_more p (x ∷ xs) ys = ap (λ b. p x || b) (any_more p xs ys) ∙ or_assoc (p x) (list_any p xs) (list_any p ys)
 
 -- muteness
 pub mute_more : (entries : List Entry) (e : Entry) → is_mute (entries ++ e ∷ []) ≡ (is_mute entries || says_mute e.reply)
-mute_more entries e = any_more (λ (x : Entry). says_mute x.reply) entries (e ∷ []) ∙ ap (λ b. is_mute entries || b) (or_false (says_mute e.reply))
+mute_more entries e = any_more (λ (x : Entry). says_mute x.reply) entries (e ∷ []) ∙ ap (λ b. is_mute entries || b) (or-false (says_mute e.reply))
 
 -- how many blocks were run
 pub executed_more : (entries : List Entry) (e : Entry) → executed (entries ++ e ∷ []) ≡ executed entries + cond (is_block e.reply) 1 0

@@ -2,6 +2,7 @@
 use Rattle.std.proofs.Common.{◌≡◌, ℕ, ◌+◌, Bool, true, false, cond, List, [], ◌∷◌, ◌++◌, refl, sym, ap, subst, ◌∙◌, arith}
 use Rattle.std.specs.Prelude.{◌||◌, Some, None}
 use Rattle.std.proofs.lemmas.List.{append-nil}
+use Rattle.std.proofs.Math.Bool.{or-false}
 use Rattle.ledger_model.specs.declared.history.Entry.{Entry}
 use Rattle.ledger_model.specs.Values.{Value}
 use Rattle.ledger_model.specs.Notes.{Note, clock_of}
@@ -57,12 +58,8 @@ module _ (held : Held) (entries : List Entry) (e : Entry) where
       pool = pool_then ∙ same_pool;
       commits = commits_stay held.config held.id entries e matches.blocks no_block ∙ matches.commits;
       blocks = blocks_stay held.config held.id entries e matches.blocks no_block;
-      mute = mute_more entries e ∙ ap (λ b. is_mute entries || b) loud ∙ or_false (is_mute entries) ∙ matches.mute;
+      mute = mute_more entries e ∙ ap (λ b. is_mute entries || b) loud ∙ or-false (is_mute entries) ∙ matches.mute;
     }
-      where
-        or_false : (b : Bool) → (b || false) ≡ b
-        or_false true = refl
-        or_false false = refl
 
     -- and where nothing is added to any log, with the pool alone
     pub unheard : (pool : Value) → pool_step held.config held.commits held.pool e.event e.reply ≡ pool → ((h : ℕ) → notes_at h ≡ [])

@@ -16,6 +16,7 @@ use Rattle.height_row.specs.Heights.{plan_of}
 use Rattle.replica_core.specs.RoundEnds.{due, SignsFrom}
 use Rattle.replica_core.specs.Signing.{due_at, due_in, SignsPlans}
 use Rattle.replica_core.specs.ChosenEnds.{IsVerifiedMade}
+use Rattle.replica_core.proofs.Elements.{each_append}
 
 -- ---- the plans of open heights
 
@@ -79,10 +80,6 @@ pub record IsSigning (old : Keys) (plans signed left : List Plan) (closings : Li
   pub used : new ≡ record old { used = old.used + due_in signed }
 
 -- what holds of each and of one more holds of all
-all_more : {X : Type 0} (P : X → Type 0) (xs : List X) (x : X) → AllByRecursion P xs → P x → AllByRecursion P (xs ++ x ∷ [])
-all_more P [] x all one = (one, tt)
-all_more P (y ∷ ys) x all one = (all.0, all_more P ys x all.1 one)
-
 module _ {old : Keys} {plans signed left : List Plan} {closings : List Closing} {new : Keys} {plan : Plan} (so_far : IsSigning old plans signed (plan ∷ left) closings new) where
   -- the leaf of the next is there
   pub leaf_there : old.used + due_in plans ≤ leaves_of old.secret → new.used + due_at plan ≤ leaves_of new.secret
@@ -111,7 +108,7 @@ module _ {old : Keys} {plans signed left : List Plan} {closings : List Closing} 
         all = rw append_assoc so_far.all;
         endings = simp map-append (cc);
         signs = simp map-append (signs_more old.secret old.used signed (map (λ c. c.made) closings) plan closing.made so_far.signs one);
-        verified = all_more _ closings closing so_far.verified (rw so_far.used at verified);
-        frames = all_more _ closings closing so_far.frames frame;
+        verified = each_append _ closings (closing ∷ []) so_far.verified (rw so_far.used at verified, tt);
+        frames = each_append _ closings (closing ∷ []) so_far.frames (frame, tt);
         used = next ∙ ap (λ (k : Keys). record k { used = k.used + due_at plan }) so_far.used ∙ ap (λ n. record old { used = n }) more;
       }

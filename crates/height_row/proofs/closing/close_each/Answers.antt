@@ -15,6 +15,12 @@ bounds-instances-place c =
     let place = turn_place (c.args.clock + 1) c.args.instances.now c.args.closings.items c.requires.closings c.loop-place.invariant.0 c.loop-place.invariant.1 steps.0.0 steps.1 in
     omega (arith, place)
 
+pub loop-place-preserved : goal.loop-place-preserved
+loop-place-preserved c =
+    let steps = c.in-Some.ensures.steps in
+    let turn = turn_of (c.args.clock + 1) c.args.instances.now c.args.closings.items c.requires.closings c.loop-place.invariant.0 c.loop-place.invariant.1 steps.0.0 steps.1 c.index-instances-place.result in
+    rw (steps.2, sym steps.1) (turn.after c.close.new.self c.close.ensures.row, turn.more)
+
 pub close-requires-clause-ending : goal.close-requires-clause-ending
 close-requires-clause-ending c =
     let steps = c.in-Some.ensures.steps in
@@ -24,9 +30,3 @@ pub close-requires-clause-own : goal.close-requires-clause-own
 close-requires-clause-own c =
     let steps = c.in-Some.ensures.steps in
     (turn_of (c.args.clock + 1) c.args.instances.now c.args.closings.items c.requires.closings c.loop-place.invariant.0 c.loop-place.invariant.1 steps.0.0 steps.1 c.index-instances-place.result).own
-
-pub loop-place-preserved : goal.loop-place-preserved
-loop-place-preserved c =
-    let steps = c.in-Some.ensures.steps in
-    let turn = turn_of (c.args.clock + 1) c.args.instances.now c.args.closings.items c.requires.closings c.loop-place.invariant.0 c.loop-place.invariant.1 steps.0.0 steps.1 c.index-instances-place.result in
-    rw (steps.2, sym steps.1) (turn.after c.close.new.self c.close.ensures.row, turn.more)
