@@ -1,13 +1,14 @@
 -- The answer by what is kept is the answer by the log.
-use Rattle.std.proofs.Common.{◌≡◌, ℕ, zero, suc, ◌<◌, Bool, true, false, not, ◌&&◌, ◌||◌, inl, inr, List, refl, sym, ap, ◌∙◌, arith}
+use Rattle.std.proofs.Common.{◌≡◌, ℕ, ◌<◌, Bool, true, false, not, ◌&&◌, ◌||◌, inl, inr, List, refl, arith}
 use Rattle.std.specs.Prelude.{nat_eq}
 use Rattle.std.specs.Option.{option_map_or}
-use Rattle.std.proofs.lemmas.Bool.{cases_Bool, eqb-true, or_parts, lt-ltb, not-false}
+use Rattle.std.proofs.lemmas.Bool.{cases_Bool, lt-ltb}
+use Rattle.std.proofs.lemmas.Bool.Decides.{nat_tests}
 use Rattle.ledger_model.specs.declared.statement.Statement.{Statement}
 use Rattle.ledger_model.specs.declared.statement.Statement.TheVariants as statement
 use Rattle.ledger_model.specs.Values.{same_value}
 use Rattle.ledger_model.specs.Rounds.{phase_of, place_of, round_at}
-use Rattle.ledger_model.specs.Notes.{Note, clock_of, signer_of, is_report, is_lock, is_ack, was_read, was_made}
+use Rattle.ledger_model.specs.Notes.{Note, clock_of, signer_of, is_lock, is_ack}
 use Rattle.ledger_model.specs.LockTables.{has_four_others}
 use Rattle.ledger_model.specs.Tallies.{all_read}
 use Rattle.ledger_model.specs.Rules.{Ring, has_place, has_phase, is_repeated, is_table_full, is_not_mine, first_of, place_causes, proof_causes, causes}
@@ -21,28 +22,15 @@ use Rattle.instance.proofs.KeptPlaces.{taken_place}
 
 -- ---- where a statement is of the open round and phase
 
--- the round that is open has its place and its phase
-pub round_is : (c place : ℕ) → place_of c ≡ place → 0 < c → c ≡ round_at place (phase_of c)
-round_is c place at some = omega arith
-
 -- what two causes tell where they do not fit
 pub record OnTime (c : ℕ) (s : Statement) : Type 0 where
   pub some : 0 < c
   pub place : has_place (place_of c) s ≡ true
   pub phase : has_phase c s ≡ true
 
+-- and that they tell it
 pub on_time : (c : ℕ) (s : Statement) → (nat_eq c 0 || not (has_place (place_of c) s)) ≡ false → not (has_phase c s) ≡ false → OnTime c s
-on_time c s round phase =
-    let parts = or_parts (nat_eq c 0) (not (has_place (place_of c) s)) round in
-    record {
-      some = positive c parts.0;
-      place = not-false (has_place (place_of c) s) parts.1;
-      phase = not-false (has_phase c s) phase;
-    }
-  where
-    positive : (c : ℕ) → nat_eq c 0 ≡ false → 0 < c
-    positive zero h = cc
-    positive (suc c) h = omega arith
+on_time c s round phase = record { some = grind (arith, nat_tests); place = grind arith; phase = grind arith }
 
 -- ---- where the two lists of causes differ
 
@@ -52,31 +40,23 @@ module _ (ring : Ring) (row : Row) (log : List Note) (m : Matches ring row log) 
 
   repeated_alike : (s : Statement) → OnTime now s → is_kept_already row now s ≡ is_repeated log s
   repeated_alike (statement.Report r) t =
-      let here = round_is now 1 (eqb-true (place_of now) 1 t.place) t.some in
-      taken_place (λ s. s.report.signer) row.reports (λ q s h. (m.reports.kept q s h).of_signer) r.signer
-      ∙ sym (any_mapped (λ p. nat_eq p.signer r.signer) (λ s. s.report) (all_read row.reports))
-      ∙ sym (m.reports.same (λ p. nat_eq p.signer r.signer)) ∙ ap (λ c. was_read log c (is_report (λ p. nat_eq p.signer r.signer))) (sym here)
-  repeated_alike (statement.Lock l) t =
-      elim (cases_Bool (nat_eq (place_of now) 2)) [
-        | inl second ↦
-            let here = round_is now 2 (eqb-true (place_of now) 2 second) t.some in
-            ap (λ b. nat_eq (place_of now) 2 && b) (sym m.lock.locked ∙ ap (λ c. was_read log c (is_lock (λ l. true))) (sym here))
-        | inr other ↦ rw other refl
-      ]
+      let here : now ≡ round_at 1 (phase_of now) = let some = t.some in let place = t.place in grind (arith, nat_tests) in
+      let taken = taken_place (λ s. s.report.signer) row.reports (λ q s h. (m.reports.kept q s h).of_signer) r.signer in
+      let mapped = any_mapped (λ p. nat_eq p.signer r.signer) (λ s. s.report) (all_read row.reports) in
+      let same = m.reports.same (λ p. nat_eq p.signer r.signer) in
+      grind arith
+  repeated_alike (statement.Lock l) t = let locked = m.lock.locked in let some = t.some in grind (arith, nat_tests)
   repeated_alike (statement.Ack a) t =
-      let here = round_is now 3 (eqb-true (place_of now) 3 t.place) t.some in
-      taken_place (λ b. b.signer) row.acks m.acks.ackers a.signer
-      ∙ sym (m.acks.same (λ b. nat_eq b.signer a.signer)) ∙ ap (λ c. was_read log c (is_ack (λ b. nat_eq b.signer a.signer))) (sym here)
+      let here : now ≡ round_at 3 (phase_of now) = let some = t.some in let place = t.place in grind (arith, nat_tests) in
+      let taken = taken_place (λ b. b.signer) row.acks m.acks.ackers a.signer in
+      let same = m.acks.same (λ b. nat_eq b.signer a.signer) in
+      grind arith
 
   table_alike : (s : Statement) → (nat_eq (place_of now) 2 && is_lock (λ l. has_four_others l.value row.table) s) ≡ is_table_full log s
   table_alike s = λ i. nat_eq (place_of now) 2 && is_lock (λ l. full_alike log row.table m.locks l.value i) s
 
   not_mine_alike : (s : Statement) → OnTime now s → is_ack (λ a. not (option_map_or (same_value a.value) row.made false)) s ≡ is_not_mine log s
-  not_mine_alike (statement.Report r) t = refl
-  not_mine_alike (statement.Lock l) t = refl
-  not_mine_alike (statement.Ack a) t =
-      let phase : a.phase ≡ phase_of now = eqb-true a.phase (phase_of now) t.phase in
-      ap not (sym (m.lock.made (same_value a.value)) ∙ ap (λ k. was_made log (round_at 2 k) (is_lock (λ l. same_value a.value l.value))) (sym phase))
+  not_mine_alike s t = let made = m.lock.made in let phase = t.phase in grind (arith, nat_tests, made)
 
 pub answers : Answers
 unfolding causes

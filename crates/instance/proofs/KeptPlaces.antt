@@ -1,15 +1,52 @@
--- Places with one element more, and which places are empty.
-use Rattle.std.proofs.Common.{◌≡◌, ℕ, zero, suc, ◌<◌, Bool, ◌||◌, true, ◌⊎◌, inl, inr, [], ◌∷◌, length, refl, sym, ap, ◌∙◌, arith}
-use Rattle.std.specs.Prelude.{nat_eq, Option, Some, None, is_some, slice_set}
+-- Lists with one place for each replica: what was read, one element more, and what a row that matches has in them.
+use Rattle.std.proofs.Common.{◌≡◌, ℕ, zero, suc, ◌+◌, ◌≤◌, true, inl, inr, List, [], ◌∷◌, length, refl, sym, ap, subst, arith, ◌<◌, Bool, ◌||◌, ◌⊎◌, ◌∙◌}
+use Rattle.std.specs.Prelude.{map, Option, Some, None, nat_eq, is_some, slice_set, replicate}
+use Rattle.std.proofs.lemmas.Simd.{map-map}
+use Rattle.ledger_model.specs.Notes.{Note, Has}
+use Rattle.ledger_model.specs.Tallies.{all_read, read_of, Places}
+use Rattle.ledger_model.specs.Validity.{ascends_within}
+use Rattle.ledger_model.specs.Rules.{Ring}
+use Rattle.ledger_model.specs.Phases.{reports_of, AreReadIn, AreAcksIn}
+use Rattle.ledger_model.proofs.Counting.{ascends_from, ascends_lower}
+use Rattle.instance.specs.Rows.{Row}
+use Rattle.instance.specs.Matching.{MatchesIn}
 use Rattle.std.specs.List.{list_any}
 use Rattle.std.specs.Cmp.{both_ways}
-use Rattle.std.proofs.Math.Bool.{or_comm, or_assoc}
-use Rattle.std.specs.Option.{is_none}
-use Rattle.std.proofs.lemmas.Bool.{cases_Bool, eqb-true, eq-eqb}
-use Rattle.ledger_model.specs.Tallies.{Places, all_read, read_of}
+use Rattle.std.proofs.lemmas.Bool.{eqb-true, eq-eqb}
 use Rattle.ledger_model.proofs.Lists.{any_has, has_any}
 use Rattle.instance.specs.Plans.{added}
-use Rattle.instance.proofs.KeptReadings.{read_at, at_read}
+
+-- ---- elements, each at the place of its number
+
+-- where the first place is that of number low
+keys_ascend : {X : Type 0} (key : X → ℕ) (low high : ℕ) (places : List (Option X)) → low + length places ≤ high
+    → ((r : ℕ) (x : X) → read_of places r ≡ Some x → key x ≡ low + r) → ascends_within low high (map key (all_read places)) ≡ true
+keys_ascend key low high [] le at = refl
+keys_ascend key low high (None ∷ places) le at =
+    ascends_lower low (low + 1) high (map key (all_read places)) (omega arith)
+    (keys_ascend key (low + 1) high places (omega arith) (λ r x h. let e = at (suc r) x h in omega (arith, e)))
+keys_ascend key low high (Some x ∷ places) le at =
+    let first = at 0 x refl in
+    let is : key x ≡ low = omega (arith, first) in
+    let rest = keys_ascend key (low + 1) high places (omega arith) (λ r y h. let e = at (suc r) y h in omega (arith, e)) in
+    ascends_from low high (key x) (map key (all_read places)) (omega (arith, is)) (omega (arith, is))
+    (subst (λ k. ascends_within (k + 1) high (map key (all_read places)) ≡ true) (sym is) rest)
+
+-- what was read, in places that are as many as the replicas, ascends by number
+pub read_ascends : {X : Type 0} (key : X → ℕ) (replicas : ℕ) (places : List (Option X)) → length places ≡ replicas
+    → ((r : ℕ) (x : X) → read_of places r ≡ Some x → key x ≡ r) → ascends_within 0 replicas (map key (all_read places)) ≡ true
+read_ascends key replicas places len at = keys_ascend key 0 replicas places (omega arith) (λ r x h. let e = at r x h in omega (arith, e))
+
+-- what was read stands at a place, and what stands at one was read
+pub read_at : {X : Type 0} (places : List (Option X)) (x : X) → Has (all_read places) x → (r : ℕ) × (read_of places r ≡ Some x)
+read_at [] x h = absurd h
+read_at (None ∷ places) x h = let p = read_at places x h in (suc p.0, p.1)
+read_at (Some y ∷ places) x (inl e) = (0, ap Some e)
+read_at (Some y ∷ places) x (inr h) = let p = read_at places x h in (suc p.0, p.1)
+
+at_read : {X : Type 0} (places : List (Option X)) (r : ℕ) (x : X) → read_of places r ≡ Some x → Has (all_read places) x
+at_read [] r x h = cc
+at_read (place ∷ places) r x h = let rest = at_read places in grind arith
 
 some_value : {X : Type 0} (o : Option X) → is_some o ≡ true → (x : X) × (o ≡ Some x)
 some_value (Some x) h = (x, refl)
@@ -29,41 +66,56 @@ taken_place key places at r =
 
 -- ---- an element is put into an empty place
 
+-- a test of what was read
 pub any_put : {X : Type 0} (test : X → Bool) (places : Places X) (r : ℕ) (x : X) → r < length places → read_of places r ≡ None
     → list_any test (all_read (slice_set places r (Some x))) ≡ (list_any test (all_read places) || test x)
 any_put test [] r x below none = absurd (omega arith)
-any_put test (None ∷ places) zero x below none = or_comm (test x) (list_any test (all_read places))
-any_put test (Some y ∷ places) zero x below none = cc
-any_put test (None ∷ places) (suc r) x below none = any_put test places r x (omega arith) none
-any_put test (Some y ∷ places) (suc r) x below none =
-    ap (λ b. test y || b) (any_put test places r x (omega arith) none) ∙ sym (or_assoc (test y) (list_any test (all_read places)) (test x))
+any_put test (place ∷ places) zero x below none = grind arith
+any_put test (place ∷ places) (suc r) x below none = let rest = any_put test places r x in grind arith
 
 -- what stands at a place afterwards is the new element, or stood there
 pub read_put : {X : Type 0} (places : Places X) (r q : ℕ) (x y : X) → read_of (slice_set places r (Some x)) q ≡ Some y
     → ((q ≡ r) × (x ≡ y)) ⊎ (read_of places q ≡ Some y)
 read_put [] r q x y h = inr h
-read_put (place ∷ places) zero zero x y h = inl (refl, cc)
-read_put (place ∷ places) zero (suc q) x y h = inr h
-read_put (place ∷ places) (suc r) zero x y h = inr h
-read_put (place ∷ places) (suc r) (suc q) x y h = elim (read_put places r q x y h) [ inl new ↦ inl (ap suc new.0, new.1) | inr old ↦ inr old ]
+read_put (place ∷ places) zero q x y h = grind arith
+read_put (place ∷ places) (suc r) q x y h = let rest = read_put places r in grind arith
 
 -- what is put into a place stands there, and what stood at another still does
 pub there_now : {X : Type 0} (places : Places X) (r : ℕ) (x : X) → r < length places → read_of (slice_set places r (Some x)) r ≡ Some x
 there_now [] r x below = absurd (omega arith)
-there_now (place ∷ places) zero x below = refl
-there_now (place ∷ places) (suc r) x below = there_now places r x (omega arith)
+there_now (place ∷ places) r x below = let rest = there_now places in grind arith
 
 pub there_still : {X : Type 0} (places : Places X) (r q : ℕ) (x y : X) → read_of places r ≡ None → read_of places q ≡ Some y → read_of (slice_set places r (Some x)) q ≡ Some y
 there_still [] r q x y none some = cc
-there_still (place ∷ places) zero zero x y none some = cc
-there_still (place ∷ places) zero (suc q) x y none some = some
-there_still (place ∷ places) (suc r) zero x y none some = some
-there_still (place ∷ places) (suc r) (suc q) x y none some = there_still places r q x y none some
+there_still (place ∷ places) zero q x y none some = grind arith
+there_still (place ∷ places) (suc r) q x y none some = let rest = there_still places r in grind arith
 
+-- the same where it is kept only if nothing was there
 pub read_added : {X : Type 0} (places : Places X) (r q : ℕ) (x y : X) → read_of (added places r x) q ≡ Some y
     → ((q ≡ r) × (x ≡ y)) ⊎ (read_of places q ≡ Some y)
-read_added places r q x y h =
-    elim (cases_Bool (is_none (read_of places r))) [
-      | inl free ↦ read_put places r q x y (rw free at h)
-      | inr full ↦ inr (rw full at h)
-    ]
+read_added places r q x y h = grind (arith, read_put)
+
+-- ---- places of which nothing was read
+
+pub none_read : {X : Type 0} (n : ℕ) → all_read {X = X} (replicate n None) ≡ []
+none_read zero = refl
+none_read (suc n) = none_read n
+
+pub none_there : {X : Type 0} (n r : ℕ) → read_of {X = X} (replicate n None) r ≡ None
+none_there zero r = refl
+none_there (suc n) zero = refl
+none_there (suc n) (suc r) = none_there n r
+
+-- ---- a row that matches a log
+
+module _ (ring : Ring) (row : Row) (log : List Note) (k : ℕ) (m : MatchesIn ring row log k) where
+  -- the reports and the acknowledgements that are kept are those that were read in the phase
+  pub are_read_in : AreReadIn row.config log k (reports_of (all_read row.reports))
+  are_read_in = record {
+    same = m.reports.same;
+    signers = subst (λ rs. ascends_within 0 row.config.replicas rs ≡ true) (sym (map-map (λ p. p.signer) (λ s. s.report) (all_read row.reports)))
+        (read_ascends (λ s. s.report.signer) row.config.replicas row.reports m.reports.count (λ r s h. (m.reports.kept r s h).of_signer));
+  }
+
+  pub are_acks_in : AreAcksIn row.config log k (all_read row.acks)
+  are_acks_in = record { same = m.acks.same; signers = read_ascends (λ a. a.signer) row.config.replicas row.acks m.acks.count m.acks.ackers }

@@ -1,31 +1,19 @@
 -- ---- the laws
+pub mod AtPlace
 pub mod KeptPlaces
-pub mod KeptReadings
-pub mod PlaceLists
 pub mod ProperStays
+pub mod OneNote
 pub mod Opens
 pub mod Answering
-pub mod SpelledTables
-pub mod ChosenValues
+pub mod SpelledRows
+pub mod OneStatement
 pub mod MaySend
-pub mod SoundRows
-pub mod SpelledPlans
-pub mod SpelledSteps
-pub mod OneRead
-pub mod NewParts
-pub mod ReadNotes
 pub mod OwnLocks
+pub mod SpelledPlans
 pub mod Makes
-pub mod OpenedRounds
-pub mod ClosesReports
-pub mod ClosesLock
-pub mod ClosesAcks
-pub mod ClosesRelease
 pub mod Closes
 -- ---- for the functions
 pub mod LowestSigners
-pub mod LockFaults
-pub mod AnsweredCauses
+pub mod KindCauses
 pub mod SameHeight
 pub mod AtClock
-pub mod ReadOutcome

@@ -1,10 +1,11 @@
 -- What is proper stays as more is noted, where no report of an earlier phase is.
-use Rattle.std.proofs.Common.{◌≡◌, ℕ, zero, suc, ◌+◌, ◌*◌, ◌<◌, ◌≤◌, Bool, true, false, not, ◌&&◌, ◌||◌, cond, inl, inr, List, [], ◌∷◌, ◌++◌, refl, ap, subst, ◌∙◌, arith}
+use Rattle.std.proofs.Common.{◌≡◌, ℕ, zero, suc, ◌+◌, ◌*◌, ◌<◌, ◌≤◌, Bool, true, false, not, ◌&&◌, ◌||◌, cond, inl, inr, List, [], ◌∷◌, ◌++◌, refl, ap, ◌∙◌, arith}
 use Rattle.std.specs.Prelude.{filter, nat_eq, nat_lt, nat_le}
 use Rattle.std.specs.List.{list_any, list_all, flat_map, range_with_len}
 use Rattle.std.proofs.lemmas.List.{append-nil}
 use Rattle.std.proofs.lemmas.Grind.{flat_map-append}
-use Rattle.std.proofs.lemmas.Bool.{cases_Bool, ltb-true, ne_eqb}
+use Rattle.std.proofs.lemmas.Bool.{false_from_ne_true, ne_eqb}
+use Rattle.std.proofs.lemmas.Bool.Decides.{nat_tests}
 use Rattle.ledger_model.specs.declared.config.Config.{Config}
 use Rattle.ledger_model.specs.declared.statement.Report.{Report}
 use Rattle.ledger_model.specs.declared.statement.SignedStatement.{SignedStatement}
@@ -14,19 +15,20 @@ use Rattle.ledger_model.specs.Locks.{names}
 use Rattle.ledger_model.specs.Rounds.{round_at, number_of}
 use Rattle.ledger_model.specs.Notes.{Note, Proposed, Round, Made, Read, Has, reads_in, was_read, is_report}
 use Rattle.ledger_model.specs.Proper.{others_reported, is_named, listed_by_other, values_in, has_initial, is_split, are_all_named, is_all_proper, cut, proper_values}
-use Rattle.ledger_model.proofs.Staying.{any_append}
+use Rattle.ledger_model.proofs.LockSafety.{read_has}
+use Rattle.std.proofs.Math.Bool.{or-false}
+use Rattle.std.proofs.lemmas.List.Folds.{list_any-append}
 use Rattle.proper_sets.specs.Laws.{proper_at}
 
 -- ---- phases from the first on
 
 any_range : (p q : ℕ → Bool) (a n : ℕ) → ((j : ℕ) → a ≤ j → p j ≡ q j) → list_any p (range_with_len a n) ≡ list_any q (range_with_len a n)
 any_range p q a zero same = refl
-any_range p q a (suc n) same = rw (same a (omega arith)) (ap (λ b. q a || b) (any_range p q (a + 1) n (λ j le. same j (omega (arith, le)))))
+any_range p q a (suc n) same = let rest = any_range p q (a + 1) n in grind (arith, same)
 
 flat_map-range : {X : Type 0} (f g : ℕ → List X) (a n : ℕ) → ((j : ℕ) → a ≤ j → f j ≡ g j) → flat_map f (range_with_len a n) ≡ flat_map g (range_with_len a n)
 flat_map-range f g a zero same = refl
-flat_map-range f g a (suc n) same =
-    rw (same a (omega arith)) (ap (λ xs. g a ++ xs) (flat_map-range f g (a + 1) n (λ j le. same j (omega (arith, le)))))
+flat_map-range f g a (suc n) same = let rest = flat_map-range f g (a + 1) n in grind (arith, same)
 
 -- ---- reports
 
@@ -35,15 +37,9 @@ abbrev pub NoneRead : ℕ → List Note → Type 0
 NoneRead j notes = (s : SignedStatement) → Has notes (Read (round_at 1 j) s) → ⊥
 
 report_stays : (log more : List Note) (j : ℕ) → NoneRead j more → (test : Statement → Bool) → was_read (log ++ more) (round_at 1 j) test ≡ was_read log (round_at 1 j) test
-report_stays log more j none test = any_append (reads_in (round_at 1 j) test) log more unread
-  where
-    unread : (n : Note) → Has more n → reads_in (round_at 1 j) test n ≡ false
-    unread (Read d s) has =
-        let other : nat_eq d (round_at 1 j) ≡ false = ne_eqb d (round_at 1 j) (λ e. none s (subst (λ x. Has more (Read x s)) e has)) in
-        simp other refl
-    unread (Proposed v) has = refl
-    unread (Round d) has = refl
-    unread (Made d s) has = refl
+report_stays log more j none test =
+    let unread = false_from_ne_true (was_read more (round_at 1 j) test) (λ e. let r = read_has more (round_at 1 j) test e in none r.0 r.1.0) in
+    list_any-append (reads_in (round_at 1 j) test) log more ∙ ap (λ b. was_read log (round_at 1 j) test || b) unread ∙ or-false _
 
 values_none : (part : Report → List Value) (j : ℕ) (more : List Note) → NoneRead j more → values_in part j more ≡ []
 values_none part j [] none = refl
@@ -83,10 +79,10 @@ module _ (config : Config) (id : ℕ) (log more : List Note) (j : ℕ) (none : N
 -- ---- all phases before k
 
 same_below : {X : Type 0} (j k : ℕ) (x y z : X) → (j < k → x ≡ y) → cond (nat_lt j k) x z ≡ cond (nat_lt j k) y z
-same_below j k x y z same = elim (cases_Bool (nat_lt j k)) [ inl lt ↦ rw lt (same (ltb-true j k lt)) | inr ge ↦ rw ge refl ]
+same_below j k x y z same = grind (arith, nat_tests)
 
 and_below : (j k : ℕ) (p q : Bool) → (j < k → p ≡ q) → (nat_lt j k && p) ≡ (nat_lt j k && q)
-and_below j k p q same = elim (cases_Bool (nat_lt j k)) [ inl lt ↦ rw lt (same (ltb-true j k lt)) | inr ge ↦ rw ge refl ]
+and_below j k p q same = grind (arith, nat_tests)
 
 module _ (config : Config) (id : ℕ) (log more : List Note) (k : ℕ) (own : Value) (none : (j : ℕ) → 1 ≤ j → j < k → NoneRead j more) where
   all_stays : is_all_proper config id (log ++ more) k own ≡ is_all_proper config id log k own

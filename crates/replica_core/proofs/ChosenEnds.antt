@@ -17,7 +17,7 @@ use Rattle.instance.specs.declared.made.Made.TheVariants as made
 use Rattle.instance.specs.Rows.{Row}
 use Rattle.instance.specs.Plans.{MaySend, chosen_statement}
 use Rattle.instance.specs.Laws.{IsFrameMade}
-use Rattle.instance.proofs.MaySend.{own_allowed}
+use Rattle.instance.proofs.MaySend.{own_if_sent}
 use Rattle.instance.proofs.AtClock.{chooses_at}
 use Rattle.replica_core.specs.Holding.{Held, IsHeld, Matches}
 use Rattle.replica_core.specs.RoundEnds.{AreMade, after_end, SignsFrom}
@@ -77,7 +77,7 @@ module _ (ring : Ring) (id : ℕ) (key : List ℕ) (in_ring : slice_get ring id 
   )
   chosen_made leaf (row ∷ rows) (made.Sent f ∷ ms) choices signs verified =
       let may = subst (MaySend row c) signs.0 choices.0.1 in
-      let own = (own_allowed row c f.statement may).signer in (
+      let own = (own_if_sent row c (Some f.statement) may).signer in (
         record { silent = refl; may = may; own = own; signed = signed_by_ring f (own ∙ choices.0.0) verified.0.1; frame = verified.0.0 },
         chosen_made (leaf + 1) rows ms choices.1 signs.2 verified.1,
       )

@@ -1,6 +1,6 @@
 -- The next block is run.
-use Rattle.std.proofs.Common.{◌≡◌, ℕ, ◌+◌, Bool, true, false, List, [], ◌∷◌, ◌++◌, length, refl, sym, ap, subst, ◌∙◌, arith}
-use Rattle.std.specs.Prelude.{◌||◌, Option, Some, None, Result, Ok, Err}
+use Rattle.std.proofs.Common.{◌≡◌, ℕ, ◌+◌, List, [], ◌∷◌, ◌++◌, length, refl, sym, ap, subst, ◌∙◌, arith}
+use Rattle.std.specs.Prelude.{Option, Some, None, Result, Ok, Err}
 use Rattle.std.proofs.Math.Bool.{or-false}
 use Rattle.ledger_model.specs.declared.event.Event.TheVariants as event
 use Rattle.ledger_model.specs.declared.history.Entry.{Entry}
@@ -74,7 +74,6 @@ module _ (held : Held) (one : IsOneCluster held) (entries : List Entry) (matches
 
       commits : commits_of held.config held.id (entries ++ entry ∷ []) ≡ held.commits ++ v ∷ []
       commits = commits_more held.config held.id entries entry v matches.blocks refl decided ∙ ap (λ vs. vs ++ v ∷ []) matches.commits
-
 
 -- the next block is run, or nothing is decided
 pub executes : (held : Held) (answer : Result BlockResult NothingDecided) → IsOneCluster held → answer ≡ execute_held held

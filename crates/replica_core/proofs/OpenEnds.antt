@@ -24,11 +24,9 @@ use Rattle.instance.specs.Rows.{Row}
 use Rattle.instance.specs.Matching.{Matches as MatchesAt}
 use Rattle.instance.specs.Plans.{ended, is_mute_made, sent_in, closed}
 use Rattle.instance.specs.Laws.{MayClose, IsFrameMade, made_in, opened_by}
-use Rattle.instance.proofs.Makes.{no_own_ack}
-use Rattle.instance.proofs.SoundRows.{MayMakeOf}
 use Rattle.instance.proofs.AtClock.{allows_at, sends_at, closes_at}
 use Rattle.replica_core.specs.RoundEnds.{IsMadeAt, sent_own, sent_on, frames_at}
-use Rattle.replica_core.proofs.SentFrames.{statements_in, may_make}
+use Rattle.replica_core.proofs.SentFrames.{MayMakeOf, statements_in, may_make}
 
 -- ---- frames that are read again
 
@@ -68,7 +66,7 @@ none_on row c early = elim (cases_Bool (nat_eq (place_of c) 1)) [
 no_ack : (config : Config) (id h : ℕ) (log : List Note) (c : ℕ) (mute : Bool) → nat_eq (place_of c) 3 ≡ false → own_ack config id h log c mute ≡ []
 unfolding own_ack
 no_ack config id h log c true other = refl
-no_ack config id h log c false other = no_own_ack config id h log c other
+no_ack config id h log c false other = rw other refl
 
 -- nothing is made at place 4
 none_made : (row : Row) (c : ℕ) → nat_eq (place_of c) 4 ≡ true → (m : Made) → MayMakeOf row c m → sent_in m ≡ []
@@ -112,7 +110,7 @@ module _ (config : Config) (ring : Ring) (row : Row) (log : List Note) (clock : 
   locks_alone last =
       two_parts
       ∙ ap (λ ss. ss ++ statements_in (map sent_on (ended row c).sends_on)) (none_made row c last m allowed)
-      ∙ ap (λ fs. statements_in (map sent_on fs)) (sends_at ring row log clock (ended row c) refl old now (eqb-true (place_of c) 4 last))
+      ∙ ap (λ fs. statements_in (map sent_on fs)) (sends_at ring row log clock old now (eqb-true (place_of c) 4 last))
       ∙ read_again (held_locks log) held_frame
 
   -- by the log it may be made
@@ -122,12 +120,12 @@ module _ (config : Config) (ring : Ring) (row : Row) (log : List Note) (clock : 
     where
       by : (x : Made) → MayMakeOf row c x → MayClose row log c x
       by made.Mute may = refl
-      by made.Unsent may = allows_at ring row log clock None may old now
-      by (made.Sent f) may = allows_at ring row log clock (Some f.statement) may old now
+      by made.Unsent may = allows_at ring row log clock old now None may
+      by (made.Sent f) may = allows_at ring row log clock old now (Some f.statement) may
 
   -- what is kept then matches the log that goes on with it
   pub closes_there : MatchesAt ring (closed row c (ended row c) m) (opened_by row log c m)
-  closes_there = closes_at ring row (closed row c (ended row c) m) log clock (ended row c) m refl refl is_made.frame old now may_close is_made.signed
+  closes_there = closes_at ring row log clock old now m is_made.frame may_close is_made.signed
 
   module _ (id h : ℕ) (same_config : row.config ≡ config) (same_id : row.id ≡ id) (same_height : row.height ≡ h) where
     -- what is made is what the frames and the own acknowledgement make it

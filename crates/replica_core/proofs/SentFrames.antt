@@ -1,6 +1,6 @@
 -- The frames that a height sends: what they spell, and that they are signed.
 use Rattle.std.proofs.Common.{◌≡◌, ℕ, ◌+◌, Bool, true, ◌&&◌, List, [], ◌∷◌, ◌++◌, refl, sym, ap, subst, ◌∙◌}
-use Rattle.std.specs.Prelude.{map, MatchBool, Some}
+use Rattle.std.specs.Prelude.{map, MatchBool, Some, None}
 use Rattle.std.specs.List.{filter_map, cons_option, list_all, AllByRecursion}
 use Rattle.std.proofs.lemmas.Bool.{and_from}
 use Rattle.std.proofs.lemmas.List.Elements.{filter_map-append}
@@ -21,9 +21,9 @@ use Rattle.instance.specs.Rows.{Row}
 use Rattle.instance.specs.Matching.{Matches as MatchesAt}
 use Rattle.instance.specs.Plans.{MaySend, ended, is_mute_made, sent_in}
 use Rattle.instance.specs.Laws.{IsSignedMade, IsFrameMade, IsLockSentOn}
-use Rattle.instance.proofs.MaySend.{own_allowed}
-use Rattle.instance.proofs.SoundRows.{MayMakeOf}
-use Rattle.instance.proofs.AtClock.{signed_at, readable_at}
+use Rattle.instance.proofs.MaySend.{own_if_sent}
+use Rattle.instance.proofs.AtClock.{signed_at}
+use Rattle.instance.proofs.Makes.{sends_locks}
 use Rattle.replica_core.specs.RoundEnds.{IsMadeAt, statement_in, sent_own, sent_on, frames_at}
 use Rattle.replica_core.proofs.Elements.{each_append}
 use Rattle.replica_core.proofs.SentHeights.{height_in}
@@ -78,6 +78,12 @@ module _ (config : Config) (ring : Ring) (h : ℕ) where
       (and_from (is_signed ring (as_statement is.lock)) (are_signed_reports ring (statement.Lock is.lock.lock)) is.signed is.proof_signed))
       (locks_sent frames each.1)
 
+-- what may be made as round c opens
+abbrev pub MayMakeOf : Row → ℕ → Made → Type 0
+MayMakeOf row c made.Mute = Unit {0}
+MayMakeOf row c made.Unsent = MaySend row c None
+MayMakeOf row c (made.Sent f) = MaySend row c (Some f.statement)
+
 -- what is kept allows what is made
 pub may_make : (ring : Ring) (mute : Bool) (c : ℕ) (row : Row) (m : Made) → IsMadeAt ring mute c row m → MayMakeOf row c m
 may_make ring mute c row m is_made = by m (subst (λ b. MatchBool b (Unit {0}) (MaySend row c (statement_in m))) (sym is_made.silent) is_made.may)
@@ -93,12 +99,12 @@ module _ (config : Config) (ring : Ring) (row : Row) (log : List Note) (clock : 
   own_sent made.Mute may signed frame = none_sent config ring row.height
   own_sent made.Unsent may signed frame = none_sent config ring row.height
   own_sent (made.Sent f) may signed frame =
-      one_sent config ring row.height (sent_own config f) f (reading-again f frame) refl (own_allowed row (clock + 1) f.statement may).height
-      (and_from (is_signed ring f) (are_signed_reports ring f.statement) signed (signed_at ring row log clock (Some f.statement) may old now))
+      one_sent config ring row.height (sent_own config f) f (reading-again f frame) refl (own_if_sent row (clock + 1) (Some f.statement) may).height
+      (and_from (is_signed ring f) (are_signed_reports ring f.statement) signed (signed_at ring row log clock old now (Some f.statement) may))
 
   -- all frames of the height
   pub frames_sent : (mute : Bool) (m : Made) → IsMadeAt ring mute (clock + 1) row m → AreSentAt config ring row.height (frames_at config (clock + 1) row m)
   frames_sent mute m is_made =
       both_sent config ring row.height (map (sent_own config) (sent_in m)) (map sent_on (ended row (clock + 1)).sends_on)
       (own_sent m (may_make ring mute (clock + 1) row m is_made) is_made.signed is_made.frame)
-      (locks_sent config ring row.height (ended row (clock + 1)).sends_on (readable_at ring row log clock (ended row (clock + 1)) refl old))
+      (locks_sent config ring row.height (ended row (clock + 1)).sends_on (sends_locks ring row log (clock + 1) old))

@@ -1,5 +1,5 @@
 //! A round ends, and the next one opens.
-use crate::core::Core;
+use crate::replica::Core;
 use crate::kept::Kept;
 use crate::sending::frames_to_send;
 use crate::signing::{count_due, make_all, make_none};

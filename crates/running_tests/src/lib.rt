@@ -2,4 +2,10 @@
 #![tactic(auto)]
 
 #[cfg(test)]
+mod board_tests;
+#[cfg(test)]
+mod inbox_tests;
+#[cfg(test)]
+mod inbox_thread_tests;
+#[cfg(test)]
 mod pacer_tests;

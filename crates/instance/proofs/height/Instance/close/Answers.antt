@@ -1,7 +1,8 @@
 use Rattle.std.proofs.Common.{rules, ◌+◌, sym, subst, ap, ◌∙◌}
 use Rattle.instance.specs.Plans.{Ended, closed}
+use Rattle.instance.specs.Laws.{opened_by}
 use Rattle.instance.specs.Reads.{IsSameHeight}
-use Rattle.instance.specs.Matching.{IsSpelled}
+use Rattle.instance.specs.Matching.{Matches, IsSpelled}
 use Rattle.instance.proofs.SpelledPlans.{proper_spelled, proper_config}
 use Rattle.instance.proofs.AtClock.{closes_at}
 use Rattle.instance.proofs.SameHeight.{same_closed}
@@ -13,7 +14,9 @@ returns-clause-row c = search rules
 
 pub returns-clause-matches : goal.returns-clause-matches
 returns-clause-matches c = λ ring log matches clock may signed.
-    closes_at ring _ _ log _ _ _ c.requires.ending (returns-clause-row c) c.put_made.ensures.frame matches clock may signed
+    let row = c.args.self.now in
+    subst (λ r. Matches ring r (opened_by row log (c.args.clock + 1) c.args.made)) (sym (returns-clause-row c ∙ ap (λ e. closed row (c.args.clock + 1) e c.args.made) c.requires.ending))
+    (closes_at ring row log c.args.clock matches clock c.args.made c.put_made.ensures.frame may signed)
 
 pub returns-clause-same : goal.returns-clause-same
 returns-clause-same c =

@@ -10,12 +10,12 @@ use Rattle.instance.proofs.height.Instance.plan_end.Goals as goal
 pub returns-clause-may : goal.returns-clause-may
 returns-clause-may c = λ ring log matches clock.
     let may = subst (MaySend c.args.self.now (c.args.clock + 1)) (sym c.in_ok-chosen_statement.ensures) (chooses_at ring c.args.self.now log c.args.clock matches clock) in
-    allows_at ring c.args.self.now log c.args.clock _ may matches clock
+    allows_at ring c.args.self.now log c.args.clock matches clock _ may
 
 pub returns-clause-proofs : goal.returns-clause-proofs
 returns-clause-proofs c = λ ring log matches clock.
     let may = subst (MaySend c.args.self.now (c.args.clock + 1)) (sym c.in_ok-chosen_statement.ensures) (chooses_at ring c.args.self.now log c.args.clock matches clock) in
-    signed_at ring c.args.self.now log c.args.clock _ may matches clock
+    signed_at ring c.args.self.now log c.args.clock matches clock _ may
 
 pub returns-clause-own : goal.returns-clause-own
 returns-clause-own c =

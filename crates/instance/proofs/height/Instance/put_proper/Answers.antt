@@ -1,5 +1,5 @@
 use Rattle.std.proofs.Common.{sym}
-use Rattle.instance.proofs.SpelledSteps.{keeps_proper}
+use Rattle.instance.proofs.SpelledRows.{keeps_proper}
 use Rattle.instance.proofs.height.Instance.put_proper.Goals as goal
 
 pub invariant_of-self : goal.invariant_of-self

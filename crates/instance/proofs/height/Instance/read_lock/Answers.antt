@@ -2,14 +2,14 @@ use Rattle.std.proofs.Common.{rules, sym, subst, ap, ◌∙◌}
 use Rattle.std.specs.Prelude.{Some, Err}
 use Rattle.ledger_model.specs.declared.statement.SignedStatement.{SignedStatement}
 use Rattle.ledger_model.specs.Spelling.{IsLock, IsStatement}
-use Rattle.instance.proofs.SpelledSteps.{drops_locks, keeps_lock}
-use Rattle.instance.proofs.LockFaults.{lock_fault}
+use Rattle.instance.proofs.SpelledRows.{drops_locks, keeps_lock}
+use Rattle.instance.proofs.KindCauses.{lock_fault}
 use Rattle.instance.proofs.height.Instance.read_lock.Goals as goal
 
 pub returns-in-Err-clause-answer : goal.returns-in-Err-clause-answer
 returns-in-Err-clause-answer c =
     ap Err c.cause_of.ensures
-    ∙ lock_fault c.args.self.now c.args.ring.now c.args.round c.args.frame c.in-Err.fault c.requires.kind c.requires.owner (search rules)
+    ∙ lock_fault c.args.self.now c.args.ring.now c.args.round c.args.frame.statement c.args.frame.signature c.in-Err.fault c.requires.kind c.requires.owner (search rules)
 
 pub invariant_of-self : goal.invariant_of-self
 invariant_of-self c =

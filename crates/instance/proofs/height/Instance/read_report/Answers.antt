@@ -1,6 +1,6 @@
 use Rattle.std.proofs.Common.{refl, sym, subst, ◌∙◌}
 use Rattle.ledger_model.specs.Spelling.{IsReport, IsSignature, IsStatement}
-use Rattle.instance.proofs.SpelledSteps.{keeps_report}
+use Rattle.instance.proofs.SpelledRows.{keeps_report}
 use Rattle.instance.proofs.height.Instance.read_report.Goals as goal
 
 pub invariant_of-self : goal.invariant_of-self

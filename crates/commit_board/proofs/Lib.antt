@@ -1,0 +1,4 @@
+pub mod Heights
+pub mod Seating
+pub mod Moves
+pub mod Makes

@@ -1,0 +1,53 @@
+//! The passes of an inbox: the rights to put and to take.
+use crate::item::Item;
+use crate::log::Log;
+use crossbeam_queue::Pass;
+use std::marker::Model;
+
+/// The right to put under one number. A thread that puts has one.
+#[derive(Drop)]
+pub struct PuttingPass {
+    pub(crate) number: u32,
+    pub(crate) seat: Pass<Item, Log>,
+}
+
+impl Model for PuttingPass {
+    ghost use Rattle.std.specs.Prelude.{◌≡◌, [], true, false};
+    ghost use Rattle.inbox.specs.Passes.{Putter};
+    ghost use Rattle.inbox.specs.Kept.{log_of};
+
+    ghost Value = { Putter };
+
+    ghost view = { λ p. record { inbox = p.seat.table_id; number = p.number; put = (log_of p.seat).items } };
+
+    ghost invariant = { λ p. (p.seat.me.1 ≡ []) × ((log_of p.seat).puts ≡ true) × ((log_of p.seat).takes ≡ false) × ((log_of p.seat).number ≡ p.number) };
+}
+
+impl PuttingPass {
+    ghost use Rattle.std.specs.Prelude.{◌≡◌};
+
+    /// Its number, from 0 on, which its items bear.
+    pub fn number(&self) -> u32
+        ensures { result ≡ self.now.number }
+    {
+        self.number
+    }
+}
+
+/// The right to take. An inbox has one.
+#[derive(Drop)]
+pub struct TakingPass {
+    pub(crate) seat: Pass<Item, Log>,
+}
+
+impl Model for TakingPass {
+    ghost use Rattle.std.specs.Prelude.{◌≡◌, [], true, false};
+    ghost use Rattle.inbox.specs.Passes.{Taker};
+    ghost use Rattle.inbox.specs.Kept.{log_of};
+
+    ghost Value = { Taker };
+
+    ghost view = { λ p. record { inbox = p.seat.table_id; passes = (log_of p.seat).passes; taken = (log_of p.seat).items; ended = (log_of p.seat).ended } };
+
+    ghost invariant = { λ p. (p.seat.me.1 ≡ []) × ((log_of p.seat).takes ≡ true) × ((log_of p.seat).puts ≡ false) };
+}
