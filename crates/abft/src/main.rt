@@ -20,5 +20,5 @@ fn run_host(rt: &HostRuntime) -> io::Result<u8> {
     let mut reader = rt.reader();
     let mut writer = rt.stdout();
     let mut faults = rt.stderr();
-    Ok(run(alloc, &words, &mut reader, &mut writer, &mut faults))
+    Ok(run(rt, alloc, &words, &mut reader, &mut writer, &mut faults))
 }

@@ -1,27 +1,27 @@
 -- A step keeps what a replica's type says.
-use Rattle.std.proofs.Common.{◌≡◌, ℕ, ◌<◌, ◌≤◌, List, [], ◌∷◌, ◌++◌, length, sym, subst, length-append, arith}
-use Rattle.ledger_model.specs.declared.config.Config.{Config}
+use Rattle.std.proofs.Common.{◌≡◌, ◌<◌, ◌≤◌, List, [], ◌∷◌, ◌++◌, length, sym, subst, length-append, arith}
 use Rattle.ledger_model.specs.declared.history.Entry.{Entry}
-use Rattle.ledger_model.specs.Rules.{Ring}
 use Rattle.ledger_model.specs.Lawful.{Replay}
 use Rattle.ledger_model.proofs.Steps.{replays_snoc}
-use Rattle.locked_replica.specs.Holding.{Held}
-use Rattle.locked_replica.specs.Matching.{Matches}
-use Rattle.locked_replica.specs.Steps.{IsStep}
+use Rattle.replica_core.specs.Holding.{Held, Matches}
+use Rattle.replica_core.specs.Steps.{IsStep}
 
 -- the history with the entry is a replay
-pub replay_on : (config : Config) (ring : Ring) (id : ℕ) (entries new : List Entry) (held then : Held) (e : Entry) → Replay config ring id entries → Matches config id entries held → IsStep config ring id held e.event e.reply then
-    → new ≡ entries ++ e ∷ [] → Replay config ring id new
+pub replay_on : (old new : Held) (before after : List Entry) (e : Entry) → Replay old.config old.ring old.id before → Matches old before → IsStep old e.event e.reply new
+    → after ≡ before ++ e ∷ [] → Replay old.config old.ring old.id after
 unfolding Replay
-replay_on config ring id entries new held then e replay was step is =
-    let facts = step entries was in
-    subst (Replay config ring id) (sym is) (replays_snoc config ring id [] entries e replay (facts.0) (facts.1))
+replay_on old new before after e replay was step is =
+    let facts = step before was in
+    subst (Replay old.config old.ring old.id) (sym is) (replays_snoc old.config old.ring old.id [] before e replay (facts.0) (facts.1))
 
 -- and what is kept then matches it
-pub matches_on : (config : Config) (ring : Ring) (id : ℕ) (entries new : List Entry) (held then : Held) (e : Entry) → Matches config id entries held → IsStep config ring id held e.event e.reply then
-    → new ≡ entries ++ e ∷ [] → Matches config id new then
-matches_on config ring id entries new held then e was step is = subst (λ es. Matches config id es then) (sym is) ((step entries was).2)
+pub matches_on : (old new : Held) (before after : List Entry) (e : Entry) → Matches old before → IsStep old e.event e.reply new → after ≡ before ++ e ∷ [] → Matches new after
+matches_on old new before after e was step is = subst (Matches new) (sym is) ((step before was).2)
 
 -- one entry more is no more than there may be
-pub few_on : (entries new : List Entry) (e : Entry) → length entries < 65536 → new ≡ entries ++ e ∷ [] → length new ≤ 65536
-few_on entries new e few is = subst (λ (es : List Entry). length es ≤ 65536) (sym is) (omega (arith, few, length-append entries (e ∷ [])))
+pub few_on : (before after : List Entry) (e : Entry) → length before < 65536 → after ≡ before ++ e ∷ [] → length after ≤ 65536
+few_on before after e few is = subst (λ (es : List Entry). length es ≤ 65536) (sym is) (omega (arith, few, length-append before (e ∷ [])))
+
+-- a replay of the same replica
+pub replay_still : (old new : Held) (entries : List Entry) → new.config ≡ old.config → new.ring ≡ old.ring → new.id ≡ old.id → Replay old.config old.ring old.id entries → Replay new.config new.ring new.id entries
+replay_still old new entries config ring id replay = rw (config, ring, id) replay

@@ -1,10 +1,1 @@
-pub mod Snoc
-pub mod Submits
-pub mod Proposes
-pub mod Delivers
-pub mod Causes
-pub mod RoundEnds
-pub mod HandingLemmas
-pub mod StepLemmas
-pub mod ReportLemmas
 pub mod Applied

@@ -1,14 +1,12 @@
 -- A replica as contracts see it: what it was made with, how many leaves of its key pair are used, and its history.
 use Rattle.std.specs.Prelude.{◌≡◌, ℕ, ◌<◌, ◌≤◌, List, Some, length, slice_get}
 use Rattle.ledger_model.specs.declared.config.Config.{Config}
-use Rattle.ledger_model.specs.declared.config.AppKind.TheVariants.{KvStore}
 use Rattle.ledger_model.specs.declared.history.Entry.{Entry}
 use Rattle.ledger_model.specs.Rules.{Ring}
 use Rattle.ledger_model.specs.Lawful.{Replay}
 use Rattle.lms_tree.specs.Trees.{Secret}
-use Rattle.key_ring.specs.Signers.{key_of}
-use Rattle.locked_replica.specs.Holding.{Held}
-use Rattle.locked_replica.specs.Matching.{Matches}
+use Rattle.key_ring.specs.Signers.{Keys, key_of}
+use Rattle.replica_core.specs.Holding.{Held, Matches}
 
 -- a replica as contracts see it
 pub record Replica : Type 0 where
@@ -19,15 +17,28 @@ pub record Replica : Type 0 where
   pub used : ℕ
   pub entries : List Entry
 
--- the replica is one of its cluster, runs the key-value store, and its key stands in the ring
+-- its keys, with the leaves that are used
+abbrev pub keys_in : Replica → Keys
+keys_in r = record { secret = r.secret; used = r.used }
+
+-- the replica is one of its cluster, and its key stands in the ring
 pub record IsMember (config : Config) (id : ℕ) (ring : Ring) (secret : Secret) : Type 0 where
-  pub kind : config.kind ≡ KvStore
   pub below : id < config.replicas
   pub own : slice_get ring id ≡ Some (key_of secret)
 
+-- the replica that keeps this, with these keys and this history
+abbrev pub replica_of : Held → Keys → List Entry → Replica
+replica_of held keys entries = record {
+  config = held.config;
+  id = held.id;
+  ring = held.ring;
+  secret = keys.secret;
+  used = keys.used;
+  entries = entries;
+}
+
 -- the history is a replay, entry by entry lawful, and what is kept is what the history makes of it
-pub record IsReplica (r : Replica) (held : Held) : Type 0 where
-  pub member : IsMember r.config r.id r.ring r.secret
-  pub few : length r.entries ≤ 65536
-  pub replay : Replay r.config r.ring r.id r.entries
-  pub matches : Matches r.config r.id r.entries held
+pub record IsReplica (held : Held) (entries : List Entry) : Type 0 where
+  pub few : length entries ≤ 65536
+  pub replay : Replay held.config held.ring held.id entries
+  pub matches : Matches held entries

@@ -11,12 +11,9 @@ pub enum ApplyFault {
     /// The history has 65,536 entries. Nothing changed.
     #[error("the history is full")]
     HistoryFull,
-    /// Memory ran out. Nothing changed, but leaves may be used up.
+    /// Memory ran out. Nothing changed, but a round end may have used leaves.
     #[error("out of memory")]
     NoMemory,
-    /// The replica does not take such an event yet. Nothing changed.
-    #[error("not yet")]
-    NotYet,
 }
 
 impl From<AllocError> for ApplyFault {

@@ -1,17 +1,13 @@
-//! One replica, and the one atomic step that changes it.
+//! One replica: its history, and the one atomic step that changes it.
+//!
+//! A [`State`] takes an event, stores it with the reply of its core, and answers the index of the new entry. The core never
+//! reads the history: it keeps what the rules ask of it. The type of a `State` says that this is what the history makes of it,
+//! and that the history is a replay: each entry lawful after those before it, each signature in a reply verified.
 #![tactic(auto)]
 
-mod core_state;
-mod delivering;
 mod entry_view;
 mod fault;
-mod pool;
-mod proposing;
-mod round_end;
-mod signing;
 mod state;
-mod stepping;
-mod submitting;
 
 pub use entry_view::EntryView;
 pub use fault::ApplyFault;

@@ -1,11 +1,12 @@
 //! A replica: its history and what it keeps of it, changed by one event at a time.
-use crate::core_state::Core;
 use crate::entry_view::EntryView;
 use crate::fault::ApplyFault;
-use crate::stepping::{can_take, step};
+use abci::Application;
 use key_ring::{KeyRing, Signer};
-use ledger_model::{Config, Entry, Event, ReplicaId};
-use std::alloc::Global;
+use ledger_model::{Batch, Config, Entry, Event, Height, ReplicaId};
+use replica_core::Core;
+use std::alloc::{AllocError, Global};
+use std::hash::RandomState;
 use std::marker::Model;
 
 /// The most entries of a history.
@@ -16,53 +17,79 @@ pub const MAX_ENTRIES: usize = 65_536;
 /// Its type keeps that the history is a replay, each entry lawful after those before it and each signature in a reply
 /// verified, and that what is kept is what the history makes of it.
 #[derive(Drop)]
-pub struct State {
-    config: Config,
-    id: ReplicaId,
-    ring: KeyRing,
-    signer: Signer,
-    core: Core,
+pub struct State<A: Application> {
+    core: Core<A>,
     entries: Vec<Entry>,
 }
 
-impl Model for State {
-    ghost use Rattle.locked_replica.specs.Replicas.{Replica, IsReplica};
+impl<A: Application> Model for State<A> {
+    ghost use Rattle.locked_replica.specs.Replicas.{Replica, replica_of, IsReplica};
 
     ghost Value = { Replica };
 
-    ghost view = { λ s. record { config = s.config; id = s.id; ring = s.ring; secret = s.signer.secret; used = s.signer.used; entries = s.entries.items } };
+    ghost view = { λ s. replica_of s.core.held s.core.keys s.entries.items };
 
-    ghost invariant = { λ s. IsReplica (record { config = s.config; id = s.id; ring = s.ring; secret = s.signer.secret; used = s.signer.used; entries = s.entries.items }) s.core };
+    ghost invariant = { λ s. IsReplica s.core.held s.entries.items };
 }
 
-impl State {
-    ghost use Rattle.std.specs.Prelude.{◌≡◌, ◌<◌, ◌≤◌, ◌^◌, ◌+◌, ◌↔◌, ◌∷◌, ◌++◌, [], length, slice_get, IfOk, OnErr, OnOk, IsErrOf, IsTrue, ◌==◌, ◌⊎◌};
+impl<A: Application> State<A> {
+    ghost use Rattle.std.specs.Prelude.{◌≡◌, ◌≢◌, ◌<◌, ◌≤◌, ◌+◌, ◌↔◌, ◌∷◌, ◌++◌, [], length, slice_get, Some, IfOk, OnErr, OnOk, IsErrOf, IsTrue, ◌==◌};
+    ghost use Rattle.std.specs.Option.{option_copied};
+    ghost use Rattle.ledger_model.specs.declared.event.Event.TheVariants as events;
     ghost use Rattle.ledger_model.specs.declared.reply.Reply.{Reply};
-    ghost use Rattle.ledger_model.specs.Commits.{commits_of};
+    ghost use Rattle.ledger_model.specs.Applications.{run};
+    ghost use Rattle.ledger_model.specs.Commits.{commits_of, decided_at};
     ghost use Rattle.ledger_model.specs.Lawful.{Lawful, Replay, clock_at, is_signed_reply};
-    ghost use Rattle.key_ring.specs.Signers.{leaves_of};
-    ghost use Rattle.locked_replica.specs.Steps.{IsNotYet, UsesLeaves};
-    ghost use Rattle.locked_replica.specs.Replicas.{Replica, IsMember};
+    ghost use Rattle.ledger_model.specs.Logs.{is_mute};
+    ghost use Rattle.key_ring.specs.Signers.{key_of, leaves_of};
+    ghost use Rattle.replica_core.specs.Steps.{UsesLeaves};
+    ghost use Rattle.replica_core.specs.Telling.{block_at};
+    ghost use Rattle.locked_replica.specs.Replicas.{Replica, IsMember, keys_in};
 
-    /// A replica with no history. The ring has the public keys of the replicas by number.
-    pub fn new(alloc: Global, config: Config, id: ReplicaId, signer: Signer, ring: KeyRing) -> Self
-        requires { IsMember config id ring signer.secret }
-        ensures { result ≡ record { config = config; id = id; ring = ring; secret = signer.secret; used = signer.used; entries = [] } }
+    /// A replica with no history. The application is in its opening state, of the configured kind; the ring has the public keys
+    /// of the replicas by number. The random keys are those of the pool's hashes. The only error is want of memory.
+    pub fn new(
+        alloc: Global,
+        config: Config,
+        id: ReplicaId,
+        signer: Signer,
+        ring: KeyRing,
+        app: A,
+        random: RandomState,
+    ) -> Result<Self, AllocError>
+        requires member { IsMember config id ring signer.secret }
+        requires opening { A.machine app ≡ run config.kind [] }
+        ensures { IfOk result (λ state. state ≡ record { config = config; id = id; ring = ring; secret = signer.secret; used = signer.used; entries = [] }) }
     {
-        State {
-            config,
-            id,
-            ring,
-            signer,
-            core: Core::new(alloc),
+        Ok(State {
+            core: Core::new(alloc, config, id, signer, ring, app, random)?,
             entries: Vec::new(alloc),
-        }
+        })
+    }
+
+    /// The number of the replica.
+    pub fn id(&self) -> ReplicaId
+        ensures id { result ≡ self.now.id }
+        ensures member { self.now.id < self.now.config.replicas }
+        // The ring has its own key at its number.
+        ensures own_key { slice_get self.now.ring self.now.id ≡ Some (key_of self.now.secret) }
+    {
+        self.core.id()
+    }
+
+    /// The cluster that it is of.
+    pub fn config(&self) -> &Config
+        ensures { result.now ≡ self.now.config }
+    {
+        self.core.config()
     }
 
     /// How many entries the history has, at most 65,536.
     pub fn len(&self) -> usize
         ensures len { result ≡ length self.now.entries }
         ensures few { result ≤ 65536 }
+        // Each entry is lawful after those before it.
+        ensures replay { Replay self.now.config self.now.ring self.now.id self.now.entries }
     {
         self.entries.len()
     }
@@ -74,26 +101,10 @@ impl State {
         self.entries.is_empty()
     }
 
-    /// The round that is open: 0 before the first.
-    pub fn clock(&self) -> u32
-        ensures { result ≡ clock_at self.now.entries }
-    {
-        self.core.clock
-    }
-
-    /// The committed height.
-    pub fn height(&self) -> u32
-        ensures { result ≡ length (commits_of self.now.config self.now.id self.now.entries) }
-    {
-        // What is kept is opened for the proof: no block was run yet.
-        let _ = &self.core;
-        let committed = 0;
-        committed
-    }
-
     /// The entry of an index.
     pub fn entry(&self, index: usize) -> Option<EntryView<'_>>
-        ensures { result ≡ slice_get self.now.entries index }
+        ensures entry { result ≡ slice_get self.now.entries index }
+        ensures replay { Replay self.now.config self.now.ring self.now.id self.now.entries }
     {
         match self.entries.get(index) {
             Some(entry) => Some(EntryView::new(entry)),
@@ -101,45 +112,75 @@ impl State {
         }
     }
 
+    /// The round that is open: 0 before the first.
+    pub fn clock(&self) -> u32
+        ensures { result ≡ clock_at self.now.entries }
+    {
+        self.core.clock()
+    }
+
+    /// Whether it is mute: it signs nothing, ever again.
+    pub fn is_mute(&self) -> bool
+        ensures { result ≡ is_mute self.now.entries }
+    {
+        self.core.is_mute()
+    }
+
+    /// How many more statements it can sign.
+    pub fn leaves_left(&self) -> u32
+        ensures { self.now.used + result ≡ leaves_of self.now.secret }
+    {
+        self.core.leaves_left()
+    }
+
+    /// The committed height.
+    pub fn height(&self) -> u32
+        ensures { result ≡ length (commits_of self.now.config self.now.id self.now.entries) }
+    {
+        self.core.height()
+    }
+
+    /// The committed batch of a height: none at 0, and none above the committed height.
+    pub fn block(&self, height: Height) -> Option<&Batch>
+        ensures { option_copied result ≡ block_at (commits_of self.now.config self.now.id self.now.entries) height }
+    {
+        self.core.block(height)
+    }
+
+    /// The batch that was decided at a height, committed or not.
+    pub fn decided_at(&self, height: Height) -> Option<&Batch>
+        ensures { option_copied result ≡ decided_at self.now.config self.now.id self.now.entries height }
+    {
+        self.core.decided_at(height)
+    }
+
     /// Takes one event: the atomic step. Answers the index of the new entry, which holds the event and its reply.
     ///
-    /// `HistoryFull` comes exactly with 65,536 entries, and else `NotYet` exactly for an event that is left out so far;
-    /// both change nothing. After `NoMemory` the history is as before, and leaves may be used up. A round end uses one
-    /// leaf for each frame that it sends, and the replica is mute only where none is left.
+    /// `HistoryFull` comes exactly with 65,536 entries, and changes nothing. After `NoMemory` all is as before, but a round end
+    /// may have used leaves.
     pub fn apply(&mut self, event: Event) -> Result<usize, ApplyFault>
         ensures index { IfOk result (λ index. index ≡ length self.old.entries) }
         ensures added { OnOk result ((reply : Reply)
             × ((self.new.entries ≡ self.old.entries ++ record { event = event; reply = reply } ∷ [])
             × Lawful self.old.config self.old.ring self.old.id self.old.entries event reply
             × IsTrue (is_signed_reply self.old.ring reply)
-            × UsesLeaves (leaves_of self.old.secret) self.old.used reply self.new.used)) }
+            × UsesLeaves (keys_in self.old) (clock_at self.old.entries) reply (keys_in self.new))) }
         ensures full { IsErrOf result ApplyFault.HistoryFull ↔ (65536 ≤ length self.old.entries) }
-        ensures not_yet { IsErrOf result ApplyFault.NotYet
-            ↔ ((length self.old.entries < 65536) × IsNotYet self.old.config self.old.id self.old.entries event) }
         ensures history_stays { OnErr result (self.new.entries ≡ self.old.entries) }
         ensures rest_stays { self.new ≡ record self.old { used = self.new.used; entries = self.new.entries } }
         ensures leaves { self.old.used ≤ self.new.used }
-        ensures refused { (IsErrOf result ApplyFault.HistoryFull ⊎ IsErrOf result ApplyFault.NotYet) → self.new ≡ self.old }
+        ensures refused { IsErrOf result ApplyFault.HistoryFull → self.new ≡ self.old }
+        // A fault spends leaves at a round end alone.
+        ensures spared { OnErr result (event ≢ events.RoundEnd → self.new ≡ self.old) }
         ensures replay { Replay self.new.config self.new.ring self.new.id self.new.entries }
     {
         let index = self.entries.len();
         if index >= MAX_ENTRIES {
             return Err(ApplyFault::HistoryFull);
         }
-        if !can_take(&self.core, &event) {
-            return Err(ApplyFault::NotYet);
-        }
         let alloc = *self.entries.allocator();
         self.entries.reserve(1)?;
-        let reply = step(
-            alloc,
-            &self.config,
-            self.id,
-            &self.ring,
-            &mut self.signer,
-            &mut self.core,
-            &event,
-        )?;
+        let reply = self.core.step(alloc, &event)?;
         match self.entries.push(Entry { event, reply }) {
             Ok(()) => Ok(index),
             Err(_) => unreachable!(),

@@ -2,6 +2,7 @@
 use crate::line::Line;
 use crate::printing::print;
 use crate::program_fault::ProgramFault;
+use app_kinds::AnyKind;
 use bytes::Bytes;
 use cluster_keys::signer_and_ring;
 use ledger_model::{Event, Ignored, Reply};
@@ -9,6 +10,7 @@ use locked_replica::State;
 use settings::DeliverSettings;
 use signed_frames::{Frame, FrameFault, FrameReader};
 use std::alloc::Global;
+use std::hash::RandomState;
 use std::io::{Read, Write};
 
 /// The most bytes of standard input that are read at once.
@@ -24,25 +26,30 @@ pub(crate) enum StreamEnd {
 }
 
 /// The replica of the settings, to which nothing happened.
-fn replica(alloc: Global, settings: &DeliverSettings) -> Result<State, ProgramFault> {
+fn replica(
+    alloc: Global,
+    settings: &DeliverSettings,
+    random: RandomState,
+) -> Result<State<AnyKind>, ProgramFault> {
+    let config = settings.cluster.config;
     let (signer, ring) = signer_and_ring(alloc, &settings.cluster, settings.replica)?;
-    Ok(State::new(
-        alloc,
-        settings.cluster.config,
-        settings.replica,
-        signer,
-        ring,
-    ))
+    let app = AnyKind::new(alloc, config.kind);
+    let state = State::new(alloc, config, settings.replica, signer, ring, app, random)?;
+    Ok(state)
 }
 
 /// Lets an event happen, whose reply isn't asked for.
-fn happen(state: &mut State, event: Event) -> Result<(), ProgramFault> {
+fn happen(state: &mut State<AnyKind>, event: Event) -> Result<(), ProgramFault> {
     state.apply(event)?;
     Ok(())
 }
 
 /// Submits the value, opens the height and ends the rounds.
-fn start(alloc: Global, settings: &DeliverSettings, state: &mut State) -> Result<(), ProgramFault> {
+fn start(
+    alloc: Global,
+    settings: &DeliverSettings,
+    state: &mut State<AnyKind>,
+) -> Result<(), ProgramFault> {
     let value = Bytes::copy_from_slice(alloc, settings.value.as_bytes())?;
     happen(state, Event::Submit(value))?;
     happen(state, Event::Propose(settings.height))?;
@@ -53,7 +60,7 @@ fn start(alloc: Global, settings: &DeliverSettings, state: &mut State) -> Result
 }
 
 /// Delivers bytes to the replica, and gives what it answers.
-fn answer(state: &mut State, bytes: Bytes) -> Result<Result<(), Ignored>, ProgramFault> {
+fn answer(state: &mut State<AnyKind>, bytes: Bytes) -> Result<Result<(), Ignored>, ProgramFault> {
     let index = state.apply(Event::Deliver(bytes))?;
     match state.entry(index).map(|entry| entry.reply()) {
         Some(Reply::Delivered(answer)) => Ok(*answer),
@@ -64,7 +71,7 @@ fn answer(state: &mut State, bytes: Bytes) -> Result<Result<(), Ignored>, Progra
 /// Delivers the frames, and writes a line for each.
 fn deliver_all<W: Write>(
     alloc: Global,
-    state: &mut State,
+    state: &mut State<AnyKind>,
     frames: Vec<Frame>,
     writer: &mut W,
 ) -> Result<(), ProgramFault> {
@@ -82,7 +89,7 @@ fn deliver_all<W: Write>(
 /// the last line says so.
 fn deliver_piece<W: Write>(
     alloc: Global,
-    state: &mut State,
+    state: &mut State<AnyKind>,
     frames: &mut FrameReader,
     piece: &[u8],
     writer: &mut W,
@@ -104,7 +111,7 @@ fn deliver_piece<W: Write>(
 /// no frame.
 fn deliver_pieces<R: Read, W: Write>(
     alloc: Global,
-    state: &mut State,
+    state: &mut State<AnyKind>,
     frames: &mut FrameReader,
     reader: &mut R,
     writer: &mut W,
@@ -125,7 +132,7 @@ fn deliver_pieces<R: Read, W: Write>(
 /// Delivers the frames of a stream to the replica.
 fn deliver_stream<R: Read, W: Write>(
     alloc: Global,
-    state: &mut State,
+    state: &mut State<AnyKind>,
     reader: &mut R,
     writer: &mut W,
 ) -> Result<StreamEnd, ProgramFault> {
@@ -141,14 +148,15 @@ fn deliver_stream<R: Read, W: Write>(
 }
 
 /// Delivers the frames of a stream to the replica of the settings, and writes a line for each; the last line says what is
-/// wrong with the stream, if anything is.
+/// wrong with the stream, if anything is. The random keys are those of the replica's hashes.
 pub(crate) fn deliver<R: Read, W: Write>(
     alloc: Global,
     settings: &DeliverSettings,
+    random: RandomState,
     reader: &mut R,
     writer: &mut W,
 ) -> Result<StreamEnd, ProgramFault> {
-    let mut state = replica(alloc, settings)?;
+    let mut state = replica(alloc, settings, random)?;
     start(alloc, settings, &mut state)?;
     deliver_stream(alloc, &mut state, reader, writer)
 }

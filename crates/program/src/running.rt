@@ -7,7 +7,9 @@ use frame_signing::signed_frame;
 use settings::{Settings, SignSettings};
 use signed_frames::Frame;
 use std::alloc::Global;
+use std::hash::RandomState;
 use std::io::{self, ErrorKind, Read, Write};
+use std::random::RandomSource;
 
 /// All was done.
 const DONE: u8 = 0;
@@ -19,8 +21,10 @@ const BAD_USAGE: u8 = 2;
 const STOPPED: u8 = 3;
 
 /// Runs the program on its words, of which the first is its name, and answers its exit status: 0 done, 1 bad input, 2 bad
-/// usage, 3 no memory, a full history or a failed stream. At 2 and 3 it writes to `faults` what is wrong.
-pub fn run<R: Read, W: Write, F: Write>(
+/// usage, 3 no memory, a full history or a failed stream. At 2 and 3 it writes to `faults` what is wrong. The random bytes
+/// of `source` are the keys of hashes.
+pub fn run<S: RandomSource, R: Read, W: Write, F: Write>(
+    source: &S,
     alloc: Global,
     words: &[&str],
     reader: &mut R,
@@ -29,7 +33,7 @@ pub fn run<R: Read, W: Write, F: Write>(
 ) -> u8 {
     match settings(alloc, words) {
         Ok(settings) => {
-            let done = perform(alloc, &settings, reader, writer);
+            let done = perform(source, alloc, &settings, reader, writer);
             finish(alloc, done, faults)
         }
         Err(fault) => tell(alloc, &fault, writer, faults),
@@ -65,7 +69,8 @@ pub fn refuse_words<F: Write>(alloc: Global, error: io::Error, faults: &mut F) -
 }
 
 /// Does what the settings ask for.
-fn perform<R: Read, W: Write>(
+fn perform<S: RandomSource, R: Read, W: Write>(
+    source: &S,
     alloc: Global,
     settings: &Settings,
     reader: &mut R,
@@ -73,7 +78,10 @@ fn perform<R: Read, W: Write>(
 ) -> Result<StreamEnd, ProgramFault> {
     let end = match settings {
         Settings::Sign(settings) => sign(alloc, settings, writer)?,
-        Settings::Deliver(settings) => deliver(alloc, settings, reader, writer)?,
+        Settings::Deliver(settings) => {
+            let random = RandomState::new(source)?;
+            deliver(alloc, settings, random, reader, writer)?
+        }
     };
     writer.flush()?;
     Ok(end)

@@ -3,6 +3,7 @@ use program::{refuse_words, run};
 use std::alloc::Global;
 use std::io::{self, ErrorKind, Read, Write};
 use std::process::Abort;
+use std::random::RandomSource;
 use std::test::Fail;
 
 /// A stream that gives the length of a frame once, and then fails.
@@ -46,12 +47,19 @@ impl Write for Counted {
 }
 
 /// The frame that `abft sign report` writes, twice.
-fn report_twice<R: Abort>(rt: &R, alloc: Global) -> Result<Vec<u8>, Fail> {
+fn report_twice<R: Abort + RandomSource>(rt: &R, alloc: Global) -> Result<Vec<u8>, Fail> {
     let mut frames = Vec::new(alloc);
     let mut faults = Vec::new(alloc);
     for _ in 0..2 {
         let words = ["abft", "sign", "report"];
-        let status = run(alloc, &words, &mut b"".as_slice(), &mut frames, &mut faults);
+        let status = run(
+            rt,
+            alloc,
+            &words,
+            &mut b"".as_slice(),
+            &mut frames,
+            &mut faults,
+        );
         assert_eq!(rt; status, 0);
     }
     assert!(rt; faults.is_empty());
@@ -65,6 +73,7 @@ fn a_write_that_fails_in_mid_stream_stops_the_program(rt: HostRuntime) -> Result
     let mut room = [0u8; 12];
     let mut faults = Vec::new(alloc);
     let status = run(
+        &rt,
         alloc,
         &["abft", "deliver"],
         &mut frames.as_slice(),
@@ -88,7 +97,7 @@ fn each_line_is_one_write(rt: HostRuntime) -> Result<(), Fail> {
     let mut faults = Counted { writes: 0, ends: 0 };
     for words in [["abft", "deliver"], ["abft", "vote"]] {
         let mut reader = frames.as_slice();
-        let _ = run(alloc, &words, &mut reader, &mut output, &mut faults);
+        let _ = run(&rt, alloc, &words, &mut reader, &mut output, &mut faults);
     }
     assert_eq!(rt; (output.writes, output.ends), (2, 2));
     assert_eq!(rt; (faults.writes, faults.ends), (1, 1));
@@ -102,7 +111,7 @@ fn a_read_that_fails_in_mid_stream_stops_the_program(rt: HostRuntime) {
     let mut output = Vec::new(alloc);
     let mut faults = Vec::new(alloc);
     let words = ["abft", "deliver"];
-    let status = run(alloc, &words, &mut reader, &mut output, &mut faults);
+    let status = run(&rt, alloc, &words, &mut reader, &mut output, &mut faults);
     assert_eq!(rt; status, 3);
     assert!(rt; output.is_empty());
     assert_eq!(rt; faults.as_slice(), b"error: timed out\n".as_slice());

@@ -5,3 +5,4 @@ pub mod ChosenEnds
 pub mod Replicas
 pub mod Signing
 pub mod Sending
+pub mod Telling

@@ -1,6 +1,6 @@
 //! A round ends, and the next one opens.
-use crate::replica::Core;
 use crate::kept::Kept;
+use crate::replica::Core;
 use crate::sending::frames_to_send;
 use crate::signing::{count_due, make_all, make_none};
 use abci::Application;

@@ -15,5 +15,6 @@ mod replica;
 mod sending;
 mod signing;
 mod submitting;
+mod telling;
 
 pub use replica::Core;

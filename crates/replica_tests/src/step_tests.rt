@@ -1,5 +1,6 @@
 //! Replica 0 of four, whose ring has its own key alone, applies events.
 
+use app_kinds::AnyKind;
 use bytes::Bytes;
 use key_ring::{KeyRing, Signer};
 use ledger_model::{
@@ -7,8 +8,9 @@ use ledger_model::{
     SubmitRefusal,
 };
 use lm_ots::{Identifier, Params, Seed, TreeHeight, Width};
-use locked_replica::{ApplyFault, State};
+use locked_replica::State;
 use std::alloc::Global;
+use std::hash::RandomState;
 use std::test::Fail;
 
 const PARAMS: Params = Params {
@@ -20,11 +22,13 @@ fn signer(alloc: Global) -> Result<Signer, Fail> {
     Ok(Signer::new(alloc, PARAMS, Identifier::new([7; 16]), Seed::new([9; 32]))?)
 }
 
-fn replica(alloc: Global) -> Result<State, Fail> {
+fn replica(alloc: Global, random: RandomState) -> Result<State<AnyKind>, Fail> {
     let signer = signer(alloc)?;
     let config = Config::new(4, 1, AppKind::KvStore)?;
     let ring = KeyRing::new(vec![in alloc; signer.public()]?);
-    Ok(State::new(alloc, config, ReplicaId::new(0), signer, ring))
+    let app = AnyKind::new(alloc, config.kind);
+    let id = ReplicaId::new(0);
+    Ok(State::new(alloc, config, id, signer, ring, app, random)?)
 }
 
 fn submit(bytes: &'static [u8]) -> Event {
@@ -36,25 +40,28 @@ fn propose(height: u32) -> Event {
 }
 
 // What is known of a replica at once: its entries, its round, the height of its application, and whether it has no entry.
-fn numbers(state: &State) -> (usize, u32, u32, bool) {
+fn numbers(state: &State<AnyKind>) -> (usize, u32, u32, bool) {
     (state.len(), state.clock(), state.height(), state.is_empty())
 }
 
 #[test]
 fn a_new_replica_has_no_history(rt: HostRuntime) -> Result<(), Fail> {
-    let state = replica(rt.alloc())?;
+    let state = replica(rt.alloc(), RandomState::new(&rt)?)?;
     assert_eq!(rt; numbers(&state), (0, 0, 0, true));
     assert!(rt; state.entry(0).is_none());
     Ok(())
 }
 
 // Why a submit is refused, if it is.
-fn submitted(state: &mut State, bytes: &'static [u8]) -> Result<Result<(), SubmitRefusal>, Fail> {
+fn submitted(
+    state: &mut State<AnyKind>,
+    bytes: &'static [u8],
+) -> Result<Result<(), SubmitRefusal>, Fail> {
     let index = state.apply(submit(bytes))?;
     answer_at(state, index)
 }
 
-fn answer_at(state: &State, index: usize) -> Result<Result<(), SubmitRefusal>, Fail> {
+fn answer_at(state: &State<AnyKind>, index: usize) -> Result<Result<(), SubmitRefusal>, Fail> {
     let entry = state.entry(index).ok_or("the entry is there")?;
     match entry.reply() {
         Reply::Submitted(given) => Ok(*given),
@@ -64,7 +71,7 @@ fn answer_at(state: &State, index: usize) -> Result<Result<(), SubmitRefusal>, F
 
 #[test]
 fn submits_are_refused_by_their_causes(rt: HostRuntime) -> Result<(), Fail> {
-    let mut state = replica(rt.alloc())?;
+    let mut state = replica(rt.alloc(), RandomState::new(&rt)?)?;
     for (bytes, answer) in [
         (b"a=1".as_slice(), Ok(())),
         (b"a=1".as_slice(), Err(SubmitRefusal::Duplicate)),
@@ -78,12 +85,18 @@ fn submits_are_refused_by_their_causes(rt: HostRuntime) -> Result<(), Fail> {
 }
 
 // How many transactions the proposal of a height has, or why there is none.
-fn proposed(state: &mut State, height: u32) -> Result<Result<usize, ProposeRefusal>, Fail> {
+fn proposed(
+    state: &mut State<AnyKind>,
+    height: u32,
+) -> Result<Result<usize, ProposeRefusal>, Fail> {
     let index = state.apply(propose(height))?;
     proposal_at(state, index)
 }
 
-fn proposal_at(state: &State, index: usize) -> Result<Result<usize, ProposeRefusal>, Fail> {
+fn proposal_at(
+    state: &State<AnyKind>,
+    index: usize,
+) -> Result<Result<usize, ProposeRefusal>, Fail> {
     let entry = state.entry(index).ok_or("the entry is there")?;
     match entry.reply() {
         Reply::Proposed(Ok(batch)) => Ok(Ok(batch.transactions().len())),
@@ -94,13 +107,15 @@ fn proposal_at(state: &State, index: usize) -> Result<Result<usize, ProposeRefus
 
 #[test]
 fn a_height_is_opened_or_refused_by_its_cause(rt: HostRuntime) -> Result<(), Fail> {
-    let mut state = replica(rt.alloc())?;
+    let mut state = replica(rt.alloc(), RandomState::new(&rt)?)?;
     assert_eq!(rt; submitted(&mut state, b"a=1")?, Ok(()));
     for (height, answer) in [
         (0, Err(ProposeRefusal::Closed)),
         (4097, Err(ProposeRefusal::Closed)),
         (5, Err(ProposeRefusal::TooFar)),
         (1, Ok(1)),
+        (1, Err(ProposeRefusal::AlreadyOpen)),
+        (4, Ok(1)),
     ] {
         assert_eq!(rt; proposed(&mut state, height)?, answer);
     }
@@ -116,7 +131,7 @@ fn is_one_to_all(ended: &RoundEnded, len: usize) -> bool {
 }
 
 // Whether the entry is a round end that is not mute and sends one frame of this length to all.
-fn sends_one(state: &State, index: usize, len: usize) -> Result<bool, Fail> {
+fn sends_one(state: &State<AnyKind>, index: usize, len: usize) -> Result<bool, Fail> {
     let entry = state.entry(index).ok_or("the entry is there")?;
     match (entry.event(), entry.reply()) {
         (Event::RoundEnd, Reply::RoundEnded(Ok(ended))) => {
@@ -128,7 +143,7 @@ fn sends_one(state: &State, index: usize, len: usize) -> Result<bool, Fail> {
 
 #[test]
 fn a_report_is_sent_as_the_first_round_opens(rt: HostRuntime) -> Result<(), Fail> {
-    let mut state = replica(rt.alloc())?;
+    let mut state = replica(rt.alloc(), RandomState::new(&rt)?)?;
     assert_eq!(rt; submitted(&mut state, b"a=1")?, Ok(()));
     assert_eq!(rt; proposed(&mut state, 1)?, Ok(1));
     let index = state.apply(Event::RoundEnd)?;
@@ -137,23 +152,72 @@ fn a_report_is_sent_as_the_first_round_opens(rt: HostRuntime) -> Result<(), Fail
     Ok(())
 }
 
-fn is_not_yet(state: &mut State, event: Event) -> bool {
-    state.apply(event) == Err(ApplyFault::NotYet)
+// Whether the entry is a round end that is not mute and sends nothing.
+fn sends_nothing(state: &State<AnyKind>, index: usize) -> Result<bool, Fail> {
+    let entry = state.entry(index).ok_or("the entry is there")?;
+    match entry.reply() {
+        Reply::RoundEnded(Ok(ended)) => Ok(!ended.mute && ended.frames.as_slice().is_empty()),
+        _ => Ok(false),
+    }
+}
+
+// Whether the next round opens, and nothing is sent.
+fn opens_quietly(state: &mut State<AnyKind>) -> Result<bool, Fail> {
+    let index = state.apply(Event::RoundEnd)?;
+    sends_nothing(state, index)
+}
+
+// Whether the first four rounds open, and one report alone is sent, of a height that was opened.
+fn opens_four_rounds(state: &mut State<AnyKind>) -> Result<bool, Fail> {
+    let index = state.apply(Event::RoundEnd)?;
+    let is_sent = sends_one(state, index, 2377)?;
+    let is_second_quiet = opens_quietly(state)?;
+    let is_third_quiet = opens_quietly(state)?;
+    let is_fourth_quiet = opens_quietly(state)?;
+    Ok(is_sent && is_second_quiet && is_third_quiet && is_fourth_quiet)
+}
+
+// Whether the next block is answered as not decided.
+fn has_no_block(state: &mut State<AnyKind>) -> Result<bool, Fail> {
+    let index = state.apply(Event::Execute)?;
+    let entry = state.entry(index).ok_or("the entry is there")?;
+    match entry.reply() {
+        Reply::Executed(answer) => Ok(answer.is_err()),
+        _ => Ok(false),
+    }
 }
 
 fn query(alloc: Global) -> Result<Event, Fail> {
     Ok(Event::Query(Key::new(Vec::new(alloc))?, Height::new(0)))
 }
 
+// Whether the query is answered with height 0 and no value.
+fn finds_nothing(state: &mut State<AnyKind>, query: Event) -> Result<bool, Fail> {
+    let index = state.apply(query)?;
+    let entry = state.entry(index).ok_or("the entry is there")?;
+    match entry.reply() {
+        Reply::Queried(Ok(answer)) => Ok(answer.height.number() == 0 && answer.value.is_none()),
+        _ => Ok(false),
+    }
+}
+
+// Whether a replica of the four that is not mute, with 31 leaves left, has neither decided height 1 nor committed it.
+fn waits_at_one(state: &State<AnyKind>) -> bool {
+    let height = Height::new(1);
+    let is_undecided = state.decided_at(height).is_none() && state.block(height).is_none();
+    let is_loud = !state.is_mute() && state.leaves_left() == 31;
+    is_undecided && is_loud && state.config().replicas == 4 && state.id().number() == 0
+}
+
 #[test]
-fn what_is_left_out_is_not_yet_taken(rt: HostRuntime) -> Result<(), Fail> {
-    let mut state = replica(rt.alloc())?;
-    assert_eq!(rt; proposed(&mut state, 1)?, Ok(0));
-    state.apply(Event::RoundEnd)?;
-    assert!(rt; is_not_yet(&mut state, Event::RoundEnd));
-    assert!(rt; is_not_yet(&mut state, Event::Execute));
-    assert!(rt; is_not_yet(&mut state, propose(2)));
-    assert!(rt; is_not_yet(&mut state, query(rt.alloc())?));
-    assert_eq!(rt; state.len(), 2);
+fn a_replica_alone_decides_nothing(rt: HostRuntime) -> Result<(), Fail> {
+    let mut state = replica(rt.alloc(), RandomState::new(&rt)?)?;
+    assert_eq!(rt; submitted(&mut state, b"a=1")?, Ok(()));
+    assert_eq!(rt; proposed(&mut state, 1)?, Ok(1));
+    assert!(rt; opens_four_rounds(&mut state)?);
+    assert!(rt; has_no_block(&mut state)?);
+    assert!(rt; finds_nothing(&mut state, query(rt.alloc())?)?);
+    assert_eq!(rt; numbers(&state), (8, 4, 0, false));
+    assert!(rt; waits_at_one(&state));
     Ok(())
 }

@@ -1,17 +1,16 @@
-use Rattle.std.proofs.Common.{◌≡◌, [], sym, subst, lit≤, length, ◌≤◌}
+use Rattle.std.proofs.Common.{◌≡◌, ◌≤◌, [], length, lit≤, sym, subst}
 use Rattle.ledger_model.specs.Lawful.{Replay, ReplaysFrom}
-use Rattle.locked_replica.specs.Matching.{Matches}
-use Rattle.locked_replica.proofs.Snoc.{new_matches}
+use Rattle.replica_core.specs.Holding.{Matches}
 use Rattle.locked_replica.proofs.state.State.new.Goals as goal
 
+-- nothing happened yet
 pub invariant_of-result : goal.invariant_of-result
 unfolding Replay ReplaysFrom
-invariant_of-result c =
+invariant_of-result g c =
+    let held = c.in_ok-new.field-0.held in
     let none : c.new-2.result.items ≡ [] = c.new-2.ensures.items in
     record {
-      member = c.requires;
-      few = subst (λ es. length es ≤ 65536) (sym none) (lit≤ tt);
-      replay = subst (Replay c.args.config c.args.ring c.args.id) (sym none) tt;
-      matches = subst (λ held. Matches c.args.config c.args.id c.new-2.result.items held) (sym c.new.ensures)
-          (subst (λ es. Matches c.args.config c.args.id es _) (sym none) (new_matches c.args.config c.args.id));
+      few = subst (λ entries. length entries ≤ 65536) (sym none) (lit≤ tt);
+      replay = subst (Replay held.config held.ring held.id) (sym none) tt;
+      matches = subst (Matches held) (sym none) c.in_ok-new.ensures.matches;
     }

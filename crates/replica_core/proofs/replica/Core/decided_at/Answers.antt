@@ -1,0 +1,8 @@
+use Rattle.std.proofs.Common.{sym, ◌∙◌}
+use Rattle.replica_core.proofs.Unopened.{decided_there}
+use Rattle.replica_core.proofs.replica.Core.decided_at.Goals as goal
+
+-- what is held decides what each history decided that it matches
+pub returns-clause-decided : goal.returns-clause-decided
+returns-clause-decided g c = rw (sym c.self.view_is)
+    (λ entries matches. c.decided_at.ensures.row ∙ decided_there c.self.inside.kept entries matches c.decided_at.ensures.one c.args.height)

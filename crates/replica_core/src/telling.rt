@@ -1,0 +1,127 @@
+//! What the core of a replica tells of itself. Nothing here changes it.
+use crate::kept::Kept;
+use crate::replica::Core;
+use abci::Application;
+use ledger_model::{Batch, Config, Height, ReplicaId};
+
+impl<A: Application> Kept<A> {
+    ghost use Rattle.std.specs.Prelude.{◌≡◌, ◌<◌, ◌≤◌};
+    ghost use Rattle.std.specs.Option.{option_copied};
+    ghost use Rattle.ledger_model.specs.Limits.{last_round};
+    ghost use Rattle.height_row.specs.Heights.{row_at, decided_in};
+    ghost use Rattle.replica_core.specs.Holding.{IsOneCluster};
+    ghost use Rattle.replica_core.specs.Telling.{block_at};
+
+    fn id(&self) -> ReplicaId
+        ensures id { result ≡ self.now.id }
+        ensures member { self.now.id < self.now.config.replicas }
+    {
+        self.id
+    }
+
+    fn config(&self) -> &Config
+        ensures { result.now ≡ self.now.config }
+    {
+        &self.config
+    }
+
+    fn clock(&self) -> u32
+        ensures clock { result ≡ self.now.clock }
+        ensures early { result ≤ last_round }
+    {
+        self.clock
+    }
+
+    fn block(&self, height: Height) -> Option<&Batch>
+        ensures { option_copied result ≡ block_at self.now.commits height }
+    {
+        let number = height.number() as usize;
+        if number == 0 {
+            return None;
+        }
+        self.committed.get(number - 1)
+    }
+
+    fn decided_at(&self, height: Height) -> Option<&Batch>
+        ensures row { option_copied result ≡ decided_in (row_at self.now.rows height) }
+        ensures one { IsOneCluster self.now }
+    {
+        self.rows.decided_at(height)
+    }
+}
+
+impl<A: Application> Core<A> {
+    ghost use Rattle.std.specs.Prelude.{◌≡◌, ◌<◌, ◌≤◌, ◌+◌, List, Some, length, slice_get};
+    ghost use Rattle.std.specs.Option.{option_copied};
+    ghost use Rattle.ledger_model.specs.declared.history.Entry.{Entry};
+    ghost use Rattle.ledger_model.specs.Limits.{max_height, last_round};
+    ghost use Rattle.ledger_model.specs.Commits.{decided_at};
+    ghost use Rattle.key_ring.specs.Signers.{key_of, leaves_of};
+    ghost use Rattle.height_row.specs.Heights.{row_at, decided_in};
+    ghost use Rattle.replica_core.specs.Holding.{Matches};
+    ghost use Rattle.replica_core.specs.Telling.{block_at};
+
+    /// The number of the replica.
+    pub fn id(&self) -> ReplicaId
+        ensures id { result ≡ self.now.held.id }
+        ensures member { self.now.held.id < self.now.held.config.replicas }
+        // The ring has its own key at its number.
+        ensures own_key { slice_get self.now.held.ring self.now.held.id ≡ Some (key_of self.now.keys.secret) }
+    {
+        self.kept.id()
+    }
+
+    /// The cluster that it is of.
+    pub fn config(&self) -> &Config
+        ensures { result.now ≡ self.now.held.config }
+    {
+        self.kept.config()
+    }
+
+    /// The number of the open round: 0 before the first.
+    pub fn clock(&self) -> u32
+        ensures clock { result ≡ self.now.held.clock }
+        ensures early { result ≤ last_round }
+    {
+        self.kept.clock()
+    }
+
+    /// Whether it is mute: it signs nothing, ever again.
+    pub fn is_mute(&self) -> bool
+        ensures { result ≡ self.now.held.mute }
+    {
+        self.kept.mute
+    }
+
+    /// How many more statements it can sign.
+    pub fn leaves_left(&self) -> u32
+        ensures { self.now.keys.used + result ≡ leaves_of self.now.keys.secret }
+    {
+        self.signer.leaves_left()
+    }
+
+    /// How many blocks are committed.
+    pub fn height(&self) -> u32
+        ensures height { result ≡ length self.now.held.commits }
+        ensures most { result ≤ max_height }
+    {
+        self.kept.height()
+    }
+
+    /// The committed batch of a height: none at 0, and none above the committed height.
+    pub fn block(&self, height: Height) -> Option<&Batch>
+        ensures { option_copied result ≡ block_at self.now.held.commits height }
+    {
+        self.kept.block(height)
+    }
+
+    /// The batch that was decided at a height, committed or not.
+    pub fn decided_at(&self, height: Height) -> Option<&Batch>
+        ensures row { option_copied result ≡ decided_in (row_at self.now.held.rows height) }
+        // It is what was decided by every history that is matched.
+        ensures decided { (entries : List Entry) → Matches self.now.held entries
+            → option_copied result ≡ decided_at self.now.held.config self.now.held.id entries height }
+    {
+        self.kept.decided_at(height)
+    }
+}
