@@ -10,8 +10,8 @@ SHELL := bash
 .SHELLFLAGS := -o pipefail -c
 .PHONY: demo bench test
 
-crates := $(shell sed -n 's/^\([a-z_]*\):.*/\1/p' crates.txt)
-below = $(filter $(crates),$(shell sed -n 's/^$(1)://p' crates.txt))
+crates := $(shell sed -n 's/^\([a-z_]*\)\( [^:]*\)\?:.*/\1/p' crates.txt)
+below = $(filter $(crates),$(shell sed -n 's/^$(1)\( [^:]*\)\?://p' crates.txt))
 
 define library
 .PHONY: prove-$(1)
