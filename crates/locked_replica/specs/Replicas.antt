@@ -1,7 +1,10 @@
--- A replica as contracts see it: what it was made with, how many leaves of its key pair are used, and its history.
+-- A replica as contracts see it: what it was made with, how many leaves of its key pair are used, its history, and its
+-- application's machine.
 use Rattle.std.specs.Prelude.{◌≡◌, ℕ, ◌<◌, ◌≤◌, List, Some, length, slice_get}
 use Rattle.ledger_model.specs.declared.config.Config.{Config}
 use Rattle.ledger_model.specs.declared.history.Entry.{Entry}
+use Rattle.ledger_model.specs.Applications.{Machine, run}
+use Rattle.ledger_model.specs.Commits.{commits_of}
 use Rattle.ledger_model.specs.Rules.{Ring}
 use Rattle.ledger_model.specs.Lawful.{Replay}
 use Rattle.lms_tree.specs.Trees.{Secret}
@@ -16,6 +19,7 @@ pub record Replica : Type 0 where
   pub secret : Secret
   pub used : ℕ
   pub entries : List Entry
+  pub machine : Machine
 
 -- its keys, with the leaves that are used
 abbrev pub keys_in : Replica → Keys
@@ -35,6 +39,7 @@ replica_of held keys entries = record {
   secret = keys.secret;
   used = keys.used;
   entries = entries;
+  machine = held.machine;
 }
 
 -- the history is a replay, entry by entry lawful, and what is kept is what the history makes of it
@@ -42,3 +47,7 @@ pub record IsReplica (held : Held) (entries : List Entry) : Type 0 where
   pub few : length entries ≤ 65536
   pub replay : Replay held.config held.ring held.id entries
   pub matches : Matches held entries
+
+-- its application is what it is run alone on the committed blocks
+unfoldable pub RunsAlone : Replica → Type 0
+RunsAlone r = r.machine ≡ run r.config.kind (commits_of r.config r.id r.entries)

@@ -1,4 +1,6 @@
 //! An entry of a history, as it is lent.
+use crate::event_view::EventView;
+use crate::reply_view::{ReplyView, RoundEndView};
 use ledger_model::{Entry, Event, Reply};
 use std::marker::Model;
 
@@ -18,6 +20,7 @@ impl<'a> Model for EntryView<'a> {
 
 impl<'a> EntryView<'a> {
     ghost use Rattle.std.specs.Prelude.{◌≡◌};
+    ghost use Rattle.locked_replica.specs.Views.{event_lent, reply_lent};
 
     pub(crate) fn new(entry: &'a Entry) -> Self
         ensures { result ≡ entry.now }
@@ -26,16 +29,34 @@ impl<'a> EntryView<'a> {
     }
 
     /// The event.
-    pub fn event(&self) -> &'a Event
-        ensures { result.now ≡ self.now.event }
+    pub fn event(&self) -> EventView<'a>
+        ensures { event_lent result ≡ self.now.event }
     {
-        &self.entry.event
+        match &self.entry.event {
+            Event::Submit(bytes) => EventView::Submit(bytes),
+            Event::Propose(height) => EventView::Propose(*height),
+            Event::Deliver(bytes) => EventView::Deliver(bytes),
+            Event::RoundEnd => EventView::RoundEnd,
+            Event::Execute => EventView::Execute,
+            Event::Query(key, height) => EventView::Query(key.as_bytes(), *height),
+        }
     }
 
     /// What was answered to it.
-    pub fn reply(&self) -> &'a Reply
-        ensures { result.now ≡ self.now.reply }
+    pub fn reply(&self) -> ReplyView<'a>
+        ensures { reply_lent result ≡ self.now.reply }
     {
-        &self.entry.reply
+        match &self.entry.reply {
+            Reply::Submitted(answer) => ReplyView::Submitted(*answer),
+            Reply::Proposed(Ok(batch)) => ReplyView::Proposed(Ok(batch)),
+            Reply::Proposed(Err(refusal)) => ReplyView::Proposed(Err(*refusal)),
+            Reply::Delivered(answer) => ReplyView::Delivered(*answer),
+            Reply::RoundEnded(Ok(ended)) => ReplyView::RoundEnded(Ok(RoundEndView::new(ended))),
+            Reply::RoundEnded(Err(last)) => ReplyView::RoundEnded(Err(*last)),
+            Reply::Executed(Ok(block)) => ReplyView::Executed(Ok(block)),
+            Reply::Executed(Err(nothing)) => ReplyView::Executed(Err(*nothing)),
+            Reply::Queried(Ok(answer)) => ReplyView::Queried(Ok(answer)),
+            Reply::Queried(Err(refusal)) => ReplyView::Queried(Err(*refusal)),
+        }
     }
 }

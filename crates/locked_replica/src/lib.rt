@@ -6,9 +6,15 @@
 #![tactic(auto)]
 
 mod entry_view;
+mod event_view;
 mod fault;
+mod reply_view;
+mod snapshot;
 mod state;
 
 pub use entry_view::EntryView;
+pub use event_view::EventView;
 pub use fault::ApplyFault;
+pub use reply_view::{ReplyView, RoundEndView, SentView};
+pub use snapshot::Snapshot;
 pub use state::{MAX_ENTRIES, State};

@@ -1,9 +1,10 @@
 //! A replica: its history and what it keeps of it, changed by one event at a time.
 use crate::entry_view::EntryView;
 use crate::fault::ApplyFault;
-use abci::Application;
+use crate::snapshot::{Snapshot, copy_entries};
+use abci::{Application, Info};
 use key_ring::{KeyRing, Signer};
-use ledger_model::{Batch, Config, Entry, Event, Height, ReplicaId};
+use ledger_model::{Batch, Config, Entry, Event, Height, History, ReplicaId};
 use replica_core::Core;
 use std::alloc::{AllocError, Global};
 use std::hash::RandomState;
@@ -43,11 +44,12 @@ impl<A: Application> State<A> {
     ghost use Rattle.ledger_model.specs.Logs.{is_mute};
     ghost use Rattle.key_ring.specs.Signers.{key_of, leaves_of};
     ghost use Rattle.replica_core.specs.Steps.{UsesLeaves};
-    ghost use Rattle.replica_core.specs.Telling.{block_at};
-    ghost use Rattle.locked_replica.specs.Replicas.{Replica, IsMember, keys_in};
+    ghost use Rattle.replica_core.specs.Telling.{block_at, info_reply};
+    ghost use Rattle.locked_replica.specs.Replicas.{Replica, IsMember, RunsAlone, keys_in};
 
     /// A replica with no history. The application is in its opening state, of the configured kind; the ring has the public keys
-    /// of the replicas by number. The random keys are those of the pool's hashes. The only error is want of memory.
+    /// of the replicas by number. The first random keys are those of the pool's hashes; the second are for what a replica finds
+    /// by content beside them, of which there is nothing yet. The only error is want of memory.
     pub fn new(
         alloc: Global,
         config: Config,
@@ -55,14 +57,15 @@ impl<A: Application> State<A> {
         signer: Signer,
         ring: KeyRing,
         app: A,
-        random: RandomState,
+        randoms: [RandomState; 2],
     ) -> Result<Self, AllocError>
         requires member { IsMember config id ring signer.secret }
         requires opening { A.machine app ≡ run config.kind [] }
-        ensures { IfOk result (λ state. state ≡ record { config = config; id = id; ring = ring; secret = signer.secret; used = signer.used; entries = [] }) }
+        ensures { IfOk result (λ state. state ≡ record { config = config; id = id; ring = ring; secret = signer.secret; used = signer.used; entries = []; machine = run config.kind [] }) }
     {
+        let [pool_random, _] = randoms;
         Ok(State {
-            core: Core::new(alloc, config, id, signer, ring, app, random)?,
+            core: Core::new(alloc, config, id, signer, ring, app, pool_random)?,
             entries: Vec::new(alloc),
         })
     }
@@ -112,6 +115,23 @@ impl<A: Application> State<A> {
         }
     }
 
+    /// A copy of the history, as whoever audits it takes it; the bytes of frames are shared. The only error is want of memory.
+    pub fn history(&self) -> Result<Snapshot, AllocError>
+        ensures history { IfOk result (λ s. s.history ≡ record { replica = self.now.id; entries = self.now.entries }) }
+        ensures config { IfOk result (λ s. s.config ≡ self.now.config) }
+        ensures ring { IfOk result (λ s. s.ring ≡ self.now.ring) }
+        ensures replay { Replay self.now.config self.now.ring self.now.id self.now.entries }
+    {
+        Ok(Snapshot {
+            config: *self.core.config(),
+            ring: self.core.ring().copy()?,
+            history: History {
+                replica: self.core.id(),
+                entries: copy_entries(*self.entries.allocator(), &self.entries)?,
+            },
+        })
+    }
+
     /// The round that is open: 0 before the first.
     pub fn clock(&self) -> u32
         ensures { result ≡ clock_at self.now.entries }
@@ -134,10 +154,20 @@ impl<A: Application> State<A> {
     }
 
     /// The committed height.
+    #[tactic(auto, unfolding(crate::specs::Replicas::RunsAlone))]
     pub fn height(&self) -> u32
-        ensures { result ≡ length (commits_of self.now.config self.now.id self.now.entries) }
+        ensures height { result ≡ length (commits_of self.now.config self.now.id self.now.entries) }
+        // The application is what it is run alone on the committed blocks.
+        ensures machine { RunsAlone self.now }
     {
         self.core.height()
+    }
+
+    /// How many blocks the application committed, and the hash of its state (ABCI's Info).
+    pub fn info(&self) -> Info
+        ensures { result ≡ info_reply self.now.config.kind (commits_of self.now.config self.now.id self.now.entries) }
+    {
+        self.core.info()
     }
 
     /// The committed batch of a height: none at 0, and none above the committed height.
@@ -158,6 +188,7 @@ impl<A: Application> State<A> {
     ///
     /// `HistoryFull` comes exactly with 65,536 entries, and changes nothing. After `NoMemory` all is as before, but a round end
     /// may have used leaves.
+    #[tactic(auto, unfolding(crate::specs::Replicas::RunsAlone))]
     pub fn apply(&mut self, event: Event) -> Result<usize, ApplyFault>
         ensures index { IfOk result (λ index. index ≡ length self.old.entries) }
         ensures added { OnOk result ((reply : Reply)
@@ -167,12 +198,14 @@ impl<A: Application> State<A> {
             × UsesLeaves (keys_in self.old) (clock_at self.old.entries) reply (keys_in self.new))) }
         ensures full { IsErrOf result ApplyFault.HistoryFull ↔ (65536 ≤ length self.old.entries) }
         ensures history_stays { OnErr result (self.new.entries ≡ self.old.entries) }
-        ensures rest_stays { self.new ≡ record self.old { used = self.new.used; entries = self.new.entries } }
+        ensures rest_stays { self.new ≡ record self.old { used = self.new.used; entries = self.new.entries; machine = self.new.machine } }
         ensures leaves { self.old.used ≤ self.new.used }
         ensures refused { IsErrOf result ApplyFault.HistoryFull → self.new ≡ self.old }
         // A fault spends leaves at a round end alone.
         ensures spared { OnErr result (event ≢ events.RoundEnd → self.new ≡ self.old) }
         ensures replay { Replay self.new.config self.new.ring self.new.id self.new.entries }
+        // The application is what it is run alone on the committed blocks.
+        ensures machine { RunsAlone self.new }
     {
         let index = self.entries.len();
         if index >= MAX_ENTRIES {

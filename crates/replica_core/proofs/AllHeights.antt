@@ -33,7 +33,7 @@ module _ (config : Config) (ring : Ring) (mute : Bool) (c : ℕ) where
   IsSentBy row = (m : Made) → IsMadeAt ring mute c row m → AreSentAt config ring row.height (frames_at config c row m)
 
   -- the statements of one height, and of those behind it
-  parts : (row : Row) (m : Made) (rows : List Row) (ms : List Made)
+  pub parts : (row : Row) (m : Made) (rows : List Row) (ms : List Made)
       → statements_in (frames_of config c (row ∷ rows) (m ∷ ms)) ≡ statements_in (frames_at config c row m) ++ statements_in (frames_of config c rows ms)
   parts row m rows ms = filter_map-append (λ (f : Sent). reading f.frame) (frames_at config c row m) (frames_of config c rows ms)
 
@@ -58,7 +58,7 @@ module _ (config : Config) (ring : Ring) (mute : Bool) (c : ℕ) where
       (sent.0 m made.0).signed (all_signed rows ms sent.1 made.1)
 
   -- what holds of the open heights holds of those of the statements
-  each_height : (P : ℕ → Type 0) (rows : List Row) (ms : List Made) → AllByRecursion (λ row. P row.height) rows → AllByRecursion IsSentBy rows → AreMade ring mute c rows ms
+  pub each_height : (P : ℕ → Type 0) (rows : List Row) (ms : List Made) → AllByRecursion (λ row. P row.height) rows → AllByRecursion IsSentBy rows → AreMade ring mute c rows ms
       → AllByRecursion (λ s. P (height_in s)) (statements_in (frames_of config c rows ms))
   each_height P [] [] all sent made = tt
   each_height P [] (m ∷ ms) all sent made = absurd made

@@ -39,7 +39,7 @@ end_step held mute ms is_held early still are_made entries matches =
 -- ---- a mute end
 
 -- a mute replica may make nothing
-none_made : (ring : Ring) (c : ℕ) (rows : List Row) → AreMade ring true c rows (all_mute rows)
+pub none_made : (ring : Ring) (c : ℕ) (rows : List Row) → AreMade ring true c rows (all_mute rows)
 none_made ring c [] = tt
 none_made ring c (row ∷ rows) = (record { silent = refl; may = tt; own = tt; signed = tt; frame = tt }, none_made ring c rows)
 

@@ -1,5 +1,5 @@
 -- What is done at each height as a round opens, as lists in the order of the heights.
-use Rattle.std.proofs.Common.{◌≡◌, ℕ, ◌+◌, ◌<◌, Bool, false, List, [], ◌∷◌, inl, inr, refl, sym, ap, subst, ◌∙◌, arith}
+use Rattle.std.proofs.Common.{◌≡◌, ℕ, ◌+◌, ◌<◌, Bool, true, false, List, [], ◌∷◌, inl, inr, refl, sym, ap, subst, ◌∙◌, arith}
 use Rattle.std.proofs.Math.Dec.{ltb}
 use Rattle.std.proofs.lemmas.Bool.{cases_lt, lt-ltb, le-ltb}
 use Rattle.ledger_model.specs.Limits.{last_round}
@@ -31,7 +31,7 @@ use Rattle.replica_core.specs.Replicas.{Replica}
 use Rattle.replica_core.specs.Signing.{SignsPlans}
 use Rattle.instance.specs.Laws.{IsFrameMade}
 use Rattle.replica_core.proofs.SignedPlans.{signs_from}
-use Rattle.replica_core.proofs.ChosenEnds.{signed_ends}
+use Rattle.replica_core.proofs.ChosenEnds.{mute_ends, signed_ends}
 use Rattle.replica_core.proofs.AscendingRows.{each_found}
 use Rattle.replica_core.proofs.Quiet.{unheard}
 
@@ -157,3 +157,17 @@ module _ (old : Replica) (held : Held) (keys : Keys) (plans : List Plan) (closin
       (all_both IsFrameMade (IsVerifiedMade (key_of keys.secret)) (map (λ (x : Closing). x.made) closings)
       (all_images IsFrameMade (λ (x : Closing). x.made) closings frames)
       (all_images (IsVerifiedMade (key_of keys.secret)) (λ (x : Closing). x.made) closings verified))
+
+-- the end of a mute replica is a step, and uses no leaf
+pub mute_step : (old : Replica) (held : Held) (keys : Keys) (plans : List Plan) (closings : List Closing) → record { held = held; keys = keys } ≡ old
+    → IsHeld old.held → plans ≡ map (plan_of (old.held.clock + 1)) old.held.rows → old.held.clock < last_round
+    → map (λ (x : Closing). x.ending) closings ≡ map (λ (p : Plan). p.ending) plans → AllByRecursion (λ (x : Closing). x.made ≡ made.Mute) closings
+    → IsStep held event.RoundEnd (end_reply held true (map (λ (x : Closing). x.made) closings)) (after_end held true (map (λ (x : Closing). x.made) closings))
+    × UsesLeaves keys held.clock (end_reply held true (map (λ (x : Closing). x.made) closings)) keys
+mute_step old held keys plans closings is is_held planned early endings mute =
+    let made = mades_mute (held.clock + 1) held.rows closings
+    (endings ∙ ap (map (λ (p : Plan). p.ending)) (planned_by old held keys plans is planned) ∙ planned_ends (held.clock + 1) held.rows) mute in
+    let ends = mute_ends held (subst (λ (x : Replica). IsHeld x.held) (sym is) is_held) (subst (λ (x : Replica). x.held.clock < last_round) (sym is) early) in (
+      subst (λ (ms : List Made). IsStep held event.RoundEnd (end_reply held true ms) (after_end held true ms)) (sym made) ends.0,
+      subst (λ (ms : List Made). UsesLeaves keys held.clock (end_reply held true ms) keys) (sym made) (ends.1 keys),
+    )

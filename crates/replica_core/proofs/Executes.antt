@@ -59,6 +59,7 @@ module _ (held : Held) (one : IsOneCluster held) (entries : List Entry) (matches
         ∙ ap (λ p. pool_step held.config (held.commits ++ v ∷ []) p event.Execute (reply.Executed (Ok b))) matches.pool
         ∙ ap (λ w. pool_after_block held.config (held.commits ++ v ∷ []) w held.pool) (last_of held.commits v);
     commits = commits;
+    machine = refl;
     blocks = blocks_more held.config held.id entries entry v matches.blocks refl decided;
     mute = mute_more entries entry ∙ or-false (is_mute entries) ∙ matches.mute;
   }

@@ -23,3 +23,13 @@ pub mod NewCores
 pub mod SignedPlans
 pub mod ClosingFrames
 pub mod Endings
+pub mod SortedStatements
+pub mod ToldHeights
+pub mod ToldMades
+pub mod ToldEnds
+pub mod AlikeFrames
+pub mod ToldClosings
+pub mod JudgedMades
+pub mod Followed
+pub mod EventsFollowed
+pub mod ToldRounds

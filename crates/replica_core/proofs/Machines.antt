@@ -7,12 +7,14 @@ use Rattle.ledger_model.specs.declared.reply.QueryAnswer.{QueryAnswer}
 use Rattle.ledger_model.specs.declared.reply.NotHeld.{NotHeld}
 use Rattle.ledger_model.specs.declared.reply.SubmitRefusal.{SubmitRefusal}
 use Rattle.ledger_model.specs.Values.{Value}
-use Rattle.ledger_model.specs.Applications.{Machine, run}
+use Rattle.ledger_model.specs.Applications.{Machine, run, hash_of}
 use Rattle.ledger_model.specs.Pools.{submit_answer, left_after}
 use Rattle.ledger_model.specs.Replies.{block_reply, check_reply, query_reply}
 use Rattle.abci.specs.Meaning.{without_work}
-use Rattle.abci_executor.specs.Blocks.{AddsBlock, Replies}
+use Rattle.abci.specs.declared.info.Info.{Info}
+use Rattle.abci_executor.specs.Blocks.{AddsBlock, Replies, TellsOfBlocks}
 use Rattle.batch_pool.specs.Pools.{Answers, Leaves}
+use Rattle.replica_core.specs.Telling.{info_reply}
 
 module _ (m : Machine) (kind : AppKind) (batches : List Value) (is : m ≡ run kind batches) where
   -- it is of the kind
@@ -58,3 +60,10 @@ module _ (m : Machine) (kind : AppKind) (batches : List Value) (is : m ≡ run k
   -- and the machine then
   pub led : (batch : Value) (block : BlockResult) (new : Machine) → AddsBlock m batch block new → new ≡ run kind (batches ++ batch ∷ [])
   led batch block new adds = (adds batches reached).1 ∙ ap (λ k. run k (batches ++ batch ∷ [])) kind_is
+
+  -- what it tells of itself
+  pub told : (info : Info) → TellsOfBlocks m info → info ≡ info_reply kind batches
+  told info tells =
+      let height = (tells batches reached).0 in
+      let hash : info.hash ≡ hash_of kind batches = (tells batches reached).1 ∙ ap (λ k. hash_of k batches) kind_is in
+      λ i. record { height = height i; hash = hash i }

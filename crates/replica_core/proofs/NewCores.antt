@@ -16,6 +16,7 @@ new_matches config id ring = record {
   unopened = λ h none. refl;
   pool = refl;
   commits = refl;
+  machine = refl;
   blocks = λ h low high. absurd (omega (arith, low, high));
   mute = refl;
 }

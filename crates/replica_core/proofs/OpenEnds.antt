@@ -31,7 +31,7 @@ use Rattle.replica_core.proofs.SentFrames.{MayMakeOf, statements_in, may_make}
 -- ---- frames that are read again
 
 -- the own one
-own_read : (config : Config) (m : Made) → IsFrameMade m → statements_in (map (sent_own config) (sent_in m)) ≡ sent_in m
+pub own_read : (config : Config) (m : Made) → IsFrameMade m → statements_in (map (sent_own config) (sent_in m)) ≡ sent_in m
 own_read config made.Mute frame = refl
 own_read config made.Unsent frame = refl
 own_read config (made.Sent f) frame = ap (λ o. cons_option o []) (reading-again f frame)
@@ -69,7 +69,7 @@ no_ack config id h log c true other = refl
 no_ack config id h log c false other = rw other refl
 
 -- nothing is made at place 4
-none_made : (row : Row) (c : ℕ) → nat_eq (place_of c) 4 ≡ true → (m : Made) → MayMakeOf row c m → sent_in m ≡ []
+pub none_made : (row : Row) (c : ℕ) → nat_eq (place_of c) 4 ≡ true → (m : Made) → MayMakeOf row c m → sent_in m ≡ []
 none_made row c last made.Mute may = refl
 none_made row c last made.Unsent may = refl
 none_made row c last (made.Sent f) may =

@@ -57,6 +57,7 @@ module _ (held : Held) (entries : List Entry) (e : Entry) where
       unopened = unopened;
       pool = pool_then ∙ same_pool;
       commits = commits_stay held.config held.id entries e matches.blocks no_block ∙ matches.commits;
+      machine = matches.machine;
       blocks = blocks_stay held.config held.id entries e matches.blocks no_block;
       mute = mute_more entries e ∙ ap (λ b. is_mute entries || b) loud ∙ or-false (is_mute entries) ∙ matches.mute;
     }

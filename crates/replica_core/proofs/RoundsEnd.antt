@@ -168,6 +168,7 @@ module _ (held : Held) (mute : Bool) (ms : List Made) (entries : List Entry) (is
     unopened = λ h gone. unopened h gone (row_at held.rows h) refl;
     pool = pool_more held.config held.id entries (end_entry end) ∙ matches.pool;
     commits = commits_stay held.config held.id entries (end_entry end) matches.blocks refl ∙ matches.commits;
+    machine = matches.machine;
     blocks = blocks_stay held.config held.id entries (end_entry end) matches.blocks refl;
     mute = mute_more entries (end_entry end) ∙ ap (λ b. b || mute) matches.mute ∙ mute_then held.mute mute still;
   }

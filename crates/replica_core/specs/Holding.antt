@@ -4,6 +4,7 @@ use Rattle.ledger_model.specs.Limits.{max_height, last_round}
 use Rattle.ledger_model.specs.declared.config.Config.{Config}
 use Rattle.ledger_model.specs.declared.history.Entry.{Entry}
 use Rattle.ledger_model.specs.Values.{Value}
+use Rattle.ledger_model.specs.Applications.{Machine, run}
 use Rattle.ledger_model.specs.Notes.{clock_of}
 use Rattle.ledger_model.specs.Logs.{log_of, is_mute}
 use Rattle.ledger_model.specs.Rules.{Ring}
@@ -14,7 +15,7 @@ use Rattle.instance.specs.Matching.{Matches as MatchesAt, only_rounds}
 use Rattle.height_row.specs.Heights.{row_at, AreAscending}
 
 -- a replica of a cluster, and what it keeps: the open heights by ascending height, the pool, the committed batches from
--- height 1 on, the number of the open round, and whether it is mute
+-- height 1 on, the application's machine, the number of the open round, and whether it is mute
 pub record Held : Type 0 where
   pub config : Config
   pub id : ℕ
@@ -22,6 +23,7 @@ pub record Held : Type 0 where
   pub rows : List Row
   pub pool : Value
   pub commits : List Value
+  pub machine : Machine
   pub clock : ℕ
   pub mute : Bool
 
@@ -34,6 +36,7 @@ nothing_held config id ring = record {
   rows = [];
   pool = [];
   commits = [];
+  machine = run config.kind [];
   clock = 0;
   mute = false;
 }
@@ -70,5 +73,7 @@ pub record Matches (held : Held) (entries : List Entry) : Type 0 where
   pub unopened : (h : ℕ) → row_at held.rows h ≡ None → only_rounds (log_of held.config held.id h entries) ≡ true
   pub pool : pool_of held.config held.id entries ≡ held.pool
   pub commits : commits_of held.config held.id entries ≡ held.commits
+  -- the machine is the application run alone on them
+  pub machine : held.machine ≡ run held.config.kind held.commits
   pub blocks : AreDecided held.config held.id entries
   pub mute : is_mute entries ≡ held.mute

@@ -6,3 +6,5 @@ pub mod Replicas
 pub mod Signing
 pub mod Sending
 pub mod Telling
+pub mod Following
+pub mod ToldEnds

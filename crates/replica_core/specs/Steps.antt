@@ -15,6 +15,7 @@ use Rattle.ledger_model.specs.Values.{Value}
 use Rattle.ledger_model.specs.Rounds.{place_of}
 use Rattle.ledger_model.specs.Spelling.{statement_bytes}
 use Rattle.ledger_model.specs.Reading.{reading}
+use Rattle.ledger_model.specs.Applications.{run}
 use Rattle.ledger_model.specs.Replies.{check_reply}
 use Rattle.ledger_model.specs.Pools.{submit_answer, left_after}
 use Rattle.ledger_model.specs.Commits.{block_of}
@@ -61,6 +62,7 @@ execute_held held = block_of held.config held.commits (next_decided held)
 abbrev pub with_block : Held → Value → Held
 with_block held block = record held {
   commits = held.commits ++ block ∷ [];
+  machine = run held.config.kind (held.commits ++ block ∷ []);
   pool = left_after block (check_reply held.config.kind (held.commits ++ block ∷ [])) held.pool;
 }
 

@@ -10,7 +10,7 @@ use ledger_model::{LastRound, RoundEnded, SentFrames};
 use std::alloc::{AllocError, Global};
 
 impl<A: Application> Kept<A> {
-    ghost use Rattle.std.specs.Prelude.{◌≡◌, ◌<◌, ◌+◌, map, IfOk, IfSome, OnErr};
+    ghost use Rattle.std.specs.Prelude.{◌≡◌, ◌<◌, ◌+◌, map, false, true, IfOk, IfSome, OnErr};
     ghost use Rattle.std.specs.List.{AllByRecursion};
     ghost use Rattle.ledger_model.specs.Limits.{last_round};
     ghost use Rattle.ledger_model.specs.Spelling.{IsStatement};
@@ -20,7 +20,7 @@ impl<A: Application> Kept<A> {
     ghost use Rattle.replica_core.specs.RoundEnds.{round_ended, after_end};
 
     /// What is to be done at each open height as the next round opens.
-    fn plan_ends(&self, alloc: Global) -> Result<Vec<Plan>, AllocError>
+    pub(crate) fn plan_ends(&self, alloc: Global) -> Result<Vec<Plan>, AllocError>
         requires clock { self.now.clock < last_round }
         ensures plans { IfOk result (λ plans. plans.items ≡ map (plan_of (self.now.clock + 1)) self.now.rows) }
         ensures spelled { IfOk result (λ plans. AllByRecursion (λ plan. IfSome plan.statement IsStatement) plans.items) }
@@ -30,15 +30,23 @@ impl<A: Application> Kept<A> {
     }
 
     /// Whether the replica is mute.
-    fn is_mute(&self) -> bool
+    pub(crate) fn is_mute(&self) -> bool
         ensures { result ≡ self.now.mute }
     {
         self.mute
     }
 
+    /// Whether no round is left.
+    pub(crate) fn is_over(&self) -> bool
+        ensures over { result ≡ true → self.now.clock ≡ last_round }
+        ensures goes_on { result ≡ false → self.now.clock < last_round }
+    {
+        self.clock >= LastRound::NUMBER
+    }
+
     /// Opens the next round, where this is done at each open height: the frames to send, and what is kept then. All memory is
     /// taken before anything changes.
-    fn open_round(
+    pub(crate) fn open_round(
         &mut self,
         alloc: Global,
         closings: Vec<Closing>,
@@ -137,7 +145,7 @@ impl<A: Application> Core<A> {
         ensures over { result ≡ true → self.now.held.clock ≡ last_round }
         ensures goes_on { result ≡ false → self.now.held.clock < last_round }
     {
-        self.kept.clock >= LastRound::NUMBER
+        self.kept.is_over()
     }
 
     /// A round ends: what is due is signed, or the replica becomes mute, and the next round opens.

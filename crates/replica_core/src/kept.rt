@@ -39,6 +39,7 @@ impl<A: Application> Model for Kept<A> {
       rows = k.rows.rows;
       pool = k.pool;
       commits = k.committed.items;
+      machine = k.executor;
       clock = k.clock;
       mute = k.mute;
     } };

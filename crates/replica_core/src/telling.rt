@@ -1,7 +1,8 @@
 //! What the core of a replica tells of itself. Nothing here changes it.
 use crate::kept::Kept;
 use crate::replica::Core;
-use abci::Application;
+use abci::{Application, Info};
+use key_ring::KeyRing;
 use ledger_model::{Batch, Config, Height, ReplicaId};
 
 impl<A: Application> Kept<A> {
@@ -10,7 +11,7 @@ impl<A: Application> Kept<A> {
     ghost use Rattle.ledger_model.specs.Limits.{last_round};
     ghost use Rattle.height_row.specs.Heights.{row_at, decided_in};
     ghost use Rattle.replica_core.specs.Holding.{IsOneCluster};
-    ghost use Rattle.replica_core.specs.Telling.{block_at};
+    ghost use Rattle.replica_core.specs.Telling.{block_at, info_reply};
 
     fn id(&self) -> ReplicaId
         ensures id { result ≡ self.now.id }
@@ -25,14 +26,20 @@ impl<A: Application> Kept<A> {
         &self.config
     }
 
-    fn clock(&self) -> u32
+    fn ring(&self) -> &KeyRing
+        ensures { result.now ≡ self.now.ring }
+    {
+        &self.ring
+    }
+
+    pub(crate) fn clock(&self) -> u32
         ensures clock { result ≡ self.now.clock }
         ensures early { result ≤ last_round }
     {
         self.clock
     }
 
-    fn block(&self, height: Height) -> Option<&Batch>
+    pub(crate) fn block(&self, height: Height) -> Option<&Batch>
         ensures { option_copied result ≡ block_at self.now.commits height }
     {
         let number = height.number() as usize;
@@ -48,6 +55,12 @@ impl<A: Application> Kept<A> {
     {
         self.rows.decided_at(height)
     }
+
+    fn info(&self) -> Info
+        ensures { result ≡ info_reply self.now.config.kind self.now.commits }
+    {
+        self.executor.info()
+    }
 }
 
 impl<A: Application> Core<A> {
@@ -59,7 +72,7 @@ impl<A: Application> Core<A> {
     ghost use Rattle.key_ring.specs.Signers.{key_of, leaves_of};
     ghost use Rattle.height_row.specs.Heights.{row_at, decided_in};
     ghost use Rattle.replica_core.specs.Holding.{Matches};
-    ghost use Rattle.replica_core.specs.Telling.{block_at};
+    ghost use Rattle.replica_core.specs.Telling.{block_at, info_reply};
 
     /// The number of the replica.
     pub fn id(&self) -> ReplicaId
@@ -76,6 +89,13 @@ impl<A: Application> Core<A> {
         ensures { result.now ≡ self.now.held.config }
     {
         self.kept.config()
+    }
+
+    /// The public keys of the replicas, by number.
+    pub fn ring(&self) -> &KeyRing
+        ensures { result.now ≡ self.now.held.ring }
+    {
+        self.kept.ring()
     }
 
     /// The number of the open round: 0 before the first.
@@ -106,6 +126,13 @@ impl<A: Application> Core<A> {
         ensures most { result ≤ max_height }
     {
         self.kept.height()
+    }
+
+    /// How many blocks the application committed, and the hash of its state (ABCI's Info).
+    pub fn info(&self) -> Info
+        ensures { result ≡ info_reply self.now.held.config.kind self.now.held.commits }
+    {
+        self.kept.info()
     }
 
     /// The committed batch of a height: none at 0, and none above the committed height.

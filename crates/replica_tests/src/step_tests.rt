@@ -4,11 +4,10 @@ use app_kinds::AnyKind;
 use bytes::Bytes;
 use key_ring::{KeyRing, Signer};
 use ledger_model::{
-    Addressee, AppKind, Config, Event, Height, Key, ProposeRefusal, ReplicaId, Reply, RoundEnded,
-    SubmitRefusal,
+    Addressee, AppKind, Config, Event, Height, Key, ProposeRefusal, ReplicaId, SubmitRefusal,
 };
 use lm_ots::{Identifier, Params, Seed, TreeHeight, Width};
-use locked_replica::State;
+use locked_replica::{EventView, ReplyView, RoundEndView, State};
 use std::alloc::Global;
 use std::hash::RandomState;
 use std::test::Fail;
@@ -22,13 +21,13 @@ fn signer(alloc: Global) -> Result<Signer, Fail> {
     Ok(Signer::new(alloc, PARAMS, Identifier::new([7; 16]), Seed::new([9; 32]))?)
 }
 
-fn replica(alloc: Global, random: RandomState) -> Result<State<AnyKind>, Fail> {
+fn replica(alloc: Global, randoms: [RandomState; 2]) -> Result<State<AnyKind>, Fail> {
     let signer = signer(alloc)?;
     let config = Config::new(4, 1, AppKind::KvStore)?;
     let ring = KeyRing::new(vec![in alloc; signer.public()]?);
     let app = AnyKind::new(alloc, config.kind);
     let id = ReplicaId::new(0);
-    Ok(State::new(alloc, config, id, signer, ring, app, random)?)
+    Ok(State::new(alloc, config, id, signer, ring, app, randoms)?)
 }
 
 fn submit(bytes: &'static [u8]) -> Event {
@@ -46,7 +45,7 @@ fn numbers(state: &State<AnyKind>) -> (usize, u32, u32, bool) {
 
 #[test]
 fn a_new_replica_has_no_history(rt: HostRuntime) -> Result<(), Fail> {
-    let state = replica(rt.alloc(), RandomState::new(&rt)?)?;
+    let state = replica(rt.alloc(), [RandomState::new(&rt)?, RandomState::new(&rt)?])?;
     assert_eq!(rt; numbers(&state), (0, 0, 0, true));
     assert!(rt; state.entry(0).is_none());
     Ok(())
@@ -64,14 +63,14 @@ fn submitted(
 fn answer_at(state: &State<AnyKind>, index: usize) -> Result<Result<(), SubmitRefusal>, Fail> {
     let entry = state.entry(index).ok_or("the entry is there")?;
     match entry.reply() {
-        Reply::Submitted(given) => Ok(*given),
+        ReplyView::Submitted(given) => Ok(given),
         _ => Err(Fail::from("a submit is answered as one")),
     }
 }
 
 #[test]
 fn submits_are_refused_by_their_causes(rt: HostRuntime) -> Result<(), Fail> {
-    let mut state = replica(rt.alloc(), RandomState::new(&rt)?)?;
+    let mut state = replica(rt.alloc(), [RandomState::new(&rt)?, RandomState::new(&rt)?])?;
     for (bytes, answer) in [
         (b"a=1".as_slice(), Ok(())),
         (b"a=1".as_slice(), Err(SubmitRefusal::Duplicate)),
@@ -99,15 +98,15 @@ fn proposal_at(
 ) -> Result<Result<usize, ProposeRefusal>, Fail> {
     let entry = state.entry(index).ok_or("the entry is there")?;
     match entry.reply() {
-        Reply::Proposed(Ok(batch)) => Ok(Ok(batch.transactions().len())),
-        Reply::Proposed(Err(refusal)) => Ok(Err(*refusal)),
+        ReplyView::Proposed(Ok(batch)) => Ok(Ok(batch.transactions().len())),
+        ReplyView::Proposed(Err(refusal)) => Ok(Err(refusal)),
         _ => Err(Fail::from("a propose is answered as one")),
     }
 }
 
 #[test]
 fn a_height_is_opened_or_refused_by_its_cause(rt: HostRuntime) -> Result<(), Fail> {
-    let mut state = replica(rt.alloc(), RandomState::new(&rt)?)?;
+    let mut state = replica(rt.alloc(), [RandomState::new(&rt)?, RandomState::new(&rt)?])?;
     assert_eq!(rt; submitted(&mut state, b"a=1")?, Ok(()));
     for (height, answer) in [
         (0, Err(ProposeRefusal::Closed)),
@@ -123,10 +122,12 @@ fn a_height_is_opened_or_refused_by_its_cause(rt: HostRuntime) -> Result<(), Fai
 }
 
 // Whether one frame of this length is sent to all.
-fn is_one_to_all(ended: &RoundEnded, len: usize) -> bool {
-    match ended.frames.as_slice() {
-        [sent] => sent.addressee == Addressee::All && sent.frame.len() == len,
-        _ => false,
+fn is_one_to_all(ended: &RoundEndView<'_>, len: usize) -> bool {
+    match ended.frame(0) {
+        Some(sent) => {
+            ended.len() == 1 && sent.addressee == Addressee::All && sent.frame.len() == len
+        }
+        None => false,
     }
 }
 
@@ -134,8 +135,8 @@ fn is_one_to_all(ended: &RoundEnded, len: usize) -> bool {
 fn sends_one(state: &State<AnyKind>, index: usize, len: usize) -> Result<bool, Fail> {
     let entry = state.entry(index).ok_or("the entry is there")?;
     match (entry.event(), entry.reply()) {
-        (Event::RoundEnd, Reply::RoundEnded(Ok(ended))) => {
-            Ok(!ended.mute && is_one_to_all(ended, len))
+        (EventView::RoundEnd, ReplyView::RoundEnded(Ok(ended))) => {
+            Ok(!ended.is_mute() && is_one_to_all(&ended, len))
         }
         _ => Ok(false),
     }
@@ -143,7 +144,7 @@ fn sends_one(state: &State<AnyKind>, index: usize, len: usize) -> Result<bool, F
 
 #[test]
 fn a_report_is_sent_as_the_first_round_opens(rt: HostRuntime) -> Result<(), Fail> {
-    let mut state = replica(rt.alloc(), RandomState::new(&rt)?)?;
+    let mut state = replica(rt.alloc(), [RandomState::new(&rt)?, RandomState::new(&rt)?])?;
     assert_eq!(rt; submitted(&mut state, b"a=1")?, Ok(()));
     assert_eq!(rt; proposed(&mut state, 1)?, Ok(1));
     let index = state.apply(Event::RoundEnd)?;
@@ -156,7 +157,7 @@ fn a_report_is_sent_as_the_first_round_opens(rt: HostRuntime) -> Result<(), Fail
 fn sends_nothing(state: &State<AnyKind>, index: usize) -> Result<bool, Fail> {
     let entry = state.entry(index).ok_or("the entry is there")?;
     match entry.reply() {
-        Reply::RoundEnded(Ok(ended)) => Ok(!ended.mute && ended.frames.as_slice().is_empty()),
+        ReplyView::RoundEnded(Ok(ended)) => Ok(!ended.is_mute() && ended.is_empty()),
         _ => Ok(false),
     }
 }
@@ -182,7 +183,7 @@ fn has_no_block(state: &mut State<AnyKind>) -> Result<bool, Fail> {
     let index = state.apply(Event::Execute)?;
     let entry = state.entry(index).ok_or("the entry is there")?;
     match entry.reply() {
-        Reply::Executed(answer) => Ok(answer.is_err()),
+        ReplyView::Executed(answer) => Ok(answer.is_err()),
         _ => Ok(false),
     }
 }
@@ -196,7 +197,7 @@ fn finds_nothing(state: &mut State<AnyKind>, query: Event) -> Result<bool, Fail>
     let index = state.apply(query)?;
     let entry = state.entry(index).ok_or("the entry is there")?;
     match entry.reply() {
-        Reply::Queried(Ok(answer)) => Ok(answer.height.number() == 0 && answer.value.is_none()),
+        ReplyView::Queried(Ok(answer)) => Ok(answer.height.number() == 0 && answer.value.is_none()),
         _ => Ok(false),
     }
 }
@@ -211,7 +212,7 @@ fn waits_at_one(state: &State<AnyKind>) -> bool {
 
 #[test]
 fn a_replica_alone_decides_nothing(rt: HostRuntime) -> Result<(), Fail> {
-    let mut state = replica(rt.alloc(), RandomState::new(&rt)?)?;
+    let mut state = replica(rt.alloc(), [RandomState::new(&rt)?, RandomState::new(&rt)?])?;
     assert_eq!(rt; submitted(&mut state, b"a=1")?, Ok(()));
     assert_eq!(rt; proposed(&mut state, 1)?, Ok(1));
     assert!(rt; opens_four_rounds(&mut state)?);

@@ -1,4 +1,4 @@
-use Rattle.std.proofs.Common.{◌∙◌, ap, [], arith}
+use Rattle.std.proofs.Common.{◌≡◌, ◌∙◌, ap, [], false, arith}
 use Rattle.ledger_model.specs.Applications.{run}
 use Rattle.height_row.specs.Heights.{Heights}
 use Rattle.replica_core.proofs.Machines.{kind_is, reached}
@@ -18,3 +18,22 @@ invariant_of-result g c = rw c.new-4.ensures.items (
   omega arith,
   omega arith,
 )
+
+-- src/kept.rt:59:5
+pub returns : goal.returns
+returns g c =
+    let rows : c.new.result.rows ≡ [] = ap (λ (x : Heights). x.rows) c.new.ensures.row in
+    let commits : c.new-4.result.items ≡ [] = c.new-4.ensures.items in
+    let machine : c.in_ok-new.field-0 ≡ run c.args.config.kind [] =
+    c.in_ok-new.ensures ∙ ap (λ k. run k []) (kind_is (g.A.Application.machine c.args.app) (c.args.config.kind) [] (c.requires.opening)) in
+    λ i. record {
+      config = c.args.config;
+      id = c.args.id;
+      ring = c.args.ring;
+      rows = rows i;
+      pool = c.new-2.ensures i;
+      commits = commits i;
+      machine = machine i;
+      clock = 0;
+      mute = false;
+    }

@@ -17,6 +17,7 @@ returns-clause-step g c =
       rows = c.self.inside.rows.rows;
       pool = c.self.inside.pool;
       commits = c.self.inside.committed.items;
+      machine = c.self.inside.executor;
       clock = c.self.inside.clock;
       mute = c.self.inside.mute;
     } in

@@ -38,7 +38,7 @@ returns-clause-after g c =
     let items : c.push.new.self.items ≡ c.self.inside.committed.items ++ c.args.block ∷ [] = c.in-Ok.ensures.items ∙ ap (λ vs. vs ++ c.args.block ∷ []) c.in_ok-reserve.ensures.items in
     let ran : c.execute.new.self ≡ run c.self.inside.config.kind (c.self.inside.committed.items ++ c.args.block ∷ []) =
     led (c.self.inside.executor) (c.self.inside.config.kind) (c.self.inside.committed.items) (c.self.invariant.3) c.args.block c.in_ok-result.result c.execute.new.self c.in_ok-result.ensures.ok in
-    rw (sym c.self.view_is, items)
+    rw (sym c.self.view_is, items, ran)
     (ap (λ pool. record {
       config = c.self.inside.config;
       id = c.self.inside.id;
@@ -46,6 +46,7 @@ returns-clause-after g c =
       rows = c.self.inside.rows.rows;
       pool = pool;
       commits = c.self.inside.committed.items ++ c.args.block ∷ [];
+      machine = run c.self.inside.config.kind (c.self.inside.committed.items ++ c.args.block ∷ []);
       clock = c.self.inside.clock;
       mute = c.self.inside.mute;
     }) (left c.execute.new.self (c.self.inside.config.kind) (c.self.inside.committed.items ++ c.args.block ∷ []) ran (g.A.Application.machine c.app.result.now) c.args.block c.self.inside.pool c.after_block.new.self c.app.ensures c.after_block.ensures))

@@ -1,0 +1,113 @@
+-- An entry is taken where its reply is the one that is due.
+use Rattle.std.proofs.Common.{◌≡◌, ℕ, Bool, true, false, List, [], ◌∷◌, ◌++◌, refl, sym, ap, subst, ◌∙◌}
+use Rattle.std.specs.Prelude.{◌↔◌, IsTrue, Option, Some, None, Result}
+use Rattle.ledger_model.specs.declared.event.Event.{Event}
+use Rattle.ledger_model.specs.declared.event.Event.TheVariants as event
+use Rattle.ledger_model.specs.declared.history.Entry.{Entry}
+use Rattle.ledger_model.specs.declared.reply.BlockResult.{BlockResult}
+use Rattle.ledger_model.specs.declared.reply.Ignored.{Ignored}
+use Rattle.ledger_model.specs.declared.reply.LastRound.{LastRound}
+use Rattle.ledger_model.specs.declared.reply.NotHeld.{NotHeld}
+use Rattle.ledger_model.specs.declared.reply.NothingDecided.{NothingDecided}
+use Rattle.ledger_model.specs.declared.reply.ProposeRefusal.{ProposeRefusal}
+use Rattle.ledger_model.specs.declared.reply.QueryAnswer.{QueryAnswer}
+use Rattle.ledger_model.specs.declared.reply.Reply.{Reply}
+use Rattle.ledger_model.specs.declared.reply.Reply.TheVariants as reply
+use Rattle.ledger_model.specs.declared.reply.RoundEnded.{RoundEnded}
+use Rattle.ledger_model.specs.declared.reply.SubmitRefusal.{SubmitRefusal}
+use Rattle.ledger_model.specs.Values.{Value}
+use Rattle.ledger_model.specs.Lawful.{Lawful, is_signed_reply}
+use Rattle.replica_core.specs.Holding.{Held, Matches}
+use Rattle.replica_core.specs.Steps.{IsStep, after_execute}
+use Rattle.replica_core.specs.Following.{KeepsReplay, IsFollowed, IsSameHeld}
+
+-- an entry that keeps no replay one is refused
+pub refused : (old new : Held) (event : Event) (reply : Reply) → ((entries : List Entry) → Matches old entries → KeepsReplay old entries event reply → ⊥) → IsFollowed old event reply false new
+refused old new event reply none = record {
+  exact = λ entries matches. (λ yes. absurd (cc yes), λ keeps. absurd (none entries matches keeps));
+  matches = λ yes entries matches. absurd (cc yes);
+}
+
+-- an answer is compared with the one that is due, where only one is lawful
+pub compared : {R : Type 0} (old new : Held) (event : Event) (wrap : R → Reply) (lawful : List Entry → R) (due told : R) (kept : Bool) → (kept ≡ true ↔ due ≡ told)
+    → ((entries : List Entry) (r : R) → Lawful old.config old.ring old.id entries event (wrap r) → r ≡ lawful entries) → ((r : R) → IsTrue (is_signed_reply old.ring (wrap r)))
+    → IsStep old event (wrap due) new → IsFollowed old event (wrap told) kept new
+compared old new event wrap lawful due told kept same one signed step = record {
+  exact = λ entries matches. (
+    λ yes. record {
+      lawful = subst (λ r. Lawful old.config old.ring old.id entries event (wrap r)) (same.0 yes) (step entries matches).0;
+      signed = signed told;
+    },
+    λ keeps. same.1 (one entries due (step entries matches).0 ∙ sym (one entries told keeps.lawful)),
+  );
+  matches = λ yes entries matches. subst (λ r. Matches new (entries ++ record { event = event; reply = wrap r } ∷ [])) (same.0 yes) (step entries matches).2;
+}
+
+-- ---- the same replica
+
+-- where nothing changed
+pub same_kept : (old new : Held) → new ≡ old → IsSameHeld old new
+same_kept old new is = record { config = ap (λ h. h.config) is; id = ap (λ h. h.id) is; ring = ap (λ h. h.ring) is }
+
+-- where only the heights did
+pub same_rows : (old new : Held) → new ≡ record old { rows = new.rows } → IsSameHeld old new
+same_rows old new is = record { config = ap (λ h. h.config) is; id = ap (λ h. h.id) is; ring = ap (λ h. h.ring) is }
+
+-- where a block was run
+pub same_run : (old new : Held) (block : Option Value) → new ≡ after_execute old block → IsSameHeld old new
+same_run old new None is = same_kept old new is
+same_run old new (Some block) is = record { config = ap (λ h. h.config) is; id = ap (λ h. h.id) is; ring = ap (λ h. h.ring) is }
+
+-- ---- each event has replies of its own
+
+module _ (held : Held) (entries : List Entry) where
+  abbrev LawfulTo : Event → Reply → Type 0
+  LawfulTo event reply = Lawful held.config held.ring held.id entries event reply
+
+  pub submitted_only : (tx : List ℕ) (told : Reply) → ((r : Result (Unit {0}) SubmitRefusal) → told ≡ reply.Submitted r → ⊥) → LawfulTo (event.Submit tx) told → ⊥
+  submitted_only tx (reply.Submitted r) other lawful = other r refl
+  submitted_only tx (reply.Proposed r) other lawful = lawful
+  submitted_only tx (reply.Delivered r) other lawful = lawful
+  submitted_only tx (reply.RoundEnded r) other lawful = lawful
+  submitted_only tx (reply.Executed r) other lawful = lawful
+  submitted_only tx (reply.Queried r) other lawful = lawful
+
+  pub proposed_only : (h : ℕ) (told : Reply) → ((r : Result Value ProposeRefusal) → told ≡ reply.Proposed r → ⊥) → LawfulTo (event.Propose h) told → ⊥
+  proposed_only h (reply.Submitted r) other lawful = lawful
+  proposed_only h (reply.Proposed r) other lawful = other r refl
+  proposed_only h (reply.Delivered r) other lawful = lawful
+  proposed_only h (reply.RoundEnded r) other lawful = lawful
+  proposed_only h (reply.Executed r) other lawful = lawful
+  proposed_only h (reply.Queried r) other lawful = lawful
+
+  pub delivered_only : (bytes : List ℕ) (told : Reply) → ((r : Result (Unit {0}) Ignored) → told ≡ reply.Delivered r → ⊥) → LawfulTo (event.Deliver bytes) told → ⊥
+  delivered_only bytes (reply.Submitted r) other lawful = lawful
+  delivered_only bytes (reply.Proposed r) other lawful = lawful
+  delivered_only bytes (reply.Delivered r) other lawful = other r refl
+  delivered_only bytes (reply.RoundEnded r) other lawful = lawful
+  delivered_only bytes (reply.Executed r) other lawful = lawful
+  delivered_only bytes (reply.Queried r) other lawful = lawful
+
+  pub ended_only : (told : Reply) → ((r : Result RoundEnded LastRound) → told ≡ reply.RoundEnded r → ⊥) → LawfulTo event.RoundEnd told → ⊥
+  ended_only (reply.Submitted r) other lawful = lawful
+  ended_only (reply.Proposed r) other lawful = lawful
+  ended_only (reply.Delivered r) other lawful = lawful
+  ended_only (reply.RoundEnded r) other lawful = other r refl
+  ended_only (reply.Executed r) other lawful = lawful
+  ended_only (reply.Queried r) other lawful = lawful
+
+  pub executed_only : (told : Reply) → ((r : Result BlockResult NothingDecided) → told ≡ reply.Executed r → ⊥) → LawfulTo event.Execute told → ⊥
+  executed_only (reply.Submitted r) other lawful = lawful
+  executed_only (reply.Proposed r) other lawful = lawful
+  executed_only (reply.Delivered r) other lawful = lawful
+  executed_only (reply.RoundEnded r) other lawful = lawful
+  executed_only (reply.Executed r) other lawful = other r refl
+  executed_only (reply.Queried r) other lawful = lawful
+
+  pub queried_only : (key : List ℕ) (h : ℕ) (told : Reply) → ((r : Result QueryAnswer NotHeld) → told ≡ reply.Queried r → ⊥) → LawfulTo (event.Query key h) told → ⊥
+  queried_only key h (reply.Submitted r) other lawful = lawful
+  queried_only key h (reply.Proposed r) other lawful = lawful
+  queried_only key h (reply.Delivered r) other lawful = lawful
+  queried_only key h (reply.RoundEnded r) other lawful = lawful
+  queried_only key h (reply.Executed r) other lawful = lawful
+  queried_only key h (reply.Queried r) other lawful = other r refl

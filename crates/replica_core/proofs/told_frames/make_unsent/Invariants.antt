@@ -1,0 +1,11 @@
+-- those so far end as they are planned, and make nothing
+use Rattle.std.proofs.Common.{◌≡◌, ◌++◌, map}
+use Rattle.std.specs.List.{AllByRecursion}
+use Rattle.std.specs.Vec.Iter.{into_iter_items}
+use Rattle.instance.specs.declared.made.Made.TheVariants as made
+use Rattle.replica_core.proofs.told_frames.make_unsent.Given as goal
+
+abbrev pub invariant-loop-plan : goal.invariant-loop-plan
+invariant-loop-plan l =
+    (map (λ c. c.ending) l.closings.items ++ map (λ plan. plan.ending) (into_iter_items l.plan-iterator) ≡ map (λ plan. plan.ending) l.fn.plans.items)
+    × AllByRecursion (λ c. c.made ≡ made.Unsent) l.closings.items

@@ -1,0 +1,68 @@
+//! Whether what another replica's frames tell may be made, at each open height.
+use crate::kept::Kept;
+use abci::Application;
+use height_row::Closing;
+use instance::{Instance, Made};
+use signed_frames::Frame;
+
+impl<A: Application> Kept<A> {
+    ghost use Rattle.std.specs.Prelude.{◌≡◌, ◌<◌, ◌+◌, List, length, map, true, false, IsTrue};
+    ghost use Rattle.std.specs.List.{AllByRecursion};
+    ghost use Rattle.ledger_model.specs.declared.history.Entry.{Entry};
+    ghost use Rattle.ledger_model.specs.Limits.{last_round};
+    ghost use Rattle.ledger_model.specs.Notes.{Note, clock_of};
+    ghost use Rattle.ledger_model.specs.Rules.{is_signed};
+    ghost use Rattle.instance.specs.Plans.{IsOwnMade};
+    ghost use Rattle.instance.specs.Matching.{Matches as MatchesAt};
+    ghost use Rattle.replica_core.specs.Holding.{Matches, IsHeld};
+    ghost use Rattle.replica_core.specs.RoundEnds.{IsMadeAt, AreMade};
+
+    /// Whether the frame's signature verifies under its signer's key.
+    fn is_signed(&self, frame: &Frame) -> bool
+        ensures { result ≡ is_signed self.now.ring frame.now }
+    {
+        let signer = frame.statement().signer();
+        self.ring
+            .verifies(signer, frame.statement_bytes(), frame.signature())
+    }
+
+    /// Whether a replica that is not mute may make this at an open height as the next round opens.
+    fn may_make(&self, instance: &Instance, made: &Made) -> bool
+        requires clock { self.now.clock < last_round }
+        // By every log that the height matches.
+        ensures may { (log : List Note) → MatchesAt self.now.ring instance.now log → clock_of log ≡ self.now.clock → result ≡ true
+            → IsMadeAt self.now.ring false (self.now.clock + 1) instance.now made.now }
+        ensures only { (log : List Note) → MatchesAt self.now.ring instance.now log → clock_of log ≡ self.now.clock
+            → IsMadeAt self.now.ring false (self.now.clock + 1) instance.now made.now → result ≡ true }
+        ensures own { result ≡ true → IsOwnMade instance.now.id made.now }
+    {
+        match made {
+            Made::Mute => false,
+            Made::Unsent => instance.may_make(self.clock, None),
+            Made::Sent(own) => {
+                let frame = own.frame();
+                instance.may_make(self.clock, Some(frame.statement())) && self.is_signed(frame)
+            }
+        }
+    }
+
+    /// Whether it may make all this, one at each open height, in order.
+    pub(crate) fn may_make_all(&self, closings: &[Closing]) -> bool
+        requires clock { self.now.clock < last_round }
+        requires count { length closings.now ≡ length self.now.rows }
+        // By every history that is matched.
+        ensures may { (entries : List Entry) → Matches self.now entries → result ≡ true
+            → AreMade self.now.ring false (self.now.clock + 1) self.now.rows (map (λ c. c.made) closings.now) }
+        ensures only { (entries : List Entry) → Matches self.now entries
+            → AreMade self.now.ring false (self.now.clock + 1) self.now.rows (map (λ c. c.made) closings.now) → result ≡ true }
+        ensures own { result ≡ true → AllByRecursion (λ c. IsOwnMade self.now.id c.made) closings.now }
+    {
+        let instances = self.rows.instances();
+        for (place, closing) in closings.iter().enumerate() {
+            if !self.may_make(&instances[place], &closing.made) {
+                return false;
+            }
+        }
+        true
+    }
+}

@@ -1,0 +1,100 @@
+//! What the frames of another replica's round end tell of what it made, at each open height.
+ghost use Rattle.std.specs.Prelude.{◌≡◌, ◌≤◌, ◌<◌, ◌+◌, length, map, None, true, IfOk, IfSome, OnOk};
+ghost use Rattle.std.specs.List.{list_any, AllByRecursion};
+ghost use Rattle.ledger_model.specs.Spelling.{IsFrame};
+ghost use Rattle.instance.specs.Laws.{IsFrameMade};
+ghost use Rattle.replica_core.specs.ToldEnds.{statements_told, next_told, left_next, made_of, made_each, is_some_there, AreSpelled};
+
+use height_row::Closing;
+use instance::{Instance, Made, OwnFrame, Plan};
+use ledger_model::{Height, Sent};
+use signed_frames::Frame;
+use statements::DecodeFault;
+use std::alloc::{AllocError, Global};
+use std::collections::VecDeque;
+
+/// Whether locks are sent on at some height.
+pub(crate) fn send_locks(plans: &[Plan]) -> bool
+    ensures { result ≡ list_any (λ plan. is_some_there plan.ending.sends_on) plans.now }
+{
+    plans.iter().any(|plan| !plan.ending.sends_on().is_empty())
+}
+
+/// What is done at each height, in order, by a replica that makes nothing there and is not mute.
+pub(crate) fn make_unsent(alloc: Global, plans: Vec<Plan>) -> Result<Vec<Closing>, AllocError>
+    ensures endings { IfOk result (λ closings. map (λ c. c.ending) closings.items ≡ map (λ plan. plan.ending) plans.items) }
+    ensures unsent { IfOk result (λ closings. AllByRecursion (λ c. c.made ≡ Made.Unsent) closings.items) }
+{
+    let mut closings = Vec::with_capacity(alloc, plans.len())?;
+    for plan in plans {
+        closings.push(Closing {
+            ending: plan.ending,
+            made: Made::Unsent,
+        })?;
+    }
+    Ok(closings)
+}
+
+/// The frames that these are, in order: none where one of them spells no statement.
+pub(crate) fn read_frames(
+    alloc: Global,
+    sent: &[Sent],
+) -> Result<Option<VecDeque<Frame>>, AllocError>
+    ensures told { IfOk result (λ o. IfSome o (λ frames. statements_told sent.now ≡ frames.items)) }
+    ensures frames { IfOk result (λ o. IfSome o (λ frames. AllByRecursion IsFrame frames.items)) }
+    ensures none { IfOk result (λ o. o ≡ None → AreSpelled sent.now → ⊥) }
+{
+    let mut frames = VecDeque::new(alloc);
+    for sent in sent {
+        match Frame::parse(alloc, sent.frame.clone()?) {
+            Ok(frame) => frames.push_back(frame)?,
+            Err(DecodeFault::Malformed) => return Ok(None),
+            Err(DecodeFault::NoMemory) => return Err(AllocError),
+        }
+    }
+    Ok(Some(frames))
+}
+
+/// The next of the frames that are left, if it is of the height. It is taken then.
+fn next_of(frames: &mut VecDeque<Frame>, height: Height) -> Option<Frame>
+    ensures next { result ≡ next_told height frames.old.items }
+    ensures left { frames.new.items ≡ left_next height frames.old.items }
+{
+    let next = frames.front()?;
+    if next.statement().height() != height {
+        return None;
+    }
+    frames.pop_front()
+}
+
+/// What is made, where this is sent.
+fn made_of(alloc: Global, sent: Option<Frame>) -> Result<Made, AllocError>
+    ensures made { IfOk result (λ made. made ≡ made_of sent) }
+{
+    match sent {
+        Some(frame) => Ok(Made::Sent(OwnFrame::new(alloc, frame)?)),
+        None => Ok(Made::Unsent),
+    }
+}
+
+/// What is done at each height, in order: each makes the next of the frames that are left, if it is of the height.
+pub(crate) fn make_told(
+    alloc: Global,
+    instances: &[Instance],
+    plans: Vec<Plan>,
+    mut frames: VecDeque<Frame>,
+) -> Result<Vec<Closing>, AllocError>
+    requires count { length plans.items ≡ length instances.now }
+    ensures endings { IfOk result (λ closings. map (λ c. c.ending) closings.items ≡ map (λ plan. plan.ending) plans.items) }
+    ensures made { IfOk result (λ closings. map (λ c. c.made) closings.items ≡ made_each (map (λ row. row.height) instances.now) frames.items) }
+{
+    let mut closings = Vec::with_capacity(alloc, plans.len())?;
+    for (place, plan) in plans.into_iter().enumerate() {
+        let next = next_of(&mut frames, instances[place].height());
+        closings.push(Closing {
+            ending: plan.ending,
+            made: made_of(alloc, next)?,
+        })?;
+    }
+    Ok(closings)
+}
