@@ -3,10 +3,10 @@ ghost use Rattle.std.specs.Prelude.{◌≡◌, [], ◌∷◌, ◌++◌, IfOk};
 ghost use Rattle.sha2.specs.Sha256.{sha256};
 ghost use Rattle.cluster_keys.specs.Keys.{secret_of};
 
+use crate::cluster::Cluster;
 use key_ring::Signer;
 use ledger_model::ReplicaId;
 use lm_ots::{Identifier, Seed};
-use settings::Cluster;
 use sha2::{Digest, Sha256};
 use std::alloc::{AllocError, Global};
 

@@ -1,13 +1,13 @@
 //! What one replica holds of the cluster's keys: its own key pair, and the public keys of all.
 ghost use Rattle.std.specs.Prelude.{◌≡◌, ◌<◌, ℕ, Some, IfOk, length, slice_get};
 ghost use Rattle.key_ring.specs.Signers.{key_of};
-ghost use Rattle.cluster_keys.specs.Keys.{secret_of};
+ghost use Rattle.cluster_keys.specs.Keys.{ring_of, secret_of};
 
+use crate::cluster::Cluster;
 use crate::derivation::key_pair;
 use key_ring::{KeyRing, Signer};
 use ledger_model::ReplicaId;
 use lms_tree::PublicKey;
-use settings::Cluster;
 use std::alloc::{AllocError, Global};
 
 /// The public key of `other`, for the replica `own` that has the key pair `signer`: its own tree is not computed again.
@@ -39,6 +39,7 @@ fn ring(
     ensures keys { IfOk result (λ ring. (r : ℕ) → r < cluster.now.config.replicas
         → slice_get ring r ≡ Some (key_of (secret_of cluster.now r))) }
     ensures len { IfOk result (λ ring. length ring ≡ cluster.now.config.replicas) }
+    ensures whole { IfOk result (λ ring. ring ≡ ring_of cluster.now) }
 {
     let mut keys = Vec::new(alloc);
     for replica in 0..cluster.config.replicas {
@@ -58,6 +59,7 @@ pub fn signer_and_ring(
     ensures ring { IfOk result (λ keys. (r : ℕ) → r < cluster.now.config.replicas
         → slice_get keys.1 r ≡ Some (key_of (secret_of cluster.now r))) }
     ensures len { IfOk result (λ keys. length keys.1 ≡ cluster.now.config.replicas) }
+    ensures whole { IfOk result (λ keys. keys.1 ≡ ring_of cluster.now) }
 {
     let signer = key_pair(alloc, cluster, own)?;
     let ring = ring(alloc, cluster, own, &signer)?;

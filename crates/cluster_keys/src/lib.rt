@@ -1,8 +1,10 @@
-//! The key pairs of a cluster's replicas, all from one seed, and the ring of their public keys.
+//! A cluster, the key pairs of its replicas, all from one seed, and the ring of their public keys.
 #![tactic(auto)]
 
+mod cluster;
 mod derivation;
 mod keys;
 
+pub use cluster::Cluster;
 pub use derivation::key_pair;
 pub use keys::signer_and_ring;

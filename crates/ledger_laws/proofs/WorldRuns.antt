@@ -3,7 +3,7 @@ use Rattle.std.proofs.Common.{◌≡◌, ℕ, zero, suc, ◌+◌, ◌<◌, true,
 use Rattle.std.specs.Prelude.{nat_eq, nat_lt, nat_le, Option, Some, None, Result, Ok, Err, slice_get}
 use Rattle.std.specs.List.{count_by}
 use Rattle.std.specs.Option.{option_map}
-use Rattle.std.proofs.Math.Seq.{take-append_seam}
+use Rattle.std.proofs.Math.Seq.{take-append_seam, take-length}
 use Rattle.std.proofs.lemmas.List.{append-nil, take-map, take-append-drop, length-map}
 use Rattle.std.proofs.lemmas.List.Recursion.{is_count_by}
 use Rattle.std.proofs.lemmas.Option.{slice_get-map}
@@ -277,3 +277,12 @@ runs_append config ring w mid new [] more [] others first next = subst (λ v. Ru
 runs_append config ring w mid new [] more (a ∷ answers) others first next = absurd first
 runs_append config ring w mid new (s ∷ steps) more [] others first next = absurd first
 runs_append config ring w mid new (s ∷ steps) more (a ∷ answers) others first next = (first.0, first.1, runs_append config ring (first.0) mid new steps more answers others (first.2) next)
+
+-- after as many entries as there are, the world of a run is as it is now
+pub world_now : (config : Config) (ring : Ring) (correct : List ℕ) (steps : List WorldStep) (answers : List WorldReply) (w : World)
+    → Runs config ring (beginning correct) steps answers w → world_at w (length w.order) ≡ w
+world_now config ring correct steps answers w runs =
+    let t = told config ring correct [] steps answers w runs in
+    subst (λ (v : World). world_at v (length v.order) ≡ v) (sym (t.is))
+    (world_then correct (t.more) (length (replicas_of (t.more)))
+    ∙ ap (world_of correct) (ap (λ n. take n (t.more)) (length-map (t.more) (λ (a : Added). a.replica)) ∙ take-length (t.more)))

@@ -1,0 +1,9 @@
+mod Asking
+mod Beginning
+mod Headline
+mod LiarSignatures
+mod Members
+mod Running
+mod SentPlaces
+mod Staying
+mod Telling

@@ -1,0 +1,4 @@
+use Rattle.adversary_net.proofs.world.World.pair.Goals as goal
+
+pub returns-clause-from : goal.returns-clause-from
+returns-clause-from g c = c.in_ok-correct.ensures.entries

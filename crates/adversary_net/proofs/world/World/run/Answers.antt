@@ -1,0 +1,32 @@
+use Rattle.std.proofs.Common.{subst}
+use Rattle.adversary_net.specs.Clusters.{IsCluster}
+use Rattle.adversary_net.proofs.Headline.{one_ledger}
+use Rattle.adversary_net.proofs.Telling.{own_machines, own_replies}
+use Rattle.adversary_net.proofs.world.World.run.Goals as goal
+
+pub returns-in_err-answers-clause-machines : goal.returns-in_err-answers-clause-machines
+returns-in_err-answers-clause-machines g c = own_machines c.args.self.now (subst IsCluster c.self.view_is c.self.invariant)
+
+pub returns-in_err-answers-clause-replies : goal.returns-in_err-answers-clause-replies
+returns-in_err-answers-clause-replies g c = own_replies c.args.self.now (subst IsCluster c.self.view_is c.self.invariant)
+
+pub returns-in_err-reserve-clause-machines : goal.returns-in_err-reserve-clause-machines
+returns-in_err-reserve-clause-machines g c = rw c.in_err-reserve.ensures.items (own_machines _ c.self.invariant)
+
+pub returns-in_err-reserve-clause-replies : goal.returns-in_err-reserve-clause-replies
+returns-in_err-reserve-clause-replies g c = own_replies _ c.self.invariant
+
+pub returns-clause-machines : goal.returns-clause-machines
+returns-clause-machines g c = own_machines c.run_each.new.self c.run_each.ensures.cluster
+
+pub returns-clause-replies : goal.returns-clause-replies
+returns-clause-replies g c = own_replies c.run_each.new.self c.run_each.ensures.cluster
+
+pub returns-in_err-answers-clause-one_ledger : goal.returns-in_err-answers-clause-one_ledger
+returns-in_err-answers-clause-one_ledger g c = one_ledger c.args.self.now (subst IsCluster c.self.view_is c.self.invariant)
+
+pub returns-in_err-reserve-clause-one_ledger : goal.returns-in_err-reserve-clause-one_ledger
+returns-in_err-reserve-clause-one_ledger g c = rw c.in_err-reserve.ensures.items (one_ledger _ c.self.invariant)
+
+pub returns-clause-one_ledger : goal.returns-clause-one_ledger
+returns-clause-one_ledger g c = one_ledger c.run_each.new.self c.run_each.ensures.cluster

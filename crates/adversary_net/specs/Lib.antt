@@ -1,0 +1,5 @@
+pub mod Clusters
+pub mod Headline
+pub mod Openings
+pub mod Sending
+pub mod Steps

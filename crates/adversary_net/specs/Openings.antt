@@ -1,0 +1,73 @@
+-- A cluster as it begins: which replicas lie, their keys, and that nothing has happened.
+use Rattle.std.specs.Prelude.{◌≡◌, ℕ, ◌+◌, ◌==◌, ◌<◌, ◌≤◌, Bool, not, List, [], ◌∷◌, length, map, filter, All, if◌then◌else◌}
+use Rattle.std.specs.List.{list_any, range_with_len}
+use Rattle.ledger_model.specs.declared.config.Config.{Config}
+use Rattle.ledger_model.specs.Applications.{Machine, run}
+use Rattle.ledger_model.specs.Rules.{Ring}
+use Rattle.lms_tree.specs.Trees.{Secret}
+use Rattle.key_ring.specs.Signers.{Keys, key_of}
+use Rattle.locked_replica.specs.Replicas.{Replica}
+use Rattle.adversary_net.specs.declared.party.Party.{Party}
+use Rattle.adversary_net.specs.declared.party.Party.TheVariants as party
+use Rattle.adversary_net.specs.Clusters.{RunningCluster}
+
+-- how many different ones there are
+abbrev pub different : List ℕ → ℕ
+different [] = 0
+different (x ∷ xs) = (if list_any (λ y. y == x) xs then 0 else 1) + different xs
+
+-- the replica is one of the liars
+abbrev pub is_liar : List ℕ → ℕ → Bool
+is_liar liars r = list_any (λ l. l == r) liars
+
+-- the correct ones among n replicas from a on
+abbrev pub correct_from : List ℕ → ℕ → ℕ → List ℕ
+correct_from liars a n = filter (λ r. not (is_liar liars r)) (range_with_len a n)
+
+-- the replicas of the cluster that are none of the liars, by ascending numbers
+abbrev pub correct_without : Config → List ℕ → List ℕ
+correct_without config liars = correct_from liars 0 config.replicas
+
+-- these replicas may lie: no more than t different ones, each of the cluster
+pub record MayLie (config : Config) (liars : List ℕ) : Type 0 where
+  pub few : different liars ≤ config.faults
+  pub below : All (λ r. r < config.replicas) liars
+
+-- the key pair of a secret, with no leaf used
+abbrev pub unused : Secret → Keys
+unused secret = record { secret = secret; used = 0 }
+
+-- the public keys of all replicas by number
+abbrev pub ring_of : Config → (ℕ → Secret) → Ring
+ring_of config secrets = map (λ r. key_of (secrets r)) (range_with_len 0 config.replicas)
+
+-- a correct replica to which nothing happened
+abbrev pub new_replica : Config → Ring → (ℕ → Secret) → ℕ → Replica
+new_replica config ring secrets r = record {
+  config = config;
+  id = r;
+  ring = ring;
+  secret = secrets r;
+  used = 0;
+  entries = [];
+  machine = run config.kind [];
+}
+
+-- what a replica is as the cluster begins
+abbrev pub new_party : Config → Ring → (ℕ → Secret) → List ℕ → ℕ → Party Replica
+new_party config ring secrets liars r = if is_liar liars r then party.Liar (unused (secrets r)) else party.Correct (new_replica config ring secrets r)
+
+-- the cluster of these secrets, of which these replicas lie, as it begins
+abbrev pub new_cluster : Config → (ℕ → Secret) → List ℕ → RunningCluster
+new_cluster config secrets liars = record {
+  config = config;
+  ring = ring_of config secrets;
+  parties = map (new_party config (ring_of config secrets) secrets liars) (range_with_len 0 config.replicas);
+  order = [];
+}
+
+-- an application and random keys for each of so many correct replicas, each application in the opening state of its kind
+pub record IsSupply {A R : Type 0} (machine : A → Machine) (config : Config) (n : ℕ) (apps : List A) (randoms : List R) : Type 0 where
+  pub an_app : length apps ≡ n
+  pub a_pair : length randoms ≡ n
+  pub opening : All (λ a. machine a ≡ run config.kind []) apps

@@ -1,0 +1,130 @@
+//! A correct replica, and where in its history the frames that it sent stand.
+ghost use Rattle.std.specs.Prelude.{◌≡◌, ◌<◌, length, slice_get, option_map, Some, [], IfOk, OnErr};
+ghost use Rattle.std.specs.Option.{option_copied};
+ghost use Rattle.ledger_model.specs.declared.history.Entry.{Entry};
+ghost use Rattle.ledger_model.specs.Worlds.{frames_in, frames_sent};
+ghost use Rattle.adversary_net.specs.Sending.{frame_of};
+
+use crate::sent_frames::SentFrames;
+use abci::Application;
+use bytes::Bytes;
+use key_ring::{KeyRing, Signer};
+use ledger_model::{Config, Event, ReplicaId};
+use locked_replica::{ReplyView, RoundEndView, State};
+use std::alloc::{AllocError, Global};
+use std::hash::RandomState;
+use std::marker::Model;
+
+/// A correct replica, and where in its history the frames that it sent stand.
+#[derive(Drop)]
+pub struct CorrectReplica<A: Application> {
+    state: State<A>,
+    sent: SentFrames,
+}
+
+impl<A: Application> Model for CorrectReplica<A> {
+    ghost use Rattle.locked_replica.specs.Replicas.{Replica};
+    ghost use Rattle.adversary_net.specs.Sending.{IsKept};
+
+    ghost Value = { Replica };
+
+    ghost view = { λ c. c.state };
+
+    ghost invariant = { λ c. IsKept c.sent.sending.items c.sent.total c.state };
+}
+
+/// How many frames an entry sent.
+fn frames_of<A: Application>(state: &State<A>, index: usize) -> usize
+    ensures { (e : Entry) → slice_get state.now.entries index ≡ Some e → result ≡ length (frames_in e.reply) }
+{
+    match state.entry(index) {
+        Some(entry) => match entry.reply() {
+            ReplyView::RoundEnded(Ok(ended)) => ended.len(),
+            _ => 0,
+        },
+        None => 0,
+    }
+}
+
+/// A frame of a round end.
+fn frame_in<'a>(ended: &RoundEndView<'a>, frame: usize) -> Option<&'a Bytes>
+    ensures { option_copied result ≡ option_map (λ f. f.frame) (slice_get ended.now.frames frame) }
+{
+    match ended.frame(frame) {
+        Some(sent) => Some(sent.frame),
+        None => None,
+    }
+}
+
+/// A frame of an entry.
+fn frame_at<A: Application>(state: &State<A>, index: usize, frame: usize) -> Option<&Bytes>
+    ensures { option_copied result ≡ frame_of state.now.entries index frame }
+{
+    match state.entry(index) {
+        Some(entry) => match entry.reply() {
+            ReplyView::RoundEnded(Ok(ended)) => frame_in(&ended, frame),
+            _ => None,
+        },
+        None => None,
+    }
+}
+
+impl<A: Application> CorrectReplica<A> {
+    ghost use Rattle.ledger_model.specs.Applications.{run};
+    ghost use Rattle.locked_replica.specs.Replicas.{IsMember};
+    ghost use Rattle.adversary_net.specs.Steps.{Applies};
+
+    /// A replica with no history. The only error is want of memory.
+    pub(crate) fn new(
+        alloc: Global,
+        config: Config,
+        id: ReplicaId,
+        signer: Signer,
+        ring: KeyRing,
+        app: A,
+        randoms: [RandomState; 2],
+    ) -> Result<Self, AllocError>
+        requires member { IsMember config id ring signer.secret }
+        requires opening { A.machine app ≡ run config.kind [] }
+        ensures { IfOk result (λ replica. replica ≡ record { config = config; id = id; ring = ring; secret = signer.secret; used = signer.used; entries = []; machine = run config.kind [] }) }
+    {
+        Ok(CorrectReplica {
+            state: State::new(alloc, config, id, signer, ring, app, randoms)?,
+            sent: SentFrames::new(alloc),
+        })
+    }
+
+    /// Its state.
+    pub(crate) fn state(&self) -> &State<A>
+        ensures { result.now ≡ self.now }
+    {
+        &self.state
+    }
+
+    /// The frame of an index, of all that it ever sent. It takes no walk over the history.
+    pub(crate) fn frame(&self, index: usize) -> Option<&Bytes>
+        ensures { option_copied result ≡ slice_get (frames_sent self.now.entries) index }
+    {
+        let (entry, frame) = self.sent.place(index)?;
+        frame_at(&self.state, entry, frame)
+    }
+
+    /// Takes one event: the answer is the index of the new entry. The history has room.
+    ///
+    /// The only error is want of memory. Then all is as before, but a round end may have used leaves.
+    pub(crate) fn apply(&mut self, event: Event) -> Result<usize, AllocError>
+        requires room { length self.old.entries < 65536 }
+        ensures applied { IfOk result (λ index. Applies self.old event index self.new) }
+        ensures err { OnErr result (self.new ≡ record self.old { used = self.new.used }) }
+    {
+        self.sent.reserve()?;
+        match self.state.apply(event) {
+            Ok(index) => {
+                let frames = frames_of(&self.state, index);
+                self.sent.add(index, frames);
+                Ok(index)
+            }
+            Err(_) => Err(AllocError),
+        }
+    }
+}

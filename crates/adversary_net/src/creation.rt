@@ -1,0 +1,227 @@
+//! How a world is made: its keys, its replicas, and which of them lie.
+ghost use Rattle.std.specs.Prelude.{◌≡◌, [], ◌<◌, ◌≤◌, ◌-◌, ◌↔◌, false, length, map, vec_len, All, Any, IfOk, OnOk, IsErrOf, IsTrue, if◌then◌else◌};
+ghost use Rattle.std.specs.List.{range_with_len};
+ghost use Rattle.std.specs.Vec.Iter.{into_iter_items};
+ghost use Rattle.ledger_model.specs.Applications.{run};
+ghost use Rattle.key_ring.specs.Signers.{key_of};
+ghost use Rattle.cluster_keys.specs.Keys.{secret_of};
+ghost use Rattle.locked_replica.specs.Replicas.{IsMember};
+ghost use Rattle.adversary_net.specs.Openings.{different, is_liar, correct_without, unused, ring_of, new_party, IsSupply};
+
+use crate::correct::CorrectReplica;
+use crate::fault::WorldFault;
+use crate::party::Party;
+use crate::world::World;
+use abci::Application;
+use cluster_keys::{Cluster, key_pair};
+use key_ring::{KeyRing, Signer};
+use ledger_model::{Config, ReplicaId};
+use std::alloc::{AllocError, Global};
+use std::hash::RandomState;
+use std::vec::IntoIter;
+
+/// Whether the replica is one of them.
+fn is_among(replicas: &[ReplicaId], replica: ReplicaId) -> bool
+    ensures { result ≡ is_liar replicas.now replica }
+{
+    replicas.contains(&replica)
+}
+
+/// How many replicas of the cluster are none of the liars: as many applications does [`World::new`] take.
+pub fn count_correct(config: &Config, liars: &[ReplicaId]) -> usize
+    ensures { result ≡ length (correct_without config.now liars.now) }
+{
+    let mut count = 0;
+    for replica in 0..config.replicas {
+        if !is_among(liars, ReplicaId::new(replica)) {
+            count += 1;
+        }
+    }
+    count
+}
+
+/// How many different replicas are named.
+fn different_of(replicas: &[ReplicaId]) -> usize
+    ensures { result ≡ different replicas.now }
+{
+    let mut count = 0;
+    for at in 0..replicas.len() {
+        let replica = replicas[at];
+        if !is_among(&replicas[at + 1..], replica) {
+            count += 1;
+        }
+    }
+    count
+}
+
+/// Whether one of them is no replica of the cluster.
+fn has_stranger(config: &Config, replicas: &[ReplicaId]) -> bool
+    ensures { IsTrue result ↔ Any (λ r. config.now.replicas ≤ r) replicas.now }
+{
+    replicas
+        .iter()
+        .any(|replica| replica.number() >= config.replicas)
+}
+
+/// The key pairs of all replicas by number, with no leaf used.
+fn signers_of(alloc: Global, cluster: &Cluster) -> Result<Vec<Signer>, AllocError>
+    ensures { IfOk result (λ signers. signers.items
+        ≡ map (λ r. unused (secret_of cluster.now r)) (range_with_len 0 cluster.now.config.replicas)) }
+{
+    let mut signers = Vec::with_capacity(alloc, usize::from(cluster.config.replicas))?;
+    for replica in 0..cluster.config.replicas {
+        signers.push(key_pair(alloc, cluster, ReplicaId::new(replica))?)?;
+    }
+    Ok(signers)
+}
+
+/// Their public keys.
+fn ring_of_signers(alloc: Global, signers: &[Signer]) -> Result<KeyRing, AllocError>
+    ensures { IfOk result (λ ring. ring ≡ map (λ keys. key_of keys.secret) signers.now) }
+{
+    let mut keys = Vec::with_capacity(alloc, signers.len())?;
+    for signer in signers {
+        keys.push(signer.public())?;
+    }
+    Ok(KeyRing::new(keys))
+}
+
+/// What the correct replicas are made with, the next one's first.
+#[derive(Drop)]
+struct Supply<A: Application> {
+    apps: IntoIter<A>,
+    randoms: IntoIter<[RandomState; 2]>,
+}
+
+/// A correct replica, made with the next application and the next random keys.
+fn correct_replica<A: Application>(
+    alloc: Global,
+    config: Config,
+    id: ReplicaId,
+    signer: Signer,
+    ring: &KeyRing,
+    supply: &mut Supply<A>,
+) -> Result<CorrectReplica<A>, AllocError>
+    requires member { IsMember config id ring.now signer.secret }
+    requires some { 0 < length (into_iter_items supply.old.apps) }
+    requires supply { IsSupply A.machine config (length (into_iter_items supply.old.apps))
+        (into_iter_items supply.old.apps) (into_iter_items supply.old.randoms) }
+    ensures replica { IfOk result (λ replica. replica ≡ record { config = config; id = id; ring = ring.now; secret = signer.secret; used = signer.used; entries = []; machine = run config.kind [] }) }
+    ensures supply_left { IsSupply A.machine config (length (into_iter_items supply.old.apps) - 1)
+        (into_iter_items supply.new.apps) (into_iter_items supply.new.randoms) }
+{
+    match (supply.apps.next(), supply.randoms.next()) {
+        (Some(app), Some(randoms)) => {
+            CorrectReplica::new(alloc, config, id, signer, ring.copy()?, app, randoms)
+        }
+        _ => unreachable!(),
+    }
+}
+
+/// What a replica is: a liar, or a correct replica with nothing happened.
+fn party_of<A: Application>(
+    alloc: Global,
+    cluster: &Cluster,
+    liars: &[ReplicaId],
+    id: ReplicaId,
+    signer: Signer,
+    ring: &KeyRing,
+    supply: &mut Supply<A>,
+) -> Result<Party<CorrectReplica<A>>, AllocError>
+    requires below { id < cluster.now.config.replicas }
+    requires signer { signer ≡ unused (secret_of cluster.now id) }
+    requires ring { ring.now ≡ ring_of cluster.now.config (secret_of cluster.now) }
+    requires some { is_liar liars.now id ≡ false → 0 < length (into_iter_items supply.old.apps) }
+    requires supply { IsSupply A.machine cluster.now.config (length (into_iter_items supply.old.apps))
+        (into_iter_items supply.old.apps) (into_iter_items supply.old.randoms) }
+    ensures party { IfOk result (λ party. party ≡ new_party cluster.now.config ring.now (secret_of cluster.now) liars.now id) }
+    ensures supply_left { IsSupply A.machine cluster.now.config
+        (length (into_iter_items supply.old.apps) - (if is_liar liars.now id then 0 else 1))
+        (into_iter_items supply.new.apps) (into_iter_items supply.new.randoms) }
+{
+    if is_among(liars, id) {
+        return Ok(Party::Liar(signer));
+    }
+    let replica = correct_replica(alloc, cluster.config, id, signer, ring, supply)?;
+    Ok(Party::Correct(replica))
+}
+
+/// What the replicas are, by number.
+fn parties_of<A: Application>(
+    alloc: Global,
+    cluster: &Cluster,
+    liars: &[ReplicaId],
+    signers: Vec<Signer>,
+    ring: &KeyRing,
+    mut supply: Supply<A>,
+) -> Result<Vec<Party<CorrectReplica<A>>>, AllocError>
+    requires signers { signers.items ≡ map (λ r. unused (secret_of cluster.now r)) (range_with_len 0 cluster.now.config.replicas) }
+    requires ring { ring.now ≡ ring_of cluster.now.config (secret_of cluster.now) }
+    requires supply { IsSupply A.machine cluster.now.config (length (correct_without cluster.now.config liars.now))
+        (into_iter_items supply.apps) (into_iter_items supply.randoms) }
+    ensures { IfOk result (λ parties. parties.items
+        ≡ map (new_party cluster.now.config ring.now (secret_of cluster.now) liars.now) (range_with_len 0 cluster.now.config.replicas)) }
+{
+    let mut parties = Vec::with_capacity(alloc, signers.len())?;
+    let mut signers = signers.into_iter();
+    for replica in 0..cluster.config.replicas {
+        let Some(signer) = signers.next() else {
+            unreachable!();
+        };
+        let id = ReplicaId::new(replica);
+        let party = party_of(alloc, cluster, liars, id, signer, ring, &mut supply)?;
+        parties.push(party)?;
+    }
+    Ok(parties)
+}
+
+impl<A: Application> World<A> {
+    ghost use Rattle.ledger_model.specs.Timelines.{AreReplicas};
+    ghost use Rattle.ledger_model.specs.Worlds.{beginning};
+    ghost use Rattle.adversary_net.specs.Clusters.{world_of};
+    ghost use Rattle.adversary_net.specs.Openings.{MayLie, new_cluster};
+
+    /// The world of a cluster in which these replicas lie, with an application and two random keys for each correct replica, by
+    /// ascending numbers. The applications are in their opening state, of the cluster's kind.
+    ///
+    /// `TooManyLiars` comes exactly where more than `t` different replicas are to lie; `NoSuchReplica` exactly where not so many
+    /// are, but one has a number that is no replica's. All key pairs are computed here, once.
+    pub fn new(
+        alloc: Global,
+        cluster: &Cluster,
+        liars: &[ReplicaId],
+        apps: Vec<A>,
+        randoms: Vec<[RandomState; 2]>,
+    ) -> Result<Self, WorldFault>
+        // There are as many as correct replicas.
+        requires apps { MayLie cluster.now.config liars.now → vec_len apps ≡ length (correct_without cluster.now.config liars.now) }
+        requires randoms { MayLie cluster.now.config liars.now → vec_len randoms ≡ length (correct_without cluster.now.config liars.now) }
+        requires opening { All (λ app. A.machine app ≡ run cluster.now.config.kind []) apps.items }
+        ensures new { IfOk result (λ world. world ≡ new_cluster cluster.now.config (secret_of cluster.now) liars.now) }
+        // For the definitions it is a world in which nothing has happened.
+        ensures begins { IfOk result (λ world. world_of world ≡ beginning (correct_without cluster.now.config liars.now)) }
+        ensures replicas { OnOk result (AreReplicas cluster.now.config (correct_without cluster.now.config liars.now)) }
+        ensures too_many { IsErrOf result WorldFault.TooManyLiars ↔ (cluster.now.config.faults < different liars.now) }
+        ensures no_such { IsErrOf result WorldFault.NoSuchReplica
+            ↔ ((different liars.now ≤ cluster.now.config.faults) × Any (λ r. cluster.now.config.replicas ≤ r) liars.now) }
+    {
+        if different_of(liars) > usize::from(cluster.config.faults) {
+            return Err(WorldFault::TooManyLiars);
+        }
+        if has_stranger(&cluster.config, liars) {
+            return Err(WorldFault::NoSuchReplica);
+        }
+        let signers = signers_of(alloc, cluster)?;
+        let ring = ring_of_signers(alloc, &signers)?;
+        let supply = Supply {
+            apps: apps.into_iter(),
+            randoms: randoms.into_iter(),
+        };
+        Ok(World {
+            config: cluster.config,
+            parties: parties_of(alloc, cluster, liars, signers, &ring, supply)?,
+            ring,
+            order: Vec::new(alloc),
+        })
+    }
+}

@@ -1,0 +1,28 @@
+//! Why a world is not made.
+ghost use Rattle.std.specs.Prelude.{◌≡◌};
+ghost use Rattle.adversary_net.specs.declared.fault.WorldFault.TheVariants.{NoMemory};
+
+use std::alloc::AllocError;
+use thiserror::Error;
+
+/// Why a world is not made.
+#[derive(Clone, Copy, Debug, PartialEq, Eq, Error)]
+pub enum WorldFault {
+    /// More different replicas are to lie than may.
+    #[error("more replicas are to lie than may")]
+    TooManyLiars,
+    /// One that is to lie is no replica of the cluster.
+    #[error("the cluster has no replica of that number")]
+    NoSuchReplica,
+    /// Memory ran out.
+    #[error("out of memory")]
+    NoMemory,
+}
+
+impl From<AllocError> for WorldFault {
+    ghost from_gives = { λ _ fault. fault ≡ NoMemory };
+
+    fn from(_error: AllocError) -> WorldFault {
+        WorldFault::NoMemory
+    }
+}

@@ -1,0 +1,48 @@
+//! What a liar signs.
+ghost use Rattle.std.specs.Prelude.{◌≡◌, None, IfSome, IfNone};
+ghost use Rattle.adversary_net.specs.Clusters.{liar_in, LiarSigns};
+
+use crate::correct::CorrectReplica;
+use crate::party::Party;
+use crate::world::World;
+use abci::Application;
+use key_ring::SignFault;
+use ledger_model::ReplicaId;
+use std::alloc::Global;
+
+/// The signature of a message, if the party is a liar.
+fn signature_of<A: Application>(
+    alloc: Global,
+    party: &mut Party<CorrectReplica<A>>,
+    message: &[u8],
+) -> Option<Result<Vec<u8>, SignFault>>
+    ensures signs { IfSome result (λ answer. LiarSigns (λ signature. signature.items) party.old message.now answer party.new) }
+    ensures none { IfNone result (liar_in party.old ≡ None) }
+    ensures same { IfNone result (party.new ≡ party.old) }
+{
+    match party {
+        Party::Liar(signer) => Some(signer.sign(alloc, message)),
+        Party::Correct(_) => None,
+    }
+}
+
+impl<A: Application> World<A> {
+    ghost use Rattle.adversary_net.specs.Clusters.{liar_at, SignsFor};
+
+    /// A liar's signature of a message with the next leaf of its key pair, for whoever makes lies; none where the number is no
+    /// liar's. It changes nothing else: a lie comes to a replica by a step.
+    ///
+    /// `Exhausted` comes only, and always, where no leaf is left. After `NoMemory` the leaf is used up.
+    pub fn sign_as(&mut self, liar: ReplicaId, message: &[u8]) -> Option<Result<Vec<u8>, SignFault>>
+        ensures signs { IfSome result (λ answer. SignsFor (λ signature. signature.items) self.old liar message.now answer self.new) }
+        ensures none { IfNone result (liar_at self.old liar ≡ None) }
+        ensures same { IfNone result (self.new ≡ self.old) }
+    {
+        let place = usize::from(liar.number());
+        if place >= self.parties.len() {
+            return None;
+        }
+        let alloc = *self.order.allocator();
+        signature_of(alloc, &mut self.parties[place], message)
+    }
+}

@@ -1,0 +1,198 @@
+//! The steps of a world.
+ghost use Rattle.std.specs.Prelude.{◌≡◌, ◌<◌, length, IfSome, IsSomeAnd, IfOk, OnErr};
+ghost use Rattle.adversary_net.specs.Clusters.{state_in};
+ghost use Rattle.adversary_net.specs.Steps.{AppliesTo, StaysAs, answered};
+
+use crate::correct::CorrectReplica;
+use crate::party::Party;
+use crate::world::World;
+use abci::Application;
+use ledger_model::{Event, ReplicaId, WorldRefusal, WorldReply, WorldStep};
+use locked_replica::MAX_ENTRIES;
+use std::alloc::AllocError;
+
+/// One event at a correct replica, whose history has room.
+fn apply_to<A: Application>(
+    party: &mut Party<CorrectReplica<A>>,
+    event: Event,
+) -> Result<usize, AllocError>
+    requires room { IsSomeAnd (state_in party.old) (λ s. length s.entries < 65536) }
+    ensures applied { IfOk result (λ index. IfSome (state_in party.old) (λ s. AppliesTo s event index party.new)) }
+    ensures err { OnErr result (IfSome (state_in party.old) (λ s. StaysAs s party.new)) }
+{
+    let Party::Correct(replica) = party else {
+        unreachable!();
+    };
+    replica.apply(event)
+}
+
+/// The answer to a step.
+fn reply_of(outcome: Result<(ReplicaId, usize), WorldRefusal>) -> WorldReply
+    ensures { result ≡ answered outcome }
+{
+    match outcome {
+        Ok((replica, index)) => WorldReply::Done(replica, index),
+        Err(refusal) => WorldReply::Refused(refusal),
+    }
+}
+
+impl<A: Application> World<A> {
+    ghost use Rattle.std.specs.Prelude.{◌+◌, ◌≤◌, None, Some, [], vec_len, IfErr, OnOk};
+    ghost use Rattle.std.specs.Vec.{vec_capacity};
+    ghost use Rattle.ledger_model.specs.declared.event.Event.{Event};
+    ghost use Rattle.ledger_model.specs.Timelines.{AreReplicas};
+    ghost use Rattle.ledger_model.specs.Worlds.{entries_in, asks, passes, fault_of_two, Runs, OwnMachines};
+    ghost use Rattle.adversary_net.specs.Clusters.{world_of, correct_of, machine_in, HasRun, IsCluster, IsSameCluster, OwnReplies};
+    ghost use Rattle.adversary_net.specs.Headline.{IsUnforged, IsOneLedger};
+    ghost use Rattle.adversary_net.specs.Steps.{Refused, IsReady, Asks, Went};
+
+    /// Whether an event may be asked of the replica: it is correct, and its history has room.
+    fn room(&self, replica: ReplicaId) -> Result<(), WorldRefusal>
+        ensures ready { OnOk result ((event : Event) → IsReady self.now (asks self.now.config (world_of self.now) replica event) replica event) }
+        ensures refused { IfErr result (λ fault. (event : Event) → Refused self.now (asks self.now.config (world_of self.now) replica event) fault) }
+    {
+        if self.correct(replica)?.state().len() >= MAX_ENTRIES {
+            return Err(WorldRefusal::HistoryFull);
+        }
+        Ok(())
+    }
+
+    /// Two correct replicas, or why a step may not name both.
+    fn pair(
+        &self,
+        from: ReplicaId,
+        to: ReplicaId,
+    ) -> Result<(&CorrectReplica<A>, &CorrectReplica<A>), WorldRefusal>
+        ensures from { IfOk result (λ pair. entries_in (world_of self.now) from ≡ pair.0.now.entries) }
+        ensures to { IfOk result (λ pair. entries_in (world_of self.now) to ≡ pair.1.now.entries) }
+        ensures no_fault { OnOk result (fault_of_two self.now.config (world_of self.now) from to ≡ None) }
+        ensures fault { IfErr result (λ fault. fault_of_two self.now.config (world_of self.now) from to ≡ Some fault) }
+    {
+        if from.number() >= self.config.replicas || to.number() >= self.config.replicas {
+            return Err(WorldRefusal::NoSuchReplica);
+        }
+        Ok((self.correct(from)?, self.correct(to)?))
+    }
+
+    /// The delivery of a frame that one correct replica sent to another.
+    fn delivery(&self, from: ReplicaId, index: usize, to: ReplicaId) -> Result<Event, WorldRefusal>
+        ensures ready { IfOk result (λ event. IsReady self.now (passes self.now.config (world_of self.now) from index to) to event) }
+        ensures refused { IfErr result (λ fault. Refused self.now (passes self.now.config (world_of self.now) from index to) fault) }
+    {
+        let (sender, receiver) = self.pair(from, to)?;
+        match sender.frame(index) {
+            None => Err(WorldRefusal::NoSuchFrame),
+            Some(_) if receiver.state().len() >= MAX_ENTRIES => Err(WorldRefusal::HistoryFull),
+            Some(frame) => match frame.clone() {
+                Ok(bytes) => Ok(Event::Deliver(bytes)),
+                Err(_) => Err(WorldRefusal::NoMemory),
+            },
+        }
+    }
+
+    /// The event that a step is, and at which replica, whose history has room; or why it is refused.
+    fn event_of(&self, step: &WorldStep) -> Result<(ReplicaId, Event), WorldRefusal>
+        ensures { Asks self.now step.now result }
+    {
+        match step {
+            WorldStep::Submit(replica, bytes) => {
+                self.room(*replica)?;
+                let Ok(bytes) = bytes.clone() else {
+                    return Err(WorldRefusal::NoMemory);
+                };
+                Ok((*replica, Event::Submit(bytes)))
+            }
+            WorldStep::Propose(replica, height) => {
+                self.room(*replica)?;
+                Ok((*replica, Event::Propose(*height)))
+            }
+            WorldStep::RoundEnd(replica) => {
+                self.room(*replica)?;
+                Ok((*replica, Event::RoundEnd))
+            }
+            WorldStep::Execute(replica) => {
+                self.room(*replica)?;
+                Ok((*replica, Event::Execute))
+            }
+            WorldStep::Query(replica, key, height) => {
+                self.room(*replica)?;
+                let Ok(key) = key.copy() else {
+                    return Err(WorldRefusal::NoMemory);
+                };
+                Ok((*replica, Event::Query(key, *height)))
+            }
+            WorldStep::Pass { from, index, to } => Ok((*to, self.delivery(*from, *index, *to)?)),
+            WorldStep::Inject { to, bytes } => {
+                self.room(*to)?;
+                let Ok(bytes) = bytes.clone() else {
+                    return Err(WorldRefusal::NoMemory);
+                };
+                Ok((*to, Event::Deliver(bytes)))
+            }
+        }
+    }
+
+    /// One step: the answer tells which entry of which replica was added.
+    fn step(&mut self, step: &WorldStep) -> Result<(ReplicaId, usize), WorldRefusal>
+        ensures { Went self.old self.new step.now (answered result) }
+    {
+        let (replica, event) = self.event_of(step)?;
+        if self.order.reserve(1).is_err() {
+            return Err(WorldRefusal::NoMemory);
+        }
+        let party = &mut self.parties[usize::from(replica.number())];
+        let Ok(index) = apply_to(party, event) else {
+            return Err(WorldRefusal::NoMemory);
+        };
+        match self.order.push(replica) {
+            Ok(()) => Ok((replica, index)),
+            Err(_) => unreachable!(),
+        }
+    }
+
+    /// Takes each step and adds its answer, for which there is room.
+    fn run_each(&mut self, steps: &[WorldStep], answers: &mut Vec<WorldReply>)
+        requires room { vec_len answers.old + length steps.now ≤ vec_capacity answers.old }
+        requires none { answers.old.items ≡ [] }
+        requires cluster { IsCluster self.old }
+        ensures runs { Runs self.old.config self.old.ring (world_of self.old) steps.now answers.new.items (world_of self.new) }
+        ensures same { IsSameCluster self.old self.new }
+        ensures cluster { IsCluster self.new }
+    {
+        for step in steps {
+            let answer = reply_of(self.step(step));
+            match answers.push(answer) {
+                Ok(()) => {}
+                Err(_) => unreachable!(),
+            }
+        }
+    }
+
+    /// Takes the steps in order, and answers each.
+    ///
+    /// A step that names a number which is no replica's is refused as `NoSuchReplica`, then one that names a liar as `Liar`; of
+    /// the others a pass of a frame that was not sent as `NoSuchFrame`, and then any step at a history of 65,536 entries as
+    /// `HistoryFull`. `NoMemory` may refuse the rest: leaves may be used then. The only error of the call is want of memory: the
+    /// room for all answers and for the order is made before the first step.
+    pub fn run(&mut self, steps: &[WorldStep]) -> Result<Vec<WorldReply>, AllocError>
+        // What happens is a run of the definitions.
+        ensures runs { IfOk result (λ answers.
+            Runs self.old.config self.old.ring (world_of self.old) steps.now answers.items (world_of self.new)) }
+        ensures err { OnErr result (self.new ≡ self.old) }
+        // So is all that happened since the world was made.
+        ensures since { HasRun self.new }
+        // Where nothing that was accepted was forged, all of it is a run of one sequential ledger.
+        ensures one_ledger { IsUnforged self.new → IsOneLedger self.new }
+        ensures replicas { AreReplicas self.new.config (correct_of self.new) }
+        // Each application is what it is run alone on the blocks of its replica, and answered as it did then.
+        ensures machines { OwnMachines self.new.config (world_of self.new).histories (machine_in self.new) }
+        ensures replies { OwnReplies self.new.config (world_of self.new).histories }
+        ensures same { IsSameCluster self.old self.new }
+    {
+        let alloc = *self.order.allocator();
+        let mut answers = Vec::with_capacity(alloc, steps.len())?;
+        self.order.reserve(steps.len())?;
+        self.run_each(steps, &mut answers);
+        Ok(answers)
+    }
+}

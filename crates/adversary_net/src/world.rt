@@ -1,0 +1,136 @@
+//! A whole cluster with liars, and what is told of it.
+ghost use Rattle.std.specs.Prelude.{◌≡◌, ◌∷◌, ◌++◌, [], map, OnOk};
+ghost use Rattle.std.specs.List.{filter_map};
+ghost use Rattle.adversary_net.specs.Clusters.{state_in, history_in};
+
+use crate::correct::CorrectReplica;
+use crate::party::Party;
+use abci::{Application, Info};
+use key_ring::KeyRing;
+use ledger_model::{Config, History, ReplicaId, WorldRefusal};
+use locked_replica::State;
+use std::alloc::AllocError;
+use std::marker::Model;
+
+/// A whole cluster, of which some replicas lie.
+///
+/// It has the states of the correct replicas and the key pairs of the liars. Its type keeps that what happened is a run of the
+/// definitions, that each correct replica's application is what it is run alone on the replica's blocks, and that no more
+/// replicas lie than may.
+#[derive(Drop)]
+pub struct World<A: Application> {
+    pub(crate) config: Config,
+    pub(crate) ring: KeyRing,
+    /// By number.
+    pub(crate) parties: Vec<Party<CorrectReplica<A>>>,
+    /// To which replica each entry went.
+    pub(crate) order: Vec<ReplicaId>,
+}
+
+impl<A: Application> Model for World<A> {
+    ghost use Rattle.adversary_net.specs.Clusters.{RunningCluster, IsCluster};
+
+    ghost Value = { RunningCluster };
+
+    ghost view = { λ w. record { config = w.config; ring = w.ring; parties = w.parties.items; order = w.order.items } };
+
+    ghost invariant = { λ w. IsCluster (record { config = w.config; ring = w.ring; parties = w.parties.items; order = w.order.items }) };
+}
+
+/// Adds a copy of the history, if the party is a correct replica.
+fn add_history<A: Application>(
+    histories: &mut Vec<History>,
+    party: &Party<CorrectReplica<A>>,
+) -> Result<(), AllocError>
+    ensures { OnOk result (histories.new.items ≡ histories.old.items ++ map history_in (filter_map state_in (party.now ∷ []))) }
+{
+    match party {
+        Party::Correct(replica) => {
+            histories.push(replica.state().history()?.history)?;
+            Ok(())
+        }
+        Party::Liar(_) => Ok(()),
+    }
+}
+
+impl<A: Application> World<A> {
+    ghost use Rattle.std.specs.Prelude.{None, Some, slice_get, IfOk, IfErr};
+    ghost use Rattle.std.specs.Option.{option_copied};
+    ghost use Rattle.ledger_model.specs.Commits.{commits_of};
+    ghost use Rattle.ledger_model.specs.Worlds.{entries_in, fault_at};
+    ghost use Rattle.replica_core.specs.Telling.{info_reply};
+    ghost use Rattle.adversary_net.specs.Clusters.{world_of, state_at, IsMemberAt, IsCluster};
+
+    /// The cluster that it is of.
+    pub fn config(&self) -> &Config
+        ensures { result.now ≡ self.now.config }
+    {
+        &self.config
+    }
+
+    /// To which replica each entry went, over all calls of [`run`](World::run).
+    pub fn order(&self) -> &[ReplicaId]
+        ensures { result.now ≡ self.now.order }
+    {
+        &self.order
+    }
+
+    /// Copies of the histories of the correct replicas, by ascending numbers; the bytes of frames are shared. The only error
+    /// is want of memory.
+    pub fn histories(&self) -> Result<Vec<History>, AllocError>
+        ensures { IfOk result (λ histories. histories.items ≡ (world_of self.now).histories) }
+    {
+        let alloc = *self.order.allocator();
+        let mut histories = Vec::with_capacity(alloc, self.parties.len())?;
+        for party in &self.parties {
+            add_history(&mut histories, party)?;
+        }
+        Ok(histories)
+    }
+
+    /// What the replica of a number is, if the cluster has one.
+    fn party(&self, replica: ReplicaId) -> Option<&Party<CorrectReplica<A>>>
+        ensures party { option_copied result ≡ slice_get self.now.parties replica }
+        ensures cluster { IsCluster self.now }
+    {
+        self.parties.get(usize::from(replica.number()))
+    }
+
+    /// The correct replica of a number: none at a liar or where the cluster has no such replica.
+    pub fn state(&self, replica: ReplicaId) -> Option<&State<A>>
+        ensures { option_copied result ≡ state_at self.now replica }
+    {
+        match self.party(replica)? {
+            Party::Correct(replica) => Some(replica.state()),
+            Party::Liar(_) => None,
+        }
+    }
+
+    /// The correct replica of a number, or why a step may not name it.
+    pub(crate) fn correct(&self, replica: ReplicaId) -> Result<&CorrectReplica<A>, WorldRefusal>
+        ensures correct { IfOk result (λ s. state_at self.now replica ≡ Some s.now) }
+        ensures member { IfOk result (λ s. IsMemberAt self.now replica s.now) }
+        ensures entries { IfOk result (λ s. entries_in (world_of self.now) replica ≡ s.now.entries) }
+        ensures no_fault { OnOk result (fault_at self.now.config (world_of self.now) replica ≡ None) }
+        ensures fault { IfErr result (λ fault. fault_at self.now.config (world_of self.now) replica ≡ Some fault) }
+    {
+        match self.party(replica) {
+            Some(Party::Correct(replica)) => Ok(replica),
+            Some(Party::Liar(_)) => Err(WorldRefusal::Liar),
+            None => Err(WorldRefusal::NoSuchReplica),
+        }
+    }
+
+    /// How many blocks the application of a correct replica committed, and the hash of its state (ABCI's Info).
+    ///
+    /// `NoSuchReplica` comes exactly where the cluster has no replica of the number, and `Liar` exactly at a liar.
+    pub fn info(&self, replica: ReplicaId) -> Result<Info, WorldRefusal>
+        // It is the reply of the application run alone on what the replica committed.
+        ensures info { IfOk result (λ info. info
+            ≡ info_reply self.now.config.kind (commits_of self.now.config replica (entries_in (world_of self.now) replica))) }
+        ensures no_fault { OnOk result (fault_at self.now.config (world_of self.now) replica ≡ None) }
+        ensures fault { IfErr result (λ fault. fault_at self.now.config (world_of self.now) replica ≡ Some fault) }
+    {
+        Ok(self.correct(replica)?.state().info())
+    }
+}
