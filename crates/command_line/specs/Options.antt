@@ -1,14 +1,16 @@
 -- What the words of a command line set: each option by the value that its matches hold, which is its default where the words name none.
-use Rattle.std.specs.Prelude.{◌≡◌, ℕ, ◌≤◌, ◌+◌, ◌-◌, ◌*◌, IsTrue, List, length, codes, Option, Some, None, Ok, ◌⊎◌}
+use Rattle.std.specs.Prelude.{◌≡◌, ℕ, true, ◌≤◌, ◌+◌, ◌-◌, ◌*◌, IsTrue, List, length, codes, Option, Some, None, Ok, ◌⊎◌}
 use Rattle.std.specs.Str.Parse.{digits_value}
 use Rattle.hex.specs.Hex.{decode_sized}
-use Rattle.clap.specs.Words.{Row, Text, first_of, kind_of}
+use Rattle.clap.specs.Words.{Row, Text, first_of, kind_of, subcommand_of, takes}
 use Rattle.clap.specs.declared.error.ErrorKind.TheVariants as kind
-use Rattle.ledger_model.specs.declared.config.AppKind.TheVariants.{KvStore}
+use Rattle.ledger_model.specs.declared.config.AppKind.{AppKind}
+use Rattle.ledger_model.specs.declared.config.AppKind.TheVariants.{KvStore, Counter, Purse}
 use Rattle.lm_ots.specs.Parameters.{bits_of, levels_of}
+use Rattle.command_line.specs.Grammar.{abft_app}
 use Rattle.command_line.specs.declared.usage_fault.UsageFault.{UsageFault}
 use Rattle.command_line.specs.declared.usage_fault.UsageFault.TheVariants as fault
-use Rattle.settings.specs.declared.cluster.Cluster.{Cluster}
+use Rattle.cluster_keys.specs.declared.cluster.Cluster.{Cluster}
 use Rattle.settings.specs.declared.sign.SignSettings.{SignSettings}
 use Rattle.settings.specs.declared.deliver.DeliverSettings.{DeliverSettings}
 use Rattle.settings.specs.declared.Settings.{Settings}
@@ -41,12 +43,17 @@ pub record IsWritten (rows : List Row) (name : Text) (tx : List ℕ) : Type 0 wh
   pub some : 1 ≤ length tx
   pub short : length tx ≤ 64
 
+-- the number of an application
+abbrev pub number_of : AppKind → ℕ
+number_of KvStore = 1
+number_of Counter = 2
+number_of Purse = 3
+
 -- the options of every subcommand
 pub record SetsCluster (rows : List Row) (cluster : Cluster) : Type 0 where
   pub n : IsNumber rows (codes "n") 0 255 cluster.config.replicas
   pub t : IsNumber rows (codes "t") 0 255 cluster.config.faults
-  pub kind : IsNumber rows (codes "kind") 1 1 1
-  pub app : cluster.config.kind ≡ KvStore
+  pub kind : IsNumber rows (codes "kind") 1 3 (number_of cluster.config.kind)
   pub enough : 3 * cluster.config.faults + 1 ≤ cluster.config.replicas
   pub bounded : cluster.config.replicas ≤ 13
   pub tolerant : 1 ≤ cluster.config.faults
@@ -81,6 +88,14 @@ abbrev pub Sets : Option (Text × List Row) → Settings → Type 0
 Sets None s = ⊥
 Sets (Some found) (settings.Sign s) = (found.0 ≡ codes "sign") × SetsSign found.1 s
 Sets (Some found) (settings.Deliver s) = (found.0 ≡ codes "deliver") × SetsDeliver found.1 s
+
+-- the words set this
+abbrev pub IsSet : List Text → Settings → Type 0
+IsSet words s = Sets (subcommand_of abft_app words) s
+
+-- the words are no command line of the program, or set nothing
+abbrev pub IsRefused : List Text → Type 0
+IsRefused words = takes abft_app words ≡ true → (s : Settings) → IsSet words s → ⊥
 
 -- the fault says that memory ran out, here or in clap
 abbrev pub WantsMemory : UsageFault → Type 0

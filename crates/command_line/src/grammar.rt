@@ -59,7 +59,7 @@ const COMMON: [ValueOption; 6] = [
     ValueOption {
         name: "kind",
         default: "1",
-        help: "The application: 1 is a key-value store",
+        help: "The application: 1 keys and values, 2 a counter, 3 a purse",
     },
     ValueOption {
         name: "w",

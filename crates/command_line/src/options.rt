@@ -2,19 +2,21 @@
 ghost use Rattle.std.specs.Prelude.{◌≡◌, ℕ, List, ◌≤◌, ◌-◌, IfOk, IfErr, OnErr, Some, None, codes};
 ghost use Rattle.clap.specs.Words.{found_of, rows_of, first_of};
 ghost use Rattle.lm_ots.specs.Parameters.{bits_of, levels_of};
-ghost use Rattle.command_line.specs.Options.{IsNumber, IsSeed, IsWritten, SetsCluster, WantsMemory, word_of};
-ghost use Rattle.settings.specs.declared.cluster.Cluster.{Cluster};
+ghost use Rattle.command_line.specs.Options.{IsNumber, IsSeed, IsWritten, SetsCluster, WantsMemory, number_of, word_of};
+ghost use Rattle.ledger_model.specs.declared.config.AppKind.{AppKind};
+ghost use Rattle.cluster_keys.specs.declared.cluster.Cluster.{Cluster};
 ghost use Rattle.settings.specs.declared.sign.What.{What};
 ghost use Rattle.lm_ots.specs.declared.params.Width.{Width};
 ghost use Rattle.lm_ots.specs.declared.params.TreeHeight.{TreeHeight};
 
 use crate::usage_fault::UsageFault;
 use clap::ArgMatches;
+use cluster_keys::Cluster;
 use hex::FromHex;
 use ledger_model::{AppKind, Config, Tx};
 use lm_ots::{Params, TreeHeight, Width};
 use plain_text::{decimal, written};
-use settings::{Cluster, What};
+use settings::What;
 use std::alloc::Global;
 
 /// The text of an option.
@@ -136,6 +138,19 @@ fn tree_height<'a>(matches: &ArgMatches<'a>) -> Result<TreeHeight, UsageFault<'a
     }
 }
 
+/// The option `--kind`: the number of an application.
+fn kind<'a>(matches: &ArgMatches<'a>) -> Result<AppKind, UsageFault<'a>>
+    ensures some { IfOk result (λ k. IsNumber (rows_of (found_of matches.now)) (codes "kind") 1 3 (number_of k)) }
+    ensures none { OnErr result ((k : AppKind) → IsNumber (rows_of (found_of matches.now)) (codes "kind") 1 3 (number_of k) → ⊥) }
+{
+    match number(matches, "kind", 1, 3)? {
+        1 => Ok(AppKind::KvStore),
+        2 => Ok(AppKind::Counter),
+        3 => Ok(AppKind::Purse),
+        _ => Err(no_number(matches, "kind", 1, 3)),
+    }
+}
+
 /// The options that every subcommand has.
 pub(crate) fn cluster<'a>(matches: &ArgMatches<'a>) -> Result<Cluster, UsageFault<'a>>
     ensures some { IfOk result (λ c. SetsCluster (rows_of (found_of matches.now)) c) }
@@ -143,8 +158,8 @@ pub(crate) fn cluster<'a>(matches: &ArgMatches<'a>) -> Result<Cluster, UsageFaul
 {
     let replicas = small_number(matches, "n", 4, Config::MAX_REPLICAS)?;
     let faults = small_number(matches, "t", 1, 4)?;
-    let _kind = small_number(matches, "kind", 1, 1)?;
-    let Ok(config) = Config::new(replicas, faults, AppKind::KvStore) else {
+    let kind = kind(matches)?;
+    let Ok(config) = Config::new(replicas, faults, kind) else {
         return Err(UsageFault::TooFew { replicas, faults });
     };
     let width = width(matches)?;

@@ -2,7 +2,7 @@
 ghost use Rattle.std.specs.Prelude.{◌≡◌, map, true, IfOk, IfErr};
 ghost use Rattle.clap.specs.Words.{found_of, rows_of, subcommand_of, subcommand_rows_of, takes};
 ghost use Rattle.command_line.specs.Grammar.{abft_app};
-ghost use Rattle.command_line.specs.Options.{SetsSign, SetsDeliver, Sets, WantsMemory};
+ghost use Rattle.command_line.specs.Options.{IsSet, Sets, SetsDeliver, SetsSign, WantsMemory};
 ghost use Rattle.settings.specs.declared.sign.SignSettings.{SignSettings};
 ghost use Rattle.settings.specs.declared.deliver.DeliverSettings.{DeliverSettings};
 ghost use Rattle.settings.specs.declared.Settings.{Settings};
@@ -93,9 +93,10 @@ fn settings_of<'a>(alloc: Global, matches: &ArgMatches<'a>) -> Result<Settings, 
 /// Each option has the value that the words give it, or else its default, within its limits. An `Err` says what is
 /// wrong, or holds the help that was asked for.
 pub fn settings<'a>(alloc: Global, words: &'a [&'a str]) -> Result<Settings, UsageFault<'a>>
-    ensures set { IfOk result (λ s. Sets (subcommand_of abft_app (map (λ w. w.now) words.entry.now)) s) }
+    ensures set { IfOk result (λ s. IsSet (map (λ w. w.now) words.entry.now) s) }
+    // Words that set something are refused for want of memory alone.
     ensures refused { IfErr result (λ e. takes abft_app (map (λ w. w.now) words.entry.now) ≡ true
-        → (s : Settings) → Sets (subcommand_of abft_app (map (λ w. w.now) words.entry.now)) s → WantsMemory e) }
+        → (s : Settings) → IsSet (map (λ w. w.now) words.entry.now) s → WantsMemory e) }
 {
     let matches = matches_of(alloc, words)?;
     settings_of(alloc, &matches)

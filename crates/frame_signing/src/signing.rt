@@ -5,7 +5,7 @@ ghost use Rattle.ledger_model.specs.Signatures.{verifies};
 ghost use Rattle.ledger_model.specs.Spelling.{statement_bytes};
 ghost use Rattle.key_ring.specs.Signers.{key_of, signed_with};
 ghost use Rattle.cluster_keys.specs.Keys.{secret_of};
-ghost use Rattle.frame_signing.specs.Statements.{said};
+ghost use Rattle.frame_signing.specs.Statements.{signed};
 
 use crate::statement::statement;
 use cluster_keys::key_pair;
@@ -31,9 +31,7 @@ fn sign_first(alloc: Global, mut signer: Signer, message: &[u8]) -> Result<Vec<u
 
 /// The frame of the statement, signed with the first leaf of the replica's key pair.
 pub fn signed_frame(alloc: Global, settings: &SignSettings) -> Result<Frame, AllocError>
-    ensures said { IfOk result (λ frame. frame.statement ≡ said settings.now) }
-    ensures signed { IfOk result (λ frame. frame.signature
-        ≡ signed_with (secret_of settings.now.cluster settings.now.replica) 0 (statement_bytes frame.statement)) }
+    ensures signed { IfOk result (λ frame. frame ≡ signed settings.now) }
     ensures verifies { IfOk result (λ frame. verifies (key_of (secret_of settings.now.cluster settings.now.replica))
         (statement_bytes frame.statement) frame.signature ≡ true) }
 {

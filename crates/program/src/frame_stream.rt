@@ -1,162 +1,141 @@
 //! `abft deliver`: the frames of a stream at one replica.
+ghost use Rattle.std.specs.Prelude.{◌≡◌, ◌≢◌, ◌∷◌, ℕ, List, [], IfOk, MatchResult, Option};
+ghost use Rattle.std.specs.Io.KnownBytes.{Consumes, IsAtEnd};
+ghost use Rattle.ledger_model.specs.Streams.{SplitsTo};
+ghost use Rattle.ledger_model.specs.declared.statement.SignedStatement.{SignedStatement};
+ghost use Rattle.signed_frames.specs.declared.fault.FrameFault.TheVariants as faults;
+ghost use Rattle.signed_frames.specs.Reader.{Leaves, Reading};
+ghost use Rattle.locked_replica.specs.Replicas.{Replica};
+ghost use Rattle.program.specs.Answering.{Prints, deliveries};
+ghost use Rattle.program.specs.Streams.{Ended, GoesBehind, GoesOn, IsFed, IsReadTo, IsReading, IsTold, Stands, Stopped, UnderWay};
+
 use crate::line::Line;
-use crate::printing::print;
+use crate::printing::print_line;
 use crate::program_fault::ProgramFault;
+use crate::replica::answer;
+use crate::stream_end::{StreamEnd, StreamFault};
 use app_kinds::AnyKind;
-use bytes::Bytes;
-use cluster_keys::signer_and_ring;
-use ledger_model::{Event, Ignored, Reply};
 use locked_replica::State;
-use settings::DeliverSettings;
 use signed_frames::{Frame, FrameFault, FrameReader};
 use std::alloc::Global;
-use std::hash::RandomState;
-use std::io::{Read, Write};
+use std::io::{self, ErrorKind, Read, Write};
 
 /// The most bytes of standard input that are read at once.
 const PIECE_LEN: usize = 8192;
 
-/// How the delivery of a stream ended.
-#[derive(Clone, Copy, Debug, PartialEq, Eq)]
-pub(crate) enum StreamEnd {
-    /// Each frame was delivered.
-    Clean,
-    /// Within a frame, or at what is none.
-    Faulty,
-}
-
-/// The replica of the settings, to which nothing happened.
-fn replica(
+/// Delivers a frame, and writes the line of the answer.
+fn deliver_frame<W: Write>(
     alloc: Global,
-    settings: &DeliverSettings,
-    random: RandomState,
-) -> Result<State<AnyKind>, ProgramFault> {
-    let config = settings.cluster.config;
-    let (signer, ring) = signer_and_ring(alloc, &settings.cluster, settings.replica)?;
-    let app = AnyKind::new(alloc, config.kind);
-    let state = State::new(alloc, config, settings.replica, signer, ring, app, random)?;
-    Ok(state)
-}
-
-/// Lets an event happen, whose reply isn't asked for.
-fn happen(state: &mut State<AnyKind>, event: Event) -> Result<(), ProgramFault> {
-    state.apply(event)?;
-    Ok(())
-}
-
-/// Submits the value, opens the height and ends the rounds.
-fn start(
-    alloc: Global,
-    settings: &DeliverSettings,
     state: &mut State<AnyKind>,
-) -> Result<(), ProgramFault> {
-    let value = Bytes::copy_from_slice(alloc, settings.value.as_bytes())?;
-    happen(state, Event::Submit(value))?;
-    happen(state, Event::Propose(settings.height))?;
-    for _ in 0..settings.rounds {
-        happen(state, Event::RoundEnd)?;
-    }
-    Ok(())
+    frame: Frame,
+    writer: &mut W,
+) -> Result<(), ProgramFault>
+    ensures { Prints result state.old (deliveries (frame ∷ [])) state.new (W.contents writer.old) (W.contents writer.new) }
+{
+    let line = answer(state, frame.into_bytes())?;
+    print_line(alloc, writer, line)
 }
 
-/// Delivers bytes to the replica, and gives what it answers.
-fn answer(state: &mut State<AnyKind>, bytes: Bytes) -> Result<Result<(), Ignored>, ProgramFault> {
-    let index = state.apply(Event::Deliver(bytes))?;
-    match state.entry(index).map(|entry| entry.reply()) {
-        Some(Reply::Delivered(answer)) => Ok(*answer),
-        _ => unreachable!(),
-    }
-}
-
-/// Delivers the frames, and writes a line for each.
+/// Delivers the frames in order, and writes a line for each.
 fn deliver_all<W: Write>(
     alloc: Global,
     state: &mut State<AnyKind>,
     frames: Vec<Frame>,
     writer: &mut W,
-) -> Result<(), ProgramFault> {
+) -> Result<(), ProgramFault>
+    ensures { Prints result state.old (deliveries frames.items) state.new (W.contents writer.old) (W.contents writer.new) }
+{
     for frame in frames {
-        let line = match answer(state, frame.into_bytes())? {
-            Ok(()) => Line::Accepted,
-            Err(cause) => Line::Ignored(cause),
-        };
-        print(alloc, writer, &line)?;
+        deliver_frame(alloc, state, frame, writer)?;
     }
     Ok(())
 }
 
-/// Delivers the frames that a piece of the stream completes. Answers whether the stream goes on; where it is none of frames,
-/// the last line says so.
+/// The fault of the stream that a reader tells. The only error is want of memory.
+fn fault_of(fault: FrameFault) -> Result<StreamFault, ProgramFault>
+    requires { fault ≢ faults.Failed }
+    ensures { IfOk result (λ found. IsTold fault found) }
+{
+    match fault {
+        FrameFault::TooLong => Ok(StreamFault::TooLong),
+        FrameFault::Malformed => Ok(StreamFault::Malformed),
+        FrameFault::NoMemory => Err(ProgramFault::NoMemory),
+        FrameFault::Failed => unreachable!(),
+    }
+}
+
+/// The fault behind the frames that were handed out, if one stands there. The only error is want of memory.
+fn fault_behind(frames: &mut FrameReader) -> Result<Option<StreamFault>, ProgramFault>
+    requires { IsFed frames.old }
+    ensures { (bytes : List ℕ) (given : List SignedStatement) → Leaves bytes given frames.old
+        → IfOk result (λ found. GoesBehind bytes given frames.new found) }
+{
+    match frames.feed(&[]) {
+        Ok(_) => Ok(None),
+        Err(fault) => Ok(Some(fault_of(fault)?)),
+    }
+}
+
+/// Delivers the frames that a piece of the stream completes. Answers the fault behind them, if one stands there.
 fn deliver_piece<W: Write>(
     alloc: Global,
     state: &mut State<AnyKind>,
     frames: &mut FrameReader,
     piece: &[u8],
     writer: &mut W,
-) -> Result<bool, ProgramFault> {
+) -> Result<Option<StreamFault>, ProgramFault>
+    requires { IsReading frames.old }
+    ensures { (start : Replica) (unread now left before : Option (List ℕ))
+        → UnderWay start unread now before (W.contents writer.old) state.old frames.old → Consumes now left piece.now
+        → MatchResult result
+        (λ found. GoesOn start unread left before (W.contents writer.new) state.new frames.new found)
+        (λ _. Stopped start unread left before (W.contents writer.new) state.new) }
+{
     match frames.feed(piece) {
         Ok(found) => {
             deliver_all(alloc, state, found, writer)?;
-            Ok(true)
+            fault_behind(frames)
         }
-        Err(FrameFault::NoMemory) => Err(ProgramFault::NoMemory),
-        Err(fault) => {
-            print(alloc, writer, &Line::Fault(fault))?;
-            Ok(false)
-        }
+        Err(fault) => Ok(Some(fault_of(fault)?)),
     }
 }
 
-/// Delivers the frames of the stream piece by piece. Answers whether it came to the stream's end; it stops earlier at what is
-/// no frame.
-fn deliver_pieces<R: Read, W: Write>(
+/// The end of a stream of which all was read, without a fault.
+fn end_of(frames: &FrameReader) -> StreamEnd
+    requires { IsReading frames.now }
+    ensures stands { (input : List ℕ) (given : List SignedStatement) (kept : List ℕ) → frames.now ≡ Reading kept
+        → SplitsTo input given kept → Stands input given result }
+    ensures no_fault { (left : Option (List ℕ)) → IsAtEnd left → IsReadTo result left }
+{
+    if frames.is_between() {
+        StreamEnd::Whole
+    } else {
+        StreamEnd::Cut
+    }
+}
+
+/// Delivers the frames of the stream piece by piece, to its end or to the first fault.
+pub(crate) fn deliver_pieces<R: Read, W: Write>(
     alloc: Global,
     state: &mut State<AnyKind>,
     frames: &mut FrameReader,
     reader: &mut R,
     writer: &mut W,
-) -> Result<bool, ProgramFault> {
+) -> Result<StreamEnd, ProgramFault>
+    requires { frames.old ≡ Reading [] }
+    ensures { MatchResult result
+        (λ end. Ended state.old (R.remaining reader.old) (R.remaining reader.new) (W.contents writer.old) (W.contents writer.new) state.new end)
+        (λ _. Stopped state.old (R.remaining reader.old) (R.remaining reader.new) (W.contents writer.old) (W.contents writer.new) state.new) }
+{
     let mut piece = [0; PIECE_LEN];
     for _ in 0..u64::MAX {
         let count = reader.read(&mut piece)?;
-        if !deliver_piece(alloc, state, frames, &piece[..count], writer)? {
-            return Ok(false);
-        }
         if count == 0 {
-            break;
+            return Ok(end_of(frames));
+        }
+        if let Some(fault) = deliver_piece(alloc, state, frames, &piece[..count], writer)? {
+            return Ok(StreamEnd::Fault(fault));
         }
     }
-    Ok(true)
-}
-
-/// Delivers the frames of a stream to the replica.
-fn deliver_stream<R: Read, W: Write>(
-    alloc: Global,
-    state: &mut State<AnyKind>,
-    reader: &mut R,
-    writer: &mut W,
-) -> Result<StreamEnd, ProgramFault> {
-    let mut frames = FrameReader::new(alloc);
-    if !deliver_pieces(alloc, state, &mut frames, reader, writer)? {
-        return Ok(StreamEnd::Faulty);
-    }
-    if frames.is_between() {
-        return Ok(StreamEnd::Clean);
-    }
-    print(alloc, writer, &Line::Cut)?;
-    Ok(StreamEnd::Faulty)
-}
-
-/// Delivers the frames of a stream to the replica of the settings, and writes a line for each; the last line says what is
-/// wrong with the stream, if anything is. The random keys are those of the replica's hashes.
-pub(crate) fn deliver<R: Read, W: Write>(
-    alloc: Global,
-    settings: &DeliverSettings,
-    random: RandomState,
-    reader: &mut R,
-    writer: &mut W,
-) -> Result<StreamEnd, ProgramFault> {
-    let mut state = replica(alloc, settings, random)?;
-    start(alloc, settings, &mut state)?;
-    deliver_stream(alloc, &mut state, reader, writer)
+    Err(ProgramFault::Stream(io::Error::from(ErrorKind::TimedOut)))
 }

@@ -1,11 +1,22 @@
 //! The program on its words: which subcommand runs, and the exit status.
-use crate::frame_stream::{StreamEnd, deliver};
-use crate::printing::{complain, print};
+ghost use Rattle.std.specs.Prelude.{◌≡◌, ◌⊎◌, ◌≤◌, map, IfOk, MatchResult};
+ghost use Rattle.std.specs.IoError.{error_kind};
+ghost use Rattle.std.specs.Io.KnownBytes.{Keeps};
+ghost use Rattle.ledger_model.specs.Spelling.{frame_bytes};
+ghost use Rattle.command_line.specs.Options.{AsksForText, IsRefused, WantsMemory};
+ghost use Rattle.frame_signing.specs.Statements.{signed};
+ghost use Rattle.program.specs.declared.stream_end.StreamEnd.{StreamEnd};
+ghost use Rattle.program.specs.declared.stream_end.StreamEnd.TheVariants.{Whole};
+ghost use Rattle.program.specs.Writing.{Writes};
+ghost use Rattle.program.specs.Doing.{Begins, Done, Halted, Performs, status_of};
+
+use crate::delivering::deliver;
+use crate::printing::{complain, print, write_whole};
 use crate::program_fault::ProgramFault;
+use crate::stream_end::StreamEnd;
 use command_line::{UsageFault, settings};
 use frame_signing::signed_frame;
 use settings::{Settings, SignSettings};
-use signed_frames::Frame;
 use std::alloc::Global;
 use std::hash::RandomState;
 use std::io::{self, ErrorKind, Read, Write};
@@ -23,6 +34,8 @@ const STOPPED: u8 = 3;
 /// Runs the program on its words, of which the first is its name, and answers its exit status: 0 done, 1 bad input, 2 bad
 /// usage, 3 no memory, a full history or a failed stream. At 2 and 3 it writes to `faults` what is wrong. The random bytes
 /// of `source` are the keys of hashes.
+///
+/// What stdin gives and stdout takes no clause can say; at readers and writers over memory each byte is known.
 pub fn run<S: RandomSource, R: Read, W: Write, F: Write>(
     source: &S,
     alloc: Global,
@@ -30,14 +43,43 @@ pub fn run<S: RandomSource, R: Read, W: Write, F: Write>(
     reader: &mut R,
     writer: &mut W,
     faults: &mut F,
-) -> u8 {
+) -> u8
+    // What the words set was done, or they ask for the help or the version.
+    ensures finishes { (result ≡ 0) ⊎ (result ≡ 1)
+        → Performs (map (λ w. w.now) words.entry.now) result (R.remaining reader.old) (R.remaining reader.new) (W.contents writer.old) (W.contents writer.new)
+        ⊎ (IsRefused (map (λ w. w.now) words.entry.now) × (result ≡ 0) × Keeps (R.remaining reader.old) (R.remaining reader.new)) }
+    ensures quiet { (result ≡ 0) ⊎ (result ≡ 1) → Keeps (F.contents faults.old) (F.contents faults.new) }
+    // The words are no command line, or set nothing.
+    ensures refuses { result ≡ 2 → IsRefused (map (λ w. w.now) words.entry.now)
+        × Keeps (R.remaining reader.old) (R.remaining reader.new) × Keeps (W.contents writer.old) (W.contents writer.new) }
+    // What the words set was begun, or nothing was, or the help or the version could not be written.
+    ensures stops { result ≡ 3
+        → Begins (map (λ w. w.now) words.entry.now) (R.remaining reader.old) (R.remaining reader.new) (W.contents writer.old) (W.contents writer.new)
+        ⊎ (Keeps (R.remaining reader.old) (R.remaining reader.new)
+        × (Keeps (W.contents writer.old) (W.contents writer.new) ⊎ IsRefused (map (λ w. w.now) words.entry.now))) }
+    ensures known { result ≤ 3 }
+{
     match settings(alloc, words) {
-        Ok(settings) => {
-            let done = perform(source, alloc, &settings, reader, writer);
-            finish(alloc, done, faults)
-        }
+        Ok(settings) => run_settings(source, alloc, &settings, reader, writer, faults),
         Err(fault) => tell(alloc, &fault, writer, faults),
     }
+}
+
+/// Does what the settings ask for, and answers the exit status.
+fn run_settings<S: RandomSource, R: Read, W: Write, F: Write>(
+    source: &S,
+    alloc: Global,
+    settings: &Settings,
+    reader: &mut R,
+    writer: &mut W,
+    faults: &mut F,
+) -> u8
+    ensures { ((end : StreamEnd) × ((result ≡ status_of end) × (Keeps (F.contents faults.old) (F.contents faults.new)
+        × Done settings.now end (R.remaining reader.old) (R.remaining reader.new) (W.contents writer.old) (W.contents writer.new))))
+        ⊎ ((result ≡ 3) × Halted settings.now (R.remaining reader.old) (R.remaining reader.new) (W.contents writer.old) (W.contents writer.new)) }
+{
+    let done = perform_whole(source, alloc, settings, reader, writer);
+    finish(alloc, done, faults)
 }
 
 /// Shows the help or the version if the words ask for it, or else writes what is wrong with them. Answers the exit status.
@@ -46,7 +88,10 @@ fn tell<W: Write, F: Write>(
     fault: &UsageFault<'_>,
     writer: &mut W,
     faults: &mut F,
-) -> u8 {
+) -> u8
+    ensures { (AsksForText fault.now × (((result ≡ 0) × Keeps (F.contents faults.old) (F.contents faults.new)) ⊎ (result ≡ 3)))
+        ⊎ (Keeps (W.contents writer.old) (W.contents writer.new) × (((result ≡ 2) × (WantsMemory fault.now → ⊥)) ⊎ (result ≡ 3))) }
+{
     if fault.is_asked_for() {
         let done = show(alloc, fault, writer);
         return finish(alloc, done, faults);
@@ -60,46 +105,68 @@ fn tell<W: Write, F: Write>(
 }
 
 /// Writes why the words of the command line could not be read, and answers the exit status.
-pub fn refuse_words<F: Write>(alloc: Global, error: io::Error, faults: &mut F) -> u8 {
+pub fn refuse_words<F: Write>(alloc: Global, error: io::Error, faults: &mut F) -> u8
+    ensures { ((error_kind error ≡ ErrorKind.InvalidData) × (result ≡ 2)) ⊎ (result ≡ 3) }
+{
     if error.kind() == ErrorKind::InvalidData {
-        let _ = faults.write_all(b"error: a word of the command line is not UTF-8\n");
+        let _ = write_whole(faults, b"error: a word of the command line is not UTF-8\n");
         return BAD_USAGE;
     }
     finish(alloc, Err(ProgramFault::Stream(error)), faults)
 }
 
-/// Does what the settings ask for.
+/// Does what the settings ask for, but for the flush.
 fn perform<S: RandomSource, R: Read, W: Write>(
     source: &S,
     alloc: Global,
     settings: &Settings,
     reader: &mut R,
     writer: &mut W,
-) -> Result<StreamEnd, ProgramFault> {
-    let end = match settings {
-        Settings::Sign(settings) => sign(alloc, settings, writer)?,
-        Settings::Deliver(settings) => {
-            let random = RandomState::new(source)?;
-            deliver(alloc, settings, random, reader, writer)?
+) -> Result<StreamEnd, ProgramFault>
+    ensures { MatchResult result
+        (λ end. Done settings.now end (R.remaining reader.old) (R.remaining reader.new) (W.contents writer.old) (W.contents writer.new))
+        (λ _. Halted settings.now (R.remaining reader.old) (R.remaining reader.new) (W.contents writer.old) (W.contents writer.new)) }
+{
+    match settings {
+        Settings::Sign(settings) => {
+            sign(alloc, settings, writer)?;
+            Ok(StreamEnd::Whole)
         }
-    };
+        Settings::Deliver(settings) => {
+            let randoms = [RandomState::new(source)?, RandomState::new(source)?];
+            deliver(alloc, settings, randoms, reader, writer)
+        }
+    }
+}
+
+/// Does what the settings ask for.
+fn perform_whole<S: RandomSource, R: Read, W: Write>(
+    source: &S,
+    alloc: Global,
+    settings: &Settings,
+    reader: &mut R,
+    writer: &mut W,
+) -> Result<StreamEnd, ProgramFault>
+    ensures { MatchResult result
+        (λ end. Done settings.now end (R.remaining reader.old) (R.remaining reader.new) (W.contents writer.old) (W.contents writer.new))
+        (λ _. Halted settings.now (R.remaining reader.old) (R.remaining reader.new) (W.contents writer.old) (W.contents writer.new)) }
+{
+    let end = perform(source, alloc, settings, reader, writer)?;
     writer.flush()?;
     Ok(end)
 }
 
-/// `abft sign`.
+/// `abft sign`: writes the frame of the settings.
 fn sign<W: Write>(
     alloc: Global,
     settings: &SignSettings,
     writer: &mut W,
-) -> Result<StreamEnd, ProgramFault> {
+) -> Result<(), ProgramFault>
+    ensures { Writes result (W.contents writer.old) (W.contents writer.new) (frame_bytes (signed settings.now)) }
+{
     let frame = signed_frame(alloc, settings)?;
-    write_frame(&frame, writer)
-}
-
-fn write_frame<W: Write>(frame: &Frame, writer: &mut W) -> Result<StreamEnd, ProgramFault> {
-    writer.write_all(frame.as_bytes())?;
-    Ok(StreamEnd::Clean)
+    write_whole(writer, frame.as_bytes())?;
+    Ok(())
 }
 
 /// Writes the help or the version that the words ask for.
@@ -107,17 +174,21 @@ fn show<W: Write>(
     alloc: Global,
     asked_for: &UsageFault<'_>,
     writer: &mut W,
-) -> Result<StreamEnd, ProgramFault> {
+) -> Result<StreamEnd, ProgramFault>
+    ensures { IfOk result (λ end. end ≡ Whole) }
+{
     print(alloc, writer, asked_for)?;
     writer.flush()?;
-    Ok(StreamEnd::Clean)
+    Ok(StreamEnd::Whole)
 }
 
 /// The exit status of what was done. Writes why the program could not go on, if it couldn't.
-fn finish<F: Write>(alloc: Global, done: Result<StreamEnd, ProgramFault>, faults: &mut F) -> u8 {
+fn finish<F: Write>(alloc: Global, done: Result<StreamEnd, ProgramFault>, faults: &mut F) -> u8
+    ensures { MatchResult done (λ end. (result ≡ status_of end) × Keeps (F.contents faults.old) (F.contents faults.new)) (λ _. result ≡ 3) }
+{
     match done {
-        Ok(StreamEnd::Clean) => DONE,
-        Ok(StreamEnd::Faulty) => BAD_INPUT,
+        Ok(StreamEnd::Whole) => DONE,
+        Ok(StreamEnd::Cut | StreamEnd::Fault(_)) => BAD_INPUT,
         Err(fault) => {
             let _ = complain(alloc, faults, &fault);
             STOPPED

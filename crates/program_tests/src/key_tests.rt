@@ -1,11 +1,11 @@
 //! Keys and a frame of a cluster, against values of another implementation of RFC 8554 and of `docs/FORMATS.md`.
-use cluster_keys::{key_pair, signer_and_ring};
+use cluster_keys::{Cluster, key_pair, signer_and_ring};
 use command_line::settings;
 use frame_signing::signed_frame;
 use hex::FromHex;
 use ledger_model::{AppKind, Config, ReplicaId};
 use lm_ots::{Params, TreeHeight, Width};
-use settings::{Cluster, Settings};
+use settings::Settings;
 use sha2::{Digest, Sha256};
 use std::process::Abort;
 use std::test::Fail;

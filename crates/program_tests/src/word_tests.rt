@@ -1,7 +1,9 @@
 //! What words spell, and what they set.
 use command_line::settings;
+use ledger_model::AppKind;
 use plain_text::{SpellingFault, decimal, written};
 use settings::{Settings, What};
+use std::alloc::Global;
 use std::test::Fail;
 
 #[test]
@@ -67,6 +69,29 @@ fn the_words_of_sign_set_each_option(rt: HostRuntime) {
     assert_eq!(rt; sign.phase.number(), 3);
     assert_eq!(rt; sign.replica.number(), 0);
     assert_eq!(rt; sign.value.as_bytes(), b"k=\x00v".as_slice());
+}
+
+/// The application of this number, if it is one's.
+fn kind_of(alloc: Global, word: &str) -> Option<AppKind> {
+    let words = ["abft", "deliver", "--kind", word];
+    let Ok(Settings::Deliver(deliver)) = settings(alloc, &words) else {
+        return None;
+    };
+    let config = deliver.cluster.config;
+    Some(config.kind)
+}
+
+#[test]
+fn a_kind_is_named_by_its_number(rt: HostRuntime) {
+    for (word, kind) in [
+        ("1", Some(AppKind::KvStore)),
+        ("02", Some(AppKind::Counter)),
+        ("3", Some(AppKind::Purse)),
+        ("0", None),
+        ("4", None),
+    ] {
+        assert_eq!(rt; kind_of(rt.alloc(), word), kind, "at '{word}'");
+    }
 }
 
 #[test]

@@ -1,7 +1,7 @@
 //! What `abft deliver` is asked for.
 ghost use Rattle.std.specs.Prelude.{◌<◌};
 
-use crate::cluster::Cluster;
+use cluster_keys::Cluster;
 use ledger_model::{Height, ReplicaId, Tx};
 
 /// The settings of `abft deliver`: which replica, and what it does before the first frame is delivered.

@@ -1,11 +1,9 @@
 //! What the words of a command line set, as plain values.
 #![tactic(auto)]
 
-mod cluster;
 mod deliver;
 mod sign;
 
-pub use cluster::Cluster;
 pub use deliver::DeliverSettings;
 pub use sign::{SignSettings, What};
 

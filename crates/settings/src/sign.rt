@@ -1,7 +1,7 @@
 //! What `abft sign` is asked for.
 ghost use Rattle.std.specs.Prelude.{◌<◌, ◌≤◌};
 
-use crate::cluster::Cluster;
+use cluster_keys::Cluster;
 use ledger_model::{Height, Phase, ReplicaId, Tx};
 
 /// Which statement is to be signed.

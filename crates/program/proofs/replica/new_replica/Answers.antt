@@ -1,5 +1,5 @@
 use Rattle.std.proofs.Common.{rules}
-use Rattle.program.proofs.frame_stream.replica.Goals as goal
+use Rattle.program.proofs.replica.new_replica.Goals as goal
 
 pub new-requires-clause-member : goal.new-requires-clause-member
 new-requires-clause-member c = record {

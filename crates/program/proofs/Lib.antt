@@ -1,0 +1,9 @@
+mod Faults
+mod WritingLemmas
+mod AnsweringLemmas
+mod PrintingLemmas
+mod StreamLemmas
+mod PieceLemmas
+mod StreamEnds
+mod DeliveringLemmas
+mod RunningLemmas

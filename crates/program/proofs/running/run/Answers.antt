@@ -1,0 +1,38 @@
+use Rattle.std.proofs.Common.{map, inl, inr}
+use Rattle.std.proofs.KnownBytes.{Keeps-refl}
+use Rattle.program.proofs.RunningLemmas.{settled_finishes, settled_quiet, settled_refuses, settled_stops, settled_known, told_finishes, told_quiet, told_refuses, told_stops, told_known}
+use Rattle.program.proofs.running.run.Goals as goal
+
+pub returns-in-Ok-clause-finishes : goal.returns-in-Ok-clause-finishes
+returns-in-Ok-clause-finishes g c = λ small. inl (settled_finishes (map (λ w. w.now) c.args.words.now) c.in-Ok.settings c.in-Ok.ensures.set c.run_settings.result _ _ _ _ _ c.run_settings.ensures small)
+
+pub returns-in-Ok-clause-quiet : goal.returns-in-Ok-clause-quiet
+returns-in-Ok-clause-quiet g c = λ small. settled_quiet (map (λ w. w.now) c.args.words.now) c.in-Ok.settings c.in-Ok.ensures.set c.run_settings.result _ _ _ _ _ c.run_settings.ensures small
+
+pub returns-in-Ok-clause-refuses : goal.returns-in-Ok-clause-refuses
+returns-in-Ok-clause-refuses g c = λ two. settled_refuses (map (λ w. w.now) c.args.words.now) c.in-Ok.settings c.in-Ok.ensures.set c.run_settings.result _ _ _ _ _ _ c.run_settings.ensures two
+
+pub returns-in-Ok-clause-stops : goal.returns-in-Ok-clause-stops
+returns-in-Ok-clause-stops g c = λ three. inl (settled_stops (map (λ w. w.now) c.args.words.now) c.in-Ok.settings c.in-Ok.ensures.set c.run_settings.result _ _ _ _ _ c.run_settings.ensures three)
+
+pub returns-in-Ok-clause-known : goal.returns-in-Ok-clause-known
+returns-in-Ok-clause-known g c = settled_known (map (λ w. w.now) c.args.words.now) c.in-Ok.settings c.in-Ok.ensures.set c.run_settings.result _ _ _ _ _ c.run_settings.ensures
+
+pub returns-in-Err-clause-finishes : goal.returns-in-Err-clause-finishes
+returns-in-Err-clause-finishes g c = λ small.
+    let told = told_finishes (map (λ w. w.now) c.args.words.now) c.in-Err.fault c.tell.result _ _ (λ enough taken s set. enough (c.in-Err.ensures.refused taken s set)) c.tell.ensures small in
+    inr (told.0, told.1, Keeps-refl _)
+
+pub returns-in-Err-clause-quiet : goal.returns-in-Err-clause-quiet
+returns-in-Err-clause-quiet g c = λ small. told_quiet (map (λ w. w.now) c.args.words.now) c.in-Err.fault c.tell.result _ _ (λ enough taken s set. enough (c.in-Err.ensures.refused taken s set)) c.tell.ensures small
+
+pub returns-in-Err-clause-refuses : goal.returns-in-Err-clause-refuses
+returns-in-Err-clause-refuses g c = λ two.
+    let told = told_refuses (map (λ w. w.now) c.args.words.now) c.in-Err.fault c.tell.result _ _ (λ enough taken s set. enough (c.in-Err.ensures.refused taken s set)) c.tell.ensures two in
+    (told.0, Keeps-refl _, told.1)
+
+pub returns-in-Err-clause-stops : goal.returns-in-Err-clause-stops
+returns-in-Err-clause-stops g c = λ three. inr (Keeps-refl _, told_stops (map (λ w. w.now) c.args.words.now) c.in-Err.fault c.tell.result _ _ (λ enough taken s set. enough (c.in-Err.ensures.refused taken s set)) c.tell.ensures three)
+
+pub returns-in-Err-clause-known : goal.returns-in-Err-clause-known
+returns-in-Err-clause-known g c = told_known (map (λ w. w.now) c.args.words.now) c.in-Err.fault c.tell.result _ _ (λ enough taken s set. enough (c.in-Err.ensures.refused taken s set)) c.tell.ensures

@@ -1,0 +1,5 @@
+pub mod Lines
+pub mod Writing
+pub mod Answering
+pub mod Streams
+pub mod Doing
