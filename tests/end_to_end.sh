@@ -78,7 +78,7 @@ refuses "error: --n is a number from 4 to 13, not '14'" sign report --n 14 --t 4
 refuses "error: --n 6 is too few for --t 2: n is at least 3t + 1" deliver --n 6 --t 2
 refuses "error: --t is a number from 1 to 4, not '0'" sign report --t 0
 refuses "error: --t is a number from 1 to 4, not '+1'" sign report --t +1
-refuses "error: --kind is 1, not '2'" sign report --kind 2
+refuses "error: --kind is a number from 1 to 3, not '4'" sign report --kind 4
 refuses "error: --w is 4 or 8, not '5'" sign report --w 5
 refuses "error: --w is 4 or 8, not '16'" sign report --w 16
 refuses "error: --tree is 5 or 10, not '6'" deliver --tree 6
@@ -156,7 +156,7 @@ runs 'the version' 0 $'abft 0.1.0\n' "'$abft' --version"
 cat >"$room/common" <<'EOT'
       --n <n>              How many replicas there are, 4 to 13 [default: 4]
       --t <t>              How many may lie, 1 to 4, with 3t+1 <= n [default: 1]
-      --kind <kind>        The application: 1 is a key-value store [default: 1]
+      --kind <kind>        The application: 1 keys and values, 2 a counter, 3 a purse [default: 1]
       --w <w>              Bits of a digit of a signature: 4 or 8 [default: 4]
       --tree <tree>        Height of a signature tree: 5 or 10 [default: 5]
       --seed <seed>        The seed of all keys, 64 hexadecimal digits [default: 0000000000000000000000000000000000000000000000000000000000000000]
