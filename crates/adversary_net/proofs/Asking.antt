@@ -29,6 +29,20 @@ its_entries c r s cluster is =
     let found : history_of (world_of c).histories r ≡ Some (history_in s) = its_history c r cluster ∙ ap (option_map history_in) is in
     simp found
 
+-- who is no correct replica has no entries
+pub no_entries : (c : RunningCluster) (r : ℕ) → IsCluster c → state_at c r ≡ None → entries_in (world_of c) r ≡ []
+no_entries c r cluster is =
+    let none : history_of (world_of c).histories r ≡ None = its_history c r cluster ∙ ap (option_map history_in) is in
+    simp none
+
+-- the correct replicas are those with a state
+pub known : (c : RunningCluster) (r : ℕ) (o : Option Replica) → IsCluster c → state_at c r ≡ o → is_correct (world_of c).histories r ≡ is_some o
+known c r o cluster is = ap is_some (its_history c r cluster ∙ ap (option_map history_in) is) ∙ some o
+  where
+    some : (x : Option Replica) → is_some (option_map history_in x) ≡ is_some x
+    some None = refl
+    some (Some s) = refl
+
 get_none : {X : Type 0} → (xs : List X) (i : ℕ) → slice_get xs i ≡ None → length xs ≤ i
 get_none [] i e = omega arith
 get_none (x ∷ xs) zero e = cc

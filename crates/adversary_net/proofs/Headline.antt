@@ -1,6 +1,5 @@
 -- What happened in a running cluster is a run of one sequential ledger.
-use Rattle.std.proofs.Common.{◌≡◌, ◌≤◌, List, length, ap, subst, sym, ◌∙◌, arith}
-use Rattle.ledger_model.specs.declared.history.History.{History}
+use Rattle.std.proofs.Common.{◌≡◌, length, ap, subst, sym, ◌∙◌, arith}
 use Rattle.ledger_model.specs.Applications.{run}
 use Rattle.ledger_model.specs.Worlds.{World, world_at, IsLedger, Refines}
 use Rattle.ledger_laws.proofs.WorldRuns.{runs_refine, world_now}

@@ -53,6 +53,17 @@ signed_cluster c r old new cluster at =
       };
     }
 
+liar_is : (o : Option (Party Replica)) (keys : Keys) → option_and_then liar_in o ≡ Some keys → o ≡ Some (party.Liar keys)
+liar_is None keys is = cc
+liar_is (Some (party.Correct s)) keys is = cc
+liar_is (Some (party.Liar k)) keys is = cc
+
+-- for the definitions the world is as it was
+pub signed_world : {X : Type 0} (view : X → List ℕ) (c : RunningCluster) (r : ℕ) (message : List ℕ) (answer : Result X SignFault) (d : RunningCluster) → SignsFor view c r message answer d → world_of d ≡ world_of c
+signed_world view c r message answer d (old, new, (is, signs, same)) =
+    ap world_of same
+    ∙ ap (λ (l : List Replica). record { histories = map history_in l; order = c.order }) (states_same c.parties r old new (liar_is (slice_get c.parties r) old is))
+
 got : {X : Type 0} (xs : List X) (i : ℕ) (x : X) → i < length xs → x ≡ slice_index_or xs i x → slice_get xs i ≡ Some x
 got [] i x lt is = absurd (omega arith)
 got (y ∷ ys) zero x lt is = ap Some (sym is)

@@ -1,7 +1,7 @@
 mod Asking
 mod Beginning
 mod Headline
-mod LiarSignatures
+pub mod LiarSignatures
 mod Members
 mod Running
 mod SentPlaces

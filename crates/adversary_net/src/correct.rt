@@ -1,5 +1,5 @@
 //! A correct replica, and where in its history the frames that it sent stand.
-ghost use Rattle.std.specs.Prelude.{◌≡◌, ◌<◌, length, slice_get, option_map, Some, [], IfOk, OnErr};
+ghost use Rattle.std.specs.Prelude.{◌≡◌, ◌<◌, ◌≤◌, ◌*◌, ◌^◌, length, slice_get, option_map, Some, [], IfOk, OnErr};
 ghost use Rattle.std.specs.Option.{option_copied};
 ghost use Rattle.ledger_model.specs.declared.history.Entry.{Entry};
 ghost use Rattle.ledger_model.specs.Worlds.{frames_in, frames_sent};
@@ -107,6 +107,15 @@ impl<A: Application> CorrectReplica<A> {
     {
         let (entry, frame) = self.sent.place(index)?;
         frame_at(&self.state, entry, frame)
+    }
+
+    /// How many frames it ever sent.
+    pub(crate) fn frames_sent(&self) -> u128
+        ensures count { result ≡ length (frames_sent self.now.entries) }
+        ensures bound { result ≤ 65536 * 2 ^ 64 }
+    {
+        let _ = self.state.len();
+        self.sent.total
     }
 
     /// Takes one event: the answer is the index of the new entry. The history has room.

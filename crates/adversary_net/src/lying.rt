@@ -1,5 +1,6 @@
 //! What a liar signs.
-ghost use Rattle.std.specs.Prelude.{◌≡◌, None, IfSome, IfNone};
+ghost use Rattle.std.specs.Prelude.{◌≡◌, ◌≤◌, None, length, IfSome, IfNone, IfOk};
+ghost use Rattle.ledger_model.specs.Limits.{max_signature_len};
 ghost use Rattle.adversary_net.specs.Clusters.{liar_in, LiarSigns};
 
 use crate::correct::CorrectReplica;
@@ -17,6 +18,7 @@ fn signature_of<A: Application>(
     message: &[u8],
 ) -> Option<Result<Vec<u8>, SignFault>>
     ensures signs { IfSome result (λ answer. LiarSigns (λ signature. signature.items) party.old message.now answer party.new) }
+    ensures short { IfSome result (λ answer. IfOk answer (λ signature. length signature.items ≤ max_signature_len)) }
     ensures none { IfNone result (liar_in party.old ≡ None) }
     ensures same { IfNone result (party.new ≡ party.old) }
 {
@@ -35,6 +37,7 @@ impl<A: Application> World<A> {
     /// `Exhausted` comes only, and always, where no leaf is left. After `NoMemory` the leaf is used up.
     pub fn sign_as(&mut self, liar: ReplicaId, message: &[u8]) -> Option<Result<Vec<u8>, SignFault>>
         ensures signs { IfSome result (λ answer. SignsFor (λ signature. signature.items) self.old liar message.now answer self.new) }
+        ensures short { IfSome result (λ answer. IfOk answer (λ signature. length signature.items ≤ max_signature_len)) }
         ensures none { IfNone result (liar_at self.old liar ≡ None) }
         ensures same { IfNone result (self.new ≡ self.old) }
     {

@@ -54,10 +54,11 @@ fn add_history<A: Application>(
 }
 
 impl<A: Application> World<A> {
-    ghost use Rattle.std.specs.Prelude.{None, Some, slice_get, IfOk, IfErr};
+    ghost use Rattle.std.specs.Prelude.{◌≤◌, ◌*◌, ◌^◌, None, Some, is_some, length, slice_get, IfSome, IfOk, IfErr, OnErr};
     ghost use Rattle.std.specs.Option.{option_copied};
     ghost use Rattle.ledger_model.specs.Commits.{commits_of};
-    ghost use Rattle.ledger_model.specs.Worlds.{entries_in, fault_at};
+    ghost use Rattle.ledger_model.specs.Groups.{is_correct};
+    ghost use Rattle.ledger_model.specs.Worlds.{entries_in, fault_at, frames_sent};
     ghost use Rattle.replica_core.specs.Telling.{info_reply};
     ghost use Rattle.adversary_net.specs.Clusters.{world_of, state_at, IsMemberAt, IsCluster};
 
@@ -98,11 +99,15 @@ impl<A: Application> World<A> {
 
     /// The correct replica of a number: none at a liar or where the cluster has no such replica.
     pub fn state(&self, replica: ReplicaId) -> Option<&State<A>>
-        ensures { option_copied result ≡ state_at self.now replica }
+        ensures state { option_copied result ≡ state_at self.now replica }
+        ensures entries { IfSome result (λ s. entries_in (world_of self.now) replica ≡ s.now.entries) }
+        ensures member { IfSome result (λ s. IsMemberAt self.now replica s.now) }
+        ensures correct { is_some result ≡ is_correct (world_of self.now).histories replica }
     {
-        match self.party(replica)? {
-            Party::Correct(replica) => Some(replica.state()),
-            Party::Liar(_) => None,
+        match self.party(replica) {
+            Some(Party::Correct(replica)) => Some(replica.state()),
+            Some(Party::Liar(_)) => None,
+            None => None,
         }
     }
 
@@ -113,11 +118,24 @@ impl<A: Application> World<A> {
         ensures entries { IfOk result (λ s. entries_in (world_of self.now) replica ≡ s.now.entries) }
         ensures no_fault { OnOk result (fault_at self.now.config (world_of self.now) replica ≡ None) }
         ensures fault { IfErr result (λ fault. fault_at self.now.config (world_of self.now) replica ≡ Some fault) }
+        ensures no_entries { OnErr result (entries_in (world_of self.now) replica ≡ []) }
     {
         match self.party(replica) {
             Some(Party::Correct(replica)) => Ok(replica),
             Some(Party::Liar(_)) => Err(WorldRefusal::Liar),
             None => Err(WorldRefusal::NoSuchReplica),
+        }
+    }
+
+    /// How many frames a correct replica ever sent, those included that it sent on; none were sent by a liar or a number that is
+    /// no replica's.
+    pub fn frames_sent(&self, replica: ReplicaId) -> u128
+        ensures count { result ≡ length (frames_sent (entries_in (world_of self.now) replica)) }
+        ensures bound { result ≤ 65536 * 2 ^ 64 }
+    {
+        match self.correct(replica) {
+            Ok(replica) => replica.frames_sent(),
+            Err(_) => 0,
         }
     }
 

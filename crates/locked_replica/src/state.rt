@@ -38,6 +38,7 @@ impl<A: Application> State<A> {
     ghost use Rattle.std.specs.Option.{option_copied};
     ghost use Rattle.ledger_model.specs.declared.event.Event.TheVariants as events;
     ghost use Rattle.ledger_model.specs.declared.reply.Reply.{Reply};
+    ghost use Rattle.ledger_model.specs.Limits.{max_height};
     ghost use Rattle.ledger_model.specs.Applications.{run};
     ghost use Rattle.ledger_model.specs.Commits.{commits_of, decided_at};
     ghost use Rattle.ledger_model.specs.Lawful.{Lawful, Replay, clock_at, is_signed_reply};
@@ -157,6 +158,7 @@ impl<A: Application> State<A> {
     #[tactic(auto, unfolding(crate::specs::Replicas::RunsAlone))]
     pub fn height(&self) -> u32
         ensures height { result ≡ length (commits_of self.now.config self.now.id self.now.entries) }
+        ensures most { result ≤ max_height }
         // The application is what it is run alone on the committed blocks.
         ensures machine { RunsAlone self.now }
     {
