@@ -4,6 +4,8 @@
 #[cfg(test)]
 mod block_tests;
 #[cfg(test)]
+mod lane_tests;
+#[cfg(test)]
 mod ots_tests;
 #[cfg(test)]
 mod ring_tests;

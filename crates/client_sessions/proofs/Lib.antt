@@ -1,0 +1,7 @@
+mod Exchanging
+mod Filling
+mod PrefixLemmas
+mod Results
+pub mod RisingHeights
+mod Sizes
+mod UnderWay

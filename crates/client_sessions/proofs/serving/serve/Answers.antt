@@ -1,0 +1,7 @@
+use Rattle.client_sessions.specs.declared.session_end.SessionFault.TheVariants.{NoMemory}
+use Rattle.client_sessions.proofs.Results.{if_this}
+use Rattle.client_sessions.proofs.UnderWay.{no_memory}
+use Rattle.client_sessions.proofs.serving.serve.Goals as goal
+
+pub returns-in_err-buffer-clause-stops : goal.returns-in_err-buffer-clause-stops
+returns-in_err-buffer-clause-stops g c = if_this _ _ NoMemory c.from_residual.ensures.1 (no_memory _ _ _ _ _ _)

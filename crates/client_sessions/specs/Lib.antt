@@ -1,0 +1,11 @@
+pub mod Asking
+pub mod Requests
+pub mod Answers
+pub mod Answering
+pub mod Watching
+pub mod Writing
+pub mod Reading
+pub mod Faults
+pub mod Streams
+pub mod Heights
+pub mod Serving

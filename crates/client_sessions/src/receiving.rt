@@ -1,0 +1,64 @@
+//! One request from a reader, and no byte behind it.
+ghost use Rattle.std.specs.Prelude.{◌≡◌, ◌<◌, ◌≤◌, ◌^◌, ◌||◌, is_err, length, take, MatchResult, OnErr};
+ghost use Rattle.std.specs.Int.{w16, to_be_bytes, from_be_bytes};
+ghost use Rattle.client_sessions.specs.Faults.{FailsToRead};
+ghost use Rattle.client_sessions.specs.Streams.{Receives, ReadsPart, Stands};
+ghost use Rattle.client_sessions.specs.Watching.{stream_of, has_failed};
+
+use crate::session_end::{SessionEnd, SessionFault};
+use crate::watched::Watched;
+use std::io::Read;
+
+/// What comes next of the input.
+pub(crate) enum Received {
+    /// A whole request, whose body has so many bytes.
+    Body(usize),
+    /// The end.
+    End(SessionEnd),
+}
+
+/// Where the input ends behind fewer bytes than a length has.
+fn end_behind(bytes: &[u8]) -> SessionEnd
+    requires { length bytes.now ≤ 1 }
+    ensures { Stands result bytes.now }
+{
+    if bytes.is_empty() {
+        SessionEnd::Clean
+    } else {
+        SessionEnd::Cut
+    }
+}
+
+/// The length that two bytes tell.
+fn length_of(prefix: &[u8; 2]) -> usize
+    ensures length { result ≡ from_be_bytes w16 prefix.now }
+    ensures bytes { to_be_bytes w16 result ≡ prefix.now }
+    ensures bound { result < 2 ^ 16 }
+{
+    usize::from(u16::from_be_bytes(*prefix))
+}
+
+/// Reads the next request, its body into the buffer. It reads no further, so that a client can wait for the reply.
+pub(crate) fn receive<R: Read>(
+    input: &mut Watched<R>,
+    buffer: &mut [u8],
+) -> Result<Received, SessionFault>
+    requires { 65535 ≤ length buffer.old }
+    ensures received { MatchResult result
+        (λ received. Receives (R.remaining (stream_of input.old)) (R.remaining (stream_of input.new)) buffer.new received)
+        (λ _. ReadsPart (R.remaining (stream_of input.old)) (R.remaining (stream_of input.new))) }
+    ensures fault { FailsToRead result }
+    ensures failed { has_failed input.new ≡ (has_failed input.old || is_err result) }
+{
+    let mut prefix = [0; 2];
+    let count = input.fill(&mut prefix)?;
+    if count < prefix.len() {
+        return Ok(Received::End(end_behind(&prefix[..count])));
+    }
+    let len = length_of(&prefix);
+    let count = input.fill(&mut buffer[..len])?;
+    if count < len {
+        return Ok(Received::End(SessionEnd::Cut));
+    }
+    Ok(Received::Body(len))
+}

@@ -1,0 +1,4 @@
+mod ChMaj
+mod Rotations
+mod LaneLemmas
+mod Blocks
