@@ -1,5 +1,7 @@
 -- How transactions are written.
-use Rattle.std.specs.Prelude.{◌≡◌, ◌≢◌, ℕ, ◌+◌, ◌-◌, ◌*◌, ◌==◌, nat_le, Bool, not, ◌&&◌, List, [], ◌∷◌, Option, Some, None, if◌then◌else◌}
+use Rattle.std.specs.Prelude.{◌≡◌, ◌≢◌, ℕ, ◌+◌, ◌-◌, ◌*◌, ◌/◌, ◌%◌, ◌==◌, nat_le, false, Bool, not, ◌&&◌, List, [], ◌∷◌, Option, Some, None, if◌then◌else◌}
+use Rattle.std.specs.Fmt.{digit_glyph}
+use Rattle.std.specs.List.{flat_map}
 use Rattle.plain_text.specs.declared.spelling_fault.SpellingFault.{SpellingFault}
 use Rattle.plain_text.specs.declared.spelling_fault.SpellingFault.TheVariants as fault
 
@@ -61,3 +63,11 @@ pub record Misspells (text : List ℕ) (why : SpellingFault) : Type 0 where
   pub stops : first_byte rest ≡ None
   pub some : rest ≢ []
   pub told : why ≡ fault_at rest
+
+-- a byte as it is written: itself, or a backslash and its two lower case hexadecimal digits
+unfoldable pub byte_text : ℕ → List ℕ
+byte_text b = if is_plain b then b ∷ [] else 0x5c ∷ digit_glyph false (b / 16) ∷ digit_glyph false (b % 16) ∷ []
+
+-- bytes as they are written
+unfoldable pub bytes_text : List ℕ → List ℕ
+bytes_text bytes = flat_map byte_text bytes

@@ -1,8 +1,8 @@
 //! Numbers in decimal digits.
-ghost use Rattle.std.specs.Prelude.{◌≡◌, ◌≤◌, ◌^◌, IsTrue, IfSome, IfNone};
+ghost use Rattle.std.specs.Prelude.{◌≡◌, ◌<◌, ◌≤◌, ◌^◌, ℕ, IsTrue, Some, IfSome, IfNone};
 ghost use Rattle.std.specs.List.{list_all};
 ghost use Rattle.std.specs.Str.Parse.{digits_value};
-ghost use Rattle.plain_text.specs.Numbers.{is_digit, is_decimal};
+ghost use Rattle.plain_text.specs.Numbers.{is_digit, is_decimal, has_needless_zero, number_text};
 
 fn is_digit(byte: u8) -> bool
     ensures { result ≡ is_digit byte }
@@ -32,4 +32,22 @@ pub fn decimal(text: &str) -> Option<u32>
         return None;
     }
     text.parse::<u32>().ok()
+}
+
+/// Whether more digits follow a zero at the head.
+fn has_needless_zero(word: &[u8]) -> bool
+    ensures { result ≡ has_needless_zero word.now }
+{
+    matches!(word, [b'0', _, ..])
+}
+
+/// The number below 2^32 whose decimal digits the word is, without needless zeros: as a `u32` is printed.
+pub fn number(word: &str) -> Option<u32>
+    ensures value { IfSome result (λ n. word.now ≡ number_text n) }
+    ensures found { (n : ℕ) → n < 2 ^ 32 → word.now ≡ number_text n → result ≡ Some n }
+{
+    if has_needless_zero(word.as_bytes()) {
+        return None;
+    }
+    decimal(word)
 }

@@ -7,7 +7,7 @@ use crate::spelling_fault::SpellingFault;
 use std::alloc::Global;
 
 /// Whether the byte stands for itself: it is visible, and no comma, bracket or backslash.
-fn is_plain(byte: u8) -> bool
+pub(crate) fn is_plain(byte: u8) -> bool
     ensures { result ≡ is_plain byte }
 {
     (0x21..=0x7e).contains(&byte) && !matches!(byte, b',' | b'[' | b'\\' | b']')

@@ -1,0 +1,22 @@
+use Rattle.std.proofs.Common.{◌≡◌, ◌∙◌, ℕ, refl, sym, rules, tests}
+use Rattle.std.specs.Prelude.{◌==◌, Option, Some, None}
+use Rattle.std.specs.Option.{option_map}
+use Rattle.std.specs.List.{find}
+use Rattle.std.proofs.lemmas.Iterator.{YieldsList-from_slice}
+use Rattle.std.proofs.lemmas.Iterator.Consumers.{YieldsList-from_copied}
+use Rattle.std.proofs.lemmas.Iterator.Search.{find_from_yields_List}
+use Rattle.scenario_texts.specs.Reading.{liar_of, number_of}
+use Rattle.scenario_texts.proofs.command_reading.liar.Goals as goal
+
+-- the option as it is
+unmapped : (o : Option ℕ) → option_map (λ x. x) o ≡ o
+unmapped None = refl
+unmapped (Some x) = refl
+
+pub returns : goal.returns
+unfolding liar_of
+returns c =
+    let named : number_of c.args.word.now ≡ Some c.in_ok-number.number = search rules in
+    let found : option_map (λ x. x) c.find.result ≡ find (λ liar. liar == c.in_ok-number.number) c.args.liars.now =
+    find_from_yields_List (λ liar. liar == c.in_ok-number.number) _ _ c.find.result c.find.ensures.ran (YieldsList-from_copied (YieldsList-from_slice c.args.liars.now (cc))) (λ x b q k. search (rules, tests)) in
+    rw named (sym (unmapped c.find.result) ∙ found)

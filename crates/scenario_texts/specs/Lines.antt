@@ -1,0 +1,74 @@
+-- The lines of a text, and what text spells a plan.
+use Rattle.std.specs.Prelude.{◌≡◌, ◌≢◌, ◌⊎◌, ℕ, ◌+◌, ◌≤◌, ◌==◌, not, Bool, false, List, [], ◌∷◌, ◌++◌, length, filter}
+use Rattle.std.specs.List.{flat_map, All, AllByRecursion}
+use Rattle.scenario_texts.specs.Plans.{Plan}
+use Rattle.scenario_texts.specs.Texts.{plan_lines}
+use Rattle.scenario_texts.specs.Lawful.{IsPlan}
+
+-- the most lines of a text
+abbrev pub max_lines : ℕ
+max_lines = 10000
+
+-- the most bytes of a line, but for its line feed
+abbrev pub max_line_len : ℕ
+max_line_len = 400000
+
+-- a line with its line feed
+abbrev pub ended : List ℕ → List ℕ
+ended line = line ++ 10 ∷ []
+
+-- no line feed stands in it
+abbrev pub IsUnbroken : List ℕ → Type 0
+IsUnbroken line = All (λ b. b ≢ 10) line
+
+-- the line isn't passed over: it has a byte, and the first isn't `#`
+abbrev pub counts : List ℕ → Bool
+counts [] = false
+counts (b ∷ line) = not (b == 0x23)
+
+-- the lines that count
+abbrev pub counted : List (List ℕ) → List (List ℕ)
+counted lines = filter counts lines
+
+-- the line is short enough
+abbrev pub IsShort : List ℕ → Type 0
+IsShort line = length line ≤ max_line_len
+
+-- the text spells the plan
+pub record Spells (text : List ℕ) (p : Plan) : Type 0 where
+  pub lines : List (List ℕ)
+  pub whole : text ≡ flat_map ended lines
+  pub unbroken : AllByRecursion IsUnbroken lines
+  pub few : length lines ≤ max_lines
+  pub short : AllByRecursion IsShort lines
+  pub those : counted lines ≡ plan_lines p
+  pub lawful : IsPlan p
+
+-- so far nothing is wrong: none of these lines counts, or some plan has those that do
+pub record GoesOn (lines : List (List ℕ)) : Type 0 where
+  pub short : AllByRecursion IsShort lines
+  pub begun : (counted lines ≡ []) ⊎ ((p : Plan) × ((counted lines ≡ plan_lines p) × IsPlan p))
+
+-- after these lines a bad one follows: one too many, or one with which the text doesn't go on
+pub record FollowsBad (lines : List (List ℕ)) (rest : List ℕ) : Type 0 where
+  pub line : List ℕ
+  pub after : List ℕ
+  pub ends : rest ≡ ended line ++ after
+  pub unbroken : IsUnbroken line
+  pub bad : (max_lines ≤ length lines) ⊎ (GoesOn (lines ++ line ∷ []) → ⊥)
+
+-- the text may not end after these lines: something stands behind the last line feed, or no line counted
+pub record EndsBadly (lines : List (List ℕ)) (rest : List ℕ) : Type 0 where
+  pub unended : IsUnbroken rest
+  pub bad : (rest ≢ []) ⊎ (counted lines ≡ [])
+
+-- line n of the text, from 1 on, is the first bad one
+pub record IsBadAt (text : List ℕ) (n : ℕ) : Type 0 where
+  pub before : List (List ℕ)
+  pub rest : List ℕ
+  pub whole : text ≡ flat_map ended before ++ rest
+  pub unbroken : AllByRecursion IsUnbroken before
+  pub few : length before ≤ max_lines
+  pub numbered : n ≡ length before + 1
+  pub goes_on : GoesOn before
+  pub bad : FollowsBad before rest ⊎ EndsBadly before rest

@@ -1,0 +1,55 @@
+//! The steps of a scenario.
+use bytes::Bytes;
+use ledger_model::{Batch, Height, Key, Phase, ReplicaId};
+
+/// Where a lie goes.
+#[derive(Clone, Copy, Debug, PartialEq, Eq)]
+pub enum Towards {
+    /// To the replica of this number.
+    One(u32),
+    /// To all replicas.
+    All,
+}
+
+/// A statement that a liar makes up.
+#[derive(Drop)]
+pub struct Lie {
+    pub liar: ReplicaId,
+    /// 1 or more.
+    pub height: Height,
+    /// 1 or more.
+    pub phase: Phase,
+    pub batch: Batch,
+    pub to: Towards,
+}
+
+/// A step. A replica's number may be one that no replica has.
+#[derive(Drop)]
+pub enum Command {
+    /// `submit R TX`
+    Submit { replica: u32, bytes: Bytes },
+    /// `propose R H`
+    Propose { replica: u32, height: Height },
+    /// `end R`: the end of the replica's round.
+    End { replica: u32 },
+    /// `pass FROM INDEX TO`
+    Pass { from: u32, index: u32, to: u32 },
+    /// `inject TO HEX`
+    Inject { to: u32, bytes: Bytes },
+    /// `execute R`
+    Execute { replica: u32 },
+    /// `query R KEY`
+    Query { replica: u32, key: Key },
+    /// `info R`
+    Info { replica: u32 },
+    /// `silent`
+    Silent,
+    /// `round`
+    Round,
+    /// `lie-report L H K BATCH TO`
+    LieReport(Lie),
+    /// `lie-lock L H K BATCH TO`
+    LieLock(Lie),
+    /// `lie-ack L H K BATCH TO`
+    LieAck(Lie),
+}

@@ -1,0 +1,51 @@
+//! The words that lines begin with.
+ghost use Rattle.std.specs.Prelude.{◌≡◌};
+ghost use Rattle.scenario_texts.specs.Words.{keyword_text};
+ghost use Rattle.scenario_texts.specs.Reading.{keyword_of};
+
+/// The word that a line begins with.
+#[derive(Clone, Copy, Debug, PartialEq, Eq)]
+pub(crate) enum Keyword {
+    Config,
+    Keys,
+    Liar,
+    Submit,
+    Propose,
+    End,
+    Pass,
+    Inject,
+    Execute,
+    Query,
+    Info,
+    Silent,
+    Round,
+    LieReport,
+    LieLock,
+    LieAck,
+}
+
+/// The keyword that the word is, if it is one.
+#[tactic(auto, unfolding(crate::specs::Reading::keyword_of))]
+pub(crate) fn keyword_of(word: &str) -> Option<Keyword>
+    ensures { result ≡ keyword_of word.now }
+{
+    match word {
+        "config" => Some(Keyword::Config),
+        "keys" => Some(Keyword::Keys),
+        "liar" => Some(Keyword::Liar),
+        "submit" => Some(Keyword::Submit),
+        "propose" => Some(Keyword::Propose),
+        "end" => Some(Keyword::End),
+        "pass" => Some(Keyword::Pass),
+        "inject" => Some(Keyword::Inject),
+        "execute" => Some(Keyword::Execute),
+        "query" => Some(Keyword::Query),
+        "info" => Some(Keyword::Info),
+        "silent" => Some(Keyword::Silent),
+        "round" => Some(Keyword::Round),
+        "lie-report" => Some(Keyword::LieReport),
+        "lie-lock" => Some(Keyword::LieLock),
+        "lie-ack" => Some(Keyword::LieAck),
+        _ => None,
+    }
+}

@@ -1,0 +1,18 @@
+//! Scenarios as texts: a cluster, its keys and its liars, and the steps of a run, line by line.
+#![tactic(auto)]
+
+mod batch;
+mod command;
+mod command_reading;
+mod fault;
+mod fields;
+mod keyword;
+mod line_reading;
+mod reading;
+mod scenario;
+mod setup_reading;
+
+pub use command::{Command, Lie, Towards};
+pub use fault::TextFault;
+pub use reading::read;
+pub use scenario::{Scenario, Setup};

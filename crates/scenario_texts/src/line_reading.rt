@@ -1,0 +1,199 @@
+//! What a line adds to what was read.
+ghost use Rattle.std.specs.Prelude.{◌≡◌, ◌==◌, map, option_map, IfOk, Some, None, if◌then◌else◌};
+ghost use Rattle.std.specs.Char.{is_ascii};
+ghost use Rattle.std.specs.List.{list_all, list_any};
+ghost use Rattle.scenario_texts.specs.Plans.{plan_of};
+ghost use Rattle.scenario_texts.specs.Reading.{ascii_of, begun_of, with_keys, is_new_liar, with_liar, with_command, going_on, beginning, next_by_keyword, next_by_words, next_of};
+
+use crate::batch::words;
+use crate::command_reading::command;
+use crate::fields::{one_number, two_numbers};
+use crate::keyword::{Keyword, keyword_of};
+use crate::scenario::{Scenario, Setup};
+use crate::setup_reading::{config, params};
+use ledger_model::ReplicaId;
+use std::alloc::{AllocError, Global};
+
+/// The scenario of the cluster alone.
+#[tactic(auto, unfolding(crate::specs::Reading::begun_of))]
+fn begun(alloc: Global, fields: &[&str]) -> Option<Scenario>
+    ensures { option_map plan_of result ≡ begun_of (map (λ field. field.now) fields.now) }
+{
+    let config = config(fields)?;
+    Some(Scenario {
+        setup: Setup {
+            config,
+            keys: None,
+            liars: Vec::new(alloc),
+        },
+        commands: Vec::new(alloc),
+    })
+}
+
+/// With the parameter set that a line says, where none is said yet and neither a liar nor a step stands.
+#[tactic(auto, unfolding(crate::specs::Reading::with_keys))]
+fn with_keys(mut scenario: Scenario, fields: &[&str]) -> Option<Scenario>
+    ensures { option_map plan_of result ≡ with_keys (plan_of scenario) (map (λ field. field.now) fields.now) }
+{
+    let keys = params(two_numbers(fields)?)?;
+    let setup = &scenario.setup;
+    if setup.keys.is_some() || !setup.liars.is_empty() || !scenario.commands.is_empty() {
+        return None;
+    }
+    scenario.setup.keys = Some(keys);
+    Some(scenario)
+}
+
+/// Whether a replica of this number is among the liars.
+fn is_among(liars: &[ReplicaId], number: u32) -> bool
+    ensures { result ≡ list_any (λ liar. liar == number) liars.now }
+{
+    let is_it = |liar: &ReplicaId| -> bool
+        ensures { result ≡ (liar.now == number) }
+    { u32::from(liar.number()) == number };
+    liars.iter().any(is_it)
+}
+
+/// The replica of this number, where it may be named a liar.
+#[tactic(auto, unfolding(crate::specs::Reading::is_new_liar))]
+fn new_liar(scenario: &Scenario, number: u32) -> Option<ReplicaId>
+    ensures { result ≡ (if is_new_liar (plan_of scenario.now) number then Some number else None) }
+{
+    let setup = &scenario.setup;
+    if !scenario.commands.is_empty() || setup.liars.len() >= usize::from(setup.config.faults) {
+        return None;
+    }
+    if is_among(setup.liars.as_slice(), number) || number >= u32::from(setup.config.replicas) {
+        return None;
+    }
+    Some(ReplicaId::new(number as u8))
+}
+
+/// With the liar that a line says.
+#[tactic(auto, unfolding(crate::specs::Reading::with_liar))]
+fn with_liar(mut scenario: Scenario, fields: &[&str]) -> Result<Option<Scenario>, AllocError>
+    ensures { IfOk result (λ found. option_map plan_of found ≡ with_liar (plan_of scenario) (map (λ field. field.now) fields.now)) }
+{
+    let Some(number) = one_number(fields) else {
+        return Ok(None);
+    };
+    let Some(liar) = new_liar(&scenario, number) else {
+        return Ok(None);
+    };
+    scenario.setup.liars.push(liar)?;
+    Ok(Some(scenario))
+}
+
+/// With the step of a line.
+#[tactic(auto, unfolding(crate::specs::Reading::with_command))]
+fn with_command(
+    alloc: Global,
+    mut scenario: Scenario,
+    keyword: Keyword,
+    fields: &[&str],
+) -> Result<Option<Scenario>, AllocError>
+    ensures { IfOk result (λ found. option_map plan_of found ≡ with_command (plan_of scenario) keyword (map (λ field. field.now) fields.now)) }
+{
+    let Some(command) = command(alloc, scenario.setup.liars.as_slice(), keyword, fields)? else {
+        return Ok(None);
+    };
+    scenario.commands.push(command)?;
+    Ok(Some(scenario))
+}
+
+/// With a line more.
+#[tactic(auto, unfolding(crate::specs::Reading::going_on))]
+fn going_on(
+    alloc: Global,
+    scenario: Scenario,
+    keyword: Keyword,
+    fields: &[&str],
+) -> Result<Option<Scenario>, AllocError>
+    ensures { IfOk result (λ found. option_map plan_of found ≡ going_on (plan_of scenario) keyword (map (λ field. field.now) fields.now)) }
+{
+    match keyword {
+        Keyword::Config => Ok(None),
+        Keyword::Keys => Ok(with_keys(scenario, fields)),
+        Keyword::Liar => with_liar(scenario, fields),
+        _ => with_command(alloc, scenario, keyword, fields),
+    }
+}
+
+/// The scenario that a line begins.
+#[tactic(auto, unfolding(crate::specs::Reading::beginning))]
+fn beginning(alloc: Global, keyword: Keyword, fields: &[&str]) -> Option<Scenario>
+    ensures { option_map plan_of result ≡ beginning keyword (map (λ field. field.now) fields.now) }
+{
+    match keyword {
+        Keyword::Config => begun(alloc, fields),
+        _ => None,
+    }
+}
+
+/// What was read, with a line more by its keyword.
+#[tactic(auto, unfolding(crate::specs::Reading::next_by_keyword))]
+fn next_by_keyword(
+    alloc: Global,
+    so_far: Option<Scenario>,
+    keyword: Keyword,
+    fields: &[&str],
+) -> Result<Option<Scenario>, AllocError>
+    ensures { IfOk result (λ found. option_map plan_of found ≡ next_by_keyword (option_map plan_of so_far) keyword (map (λ field. field.now) fields.now)) }
+{
+    match so_far {
+        None => Ok(beginning(alloc, keyword, fields)),
+        Some(scenario) => going_on(alloc, scenario, keyword, fields),
+    }
+}
+
+/// The same by its words.
+#[tactic(auto, unfolding(crate::specs::Reading::next_by_words))]
+fn next_by_words(
+    alloc: Global,
+    so_far: Option<Scenario>,
+    words: &[&str],
+) -> Result<Option<Scenario>, AllocError>
+    ensures { IfOk result (λ found. option_map plan_of found ≡ next_by_words (option_map plan_of so_far) (map (λ word. word.now) words.now)) }
+{
+    let [first, fields @ ..] = words else {
+        return Ok(None);
+    };
+    let Some(keyword) = keyword_of(first) else {
+        return Ok(None);
+    };
+    next_by_keyword(alloc, so_far, keyword, fields)
+}
+
+/// Whether each byte is ASCII.
+fn is_ascii(line: &[u8]) -> bool
+    ensures { result ≡ list_all is_ascii line.now }
+{
+    line.iter().all(|byte| byte.is_ascii())
+}
+
+/// The line as text, if each byte of it is ASCII.
+#[tactic(auto, unfolding(crate::specs::Reading::ascii_of))]
+fn ascii(line: &[u8]) -> Option<&str>
+    ensures { option_map (λ text. text.now) result ≡ ascii_of line.now }
+{
+    if !is_ascii(line) {
+        return None;
+    }
+    str::from_utf8(line).ok()
+}
+
+/// What was read, with a line more that counts; nothing where it is bad.
+#[tactic(auto, unfolding(crate::specs::Reading::next_of))]
+pub(crate) fn next(
+    alloc: Global,
+    so_far: Option<Scenario>,
+    line: &[u8],
+) -> Result<Option<Scenario>, AllocError>
+    ensures { IfOk result (λ found. option_map plan_of found ≡ next_of (option_map plan_of so_far) line.now) }
+{
+    let Some(line) = ascii(line) else {
+        return Ok(None);
+    };
+    let words = words(alloc, line, ' ')?;
+    next_by_words(alloc, so_far, words.as_slice())
+}

@@ -1,0 +1,62 @@
+//! A text as a scenario, line by line.
+ghost use Rattle.std.specs.Prelude.{◌≡◌, ◌≢◌, ◌⊎◌, ◌∷◌, ◌++◌, ℕ, IfOk, IfErr, MatchOption, MatchResult, Ok, Err};
+ghost use Rattle.scenario_texts.specs.Lawful.{IsPlan};
+ghost use Rattle.scenario_texts.specs.Lines.{IsBadAt, IsUnbroken, Spells, counts};
+ghost use Rattle.scenario_texts.specs.Plans.{Plan, plan_of};
+ghost use Rattle.scenario_texts.specs.declared.fault.TextFault.TheVariants as fault;
+
+use crate::fault::TextFault;
+use crate::line_reading::next;
+use crate::scenario::Scenario;
+use std::alloc::Global;
+
+/// The most lines of a text.
+const MAX_LINES: u32 = 10_000;
+
+/// The most bytes of a line, but for its line feed.
+const MAX_LINE_LEN: usize = 400_000;
+
+/// The first line, without its line feed, and what follows it, if a line feed is there.
+fn first_line(text: &[u8]) -> Option<(&[u8], &[u8])>
+    ensures { MatchOption result (IsUnbroken text.now) (λ cut. (text.now ≡ cut.0.now ++ 10 ∷ cut.1.now) × IsUnbroken cut.0.now) }
+{
+    let end = text.iter().position(|byte| *byte == b'\n')?;
+    Some((&text[..end], &text[end + 1..]))
+}
+
+/// Whether the line isn't passed over: it has a byte, and the first isn't `#`.
+fn counts(line: &[u8]) -> bool
+    ensures { result ≡ counts line.now }
+{
+    !matches!(line, [] | [b'#', ..])
+}
+
+/// The scenario that the text spells (`docs/FORMATS.md`). Of several bad lines the fault tells the first.
+pub fn read(alloc: Global, text: &[u8]) -> Result<Scenario, TextFault>
+    ensures spelled { IfOk result (λ scenario. Spells text.now (plan_of scenario)) }
+    ensures lawful { IfOk result (λ scenario. IsPlan (plan_of scenario)) }
+    ensures only { (plan : Plan) → Spells text.now plan
+        → MatchResult result (λ scenario. plan_of scenario ≡ plan) (λ why. why ≡ fault.NoMemory) }
+    ensures bad { IfErr result (λ why. (why ≡ fault.NoMemory) ⊎ ((n : ℕ) × ((why ≡ fault.BadLine n) × IsBadAt text.now n))) }
+{
+    let mut so_far = None;
+    let mut left = text;
+    let mut number = 1;
+    while let Some((line, rest)) = first_line(left) {
+        if number > MAX_LINES || line.len() > MAX_LINE_LEN {
+            return Err(TextFault::BadLine(number));
+        }
+        if counts(line) {
+            let Some(scenario) = next(alloc, so_far, line)? else {
+                return Err(TextFault::BadLine(number));
+            };
+            so_far = Some(scenario);
+        }
+        left = rest;
+        number += 1;
+    }
+    match so_far {
+        Some(scenario) if left.is_empty() => Ok(scenario),
+        _ => Err(TextFault::BadLine(number)),
+    }
+}

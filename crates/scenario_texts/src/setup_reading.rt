@@ -1,0 +1,50 @@
+//! The lines before the steps: the cluster, the parameter set of its keys, and its liars.
+ghost use Rattle.std.specs.Prelude.{◌≡◌, map, option_map};
+ghost use Rattle.scenario_texts.specs.Reading.{kind_of, config_of, params_from};
+
+use crate::fields::three_numbers;
+use ledger_model::{AppKind, Config};
+use lm_ots::{Params, TreeHeight, Width};
+
+/// The application of this number.
+#[tactic(auto, unfolding(crate::specs::Reading::kind_of))]
+fn kind(number: u32) -> Option<AppKind>
+    ensures { result ≡ kind_of number }
+{
+    match number {
+        1 => Some(AppKind::KvStore),
+        2 => Some(AppKind::Counter),
+        3 => Some(AppKind::Purse),
+        _ => None,
+    }
+}
+
+/// `config N T KIND`
+#[tactic(auto, unfolding(crate::specs::Reading::config_of))]
+pub(crate) fn config(fields: &[&str]) -> Option<Config>
+    ensures { option_map (λ c. (c.replicas, c.faults, c.kind)) result ≡ config_of (map (λ field. field.now) fields.now) }
+{
+    let (replicas, faults, number) = three_numbers(fields)?;
+    let kind = kind(number)?;
+    let replicas = u8::try_from(replicas).ok()?;
+    let faults = u8::try_from(faults).ok()?;
+    Config::new(replicas, faults, kind).ok()
+}
+
+/// The parameter set of a width and a height of the tree.
+#[tactic(auto, unfolding(crate::specs::Reading::params_from))]
+pub(crate) fn params(numbers: (u32, u32)) -> Option<Params>
+    ensures { result ≡ params_from numbers }
+{
+    let width = match numbers.0 {
+        4 => Width::W4,
+        8 => Width::W8,
+        _ => return None,
+    };
+    let height = match numbers.1 {
+        5 => TreeHeight::H5,
+        10 => TreeHeight::H10,
+        _ => return None,
+    };
+    Some(Params { width, height })
+}

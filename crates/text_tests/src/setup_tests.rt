@@ -1,0 +1,94 @@
+//! The lines before the steps.
+use crate::texts::{Outcome, outcome_of, scenario};
+use ledger_model::{AppKind, ReplicaId};
+use lm_ots::{TreeHeight, Width};
+use std::alloc::Global;
+
+/// N, t, the width, the height and the number of liars of the text, if it is a scenario of purses.
+fn purses(alloc: Global, text: &[u8]) -> Option<(u8, u8, u8, TreeHeight, usize)> {
+    let scenario = scenario(alloc, text)?;
+    let setup = scenario.setup;
+    if setup.config.kind != AppKind::Purse {
+        return None;
+    }
+    let params = setup.params();
+    Some((
+        setup.config.replicas,
+        setup.config.faults,
+        params.width.bits(),
+        params.height,
+        setup.liars.len(),
+    ))
+}
+
+/// Whether these are the numbers of the liars, in order.
+fn are_liars(liars: &[ReplicaId], wanted: &[u8]) -> bool {
+    liars.len() == wanted.len()
+        && liars
+            .iter()
+            .zip(wanted)
+            .all(|(liar, number)| liar.number() == *number)
+}
+
+/// Whether the liars of the text are these, in order.
+fn has_liars(alloc: Global, text: &[u8], wanted: &[u8]) -> bool {
+    let Some(scenario) = scenario(alloc, text) else {
+        return false;
+    };
+    are_liars(scenario.setup.liars.as_slice(), wanted)
+}
+
+#[test]
+fn clusters_and_keys(rt: HostRuntime) {
+    let alloc = rt.alloc();
+    assert_eq!(rt;
+        purses(alloc, b"config 13 4 3\nliar 12\nliar 0\nliar 3\nliar 7\n"),
+        Some((13, 4, 4, TreeHeight::H5, 4))
+    );
+    assert_eq!(rt;
+        purses(alloc, b"config 4 1 3\nkeys 4 10\n"),
+        Some((4, 1, 4, TreeHeight::H10, 0))
+    );
+    assert_eq!(rt;
+        purses(alloc, b"config 4 1 3\nkeys 8 5\nliar 2\n"),
+        Some((4, 1, 8, TreeHeight::H5, 1))
+    );
+    assert!(rt;
+        has_liars(
+            alloc,
+            b"config 13 4 3\nliar 12\nliar 0\nliar 3\nliar 7\nsilent\n",
+            &[12, 0, 3, 7]
+        )
+    );
+    assert_eq!(rt; Width::W8.bits(), 8);
+}
+
+#[test]
+fn lines_that_set_nothing(rt: HostRuntime) {
+    let texts: [(&[u8], u32); 17] = [
+        (b"config 12 4 1\n", 1),
+        (b"config 14 4 1\n", 1),
+        (b"config 4 0 1\n", 1),
+        (b"config 4 1 0\n", 1),
+        (b"config 4 1 4\n", 1),
+        (b"config 260 1 1\n", 1),
+        (b"silent\n", 1),
+        (b"keys 4 5\nconfig 4 1 1\n", 1),
+        (b"config 4 1 1\nkeys 4 6\n", 2),
+        (b"config 4 1 1\nkeys 5 5\n", 2),
+        (b"config 4 1 1\nkeys 4 5\nkeys 4 5\n", 3),
+        (b"config 4 1 1\nliar 1\nkeys 4 5\n", 3),
+        (b"config 4 1 1\nliar 1\nliar 1\n", 3),
+        (b"config 4 1 1\nliar 1\nliar 2\n", 3),
+        (b"config 4 1 1\nliar 4\n", 2),
+        (b"config 7 2 1\nliar 1\nliar 1\n", 3),
+        (b"config 4 1 1\nsilent\nliar 1\n", 3),
+    ];
+    for (index, (text, number)) in texts.iter().enumerate() {
+        assert_eq!(rt;
+            outcome_of(rt.alloc(), text),
+            Outcome::BadLine(*number),
+            "text {index}"
+        );
+    }
+}
