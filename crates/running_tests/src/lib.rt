@@ -9,3 +9,9 @@ mod inbox_tests;
 mod inbox_thread_tests;
 #[cfg(test)]
 mod pacer_tests;
+#[cfg(test)]
+mod session_streams;
+#[cfg(test)]
+mod session_targets;
+#[cfg(test)]
+mod session_tests;

@@ -1,0 +1,112 @@
+//! Streams that give or take a byte at a time, are interrupted, and fail.
+use std::alloc::Global;
+use std::io::{self, ErrorKind, Read, Write};
+
+/// A reader that gives one byte a call, every other call being interrupted, and fails behind so many bytes.
+#[derive(Drop)]
+pub(crate) struct FailingReader<'a> {
+    left: &'a [u8],
+    until: usize,
+    is_interrupted: bool,
+}
+
+impl<'a> FailingReader<'a> {
+    pub(crate) fn new(bytes: &'a [u8], until: usize) -> Self {
+        FailingReader {
+            left: bytes,
+            until,
+            is_interrupted: false,
+        }
+    }
+}
+
+impl Read for FailingReader<'_> {
+    fn read(&mut self, buf: &mut [u8]) -> io::Result<usize> {
+        self.is_interrupted = !self.is_interrupted;
+        if self.is_interrupted {
+            return Err(io::Error::from(ErrorKind::Interrupted));
+        }
+        if self.until == 0 {
+            return Err(io::Error::from(ErrorKind::ConnectionReset));
+        }
+        match self.left {
+            [first, rest @ ..] if !buf.is_empty() => {
+                buf[0] = *first;
+                self.left = rest;
+                self.until -= 1;
+                Ok(1)
+            }
+            _ => Ok(0),
+        }
+    }
+}
+
+/// A writer that fails behind so many bytes. It takes one byte a call, every other call being interrupted, or all at once.
+#[derive(Drop)]
+pub(crate) struct FailingWriter {
+    bytes: Vec<u8>,
+    until: usize,
+    is_whole: bool,
+    is_interrupted: bool,
+    writes: u32,
+}
+
+impl FailingWriter {
+    pub(crate) fn new(alloc: Global, until: usize) -> Self {
+        FailingWriter {
+            bytes: Vec::new(alloc),
+            until,
+            is_whole: false,
+            is_interrupted: false,
+            writes: 0,
+        }
+    }
+
+    /// One that takes all that it is given, and doesn't fail.
+    pub(crate) fn whole(alloc: Global) -> Self {
+        FailingWriter {
+            bytes: Vec::new(alloc),
+            until: usize::MAX,
+            is_whole: true,
+            is_interrupted: false,
+            writes: 0,
+        }
+    }
+
+    pub(crate) fn written(&self) -> &[u8] {
+        self.bytes.as_slice()
+    }
+
+    pub(crate) fn writes(&self) -> u32 {
+        self.writes
+    }
+}
+
+impl Write for FailingWriter {
+    fn write(&mut self, buf: &[u8]) -> io::Result<usize> {
+        self.writes = self.writes.saturating_add(1);
+        if self.is_whole {
+            self.bytes.extend_from_slice(buf)?;
+            return Ok(buf.len());
+        }
+        self.is_interrupted = !self.is_interrupted;
+        if self.is_interrupted {
+            return Err(io::Error::from(ErrorKind::Interrupted));
+        }
+        if self.until == 0 {
+            return Err(io::Error::from(ErrorKind::BrokenPipe));
+        }
+        match buf.first() {
+            Some(byte) => {
+                self.bytes.push(*byte)?;
+                self.until -= 1;
+                Ok(1)
+            }
+            None => Ok(0),
+        }
+    }
+
+    fn flush(&mut self) -> io::Result<()> {
+        Ok(())
+    }
+}

@@ -1,0 +1,112 @@
+//! Four replicas that answer as a test sets them.
+use bytes::Bytes;
+use client_sessions::{TargetFault, Targets};
+use ledger_model::{Batch, Height, QueryAnswer, ReplicaId, SubmitRefusal, Tx};
+use std::alloc::{AllocError, Global};
+
+/// What a submit is answered.
+type Submitted = Result<Result<(), SubmitRefusal>, TargetFault>;
+
+/// Replicas at these heights, whose blocks are all `a=1`.
+#[derive(Drop)]
+pub(crate) struct Fake {
+    alloc: Global,
+    heights: [u32; 4],
+    submitted: Submitted,
+    fault: Option<TargetFault>,
+    asked: u32,
+}
+
+impl Fake {
+    pub(crate) fn new(alloc: Global, heights: [u32; 4]) -> Self {
+        Fake {
+            alloc,
+            heights,
+            submitted: Ok(Ok(())),
+            fault: None,
+            asked: 0,
+        }
+    }
+
+    /// Answers each submit so from now on.
+    pub(crate) fn answer_submits(&mut self, answer: Submitted) {
+        self.submitted = answer;
+    }
+
+    /// Answers queries and blocks with a fault from now on.
+    pub(crate) fn fail(&mut self, fault: TargetFault) {
+        self.fault = Some(fault);
+    }
+
+    /// How often it was asked.
+    pub(crate) fn asked(&self) -> u32 {
+        self.asked
+    }
+
+    /// Counts one call, and tells the fault that is set.
+    fn count_one(&mut self) -> Result<(), TargetFault> {
+        self.asked = self.asked.saturating_add(1);
+        match self.fault {
+            Some(fault) => Err(fault),
+            None => Ok(()),
+        }
+    }
+
+    fn height_of(&self, replica: ReplicaId) -> u32 {
+        self.heights
+            .get(usize::from(replica.number()))
+            .copied()
+            .unwrap_or(0)
+    }
+}
+
+/// The batch of one transaction.
+fn batch(alloc: Global, bytes: &[u8]) -> Result<Option<Batch>, AllocError> {
+    let Ok(tx) = Tx::new(bytes.to_vec(alloc)?) else {
+        return Ok(None);
+    };
+    Ok(Batch::new(vec![in alloc; tx]?).ok())
+}
+
+impl Targets for Fake {
+    ghost replicas = { λ _. 4 };
+
+    ghost asks = { λ _ _ _. Unit {0} };
+
+    fn count(&self) -> usize {
+        4
+    }
+
+    fn submit(&mut self, _replica: ReplicaId, _tx: &[u8]) -> Submitted {
+        self.count_one()?;
+        self.submitted
+    }
+
+    fn query(&mut self, replica: ReplicaId, key: &[u8]) -> Result<QueryAnswer, TargetFault> {
+        self.count_one()?;
+        Ok(QueryAnswer {
+            height: Height::new(self.height_of(replica)),
+            value: if key == b"a".as_slice() {
+                Some(Bytes::from_static(b"1"))
+            } else {
+                None
+            },
+        })
+    }
+
+    fn height(&mut self, replica: ReplicaId) -> Height {
+        self.asked = self.asked.saturating_add(1);
+        Height::new(self.height_of(replica))
+    }
+
+    fn block(&mut self, replica: ReplicaId, height: Height) -> Result<Option<Batch>, TargetFault> {
+        self.count_one()?;
+        if height.number() == 0 || height.number() > self.height_of(replica) {
+            return Ok(None);
+        }
+        match batch(self.alloc, b"a=1") {
+            Ok(found) => Ok(found),
+            Err(_) => Err(TargetFault::NoMemory),
+        }
+    }
+}
