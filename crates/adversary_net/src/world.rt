@@ -60,7 +60,8 @@ impl<A: Application> World<A> {
     ghost use Rattle.ledger_model.specs.Groups.{is_correct};
     ghost use Rattle.ledger_model.specs.Worlds.{entries_in, fault_at, frames_sent};
     ghost use Rattle.replica_core.specs.Telling.{info_reply};
-    ghost use Rattle.adversary_net.specs.Clusters.{world_of, state_at, IsMemberAt, IsCluster};
+    ghost use Rattle.adversary_net.specs.Clusters.{world_of, state_at, HasRun, IsMemberAt, IsCluster};
+    ghost use Rattle.adversary_net.specs.Headline.{IsUnforged, IsOneLedger};
 
     /// The cluster that it is of.
     pub fn config(&self) -> &Config
@@ -71,7 +72,11 @@ impl<A: Application> World<A> {
 
     /// To which replica each entry went, over all calls of [`run`](World::run).
     pub fn order(&self) -> &[ReplicaId]
-        ensures { result.now ≡ self.now.order }
+        ensures order { result.now ≡ self.now.order }
+        // All that happened since the world was made is a run of the definitions.
+        ensures since { HasRun self.now }
+        // Where nothing that was accepted was forged, it is a run of one sequential ledger.
+        ensures one_ledger { IsUnforged self.now → IsOneLedger self.now }
     {
         &self.order
     }

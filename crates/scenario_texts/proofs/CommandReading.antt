@@ -1,8 +1,9 @@
 -- Steps are read as they are written.
-use Rattle.std.proofs.Common.{◌≡◌, ◌∙◌, ℕ, Bool, true, false, cond, List, [], ◌∷◌, length, refl, sym, ap, subst}
+use Rattle.std.proofs.Common.{◌≡◌, ◌∙◌, ◌≤◌, ℕ, zero, suc, Bool, true, false, cond, List, [], ◌∷◌, length, refl, sym, ap, subst, suc-le-suc, zero-le}
 use Rattle.std.specs.Prelude.{nat_le, codes, Option, Some, None, option_and_then, Contains}
 use Rattle.std.specs.Option.{option_map}
 use Rattle.std.specs.Str.{bytes_eq}
+use Rattle.std.proofs.Math.Bridge.{le_prop, no_suc-le-zero}
 use Rattle.std.proofs.lemmas.Bool.{leb-true}
 use Rattle.std.proofs.lemmas.Slice.Eq.{bytes_eq-Decides}
 use Rattle.ledger_model.specs.Limits.{max_key_len}
@@ -11,7 +12,7 @@ use Rattle.plain_text.specs.Numbers.{number_text}
 use Rattle.scenario_texts.specs.Words.{keyword_text}
 use Rattle.scenario_texts.specs.Lawful.{IsNumber, IsLie, IsCommand}
 use Rattle.scenario_texts.specs.Texts.{lie_words, command_words}
-use Rattle.scenario_texts.specs.Reading.{keyword_among, all_keywords, keyword_of, number_of, positive_of, one_number, two_numbers, three_numbers, optional_bytes, optional_hex, batch_of, towards_of, liar_of, lie_of, submit_of, inject_of, query_of, propose_of, pass_of, simple_of, lying_of, command_of}
+use Rattle.scenario_texts.specs.Reading.{keyword_among, all_keywords, keyword_of, number_of, positive_of, one_number, two_numbers, three_numbers, optional_bytes, optional_hex, batch_of, towards_of, liar_of, lie_at, lie_of, submit_of, inject_of, query_of, propose_of, pass_of, simple_of, lying_of, command_of}
 use Rattle.scenario_texts.specs.declared.keyword.Keyword.{Keyword}
 use Rattle.scenario_texts.specs.declared.keyword.Keyword.TheVariants as keyword
 use Rattle.scenario_texts.specs.declared.command.Towards.{Towards}
@@ -61,7 +62,7 @@ keyword_of-sound word k e = among_sound all_keywords word k e
 abbrev lie_made : Option ℕ → Option ℕ → Option ℕ → Option Value → Option Towards → Option Lie
 lie_made l h k b t =
     option_and_then (λ liar. option_and_then (λ height. option_and_then (λ phase. option_and_then (λ batch. option_and_then (λ to.
-    Some (record { liar = liar; height = height; phase = phase; batch = batch; to = to })) t) b) k) h) l
+    lie_at liar height phase batch to) t) b) k) h) l
 
 record LieParts (l h k : Option ℕ) (b : Option Value) (t : Option Towards) (lie : Lie) : Type 0 where
   liar : l ≡ Some lie.liar
@@ -70,16 +71,37 @@ record LieParts (l h k : Option ℕ) (b : Option Value) (t : Option Towards) (li
   batch : b ≡ Some lie.batch
   to : t ≡ Some lie.to
 
+made_parts : (x y z : ℕ) (v : Value) (w : Towards) (lie : Lie) → lie_at x y z v w ≡ Some lie → LieParts (Some x) (Some y) (Some z) (Some v) (Some w) lie
+unfolding lie_at
+made_parts x zero z v w lie e = absurd cc
+made_parts x (suc y) zero v w lie e = absurd cc
+made_parts x (suc y) (suc z) v w lie e =
+    let made : Lie = record { liar = x; height = suc y; phase = suc z; batch = v; to = w; some_height = suc-le-suc zero-le; some_phase = suc-le-suc zero-le } in
+    let same : made ≡ lie = cc in
+    subst (λ (m : Lie). LieParts (Some x) (Some (suc y)) (Some (suc z)) (Some v) (Some w) m) same (record { liar = refl; height = refl; phase = refl; batch = refl; to = refl })
+
+-- any lie is the one at its height and in its phase
+lie_at-is : (x y z : ℕ) (v : Value) (w : Towards) (some_y : 1 ≤ y) (some_z : 1 ≤ z)
+    → lie_at x y z v w ≡ Some (record { liar = x; height = y; phase = z; batch = v; to = w; some_height = some_y; some_phase = some_z })
+unfolding lie_at
+lie_at-is x zero z v w p q = absurd (no_suc-le-zero p)
+lie_at-is x (suc y) zero v w p q = absurd (no_suc-le-zero q)
+lie_at-is x (suc y) (suc z) v w p q = rw (le_prop p (suc-le-suc zero-le), le_prop q (suc-le-suc zero-le)) refl
+
+pub lie_at-again : (lie : Lie) → lie_at lie.liar lie.height lie.phase lie.batch lie.to ≡ Some lie
+lie_at-again lie = lie_at-is lie.liar lie.height lie.phase lie.batch lie.to lie.some_height lie.some_phase
+
+-- what is read as the lie of these parts is any lie with them
+pub lie_made-of : (lie : Lie) (read : Option Lie) → lie_at lie.liar lie.height lie.phase lie.batch lie.to ≡ read → Some lie ≡ read
+lie_made-of lie read same = sym (lie_at-again lie) ∙ same
+
 lie_parts : (l h k : Option ℕ) (b : Option Value) (t : Option Towards) (lie : Lie) → lie_made l h k b t ≡ Some lie → LieParts l h k b t lie
 lie_parts None h k b t lie e = absurd cc
 lie_parts (Some x) None k b t lie e = absurd cc
 lie_parts (Some x) (Some y) None b t lie e = absurd cc
 lie_parts (Some x) (Some y) (Some z) None t lie e = absurd cc
 lie_parts (Some x) (Some y) (Some z) (Some v) None lie e = absurd cc
-lie_parts (Some x) (Some y) (Some z) (Some v) (Some w) lie e =
-    let made : Lie = record { liar = x; height = y; phase = z; batch = v; to = w } in
-    let same : made ≡ lie = cc in
-    subst (λ (m : Lie). LieParts (Some x) (Some y) (Some z) (Some v) (Some w) m) same (record { liar = refl; height = refl; phase = refl; batch = refl; to = refl })
+lie_parts (Some x) (Some y) (Some z) (Some v) (Some w) lie e = made_parts x y z v w lie e
 
 -- a lie
 lie_of-sound : (liars : List ℕ) (fields : List (List ℕ)) (lie : Lie) → lie_of liars fields ≡ Some lie → (fields ≡ lie_words lie) × IsLie liars lie
@@ -102,7 +124,8 @@ lie_of-sound liars (l ∷ h ∷ k ∷ b ∷ t ∷ x ∷ fields) lie e = absurd c
 pub lie_of-again : (liars : List ℕ) (lie : Lie) → ((r : ℕ) → Contains liars r → IsNumber r) → IsLie liars lie → lie_of liars (lie_words lie) ≡ Some lie
 unfolding lie_of
 lie_of-again liars lie small is =
-    rw (liar_of-again liars lie.liar is.by_liar (small lie.liar is.by_liar), positive_of-again lie.height is.height, positive_of-again lie.phase is.phase, batch_of-again lie.batch is.batch, towards_of-again lie.to is.to) refl
+    rw (liar_of-again liars lie.liar is.by_liar (small lie.liar is.by_liar), positive_of-again lie.height is.height, positive_of-again lie.phase is.phase, batch_of-again lie.batch is.batch, towards_of-again lie.to is.to)
+    (lie_at-again lie)
 
 -- a line that says a step
 abbrev Says : List ℕ → List ℕ → List (List ℕ) → Command → Type 0

@@ -1,12 +1,13 @@
 -- What words and lines spell, as the functions of this crate read them. That it is what they stand for is proved in
 -- `proofs/`; no public clause cites this file.
-use Rattle.std.specs.Prelude.{ℕ, ◌+◌, ◌*◌, ◌^◌, ◌==◌, nat_lt, nat_le, Bool, not, ◌&&◌, List, [], ◌∷◌, ◌++◌, length, codes, Option, Some, None, is_some, option_and_then, if◌then◌else◌}
+use Rattle.std.specs.Prelude.{ℕ, zero, suc, ◌+◌, ◌*◌, ◌^◌, ◌==◌, nat_lt, nat_le, Bool, not, ◌&&◌, List, [], ◌∷◌, ◌++◌, length, codes, Option, Some, None, is_some, option_and_then, if◌then◌else◌}
 use Rattle.std.specs.List.{find, list_all, list_any, slice_split}
 use Rattle.std.specs.Char.{is_ascii, is_ascii_uppercase}
 use Rattle.std.specs.Option.{option_map}
 use Rattle.std.specs.Result.{result_ok}
 use Rattle.std.specs.Str.{bytes_eq}
 use Rattle.std.specs.Str.Parse.{digits_value}
+use Rattle.std.proofs.Common.{suc-le-suc, zero-le}
 use Rattle.hex.specs.Hex.{decode_of}
 use Rattle.ledger_model.specs.Limits.{max_tx_len, max_batch_len, max_key_len}
 use Rattle.ledger_model.specs.Values.{Value}
@@ -164,6 +165,12 @@ liar_of liars word = do
   n ← number_of word
   find (λ liar. liar == n) liars
 
+-- the lie at this height and in this phase, where both are from 1 on
+unfoldable pub lie_at : ℕ → ℕ → ℕ → Value → Towards → Option Lie
+lie_at liar zero phase batch to = None
+lie_at liar (suc h) zero batch to = None
+lie_at liar (suc h) (suc k) batch to = Some (record { liar = liar; height = suc h; phase = suc k; batch = batch; to = to; some_height = suc-le-suc zero-le; some_phase = suc-le-suc zero-le })
+
 -- the lie that the fields say
 unfoldable pub lie_of : List ℕ → List (List ℕ) → Option Lie
 lie_of liars (l ∷ h ∷ k ∷ b ∷ t ∷ []) = do
@@ -172,7 +179,7 @@ lie_of liars (l ∷ h ∷ k ∷ b ∷ t ∷ []) = do
   phase ← positive_of k
   batch ← batch_of b
   to ← towards_of t
-  Some (record { liar = liar; height = height; phase = phase; batch = batch; to = to })
+  lie_at liar height phase batch to
 lie_of liars _ = None
 
 -- `submit`

@@ -1,4 +1,6 @@
 //! The steps of a scenario.
+ghost use Rattle.std.specs.Prelude.{◌≤◌};
+
 use bytes::Bytes;
 use ledger_model::{Batch, Height, Key, Phase, ReplicaId};
 
@@ -21,6 +23,8 @@ pub struct Lie {
     pub phase: Phase,
     pub batch: Batch,
     pub to: Towards,
+    ghost some_height: { 1 ≤ height },
+    ghost some_phase: { 1 ≤ phase },
 }
 
 /// A step. A replica's number may be one that no replica has.

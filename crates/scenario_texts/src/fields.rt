@@ -1,5 +1,5 @@
 //! The words behind a line's first, each by itself: numbers, bytes and where a lie goes.
-ghost use Rattle.std.specs.Prelude.{◌≡◌, map, option_map, IfOk, codes};
+ghost use Rattle.std.specs.Prelude.{◌≡◌, ◌≤◌, map, option_map, IfOk, IfSome, codes};
 ghost use Rattle.std.specs.Char.{is_ascii_uppercase};
 ghost use Rattle.std.specs.List.{list_any};
 ghost use Rattle.scenario_texts.specs.Reading.{number_of, positive_of, one_number, two_numbers, three_numbers, bytes_of, hex_of, optional_bytes, optional_hex, towards_of};
@@ -19,7 +19,8 @@ pub(crate) fn number(word: &str) -> Option<u32>
 /// The number from 1 on that the word spells.
 #[tactic(auto, unfolding(crate::specs::Reading::positive_of))]
 pub(crate) fn positive(word: &str) -> Option<u32>
-    ensures { result ≡ positive_of word.now }
+    ensures spelled { result ≡ positive_of word.now }
+    ensures some { IfSome result (λ number. 1 ≤ number) }
 {
     let number = number(word)?;
     if number == 0 { None } else { Some(number) }

@@ -1,0 +1,7 @@
+use Rattle.std.proofs.Common.{subst}
+use Rattle.adversary_net.specs.Clusters.{IsCluster}
+use Rattle.adversary_net.proofs.Headline.{one_ledger}
+use Rattle.adversary_net.proofs.world.World.order.Goals as goal
+
+pub returns-clause-one_ledger : goal.returns-clause-one_ledger
+returns-clause-one_ledger g c = one_ledger c.args.self.now (subst IsCluster c.self.view_is c.self.invariant)
