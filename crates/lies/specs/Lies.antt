@@ -1,0 +1,69 @@
+-- What a liar's statement says, and which reports serve the proof of its lock.
+use Rattle.std.specs.Prelude.{ℕ, ◌==◌, Bool, false, ◌&&◌, List, [], ◌∷◌, filter, slice_get, Option, Some, None, option_and_then, if◌then◌else◌}
+use Rattle.std.specs.List.{filter_map}
+use Rattle.ledger_model.specs.declared.statement.Report.{Report}
+use Rattle.ledger_model.specs.declared.statement.Lock.{Lock}
+use Rattle.ledger_model.specs.declared.statement.Ack.{Ack}
+use Rattle.ledger_model.specs.declared.statement.Statement.{Statement}
+use Rattle.ledger_model.specs.declared.statement.Statement.TheVariants as statement
+use Rattle.ledger_model.specs.declared.statement.SignedReport.{SignedReport}
+use Rattle.ledger_model.specs.declared.statement.SignedStatement.{SignedStatement}
+use Rattle.ledger_model.specs.declared.history.Entry.{Entry}
+use Rattle.ledger_model.specs.Locks.{finds}
+use Rattle.ledger_model.specs.Reading.{reading}
+use Rattle.ledger_model.specs.Worlds.{frames_in}
+use Rattle.scenario_texts.specs.declared.command.Lie.{Lie}
+
+-- the report of a liar: its initial and only proper value is the batch, and it tells of no lock
+abbrev pub lying_report : Lie → Report
+lying_report l = record {
+  height = l.height;
+  phase = l.phase;
+  signer = l.liar;
+  all = false;
+  initial = l.batch;
+  proper = l.batch ∷ [];
+  locked = [];
+}
+
+-- the report is this replica's, and serves a proof of the lie's lock
+abbrev pub serves_report : Lie → ℕ → Report → Bool
+serves_report l r report = (report.signer == r) && (report.height == l.height) && (report.phase == l.phase) && finds report l.batch
+
+-- so is a signed one
+abbrev pub serves : Lie → ℕ → SignedReport → Bool
+serves l r s = serves_report l r s.report
+
+-- the report of a signed statement
+abbrev pub report_of : SignedStatement → Option SignedReport
+report_of s = of s.statement
+  where
+    of : Statement → Option SignedReport
+    of (statement.Report r) = Some (record { report = r; signature = s.signature })
+    of _ = None
+
+-- the report that a frame is
+abbrev pub report_in : List ℕ → Option SignedReport
+report_in frame = option_and_then report_of (reading frame)
+
+-- the report, if it serves
+abbrev pub if_serves : Lie → ℕ → Option SignedReport → Option SignedReport
+if_serves l r None = None
+if_serves l r (Some s) = if serves l r s then Some s else None
+
+-- the frames that an entry sent, of which there are none where there is no entry
+abbrev pub frames_of : Option Entry → List (List ℕ)
+frames_of None = []
+frames_of (Some e) = frames_in e.reply
+
+-- the earliest report of a replica among frames that serves
+unfoldable pub first_serving : Lie → ℕ → List (List ℕ) → Option SignedReport
+first_serving l r frames = slice_get (filter (serves l r) (filter_map report_in frames)) 0
+
+-- the lock of a liar
+abbrev pub lying_lock : Lie → List SignedReport → Lock
+lying_lock l proof = record { height = l.height; phase = l.phase; signer = l.liar; value = l.batch; proof = proof }
+
+-- the acknowledgement of a liar
+abbrev pub lying_ack : Lie → Ack
+lying_ack l = record { height = l.height; phase = l.phase; signer = l.liar; value = l.batch }

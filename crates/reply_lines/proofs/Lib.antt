@@ -1,0 +1,2 @@
+mod BatchLines
+mod HeightRanges

@@ -1,0 +1,291 @@
+//! The lines that are printed of what is answered.
+ghost use Rattle.std.specs.Prelude.{◌≡◌, ◌++◌, OnOk, codes, decimal};
+ghost use Rattle.std.specs.List.{flat_map};
+ghost use Rattle.std.specs.Option.{option_copied};
+ghost use Rattle.std.specs.Result.{result_map_both};
+ghost use Rattle.reply_lines.specs.Lines.{ended, batch_text_of, cause_text, submit_refusal_text, submitted_text, propose_refusal_text, proposed_text, delivered_text, ended_round_text, last_round_text, decision_lines, codes_text, block_text, nothing_text, found_text, not_held_text, refusal_text, told_text};
+
+use crate::text::Text;
+use abci::Info;
+use ledger_model::{
+    Batch, BlockResult, Height, Ignored, NotHeld, NothingDecided, ProposeRefusal, QueryAnswer,
+    ReplicaId, SubmitRefusal, WorldRefusal,
+};
+use std::alloc::AllocError;
+
+/// The number and the name of a cause.
+pub fn cause_name(cause: Ignored) -> &'static str
+    ensures { result.now ≡ cause_text cause }
+{
+    match cause {
+        Ignored::Malformed => "1 Malformed",
+        Ignored::Signer => "2 Signer",
+        Ignored::NoRow => "3 NoRow",
+        Ignored::WrongRound => "4 WrongRound",
+        Ignored::WrongPhase => "5 WrongPhase",
+        Ignored::NotOwner => "6 NotOwner",
+        Ignored::Repeated => "7 Repeated",
+        Ignored::BadSignature => "8 BadSignature",
+        Ignored::BadProof => "9 BadProof",
+        Ignored::TableFull => "10 TableFull",
+        Ignored::NotMine => "11 NotMine",
+    }
+}
+
+/// The number of a refused proposal.
+fn propose_refusal(refusal: ProposeRefusal) -> &'static str
+    ensures { result.now ≡ propose_refusal_text refusal }
+{
+    match refusal {
+        ProposeRefusal::TooFar => "1",
+        ProposeRefusal::AlreadyOpen => "2",
+        ProposeRefusal::Closed => "3",
+    }
+}
+
+/// The text of a refused step.
+fn refusal_name(refusal: WorldRefusal) -> &'static str
+    ensures { result.now ≡ refusal_text refusal }
+{
+    match refusal {
+        WorldRefusal::NoSuchFrame => "refused 1",
+        WorldRefusal::NoSuchReplica => "refused 2",
+        WorldRefusal::Liar => "refused 3",
+        WorldRefusal::HistoryFull => "refused 4",
+        WorldRefusal::NoMemory => "refused 5",
+    }
+}
+
+/// `refused 2`.
+pub fn add_refusal(out: &mut Text, refusal: WorldRefusal) -> Result<(), AllocError>
+    ensures { OnOk result (out.new ≡ out.old ++ ended (refusal_text refusal)) }
+{
+    out.add(refusal_name(refusal))?;
+    out.add("\n")
+}
+
+/// Why a transaction is not taken.
+fn add_submit_refusal(out: &mut Text, refusal: SubmitRefusal) -> Result<(), AllocError>
+    ensures { OnOk result (out.new ≡ out.old ++ submit_refusal_text refusal) }
+{
+    match refusal {
+        SubmitRefusal::Empty => out.add("1"),
+        SubmitRefusal::TooLong => out.add("2"),
+        SubmitRefusal::Duplicate => out.add("3"),
+        SubmitRefusal::Full => out.add("4"),
+        SubmitRefusal::Rejected(code) => {
+            let text = format!(in out.allocator(); "5 code {code}")?;
+            out.add(&text)
+        }
+    }
+}
+
+/// `submit R ok`, `submit R refused 3`, `submit R refused 5 code 2`.
+pub(crate) fn add_submitted(
+    out: &mut Text,
+    replica: ReplicaId,
+    answer: Result<(), SubmitRefusal>,
+) -> Result<(), AllocError>
+    ensures { OnOk result (out.new ≡ out.old ++ ended (submitted_text replica answer)) }
+{
+    let number = replica.number();
+    let head = format!(in out.allocator(); "submit {number} ")?;
+    out.add(&head)?;
+    match answer {
+        Ok(()) => out.add("ok\n"),
+        Err(refusal) => {
+            out.add("refused ")?;
+            add_submit_refusal(out, refusal)?;
+            out.add("\n")
+        }
+    }
+}
+
+/// `propose R H BATCH`, `propose R H refused 1`.
+pub(crate) fn add_proposed(
+    out: &mut Text,
+    replica: ReplicaId,
+    height: Height,
+    answer: Result<&Batch, ProposeRefusal>,
+) -> Result<(), AllocError>
+    ensures { OnOk result (out.new ≡ out.old ++ ended (proposed_text replica height (result_map_both (λ b. b.now) (λ why. why) answer.entry))) }
+{
+    let number = replica.number();
+    let height = height.number();
+    let head = format!(in out.allocator(); "propose {number} {height} ")?;
+    out.add(&head)?;
+    match answer {
+        Ok(batch) => out.add_batch(batch)?,
+        Err(refusal) => {
+            out.add("refused ")?;
+            out.add(propose_refusal(refusal))?;
+        }
+    }
+    out.add("\n")
+}
+
+/// `deliver R accepted`, `deliver R ignored 7 Repeated`.
+pub(crate) fn add_delivered(
+    out: &mut Text,
+    replica: ReplicaId,
+    answer: Result<(), Ignored>,
+) -> Result<(), AllocError>
+    ensures { OnOk result (out.new ≡ out.old ++ ended (delivered_text replica answer)) }
+{
+    let number = replica.number();
+    let head = format!(in out.allocator(); "deliver {number} ")?;
+    out.add(&head)?;
+    match answer {
+        Ok(()) => out.add("accepted\n"),
+        Err(cause) => {
+            out.add("ignored ")?;
+            out.add(cause_name(cause))?;
+            out.add("\n")
+        }
+    }
+}
+
+/// `end R C sent S`, with ` mute` at its end where the replica is mute.
+pub(crate) fn add_end(
+    out: &mut Text,
+    replica: ReplicaId,
+    clock: u32,
+    sent: usize,
+    is_mute: bool,
+) -> Result<(), AllocError>
+    ensures { OnOk result (out.new ≡ out.old ++ ended (ended_round_text replica clock sent is_mute)) }
+{
+    let number = replica.number();
+    let head = format!(in out.allocator(); "end {number} {clock} sent {sent}")?;
+    out.add(&head)?;
+    out.add(if is_mute { " mute\n" } else { "\n" })
+}
+
+/// `end R last`.
+pub(crate) fn add_last_end(out: &mut Text, replica: ReplicaId) -> Result<(), AllocError>
+    ensures { OnOk result (out.new ≡ out.old ++ ended (last_round_text replica)) }
+{
+    let number = replica.number();
+    let line = format!(in out.allocator(); "end {number} last\n")?;
+    out.add(&line)
+}
+
+/// `decided R H BATCH`, if the height is decided.
+pub(crate) fn add_decision(
+    out: &mut Text,
+    replica: ReplicaId,
+    height: u32,
+    decided: Option<&Batch>,
+) -> Result<(), AllocError>
+    ensures { OnOk result (out.new ≡ out.old ++ decision_lines replica height (option_copied decided.entry)) }
+{
+    let Some(batch) = decided else {
+        return Ok(());
+    };
+    let number = replica.number();
+    let head = format!(in out.allocator(); "decided {number} {height} ")?;
+    out.add(&head)?;
+    out.add_batch(batch)?;
+    out.add("\n")
+}
+
+/// Adds a batch, if there is one.
+fn add_any_batch(out: &mut Text, batch: Option<&Batch>) -> Result<(), AllocError>
+    ensures { OnOk result (out.new ≡ out.old ++ batch_text_of (option_copied batch.entry)) }
+{
+    match batch {
+        Some(batch) => out.add_batch(batch),
+        None => Ok(()),
+    }
+}
+
+/// Adds codes, with a comma before each.
+fn add_more_codes(out: &mut Text, more: &[u32]) -> Result<(), AllocError>
+    ensures { OnOk result (out.new ≡ out.old ++ flat_map (λ code. codes "," ++ decimal code) more.now) }
+{
+    for code in more {
+        let next = format!(in out.allocator(); ",{code}")?;
+        out.add(&next)?;
+    }
+    Ok(())
+}
+
+/// The codes of a block: ` codes 0,0`.
+fn add_codes(out: &mut Text, block: &BlockResult) -> Result<(), AllocError>
+    ensures { OnOk result (out.new ≡ out.old ++ codes_text block.now.codes) }
+{
+    match block.codes.as_slice() {
+        [] => out.add(" codes"),
+        [first, rest @ ..] => {
+            let head = format!(in out.allocator(); " codes {first}")?;
+            out.add(&head)?;
+            add_more_codes(out, rest)
+        }
+    }
+}
+
+/// `execute R H BATCH codes 0,0`, with the batch that was committed.
+pub(crate) fn add_executed(
+    out: &mut Text,
+    replica: ReplicaId,
+    batch: Option<&Batch>,
+    block: &BlockResult,
+) -> Result<(), AllocError>
+    ensures { OnOk result (out.new ≡ out.old ++ ended (block_text replica (option_copied batch.entry) block.now)) }
+{
+    let number = replica.number();
+    let height = block.height.number();
+    let head = format!(in out.allocator(); "execute {number} {height} ")?;
+    out.add(&head)?;
+    add_any_batch(out, batch)?;
+    add_codes(out, block)?;
+    out.add("\n")
+}
+
+/// `execute R nothing`.
+pub(crate) fn add_nothing(out: &mut Text, replica: ReplicaId) -> Result<(), AllocError>
+    ensures { OnOk result (out.new ≡ out.old ++ ended (nothing_text replica)) }
+{
+    let number = replica.number();
+    let line = format!(in out.allocator(); "execute {number} nothing\n")?;
+    out.add(&line)
+}
+
+/// `query R H VALUE`, `query R H absent`.
+pub(crate) fn add_found(
+    out: &mut Text,
+    replica: ReplicaId,
+    answer: &QueryAnswer,
+) -> Result<(), AllocError>
+    ensures { OnOk result (out.new ≡ out.old ++ ended (found_text replica answer.now)) }
+{
+    let number = replica.number();
+    let height = answer.height.number();
+    let head = format!(in out.allocator(); "query {number} {height} ")?;
+    out.add(&head)?;
+    match &answer.value {
+        Some(value) => out.add_bytes(value.as_slice())?,
+        None => out.add("absent")?,
+    }
+    out.add("\n")
+}
+
+/// `query R refused 1`.
+pub(crate) fn add_not_held(out: &mut Text, replica: ReplicaId) -> Result<(), AllocError>
+    ensures { OnOk result (out.new ≡ out.old ++ ended (not_held_text replica)) }
+{
+    let number = replica.number();
+    let line = format!(in out.allocator(); "query {number} refused 1\n")?;
+    out.add(&line)
+}
+
+/// `info R H` and the hash of the application's state.
+pub fn add_info(out: &mut Text, replica: ReplicaId, info: &Info) -> Result<(), AllocError>
+    ensures { OnOk result (out.new ≡ out.old ++ ended (told_text replica info.now)) }
+{
+    let number = replica.number();
+    let height = info.height;
+    let hash = hex::encode(out.allocator(), &info.hash)?;
+    let line = format!(in out.allocator(); "info {number} {height} {hash}\n")?;
+    out.add(&line)
+}
