@@ -95,6 +95,6 @@ module _ {S : Type 0} (m : IndexMap (Vec ℕ Global) (List ℕ) S) (key : Vec �
 pub length-txs : (es : List Kept) → length (txs_of es) ≡ length es
 length-txs es = length-map es (λ (e : Kept). e.1)
 
--- one transaction more of the front
-pub take-next : (txs : List (List ℕ)) (i : ℕ) (tx : List ℕ) → slice_get txs i ≡ Some tx → take (i + 1) txs ≡ take i txs ++ tx ∷ []
-take-next txs i tx at = take_more txs i tx (slice_get_within txs i tx at) ∙ ap (λ (y : List ℕ). take i txs ++ y ∷ []) (get_or_from_slice_get txs i tx tx at)
+-- one element more of the front
+pub take-next : {X : Type 0} (xs : List X) (i : ℕ) (x : X) → slice_get xs i ≡ Some x → take (i + 1) xs ≡ take i xs ++ x ∷ []
+take-next xs i x at = take_more xs i x (slice_get_within xs i x at) ∙ ap (λ y. take i xs ++ y ∷ []) (get_or_from_slice_get xs i x x at)

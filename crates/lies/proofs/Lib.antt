@@ -1,1 +1,1 @@
-mod FirstServing
+pub mod FirstServing

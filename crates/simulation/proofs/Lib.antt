@@ -1,0 +1,6 @@
+pub mod Passing
+pub mod PlayLemmas
+pub mod Ranges
+pub mod Serving
+pub mod StepLemmas
+pub mod StepTargets

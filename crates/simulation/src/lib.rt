@@ -1,0 +1,16 @@
+//! A scenario played on a whole cluster, and what is printed of it.
+//!
+//! A [`Simulation`] is a world whose liars tell the lies of a scenario's commands. [`Simulation::play`] takes one command and
+//! gives its lines; its contract says that what happens is what the command means, and that the lines are those of what
+//! happened.
+#![tactic(auto)]
+
+mod playing;
+mod proving;
+mod rounds;
+mod signing;
+mod simulation;
+mod stepping;
+mod telling;
+
+pub use simulation::Simulation;

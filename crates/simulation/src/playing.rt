@@ -1,0 +1,110 @@
+//! A scenario's commands, one by one.
+ghost use Rattle.std.specs.Prelude.{◌≡◌, IfOk};
+ghost use Rattle.simulation.specs.Playing.{step_of};
+
+use crate::simulation::Simulation;
+use crate::telling::named;
+use abci::Application;
+use ledger_model::{Height, ReplicaId, WorldStep};
+use reply_lines::{Text, add_info, add_refusal};
+use scenario_texts::Command;
+use std::alloc::AllocError;
+
+/// The step of the world that a command is, if it is one.
+fn step_of(command: &Command) -> Result<Option<WorldStep>, AllocError>
+    ensures { IfOk result (λ step. step ≡ step_of command.now) }
+{
+    Ok(match command {
+        Command::Submit { replica, bytes } => {
+            Some(WorldStep::Submit(named(*replica), bytes.clone()?))
+        }
+        Command::Propose { replica, height } => {
+            Some(WorldStep::Propose(named(*replica), *height))
+        }
+        Command::End { replica } => Some(WorldStep::RoundEnd(named(*replica))),
+        Command::Pass { from, index, to } => Some(WorldStep::Pass {
+            from: named(*from),
+            index: *index as usize,
+            to: named(*to),
+        }),
+        Command::Inject { to, bytes } => Some(WorldStep::Inject {
+            to: named(*to),
+            bytes: bytes.clone()?,
+        }),
+        Command::Execute { replica } => Some(WorldStep::Execute(named(*replica))),
+        Command::Query { replica, key } => {
+            let last = Height::new(0);
+            Some(WorldStep::Query(named(*replica), key.copy()?, last))
+        }
+        _ => None,
+    })
+}
+
+impl<A: Application> Simulation<A> {
+    ghost use Rattle.std.specs.Prelude.{◌++◌, None, ℕ, List, OnOk};
+    ghost use Rattle.reply_lines.specs.Lines.{step_text};
+    ghost use Rattle.adversary_net.specs.Clusters.{world_of};
+    ghost use Rattle.simulation.specs.Playing.{Plays, PlaysStep, PlaysOther, GoesOn, info_text};
+
+    /// Takes a step, and adds what is printed of it.
+    fn play_step(&mut self, step: &WorldStep, out: &mut Text) -> Result<(), AllocError>
+        ensures done { OnOk result ((text : List ℕ) × (PlaysStep self.old step.now text self.new × (out.new ≡ out.old ++ text))) }
+        ensures goes_on { GoesOn self.old.cluster self.new.cluster }
+    {
+        self.step(step, out)?;
+        Ok(())
+    }
+
+    /// Adds what the application of a replica tells of itself.
+    fn add_info(&self, replica: ReplicaId, out: &mut Text) -> Result<(), AllocError>
+        ensures { OnOk result (out.new ≡ out.old ++ info_text self.now.cluster.config (world_of self.now.cluster) replica) }
+    {
+        match self.world.info(replica) {
+            Ok(info) => add_info(out, replica, &info),
+            Err(refusal) => add_refusal(out, refusal),
+        }
+    }
+
+    /// Does what a command means that is no step, and adds what is printed of it.
+    #[tactic(auto, using(crate::proofs::StepLemmas::stays))]
+    fn play_other(&mut self, command: &Command, out: &mut Text) -> Result<(), AllocError>
+        requires { step_of command.now ≡ None }
+        ensures done { OnOk result ((text : List ℕ) × (PlaysOther self.old command.now text self.new × (out.new ≡ out.old ++ text))) }
+        ensures goes_on { GoesOn self.old.cluster self.new.cluster }
+    {
+        match command {
+            Command::Info { replica } => self.add_info(named(*replica), out),
+            Command::Silent => self.play_silent(out),
+            Command::Round => self.play_round(out),
+            Command::LieReport(lie) => self.tell_report(lie, out),
+            Command::LieLock(lie) => self.tell_lock(lie, out),
+            Command::LieAck(lie) => self.tell_ack(lie, out),
+            _ => unreachable!(),
+        }
+    }
+
+    /// Does what a command means, and adds what is printed of it.
+    #[tactic(auto, using(crate::proofs::StepLemmas::stays))]
+    fn play_into(&mut self, command: &Command, out: &mut Text) -> Result<(), AllocError>
+        ensures done { OnOk result ((text : List ℕ) × (Plays self.old command.now text self.new × (out.new ≡ out.old ++ text))) }
+        ensures goes_on { GoesOn self.old.cluster self.new.cluster }
+    {
+        match step_of(command)? {
+            Some(step) => self.play_step(&step, out),
+            None => self.play_other(command, out),
+        }
+    }
+
+    /// Does what a command means, and gives what is printed of it: its lines, each with its end.
+    ///
+    /// The only error is want of memory. The steps that were taken by then stay taken.
+    pub fn play(&mut self, command: &Command) -> Result<Text, AllocError>
+        ensures plays { IfOk result (λ text. Plays self.old command.now text self.new) }
+        // Whatever it answers, steps of the definitions lead to what it is.
+        ensures goes_on { GoesOn self.old.cluster self.new.cluster }
+    {
+        let mut text = Text::new(self.allocator());
+        self.play_into(command, &mut text)?;
+        Ok(text)
+    }
+}

@@ -1,0 +1,208 @@
+//! Rounds: each correct replica ends its own, and what was sent is passed on.
+ghost use Rattle.std.specs.Prelude.{◌≡◌, ◌<◌, ◌≤◌, ◌+◌, ◌*◌, ◌^◌, ◌++◌, [], ◌∷◌, map, slice_get, OnOk, IfOk};
+ghost use Rattle.ledger_model.specs.declared.world.WorldStep.TheVariants.{Pass};
+ghost use Rattle.simulation.specs.Playing.{is_for, receivers, passes_from, sent_by};
+
+use crate::simulation::Simulation;
+use abci::Application;
+use ledger_model::{Addressee, ReplicaId, WorldReply, WorldStep};
+use locked_replica::{ReplyView, RoundEndView, State};
+use reply_lines::Text;
+use std::alloc::AllocError;
+
+/// Whether a frame of a replica is for this one.
+fn is_for(from: ReplicaId, addressee: Addressee, replica: ReplicaId) -> bool
+    ensures { result ≡ is_for from addressee replica }
+{
+    match addressee {
+        Addressee::All => replica != from,
+        Addressee::One(receiver) => replica == receiver,
+    }
+}
+
+/// Adds the pass of a frame to a replica, if it is for this one.
+fn add_pass(
+    passes: &mut Vec<WorldStep>,
+    from: ReplicaId,
+    index: usize,
+    addressee: &Addressee,
+    to: ReplicaId,
+) -> Result<(), AllocError>
+    ensures { OnOk result (passes.new.items ≡ passes.old.items ++ map (Pass from index) (receivers (to ∷ []) from addressee.now)) }
+{
+    if !is_for(from, *addressee, to) {
+        return Ok(());
+    }
+    passes.push(WorldStep::Pass { from, index, to })?;
+    Ok(())
+}
+
+/// Adds the passes of one frame, of this index among all that its sender ever sent.
+fn add_passes_of_frame(
+    passes: &mut Vec<WorldStep>,
+    correct: &[ReplicaId],
+    from: ReplicaId,
+    index: usize,
+    addressee: &Addressee,
+) -> Result<(), AllocError>
+    ensures { OnOk result (passes.new.items ≡ passes.old.items ++ map (Pass from index) (receivers correct.now from addressee.now)) }
+{
+    for to in correct {
+        add_pass(passes, from, index, addressee, *to)?;
+    }
+    Ok(())
+}
+
+/// The index of a frame as a step has it. No memory has room for 2^64 frames.
+fn index_of(before: u128, place: usize) -> Result<usize, AllocError>
+    requires { before + place < 2 ^ 128 }
+    ensures { IfOk result (λ index. index ≡ before + place) }
+{
+    usize::try_from(before + place as u128).map_err(|_| AllocError)
+}
+
+/// Adds the passes of a round end's frames, before which its sender had sent so many.
+fn add_passes_of_end(
+    passes: &mut Vec<WorldStep>,
+    correct: &[ReplicaId],
+    from: ReplicaId,
+    before: u128,
+    end: &RoundEndView<'_>,
+) -> Result<(), AllocError>
+    requires { before ≤ 65536 * 2 ^ 64 }
+    ensures { OnOk result (passes.new.items ≡ passes.old.items ++ passes_from correct.now from before end.now.frames) }
+{
+    for place in 0..end.len() {
+        let index = index_of(before, place)?;
+        if let Some(sent) = end.frame(place) {
+            add_passes_of_frame(passes, correct, from, index, &sent.addressee)?;
+        }
+    }
+    Ok(())
+}
+
+/// Adds the passes of an entry's frames, before which its replica had sent so many.
+fn add_passes_of_entry<A: Application>(
+    passes: &mut Vec<WorldStep>,
+    correct: &[ReplicaId],
+    state: &State<A>,
+    before: u128,
+    index: usize,
+) -> Result<(), AllocError>
+    requires { before ≤ 65536 * 2 ^ 64 }
+    ensures { OnOk result (passes.new.items ≡ passes.old.items ++ passes_from correct.now state.now.id before (sent_by (slice_get state.now.entries index))) }
+{
+    match state.entry(index) {
+        Some(entry) => match entry.reply() {
+            ReplyView::RoundEnded(Ok(end)) => {
+                add_passes_of_end(passes, correct, state.id(), before, &end)
+            }
+            _ => Ok(()),
+        },
+        None => Ok(()),
+    }
+}
+
+impl<A: Application> Simulation<A> {
+    ghost use Rattle.std.specs.Prelude.{ℕ, List, IfOk};
+    ghost use Rattle.ledger_model.specs.declared.world.WorldStep.{WorldStep};
+    ghost use Rattle.ledger_model.specs.Worlds.{entries_in, frames_sent};
+    ghost use Rattle.adversary_net.specs.Clusters.{world_of};
+    ghost use Rattle.reply_lines.specs.Lines.{step_text};
+    ghost use Rattle.simulation.specs.Playing.{EndsEach, StepsEach, PlaysRound, PlaysSilent, GoesOn, Ends, passes_of, pass_text};
+
+    /// Adds the passes of what a step sent, before which its replica had sent so many frames.
+    fn add_passes(
+        &self,
+        passes: &mut Vec<WorldStep>,
+        correct: &[ReplicaId],
+        before: u128,
+        answer: &WorldReply,
+    ) -> Result<(), AllocError>
+        requires { before ≤ 65536 * 2 ^ 64 }
+        ensures { OnOk result (passes.new.items ≡ passes.old.items ++ passes_of correct.now before answer.now (world_of self.now.cluster)) }
+    {
+        match answer {
+            WorldReply::Done(replica, index) => match self.world.state(*replica) {
+                Some(state) => add_passes_of_entry(passes, correct, state, before, *index),
+                None => Ok(()),
+            },
+            WorldReply::Refused(_) => Ok(()),
+        }
+    }
+
+    /// One replica ends its round: adds what is printed, and the passes of what it sent.
+    fn end(
+        &mut self,
+        correct: &[ReplicaId],
+        replica: ReplicaId,
+        passes: &mut Vec<WorldStep>,
+        out: &mut Text,
+    ) -> Result<(), AllocError>
+        ensures done { OnOk result (Ends correct.now self.old.cluster replica out.old out.new passes.old.items passes.new.items self.new.cluster) }
+        ensures lies { self.new.lies ≡ self.old.lies }
+        ensures goes_on { GoesOn self.old.cluster self.new.cluster }
+    {
+        let before = self.world.frames_sent(replica);
+        let answer = self.step(&WorldStep::RoundEnd(replica), out)?;
+        self.add_passes(passes, correct, before, &answer)
+    }
+
+    /// Each correct replica ends its round.
+    #[tactic(auto, using(crate::proofs::StepLemmas::stays, crate::proofs::StepLemmas::goes_on, crate::proofs::StepLemmas::ends_snoc))]
+    fn end_each(
+        &mut self,
+        correct: &[ReplicaId],
+        passes: &mut Vec<WorldStep>,
+        out: &mut Text,
+    ) -> Result<(), AllocError>
+        ensures done { OnOk result ((text : List ℕ) × ((more : List WorldStep)
+            × (EndsEach correct.now self.old.cluster correct.now text more self.new.cluster
+            × (out.new ≡ out.old ++ text) × (passes.new.items ≡ passes.old.items ++ more)))) }
+        ensures lies { self.new.lies ≡ self.old.lies }
+        ensures goes_on { GoesOn self.old.cluster self.new.cluster }
+    {
+        for replica in correct {
+            self.end(correct, *replica, passes, out)?;
+        }
+        Ok(())
+    }
+
+    /// Each of these frames is passed.
+    #[tactic(auto, using(crate::proofs::StepLemmas::stays, crate::proofs::StepLemmas::goes_on, crate::proofs::StepLemmas::steps_snoc))]
+    fn pass_each(&mut self, passes: &[WorldStep], out: &mut Text) -> Result<(), AllocError>
+        ensures done { OnOk result ((text : List ℕ)
+            × (StepsEach pass_text self.old.cluster passes.now text self.new.cluster × (out.new ≡ out.old ++ text))) }
+        ensures lies { self.new.lies ≡ self.old.lies }
+        ensures goes_on { GoesOn self.old.cluster self.new.cluster }
+    {
+        for step in passes {
+            self.pass(step, out)?;
+        }
+        Ok(())
+    }
+
+    /// Each correct replica ends its round, and nothing is passed.
+    #[tactic(auto, using(crate::proofs::StepLemmas::stays))]
+    pub(crate) fn play_silent(&mut self, out: &mut Text) -> Result<(), AllocError>
+        ensures done { OnOk result ((text : List ℕ) × (PlaysSilent self.old text self.new × (out.new ≡ out.old ++ text))) }
+        ensures goes_on { GoesOn self.old.cluster self.new.cluster }
+    {
+        let correct = self.correct()?;
+        let mut passes = Vec::new(self.allocator());
+        self.end_each(&correct, &mut passes, out)
+    }
+
+    /// Each correct replica ends its round, and then each frame that was sent is passed to whom it is for.
+    #[tactic(auto, using(crate::proofs::StepLemmas::stays, crate::proofs::StepLemmas::goes_on))]
+    pub(crate) fn play_round(&mut self, out: &mut Text) -> Result<(), AllocError>
+        ensures done { OnOk result ((text : List ℕ) × (PlaysRound self.old.cluster text self.new.cluster × (out.new ≡ out.old ++ text))) }
+        ensures lies { self.new.lies ≡ self.old.lies }
+        ensures goes_on { GoesOn self.old.cluster self.new.cluster }
+    {
+        let correct = self.correct()?;
+        let mut passes = Vec::new(self.allocator());
+        self.end_each(&correct, &mut passes, out)?;
+        self.pass_each(&passes, out)
+    }
+}

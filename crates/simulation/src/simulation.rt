@@ -1,0 +1,91 @@
+//! A cluster that is simulated, and what its liars have signed.
+use abci::Application;
+use adversary_net::{World, WorldFault};
+use bytes::Bytes;
+use cluster_keys::Cluster;
+use ledger_model::ReplicaId;
+use std::alloc::{AllocError, Global};
+use std::hash::RandomState;
+use std::marker::Model;
+
+/// A cluster that is simulated: the world, and the frames of what its liars have signed.
+#[derive(Drop)]
+pub struct Simulation<A: Application> {
+    pub(crate) world: World<A>,
+    pub(crate) lies: Vec<Bytes>,
+}
+
+impl<A: Application> Model for Simulation<A> {
+    ghost use Rattle.simulation.specs.Playing.{Simulated};
+
+    ghost Value = { Simulated };
+
+    ghost view = { λ s. record { cluster = s.world; lies = s.lies.items } };
+}
+
+impl<A: Application> Simulation<A> {
+    ghost use Rattle.std.specs.Prelude.{◌≡◌, ◌<◌, ◌≤◌, ◌↔◌, [], vec_len, length, All, Any, IfOk, IsErrOf};
+    ghost use Rattle.ledger_model.specs.Applications.{run};
+    ghost use Rattle.cluster_keys.specs.Keys.{secret_of};
+    ghost use Rattle.adversary_net.specs.Clusters.{HasRun};
+    ghost use Rattle.adversary_net.specs.Headline.{IsUnforged, IsOneLedger};
+    ghost use Rattle.adversary_net.specs.Openings.{MayLie, new_cluster, correct_without, different};
+    ghost use Rattle.simulation.specs.Playing.{correct_in};
+
+    /// The simulation of a cluster in which these replicas lie, as [`World::new`] makes it. Nothing has happened.
+    pub fn new(
+        alloc: Global,
+        cluster: &Cluster,
+        liars: &[ReplicaId],
+        apps: Vec<A>,
+        randoms: Vec<[RandomState; 2]>,
+    ) -> Result<Self, WorldFault>
+        requires apps { MayLie cluster.now.config liars.now → vec_len apps ≡ length (correct_without cluster.now.config liars.now) }
+        requires randoms { MayLie cluster.now.config liars.now → vec_len randoms ≡ length (correct_without cluster.now.config liars.now) }
+        requires opening { All (λ app. A.machine app ≡ run cluster.now.config.kind []) apps.items }
+        ensures new { IfOk result (λ simulation. simulation ≡ record { cluster = new_cluster cluster.now.config (secret_of cluster.now) liars.now; lies = [] }) }
+        ensures too_many { IsErrOf result WorldFault.TooManyLiars ↔ (cluster.now.config.faults < different liars.now) }
+        ensures no_such { IsErrOf result WorldFault.NoSuchReplica
+            ↔ ((different liars.now ≤ cluster.now.config.faults) × Any (λ r. cluster.now.config.replicas ≤ r) liars.now) }
+    {
+        match World::new(alloc, cluster, liars, apps, randoms) {
+            Ok(world) => Ok(Simulation {
+                world,
+                lies: Vec::new(alloc),
+            }),
+            Err(fault) => Err(fault),
+        }
+    }
+
+    /// The world, as it is now. Whatever was played, it is a run of the definitions from the world with no entries; and where
+    /// nothing that was accepted was forged, it is a run of one sequential ledger.
+    pub fn world(&self) -> &World<A>
+        ensures world { result.now ≡ self.now.cluster }
+        ensures since { HasRun self.now.cluster }
+        ensures one_ledger { IsUnforged self.now.cluster → IsOneLedger self.now.cluster }
+    {
+        // What a world keeps of its run is said where it gives out the order of its entries.
+        let _ = self.world.order();
+        &self.world
+    }
+
+    /// Where its memory comes from.
+    pub(crate) fn allocator(&self) -> Global {
+        *self.lies.allocator()
+    }
+
+    /// The correct replicas, by ascending numbers.
+    #[tactic(auto, using(crate::proofs::Ranges::filter_kept, crate::proofs::Ranges::filter_left))]
+    pub(crate) fn correct(&self) -> Result<Vec<ReplicaId>, AllocError>
+        ensures { IfOk result (λ correct. correct.items ≡ correct_in self.now.cluster) }
+    {
+        let mut correct = Vec::new(self.allocator());
+        for number in 0..self.world.config().replicas {
+            let replica = ReplicaId::new(number);
+            if self.world.state(replica).is_some() {
+                correct.push(replica)?;
+            }
+        }
+        Ok(correct)
+    }
+}

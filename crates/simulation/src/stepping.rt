@@ -1,0 +1,130 @@
+//! One step of a simulation, and what is printed of it.
+ghost use Rattle.std.specs.Prelude.{◌≡◌, slice_get};
+ghost use Rattle.simulation.specs.Playing.{target, is_accepted};
+
+use crate::simulation::Simulation;
+use abci::Application;
+use ledger_model::{ReplicaId, WorldReply, WorldStep};
+use locked_replica::{ReplyView, State};
+use reply_lines::{Text, add_entry, add_refusal, undecided_heights};
+use std::alloc::AllocError;
+use std::slice;
+
+/// The replica that a step is for.
+fn target(step: &WorldStep) -> ReplicaId
+    ensures { result ≡ target step.now }
+{
+    match step {
+        WorldStep::Submit(replica, _)
+        | WorldStep::Propose(replica, _)
+        | WorldStep::RoundEnd(replica)
+        | WorldStep::Execute(replica)
+        | WorldStep::Query(replica, _, _) => *replica,
+        WorldStep::Pass { to, .. } | WorldStep::Inject { to, .. } => *to,
+    }
+}
+
+/// Whether an entry is of a frame that was accepted.
+fn is_accepted<A: Application>(state: &State<A>, index: usize) -> bool
+    ensures { result ≡ is_accepted (slice_get state.now.entries index) }
+{
+    match state.entry(index) {
+        Some(entry) => matches!(entry.reply(), ReplyView::Delivered(Ok(()))),
+        None => false,
+    }
+}
+
+impl<A: Application> Simulation<A> {
+    ghost use Rattle.std.specs.Prelude.{◌++◌, true, IfOk, OnOk};
+    ghost use Rattle.ledger_model.specs.Groups.{is_correct};
+    ghost use Rattle.ledger_model.specs.Worlds.{entries_in};
+    ghost use Rattle.adversary_net.specs.Clusters.{world_of};
+    ghost use Rattle.reply_lines.specs.Lines.{undecided, step_text};
+    ghost use Rattle.simulation.specs.Playing.{IsAnswered, Answers, GoesOn, answer_text, pass_text, is_taken};
+
+    /// The heights that a replica may have open and hasn't decided, if it is correct.
+    fn undecided(&self, replica: ReplicaId) -> Result<Vec<u32>, AllocError>
+        ensures { IfOk result (λ heights. is_correct (world_of self.now.cluster).histories replica ≡ true
+            → heights.items ≡ undecided self.now.cluster.config replica (entries_in (world_of self.now.cluster) replica)) }
+    {
+        match self.world.state(replica) {
+            Some(state) => undecided_heights(self.allocator(), state),
+            None => Ok(Vec::new(self.allocator())),
+        }
+    }
+
+    /// Takes a step, and gives its answer. After an error nothing has changed.
+    fn take(&mut self, step: &WorldStep) -> Result<WorldReply, AllocError>
+        ensures taken { IfOk result (λ answer. IsAnswered self.old.cluster step.now answer self.new.cluster) }
+        ensures lies { self.new.lies ≡ self.old.lies }
+        ensures goes_on { GoesOn self.old.cluster self.new.cluster }
+    {
+        match self.world.run(slice::from_ref(step))?.first() {
+            Some(answer) => Ok(*answer),
+            None => unreachable!(),
+        }
+    }
+
+    /// Whether the answer is of a frame that was accepted.
+    fn is_accepted(&self, answer: &WorldReply) -> bool
+        ensures { result ≡ is_taken answer.now (world_of self.now.cluster) }
+    {
+        match answer {
+            WorldReply::Done(replica, index) => match self.world.state(*replica) {
+                Some(state) => is_accepted(state, *index),
+                None => false,
+            },
+            WorldReply::Refused(_) => false,
+        }
+    }
+
+    /// Adds what is printed of an answer.
+    fn add_answer(
+        &self,
+        out: &mut Text,
+        undecided: &[u32],
+        answer: &WorldReply,
+    ) -> Result<(), AllocError>
+        ensures { OnOk result (out.new ≡ out.old ++ answer_text self.now.cluster.config undecided.now answer.now (world_of self.now.cluster)) }
+    {
+        match answer {
+            WorldReply::Done(replica, index) => match self.world.state(*replica) {
+                Some(state) => add_entry(out, state, undecided, *index),
+                None => Ok(()),
+            },
+            WorldReply::Refused(refusal) => add_refusal(out, *refusal),
+        }
+    }
+
+    /// Takes a pass within a round, and adds what is printed of it: nothing, where the frame is accepted.
+    #[tactic(auto, using(crate::proofs::StepLemmas::stays))]
+    pub(crate) fn pass(&mut self, step: &WorldStep, out: &mut Text) -> Result<(), AllocError>
+        ensures done { OnOk result ((given : WorldReply) × Answers pass_text self.old.cluster step.now given self.new.cluster out.old out.new) }
+        ensures lies { self.new.lies ≡ self.old.lies }
+        ensures goes_on { GoesOn self.old.cluster self.new.cluster }
+    {
+        let undecided = self.undecided(target(step))?;
+        let answer = self.take(step)?;
+        if self.is_accepted(&answer) {
+            return Ok(());
+        }
+        self.add_answer(out, &undecided, &answer)
+    }
+
+    /// Takes a step, and adds what is printed of it. Gives its answer.
+    #[tactic(auto, using(crate::proofs::StepLemmas::stays))]
+    pub(crate) fn step(
+        &mut self,
+        step: &WorldStep,
+        out: &mut Text,
+    ) -> Result<WorldReply, AllocError>
+        ensures done { IfOk result (λ answer. Answers step_text self.old.cluster step.now answer self.new.cluster out.old out.new) }
+        ensures lies { self.new.lies ≡ self.old.lies }
+        ensures goes_on { GoesOn self.old.cluster self.new.cluster }
+    {
+        let undecided = self.undecided(target(step))?;
+        let answer = self.take(step)?;
+        self.add_answer(out, &undecided, &answer)?;
+        Ok(answer)
+    }
+}

@@ -1,0 +1,132 @@
+//! Lies: what liars sign, and to whom it is injected.
+ghost use Rattle.std.specs.Prelude.{◌≡◌, ◌++◌, IfOk, OnOk};
+ghost use Rattle.ledger_model.specs.Spelling.{IsStatement};
+ghost use Rattle.lies.specs.Lies.{lying_report, lying_ack};
+ghost use Rattle.simulation.specs.Playing.{named};
+
+use crate::signing::Signing;
+use crate::simulation::Simulation;
+use abci::Application;
+use key_ring::SignFault;
+use ledger_model::{ReplicaId, Statement, WorldStep};
+use lies::{ack_of, lock_of, report_of};
+use reply_lines::Text;
+use scenario_texts::{Lie, Towards};
+use signed_frames::{Frame, UnsignedFrame};
+use std::alloc::AllocError;
+
+/// The replica that a number names: no cluster has one above 255.
+pub(crate) fn named(number: u32) -> ReplicaId
+    ensures { result ≡ named number }
+{
+    ReplicaId::new(u8::try_from(number).unwrap_or(u8::MAX))
+}
+
+impl<A: Application> Simulation<A> {
+    ghost use Rattle.std.specs.Prelude.{ℕ, List};
+    ghost use Rattle.ledger_model.specs.Spelling.{frame_bytes};
+    ghost use Rattle.ledger_model.specs.declared.statement.Statement.TheVariants as statement;
+    ghost use Rattle.reply_lines.specs.Lines.{step_text};
+    ghost use Rattle.simulation.specs.Playing.{IsSigning, StepsEach, Lies, LiesLock, GoesOn, injections_to, lie_receivers, proof_for};
+
+    /// A liar signs a statement with its next leaf.
+    fn sign(&mut self, liar: ReplicaId, statement: Statement) -> Result<Signing, AllocError>
+        requires { IsStatement statement }
+        ensures done { IfOk result (λ signing. IsSigning self.old.cluster liar statement signing self.new.cluster) }
+        ensures lies { self.new.lies ≡ self.old.lies }
+        ensures goes_on { GoesOn self.old.cluster self.new.cluster }
+    {
+        let unsigned = UnsignedFrame::new(self.allocator(), statement)?;
+        match self.world.sign_as(liar, unsigned.statement_bytes()) {
+            Some(Ok(signature)) => Ok(Signing::Signed(unsigned.with_signature(&signature)?)),
+            Some(Err(SignFault::Exhausted)) => Ok(Signing::Exhausted),
+            Some(Err(SignFault::NoMemory)) => Err(AllocError),
+            None => Ok(Signing::NoLiar),
+        }
+    }
+
+    /// Injects a frame to each of these replicas.
+    #[tactic(auto, using(crate::proofs::StepLemmas::stays, crate::proofs::StepLemmas::goes_on, crate::proofs::StepLemmas::steps_snoc))]
+    fn inject_each(
+        &mut self,
+        receivers: &[ReplicaId],
+        frame: &Frame,
+        out: &mut Text,
+    ) -> Result<(), AllocError>
+        ensures done { OnOk result ((text : List ℕ)
+            × (StepsEach step_text self.old.cluster (injections_to receivers.now (frame_bytes frame.now)) text self.new.cluster × (out.new ≡ out.old ++ text))) }
+        ensures lies { self.new.lies ≡ self.old.lies }
+        ensures goes_on { GoesOn self.old.cluster self.new.cluster }
+    {
+        for receiver in receivers {
+            let step = WorldStep::Inject {
+                to: *receiver,
+                bytes: frame.share()?,
+            };
+            self.step(&step, out)?;
+        }
+        Ok(())
+    }
+
+    /// The replicas to which a lie goes.
+    fn receivers(&self, to: Towards) -> Result<Vec<ReplicaId>, AllocError>
+        ensures { IfOk result (λ receivers. receivers.items ≡ lie_receivers self.now.cluster to) }
+    {
+        match to {
+            Towards::One(number) => Ok(vec![in self.allocator(); named(number)]?),
+            Towards::All => self.correct(),
+        }
+    }
+
+    /// A liar signs the statement of a lie, whose frame is injected.
+    #[tactic(auto, using(crate::proofs::StepLemmas::stays, crate::proofs::StepLemmas::goes_on))]
+    fn tell(&mut self, lie: &Lie, statement: Statement, out: &mut Text) -> Result<(), AllocError>
+        requires { IsStatement statement }
+        ensures done { OnOk result ((text : List ℕ) × (Lies lie.now statement self.old text self.new × (out.new ≡ out.old ++ text))) }
+        ensures goes_on { GoesOn self.old.cluster self.new.cluster }
+    {
+        match self.sign(lie.liar, statement)? {
+            Signing::Signed(frame) => {
+                let receivers = self.receivers(lie.to)?;
+                self.inject_each(&receivers, &frame, out)?;
+                self.lies.push(frame.into_bytes())?;
+                Ok(())
+            }
+            Signing::Exhausted => out.add("exhausted\n"),
+            Signing::NoLiar => Ok(()),
+        }
+    }
+
+    /// A liar signs a report.
+    #[tactic(auto, using(crate::proofs::StepLemmas::stays))]
+    pub(crate) fn tell_report(&mut self, lie: &Lie, out: &mut Text) -> Result<(), AllocError>
+        ensures done { OnOk result ((text : List ℕ) × (Lies lie.now (statement.Report (lying_report lie.now)) self.old text self.new × (out.new ≡ out.old ++ text))) }
+        ensures goes_on { GoesOn self.old.cluster self.new.cluster }
+    {
+        let report = report_of(self.allocator(), lie)?;
+        self.tell(lie, Statement::Report(report), out)
+    }
+
+    /// A liar signs an acknowledgement.
+    #[tactic(auto, using(crate::proofs::StepLemmas::stays))]
+    pub(crate) fn tell_ack(&mut self, lie: &Lie, out: &mut Text) -> Result<(), AllocError>
+        ensures done { OnOk result ((text : List ℕ) × (Lies lie.now (statement.Ack (lying_ack lie.now)) self.old text self.new × (out.new ≡ out.old ++ text))) }
+        ensures goes_on { GoesOn self.old.cluster self.new.cluster }
+    {
+        let ack = ack_of(lie)?;
+        self.tell(lie, Statement::Ack(ack), out)
+    }
+
+    /// A liar signs a lock with the proof that the reports so far make, if they make one.
+    #[tactic(auto, using(crate::proofs::StepLemmas::stays))]
+    pub(crate) fn tell_lock(&mut self, lie: &Lie, out: &mut Text) -> Result<(), AllocError>
+        ensures done { OnOk result ((text : List ℕ) × (LiesLock lie.now (proof_for self.old lie.now) self.old text self.new × (out.new ≡ out.old ++ text))) }
+        ensures goes_on { GoesOn self.old.cluster self.new.cluster }
+    {
+        let Some(proof) = self.proof(lie)? else {
+            return out.add("lie-lock cannot\n");
+        };
+        let lock = lock_of(lie, proof)?;
+        self.tell(lie, Statement::Lock(lock), out)
+    }
+}
