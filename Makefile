@@ -1,4 +1,4 @@
-# demo: a first look, in minutes: compiles the program without any proof, and delivers one report: `accepted`.
+# demo: a first look, in minutes: compiles the program without any proof, and plays a scenario: what was decided and run.
 # prove: proves the crates below the program, and the program, and builds it: crates/abft/out/abft. First the three crates that
 #       stand on no other, since most wait for the largest of them; then those above side by side, each on one processor. A line
 #       for each as it is proved.
@@ -24,10 +24,9 @@ endef
 $(foreach crate,$(crates),$(eval $(call library,$(crate))))
 
 demo:
-	@echo "compiling the program, of which nothing is proved by this (make prove does that): abft sign report | abft deliver"
-	@cd crates/abft && mkdir -p out && { rt try -- sign report >out/report 2>out/said || { tail -n 20 out/said; exit 1; }; }
-	@cd crates/abft && { said=$$(rt try -- deliver <out/report 2>out/said) || { tail -n 20 out/said; exit 1; }; } \
-	    && echo "$$said" && test "$$said" = accepted
+	@echo "compiling the program, of which nothing is proved by this (make prove does that): abft simulate <examples/plain-run.txt"
+	@cd crates/abft && mkdir -p out && { rt try -- simulate <../../examples/plain-run.txt >out/played 2>out/said || { tail -n 20 out/said; exit 1; }; } \
+	    && grep -E '^(decided|execute) ' out/played && cmp out/played ../../examples/plain-run.out
 
 prove:
 	@echo "proving the crates below the program, and the program, on $$(nproc) processors:"
@@ -45,5 +44,6 @@ bench:
 test:
 	@rt ci 2>&1 | tee gate.log | grep -E --line-buffered '^rt: |^[0-9]+ passed, ' || { tail -n 300 gate.log | grep -Ev '^[0-9]+ passed, '; exit 1; }
 	ABFT=$(CURDIR)/crates/abft/out/abft tests/end_to_end.sh
+	ABFT=$(CURDIR)/crates/abft/out/abft tests/scenarios.sh
 	LMS_SPEED=$(CURDIR)/crates/lms_speed/out/lms_speed tests/benchmark.sh
 	tests/documents.sh

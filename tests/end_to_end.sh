@@ -102,7 +102,7 @@ refuses "error: --value is a transaction of 1 to 64 bytes, not '${ones}1'" sign 
 refuses 'error: a word of the command line is not UTF-8' sign report --value $'\xff'
 refuses 'error: a word of the command line is not UTF-8' $'\xff'
 refuses "error: 'abft' requires a subcommand but one was not provided
-  [subcommands: sign, deliver, help]
+  [subcommands: sign, deliver, simulate, help]
 
 Usage: abft <COMMAND>
 
@@ -128,6 +128,31 @@ For more information, try '--help'." sign report --speed 1
 refuses "error: a value is required for '--value <value>' but none was supplied
 
 For more information, try '--help'." deliver --value
+refuses "error: --seed is 64 hexadecimal digits, not '00'" simulate --seed 00
+refuses "error: --seed is 64 hexadecimal digits, not '${ones}1'" simulate --histories --seed "${ones}1"
+refuses "error: unexpected argument '--n' found
+
+Usage: abft simulate [OPTIONS]
+
+For more information, try '--help'." simulate --n 4
+refuses "error: unexpected argument 'scenario' found
+
+Usage: abft simulate [OPTIONS]
+
+For more information, try '--help'." simulate scenario
+refuses "error: unexpected value 'true' for '--histories' found; no more were expected
+
+Usage: abft simulate --histories
+
+For more information, try '--help'." simulate --histories=true
+refuses "error: the argument '--histories' cannot be used multiple times
+
+Usage: abft simulate [OPTIONS]
+
+For more information, try '--help'." simulate --histories --histories
+refuses "error: a value is required for '--seed <seed>' but none was supplied
+
+For more information, try '--help'." simulate --seed
 refuses "error: the argument '--n <n>' cannot be used multiple times
 
 Usage: abft deliver [OPTIONS]
@@ -168,9 +193,10 @@ A Byzantine fault tolerant replicated ledger
 Usage: abft <COMMAND>
 
 Commands:
-  sign     Signs a report or an acknowledgement, and writes its frame to standard output
-  deliver  Delivers the frames of standard input to a replica, and prints what it answers
-  help     Print this message or the help of the given subcommand(s)
+  sign      Signs a report or an acknowledgement, and writes its frame to standard output
+  deliver   Delivers the frames of standard input to a replica, and prints what it answers
+  simulate  Plays the scenario of standard input on a whole cluster, and prints what its replicas answer
+  help      Print this message or the help of the given subcommand(s)
 
 Options:
   -h, --help     Print help
@@ -237,5 +263,51 @@ Exit status:
 EOT
 } >"$room/wanted-out"
 check 'help of deliver' 0 "'$abft' deliver --help"
+cat >"$room/wanted-out" <<'EOT'
+Plays the scenario of standard input on a whole cluster, and prints what its replicas answer
+
+Usage: abft simulate [OPTIONS]
+
+Options:
+      --seed <seed>  The seed of all keys, 64 hexadecimal digits [default: 0000000000000000000000000000000000000000000000000000000000000000]
+      --histories    Writes the histories of the correct replicas, as bytes, in place of the lines
+  -h, --help         Print help
+
+Input, a scenario: the cluster (n, t and the kind of application), liars if any, and the steps:
+  config 4 1 1
+  submit 0 a=1
+  propose 0 1
+  round
+  round
+  execute 0
+
+A step prints its word, its replica and the answer, or 'refused' and a number.
+A round prints its end at each correct replica, what was decided, and which frames were ignored.
+A lie prints what the replicas that it was told made of it, or 'lie-lock cannot', or 'exhausted'.
+With --histories the histories of the correct replicas are written, as bytes, in place of these.
+A text with a bad line prints 'line N bad' alone, with the number of the first one.
+
+Exit status:
+  0  the scenario was played
+  1  'line N bad' was printed, and nothing was played
+  2  a fault of usage
+  3  want of memory, or a failed read or write
+EOT
+check 'help of simulate' 0 "'$abft' simulate --help"
+runs 'the scenario in the help of simulate' 0 'submit 0 ok
+propose 0 1 [a=1]
+end 0 1 sent 1
+end 1 1 sent 0
+end 2 1 sent 0
+end 3 1 sent 0
+deliver 1 ignored 3 NoRow
+deliver 2 ignored 3 NoRow
+deliver 3 ignored 3 NoRow
+end 0 2 sent 0
+end 1 2 sent 0
+end 2 2 sent 0
+end 3 2 sent 0
+execute 0 nothing
+' "'$abft' simulate --help | sed -n '/^Input/,/^$/s/^  //p' | '$abft' simulate"
 
 finish

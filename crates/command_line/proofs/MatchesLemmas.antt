@@ -1,16 +1,24 @@
 -- From the matches of the words to the subcommand that they name.
 use Rattle.std.proofs.Common.{◌≡◌, ◌∙◌, true, List, refl, sym, ap, subst, codes, inl, inr}
-use Rattle.std.specs.Prelude.{◌⊎◌, Option, Some, None, option_map}
+use Rattle.std.specs.Prelude.{◌⊎◌, Option, Some, None, option_map, option_and_then, find}
+use Rattle.std.specs.Str.{bytes_eq}
 use Rattle.std.proofs.lemmas.Option.{same_Some}
+use Rattle.clap.specs.Facts.{Entry}
+use Rattle.clap.specs.Walk.{row_of}
+use Rattle.clap.specs.Matches.{matched_of}
+use Rattle.clap.specs.declared.parser.matches.Found.{Found}
+use Rattle.clap.specs.declared.parser.matches.MatchedArg.{MatchedArg}
+use Rattle.clap.proofs.WalkLemmas.{find-map}
 use Rattle.clap.specs.Words.{App, Row, Text, HasMatchesOf, is_simple, found_of, rows_of, subcommand_of, subcommand_name_of, subcommand_rows_of}
 use Rattle.clap.specs.declared.parser.matches.ArgMatches.{ArgMatches}
 use Rattle.clap.specs.declared.parser.matches.ArgMatches.TheViews.{out-ArgMatches, out-SubCommand}
 use Rattle.std.specs.Box.{box_value}
 use Rattle.clap.proofs.OnLiterals.{clap_on_literals}
 use Rattle.command_line.specs.Grammar.{abft_app}
-use Rattle.command_line.specs.Options.{Sets, SetsSign, SetsDeliver}
+use Rattle.command_line.specs.Options.{Sets, SetsSign, SetsDeliver, SetsSimulate}
 use Rattle.settings.specs.declared.sign.SignSettings.{SignSettings}
 use Rattle.settings.specs.declared.deliver.DeliverSettings.{DeliverSettings}
+use Rattle.settings.specs.declared.simulate.SimulateSettings.{SimulateSettings}
 use Rattle.settings.specs.declared.Settings.{Settings}
 use Rattle.settings.specs.declared.Settings.TheVariants as settings
 
@@ -42,20 +50,40 @@ found_is m name rows named rowed = pair_is (subcommand_rows_of m) name rows (nam
 pub rows_are : (m : ArgMatches) (app : App) (words : List Text) → app ≡ abft_app → HasMatchesOf app words m → subcommand_rows_of m ≡ subcommand_of abft_app words
 rows_are m app words is has = (has (ap is_simple is ∙ abft_is_simple)).1 ∙ ap (λ a. subcommand_of a words) is
 
--- whatever is set is set by a subcommand of one of two names
-named : (o : Option (Text × List Row)) (s : Settings) → Sets o s → (option_map (λ p. p.0) o ≡ Some (codes "sign")) ⊎ (option_map (λ p. p.0) o ≡ Some (codes "deliver"))
+-- the name is one of the three subcommands'
+abbrev pub IsOneOfThree : Option Text → Type 0
+IsOneOfThree name = (name ≡ Some (codes "sign")) ⊎ ((name ≡ Some (codes "deliver")) ⊎ (name ≡ Some (codes "simulate")))
+
+-- whatever is set is set by a subcommand of one of these names
+named : (o : Option (Text × List Row)) (s : Settings) → Sets o s → IsOneOfThree (option_map (λ p. p.0) o)
 named None s sets = absurd sets
 named (Some p) (settings.Sign t) sets = inl (ap (λ n. Some n) sets.0)
-named (Some p) (settings.Deliver t) sets = inr (ap (λ n. Some n) sets.0)
+named (Some p) (settings.Deliver t) sets = inr (inl (ap (λ n. Some n) sets.0))
+named (Some p) (settings.Simulate t) sets = inr (inr (ap (λ n. Some n) sets.0))
 
-pub names_one : (m : ArgMatches) (s : Settings) → Sets (subcommand_rows_of m) s → (subcommand_name_of m ≡ Some (codes "sign")) ⊎ (subcommand_name_of m ≡ Some (codes "deliver"))
-names_one m s sets = subst (λ o. (o ≡ Some (codes "sign")) ⊎ (o ≡ Some (codes "deliver"))) (name_is m) (named (subcommand_rows_of m) s sets)
+pub names_one : (m : ArgMatches) (s : Settings) → Sets (subcommand_rows_of m) s → IsOneOfThree (subcommand_name_of m)
+names_one m s sets = subst IsOneOfThree (name_is m) (named (subcommand_rows_of m) s sets)
 
--- what is set by `sign`, and what by `deliver`
+-- what is set by `sign`, what by `deliver`, and what by `simulate`
 pub sets_sign : {W : Type 0} (rows : List Row) (s : Settings) → ((t : SignSettings) → SetsSign rows t → W) → Sets (Some (codes "sign", rows)) s → W
 sets_sign rows (settings.Sign t) then sets = then t sets.1
 sets_sign rows (settings.Deliver t) then sets = let bad : codes "sign" ≡ codes "deliver" = sets.0 in absurd cc
+sets_sign rows (settings.Simulate t) then sets = let bad : codes "sign" ≡ codes "simulate" = sets.0 in absurd cc
 
 pub sets_deliver : {W : Type 0} (rows : List Row) (s : Settings) → ((t : DeliverSettings) → SetsDeliver rows t → W) → Sets (Some (codes "deliver", rows)) s → W
 sets_deliver rows (settings.Deliver t) then sets = then t sets.1
 sets_deliver rows (settings.Sign t) then sets = let bad : codes "deliver" ≡ codes "sign" = sets.0 in absurd cc
+sets_deliver rows (settings.Simulate t) then sets = let bad : codes "deliver" ≡ codes "simulate" = sets.0 in absurd cc
+
+pub sets_simulate : {W : Type 0} (rows : List Row) (s : Settings) → ((t : SimulateSettings) → SetsSimulate rows t → W) → Sets (Some (codes "simulate", rows)) s → W
+sets_simulate rows (settings.Simulate t) then sets = then t sets.1
+sets_simulate rows (settings.Sign t) then sets = let bad : codes "simulate" ≡ codes "sign" = sets.0 in absurd cc
+sets_simulate rows (settings.Deliver t) then sets = let bad : codes "simulate" ≡ codes "deliver" = sets.0 in absurd cc
+
+-- where an option's value came from, among the entries and among the rows
+pub source_is : (f : Found) (id : Text) → option_and_then (λ a. a.source) (matched_of f id) ≡ option_and_then (λ (r : Row). r.source) (find (λ (r : Row). bytes_eq r.id id) (rows_of f))
+source_is f id = go (find (λ (e : Entry). bytes_eq e.0.now id) f.entries.items) ∙ ap (option_and_then (λ (r : Row). r.source)) (find-map (λ (r : Row). bytes_eq r.id id) row_of f.entries.items)
+  where
+    go : (o : Option Entry) → option_and_then (λ (a : MatchedArg). a.source) (option_map (λ e. e.1) o) ≡ option_and_then (λ (r : Row). r.source) (option_map row_of o)
+    go None = refl
+    go (Some e) = refl

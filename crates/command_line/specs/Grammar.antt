@@ -1,6 +1,7 @@
 -- The command line of the program, in clap's words: which options each subcommand has, and their defaults.
 use Rattle.std.specs.Prelude.{Some, true, List, [], ◌∷◌, codes}
 use Rattle.clap.specs.Words.{App, Rule, Text, new_app, new_rule, with_rule, with_subcommand}
+use Rattle.clap.specs.declared.builder.action.ArgAction.TheVariants.{SetTrue}
 use Rattle.command_line.specs.declared.grammar.ValueOption.{ValueOption}
 
 -- an option with a value: its name, and the value where the words name none
@@ -12,16 +13,20 @@ abbrev pub with_options : App → List ValueOption → App
 with_options a [] = a
 with_options a (o ∷ os) = with_options (with_rule a (option_rule o.name.now o.default.now)) os
 
--- the options of every subcommand
-abbrev pub with_common : App → App
-with_common a =
+-- the seed of all keys, which every subcommand has
+abbrev pub seed_rule : Rule
+seed_rule = option_rule (codes "seed") (codes "0000000000000000000000000000000000000000000000000000000000000000")
+
+-- the options of a cluster, which `abft sign` and `abft deliver` have
+abbrev pub with_cluster : App → App
+with_cluster a =
     with_rule (with_rule (with_rule (with_rule (with_rule (with_rule a
     (option_rule (codes "n") (codes "4")))
     (option_rule (codes "t") (codes "1")))
     (option_rule (codes "kind") (codes "1")))
     (option_rule (codes "w") (codes "4")))
     (option_rule (codes "tree") (codes "5")))
-    (option_rule (codes "seed") (codes "0000000000000000000000000000000000000000000000000000000000000000"))
+    seed_rule
 
 -- what is to be signed: a word that is required
 abbrev pub what_rule : Rule
@@ -38,7 +43,7 @@ with_sign a =
 
 -- `abft sign`: what is signed, and its options
 abbrev pub sign_app : App
-sign_app = with_sign (with_rule (with_common (new_app (codes "sign"))) what_rule)
+sign_app = with_sign (with_rule (with_cluster (new_app (codes "sign"))) what_rule)
 
 -- the options of `abft deliver` alone
 abbrev pub with_deliver : App → App
@@ -51,12 +56,20 @@ with_deliver a =
 
 -- `abft deliver`: its options
 abbrev pub deliver_app : App
-deliver_app = with_deliver (with_common (new_app (codes "deliver")))
+deliver_app = with_deliver (with_cluster (new_app (codes "deliver")))
+
+-- a flag: an option without a value
+abbrev pub flag_rule : Text → Rule
+flag_rule name = record (new_rule name) { long = Some name; action = Some SetTrue }
+
+-- `abft simulate`: the seed, and whether histories are asked for
+abbrev pub simulate_app : App
+simulate_app = with_rule (with_rule (new_app (codes "simulate")) seed_rule) (flag_rule (codes "histories"))
 
 -- a subcommand is required, and `--version` is there
 abbrev pub at_top : App → App
 at_top a = record a { top = record a.top { has_version = true; subcommand_required = true } }
 
--- the program: its two subcommands
+-- the program: its three subcommands
 abbrev pub abft_app : App
-abft_app = with_subcommand (with_subcommand (at_top (new_app (codes "abft"))) sign_app.top) deliver_app.top
+abft_app = with_subcommand (with_subcommand (with_subcommand (at_top (new_app (codes "abft"))) sign_app.top) deliver_app.top) simulate_app.top

@@ -1,9 +1,11 @@
 -- What the words of a command line set: each option by the value that its matches hold, which is its default where the words name none.
-use Rattle.std.specs.Prelude.{◌≡◌, ℕ, true, ◌≤◌, ◌+◌, ◌-◌, ◌*◌, IsTrue, List, length, codes, Option, Some, None, Ok, ◌⊎◌}
+use Rattle.std.specs.Prelude.{◌≡◌, ℕ, true, ◌≤◌, ◌+◌, ◌-◌, ◌*◌, IsTrue, List, length, codes, Option, Some, None, Ok, ◌⊎◌, ◌↔◌, find, option_and_then}
+use Rattle.std.specs.Str.{bytes_eq}
 use Rattle.std.specs.Str.Parse.{digits_value}
 use Rattle.hex.specs.Hex.{decode_sized}
 use Rattle.clap.specs.Words.{Row, Text, first_of, kind_of, subcommand_of, takes}
 use Rattle.clap.specs.declared.error.ErrorKind.TheVariants as kind
+use Rattle.clap.specs.declared.parser.matches.ValueSource.TheVariants.{CommandLine}
 use Rattle.ledger_model.specs.declared.config.AppKind.{AppKind}
 use Rattle.ledger_model.specs.declared.config.AppKind.TheVariants.{KvStore, Counter, Purse}
 use Rattle.lm_ots.specs.Parameters.{bits_of, levels_of}
@@ -13,6 +15,7 @@ use Rattle.command_line.specs.declared.usage_fault.UsageFault.TheVariants as fau
 use Rattle.cluster_keys.specs.declared.cluster.Cluster.{Cluster}
 use Rattle.settings.specs.declared.sign.SignSettings.{SignSettings}
 use Rattle.settings.specs.declared.deliver.DeliverSettings.{DeliverSettings}
+use Rattle.settings.specs.declared.simulate.SimulateSettings.{SimulateSettings}
 use Rattle.settings.specs.declared.Settings.{Settings}
 use Rattle.settings.specs.declared.Settings.TheVariants as settings
 use Rattle.settings.specs.declared.sign.What.{What}
@@ -43,13 +46,17 @@ pub record IsWritten (rows : List Row) (name : Text) (tx : List ℕ) : Type 0 wh
   pub some : 1 ≤ length tx
   pub short : length tx ≤ 64
 
+-- the words name the option: its value is not its default
+abbrev pub IsNamed : List Row → Text → Type 0
+IsNamed rows name = option_and_then (λ r. r.source) (find (λ r. bytes_eq r.id name) rows) ≡ Some CommandLine
+
 -- the number of an application
 abbrev pub number_of : AppKind → ℕ
 number_of KvStore = 1
 number_of Counter = 2
 number_of Purse = 3
 
--- the options of every subcommand
+-- the options of a cluster
 pub record SetsCluster (rows : List Row) (cluster : Cluster) : Type 0 where
   pub n : IsNumber rows (codes "n") 0 255 cluster.config.replicas
   pub t : IsNumber rows (codes "t") 0 255 cluster.config.faults
@@ -83,11 +90,17 @@ pub record SetsDeliver (rows : List Row) (s : DeliverSettings) : Type 0 where
   pub height : IsNumber rows (codes "height") 1 4 s.height
   pub rounds : IsNumber rows (codes "rounds") 0 1 s.rounds
 
+-- the options of `abft simulate` set these settings: histories are asked for where the words name that option
+pub record SetsSimulate (rows : List Row) (s : SimulateSettings) : Type 0 where
+  pub seed : IsSeed rows s.seed
+  pub histories : IsTrue s.histories ↔ IsNamed rows (codes "histories")
+
 -- the subcommand that the words name, and its options
 abbrev pub Sets : Option (Text × List Row) → Settings → Type 0
 Sets None s = ⊥
 Sets (Some found) (settings.Sign s) = (found.0 ≡ codes "sign") × SetsSign found.1 s
 Sets (Some found) (settings.Deliver s) = (found.0 ≡ codes "deliver") × SetsDeliver found.1 s
+Sets (Some found) (settings.Simulate s) = (found.0 ≡ codes "simulate") × SetsSimulate found.1 s
 
 -- the words set this
 abbrev pub IsSet : List Text → Settings → Type 0

@@ -2,9 +2,9 @@
 ghost use Rattle.std.specs.Prelude.{◌≡◌, IfOk, codes, false};
 ghost use Rattle.clap.specs.Words.{app_of, new_app, with_rule};
 ghost use Rattle.clap.specs.declared.builder.command.Command.TheViews.{out-Command as fields_of};
-ghost use Rattle.command_line.specs.Grammar.{option_rule, with_options, sign_app, deliver_app, at_top, abft_app};
+ghost use Rattle.command_line.specs.Grammar.{option_rule, with_options, sign_app, deliver_app, simulate_app, at_top, abft_app};
 
-use clap::{Arg, Command};
+use clap::{Arg, ArgAction, Command};
 use std::alloc::{AllocError, Global};
 
 /// The version that `abft --version` prints.
@@ -36,6 +36,28 @@ Exit status:
   2  a fault of usage
   3  want of memory, a full history, or a failed read or write";
 
+/// The end of `abft simulate --help`.
+const SCENARIO: &str = "\
+Input, a scenario: the cluster (n, t and the kind of application), liars if any, and the steps:
+  config 4 1 1
+  submit 0 a=1
+  propose 0 1
+  round
+  round
+  execute 0
+
+A step prints its word, its replica and the answer, or 'refused' and a number.
+A round prints its end at each correct replica, what was decided, and which frames were ignored.
+A lie prints what the replicas that it was told made of it, or 'lie-lock cannot', or 'exhausted'.
+With --histories the histories of the correct replicas are written, as bytes, in place of these.
+A text with a bad line prints 'line N bad' alone, with the number of the first one.
+
+Exit status:
+  0  the scenario was played
+  1  'line N bad' was printed, and nothing was played
+  2  a fault of usage
+  3  want of memory, or a failed read or write";
+
 /// An option that has a value: its name, its value where the words name none, and its help.
 #[derive(Clone, Copy)]
 struct ValueOption {
@@ -44,8 +66,15 @@ struct ValueOption {
     help: &'static str,
 }
 
-/// The options that every subcommand has.
-const COMMON: [ValueOption; 6] = [
+/// The seed of all keys, which every subcommand has.
+const SEED: ValueOption = ValueOption {
+    name: "seed",
+    default: "0000000000000000000000000000000000000000000000000000000000000000",
+    help: "The seed of all keys, 64 hexadecimal digits",
+};
+
+/// The options of a cluster, which `abft sign` and `abft deliver` have.
+const CLUSTER: [ValueOption; 6] = [
     ValueOption {
         name: "n",
         default: "4",
@@ -71,11 +100,7 @@ const COMMON: [ValueOption; 6] = [
         default: "5",
         help: "Height of a signature tree: 5 or 10",
     },
-    ValueOption {
-        name: "seed",
-        default: "0000000000000000000000000000000000000000000000000000000000000000",
-        help: "The seed of all keys, 64 hexadecimal digits",
-    },
+    SEED,
 ];
 
 /// The options of `abft sign` alone.
@@ -168,7 +193,7 @@ fn sign_command<'a>(alloc: Global) -> Result<Command<'a>, AllocError>
     let command = Command::new(alloc, "sign")
         .about("Signs a report or an acknowledgement, and writes its frame to standard output")
         .after_help(REUSE);
-    let command = with_options(alloc, command, &COMMON)?;
+    let command = with_options(alloc, command, &CLUSTER)?;
     let what = Arg::new(alloc, "what")
         .required(true)
         .help("What to sign: report or ack");
@@ -184,8 +209,26 @@ fn deliver_command<'a>(alloc: Global) -> Result<Command<'a>, AllocError>
     let command = Command::new(alloc, "deliver")
         .about("Delivers the frames of standard input to a replica, and prints what it answers")
         .after_help(LINES);
-    let command = with_options(alloc, command, &COMMON)?;
+    let command = with_options(alloc, command, &CLUSTER)?;
     with_options(alloc, command, &DELIVER)
+}
+
+/// `abft simulate`.
+fn simulate_command<'a>(alloc: Global) -> Result<Command<'a>, AllocError>
+    ensures app { IfOk result (λ c. app_of c ≡ simulate_app) }
+    ensures local { IfOk result (λ c. (fields_of c).has_globals ≡ false) }
+{
+    let command = Command::new(alloc, "simulate")
+        .about(
+            "Plays the scenario of standard input on a whole cluster, and prints what its replicas answer",
+        )
+        .after_help(SCENARIO);
+    let command = with_option(alloc, command, &SEED)?;
+    let histories = Arg::new(alloc, "histories")
+        .long("histories")
+        .action(ArgAction::SetTrue)
+        .help("Writes the histories of the correct replicas, as bytes, in place of the lines");
+    command.arg(histories)
 }
 
 /// The command of the program, without its subcommands.
@@ -206,5 +249,7 @@ pub(crate) fn abft_command<'a>(alloc: Global) -> Result<Command<'a>, AllocError>
     let sign = sign_command(alloc)?;
     let command = top_command(alloc).subcommand(sign)?;
     let deliver = deliver_command(alloc)?;
-    command.subcommand(deliver)
+    let command = command.subcommand(deliver)?;
+    let simulate = simulate_command(alloc)?;
+    command.subcommand(simulate)
 }

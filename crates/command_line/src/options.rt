@@ -1,8 +1,8 @@
 //! The options of a command line, read from its matches.
-ghost use Rattle.std.specs.Prelude.{◌≡◌, ℕ, List, ◌≤◌, ◌-◌, IfOk, IfErr, OnErr, Some, None, codes};
+ghost use Rattle.std.specs.Prelude.{◌≡◌, ◌↔◌, IsTrue, ℕ, List, ◌≤◌, ◌-◌, IfOk, IfErr, OnErr, Some, None, codes};
 ghost use Rattle.clap.specs.Words.{found_of, rows_of, first_of};
 ghost use Rattle.lm_ots.specs.Parameters.{bits_of, levels_of};
-ghost use Rattle.command_line.specs.Options.{IsNumber, IsSeed, IsWritten, SetsCluster, WantsMemory, number_of, word_of};
+ghost use Rattle.command_line.specs.Options.{IsNamed, IsNumber, IsSeed, IsWritten, SetsCluster, WantsMemory, number_of, word_of};
 ghost use Rattle.ledger_model.specs.declared.config.AppKind.{AppKind};
 ghost use Rattle.cluster_keys.specs.declared.cluster.Cluster.{Cluster};
 ghost use Rattle.settings.specs.declared.sign.What.{What};
@@ -11,6 +11,7 @@ ghost use Rattle.lm_ots.specs.declared.params.TreeHeight.{TreeHeight};
 
 use crate::usage_fault::UsageFault;
 use clap::ArgMatches;
+use clap::parser::ValueSource;
 use cluster_keys::Cluster;
 use hex::FromHex;
 use ledger_model::{AppKind, Config, Tx};
@@ -102,8 +103,15 @@ pub(crate) fn what<'a>(matches: &ArgMatches<'a>) -> Result<What, UsageFault<'a>>
     }
 }
 
+/// Whether the words name an option that has no value.
+pub(crate) fn is_named(matches: &ArgMatches<'_>, name: &str) -> bool
+    ensures { IsTrue result ↔ IsNamed (rows_of (found_of matches.now)) name.now }
+{
+    matches.value_source(name) == Some(ValueSource::CommandLine)
+}
+
 /// The option `--seed`.
-fn seed<'a>(matches: &ArgMatches<'a>) -> Result<[u8; 32], UsageFault<'a>>
+pub(crate) fn seed<'a>(matches: &ArgMatches<'a>) -> Result<[u8; 32], UsageFault<'a>>
     ensures some { IfOk result (λ s. IsSeed (rows_of (found_of matches.now)) s) }
     ensures none { OnErr result ((s : List ℕ) → IsSeed (rows_of (found_of matches.now)) s → ⊥) }
 {
@@ -151,7 +159,7 @@ fn kind<'a>(matches: &ArgMatches<'a>) -> Result<AppKind, UsageFault<'a>>
     }
 }
 
-/// The options that every subcommand has.
+/// The options of a cluster.
 pub(crate) fn cluster<'a>(matches: &ArgMatches<'a>) -> Result<Cluster, UsageFault<'a>>
     ensures some { IfOk result (λ c. SetsCluster (rows_of (found_of matches.now)) c) }
     ensures none { OnErr result ((c : Cluster) → SetsCluster (rows_of (found_of matches.now)) c → ⊥) }

@@ -1,18 +1,19 @@
 //! What the words of a command line set.
-ghost use Rattle.std.specs.Prelude.{◌≡◌, map, true, IfOk, IfErr};
+ghost use Rattle.std.specs.Prelude.{◌≡◌, map, true, IfOk, IfErr, OnErr};
 ghost use Rattle.clap.specs.Words.{found_of, rows_of, subcommand_of, subcommand_rows_of, takes};
 ghost use Rattle.command_line.specs.Grammar.{abft_app};
-ghost use Rattle.command_line.specs.Options.{IsSet, Sets, SetsDeliver, SetsSign, WantsMemory};
+ghost use Rattle.command_line.specs.Options.{IsSet, Sets, SetsDeliver, SetsSign, SetsSimulate, WantsMemory};
 ghost use Rattle.settings.specs.declared.sign.SignSettings.{SignSettings};
 ghost use Rattle.settings.specs.declared.deliver.DeliverSettings.{DeliverSettings};
+ghost use Rattle.settings.specs.declared.simulate.SimulateSettings.{SimulateSettings};
 ghost use Rattle.settings.specs.declared.Settings.{Settings};
 
 use crate::grammar::abft_command;
-use crate::options::{cluster, number, small_number, value, what};
+use crate::options::{cluster, is_named, number, seed, small_number, value, what};
 use crate::usage_fault::UsageFault;
 use clap::ArgMatches;
 use ledger_model::{Height, Phase, ReplicaId};
-use settings::{DeliverSettings, Settings, SignSettings};
+use settings::{DeliverSettings, Settings, SignSettings, SimulateSettings};
 use std::alloc::Global;
 
 /// `abft sign`, by its matches.
@@ -61,6 +62,18 @@ fn deliver_settings<'a>(
     })
 }
 
+/// `abft simulate`, by its matches.
+fn simulate_settings<'a>(matches: &ArgMatches<'a>) -> Result<SimulateSettings, UsageFault<'a>>
+    ensures some { IfOk result (λ s. SetsSimulate (rows_of (found_of matches.now)) s) }
+    ensures none { OnErr result ((s : SimulateSettings) → SetsSimulate (rows_of (found_of matches.now)) s → ⊥) }
+{
+    let seed = seed(matches)?;
+    Ok(SimulateSettings {
+        seed,
+        histories: is_named(matches, "histories"),
+    })
+}
+
 /// The matches of the words; the first word is the program's name.
 fn matches_of<'a>(alloc: Global, words: &'a [&'a str]) -> Result<ArgMatches<'a>, UsageFault<'a>>
     ensures found { IfOk result (λ m. subcommand_rows_of m ≡ subcommand_of abft_app (map (λ w. w.now) words.entry.now)) }
@@ -84,6 +97,7 @@ fn settings_of<'a>(alloc: Global, matches: &ArgMatches<'a>) -> Result<Settings, 
     match name {
         "sign" => Ok(Settings::Sign(sign_settings(alloc, options)?)),
         "deliver" => Ok(Settings::Deliver(deliver_settings(alloc, options)?)),
+        "simulate" => Ok(Settings::Simulate(simulate_settings(options)?)),
         _ => Err(UsageFault::NoSubcommand),
     }
 }

@@ -7,3 +7,6 @@ mod PieceLemmas
 mod StreamEnds
 mod DeliveringLemmas
 mod RunningLemmas
+mod SimulatingLemmas
+mod OpeningLemmas
+mod ScenarioLemmas

@@ -5,14 +5,14 @@ use Rattle.std.specs.Io.KnownBytes.{Appends, Keeps}
 use Rattle.std.proofs.KnownBytes.{Appends-kept, Consumes-nil}
 use Rattle.ledger_model.specs.Spelling.{frame_bytes}
 use Rattle.settings.specs.declared.Settings.{Settings}
-use Rattle.settings.specs.declared.Settings.TheVariants.{Sign, Deliver}
+use Rattle.settings.specs.declared.Settings.TheVariants.{Sign, Deliver, Simulate}
 use Rattle.settings.specs.declared.sign.SignSettings.{SignSettings}
 use Rattle.frame_signing.specs.Statements.{signed}
 use Rattle.command_line.specs.declared.usage_fault.UsageFault.{UsageFault}
 use Rattle.command_line.specs.declared.usage_fault.UsageFault.TheVariants as fault
 use Rattle.command_line.specs.Options.{AsksForText, IsRefused, IsSet, WantsMemory}
 use Rattle.program.specs.declared.stream_end.StreamEnd.{StreamEnd}
-use Rattle.program.specs.declared.stream_end.StreamEnd.TheVariants.{Whole, Cut, Fault}
+use Rattle.program.specs.declared.stream_end.StreamEnd.TheVariants.{Whole, Cut, Fault, BadLine}
 use Rattle.program.specs.Writing.{AppendsSome}
 use Rattle.program.specs.Doing.{Begins, Does, DoesSome, Done, Halted, Performs, status_of}
 use Rattle.program.proofs.WritingLemmas.{all_some}
@@ -31,6 +31,7 @@ signed_halted x s unread before after is written =
 does_some : (x : Settings) (input : List ℕ) (end : StreamEnd) (text : List ℕ) → Does x input end text → DoesSome x input text
 does_some (Sign s) input end text does = (does.0, does.1.1)
 does_some (Deliver s) input end text does = inr (end, does)
+does_some (Simulate s) input end text does = inr (end, does)
 
 -- all was written, and then a flush failed
 pub done_halted : (x : Settings) (end : StreamEnd) (unread left before mid after : Option (List ℕ)) → Done x end unread left before mid → Keeps mid after → Halted x unread left before after
@@ -47,6 +48,7 @@ status_small : (end : StreamEnd) → status_of end ≤ 1
 status_small Whole = omega arith
 status_small Cut = omega arith
 status_small (Fault fault) = omega arith
+status_small (BadLine n) = omega arith
 
 -- what was done for settings, and the status of it
 abbrev pub Settled : Settings → ℕ → Option (List ℕ) → Option (List ℕ) → Option (List ℕ) → Option (List ℕ) → Type 0 → Type 0

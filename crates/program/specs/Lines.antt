@@ -1,30 +1,16 @@
--- The lines that `abft deliver` prints.
-use Rattle.std.specs.Prelude.{ℕ, List, [], ◌∷◌, ◌++◌, Result, Ok, Err, codes}
+-- The lines of frames, and of what is wrong with standard input.
+use Rattle.std.specs.Prelude.{ℕ, List, [], ◌∷◌, ◌++◌, Result, Ok, Err, codes, decimal}
 use Rattle.std.specs.List.{flat_map}
 use Rattle.ledger_model.specs.declared.history.Entry.{Entry}
 use Rattle.ledger_model.specs.declared.reply.Reply.{Reply}
 use Rattle.ledger_model.specs.declared.reply.Reply.TheVariants as reply
 use Rattle.ledger_model.specs.declared.reply.Ignored.{Ignored}
-use Rattle.ledger_model.specs.declared.reply.Ignored.TheVariants as cause
+use Rattle.reply_lines.specs.Lines.{cause_text}
 use Rattle.program.specs.declared.line.Line.{Line}
 use Rattle.program.specs.declared.line.Line.TheVariants as line
 use Rattle.program.specs.declared.stream_end.StreamFault.TheVariants as fault
 use Rattle.program.specs.declared.stream_end.StreamEnd.{StreamEnd}
 use Rattle.program.specs.declared.stream_end.StreamEnd.TheVariants as stream
-
--- the number and the name of a cause
-abbrev pub cause_text : Ignored → List ℕ
-cause_text cause.Malformed = codes "1 Malformed"
-cause_text cause.Signer = codes "2 Signer"
-cause_text cause.NoRow = codes "3 NoRow"
-cause_text cause.WrongRound = codes "4 WrongRound"
-cause_text cause.WrongPhase = codes "5 WrongPhase"
-cause_text cause.NotOwner = codes "6 NotOwner"
-cause_text cause.Repeated = codes "7 Repeated"
-cause_text cause.BadSignature = codes "8 BadSignature"
-cause_text cause.BadProof = codes "9 BadProof"
-cause_text cause.TableFull = codes "10 TableFull"
-cause_text cause.NotMine = codes "11 NotMine"
 
 -- a line, without its end
 abbrev pub line_text : Line → List ℕ
@@ -33,6 +19,7 @@ line_text (line.Ignored cause) = codes "ignored " ++ cause_text cause
 line_text (line.Fault fault.TooLong) = codes "fault 1 TooLong"
 line_text (line.Fault fault.Malformed) = codes "fault 2 Malformed"
 line_text line.Cut = codes "cut"
+line_text (line.BadLine n) = codes "line " ++ decimal n ++ codes " bad"
 
 -- a line and its end
 abbrev pub ended : Line → List ℕ
@@ -56,8 +43,9 @@ reply_text (reply.Queried r) = []
 abbrev pub lines_of : List Entry → List ℕ
 lines_of entries = flat_map (λ e. reply_text e.reply) entries
 
--- the last line, which says what is wrong with the stream
+-- the last line, which says what is wrong with standard input
 abbrev pub last_line : StreamEnd → List ℕ
 last_line stream.Whole = []
 last_line stream.Cut = ended line.Cut
 last_line (stream.Fault f) = ended (line.Fault f)
+last_line (stream.BadLine n) = ended (line.BadLine n)

@@ -16,7 +16,7 @@ use Rattle.settings.specs.declared.deliver.DeliverSettings.{DeliverSettings}
 use Rattle.program.specs.declared.stream_end.StreamFault.{StreamFault}
 use Rattle.program.specs.declared.stream_end.StreamFault.TheVariants.{TooLong, Malformed}
 use Rattle.program.specs.declared.stream_end.StreamEnd.{StreamEnd}
-use Rattle.program.specs.declared.stream_end.StreamEnd.TheVariants.{Whole, Cut, Fault}
+use Rattle.program.specs.declared.stream_end.StreamEnd.TheVariants.{Whole, Cut, Fault, BadLine}
 use Rattle.program.specs.Lines.{lines_of, last_line}
 use Rattle.program.specs.Writing.{AppendsSome}
 use Rattle.program.specs.Answering.{Answers, AnswersSome, deliveries, starting}
@@ -31,12 +31,14 @@ abbrev pub Stands : List ℕ → List SignedStatement → StreamEnd → Type 0
 Stands input frames Whole = SplitsTo input frames []
 Stands input frames Cut = (rest : List ℕ) × (SplitsTo input frames rest × (1 ≤ length rest))
 Stands input frames (Fault fault) = Breaks fault input frames
+Stands input frames (BadLine n) = ⊥
 
 -- to find such an end all that there is was read; of what is behind a fault some may be left
 abbrev pub IsReadTo : StreamEnd → Option (List ℕ) → Type 0
 IsReadTo Whole left = IsAtEnd left
 IsReadTo Cut left = IsAtEnd left
 IsReadTo (Fault fault) left = Unit {0}
+IsReadTo (BadLine n) left = IsAtEnd left
 
 -- a reader's fault as that of the stream
 abbrev pub IsTold : FrameFault → StreamFault → Type 0

@@ -1,13 +1,10 @@
 //! `abft deliver`: a replica, and the frames of a stream that are delivered to it.
 ghost use Rattle.std.specs.Prelude.{MatchResult};
 ghost use Rattle.settings.specs.declared.Settings.TheVariants.{Deliver};
-ghost use Rattle.program.specs.Lines.{last_line};
-ghost use Rattle.program.specs.Writing.{Writes};
 ghost use Rattle.program.specs.Doing.{Done, Halted};
 
 use crate::frame_stream::deliver_pieces;
-use crate::line::Line;
-use crate::printing::print_line;
+use crate::printing::print_end;
 use crate::program_fault::ProgramFault;
 use crate::replica::{new_replica, start};
 use crate::stream_end::StreamEnd;
@@ -16,17 +13,6 @@ use signed_frames::FrameReader;
 use std::alloc::Global;
 use std::hash::RandomState;
 use std::io::{Read, Write};
-
-/// Writes the line that says what is wrong with the stream, if anything is.
-fn print_end<W: Write>(alloc: Global, writer: &mut W, end: StreamEnd) -> Result<(), ProgramFault>
-    ensures { Writes result (W.contents writer.old) (W.contents writer.new) (last_line end) }
-{
-    match end {
-        StreamEnd::Whole => Ok(()),
-        StreamEnd::Cut => print_line(alloc, writer, Line::Cut),
-        StreamEnd::Fault(fault) => print_line(alloc, writer, Line::Fault(fault)),
-    }
-}
 
 /// Delivers the frames of a stream to the replica of the settings, and writes a line for each; the last line says what is
 /// wrong with the stream, if anything is. The random keys are those of the replica's hashes.

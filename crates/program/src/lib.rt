@@ -8,6 +8,7 @@ mod printing;
 mod program_fault;
 mod replica;
 mod running;
+mod simulating;
 mod stream_end;
 
 pub use running::{refuse_words, run};

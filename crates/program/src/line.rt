@@ -1,12 +1,13 @@
-//! The lines that `abft deliver` prints.
+//! The lines of frames and of faults in standard input.
 ghost use Rattle.std.specs.Prelude.{◌≡◌, Some};
-ghost use Rattle.program.specs.Lines.{cause_text, line_of, line_text};
+ghost use Rattle.program.specs.Lines.{line_of, line_text};
 
 use crate::stream_end::StreamFault;
 use ledger_model::Ignored;
+use reply_lines::cause_name;
 use std::fmt;
 
-/// A line of `abft deliver`.
+/// A line of `abft deliver`, or what is wrong with the text of `abft simulate`.
 #[derive(Clone, Copy, Debug, PartialEq, Eq)]
 pub(crate) enum Line {
     /// The frame was read.
@@ -17,6 +18,8 @@ pub(crate) enum Line {
     Fault(StreamFault),
     /// The stream ends within a frame.
     Cut,
+    /// The line of this number is bad.
+    BadLine(u32),
 }
 
 impl Line {
@@ -31,35 +34,17 @@ impl Line {
     }
 }
 
-/// The number and the name of a cause.
-fn number_and_name(cause: Ignored) -> &'static str
-    ensures { result.now ≡ cause_text cause }
-{
-    match cause {
-        Ignored::Malformed => "1 Malformed",
-        Ignored::Signer => "2 Signer",
-        Ignored::NoRow => "3 NoRow",
-        Ignored::WrongRound => "4 WrongRound",
-        Ignored::WrongPhase => "5 WrongPhase",
-        Ignored::NotOwner => "6 NotOwner",
-        Ignored::Repeated => "7 Repeated",
-        Ignored::BadSignature => "8 BadSignature",
-        Ignored::BadProof => "9 BadProof",
-        Ignored::TableFull => "10 TableFull",
-        Ignored::NotMine => "11 NotMine",
-    }
-}
-
 impl fmt::Display for Line {
     ghost output = { λ line. Some (line_text line) };
 
     fn fmt<W: fmt::Write>(&self, f: &mut fmt::Formatter<W>) -> fmt::Result {
         match self {
             Line::Accepted => write!(f, "accepted"),
-            Line::Ignored(cause) => write!(f, "ignored {}", number_and_name(*cause)),
+            Line::Ignored(cause) => write!(f, "ignored {}", cause_name(*cause)),
             Line::Fault(StreamFault::TooLong) => write!(f, "fault 1 TooLong"),
             Line::Fault(StreamFault::Malformed) => write!(f, "fault 2 Malformed"),
             Line::Cut => write!(f, "cut"),
+            Line::BadLine(number) => write!(f, "line {number} bad"),
         }
     }
 }

@@ -1,11 +1,12 @@
 //! Texts that are printed, each by one write if the writer takes it whole.
 ghost use Rattle.std.specs.Prelude.{◌≤◌, [], length, take, IfOk, MatchResult};
 ghost use Rattle.std.specs.Io.KnownBytes.{Appends};
-ghost use Rattle.program.specs.Lines.{ended};
+ghost use Rattle.program.specs.Lines.{ended, last_line};
 ghost use Rattle.program.specs.Writing.{Writes};
 
 use crate::line::Line;
 use crate::program_fault::ProgramFault;
+use crate::stream_end::StreamEnd;
 use std::alloc::Global;
 use std::fmt::Display;
 use std::io::{self, ErrorKind, Write};
@@ -56,6 +57,22 @@ pub(crate) fn print_line<W: Write>(
     let text = format!(in alloc; "{line}\n")?;
     write_whole(writer, text.as_bytes())?;
     Ok(())
+}
+
+/// Writes the line that says what is wrong with standard input, if anything is.
+pub(crate) fn print_end<W: Write>(
+    alloc: Global,
+    writer: &mut W,
+    end: StreamEnd,
+) -> Result<(), ProgramFault>
+    ensures { Writes result (W.contents writer.old) (W.contents writer.new) (last_line end) }
+{
+    match end {
+        StreamEnd::Whole => Ok(()),
+        StreamEnd::Cut => print_line(alloc, writer, Line::Cut),
+        StreamEnd::Fault(fault) => print_line(alloc, writer, Line::Fault(fault)),
+        StreamEnd::BadLine(number) => print_line(alloc, writer, Line::BadLine(number)),
+    }
 }
 
 /// Writes the text and the end of its last line.

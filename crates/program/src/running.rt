@@ -13,6 +13,7 @@ ghost use Rattle.program.specs.Doing.{Begins, Done, Halted, Performs, status_of}
 use crate::delivering::deliver;
 use crate::printing::{complain, print, write_whole};
 use crate::program_fault::ProgramFault;
+use crate::simulating::simulate;
 use crate::stream_end::StreamEnd;
 use command_line::{UsageFault, settings};
 use frame_signing::signed_frame;
@@ -24,7 +25,7 @@ use std::random::RandomSource;
 
 /// All was done.
 const DONE: u8 = 0;
-/// The input was cut, or no stream of frames.
+/// The input was cut, no stream of frames, or no scenario.
 const BAD_INPUT: u8 = 1;
 /// The words are no command line.
 const BAD_USAGE: u8 = 2;
@@ -136,6 +137,7 @@ fn perform<S: RandomSource, R: Read, W: Write>(
             let randoms = [RandomState::new(source)?, RandomState::new(source)?];
             deliver(alloc, settings, randoms, reader, writer)
         }
+        Settings::Simulate(settings) => simulate(source, alloc, settings, reader, writer),
     }
 }
 
@@ -188,7 +190,7 @@ fn finish<F: Write>(alloc: Global, done: Result<StreamEnd, ProgramFault>, faults
 {
     match done {
         Ok(StreamEnd::Whole) => DONE,
-        Ok(StreamEnd::Cut | StreamEnd::Fault(_)) => BAD_INPUT,
+        Ok(StreamEnd::Cut | StreamEnd::Fault(_) | StreamEnd::BadLine(_)) => BAD_INPUT,
         Err(fault) => {
             let _ = complain(alloc, faults, &fault);
             STOPPED

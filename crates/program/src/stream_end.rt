@@ -1,4 +1,4 @@
-//! Where a stream of frames ends.
+//! How standard input ends.
 
 /// What stands where a frame should begin.
 #[derive(Clone, Copy, Debug, PartialEq, Eq)]
@@ -9,7 +9,7 @@ pub(crate) enum StreamFault {
     Malformed,
 }
 
-/// What stands behind the last frame of a stream.
+/// What stands behind the last frame of a stream, or the first bad line of a text.
 #[derive(Clone, Copy, Debug, PartialEq, Eq)]
 pub(crate) enum StreamEnd {
     /// Nothing.
@@ -18,4 +18,6 @@ pub(crate) enum StreamEnd {
     Cut,
     /// What begins no frame.
     Fault(StreamFault),
+    /// A line of this number, from 1 on, that no scenario has there.
+    BadLine(u32),
 }

@@ -3,13 +3,16 @@
 
 mod deliver;
 mod sign;
+mod simulate;
 
 pub use deliver::DeliverSettings;
 pub use sign::{SignSettings, What};
+pub use simulate::SimulateSettings;
 
 /// What the words of a command line ask for.
 #[derive(Drop)]
 pub enum Settings {
     Sign(SignSettings),
     Deliver(DeliverSettings),
+    Simulate(SimulateSettings),
 }

@@ -7,4 +7,5 @@ use Rattle.command_line.proofs.grammar.abft_command.Goals as goal
 pub returns : goal.returns
 returns c =
     let one = one_more_command _ _ _ _ _ c.top_command.ensures (ap (λ (a : App). a.top) c.in_ok-sign.ensures.app) (c.in_ok-command.ensures.shape c.in_ok-sign.ensures.local) in
-    IfOk-weaker c.subcommand-2.result _ _ (λ x adds. one_more_command _ _ _ _ _ one (ap (λ (a : App). a.top) c.in_ok-deliver.ensures.app) (adds.shape c.in_ok-deliver.ensures.local)) c.subcommand-2.ensures
+    let two = one_more_command _ _ _ _ _ one (ap (λ (a : App). a.top) c.in_ok-deliver.ensures.app) (c.in_ok-command-2.ensures.shape c.in_ok-deliver.ensures.local) in
+    IfOk-weaker c.subcommand-3.result _ _ (λ x adds. one_more_command _ _ _ _ _ two (ap (λ (a : App). a.top) c.in_ok-simulate.ensures.app) (adds.shape c.in_ok-simulate.ensures.local)) c.subcommand-3.ensures

@@ -4,7 +4,8 @@ use Rattle.clap.specs.Words.{Row, found_of, rows_of, subcommand_rows_of}
 use Rattle.command_line.specs.Options.{Sets, WantsMemory}
 use Rattle.settings.specs.declared.Settings.{Settings}
 use Rattle.settings.specs.declared.Settings.TheVariants as settings
-use Rattle.command_line.proofs.MatchesLemmas.{found_is, names_one, sets_sign, sets_deliver}
+use Rattle.command_line.proofs.MatchesLemmas.{found_is, names_one, sets_sign, sets_deliver, sets_simulate}
+use Rattle.command_line.proofs.NumberLemmas.{if_err}
 use Rattle.clap.proofs.TakesLemmas.{passed_up}
 use Rattle.command_line.proofs.settings_of_words.settings_of.Goals as goal
 
@@ -38,9 +39,23 @@ returns-in_err-deliver_settings-in-deliver-clause-refused c =
     c.from_residual-in_err-deliver_settings-in-deliver.ensures.1
     (λ s sets. sets_deliver rows s c.in_err-deliver_settings-in-deliver.ensures.none (subst (λ o. Sets o s) found sets))
 
+pub returns-in_ok-simulate_settings-in-simulate-clause-set : goal.returns-in_ok-simulate_settings-in-simulate-clause-set
+returns-in_ok-simulate_settings-in-simulate-clause-set c =
+    let rows : List Row = rows_of (found_of c.in-Some.options.now) in
+    let found = found_is c.args.matches.now (codes "simulate") rows (search (rules, c.in-simulate.is, c.in-Some.ensures.name)) c.in-Some.ensures.rows in
+    subst (λ o. Sets o (settings.Simulate c.in_ok-simulate_settings-in-simulate.field-0)) (sym found) (refl, c.in_ok-simulate_settings-in-simulate.ensures.some)
+
+pub returns-in_err-simulate_settings-in-simulate-clause-refused : goal.returns-in_err-simulate_settings-in-simulate-clause-refused
+returns-in_err-simulate_settings-in-simulate-clause-refused c =
+    let rows : List Row = rows_of (found_of c.in-Some.options.now) in
+    let found = found_is c.args.matches.now (codes "simulate") rows (search (rules, c.in-simulate.is, c.in-Some.ensures.name)) c.in-Some.ensures.rows in
+    if_err {P = λ e. (s : Settings) → Sets (subcommand_rows_of c.args.matches.now) s → WantsMemory e} _
+    (λ e s sets. sets_simulate rows s (λ t ts. absurd (c.in_err-simulate_settings-in-simulate.ensures.none t ts)) (subst (λ o. Sets o s) found sets))
+
 pub returns-in_default-name-clause-refused : goal.returns-in_default-name-clause-refused
 returns-in_default-name-clause-refused c = λ s sets.
     elim (names_one c.args.matches.now s sets) [
       | inl h ↦ c.in_default-name.not-sign (same_Some c.in-Some.name.now (codes "sign") (c.in-Some.ensures.name ∙ h))
-      | inr h ↦ c.in_default-name.not-deliver (same_Some c.in-Some.name.now (codes "deliver") (c.in-Some.ensures.name ∙ h))
+      | inr (inl h) ↦ c.in_default-name.not-deliver (same_Some c.in-Some.name.now (codes "deliver") (c.in-Some.ensures.name ∙ h))
+      | inr (inr h) ↦ c.in_default-name.not-simulate (same_Some c.in-Some.name.now (codes "simulate") (c.in-Some.ensures.name ∙ h))
     ]

@@ -1,0 +1,9 @@
+use Rattle.clap.specs.Words.{found_of, rows_of}
+use Rattle.command_line.specs.Options.{SetsSimulate}
+use Rattle.settings.specs.declared.simulate.SimulateSettings.{SimulateSettings}
+use Rattle.command_line.proofs.NumberLemmas.{on_err}
+use Rattle.command_line.proofs.settings_of_words.simulate_settings.Goals as goal
+
+pub returns-in_err-seed-clause-none : goal.returns-in_err-seed-clause-none
+returns-in_err-seed-clause-none c =
+    on_err {X = (s : SimulateSettings) → SetsSimulate (rows_of (found_of c.args.matches.now)) s → ⊥} _ (λ s i. c.in_err-seed.ensures.none s.seed i.seed)
