@@ -25,7 +25,7 @@ $(foreach crate,$(crates),$(eval $(call library,$(crate))))
 
 demo:
 	@echo "compiling the program, of which nothing is proved by this (make prove does that): abft simulate <examples/plain-run.txt"
-	@cd crates/abft && mkdir -p out && { rt try -- simulate <../../examples/plain-run.txt >out/played 2>out/said || { tail -n 20 out/said; exit 1; }; } \
+	@cd crates/abft && mkdir -p out && { rt try --seconds 600 -- simulate <../../examples/plain-run.txt >out/played 2>out/said || { tail -n 20 out/said; exit 1; }; } \
 	    && grep -E '^(decided|execute) ' out/played && cmp out/played ../../examples/plain-run.out
 
 prove:
