@@ -120,3 +120,42 @@ fn the_words_of_deliver_set_each_option(rt: HostRuntime) {
     assert_eq!(rt; deliver.rounds, 0);
     assert_eq!(rt; deliver.value.as_bytes(), b"a=1".as_slice());
 }
+
+#[test]
+fn the_words_of_simulate_set_each_option(rt: HostRuntime) {
+    let words = [
+        "abft",
+        "simulate",
+        "--seed",
+        "0101010101010101010101010101010101010101010101010101010101010101",
+        "--histories",
+    ];
+    let Ok(Settings::Simulate(simulate)) = settings(rt.alloc(), &words) else {
+        panic!(rt; "the words are a command line");
+    };
+    assert_eq!(rt; simulate.seed, [1; 32]);
+    assert_eq!(rt; simulate.histories, true);
+}
+
+/// Whether `abft simulate` with this word is asked for histories, if it takes the word.
+fn asks_for_histories(alloc: Global, word: &str) -> Option<bool> {
+    let words = ["abft", "simulate", word];
+    let Ok(Settings::Simulate(simulate)) = settings(alloc, &words) else {
+        return None;
+    };
+    Some(simulate.histories)
+}
+
+#[test]
+fn histories_are_asked_for_by_their_option_alone(rt: HostRuntime) {
+    let ones = "--seed=0101010101010101010101010101010101010101010101010101010101010101";
+    for (word, asked) in [
+        ("--histories", Some(true)),
+        (ones, Some(false)),
+        ("--histories=true", None),
+        ("--seed=01", None),
+        ("--n=4", None),
+    ] {
+        assert_eq!(rt; asks_for_histories(rt.alloc(), word), asked, "at '{word}'");
+    }
+}
