@@ -1,25 +1,12 @@
 -- Chains step by step.
-use Rattle.std.proofs.Common.{◌≡◌, ◌≤◌, ℕ, map, zero, suc, ◌+◌, ◌-◌, List, [], ◌∷◌, ◌++◌, length, refl, sym, ap, ◌∙◌, arith}
-use Rattle.std.proofs.lemmas.List.{flat_map_more}
+use Rattle.std.proofs.Common.{◌≡◌, ◌≤◌, ℕ, zero, suc, ◌+◌, ◌%◌, List, [], ◌∷◌, ◌++◌, length, take, drop, map, slice_index, refl, sym, ap, ◌∙◌, arith}
+use Rattle.std.proofs.lemmas.List.{take_at, drop_at, get_or_at, drop_more, take-append-drop, length-append, append_assoc}
 use Rattle.std.specs.Int.{w16, w32, to_be_bytes}
-use Rattle.sha2.proofs.Facts256.{length-sha256}
 use Rattle.std.specs.List.{flat_map, range_with_len}
-use Rattle.ledger_model.specs.Signatures.{chain, chain_start, randomizer}
-use Rattle.lm_ots.specs.Steps.{leaf_in, walk, stepped}
-
--- steps over the bytes that name a chain are steps of that chain
-pub walk-chain : (id : List ℕ) (q i j n : ℕ) (value : List ℕ) → walk (id ++ to_be_bytes w32 q ++ to_be_bytes w16 i) j n value ≡ chain id q i j n value
-unfolding walk chain
-walk-chain id q i j zero value = refl
-walk-chain id q i j (suc n) value = walk-chain id q i (j + 1) n _
-
--- one step more
-pub walk-more : (place : List ℕ) (j n : ℕ) (value : List ℕ) → walk place j (suc n) value ≡ stepped place (j + n) (walk place j n value)
-unfolding walk
-walk-more place j zero value = let e : j + 0 ≡ j = omega arith in rw e
-walk-more place j (suc n) value =
-    let e : j + 1 + n ≡ j + suc n = omega arith in
-    walk-more place (j + 1) n (stepped place j value) ∙ ap (λ k. stepped place k (walk place (j + 1) n (stepped place j value))) e
+use Rattle.sha2.specs.Sha256.{sha256}
+use Rattle.sha2.proofs.Facts256.{length-sha256}
+use Rattle.ledger_model.specs.Signatures.{chain, chain_start}
+use Rattle.lm_ots.specs.Steps.{place_in, step_in, value_in, rest_of, walk, stepped, IsNext}
 
 -- steps after steps
 pub chain-append : (id : List ℕ) (q i j m n : ℕ) (value : List ℕ) → chain id q i (j + m) n (chain id q i j m value) ≡ chain id q i j (m + n) value
@@ -39,47 +26,55 @@ unfolding chain
 length-chain id q i j zero value whole = whole
 length-chain id q i j (suc n) value whole = length-chain id q i (j + 1) n _ (length-sha256 _)
 
--- no step
-pub walk-none : (place : List ℕ) (j : ℕ) (value : List ℕ) → value ≡ walk place j (j - j) value
+-- steps over the bytes that name a chain, none of which comes after step 255, are steps of that chain
+pub walk-chain : (id : List ℕ) (q i j n : ℕ) (value : List ℕ) → j + n ≤ 256 → walk (id ++ to_be_bytes w32 q ++ to_be_bytes w16 i) j n value ≡ chain id q i j n value
+unfolding walk chain
+walk-chain id q i j zero value inside = refl
+walk-chain id q i j (suc zero) value inside = refl
+walk-chain id q i j (suc (suc n)) value inside =
+    let next : (j + 1) % 256 ≡ j + 1 = omega arith in
+    ap (λ k. walk (id ++ to_be_bytes w32 q ++ to_be_bytes w16 i) k (suc n) (stepped (id ++ to_be_bytes w32 q ++ to_be_bytes w16 i) j value)) next
+    ∙ walk-chain id q i (j + 1) (suc n) _ (omega arith)
+
+-- steps from the one that makes the chain's beginning of the seed
+pub walk-begun : (id seed : List ℕ) (q i n : ℕ) → n ≤ 255 → walk (id ++ to_be_bytes w32 q ++ to_be_bytes w16 i) 255 (n + 1) seed ≡ chain id q i 0 n (chain_start id seed q i)
+unfolding walk chain_start
+walk-begun id seed q i n inside =
+    let place = id ++ to_be_bytes w32 q ++ to_be_bytes w16 i in
+    let one : n + 1 ≡ suc n = omega arith in
+    ap (λ k. walk place 255 k seed) one ∙ walk-chain id q i 0 n _ (omega arith)
+
+-- a message is its place, its step and its value
+message-parts : (m : List ℕ) → length m ≡ 55 → place_in m ++ (step_in m ∷ []) ++ value_in m ≡ m
+message-parts m whole =
+    append_assoc (take 22 m) (slice_index m 22 ∷ []) (drop 23 m) ∙ ap (λ zs. take 22 m ++ zs) (sym (drop_more m 22 0 (omega arith))) ∙ take-append-drop 22 m
+
+-- one step less is left in the next message
+pub rest-next : (before after : List ℕ) (n : ℕ) → IsNext before after → rest_of after n ≡ rest_of before (suc n)
 unfolding walk
-walk-none place j value = let e : j - j ≡ 0 = omega arith in rw e
+rest-next before after n m =
+    (λ i. walk (m.place i) (m.step i) n (m.value i))
+    ∙ ap (λ v. walk (place_in before) ((step_in before + 1) % 256) n (sha256 v)) (sym (message-parts before m.whole))
 
--- the step j, after those from k up to j
-pub walk-next : (place place' : List ℕ) (k j : ℕ) (start value next : List ℕ) → k ≤ j → place' ≡ place → value ≡ walk place k (j - k) start → next ≡ stepped place' j value → next ≡ walk place k (j + 1 - k) start
-walk-next place place' k j start value next below same so step =
-    let n : j + 1 - k ≡ suc (j - k) = omega arith in
-    let e : k + (j - k) ≡ j = omega arith in
-    rw n (step ∙ ap (λ p. stepped p j value) same ∙ ap (λ v. stepped place j v) so ∙ ap (λ i. stepped place i (walk place k (j - k) start)) (sym e) ∙ sym (walk-more place k (j - k) start))
+-- the place in a message that is made of a place, a step and a value
+pub place-made : (place value : List ℕ) (j : ℕ) → length place ≡ 22 → place_in (place ++ (j ∷ []) ++ value) ≡ place
+place-made place value j long = ap (take 22) (append_assoc place (j ∷ []) value) ∙ take_at place (j ∷ value) 22 long
 
--- steps of a chain that was put into a block
-pub walk-placed : (id : List ℕ) (q i j k m n : ℕ) (block place value start : List ℕ) → j ≡ k → leaf_in block ≡ id ++ to_be_bytes w32 q → place ≡ leaf_in block ++ to_be_bytes w16 i → value ≡ start → m ≡ n → walk place j m value ≡ chain id q i k n start
-walk-placed id q i j k m n block place value start from leaf at same long =
-    let at' : place ≡ id ++ to_be_bytes w32 q ++ to_be_bytes w16 i = at ∙ ap (λ zs. zs ++ to_be_bytes w16 i) leaf in
-    rw (at', same, long, from) (walk-chain id q i k n start)
-
--- a value made of the seed in a block
-pub derived : (id seed : List ℕ) (q i : ℕ) (block value : List ℕ) → leaf_in block ≡ id ++ to_be_bytes w32 q → value ≡ stepped (leaf_in block ++ to_be_bytes w16 i) 255 seed → value ≡ chain_start id seed q i
-unfolding chain_start
-derived id seed q i block value leaf start = start ∙ ap (λ zs. stepped (zs ++ to_be_bytes w16 i) 255 seed) leaf
-
--- the randomizer is made of the seed in a block
-pub randomizer-is : (id seed : List ℕ) (q : ℕ) (block value : List ℕ) → leaf_in block ≡ id ++ to_be_bytes w32 q → value ≡ stepped (leaf_in block ++ to_be_bytes w16 0xfffd) 255 seed → value ≡ randomizer id seed q
-unfolding randomizer
-randomizer-is id seed q block value leaf start = start ∙ ap (λ zs. stepped (zs ++ to_be_bytes w16 0xfffd) 255 seed) leaf
+-- the steps of a message that is made of a place, a step and a value
+pub rest-made : (place value : List ℕ) (j n : ℕ) → length place ≡ 22 → rest_of (place ++ (j ∷ []) ++ value) n ≡ walk place j n value
+rest-made place value j n long =
+    let e = append_assoc place (j ∷ []) value in
+    let at = place-made place value j long in
+    let step : step_in (place ++ (j ∷ []) ++ value) ≡ j = ap (λ m. slice_index m 22) e ∙ get_or_at place j value 0 22 long in
+    let behind : value_in (place ++ (j ∷ []) ++ value) ≡ value = drop_at (place ++ (j ∷ [])) value 23 (omega (arith, length-append place (j ∷ []))) in
+    (λ i. walk (at i) (step i) n (behind i))
 
 -- one number more in a range
 pub range-more : (a n : ℕ) → range_with_len a (suc n) ≡ range_with_len a n ++ (a + n) ∷ []
 range-more a zero = let e : a + 0 ≡ a = omega arith in rw e
 range-more a (suc n) = let e : a + 1 + n ≡ a + suc n = omega arith in ap (λ zs. a ∷ zs) (range-more (a + 1) n ∙ ap (λ k. range_with_len (a + 1) n ++ k ∷ []) e)
 
--- one item more of the items that a function of the index gives
-pub parts-more : (f : ℕ → List ℕ) (bs : List ℕ) (n : ℕ) → (bs ++ flat_map f (range_with_len 0 n)) ++ f n ≡ bs ++ flat_map f (range_with_len 0 (n + 1))
-parts-more f bs n =
-    let s : n + 1 ≡ suc n = omega arith in
-    let z : 0 + n ≡ n = omega arith in
-    flat_map_more f bs (range_with_len 0 n) n ∙ ap (λ xs. bs ++ flat_map f xs) (ap (λ k. range_with_len 0 n ++ k ∷ []) (sym z) ∙ sym (range-more 0 n) ∙ ap (λ k. range_with_len 0 k) (sym s))
-
--- the same of a list of them
+-- strings that a function gives, joined
 pub flat_map-map : {X Y : Type 0} (f : X → List Y) → (xs : List X) → flat_map (λ (end : List Y). end) (map f xs) ≡ flat_map f xs
 flat_map-map f [] = refl
 flat_map-map f (x ∷ xs) = ap (λ zs. f x ++ zs) (flat_map-map f xs)

@@ -5,9 +5,14 @@ use Rattle.std.specs.Prelude.{bit_and}
 use Rattle.lm_ots.specs.declared.params.Width.{Width}
 use Rattle.lm_ots.specs.declared.params.Width.TheVariants.{W4, W8}
 use Rattle.lm_ots.specs.declared.params.Params.{Params}
-use Rattle.lm_ots.specs.Parameters.{bits_of, shift_of, numbers_of}
+use Rattle.lm_ots.specs.Parameters.{bits_of, chains_of, shift_of, numbers_of}
 use Rattle.std.specs.Int.{w16, to_be_bytes}
 use Rattle.ledger_model.specs.Signatures.{coef, checksum, digit, sum_up}
+
+-- no width has more chains
+pub chains-most : (w : Width) → chains_of w ≤ 67
+chains-most W4 = omega arith
+chains-most W8 = omega arith
 
 -- a digit of 8 bits is a byte
 pub coef-wide : (s : List ℕ) (i : ℕ) → get_or s i 0 < 256 → coef s i 8 ≡ get_or s i 0

@@ -1,3 +1,4 @@
 pub mod Parameters
 pub mod Steps
+pub mod Ends
 pub mod Laws

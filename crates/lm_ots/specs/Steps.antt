@@ -1,24 +1,35 @@
--- The 55 bytes that a step hashes, and a chain's steps over the bytes that name it.
-use Rattle.std.specs.Prelude.{ℕ, zero, suc, ◌+◌, List, [], ◌∷◌, ◌++◌, take, drop}
+-- The 55 bytes that a step of a chain hashes, `I || u32(q) || u16(i) || u8(j) || tmp`, and steps one after another.
+use Rattle.std.specs.Prelude.{◌≡◌, ℕ, zero, suc, ◌+◌, ◌%◌, List, [], ◌∷◌, ◌++◌, length, take, drop, slice_index}
 use Rattle.sha2.specs.Sha256.{sha256}
 
--- the bytes of a block that name its leaf, `I || u32(q)`
-abbrev pub leaf_in : List ℕ → List ℕ
-leaf_in block = take 20 block
-
--- the bytes of a block that name its chain, `I || u32(q) || u16(i)`
+-- the bytes that name the chain, `I || u32(q) || u16(i)`
 abbrev pub place_in : List ℕ → List ℕ
-place_in block = take 22 block
+place_in message = take 22 message
 
--- the value in a block
+-- the number of the step
+abbrev pub step_in : List ℕ → ℕ
+step_in message = slice_index message 22
+
+-- the value that the step begins with
 abbrev pub value_in : List ℕ → List ℕ
-value_in block = drop 23 block
+value_in message = drop 23 message
 
 -- the step j of the chain at a place
 abbrev pub stepped : List ℕ → ℕ → List ℕ → List ℕ
 stepped place j value = sha256 (place ++ (j ∷ []) ++ value)
 
--- n steps of the chain at a place, from step j on
+-- n steps of the chain at a place, from step j on. Step 0 comes after step 255, which makes the chain's beginning of the seed
 unfoldable pub walk : List ℕ → ℕ → ℕ → List ℕ → List ℕ
 walk place j zero value = value
-walk place j (suc n) value = walk place (j + 1) n (stepped place j value)
+walk place j (suc n) value = walk place ((j + 1) % 256) n (stepped place j value)
+
+-- the value after n steps, of which the first hashes this message
+abbrev pub rest_of : List ℕ → ℕ → List ℕ
+rest_of message n = walk (place_in message) (step_in message) n (value_in message)
+
+-- the message of a chain's next step, after that of a step
+pub record IsNext (before after : List ℕ) : Type 0 where
+  pub whole : length before ≡ 55
+  pub place : place_in after ≡ place_in before
+  pub step : step_in after ≡ (step_in before + 1) % 256
+  pub value : value_in after ≡ sha256 before

@@ -1,82 +1,86 @@
-//! One step of a chain, as one block of SHA-256.
-use crate::{Identifier, Seed};
-use sha2::{Digest, Sha256};
+//! What one step of a chain hashes, which is one block of SHA-256; and eight such steps side by side.
+ghost use Rattle.std.specs.Prelude.{◌≡◌, ℕ, ◌+◌, ◌%◌, ◌<◌, ◌++◌, [], ◌∷◌, length, take, slice_index_or};
+ghost use Rattle.std.specs.Int.{w16, w32, to_be_bytes};
+ghost use Rattle.lm_ots.specs.Steps.{place_in, step_in, value_in, rest_of, IsNext};
 
-/// What one step of a chain hashes: `I || u32(q) || u16(i) || u8(j) || tmp`
-/// (RFC 8554, section 4.3).
-///
-/// With its padding it is one block of SHA-256. It is made once for a leaf and updated in place.
-#[derive(Drop)]
-pub(crate) struct StepBlock {
-    bytes: [u8; 55],
+use crate::Identifier;
+use sha_lanes::digest_each;
+
+/// How many chains take a step side by side.
+pub(crate) const LANES: usize = 8;
+
+/// The number of the step that makes the beginning of a chain of the seed (RFC 8554, Appendix A). Step 0 comes next.
+pub(crate) const SEED_STEP: u8 = 255;
+
+/// The bytes of a step's message that name the leaf, with no more behind them.
+fn leaf_message(identifier: &Identifier, leaf: u32) -> [u8; 55]
+    ensures leaf { take 20 result ≡ identifier.now ++ to_be_bytes w32 leaf }
+    ensures whole { length result ≡ 55 }
+    ensures named { length identifier.now ≡ 16 }
+{
+    let mut message = [0; 55];
+    message[..16].copy_from_slice(identifier.as_bytes());
+    message[16..20].copy_from_slice(&leaf.to_be_bytes());
+    message
 }
 
-impl StepBlock {
-    ghost use Rattle.std.specs.Prelude.{◌≡◌, ◌-◌, ◌≤◌, ◌++◌, length};
-    ghost use Rattle.std.specs.Int.{w16, w32, to_be_bytes};
-    ghost use Rattle.lm_ots.specs.Steps.{leaf_in, place_in, value_in, stepped, walk};
+/// What a step of a chain hashes: `I || u32(q) || u16(i) || u8(j) || tmp` (RFC 8554, section 4.3).
+pub(crate) fn step_message(
+    identifier: &Identifier,
+    leaf: u32,
+    index: u16,
+    step: u8,
+    value: &[u8; 32],
+) -> [u8; 55]
+    ensures message { result ≡ identifier.now ++ to_be_bytes w32 leaf ++ to_be_bytes w16 index
+        ++ (step ∷ []) ++ value.now }
+    ensures named { length identifier.now ≡ 16 }
+{
+    let mut message = leaf_message(identifier, leaf);
+    message[20..22].copy_from_slice(&index.to_be_bytes());
+    message[22] = step;
+    message[23..].copy_from_slice(value);
+    message
+}
 
-    /// The block of a leaf, with no chain chosen yet.
-    pub(crate) fn new(identifier: &Identifier, leaf: u32) -> Self
-        ensures { leaf_in result.bytes ≡ identifier.now ++ to_be_bytes w32 leaf }
-    {
-        let mut bytes = [0; 55];
-        bytes[..16].copy_from_slice(identifier.as_bytes());
-        bytes[16..20].copy_from_slice(&leaf.to_be_bytes());
-        StepBlock { bytes }
+/// The value that the step of a message begins with.
+pub(crate) fn value_in(message: &[u8; 55]) -> &[u8]
+    ensures value { result.now ≡ value_in message.now }
+    ensures whole { length result.now ≡ 32 }
+{
+    &message[23..]
+}
+
+/// Puts the message of the chain's next step, which begins with `value`, in the place of that of this one.
+fn move_on(message: &mut [u8; 55], value: &[u8; 32])
+    ensures place { place_in message.new ≡ place_in message.old }
+    ensures step { step_in message.new ≡ (step_in message.old + 1) % 256 }
+    ensures value { value_in message.new ≡ value.now }
+    ensures whole { length message.old ≡ 55 }
+{
+    message[22] = message[22].wrapping_add(1);
+    message[23..].copy_from_slice(value);
+}
+
+/// Takes one step of each chain: the message of its next step stands then in the place of that of this one.
+fn step_each(messages: &mut [[u8; 55]; LANES])
+    ensures { (k : ℕ) → k < 8
+        → IsNext (slice_index_or messages.old k []) (slice_index_or messages.new k []) }
+{
+    let values = digest_each(messages);
+    for lane in 0..LANES {
+        move_on(&mut messages[lane], &values[lane]);
     }
+}
 
-    /// Chooses the chain `index`, at `value`.
-    pub(crate) fn load(&mut self, index: u16, value: &[u8])
-        requires { length value.now ≡ 32 }
-        ensures leaf { leaf_in self.new.bytes ≡ leaf_in self.old.bytes }
-        ensures place { place_in self.new.bytes ≡ leaf_in self.old.bytes ++ to_be_bytes w16 index }
-        ensures value { value_in self.new.bytes ≡ value.now }
-    {
-        self.bytes[20..22].copy_from_slice(&index.to_be_bytes());
-        self.bytes[23..].copy_from_slice(value);
-    }
-
-    /// Takes one step of the chain.
-    fn step(&mut self, step: u8)
-        ensures place { place_in self.new.bytes ≡ place_in self.old.bytes }
-        ensures value { value_in self.new.bytes
-            ≡ stepped (place_in self.old.bytes) step (value_in self.old.bytes) }
-    {
-        self.bytes[22] = step;
-        let value = Sha256::digest(&self.bytes);
-        self.bytes[23..].copy_from_slice(&value);
-    }
-
-    /// Takes the steps `from..to` of the chain.
-    pub(crate) fn advance(&mut self, from: u8, to: u8)
-        requires { from ≤ to }
-        ensures leaf { leaf_in self.new.bytes ≡ leaf_in self.old.bytes }
-        ensures value { value_in self.new.bytes
-            ≡ walk (place_in self.old.bytes) from (to - from) (value_in self.old.bytes) }
-    {
-        for step in from..to {
-            self.step(step);
-        }
-    }
-
-    /// Chooses the chain `index`, at its beginning, which is made of the seed
-    /// (RFC 8554, Appendix A).
-    pub(crate) fn derive(&mut self, index: u16, seed: &Seed)
-        ensures leaf { leaf_in self.new.bytes ≡ leaf_in self.old.bytes }
-        ensures place { place_in self.new.bytes ≡ leaf_in self.old.bytes ++ to_be_bytes w16 index }
-        ensures value { value_in self.new.bytes
-            ≡ stepped (leaf_in self.old.bytes ++ to_be_bytes w16 index) 255 seed.now }
-    {
-        self.load(index, seed.as_bytes());
-        self.step(255);
-    }
-
-    /// The value that the chain has come to.
-    pub(crate) fn value(&self) -> &[u8]
-        ensures value { result.now ≡ value_in self.now.bytes }
-        ensures whole { length result.now ≡ 32 }
-    {
-        &self.bytes[23..]
+/// Takes `count` steps of each chain.
+pub(crate) fn steps_each(messages: &mut [[u8; 55]; LANES], count: u16)
+    ensures rest { (k n : ℕ) → k < 8
+        → rest_of (slice_index_or messages.new k []) n ≡ rest_of (slice_index_or messages.old k []) (count + n) }
+    ensures place { (k : ℕ) → k < 8
+        → place_in (slice_index_or messages.new k []) ≡ place_in (slice_index_or messages.old k []) }
+{
+    for step in 0..count {
+        step_each(messages);
     }
 }

@@ -6,12 +6,15 @@
 
 mod block;
 mod digits;
+mod ends;
 mod hashing;
 mod identifier;
 pub mod laws;
+mod leaf_chains;
 mod ots;
 mod params;
 mod seed;
+mod waiting;
 
 pub use hashing::{hasher_at, read_u32};
 pub use identifier::Identifier;

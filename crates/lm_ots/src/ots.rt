@@ -1,15 +1,15 @@
 //! One leaf: its public value, its signature, and the public value that a signature leads to.
-ghost use Rattle.std.specs.Prelude.{◌≡◌, ◌↔◌, ◌≤◌, ◌+◌, ◌++◌, ◌*◌, ◌-◌, IfOk, IfSome, IsSome, length, map, take, vec_len, vec_capacity};
-ghost use Rattle.std.specs.List.{range_with_len};
+ghost use Rattle.std.specs.Prelude.{List, ℕ, ◌≡◌, ◌↔◌, ◌≤◌, ◌+◌, ◌++◌, ◌*◌, ◌-◌, IfOk, IfSome, IsSome, flat_map, length, take, vec_len, vec_capacity};
 ghost use Rattle.std.specs.Int.{w32, from_be_bytes};
-ghost use Rattle.ledger_model.specs.Signatures.{chain, digit, last_step, leaf_key, leaf_signature, leaf_candidate, message_digest, ots_len, part, public_value, sum_up};
+ghost use Rattle.ledger_model.specs.Signatures.{digit, leaf_key, leaf_signature, leaf_candidate, message_digest, ots_len, randomizer, sum_up};
 ghost use Rattle.lm_ots.specs.Parameters.{numbers_of};
 
-use crate::block::StepBlock;
+use crate::block::{SEED_STEP, step_message};
 use crate::digits::Digits;
-use crate::hashing::{D_PBLC, hasher_at, message_digest, read_u32};
+use crate::ends::{climbed_ends, key_ends, public_value, signed_ends};
+use crate::hashing::{message_digest, read_u32};
 use crate::{Identifier, Params, Seed};
-use sha2::Digest;
+use sha2::{Digest, Sha256};
 use std::alloc::{AllocError, Global};
 
 /// The number of the chain that the randomizer of a leaf is derived at.
@@ -21,16 +21,12 @@ const RANDOMIZER: u16 = 0xfffd;
 pub fn public_hash(params: Params, identifier: &Identifier, leaf: u32, seed: &Seed) -> [u8; 32]
     ensures { result ≡ leaf_key (numbers_of params) identifier.now seed.now leaf }
 {
-    let chains = params.width.chains();
-    let last_step = params.width.last_step();
-    let mut block = StepBlock::new(identifier, leaf);
-    let mut hasher = hasher_at(identifier, leaf, D_PBLC);
-    for index in 0..chains {
-        block.derive(index, seed);
-        block.advance(0, last_step);
-        hasher.update(block.value());
-    }
-    hasher.finalize()
+    let ends = key_ends(params, identifier, leaf, seed);
+    public_value(
+        identifier,
+        leaf,
+        &ends[..usize::from(params.width.chains())],
+    )
 }
 
 /// The signature of a message with a leaf (RFC 8554, section 4.5), whose randomizer is derived from
@@ -68,18 +64,30 @@ pub fn append_signature(
         ++ leaf_signature (numbers_of params) identifier.now seed.now leaf message.now }
     ensures capacity { vec_capacity signature.old ≤ vec_capacity signature.new }
 {
-    let mut block = StepBlock::new(identifier, leaf);
-    block.derive(RANDOMIZER, seed);
-    let randomizer = block.value();
+    let randomizer = randomizer(identifier, leaf, seed);
     append(signature, &params.width.code().to_be_bytes());
-    append(signature, randomizer);
-    let digest = message_digest(identifier, leaf, randomizer, message);
-    let digits = Digits::of(params, &digest);
-    let chains = params.width.chains();
-    for index in 0..chains {
-        block.derive(index, seed);
-        block.advance(0, digits.at(index));
-        append(signature, block.value());
+    append(signature, &randomizer);
+    let digest = message_digest(identifier, leaf, &randomizer, message);
+    let ends = signed_ends(params, identifier, leaf, seed, &digest);
+    append_each(signature, &ends[..usize::from(params.width.chains())]);
+}
+
+/// The randomizer of a leaf's signature, which is derived from the seed as the beginnings of the chains are.
+fn randomizer(identifier: &Identifier, leaf: u32, seed: &Seed) -> [u8; 32]
+    ensures { result ≡ randomizer identifier.now seed.now leaf }
+{
+    Sha256::digest(&step_message(identifier, leaf, RANDOMIZER, SEED_STEP, seed.as_bytes()))
+}
+
+/// Appends strings of 32 bytes to bytes that have room for them.
+fn append_each(bytes: &mut Vec<u8>, parts: &[[u8; 32]])
+    requires room { vec_len bytes.old + 32 * length parts.now ≤ vec_capacity bytes.old }
+    ensures items { bytes.new.items ≡ bytes.old.items
+        ++ flat_map (λ (bytes : List ℕ). bytes) parts.now }
+    ensures capacity { vec_capacity bytes.old ≤ vec_capacity bytes.new }
+{
+    for part in parts {
+        append(bytes, part);
     }
 }
 
@@ -118,35 +126,12 @@ pub fn candidate(
         return None;
     }
     let digest = message_digest(identifier, leaf, &signature[4..36], message);
-    Some(climb_chains(params, identifier, leaf, &digest, &signature[36..]))
-}
-
-/// The public value that the chains' values of a signature lead to, each from its digit on.
-fn climb_chains(
-    params: Params,
-    identifier: &Identifier,
-    leaf: u32,
-    digest: &[u8; 32],
-    values: &[u8],
-) -> [u8; 32]
-    requires { length values.now ≡ 32 * (numbers_of params).chains }
-    ensures { result ≡ public_value identifier.now leaf (map (λ i. chain identifier.now leaf i
-        (digit (numbers_of params) digest.now i)
-        (last_step (numbers_of params) - digit (numbers_of params) digest.now i)
-        (part values.now 0 i)) (range_with_len 0 (numbers_of params).chains)) }
-{
-    let chains = params.width.chains();
-    let last_step = params.width.last_step();
-    let digits = Digits::of(params, digest);
-    let mut block = StepBlock::new(identifier, leaf);
-    let mut hasher = hasher_at(identifier, leaf, D_PBLC);
-    for index in 0..chains {
-        let start = 32 * usize::from(index);
-        block.load(index, &values[start..start + 32]);
-        block.advance(digits.at(index), last_step);
-        hasher.update(block.value());
-    }
-    hasher.finalize()
+    let ends = climbed_ends(params, identifier, leaf, &digest, &signature[36..]);
+    Some(public_value(
+        identifier,
+        leaf,
+        &ends[..usize::from(params.width.chains())],
+    ))
 }
 
 /// How many steps the chains have taken in all to the values that a signature shows: the sum of the digits of its
