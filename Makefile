@@ -5,12 +5,14 @@
 # test: the merge gate (every proof from nothing, the must-fail edits, the tests), then the built program in real pipes,
 #       and the file lines that the documents name.
 # bench: proves and builds the benchmark, and prints what keys and signatures cost on this machine.
+# bench-v3: the same, of a program for processors with AVX2 (x86-64-v3), which the gate doesn't build; on any other the program
+#       ends at once with status 127.
 # prove-NAME: proves a library and what it stands on; what was said is in crates/NAME/out/said.
 # One of them at a time in one tree: the gate sets crates/*/out aside while it runs.
 # What the checker said in the gate is in gate.log; a line for each crate and each edit appears.
 SHELL := bash
 .SHELLFLAGS := -o pipefail -c
-.PHONY: demo prove bench test
+.PHONY: demo prove bench bench-v3 test
 
 crates := $(shell sed -n 's/^\([a-z_]*\)\( [^:]*\)\?:.*/\1/p' crates.txt)
 below = $(filter $(crates),$(shell sed -n 's/^$(1)\( [^:]*\)\?://p' crates.txt))
@@ -39,6 +41,10 @@ prove:
 bench:
 	@cd crates/lms_speed && rt run </dev/null >/dev/null
 	@crates/lms_speed/out/lms_speed table
+
+bench-v3:
+	@echo "a program for processors with AVX2 (x86-64-v3); on any other it ends at once with status 127"
+	@cd crates/lms_speed && rt run --cpu x86-64-v3 -- table
 
 # The scripts take the programs that `rt ci` has just made.
 test:

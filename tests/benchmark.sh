@@ -51,17 +51,25 @@ verify 0 - -
 verify - -
 verify - - gg
 rate verify 4 5 0
+rate verify 4 5 0.0
+rate verify 4 5 0.0001
+rate verify 4 5 .5
+rate verify 4 5 1.
+rate verify 4 5 60.001
 rate verify 4 5 61
 rate verify 4 5
 rate Verify 4 5 1
 EOF
 runs 'bytes that are no text' 0 $'bad\n' "printf '\\377\\n' | '$speed'"
 runs 'each line has its answer' 0 $'bad\nfalse\nbad\nfalse\n' "printf 'bad\\nverify - - -\\n\\nverify - - -' | '$speed'"
-runs 'a rate has one digit behind its point' 0 $'1\n' "echo 'rate verify 4 5 1' | '$speed' | grep -cE '^[0-9]+\\.[0-9]\$'"
-runs 'the table has ten lines' 0 $'10\n' "'$speed' table 0 | wc -l"
-runs 'and the blocks that an independent program counted' 0 $'35486.0\n279198.0\n' \
-    "'$speed' table 0 | awk '/key generation/ { print \$6 }'"
-usage=$'usage: lms_speed [table [SECONDS]], SECONDS from 0 to 60\n'
+runs 'a rate has one digit behind its point' 0 $'1\n' "echo 'rate verify 4 5 0.25' | '$speed' | grep -cE '^[0-9]+\\.[0-9]\$'"
+runs 'the table has sixteen lines, and the blocks that an independent program counted' 0 \
+    $'35486.0\n1135614.0\n279198.0\n8934398.0\n16\n' \
+    "'$speed' table 0 | awk '/key generation/ { print \$6 } END { print NR }'"
+usage="usage: lms_speed [table [SECONDS]], SECONDS from 0 to 60
+Without a word it answers lines of standard input: 'public W H I SEED', 'sign W H I SEED LEAF MESSAGE',
+'verify KEY MESSAGE SIGNATURE' and 'rate verify|sign|keygen W H SECONDS', SECONDS from 0.001 to 60.
+"
 faults 'another word' 2 "$usage" "'$speed' tables"
 faults 'a word too many' 2 "$usage" "'$speed' table 0 0"
 faults 'too many seconds' 2 "$usage" "'$speed' table 61"

@@ -2,7 +2,8 @@
 
 use super::vectors::{IDENTIFIER, MESSAGE, SEED};
 use lm_ots::{
-    Identifier, Params, Seed, TreeHeight, Width, candidate, public_hash, sign, signed_steps,
+    Identifier, Params, Seed, TreeHeight, Width, candidate, public_hash, public_hashes, sign,
+    signed_steps,
 };
 use sha2::{Digest, Sha256};
 use std::test::Fail;
@@ -55,6 +56,7 @@ fn signatures_of_both_widths(rt: HostRuntime) -> Result<(), Fail> {
             height: TreeHeight::H5,
         };
         assert_eq!(rt; public_hash(params, &identifier, 3, &seed), expected.public);
+        assert_eq!(rt; public_hashes(params, &identifier, 0, &seed)[3], expected.public);
         let signature = sign(rt.alloc(), params, &identifier, 3, &seed, MESSAGE)?;
         assert_eq!(rt; signature.len(), expected.length);
         assert_eq!(rt; Sha256::digest(&signature), expected.signature);

@@ -56,6 +56,11 @@ rest-next before after n m =
     (λ i. walk (m.place i) (m.step i) n (m.value i))
     ∙ ap (λ v. walk (place_in before) ((step_in before + 1) % 256) n (sha256 v)) (sym (message-parts before m.whole))
 
+-- no step leaves the value
+pub rest-none : (m : List ℕ) → value_in m ≡ rest_of m 0
+unfolding walk
+rest-none m = refl
+
 -- the place in a message that is made of a place, a step and a value
 pub place-made : (place value : List ℕ) (j : ℕ) → length place ≡ 22 → place_in (place ++ (j ∷ []) ++ value) ≡ place
 place-made place value j long = ap (take 22) (append_assoc place (j ∷ []) value) ∙ take_at place (j ∷ value) 22 long
@@ -78,3 +83,11 @@ range-more a (suc n) = let e : a + 1 + n ≡ a + suc n = omega arith in ap (λ z
 pub flat_map-map : {X Y : Type 0} (f : X → List Y) → (xs : List X) → flat_map (λ (end : List Y). end) (map f xs) ≡ flat_map f xs
 flat_map-map f [] = refl
 flat_map-map f (x ∷ xs) = ap (λ zs. f x ++ zs) (flat_map-map f xs)
+
+-- the steps of the message that makes a chain's beginning of the seed lead up the chain
+pub rest-begun : (id seed : List ℕ) (q i n : ℕ) → length id ≡ 16 → n ≤ 255
+    → rest_of (id ++ to_be_bytes w32 q ++ to_be_bytes w16 i ++ (255 ∷ []) ++ seed) (n + 1) ≡ chain id q i 0 n (chain_start id seed q i)
+rest-begun id seed q i n named inside =
+    let place = id ++ to_be_bytes w32 q ++ to_be_bytes w16 i in
+    let long : length place ≡ 22 = omega (arith, length-append (id ++ to_be_bytes w32 q) (to_be_bytes w16 i), length-append id (to_be_bytes w32 q)) in
+    rest-made place seed 255 (n + 1) long ∙ walk-begun id seed q i n inside

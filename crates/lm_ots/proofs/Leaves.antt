@@ -1,6 +1,6 @@
 -- The public value of a leaf, of the ends of its chains joined.
 use Rattle.std.proofs.Common.{◌≡◌, ℕ, zero, suc, ◌<◌, ◌≤◌, ◌-◌, ◌*◌, ◌+◌, slice_index_or, length, List, [], ◌∷◌, ◌++◌, map, take, drop, ap, ◌∙◌, refl, arith}
-use Rattle.std.proofs.lemmas.List.{drop-drop}
+use Rattle.std.proofs.lemmas.List.{drop-drop, get_or-drop, length-drop}
 use Rattle.std.specs.Int.{w16, w32, to_be_bytes}
 use Rattle.std.specs.List.{flat_map, range_with_len}
 use Rattle.ledger_model.specs.Signatures.{chain, chain_start, coef, checksum, digit, part, public_value, randomizer, message_digest, leaf_signature, leaf_candidate, last_step}
@@ -20,6 +20,10 @@ listed-from (x ∷ xs) f (suc n) a inside each =
 -- the ends of so many chains, where each is what a function of the index gives
 pub listed : (xs : List (List ℕ)) (f : ℕ → List ℕ) (n : ℕ) → n ≤ length xs → ((i : ℕ) → i < n → slice_index_or xs i [] ≡ f i) → take n xs ≡ map f (range_with_len 0 n)
 listed xs f n inside each = listed-from xs f n 0 inside (λ i below. each i below ∙ ap f (omega arith))
+
+-- the same of those from a place on
+pub listed-at : (xs : List (List ℕ)) (f : ℕ → List ℕ) (n a : ℕ) → a + n ≤ length xs → ((i : ℕ) → i < n → slice_index_or xs (a + i) [] ≡ f i) → take n (drop a xs) ≡ map f (range_with_len 0 n)
+listed-at xs f n a inside each = listed (drop a xs) f n (omega (arith, length-drop a xs)) (λ i below. get_or-drop a xs i [] ∙ each i below)
 
 -- the digits of a digest, read from the bytes of the digest and its checksum
 pub digit-is : (p : Params) (digest bytes : List ℕ) (used : Params) → used ≡ p → bytes ≡ digest ++ to_be_bytes w16 (checksum (numbers_of p) digest) → (i : ℕ) → coef bytes i (bits_of used.width) ≡ digit (numbers_of p) digest i

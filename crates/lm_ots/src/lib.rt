@@ -1,6 +1,6 @@
 //! One-time signatures with SHA-256 (LM-OTS, RFC 8554, section 4), at widths 4 and 8, n = 32.
 //!
-//! A leaf's key pair comes from a seed: [`public_hash`] is its public value, [`sign`] signs a message
+//! A leaf's key pair comes from a seed: [`public_hash`] is its public value ([`public_hashes`] gives those of eight), [`sign`] signs a message
 //! with it, and [`candidate`] is the public value that a signature leads to. [`signed_steps`] counts what a signature costs.
 #![tactic(auto)]
 
@@ -11,6 +11,7 @@ mod hashing;
 mod identifier;
 pub mod laws;
 mod leaf_chains;
+mod leaf_row;
 mod ots;
 mod params;
 mod seed;
@@ -18,6 +19,7 @@ mod waiting;
 
 pub use hashing::{hasher_at, read_u32};
 pub use identifier::Identifier;
+pub use leaf_row::public_hashes;
 pub use ots::{append_signature, candidate, public_hash, sign, signed_steps};
 pub use params::{Params, TreeHeight, Width};
 pub use seed::Seed;

@@ -110,21 +110,34 @@ fn verify_request(alloc: Global, operands: &[&str]) -> Result<Option<VerifyReque
     }))
 }
 
-/// What the operands of `rate` ask for.
+/// The milliseconds of a number of seconds, which has up to three digits behind a point.
+fn milliseconds(text: &str) -> Option<u32> {
+    let (whole, fraction) = text.split_once('.').unwrap_or((text, "0"));
+    let unit = match fraction.len() {
+        1 => 100,
+        2 => 10,
+        3 => 1,
+        _ => return None,
+    };
+    let whole = decimal(whole)?.checked_mul(1000)?;
+    whole.checked_add(decimal(fraction)?.checked_mul(unit)?)
+}
+
+/// What the operands of `rate` ask for: a time from 0.001 to 60 seconds.
 fn rate_request(operands: &[&str]) -> Option<RateRequest> {
     let [name, width, height, seconds] = operands else {
         return None;
     };
     let operation = operation(name)?;
     let params = params(width, height)?;
-    let seconds = decimal(seconds)?;
-    if seconds < 1 || 60 < seconds {
+    let milliseconds = milliseconds(seconds)?;
+    if milliseconds < 1 || 60_000 < milliseconds {
         return None;
     }
     Some(RateRequest {
         operation,
         params,
-        seconds,
+        milliseconds,
     })
 }
 

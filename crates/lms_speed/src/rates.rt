@@ -52,7 +52,7 @@ pub fn rate<C: Clock>(
     alloc: Global,
     request: &RateRequest,
 ) -> Result<f64, ProgramFault> {
-    let time = Duration::from_secs(u64::from(request.seconds));
+    let time = Duration::from_millis(u64::from(request.milliseconds));
     let pace = pace(clock, alloc, request.operation, request.params, time)?;
     Ok(pace.per_second())
 }

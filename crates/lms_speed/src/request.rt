@@ -48,14 +48,14 @@ impl fmt::Display for Operation {
     }
 }
 
-/// A measurement of so many seconds, 1 to 60.
+/// A measurement of so many milliseconds, 1 to 60,000.
 #[derive(Drop)]
 pub struct RateRequest {
     pub operation: Operation,
     pub params: Params,
-    pub seconds: u32,
-    ghost some: { 1 ≤ seconds },
-    ghost few: { seconds ≤ 60 },
+    pub milliseconds: u32,
+    ghost some: { 1 ≤ milliseconds },
+    ghost few: { milliseconds ≤ 60000 },
 }
 
 /// What a line asks for.

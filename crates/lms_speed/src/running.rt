@@ -23,7 +23,10 @@ const SECONDS: u32 = 2;
 /// The most seconds that they may say.
 const MAX_SECONDS: u32 = 60;
 
-const USAGE: &str = "usage: lms_speed [table [SECONDS]], SECONDS from 0 to 60";
+const USAGE: &str = "\
+usage: lms_speed [table [SECONDS]], SECONDS from 0 to 60
+Without a word it answers lines of standard input: 'public W H I SEED', 'sign W H I SEED LEAF MESSAGE',
+'verify KEY MESSAGE SIGNATURE' and 'rate verify|sign|keygen W H SECONDS', SECONDS from 0.001 to 60.";
 
 /// Runs the program on its words, of which the first is its name, and answers its exit status: 0 done, 1 an operation that
 /// is wrong, 2 bad usage, 3 no memory or a failed stream or clock.

@@ -13,7 +13,27 @@ use std::io::Write;
 use std::num::nearest_u64_to_f64;
 use std::time::{Clock, Duration};
 
-/// A line of the table: an operation, and the blocks that it takes if it does nothing but hash.
+/// The parameter sets, in the order of the table.
+const ALL_KEYS: [Params; 4] = [
+    Params {
+        width: Width::W4,
+        height: TreeHeight::H5,
+    },
+    Params {
+        width: Width::W4,
+        height: TreeHeight::H10,
+    },
+    Params {
+        width: Width::W8,
+        height: TreeHeight::H5,
+    },
+    Params {
+        width: Width::W8,
+        height: TreeHeight::H10,
+    },
+];
+
+/// A line of the table: an operation, and the blocks that it hashes.
 #[derive(Clone, Copy)]
 struct Row {
     operation: Operation,
@@ -66,6 +86,16 @@ fn long_block<C: Clock>(clock: &C, alloc: Global, time: Duration) -> Result<f64,
     Ok(pace.nanoseconds() / nearest_u64_to_f64(blocks(32 + LONG_MESSAGE as u64)))
 }
 
+/// The name of a parameter set.
+fn keys_name(params: Params) -> &'static str {
+    match (params.width, params.height) {
+        (Width::W4, TreeHeight::H5) => "W4/H5",
+        (Width::W4, TreeHeight::H10) => "W4/H10",
+        (Width::W8, TreeHeight::H5) => "W8/H5",
+        (Width::W8, TreeHeight::H10) => "W8/H10",
+    }
+}
+
 /// Measures one block and then the operation of a line, and writes the line.
 fn write_row<C: Clock, W: Write>(
     clock: &C,
@@ -81,21 +111,20 @@ fn write_row<C: Clock, W: Write>(
     } = row;
     let block = one_block(clock, time)?;
     let pace = pace(clock, alloc, operation, params, time)?;
-    let width = params.width.bits();
-    let height = params.height.levels();
+    let keys = keys_name(params);
     let rate = pace.per_second();
     let found = pace.nanoseconds() / block;
     let ratio = found / ideal;
     writeln!(
         writer,
-        "W{width}/H{height}  {operation:<14} {rate:>12.1} {found:>12.1} {ideal:>12.1} {ratio:>8.3}"
+        "{keys:<6} {operation:<14} {rate:>12.1} {found:>18.1} {ideal:>14.1} {ratio:>8.3}"
     )?;
     writer.flush()?;
     Ok(())
 }
 
 /// Measures and writes the table: how many operations of each kind are done a second, and how many blocks of SHA-256 each
-/// takes, by its time and by what it hashes. Each figure is measured for at least the time, and a block again before each
+/// takes, by its time and by what it hashes: the time is less where blocks are hashed side by side. Each figure is measured for at least the time, and a block again before each
 /// operation, since a machine doesn't keep its pace.
 pub fn write_table<C: Clock, W: Write>(
     clock: &C,
@@ -116,13 +145,9 @@ pub fn write_table<C: Clock, W: Write>(
     writeln!(writer)?;
     writeln!(
         writer,
-        "keys   operation          a second       blocks        ideal    ratio"
+        "keys   operation          a second     time in blocks  blocks hashed    ratio"
     )?;
-    for width in [Width::W4, Width::W8] {
-        let params = Params {
-            width,
-            height: TreeHeight::H5,
-        };
+    for params in ALL_KEYS {
         for row in rows(alloc, params)? {
             write_row(clock, alloc, writer, row, time)?;
         }

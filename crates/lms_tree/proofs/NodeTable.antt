@@ -1,12 +1,15 @@
 -- The table of nodes.
-use Rattle.std.proofs.Common.{◌≡◌, ℕ, zero, suc, ◌+◌, ◌-◌, ◌*◌, ◌^◌, ◌<◌, ◌≤◌, List, [], length, get_or, set, refl, sym, ap, subst, ◌∙◌, arith, inl, inr}
+use Rattle.std.proofs.Common.{◌≡◌, ℕ, zero, suc, ◌+◌, ◌-◌, ◌*◌, ◌/◌, ◌^◌, ◌<◌, ◌≤◌, List, [], length, get_or, set, refl, sym, ap, subst, ◌∙◌, arith, inl, inr}
 use Rattle.std.proofs.lemmas.List.{get_or-set_same, get_or-set_other, length-set}
-use Rattle.std.proofs.lemmas.Bool.{cases_eq}
+use Rattle.std.proofs.lemmas.Bool.{cases_eq, cases_lt}
 use Rattle.std.proofs.lemmas.Grind.{pow_more}
 use Rattle.std.proofs.Math.Pow.{pow_mono}
 use Rattle.std.proofs.lemmas.Bool.Decides.{nat_tests}
 use Rattle.sha2.proofs.Facts256.{length-sha256}
 use Rattle.ledger_model.specs.Signatures.{Params, leaf_key, leaf_hash, node_hash, node, sibling}
+use Rattle.lm_ots.specs.declared.params.TreeHeight.{TreeHeight}
+use Rattle.lm_ots.specs.declared.params.TreeHeight.TheVariants.{H5, H10}
+use Rattle.lm_ots.specs.Parameters.{levels_of}
 use Rattle.lms_tree.specs.Trees.{KeepsNodes}
 
 -- twice a power is the next one
@@ -89,16 +92,29 @@ sibling-high d r low high =
     let two = pow-next (d + 1) in
     grind (arith, nat_tests)
 
--- one leaf more
-pub leaf-more : (p : Params) (id seed : List ℕ) (leaves leaf : ℕ) (nodes : List (List ℕ)) (hash key : List ℕ) → leaves ≡ 2 ^ p.height → leaf < leaves → length nodes ≡ 2 * leaves → ((q : ℕ) → q < leaf → get_or nodes (leaves + q) [] ≡ node p id seed 0 (leaves + q)) → hash ≡ leaf_hash id (leaves + leaf) key → key ≡ leaf_key p id seed leaf → (q : ℕ) → q < leaf + 1 → get_or (set nodes (leaves + leaf) hash) (leaves + q) [] ≡ node p id seed 0 (leaves + q)
-leaf-more p id seed leaves leaf nodes hash key first inside long kept is of q below =
-    elim (cases_eq q leaf) [
-      | inl same ↦
-          let P : ℕ → Type 0 = λ k. get_or (set nodes (leaves + leaf) hash) (leaves + k) [] ≡ node p id seed 0 (leaves + k) in
-          let room : leaves + leaf < length nodes = omega arith in
-          let made = ap (λ k. leaf_hash id (k + leaf) (leaf_key p id seed leaf)) first ∙ node-leaf p id seed leaf ∙ ap (λ k. node p id seed 0 (k + leaf)) (sym first) in
-          subst P (sym same) (get_or-set_same nodes (leaves + leaf) hash [] room ∙ is ∙ ap (λ k. leaf_hash id (leaves + leaf) k) of ∙ made)
-      | inr other ↦ get_or-set_other nodes (leaves + leaf) (leaves + q) hash [] (λ e. other (omega arith)) ∙ kept q (omega arith)
+-- the leaves are so many rows of eight
+pub whole-rows : (h : TreeHeight) → 8 * (2 ^ levels_of h / 8) ≡ 2 ^ levels_of h
+whole-rows H5 = refl
+whole-rows H10 = refl
+
+-- eight leaves more
+pub leaves-more : (p : Params) (id seed : List ℕ) (leaves leaf : ℕ) (nodes after keys : List (List ℕ)) → leaves ≡ 2 ^ p.height
+    → ((q : ℕ) → q < leaf → get_or nodes (leaves + q) [] ≡ node p id seed 0 (leaves + q))
+    → ((k : ℕ) → k < 8 → get_or after (leaves + leaf + k) [] ≡ leaf_hash id (leaves + leaf + k) (get_or keys k []))
+    → ((k : ℕ) → k < 8 → get_or keys k [] ≡ leaf_key p id seed (leaf + k))
+    → ((r : ℕ) → r < leaves + leaf → get_or after r [] ≡ get_or nodes r [])
+    → (q : ℕ) → q < leaf + 8 → get_or after (leaves + q) [] ≡ node p id seed 0 (leaves + q)
+leaves-more p id seed leaves leaf nodes after keys first kept put are others q below =
+    elim (cases_lt q leaf) [
+      | inl before ↦ others (leaves + q) (omega arith) ∙ kept q before
+      | inr new ↦
+          let k = q - leaf in
+          let low : k < 8 = omega arith in
+          let on : leaf + k ≡ q = omega arith in
+          let at : leaves + leaf + k ≡ leaves + q = omega arith in
+          let P : ℕ → Type 0 = λ r. get_or after r [] ≡ leaf_hash id r (leaf_key p id seed q) in
+          let made = ap (λ r. leaf_hash id (r + q) (leaf_key p id seed q)) first ∙ node-leaf p id seed q ∙ ap (λ r. node p id seed 0 (r + q)) (sym first) in
+          subst P at (put k low ∙ ap (leaf_hash id (leaves + leaf + k)) (are k low ∙ ap (leaf_key p id seed) on)) ∙ made
     ]
 
 -- the node beside one that has a node above it is on its level

@@ -1,5 +1,5 @@
 //! The hashes at the nodes of a tree.
-ghost use Rattle.std.specs.Prelude.{◌≡◌, ◌==◌, ◌<◌, ◌^◌, ◌/◌, ◌%◌, if◌then◌else◌};
+ghost use Rattle.std.specs.Prelude.{◌≡◌, ℕ, ◌==◌, ◌+◌, ◌<◌, ◌≤◌, ◌^◌, ◌/◌, ◌%◌, [], length, slice_index_or, if◌then◌else◌};
 ghost use Rattle.ledger_model.specs.Signatures.{leaf_hash, node_hash, sibling};
 
 use lm_ots::{Identifier, hasher_at};
@@ -18,6 +18,27 @@ pub(crate) fn leaf_hash(identifier: &Identifier, number: u32, key: &[u8; 32]) ->
     let mut hasher = hasher_at(identifier, number, D_LEAF);
     hasher.update(key);
     hasher.finalize()
+}
+
+/// Puts the hashes at eight leaves in a row, the first of which has this node number, in their places among all nodes.
+pub(crate) fn put_leaves(
+    nodes: &mut Vec<[u8; 32]>,
+    identifier: &Identifier,
+    number: u32,
+    keys: &[[u8; 32]; 8],
+)
+    requires inside { number + 8 ≤ length nodes.old.items }
+    requires short { number + 8 ≤ 2 ^ 32 }
+    ensures many { length nodes.new.items ≡ length nodes.old.items }
+    ensures put { (k : ℕ) → k < 8 → slice_index_or nodes.new.items (number + k) []
+        ≡ leaf_hash identifier.now (number + k) (slice_index_or keys.now k []) }
+    ensures others { (r : ℕ) → r < number
+        → slice_index_or nodes.new.items r [] ≡ slice_index_or nodes.old.items r [] }
+{
+    for lane in 0..8 {
+        let leaf = number + lane;
+        nodes[leaf as usize] = leaf_hash(identifier, leaf, &keys[lane as usize]);
+    }
 }
 
 /// The hash at the inner node with this number, of the hashes below it.

@@ -1,9 +1,12 @@
 //! A tree over all leaves of a key pair, with the hash at each node.
 use crate::PublicKey;
-use crate::nodes::{leaf_hash, node_hash, sibling};
-use lm_ots::{Identifier, Params, Seed, append_signature, public_hash};
+use crate::nodes::{node_hash, put_leaves, sibling};
+use lm_ots::{Identifier, Params, Seed, append_signature, public_hashes};
 use std::alloc::{AllocError, Global};
 use std::marker::Model;
+
+/// How many leaves are hashed side by side.
+const ROW: u32 = 8;
 
 /// A tree over the one-time keys of a seed, with the hash of each node computed once
 /// (RFC 8554, section 5.3).
@@ -49,9 +52,9 @@ impl Tree {
     {
         let leaves = params.leaves();
         let mut nodes = vec![in alloc; [0u8; 32]; 2 * leaves as usize]?;
-        for leaf in 0..leaves {
-            let key = public_hash(params, &identifier, leaf, &seed);
-            nodes[(leaves + leaf) as usize] = leaf_hash(&identifier, leaves + leaf, &key);
+        for row in 0..leaves / ROW {
+            let keys = public_hashes(params, &identifier, ROW * row, &seed);
+            put_leaves(&mut nodes, &identifier, leaves + ROW * row, &keys);
         }
         for number in (1..leaves).rev() {
             let left = 2 * number as usize;

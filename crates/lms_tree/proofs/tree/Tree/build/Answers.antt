@@ -1,22 +1,22 @@
 use Rattle.std.proofs.Common.{◌≡◌, ℕ, ◌+◌, ◌-◌, ◌*◌, subst, ap, ◌∙◌, [], get_or, arith}
-use Rattle.std.proofs.lemmas.List.{length-set, get_or_read}
+use Rattle.std.proofs.lemmas.List.{get_or_read}
 use Rattle.ledger_model.specs.Signatures.{node_hash}
 use Rattle.lm_ots.specs.Parameters.{numbers_of}
 use Rattle.lms_tree.specs.Trees.{KeepsNodes}
-use Rattle.lms_tree.proofs.NodeTable.{leaf-more, keeps-leaves, keeps-more}
+use Rattle.lms_tree.proofs.NodeTable.{leaves-more, whole-rows, keeps-leaves, keeps-more}
 use Rattle.lms_tree.proofs.tree.Tree.build.Goals as goal
 
-pub loop-leaf-preserved : goal.loop-leaf-preserved
-loop-leaf-preserved c = record {
-  long = length-set _ _ _ ∙ c.loop-leaf.invariant.long;
-  hashes = leaf-more (numbers_of c.args.params) c.args.identifier c.args.seed c.leaves-leaves.result c.loop-leaf.leaf c.loop-leaf.nodes.items c.leaf_hash.result c.public_hash-key.result
-      c.leaves-leaves.ensures c.loop-leaf-test.true c.loop-leaf.invariant.long c.loop-leaf.invariant.hashes c.leaf_hash.ensures c.public_hash-key.ensures;
+pub loop-row-preserved : goal.loop-row-preserved
+loop-row-preserved c = record {
+  long = c.put_leaves.ensures.many ∙ c.loop-row.invariant.long;
+  hashes = λ q below. leaves-more (numbers_of c.args.params) c.args.identifier c.args.seed c.leaves-leaves.result (8 * c.loop-row.row) c.loop-row.nodes.items c.put_leaves.new.nodes.items c.public_hashes-keys.result
+      c.leaves-leaves.ensures c.loop-row.invariant.hashes c.put_leaves.ensures.put c.public_hashes-keys.ensures c.put_leaves.ensures.others q (omega arith);
 }
 
 pub loop-number-init : goal.loop-number-init
 loop-number-init c =
-    keeps-leaves (numbers_of c.args.params) c.args.identifier c.args.seed c.leaves-leaves.result c.loop-leaf.nodes.items
-    c.leaves-leaves.ensures c.loop-leaf.invariant.long (λ q below. c.loop-leaf.invariant.hashes q (omega arith))
+    keeps-leaves (numbers_of c.args.params) c.args.identifier c.args.seed c.leaves-leaves.result c.loop-row.nodes.items
+    c.leaves-leaves.ensures c.loop-row.invariant.long (λ q below. c.loop-row.invariant.hashes q (omega (arith, whole-rows c.args.params.height, c.leaves-leaves.ensures)))
 
 pub loop-number-preserved : goal.loop-number-preserved
 loop-number-preserved c =
