@@ -1,6 +1,7 @@
 //! Digests side by side. Those wanted are of an independent program.
 
-use sha_lanes::digest_each;
+use sha_lanes::{digest_each, take_turns};
+use sha2::{Digest, Sha256};
 
 /// A message of its own for each lane: byte `i` is the low byte of `31 * lane + 7 * i`.
 fn message(lane: u8) -> [u8; 55] {
@@ -71,4 +72,34 @@ fn digests_side_by_side(rt: HostRuntime) {
     for lane in 0..8 {
         assert!(rt; digests[lane] == WANTED[lane], "{lane}");
     }
+}
+
+/// The digest of all eight messages after 300 turns: each time the digest of a message stands in the place of its last 32
+/// bytes, and the byte before them is one greater, modulo 256.
+const AFTER_TURNS: [u8; 32] = [
+    0x5a, 0x49, 0x81, 0x2c, 0xbd, 0xde, 0xac, 0x10, 0xeb, 0xee, 0xe1, 0x8a, 0x12, 0xad, 0xa7, 0x17,
+    0x70, 0x3f, 0x54, 0xbc, 0x25, 0x47, 0xa6, 0x39, 0x7b, 0x70, 0x9a, 0x26, 0x28, 0x24, 0xbc, 0xd4,
+];
+
+#[test]
+fn digests_in_turns(rt: HostRuntime) {
+    let mut messages = [
+        message(0),
+        message(1),
+        message(2),
+        message(3),
+        message(4),
+        message(5),
+        message(6),
+        message(7),
+    ];
+    take_turns(&mut messages, 0);
+    assert!(rt; messages[3] == message(3));
+    take_turns(&mut messages, 299);
+    take_turns(&mut messages, 1);
+    let mut hasher = Sha256::new();
+    for message in &messages {
+        hasher.update(message);
+    }
+    assert_eq!(rt; hasher.finalize(), AFTER_TURNS);
 }

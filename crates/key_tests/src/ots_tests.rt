@@ -56,7 +56,10 @@ fn signatures_of_both_widths(rt: HostRuntime) -> Result<(), Fail> {
             height: TreeHeight::H5,
         };
         assert_eq!(rt; public_hash(params, &identifier, 3, &seed), expected.public);
-        assert_eq!(rt; public_hashes(params, &identifier, 0, &seed)[3], expected.public);
+        assert_eq!(rt;
+            public_hashes(params, &identifier, 0, &seed)[3],
+            expected.public
+        );
         let signature = sign(rt.alloc(), params, &identifier, 3, &seed, MESSAGE)?;
         assert_eq!(rt; signature.len(), expected.length);
         assert_eq!(rt; Sha256::digest(&signature), expected.signature);

@@ -1,10 +1,12 @@
 -- Chains step by step.
 use Rattle.std.proofs.Common.{◌≡◌, ◌≤◌, ℕ, zero, suc, ◌+◌, ◌%◌, List, [], ◌∷◌, ◌++◌, length, take, drop, map, slice_index, refl, sym, ap, ◌∙◌, arith}
-use Rattle.std.proofs.lemmas.List.{take_at, drop_at, get_or_at, drop_more, take-append-drop, length-append, append_assoc}
+use Rattle.std.proofs.lemmas.List.{take_at, drop_at, get_or_at, drop_more, take-append-drop, length-append, length-take-le, append_assoc}
 use Rattle.std.specs.Int.{w16, w32, to_be_bytes}
 use Rattle.std.specs.List.{flat_map, range_with_len}
 use Rattle.sha2.specs.Sha256.{sha256}
 use Rattle.sha2.proofs.Facts256.{length-sha256}
+use Rattle.sha_lanes.specs.Turns.{next_message, after_turns}
+use Rattle.sha_lanes.proofs.TurnLemmas.{length-after}
 use Rattle.ledger_model.specs.Signatures.{chain, chain_start}
 use Rattle.lm_ots.specs.Steps.{place_in, step_in, value_in, rest_of, walk, stepped, IsNext}
 
@@ -91,3 +93,32 @@ rest-begun id seed q i n named inside =
     let place = id ++ to_be_bytes w32 q ++ to_be_bytes w16 i in
     let long : length place ≡ 22 = omega (arith, length-append (id ++ to_be_bytes w32 q) (to_be_bytes w16 i), length-append id (to_be_bytes w32 q)) in
     rest-made place seed 255 (n + 1) long ∙ walk-begun id seed q i n inside
+
+-- the message of a chain's next step
+is-next : (m : List ℕ) → length m ≡ 55 → IsNext m (next_message m)
+unfolding next_message
+is-next m whole =
+    let front = take 22 m ++ ((slice_index m 22 + 1) % 256 ∷ []) in
+    let l = length-take-le 22 m (omega arith) in
+    let e = append_assoc (take 22 m) ((slice_index m 22 + 1) % 256 ∷ []) (sha256 m) in
+    record {
+      whole = whole;
+      place = place-made (take 22 m) (sha256 m) ((slice_index m 22 + 1) % 256) l;
+      step = ap (λ xs. slice_index xs 22) e ∙ get_or_at (take 22 m) ((slice_index m 22 + 1) % 256) (sha256 m) 0 22 l;
+      value = drop_at front (sha256 m) 23 (omega (arith, length-append (take 22 m) ((slice_index m 22 + 1) % 256 ∷ [])));
+    }
+
+-- the steps that are left after some
+pub rest-after : (m : List ℕ) (count n : ℕ) → length m ≡ 55 → rest_of (after_turns count m) n ≡ rest_of m (count + n)
+unfolding after_turns
+rest-after m zero n whole = let e : n ≡ 0 + n = omega arith in ap (rest_of m) e
+rest-after m (suc count) n whole =
+    let e : count + suc n ≡ suc count + n = omega arith in
+    rest-next (after_turns count m) (next_message (after_turns count m)) n (is-next (after_turns count m) (length-after m count whole))
+    ∙ rest-after m count (suc n) whole ∙ ap (rest_of m) e
+
+-- and the chain
+pub place-after : (m : List ℕ) (count : ℕ) → length m ≡ 55 → place_in (after_turns count m) ≡ place_in m
+unfolding after_turns
+place-after m zero whole = refl
+place-after m (suc count) whole = (is-next (after_turns count m) (length-after m count whole)).place ∙ place-after m count whole

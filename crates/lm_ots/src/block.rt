@@ -1,10 +1,10 @@
 //! What one step of a chain hashes, which is one block of SHA-256; and eight such steps side by side.
 ghost use Rattle.std.specs.Prelude.{◌≡◌, ℕ, ◌+◌, ◌%◌, ◌<◌, ◌++◌, [], ◌∷◌, length, take, slice_index_or};
 ghost use Rattle.std.specs.Int.{w16, w32, to_be_bytes};
-ghost use Rattle.lm_ots.specs.Steps.{place_in, step_in, value_in, rest_of, IsNext};
+ghost use Rattle.lm_ots.specs.Steps.{place_in, value_in, rest_of};
 
 use crate::Identifier;
-use sha_lanes::digest_each;
+use sha_lanes::take_turns;
 
 /// How many chains take a step side by side.
 pub(crate) const LANES: usize = 8;
@@ -51,28 +51,6 @@ pub(crate) fn value_in(message: &[u8; 55]) -> &[u8]
     &message[23..]
 }
 
-/// Puts the message of the chain's next step, which begins with `value`, in the place of that of this one.
-fn move_on(message: &mut [u8; 55], value: &[u8; 32])
-    ensures place { place_in message.new ≡ place_in message.old }
-    ensures step { step_in message.new ≡ (step_in message.old + 1) % 256 }
-    ensures value { value_in message.new ≡ value.now }
-    ensures whole { length message.old ≡ 55 }
-{
-    message[22] = message[22].wrapping_add(1);
-    message[23..].copy_from_slice(value);
-}
-
-/// Takes one step of each chain: the message of its next step stands then in the place of that of this one.
-fn step_each(messages: &mut [[u8; 55]; LANES])
-    ensures { (k : ℕ) → k < 8
-        → IsNext (slice_index_or messages.old k []) (slice_index_or messages.new k []) }
-{
-    let values = digest_each(messages);
-    for lane in 0..LANES {
-        move_on(&mut messages[lane], &values[lane]);
-    }
-}
-
 /// Takes `count` steps of each chain.
 pub(crate) fn steps_each(messages: &mut [[u8; 55]; LANES], count: u16)
     ensures rest { (k n : ℕ) → k < 8
@@ -80,7 +58,5 @@ pub(crate) fn steps_each(messages: &mut [[u8; 55]; LANES], count: u16)
     ensures place { (k : ℕ) → k < 8
         → place_in (slice_index_or messages.new k []) ≡ place_in (slice_index_or messages.old k []) }
 {
-    for step in 0..count {
-        step_each(messages);
-    }
+    take_turns(messages, count);
 }

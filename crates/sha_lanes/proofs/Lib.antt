@@ -2,3 +2,4 @@ mod ChMaj
 mod Rotations
 mod LaneLemmas
 mod Blocks
+pub mod TurnLemmas

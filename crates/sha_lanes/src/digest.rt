@@ -2,6 +2,7 @@
 ghost use Rattle.std.specs.Prelude.{◌≡◌, ℕ, ◌+◌, ◌*◌, ◌<◌, ◌≤◌, List, [], length, slice_index, slice_index_or};
 ghost use Rattle.sha2.specs.Sha256.{digest_bytes, padded_message, sha256, word_at};
 ghost use Rattle.sha_lanes.specs.Lanes.{lane, lane_at};
+ghost use Rattle.sha_lanes.specs.Turns.{AreBytes};
 
 use crate::rounds::{compress, initial_state};
 use std::simd::u32x8;
@@ -31,8 +32,9 @@ pub fn digest_each(messages: &[[u8; 55]; 8]) -> [[u8; 32]; 8]
 }
 
 /// The words of the messages' blocks.
-fn message_words(messages: &[[u8; 55]; 8]) -> [u32x8; 16]
+pub(crate) fn message_words(messages: &[[u8; 55]; 8]) -> [u32x8; 16]
     ensures whole { (j : ℕ) → j < 8 → length (slice_index_or messages.now j []) ≡ 55 }
+    ensures bytes { (j : ℕ) → j < 8 → AreBytes (slice_index_or messages.now j []) }
     ensures read { (j k : ℕ) → j < 8 → k < 16
         → lane_at result k j ≡ word_at (padded_message (slice_index_or messages.now j [])) (4 * k) }
 {
@@ -57,6 +59,7 @@ fn message_words(messages: &[[u8; 55]; 8]) -> [u32x8; 16]
 fn padded(message: &[u8; 55]) -> [u8; 64]
     ensures block { result ≡ padded_message message.now }
     ensures whole { length message.now ≡ 55 }
+    ensures bytes { AreBytes message.now }
 {
     let mut block = [0; 64];
     block[..55].copy_from_slice(message);

@@ -1,21 +1,12 @@
-use Rattle.std.proofs.Common.{◌≡◌, suc, ◌+◌, [], slice_index_or, ap, ◌∙◌, arith}
-use Rattle.lm_ots.specs.Steps.{rest_of}
-use Rattle.lm_ots.proofs.Chains.{rest-next}
+use Rattle.std.proofs.Common.{[], slice_index_or, ap, ◌∙◌}
+use Rattle.lm_ots.specs.Steps.{place_in, rest_of}
+use Rattle.lm_ots.proofs.Chains.{rest-after, place-after}
 use Rattle.lm_ots.proofs.block.steps_each.Goals as goal
-
-pub loop-step-preserved : goal.loop-step-preserved
-loop-step-preserved c =
-    let kept = c.loop-step.invariant in
-    let taken = c.step_each.ensures in
-    let s = c.loop-step.step in
-    record {
-      rest = λ k n low.
-          rest-next (slice_index_or c.loop-step.messages k []) (slice_index_or c.step_each.new.messages k []) n (taken k low)
-          ∙ kept.rest k (suc n) low ∙ ap (rest_of (slice_index_or c.args.messages.now k [])) (omega arith);
-      place = λ k low. (taken k low).place ∙ kept.place k low;
-    }
 
 pub returns-clause-rest : goal.returns-clause-rest
 returns-clause-rest c k n low =
-    let all : c.loop-step.step ≡ c.args.count = omega arith in
-    c.loop-step.invariant.rest k n low ∙ ap (λ s. rest_of (slice_index_or c.args.messages.now k []) (s + n)) all
+    ap (λ m. rest_of m n) (c.take_turns.ensures.turns k low) ∙ rest-after (slice_index_or c.args.messages.now k []) c.args.count n (c.take_turns.ensures.whole k low)
+
+pub returns-clause-place : goal.returns-clause-place
+returns-clause-place c k low =
+    ap place_in (c.take_turns.ensures.turns k low) ∙ place-after (slice_index_or c.args.messages.now k []) c.args.count (c.take_turns.ensures.whole k low)

@@ -25,3 +25,8 @@ pub returns-clause-whole : goal.returns-clause-whole
 returns-clause-whole c =
     below_eight _ c.padded.ensures.whole c.padded-2.ensures.whole c.padded-3.ensures.whole c.padded-4.ensures.whole
     c.padded-5.ensures.whole c.padded-6.ensures.whole c.padded-7.ensures.whole c.padded-8.ensures.whole
+
+pub returns-clause-bytes : goal.returns-clause-bytes
+returns-clause-bytes c =
+    below_eight _ c.padded.ensures.bytes c.padded-2.ensures.bytes c.padded-3.ensures.bytes c.padded-4.ensures.bytes
+    c.padded-5.ensures.bytes c.padded-6.ensures.bytes c.padded-7.ensures.bytes c.padded-8.ensures.bytes
