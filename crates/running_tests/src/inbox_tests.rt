@@ -91,3 +91,19 @@ fn holds_1024_frames_in_order(rt: HostRuntime) -> Result<(), Fail> {
     assert!(rt; taken_byte(&rt, &inbox, &mut taking).is_none());
     Ok(())
 }
+
+#[test]
+fn a_pass_that_is_handed_back_leaves_what_it_put(rt: HostRuntime) -> Result<(), Fail> {
+    let alloc = rt.alloc();
+    let (inbox, mut taking, mut putting) = Inbox::new(alloc, 2)?;
+    let (Some(mut second), Some(first)) = (putting.pop(), putting.pop()) else {
+        return Ok(assert!(rt; false, "two passes are missing"));
+    };
+    assert!(rt; fills(&rt, alloc, &inbox, &mut second, 3)?);
+    assert!(rt; comes_in_order(&rt, &inbox, &mut taking, 0, 1));
+    inbox.retire(&mut taking, second);
+    inbox.retire(&mut taking, first);
+    assert!(rt; comes_in_order(&rt, &inbox, &mut taking, 1, 3));
+    assert!(rt; taken_byte(&rt, &inbox, &mut taking).is_none());
+    Ok(())
+}

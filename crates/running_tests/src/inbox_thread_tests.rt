@@ -1,19 +1,72 @@
-//! Two threads that put into one inbox while a third takes.
+//! Four threads that put into one inbox while a fifth takes: nothing is lost, doubled or reordered within a pass.
 ghost use Rattle.std.specs.Prelude.{◌≡◌};
 
-use crate::inbox_tests::{fills, taken_byte};
-use inbox::{Inbox, PuttingPass, TakingPass};
-use std::alloc::Global;
+use bytes::Bytes;
+use inbox::{Inbox, Item, PuttingPass, TakingPass};
+use std::alloc::{AllocError, Global};
 use std::sync::Wait;
 use std::test::Fail;
 use std::thread;
 use std::thread::Threads;
 
-/// Whether a hundred bytes from 0 on are all accepted.
+/// How many numbers each pass puts, from 0 on.
+const NUMBERS: u32 = 100_000;
+
+/// How many passes put.
+const PUTTERS: u32 = 4;
+
+/// Puts a number as a frame, and answers whether there was room.
+fn puts<R: Wait>(
+    rt: &R,
+    alloc: Global,
+    inbox: &Inbox,
+    pass: &mut PuttingPass,
+    number: u32,
+) -> Result<bool, AllocError>
+    requires { pass.old.inbox ≡ inbox.now }
+    ensures { pass.new.inbox ≡ pass.old.inbox }
+{
+    let bytes = Bytes::copy_from_slice(alloc, &number.to_be_bytes())?;
+    let item = Item::new(pass.number(), bytes);
+    Ok(inbox.put(rt, pass, item).is_ok())
+}
+
+/// The number that a frame is.
+fn number_of(bytes: &[u8]) -> Option<u32> {
+    match bytes {
+        [a, b, c, d] => Some(u32::from_be_bytes([*a, *b, *c, *d])),
+        _ => None,
+    }
+}
+
+/// Takes a number, and answers by which pass it came.
+fn takes<R: Wait>(rt: &R, inbox: &Inbox, pass: &mut TakingPass) -> Option<(u32, u32)>
+    requires { pass.old.inbox ≡ inbox.now }
+    ensures { pass.new.inbox ≡ pass.old.inbox }
+{
+    let item = inbox.take(rt, pass)?;
+    let from = item.pass();
+    let bytes = item.into_bytes();
+    let number = number_of(bytes.as_slice())?;
+    Some((from, number))
+}
+
+/// Puts all numbers, each again until there is room.
 fn sends<R: Wait>(rt: &R, alloc: Global, inbox: &Inbox, mut pass: PuttingPass) -> bool
     requires { pass.inbox ≡ inbox.now }
 {
-    matches!(fills(rt, alloc, inbox, &mut pass, 100), Ok(true))
+    let mut next = 0;
+    for _ in rt.forever() {
+        if next >= NUMBERS {
+            return true;
+        }
+        match puts(rt, alloc, inbox, &mut pass, next) {
+            Ok(true) => next += 1,
+            Ok(false) => thread::yield_now(),
+            Err(_) => return false,
+        }
+    }
+    unreachable!()
 }
 
 /// Whether two threads send so, one by each pass.
@@ -39,19 +92,44 @@ fn both_send<R: Threads + Wait + Sync>(
     one && two
 }
 
-/// Whether a hundred bytes of either pass come, each pass's in order.
+/// Which number comes next of each pass, and how many are to come in all.
+#[derive(Drop)]
+struct Expected {
+    next: [u32; 4],
+    left: u32,
+}
+
+impl Expected {
+    /// Counts a number, and answers whether it was the next of its pass.
+    fn count(&mut self, from: u32, number: u32) -> bool {
+        let Some(next) = self.next.get_mut(from as usize) else {
+            return false;
+        };
+        let is_next = *next == number;
+        *next = number.wrapping_add(1);
+        self.left = self.left.saturating_sub(1);
+        is_next
+    }
+}
+
+/// Whether all numbers of each pass come, each pass's in order.
 fn receives<R: Wait>(rt: &R, inbox: &Inbox, mut pass: TakingPass) -> bool
     requires { pass.inbox ≡ inbox.now }
 {
-    let (mut first, mut second) = (0u8, 0u8);
+    let mut expected = Expected {
+        next: [0; 4],
+        left: PUTTERS * NUMBERS,
+    };
     for _ in rt.forever() {
-        if first == 100 && second == 100 {
-            return true;
+        if expected.left == 0 {
+            return takes(rt, inbox, &mut pass).is_none();
         }
-        match taken_byte(rt, inbox, &mut pass) {
-            Some((0, byte)) if byte == first => first = first.wrapping_add(1),
-            Some((1, byte)) if byte == second => second = second.wrapping_add(1),
-            Some(_) => return false,
+        match takes(rt, inbox, &mut pass) {
+            Some((from, number)) => {
+                if !expected.count(from, number) {
+                    return false;
+                }
+            }
             None => thread::yield_now(),
         }
     }
@@ -59,23 +137,38 @@ fn receives<R: Wait>(rt: &R, inbox: &Inbox, mut pass: TakingPass) -> bool
 }
 
 #[test]
-fn two_threads_put_and_a_third_takes(rt: HostRuntime) -> Result<(), Fail> {
+fn four_threads_put_and_a_fifth_takes(rt: HostRuntime) -> Result<(), Fail> {
     let alloc = rt.alloc();
-    let (inbox, taking, mut putting) = Inbox::new(alloc, 2)?;
-    let (Some(second), Some(first)) = (putting.pop(), putting.pop()) else {
-        return Ok(assert!(rt; false, "two passes are missing"));
+    let (inbox, taking, mut putting) = Inbox::new(alloc, PUTTERS)?;
+    let (Some(a), Some(b), Some(c), Some(d)) = (
+        putting.pop(),
+        putting.pop(),
+        putting.pop(),
+        putting.pop(),
+    ) else {
+        return Ok(assert!(rt; false, "a pass is missing"));
     };
     let inbox = &inbox;
     let handle = &rt;
-    let (came, sent) = thread::join(
+    let (came, (first, second)) = thread::join(
         &rt,
         move || -> bool
             requires { taking.inbox ≡ inbox.now }
         { receives(handle, inbox, taking) },
-        move || -> bool
-            requires { (first.inbox ≡ inbox.now) × (second.inbox ≡ inbox.now) }
-        { both_send(handle, alloc, inbox, first, second) },
+        move || -> (bool, bool)
+            requires { (a.inbox ≡ inbox.now) × (b.inbox ≡ inbox.now) × (c.inbox ≡ inbox.now) × (d.inbox ≡ inbox.now) }
+        {
+            thread::join(
+                handle,
+                move || -> bool
+                    requires { (a.inbox ≡ inbox.now) × (b.inbox ≡ inbox.now) }
+                { both_send(handle, alloc, inbox, a, b) },
+                move || -> bool
+                    requires { (c.inbox ≡ inbox.now) × (d.inbox ≡ inbox.now) }
+                { both_send(handle, alloc, inbox, c, d) },
+            )
+        },
     );
-    assert!(rt; came && sent);
+    assert!(rt; came && first && second);
     Ok(())
 }

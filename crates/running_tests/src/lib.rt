@@ -4,6 +4,8 @@
 #[cfg(test)]
 mod board_tests;
 #[cfg(test)]
+mod board_thread_tests;
+#[cfg(test)]
 mod inbox_tests;
 #[cfg(test)]
 mod inbox_thread_tests;
