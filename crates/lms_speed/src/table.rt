@@ -1,6 +1,6 @@
 //! The table of figures.
 use crate::fault::ProgramFault;
-use crate::rates::{SEED, pace};
+use crate::rates::{SEED, measure_cost};
 use crate::request::Operation;
 use crate::timing::measure;
 use crate::work::{
@@ -96,7 +96,7 @@ fn keys_name(params: Params) -> &'static str {
     }
 }
 
-/// Measures one block and then the operation of a line, and writes the line.
+/// Measures the operation of a line beside one block, and writes the line.
 fn write_row<C: Clock, W: Write>(
     clock: &C,
     alloc: Global,
@@ -109,11 +109,10 @@ fn write_row<C: Clock, W: Write>(
         params,
         ideal,
     } = row;
-    let block = one_block(clock, time)?;
-    let pace = pace(clock, alloc, operation, params, time)?;
+    let cost = measure_cost(clock, alloc, operation, params, time)?;
     let keys = keys_name(params);
-    let rate = pace.per_second();
-    let found = pace.nanoseconds() / block;
+    let rate = 1e9 / cost.operation;
+    let found = cost.operation / cost.block;
     let ratio = found / ideal;
     writeln!(
         writer,
@@ -124,8 +123,8 @@ fn write_row<C: Clock, W: Write>(
 }
 
 /// Measures and writes the table: how many operations of each kind are done a second, and how many blocks of SHA-256 each
-/// takes, by its time and by what it hashes: the time is less where blocks are hashed side by side. Each figure is measured for at least the time, and a block again before each
-/// operation, since a machine doesn't keep its pace.
+/// takes, by its time and by what it hashes: the time is less where blocks are hashed side by side. Each figure is the least
+/// of slices, of a block and of the operation in turn, for at least the time, since a machine doesn't keep its pace.
 pub fn write_table<C: Clock, W: Write>(
     clock: &C,
     alloc: Global,

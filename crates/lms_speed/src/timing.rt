@@ -51,3 +51,29 @@ pub fn measure<C: Clock, W: Work>(
     }
     Ok(pace)
 }
+
+/// How many slices a time is cut into, at most.
+const SLICES: u32 = 8;
+
+/// The least nanoseconds that each of two kinds of work took once, in slices of both in turn, for at least the time in all.
+///
+/// A machine that does other things too, or doesn't keep its pace, is slower at some moments and never faster.
+pub fn least_of_both<C: Clock, A: Work, B: Work>(
+    clock: &C,
+    first: &mut A,
+    second: &mut B,
+    time: Duration,
+) -> Result<(f64, f64), ProgramFault> {
+    let start = Instant::now(clock)?;
+    let slice = time / (2 * SLICES);
+    let mut least = (f64::INFINITY, f64::INFINITY);
+    for _ in 0..u64::MAX {
+        let one = measure(clock, first, slice)?.nanoseconds();
+        let other = measure(clock, second, slice)?.nanoseconds();
+        least = (least.0.min(one), least.1.min(other));
+        if start.elapsed(clock)? >= time {
+            break;
+        }
+    }
+    Ok(least)
+}
