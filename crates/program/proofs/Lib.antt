@@ -1,12 +1,1 @@
-mod Faults
-mod WritingLemmas
-mod AnsweringLemmas
-mod PrintingLemmas
-mod StreamLemmas
-mod PieceLemmas
-mod StreamEnds
-mod DeliveringLemmas
 mod RunningLemmas
-mod SimulatingLemmas
-mod OpeningLemmas
-mod ScenarioLemmas

@@ -2,87 +2,106 @@
 use Rattle.std.proofs.Common.{◌≡◌, ℕ, ◌≤◌, List, [], refl, sym, subst, ◌∙◌, inl, inr, arith}
 use Rattle.std.specs.Prelude.{◌⊎◌, Option, Result, Ok, Err, MatchResult}
 use Rattle.std.specs.Io.KnownBytes.{Appends, Keeps}
-use Rattle.std.proofs.KnownBytes.{Appends-kept, Consumes-nil}
+use Rattle.std.proofs.KnownBytes.{Consumes-nil}
 use Rattle.ledger_model.specs.Spelling.{frame_bytes}
 use Rattle.settings.specs.declared.Settings.{Settings}
 use Rattle.settings.specs.declared.Settings.TheVariants.{Sign, Deliver, Simulate}
 use Rattle.settings.specs.declared.sign.SignSettings.{SignSettings}
+use Rattle.settings.specs.declared.deliver.DeliverSettings.{DeliverSettings}
+use Rattle.settings.specs.declared.simulate.SimulateSettings.{SimulateSettings}
 use Rattle.frame_signing.specs.Statements.{signed}
 use Rattle.command_line.specs.declared.usage_fault.UsageFault.{UsageFault}
 use Rattle.command_line.specs.declared.usage_fault.UsageFault.TheVariants as fault
 use Rattle.command_line.specs.Options.{AsksForText, IsRefused, IsSet, WantsMemory}
-use Rattle.program.specs.declared.stream_end.StreamEnd.{StreamEnd}
-use Rattle.program.specs.declared.stream_end.StreamEnd.TheVariants.{Whole, Cut, Fault, BadLine}
-use Rattle.program.specs.Writing.{AppendsSome}
-use Rattle.program.specs.Doing.{Begins, Does, DoesSome, Done, Halted, Performs, status_of}
-use Rattle.program.proofs.WritingLemmas.{all_some}
+use Rattle.program_streams.specs.Writing.{AppendsSome}
+use Rattle.program_streams.proofs.RespondingLemmas.{responds_some}
+use Rattle.frame_delivery.specs.declared.stream_end.StreamEnd.{StreamEnd}
+use Rattle.frame_delivery.specs.declared.stream_end.StreamEnd.TheVariants as stream
+use Rattle.frame_delivery.specs.Streams.{DeliversStream, DeliversStreamSome}
+use Rattle.scenario_playing.specs.declared.text_end.TextEnd.{TextEnd}
+use Rattle.scenario_playing.specs.declared.text_end.TextEnd.TheVariants as scenario
+use Rattle.scenario_playing.specs.Simulating.{PlaysText, PlaysTextSome}
+use Rattle.program.specs.Doing.{Begins, Done, Halted, Performs, status_of_stream, status_of_text}
 
 -- the frame was written
-pub signed_done : (x : Settings) (s : SignSettings) (unread before after : Option (List ℕ)) → x ≡ Sign s → Appends before after (frame_bytes (signed s)) → Done x Whole unread unread before after
+pub signed_done : (x : Settings) (s : SignSettings) (unread before after : Option (List ℕ)) → x ≡ Sign s → Appends before after (frame_bytes (signed s)) → Done x 0 unread unread before after
 signed_done x s unread before after is written =
-    subst (λ y. Done y Whole unread unread before after) (sym is) (record { input = []; text = frame_bytes (signed s); does = (refl, (refl, refl)); read = Consumes-nil unread; to_end = tt; written = written })
+    subst (λ y. Done y 0 unread unread before after) (sym is) (refl, record { input = []; text = frame_bytes (signed s); goes_with = (refl, refl); read = Consumes-nil unread; written = written })
 
 -- a beginning of it was
 pub signed_halted : (x : Settings) (s : SignSettings) (unread before after : Option (List ℕ)) → x ≡ Sign s → AppendsSome before after (frame_bytes (signed s)) → Halted x unread unread before after
 signed_halted x s unread before after is written =
-    subst (λ y. Halted y unread unread before after) (sym is) (record { input = []; text = frame_bytes (signed s); does = (refl, refl); read = Consumes-nil unread; written = written })
+    subst (λ y. Halted y unread unread before after) (sym is) (record { input = []; text = frame_bytes (signed s); goes_with = (refl, refl); read = Consumes-nil unread; written = written })
 
--- what is done was begun
-does_some : (x : Settings) (input : List ℕ) (end : StreamEnd) (text : List ℕ) → Does x input end text → DoesSome x input text
-does_some (Sign s) input end text does = (does.0, does.1.1)
-does_some (Deliver s) input end text does = inr (end, does)
-does_some (Simulate s) input end text does = inr (end, does)
+-- a stream was delivered
+pub delivered_done : (x : Settings) (s : DeliverSettings) (end : StreamEnd) (status : ℕ) (unread left before after : Option (List ℕ)) → x ≡ Deliver s → status ≡ status_of_stream end
+    → DeliversStream s end unread left before after → Done x status unread left before after
+delivered_done x s end status unread left before after is answered done = subst (λ y. Done y status unread left before after) (sym is) (end, (answered, done))
+
+pub delivered_halted : (x : Settings) (s : DeliverSettings) (unread left before after : Option (List ℕ)) → x ≡ Deliver s → DeliversStreamSome s unread left before after → Halted x unread left before after
+delivered_halted x s unread left before after is some = subst (λ y. Halted y unread left before after) (sym is) some
+
+-- a text was played
+pub played_done : (x : Settings) (s : SimulateSettings) (end : TextEnd) (status : ℕ) (unread left before after : Option (List ℕ)) → x ≡ Simulate s → status ≡ status_of_text end
+    → PlaysText s end unread left before after → Done x status unread left before after
+played_done x s end status unread left before after is answered done = subst (λ y. Done y status unread left before after) (sym is) (end, (answered, done))
+
+pub played_halted : (x : Settings) (s : SimulateSettings) (unread left before after : Option (List ℕ)) → x ≡ Simulate s → PlaysTextSome s unread left before after → Halted x unread left before after
+played_halted x s unread left before after is some = subst (λ y. Halted y unread left before after) (sym is) some
 
 -- all was written, and then a flush failed
-pub done_halted : (x : Settings) (end : StreamEnd) (unread left before mid after : Option (List ℕ)) → Done x end unread left before mid → Keeps mid after → Halted x unread left before after
-done_halted x end unread left before mid after done keeps = record {
-  input = done.input;
-  text = done.text;
-  does = does_some x done.input end done.text done.does;
-  read = done.read;
-  written = all_some before after done.text (Appends-kept before mid after done.text done.written keeps);
-}
+pub done_halted : (x : Settings) (status : ℕ) (unread left before mid after : Option (List ℕ)) → Done x status unread left before mid → Keeps mid after → Halted x unread left before after
+done_halted (Sign s) status unread left before mid after (is, done) keeps = responds_some _ _ unread left before mid after (λ input text does. does) done keeps
+done_halted (Deliver s) status unread left before mid after (end, (is, (to_end, done))) keeps = responds_some _ _ unread left before mid after (λ input text does. inr (end, does)) done keeps
+done_halted (Simulate s) status unread left before mid after (end, (is, (to_end, done))) keeps = responds_some _ _ unread left before mid after (λ input text does. inr (end, does)) done keeps
 
--- a stream's status is 0 or 1
-status_small : (end : StreamEnd) → status_of end ≤ 1
-status_small Whole = omega arith
-status_small Cut = omega arith
-status_small (Fault fault) = omega arith
-status_small (BadLine n) = omega arith
+-- a status of what was done is 0 or 1
+stream_small : (end : StreamEnd) → status_of_stream end ≤ 1
+stream_small stream.Whole = omega arith
+stream_small stream.Cut = omega arith
+stream_small (stream.Fault fault) = omega arith
+
+text_small : (end : TextEnd) → status_of_text end ≤ 1
+text_small scenario.Whole = omega arith
+text_small (scenario.BadLine n) = omega arith
+
+done_small : (x : Settings) (status : ℕ) (unread left before after : Option (List ℕ)) → Done x status unread left before after → status ≤ 1
+done_small (Sign s) status unread left before after (is, done) = omega (arith, is)
+done_small (Deliver s) status unread left before after (end, (is, done)) = omega (arith, is, stream_small end)
+done_small (Simulate s) status unread left before after (end, (is, done)) = omega (arith, is, text_small end)
 
 -- what was done for settings, and the status of it
 abbrev pub Settled : Settings → ℕ → Option (List ℕ) → Option (List ℕ) → Option (List ℕ) → Option (List ℕ) → Type 0 → Type 0
-Settled s status unread left before after Quiet =
-    ((end : StreamEnd) × ((status ≡ status_of end) × (Quiet × Done s end unread left before after))) ⊎ ((status ≡ 3) × Halted s unread left before after)
+Settled s status unread left before after Quiet = (Quiet × Done s status unread left before after) ⊎ ((status ≡ 3) × Halted s unread left before after)
 
 -- the status of what was done
-pub settled : {E Q : Type 0} (s : Settings) (r : Result StreamEnd E) (status : ℕ) (unread left before after : Option (List ℕ))
-    → MatchResult r (λ end. Done s end unread left before after) (λ _. Halted s unread left before after)
-    → MatchResult r (λ end. (status ≡ status_of end) × Q) (λ _. status ≡ 3) → Settled s status unread left before after Q
-settled s (Ok end) status unread left before after done is = inl (end, (is.0, (is.1, done)))
+pub settled : {E Q : Type 0} (s : Settings) (r : Result ℕ E) (status : ℕ) (unread left before after : Option (List ℕ))
+    → MatchResult r (λ found. Done s found unread left before after) (λ _. Halted s unread left before after)
+    → MatchResult r (λ found. (status ≡ found) × Q) (λ _. status ≡ 3) → Settled s status unread left before after Q
+settled s (Ok found) status unread left before after done is = inl (is.1, subst (λ n. Done s n unread left before after) (sym is.0) done)
 settled s (Err e) status unread left before after halted is = inr (is, halted)
 
 module _ (words : List (List ℕ)) (s : Settings) (set : IsSet words s) (status : ℕ) (unread left before after : Option (List ℕ)) where
   pub settled_finishes : (Q : Type 0) → Settled s status unread left before after Q → (status ≡ 0) ⊎ (status ≡ 1) → Performs words status unread left before after
-  settled_finishes Q (inl (end, (is, (quiet, done)))) small = record { settings = s; set = set; end = end; answered = is; done = done }
+  settled_finishes Q (inl (quiet, done)) small = record { settings = s; set = set; done = done }
   settled_finishes Q (inr (is, halted)) (inl zero) = absurd (omega (arith, zero, is))
   settled_finishes Q (inr (is, halted)) (inr one) = absurd (omega (arith, one, is))
 
   pub settled_quiet : (Q : Type 0) → Settled s status unread left before after Q → (status ≡ 0) ⊎ (status ≡ 1) → Q
-  settled_quiet Q (inl (end, (is, (quiet, done)))) small = quiet
+  settled_quiet Q (inl (quiet, done)) small = quiet
   settled_quiet Q (inr (is, halted)) (inl zero) = absurd (omega (arith, zero, is))
   settled_quiet Q (inr (is, halted)) (inr one) = absurd (omega (arith, one, is))
 
   pub settled_refuses : (Q P : Type 0) → Settled s status unread left before after Q → status ≡ 2 → P
-  settled_refuses Q P (inl (end, (is, (quiet, done)))) two = absurd (omega (arith, status_small end, is, two))
+  settled_refuses Q P (inl (quiet, done)) two = let small = done_small s status unread left before after done in absurd (omega (arith, small, two))
   settled_refuses Q P (inr (is, halted)) two = absurd (omega (arith, two, is))
 
   pub settled_stops : (Q : Type 0) → Settled s status unread left before after Q → status ≡ 3 → Begins words unread left before after
-  settled_stops Q (inl (end, (is, (quiet, done)))) three = absurd (omega (arith, status_small end, is, three))
+  settled_stops Q (inl (quiet, done)) three = let small = done_small s status unread left before after done in absurd (omega (arith, small, three))
   settled_stops Q (inr (is, halted)) three = record { settings = s; set = set; halted = halted }
 
   pub settled_known : (Q : Type 0) → Settled s status unread left before after Q → status ≤ 3
-  settled_known Q (inl (end, (is, (quiet, done)))) = omega (arith, status_small end, is)
+  settled_known Q (inl (quiet, done)) = let small = done_small s status unread left before after done in omega (arith, small)
   settled_known Q (inr (is, halted)) = omega (arith, is)
 
 -- what was told of words that set nothing: the help or the version, or what is wrong with them

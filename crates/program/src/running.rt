@@ -5,21 +5,17 @@ ghost use Rattle.std.specs.Io.KnownBytes.{Keeps};
 ghost use Rattle.ledger_model.specs.Spelling.{frame_bytes};
 ghost use Rattle.command_line.specs.Options.{AsksForText, IsRefused, WantsMemory};
 ghost use Rattle.frame_signing.specs.Statements.{signed};
-ghost use Rattle.program.specs.declared.stream_end.StreamEnd.{StreamEnd};
-ghost use Rattle.program.specs.declared.stream_end.StreamEnd.TheVariants.{Whole};
-ghost use Rattle.program.specs.Writing.{Writes};
-ghost use Rattle.program.specs.Doing.{Begins, Done, Halted, Performs, status_of};
+ghost use Rattle.program_streams.specs.Writing.{Writes};
+ghost use Rattle.program.specs.Doing.{Begins, Done, Halted, Performs, status_of_stream, status_of_text};
 
-use crate::delivering::deliver;
-use crate::printing::{complain, print, write_whole};
-use crate::program_fault::ProgramFault;
-use crate::simulating::simulate;
-use crate::stream_end::StreamEnd;
+use crate::printing::{complain, print};
 use command_line::{UsageFault, settings};
+use frame_delivery::{StreamEnd, deliver};
 use frame_signing::signed_frame;
+use program_streams::{ProgramFault, write_whole};
+use scenario_playing::{TextEnd, simulate};
 use settings::{Settings, SignSettings};
 use std::alloc::Global;
-use std::hash::RandomState;
 use std::io::{self, ErrorKind, Read, Write};
 use std::random::RandomSource;
 
@@ -75,8 +71,8 @@ fn run_settings<S: RandomSource, R: Read, W: Write, F: Write>(
     writer: &mut W,
     faults: &mut F,
 ) -> u8
-    ensures { ((end : StreamEnd) × ((result ≡ status_of end) × (Keeps (F.contents faults.old) (F.contents faults.new)
-        × Done settings.now end (R.remaining reader.old) (R.remaining reader.new) (W.contents writer.old) (W.contents writer.new))))
+    ensures { (Keeps (F.contents faults.old) (F.contents faults.new)
+        × Done settings.now result (R.remaining reader.old) (R.remaining reader.new) (W.contents writer.old) (W.contents writer.new))
         ⊎ ((result ≡ 3) × Halted settings.now (R.remaining reader.old) (R.remaining reader.new) (W.contents writer.old) (W.contents writer.new)) }
 {
     let done = perform_whole(source, alloc, settings, reader, writer);
@@ -116,46 +112,69 @@ pub fn refuse_words<F: Write>(alloc: Global, error: io::Error, faults: &mut F) -
     finish(alloc, Err(ProgramFault::Stream(error)), faults)
 }
 
-/// Does what the settings ask for, but for the flush.
+/// Does what the settings ask for, but for the flush, and answers the exit status.
 fn perform<S: RandomSource, R: Read, W: Write>(
     source: &S,
     alloc: Global,
     settings: &Settings,
     reader: &mut R,
     writer: &mut W,
-) -> Result<StreamEnd, ProgramFault>
+) -> Result<u8, ProgramFault>
     ensures { MatchResult result
-        (λ end. Done settings.now end (R.remaining reader.old) (R.remaining reader.new) (W.contents writer.old) (W.contents writer.new))
+        (λ status. Done settings.now status (R.remaining reader.old) (R.remaining reader.new) (W.contents writer.old) (W.contents writer.new))
         (λ _. Halted settings.now (R.remaining reader.old) (R.remaining reader.new) (W.contents writer.old) (W.contents writer.new)) }
 {
     match settings {
         Settings::Sign(settings) => {
             sign(alloc, settings, writer)?;
-            Ok(StreamEnd::Whole)
+            Ok(DONE)
         }
         Settings::Deliver(settings) => {
-            let randoms = [RandomState::new(source)?, RandomState::new(source)?];
-            deliver(alloc, settings, randoms, reader, writer)
+            let end = deliver(source, alloc, settings, reader, writer)?;
+            Ok(stream_status(end))
         }
-        Settings::Simulate(settings) => simulate(source, alloc, settings, reader, writer),
+        Settings::Simulate(settings) => {
+            let end = simulate(source, alloc, settings, reader, writer)?;
+            Ok(text_status(end))
+        }
     }
 }
 
-/// Does what the settings ask for.
+/// Does what the settings ask for, and answers the exit status.
 fn perform_whole<S: RandomSource, R: Read, W: Write>(
     source: &S,
     alloc: Global,
     settings: &Settings,
     reader: &mut R,
     writer: &mut W,
-) -> Result<StreamEnd, ProgramFault>
+) -> Result<u8, ProgramFault>
     ensures { MatchResult result
-        (λ end. Done settings.now end (R.remaining reader.old) (R.remaining reader.new) (W.contents writer.old) (W.contents writer.new))
+        (λ status. Done settings.now status (R.remaining reader.old) (R.remaining reader.new) (W.contents writer.old) (W.contents writer.new))
         (λ _. Halted settings.now (R.remaining reader.old) (R.remaining reader.new) (W.contents writer.old) (W.contents writer.new)) }
 {
-    let end = perform(source, alloc, settings, reader, writer)?;
+    let status = perform(source, alloc, settings, reader, writer)?;
     writer.flush()?;
-    Ok(end)
+    Ok(status)
+}
+
+/// The exit status of `abft deliver`, by how its stream ended.
+fn stream_status(end: StreamEnd) -> u8
+    ensures { result ≡ status_of_stream end }
+{
+    match end {
+        StreamEnd::Whole => DONE,
+        StreamEnd::Cut | StreamEnd::Fault(_) => BAD_INPUT,
+    }
+}
+
+/// The exit status of `abft simulate`, by how its text ended.
+fn text_status(end: TextEnd) -> u8
+    ensures { result ≡ status_of_text end }
+{
+    match end {
+        TextEnd::Whole => DONE,
+        TextEnd::BadLine(_) => BAD_INPUT,
+    }
 }
 
 /// `abft sign`: writes the frame of the settings.
@@ -171,26 +190,25 @@ fn sign<W: Write>(
     Ok(())
 }
 
-/// Writes the help or the version that the words ask for.
+/// Writes the help or the version that the words ask for, and answers the exit status.
 fn show<W: Write>(
     alloc: Global,
     asked_for: &UsageFault<'_>,
     writer: &mut W,
-) -> Result<StreamEnd, ProgramFault>
-    ensures { IfOk result (λ end. end ≡ Whole) }
+) -> Result<u8, ProgramFault>
+    ensures { IfOk result (λ status. status ≡ 0) }
 {
     print(alloc, writer, asked_for)?;
     writer.flush()?;
-    Ok(StreamEnd::Whole)
+    Ok(DONE)
 }
 
 /// The exit status of what was done. Writes why the program could not go on, if it couldn't.
-fn finish<F: Write>(alloc: Global, done: Result<StreamEnd, ProgramFault>, faults: &mut F) -> u8
-    ensures { MatchResult done (λ end. (result ≡ status_of end) × Keeps (F.contents faults.old) (F.contents faults.new)) (λ _. result ≡ 3) }
+fn finish<F: Write>(alloc: Global, done: Result<u8, ProgramFault>, faults: &mut F) -> u8
+    ensures { MatchResult done (λ status. (result ≡ status) × Keeps (F.contents faults.old) (F.contents faults.new)) (λ _. result ≡ 3) }
 {
     match done {
-        Ok(StreamEnd::Whole) => DONE,
-        Ok(StreamEnd::Cut | StreamEnd::Fault(_) | StreamEnd::BadLine(_)) => BAD_INPUT,
+        Ok(status) => status,
         Err(fault) => {
             let _ = complain(alloc, faults, &fault);
             STOPPED

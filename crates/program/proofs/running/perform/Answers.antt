@@ -1,8 +1,5 @@
-use Rattle.std.proofs.Common.{sym, subst}
-use Rattle.program.specs.Doing.{Halted}
-use Rattle.program.proofs.Faults.{on_error}
-use Rattle.program.proofs.DeliveringLemmas.{halted_at_first}
-use Rattle.program.proofs.RunningLemmas.{signed_done, signed_halted}
+use Rattle.program_streams.proofs.Faults.{on_error}
+use Rattle.program.proofs.RunningLemmas.{signed_done, signed_halted, delivered_done, delivered_halted, played_done, played_halted}
 use Rattle.program.proofs.running.perform.Goals as goal
 
 pub returns-in_err-sign-in-Sign : goal.returns-in_err-sign-in-Sign
@@ -11,10 +8,18 @@ returns-in_err-sign-in-Sign g c = on_error _ _ c.from_residual.ensures.0 (signed
 pub returns-in_ok-sign-in-Sign : goal.returns-in_ok-sign-in-Sign
 returns-in_ok-sign-in-Sign g c = signed_done c.args.settings.now c.in-Sign.settings _ _ _ c.in-Sign.is c.in_ok-sign-in-Sign.ensures
 
-pub returns-in_err-new-in-Deliver : goal.returns-in_err-new-in-Deliver
-returns-in_err-new-in-Deliver g c =
-    on_error _ _ c.from_residual-in_err-new-in-Deliver.ensures.0 (subst (λ x. Halted x (g.R.Read.remaining c.args.reader.now) (g.R.Read.remaining c.args.reader.now) (g.W.Write.contents c.args.writer.now) (g.W.Write.contents c.args.writer.now)) (sym c.in-Deliver.is) (halted_at_first c.in-Deliver.settings _ _))
+pub returns-in_err-end-in-Deliver : goal.returns-in_err-end-in-Deliver
+returns-in_err-end-in-Deliver g c =
+    on_error _ _ c.from_residual-in_err-end-in-Deliver.ensures.0 (delivered_halted c.args.settings.now c.in-Deliver.settings _ _ _ _ c.in-Deliver.is c.in_err-end-in-Deliver.ensures)
 
-pub returns-in_err-new-in-Deliver-2 : goal.returns-in_err-new-in-Deliver-2
-returns-in_err-new-in-Deliver-2 g c =
-    on_error _ _ c.from_residual-in_err-new-in-Deliver-2.ensures.0 (subst (λ x. Halted x (g.R.Read.remaining c.args.reader.now) (g.R.Read.remaining c.args.reader.now) (g.W.Write.contents c.args.writer.now) (g.W.Write.contents c.args.writer.now)) (sym c.in-Deliver.is) (halted_at_first c.in-Deliver.settings _ _))
+pub returns-in_ok-end-in-Deliver : goal.returns-in_ok-end-in-Deliver
+returns-in_ok-end-in-Deliver g c =
+    delivered_done c.args.settings.now c.in-Deliver.settings c.in_ok-end-in-Deliver.end _ _ _ _ _ c.in-Deliver.is c.stream_status.ensures c.in_ok-end-in-Deliver.ensures
+
+pub returns-in_err-end-in-Simulate : goal.returns-in_err-end-in-Simulate
+returns-in_err-end-in-Simulate g c =
+    on_error _ _ c.from_residual-in_err-end-in-Simulate.ensures.0 (played_halted c.args.settings.now c.in-Simulate.settings _ _ _ _ c.in-Simulate.is c.in_err-end-in-Simulate.ensures)
+
+pub returns-in_ok-end-in-Simulate : goal.returns-in_ok-end-in-Simulate
+returns-in_ok-end-in-Simulate g c =
+    played_done c.args.settings.now c.in-Simulate.settings c.in_ok-end-in-Simulate.end _ _ _ _ _ c.in-Simulate.is c.text_status.ensures c.in_ok-end-in-Simulate.ensures

@@ -1,0 +1,100 @@
+//! A block whose application finds no memory is run again, and so is its entry followed again.
+ghost use Rattle.std.specs.Prelude.{◌≡◌, [], vec_len, All, IfOk};
+ghost use Rattle.ledger_model.specs.Applications.{run};
+ghost use Rattle.app_kinds.specs.Chosen.{machine_of};
+
+use crate::following::{count_taken, follower_with, is_taken};
+use crate::playing::{correct_of, history_of, new_simulation, plays_all, scenario_of};
+use crate::scripts::REFUSED_BLOCK;
+use abci::Application;
+use app_kinds::{AnyKind, Refusing};
+use ledger_model::{AppKind, Entry};
+use locked_replica::Snapshot;
+use replica_core::Follower;
+use scenario_texts::Command;
+use simulation::Simulation;
+use std::alloc::{AllocError, Global};
+use std::random::RandomSource;
+use std::test::Fail;
+
+/// So many applications of a kind in their opening state, of which each finds no memory for its second transaction.
+fn refusing_apps(
+    alloc: Global,
+    kind: AppKind,
+    count: usize,
+) -> Result<Vec<Refusing<AnyKind>>, AllocError>
+    ensures count { IfOk result (λ apps. vec_len apps ≡ count) }
+    ensures opening { IfOk result (λ apps. All (λ app. machine_of app.app ≡ run kind []) apps.items) }
+{
+    let mut apps = Vec::with_capacity(alloc, count)?;
+    for _ in 0..count {
+        apps.push(Refusing::new(AnyKind::new(alloc, kind), 2))?;
+    }
+    Ok(apps)
+}
+
+/// Whether the command prints just this line.
+fn prints<A: Application>(simulation: &mut Simulation<A>, command: &Command, line: &[u8]) -> bool {
+    match simulation.play(command) {
+        Ok(text) => text.as_bytes() == line,
+        Err(_) => false,
+    }
+}
+
+/// Whether the last command is refused for want of memory, and runs the block when it is given again.
+fn plays_at_second_try<A: Application>(
+    simulation: &mut Simulation<A>,
+    commands: &[Command],
+) -> bool {
+    let Some((last, others)) = commands.split_last() else {
+        return false;
+    };
+    plays_all(simulation, others)
+        && prints(simulation, last, b"refused 5\n")
+        && prints(
+            simulation,
+            last,
+            b"execute 1 1 [\\00,\\01,\\02] codes 0,0,0\n",
+        )
+}
+
+/// Whether the follower finds no memory for the last entry, takes it when it comes again, and has then one block.
+fn takes_at_second_try<A: Application>(
+    follower: &mut Follower<A>,
+    alloc: Global,
+    entries: &[Entry],
+) -> Result<bool, AllocError> {
+    let Some((last, others)) = entries.split_last() else {
+        return Ok(false);
+    };
+    if count_taken(follower, alloc, others)? != others.len() {
+        return Ok(false);
+    }
+    if is_taken(follower, alloc, &last.event, &last.reply).is_ok() {
+        return Ok(false);
+    }
+    Ok(is_taken(follower, alloc, &last.event, &last.reply)? && follower.height() == 1)
+}
+
+/// Whether a follower does so, whose application finds no memory for its second transaction.
+fn is_followed<S: RandomSource>(source: &S, alloc: Global, told: &Snapshot) -> Result<bool, Fail> {
+    let app = Refusing::new(AnyKind::new(alloc, told.config.kind), 2);
+    let mut follower = follower_with(source, alloc, told, app)?;
+    Ok(takes_at_second_try(&mut follower, alloc, told.history.entries.as_slice())?)
+}
+
+#[test]
+fn a_block_that_found_no_memory_is_run_again(rt: HostRuntime) -> Result<(), Fail> {
+    let alloc = rt.alloc();
+    let scenario = scenario_of(alloc, REFUSED_BLOCK)?;
+    let apps = refusing_apps(
+        alloc,
+        scenario.setup.config.kind,
+        correct_of(&scenario.setup),
+    )?;
+    let mut simulation = new_simulation(&rt, alloc, &scenario.setup, apps)?;
+    assert!(rt; plays_at_second_try(&mut simulation, &scenario.commands));
+    let told = history_of(&simulation, 1)?.ok_or("no history")?;
+    assert!(rt; is_followed(&rt, alloc, &told)?);
+    Ok(())
+}

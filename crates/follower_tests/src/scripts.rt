@@ -1,0 +1,185 @@
+//! The texts of the worked runs.
+use std::alloc::{AllocError, Global};
+
+/// Lines of a scenario text, each with how often it stands there.
+pub(crate) type Script = &'static [(&'static [u8], usize)];
+
+/// Four replicas that are handed the same transaction and open height 1.
+const FOUR_ALIKE: (&[u8], usize) = (
+    b"config 4 1 1\nsubmit 0 a=1\nsubmit 1 a=1\nsubmit 2 a=1\nsubmit 3 a=1\npropose 0 1\npropose 1 1\npropose 2 1\npropose 3 1\n",
+    1,
+);
+
+/// Each decides it in the phase that it leads, and runs it.
+pub(crate) const PLAIN: Script = &[
+    FOUR_ALIKE,
+    (b"round\n", 16),
+    (
+        b"execute 0\nexecute 1\nexecute 2\nexecute 3\nexecute 0\nquery 0 a\nquery 1 b\n",
+        1,
+    ),
+];
+
+/// Four different proposals.
+pub(crate) const FOUR_PROPOSALS: Script = &[
+    (
+        b"config 4 1 1\nsubmit 0 a=1\nsubmit 1 b=1\nsubmit 2 c=1\nsubmit 3 d=1\npropose 0 1\npropose 1 1\npropose 2 1\npropose 3 1\n",
+        1,
+    ),
+    (b"round\n", 12),
+    (b"execute 2\nexecute 3\n", 1),
+];
+
+/// Two proposals, each by two replicas.
+pub(crate) const TWO_PROPOSALS: Script = &[
+    (
+        b"config 4 1 1\nsubmit 0 x=1\nsubmit 1 x=1\nsubmit 2 y=1\nsubmit 3 y=1\npropose 0 1\npropose 1 1\npropose 2 1\npropose 3 1\n",
+        1,
+    ),
+    (b"round\n", 8),
+    (b"execute 2\n", 1),
+];
+
+/// A leader that lies locks two values; whoever reads of both releases its lock.
+pub(crate) const LOCK_RELEASED: Script = &[
+    (
+        b"config 4 1 1\nliar 1\nsubmit 0 x=1\nsubmit 2 y=1\nsubmit 3 x=1\npropose 0 1\npropose 2 1\npropose 3 1\nround\nlie-report 1 1 1 [y=1] all\n",
+        1,
+    ),
+    (b"silent\n", 15),
+    (
+        b"round\nsilent\nlie-lock 1 1 5 [x=1] 0\nlie-lock 1 1 5 [y=1] 2\nsilent\n",
+        1,
+    ),
+    (b"round\n", 5),
+];
+
+/// One acknowledgement comes twice, and then a second replica's: in time.
+pub(crate) const LATE_ACKNOWLEDGEMENT: Script = &[
+    FOUR_ALIKE,
+    (
+        b"round\nround\nsilent\npass 0 1 1\npass 0 1 1\npass 2 1 1\nend 1\nexecute 1\npass 3 1 1\nround\n",
+        1,
+    ),
+];
+
+/// A lock of the first phase comes again in the second, and an acknowledgement, too.
+pub(crate) const OTHER_PHASES: Script = &[
+    FOUR_ALIKE,
+    (
+        b"round\nround\nsilent\nsilent\nround\nround\npass 1 1 3\npass 0 1 1\nround\nround\npass 1 1 3\npass 0 1 1\nround\n",
+        1,
+    ),
+];
+
+/// Replicas with nothing to do decide and run an empty block.
+pub(crate) const EMPTY_BLOCKS: Script = &[
+    (
+        b"config 4 1 1\npropose 0 1\npropose 1 1\npropose 2 1\npropose 3 1\n",
+        1,
+    ),
+    (b"round\n", 8),
+    (b"execute 1\nexecute 2\nexecute 3\n", 1),
+];
+
+/// The counter, and a transaction that is out of turn.
+pub(crate) const COUNTER: Script = &[
+    (
+        b"config 4 1 2\nsubmit 0 \\00\nsubmit 0 \\07\nsubmit 1 \\00\nsubmit 1 \\07\nsubmit 2 \\00\nsubmit 2 \\07\nsubmit 3 \\00\nsubmit 3 \\07\nsubmit 0 aaaaaaaaa\npropose 0 1\npropose 1 1\npropose 2 1\npropose 3 1\n",
+        1,
+    ),
+    (b"round\n", 4),
+    (
+        b"execute 1\nquery 1 count\nquery 1 other\nsubmit 1 \\00\n",
+        1,
+    ),
+];
+
+/// The purse.
+pub(crate) const PURSE: Script = &[
+    (
+        b"config 4 1 3\nsubmit 0 \\00\\01\\00\\00\\00\\05\\00\\00\\00\\00\nsubmit 1 \\00\\01\\00\\00\\00\\05\\00\\00\\00\\00\nsubmit 2 \\00\\01\\00\\00\\00\\05\\00\\00\\00\\00\nsubmit 3 \\00\\01\\00\\00\\00\\05\\00\\00\\00\\00\npropose 0 1\npropose 1 1\npropose 2 1\npropose 3 1\n",
+        1,
+    ),
+    (b"round\n", 4),
+    (
+        b"execute 1\nquery 1 \\00\nquery 1 \\01\nquery 1 zz\nsubmit 1 \\00\\01\\00\\00\\00\\05\\00\\00\\00\\00\n",
+        1,
+    ),
+];
+
+/// Heights that can't be opened, and transactions that aren't taken.
+pub(crate) const REFUSALS: Script = &[(
+    b"config 4 1 1\nexecute 0\nsubmit 0\nsubmit 0 a=1\nsubmit 0 a=1\nsubmit 0 aaaaaaaaaaaaaaaaaaaaaaaaaaaaaaaaaaaaaaaaaaaaaaaaaaaaaaaaaaaaaaaaa\npropose 0 0\npropose 0 4097\npropose 0 5\npropose 0 1\npropose 0 1\ninject 0\ninject 0 00\nquery 0 a\nquery 0\nround\nround\n",
+    1,
+)];
+
+/// Four heights that each replica opens.
+const FOUR_HEIGHTS_OPENED: (&[u8], usize) = (
+    b"config 4 1 1\nsubmit 0 a=1\nsubmit 1 a=1\nsubmit 2 a=1\nsubmit 3 a=1\npropose 0 2\npropose 1 4\npropose 2 1\npropose 3 3\npropose 0 1\npropose 1 1\npropose 3 1\npropose 1 2\npropose 2 2\npropose 3 2\npropose 0 3\npropose 1 3\npropose 2 3\npropose 0 4\npropose 2 4\npropose 3 4\n",
+    1,
+);
+
+/// Four heights are open at once, and the leader of the first phase decides all.
+pub(crate) const FOUR_HEIGHTS: Script = &[
+    FOUR_HEIGHTS_OPENED,
+    (b"round\n", 4),
+    (b"execute 1\n", 5),
+    (b"propose 1 8\npropose 1 9\nround\n", 1),
+];
+
+/// One height is open, and keys run out behind the 32nd report.
+pub(crate) const NO_LEAF_LEFT: Script = &[
+    (
+        b"config 4 1 1\npropose 0 1\npropose 1 1\npropose 2 1\npropose 3 1\n",
+        1,
+    ),
+    (b"silent\n", 133),
+    (b"pass 1 0 0\npropose 0 2\nround\n", 1),
+];
+
+/// Four heights are open, and keys run out behind the 8th report of each.
+pub(crate) const NO_LEAVES_FOR_FOUR: Script = &[
+    FOUR_HEIGHTS_OPENED,
+    (b"silent\n", 32),
+    (b"end 0\nround\nround\n", 1),
+];
+
+/// A counter's block of three transactions, which the last line runs.
+pub(crate) const REFUSED_BLOCK: Script = &[
+    (
+        b"config 4 1 2\nsubmit 0 \\00\nsubmit 0 \\01\nsubmit 0 \\02\nsubmit 1 \\00\nsubmit 1 \\01\nsubmit 1 \\02\nsubmit 2 \\00\nsubmit 2 \\01\nsubmit 2 \\02\npropose 0 1\npropose 1 1\npropose 2 1\n",
+        1,
+    ),
+    (b"round\n", 4),
+    (b"execute 1\n", 1),
+];
+
+/// Twelve rounds of the plain run: the third phase ends.
+pub(crate) const TWELVE_ROUNDS: Script = &[FOUR_ALIKE, (b"round\n", 12)];
+
+/// Twenty-two rounds of it: the leader of the sixth phase has made its lock.
+pub(crate) const TWENTY_TWO_ROUNDS: Script = &[FOUR_ALIKE, (b"round\n", 22)];
+
+/// Replica 1 lies, and locks are due in the first phase of two heights.
+pub(crate) const LOCKS_DUE: Script = &[(
+    b"config 4 1 1\nliar 1\nsubmit 0 a=1\nsubmit 2 a=1\nsubmit 3 a=1\npropose 0 1\npropose 2 1\npropose 3 1\npropose 0 2\npropose 2 2\npropose 3 2\nround\nround\n",
+    1,
+)];
+
+/// Adds the line so often.
+fn add_line(text: &mut Vec<u8>, line: &[u8], count: usize) -> Result<(), AllocError> {
+    for _ in 0..count {
+        text.extend_from_slice(line)?;
+    }
+    Ok(())
+}
+
+/// The text of a script.
+pub(crate) fn text_of(alloc: Global, script: Script) -> Result<Vec<u8>, AllocError> {
+    let mut text = Vec::new(alloc);
+    for (line, count) in script {
+        add_line(&mut text, line, *count)?;
+    }
+    Ok(text)
+}

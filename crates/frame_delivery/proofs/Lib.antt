@@ -1,0 +1,6 @@
+mod AnsweringLemmas
+mod PrintingLemmas
+mod StreamLemmas
+mod PieceLemmas
+mod StreamEnds
+mod DeliveringLemmas

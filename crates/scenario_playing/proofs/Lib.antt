@@ -1,0 +1,4 @@
+mod SimulatingLemmas
+mod OpeningLemmas
+mod HistoryLemmas
+mod ScenarioLemmas
