@@ -77,6 +77,19 @@ impl Inbox {
         self.queue.push_as::<ByPutting, R>(rt, &mut pass.seat, item)
     }
 
+    /// One pop of the queue, by the inbox's rule.
+    fn pop<R: Wait>(&self, rt: &R, pass: &mut TakingPass) -> Option<Item>
+        requires { pass.old.inbox ≡ self.now }
+        ensures taken { IfSome result (λ item. pass.new ≡ record pass.old { taken = pass.old.taken ++ item ∷ [] }) }
+        ensures step { IfSome result (λ item. TakenAtOnce pass.old.taken item pass.new.taken) }
+        ensures pass { IfSome result (λ item. item.pass < pass.old.passes) }
+        ensures same { IfNone result (pass.new ≡ pass.old) }
+        ensures all { IfNone result (AllTaken pass.old.taken pass.old.ended) }
+        ensures empty { IfNone result (EmptyAfter pass.old.taken) }
+    {
+        self.queue.pop_as::<ByTaking, R>(rt, &mut pass.seat)
+    }
+
     /// Takes the oldest item. `None` only if the inbox was empty at one moment of the call: then of each pass that was
     /// handed back all is taken.
     pub fn take<R: Wait>(&self, rt: &R, pass: &mut TakingPass) -> Option<Item>
@@ -88,7 +101,7 @@ impl Inbox {
         ensures all { IfNone result (AllTaken pass.old.taken pass.old.ended) }
         ensures empty { IfNone result (EmptyAfter pass.old.taken) }
     {
-        self.queue.pop_as::<ByTaking, R>(rt, &mut pass.seat)
+        self.pop(rt, pass)
     }
 
     /// Hands a putting pass back: what it put, in order, is what was taken of it and then what the inbox holds of it.
