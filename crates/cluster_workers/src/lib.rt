@@ -1,0 +1,34 @@
+//! The workers of a running cluster: a thread for each replica, which gives it its frames and its rounds.
+//!
+//! A [`Worker`] takes frames from its replica's inbox, opens the height after the committed one, runs what is decided, and ends
+//! the rounds that are due. It changes the replica by turns alone, each under the replica's lock, so that what a lock keeps holds
+//! whatever the threads do: each history is a replay. The frames that a round end sends go into the inboxes of their addressees; a
+//! full inbox loses the frame.
+//!
+//! [`Cluster::new`] makes a worker for each of some replicas, and what they share; [`run_all`] runs each in a thread of its own until
+//! its rounds are over. The workers are generic over a [`RoundClock`], which tells when rounds end, and over a [`TurnGate`], which
+//! is called round each turn.
+//!
+//! Proved: what a worker does by itself, whether a frame is early, and where it goes (`own_events`, `is_early`, `is_for`), and each
+//! turn. Only tested: that the workers run at once, and that the cluster commits. Not promised: progress and time.
+#![tactic(auto)]
+
+mod addressing;
+mod cluster;
+mod early;
+mod gate;
+mod mail;
+mod own;
+mod post;
+mod replica;
+mod round_clock;
+mod running;
+mod sending;
+mod worker;
+
+pub use cluster::Cluster;
+pub use gate::{NoGate, TurnGate};
+pub use replica::{new_replica, ring_of_all};
+pub use round_clock::{MachineClock, Progress, RoundClock};
+pub use running::run_all;
+pub use worker::Worker;

@@ -1,0 +1,113 @@
+//! The ends of inboxes that a worker holds: its own inbox, from which it takes, and those of all, into which it puts.
+ghost use Rattle.std.specs.Prelude.{◌≡◌};
+ghost use Rattle.std.specs.Arc.{arc_value};
+
+use bytes::Bytes;
+use inbox::{Inbox, Item, PuttingPass, TakingPass};
+use ledger_model::ReplicaId;
+use std::alloc::{AllocError, Global};
+use std::sync::{Arc, Wait};
+
+/// An inbox with the right to take from it.
+#[derive(Drop)]
+pub(crate) struct Inlet {
+    inbox: Arc<Inbox>,
+    pass: TakingPass,
+    ghost tied: { pass.inbox ≡ arc_value inbox },
+}
+
+/// The inbox of a replica with a right to put into it.
+#[derive(Drop)]
+pub(crate) struct Outlet {
+    to: ReplicaId,
+    inbox: Arc<Inbox>,
+    pass: PuttingPass,
+    ghost tied: { pass.inbox ≡ arc_value inbox },
+}
+
+impl Inlet {
+    /// Takes the oldest frame, if there is one.
+    pub(crate) fn take<R: Wait>(&mut self, rt: &R) -> Option<Bytes> {
+        let item = self.inbox.take(rt, &mut self.pass)?;
+        Some(item.into_bytes())
+    }
+}
+
+impl Outlet {
+    /// Whose inbox it is.
+    pub(crate) fn to(&self) -> ReplicaId
+        ensures { result ≡ self.now.to }
+    {
+        self.to
+    }
+
+    /// Puts a frame in, which copies no byte. False where it is lost: the inbox was full, or there was no memory.
+    pub(crate) fn send<R: Wait>(&mut self, rt: &R, frame: &Bytes) -> bool {
+        let Ok(bytes) = frame.clone() else {
+            return false;
+        };
+        let item = Item::new(self.pass.number(), bytes);
+        self.inbox.put(rt, &mut self.pass, item).is_ok()
+    }
+}
+
+/// A new inbox of the replica `to`: the end to take from, and an end to put into for each of so many senders, by number.
+fn new_inbox(
+    alloc: Global,
+    to: ReplicaId,
+    senders: u8,
+) -> Result<(Inlet, Vec<Outlet>), AllocError> {
+    let (inbox, taking, putting) = Inbox::new(alloc, u32::from(senders))?;
+    let inbox = Arc::new(alloc, inbox)?;
+    let mut outlets = Vec::with_capacity(alloc, usize::from(senders))?;
+    for pass in putting {
+        outlets.push(Outlet {
+            to,
+            inbox: Arc::try_clone(&inbox)?,
+            pass,
+        })?;
+    }
+    Ok((
+        Inlet {
+            inbox,
+            pass: taking,
+        },
+        outlets,
+    ))
+}
+
+/// Gives each sender the next outlet, in order.
+fn add_row(senders: &mut Vec<Vec<Outlet>>, row: Vec<Outlet>) -> Result<(), AllocError> {
+    for (outlets, outlet) in senders.iter_mut().zip(row) {
+        outlets.push(outlet)?;
+    }
+    Ok(())
+}
+
+/// The inboxes of so many replicas: the end that each takes from, and the ends that each puts into.
+#[derive(Drop)]
+pub(crate) struct Mail {
+    pub(crate) inlets: Vec<Inlet>,
+    pub(crate) outlets: Vec<Vec<Outlet>>,
+}
+
+/// So many senders with no outlet.
+fn no_outlets(alloc: Global, senders: u8) -> Result<Vec<Vec<Outlet>>, AllocError> {
+    let mut outlets = Vec::with_capacity(alloc, usize::from(senders))?;
+    for _ in 0..senders {
+        outlets.push(Vec::new(alloc))?;
+    }
+    Ok(outlets)
+}
+
+/// The inboxes of so many replicas.
+pub(crate) fn mail_of(alloc: Global, replicas: u8) -> Result<Mail, AllocError> {
+    let mut inlets = Vec::with_capacity(alloc, usize::from(replicas))?;
+    let mut outlets = no_outlets(alloc, replicas)?;
+    for to in 0..replicas {
+        let (inlet, row) = new_inbox(alloc, ReplicaId::new(to), replicas)?;
+        inlets.push(inlet)?;
+        add_row(&mut outlets, row)?;
+    }
+    Ok(Mail { inlets, outlets })
+}

@@ -1,0 +1,77 @@
+//! Where a worker publishes its replica's height, and the turns that it takes.
+ghost use Rattle.std.specs.Prelude.{◌≡◌, ◌≤◌, ◌+◌, length, All};
+ghost use Rattle.std.specs.Arc.{arc_value};
+
+use abci::Application;
+use commit_board::{Board, WriterSeat};
+use ledger_model::{Event, ReplicaId};
+use locked_replica::State;
+use replica_turns::turn;
+use std::alloc::{AllocError, Global};
+use std::sync::Arc;
+
+/// A board with the right to raise the word of one replica.
+#[derive(Drop)]
+pub(crate) struct Post {
+    board: Arc<Board>,
+    seat: WriterSeat,
+    ghost tied: { seat.board ≡ arc_value board },
+}
+
+/// What a turn did.
+#[derive(Clone, Copy, Drop)]
+pub(crate) struct Turned {
+    /// The length of the history before it, where the first new entry stands.
+    pub(crate) first: usize,
+    /// How many of its events were taken: all, or those before the one that was refused.
+    pub(crate) taken: usize,
+    ghost few: { taken ≤ 65536 },
+}
+
+impl Post {
+    pub(crate) fn new(board: Arc<Board>, seat: WriterSeat) -> Self
+        requires { seat.board ≡ arc_value board }
+    {
+        Post { board, seat }
+    }
+
+    /// The replica whose word it raises.
+    pub(crate) fn replica(&self) -> ReplicaId {
+        self.seat.replica()
+    }
+
+    /// A turn of this replica: nothing is taken where it is another one.
+    pub(crate) fn turn<A: Application>(
+        &mut self,
+        state: &mut State<A>,
+        events: Vec<Event>,
+    ) -> Turned
+        ensures first { result.first ≡ length state.old.entries }
+        ensures taken { length state.old.entries + result.taken ≡ length state.new.entries }
+    {
+        let first = state.len();
+        if state.id() != self.seat.replica() {
+            return Turned { first, taken: 0 };
+        }
+        let _ = turn(state, events, &self.board, &mut self.seat);
+        Turned {
+            first,
+            taken: state.len() - first,
+        }
+    }
+}
+
+/// The posts of these seats, in order.
+pub(crate) fn posts_of(
+    alloc: Global,
+    board: &Arc<Board>,
+    seats: Vec<WriterSeat>,
+) -> Result<Vec<Post>, AllocError>
+    requires { All (λ seat. seat.board ≡ arc_value board.now) seats.items }
+{
+    let mut posts = Vec::with_capacity(alloc, seats.len())?;
+    for seat in seats {
+        posts.push(Post::new(Arc::try_clone(board)?, seat))?;
+    }
+    Ok(posts)
+}

@@ -1,0 +1,69 @@
+//! When the rounds of a running replica end.
+use ledger_model::ReplicaId;
+use round_pacer::due;
+use std::time::{Clock, Duration, Instant};
+use std::{io, thread};
+
+/// What a worker did since it last asked whether a round is due.
+#[derive(Clone, Copy, Debug, PartialEq, Eq)]
+pub struct Progress {
+    /// How many frames it took from its inbox and offered to its replica.
+    pub taken: usize,
+    /// How many frames it put into other inboxes.
+    pub sent: usize,
+    /// How many other events it handed to its replica.
+    pub events: usize,
+}
+
+impl Progress {
+    /// Whether it did nothing.
+    pub fn is_idle(&self) -> bool {
+        self.taken == 0 && self.sent == 0 && self.events == 0
+    }
+}
+
+/// What tells the workers when rounds end. All of them ask it.
+pub trait RoundClock {
+    /// Whether the next round of this replica is to end, of which so many ended before.
+    fn is_due(&self, replica: ReplicaId, ended: u32, progress: Progress) -> bool;
+
+    /// Called by a worker that has nothing to do for now.
+    fn rest(&self);
+}
+
+/// The machine's clock: each round lasts a base time, and a millisecond more than the one before it (`round_pacer`).
+#[derive(Drop)]
+pub struct MachineClock<'a, R: Clock> {
+    rt: &'a R,
+    start: Instant,
+    base_ms: u32,
+}
+
+impl<'a, R: Clock> MachineClock<'a, R> {
+    /// A clock that starts now, where this one can be read.
+    pub fn start(rt: &'a R, base_ms: u32) -> io::Result<Self> {
+        Ok(MachineClock {
+            rt,
+            start: Instant::now(rt)?,
+            base_ms,
+        })
+    }
+
+    /// The milliseconds since the start. Where the clock can't be read any more, all rounds are over.
+    fn now_ms(&self) -> u64 {
+        match self.start.elapsed(self.rt) {
+            Ok(elapsed) => u64::try_from(elapsed.as_millis()).unwrap_or(u64::MAX),
+            Err(_) => u64::MAX,
+        }
+    }
+}
+
+impl<R: Clock> RoundClock for MachineClock<'_, R> {
+    fn is_due(&self, _replica: ReplicaId, ended: u32, _progress: Progress) -> bool {
+        due(0, self.now_ms(), self.base_ms, ended) > 0
+    }
+
+    fn rest(&self) {
+        let _ = thread::sleep(self.rt, Duration::from_millis(1));
+    }
+}

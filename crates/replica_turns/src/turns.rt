@@ -1,0 +1,59 @@
+//! One turn: events that a replica takes, and the height that it publishes then.
+ghost use Rattle.std.specs.Prelude.{◌≡◌, ◌≤◌, ◌↔◌, max, length, IfOk, OnOk, OnErr, IsErrOf};
+ghost use Rattle.ledger_model.specs.Lawful.{Replay};
+ghost use Rattle.locked_replica.specs.Replicas.{RunsAlone};
+ghost use Rattle.replica_turns.specs.Turns.{Takes, TakesSome, GoesOn, height_in};
+
+use abci::Application;
+use commit_board::{Board, WriterSeat};
+use ledger_model::{Event, Height};
+use locked_replica::{ApplyFault, State};
+use std::sync::Mutex;
+
+/// A replica that threads share. Locking it waits for whoever has locked it.
+pub type LockedReplica<A> = Mutex<State<A>>;
+
+/// Takes the events in order, up to the first that is refused, and answers the old length of the history.
+fn take_all<A: Application>(state: &mut State<A>, events: Vec<Event>) -> Result<usize, ApplyFault>
+    ensures index { IfOk result (λ index. index ≡ length state.old.entries) }
+    ensures taken { OnOk result (Takes state.old.entries events.items state.new.entries) }
+    ensures some { OnErr result (TakesSome state.old.entries events.items state.new.entries) }
+    ensures full { OnErr result (IsErrOf result ApplyFault.HistoryFull ↔ (65536 ≤ length state.new.entries)) }
+    ensures on { GoesOn state.old state.new }
+{
+    let index = state.len();
+    for event in events {
+        state.apply(event)?;
+    }
+    Ok(index)
+}
+
+/// Takes the events in order, up to the first that is refused; then publishes the replica's committed height. Answers the old
+/// length of the history, from which on the new entries stand, or why the event was refused.
+///
+/// `HistoryFull` comes where the history has 65,536 entries then. After a fault the events before the refused one are taken, and
+/// neither that one nor those behind it.
+pub fn turn<A: Application>(
+    state: &mut State<A>,
+    events: Vec<Event>,
+    board: &Board,
+    seat: &mut WriterSeat,
+) -> Result<usize, ApplyFault>
+    requires board { seat.old.board ≡ board.now }
+    requires replica { seat.old.replica ≡ state.old.id }
+    ensures index { IfOk result (λ index. index ≡ length state.old.entries) }
+    ensures taken { OnOk result (Takes state.old.entries events.items state.new.entries) }
+    ensures some { OnErr result (TakesSome state.old.entries events.items state.new.entries) }
+    ensures full { OnErr result (IsErrOf result ApplyFault.HistoryFull ↔ (65536 ≤ length state.new.entries)) }
+    // Each entry is lawful after those before it, and each signature in a reply verifies.
+    ensures replay { Replay state.new.config state.new.ring state.new.id state.new.entries }
+    ensures rest { state.new ≡ record state.old { used = state.new.used; entries = state.new.entries; machine = state.new.machine } }
+    ensures leaves { state.old.used ≤ state.new.used }
+    // The application is what it is run alone on the committed blocks.
+    ensures machine { RunsAlone state.new }
+    ensures seat { seat.new ≡ record seat.old { height = max seat.old.height (height_in state.new) } }
+{
+    let taken = take_all(state, events);
+    board.publish(seat, Height::new(state.height()));
+    taken
+}
