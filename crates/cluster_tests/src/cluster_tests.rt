@@ -1,0 +1,93 @@
+//! Four replicas that run at once, and commit.
+ghost use Rattle.std.specs.Prelude.{◌≡◌, ◌<◌, ℕ, Some, vec_len, slice_get, IfOk};
+ghost use Rattle.commit_board.specs.Seats.{new_reader};
+
+use crate::meeting_gate::MeetingGate;
+use crate::quiet_clock::QuietClock;
+use crate::replicas::{four, replicas};
+use app_kinds::AnyKind;
+use cluster_workers::{Cluster, run_all};
+use commit_board::ReaderSeat;
+use ledger_model::{Height, ReplicaId};
+use locked_replica::State;
+use replica_turns::LockedReplica;
+use std::sync::Wait;
+use std::test::Fail;
+
+const ROUNDS: u32 = 16;
+
+/// Whether the first block is `[a=1]`.
+fn has_first_block(state: &State<AnyKind>) -> bool {
+    match state.block(Height::new(1)) {
+        Some(batch) => match batch.transactions() {
+            [tx] => tx.as_bytes() == b"a=1".as_slice(),
+            _ => false,
+        },
+        None => false,
+    }
+}
+
+/// Whether the replica committed that block, up to the height that it published.
+fn has_committed<R: Wait>(rt: &R, replica: &LockedReplica<AnyKind>, published: u32) -> bool {
+    let state = replica.lock(rt);
+    published >= 1 && state.height() == published && has_first_block(&*state)
+}
+
+/// Whether this replica committed that block, up to the height that this reader finds of it.
+fn is_done<R: Wait>(
+    rt: &R,
+    cluster: &Cluster<AnyKind>,
+    reader: &mut ReaderSeat,
+    id: ReplicaId,
+) -> bool
+    requires board { reader.old.board ≡ cluster.now.board }
+    requires below { id < cluster.now.replicas }
+    ensures { reader.new.board ≡ reader.old.board }
+{
+    let published = cluster.board().read(reader, id);
+    has_committed(rt, cluster.replica(id), published)
+}
+
+/// Whether all of so many replicas did so.
+fn are_done<R: Wait>(
+    rt: &R,
+    cluster: &Cluster<AnyKind>,
+    mut reader: ReaderSeat,
+    replicas: u8,
+) -> bool
+    requires board { reader.board ≡ cluster.now.board }
+    requires count { replicas ≡ cluster.now.replicas }
+{
+    let mut are_done = true;
+    for id in 0..replicas {
+        are_done &= is_done(rt, cluster, &mut reader, ReplicaId::new(id));
+    }
+    are_done
+}
+
+/// The reader's seat of a cluster that has one.
+fn reader_of(cluster: &Cluster<AnyKind>, mut reading: Vec<ReaderSeat>) -> Result<ReaderSeat, Fail>
+    requires count { vec_len reading ≡ 1 }
+    requires readers { (k : ℕ) → k < 1 → slice_get reading.items k ≡ Some (new_reader cluster.now.board) }
+    ensures { IfOk result (λ reader. reader.board ≡ cluster.now.board) }
+{
+    match reading.pop() {
+        Some(reader) => Ok(reader),
+        None => Err(Fail::from("the cluster has a reader")),
+    }
+}
+
+#[test]
+fn four_replicas_commit_and_two_workers_meet(rt: HostRuntime) -> Result<(), Fail> {
+    let alloc = rt.alloc();
+    let keys = four()?;
+    let states = replicas(&rt, alloc, &keys)?;
+    let (cluster, workers, reading) = Cluster::new(alloc, &keys.config, states, ROUNDS, 1)?;
+    let reader = reader_of(&cluster, reading)?;
+    let clock = QuietClock::new(&rt, alloc, 4)?;
+    let gate = MeetingGate::new();
+    assert!(rt; run_all(&rt, workers, &clock, &gate));
+    assert!(rt; !clock.has_note() && !gate.has_note() && gate.have_met());
+    assert!(rt; are_done(&rt, &cluster, reader, keys.config.replicas));
+    Ok(())
+}

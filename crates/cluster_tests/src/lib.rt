@@ -1,0 +1,13 @@
+//! A cluster whose replicas run in threads. This crate has tests alone.
+#![tactic(auto)]
+
+#[cfg(test)]
+mod cluster_tests;
+#[cfg(test)]
+mod lock_tests;
+#[cfg(test)]
+mod meeting_gate;
+#[cfg(test)]
+mod quiet_clock;
+#[cfg(test)]
+mod replicas;

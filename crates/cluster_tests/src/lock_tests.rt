@@ -1,0 +1,40 @@
+//! Two threads, each with a replica of its own, at once.
+use crate::meeting_gate::meet;
+use crate::replicas::{four, replicas};
+use app_kinds::AnyKind;
+use ledger_model::Event;
+use replica_turns::LockedReplica;
+use std::sync::atomic::AtomicBool;
+use std::sync::{Mutex, Wait};
+use std::test::Fail;
+use std::thread;
+
+/// Applies an event to the replica, and waits for the other thread's flag, under the lock.
+fn apply_and_meet<R: Wait>(
+    rt: &R,
+    replica: &LockedReplica<AnyKind>,
+    own: &AtomicBool,
+    other: &AtomicBool,
+) -> bool {
+    let mut state = replica.lock(rt);
+    let is_taken = state.apply(Event::RoundEnd).is_ok();
+    meet(own, other) && is_taken
+}
+
+#[test]
+fn two_threads_change_two_replicas_at_once(rt: HostRuntime) -> Result<(), Fail> {
+    let alloc = rt.alloc();
+    let mut states = replicas(&rt, alloc, &four()?)?;
+    let (Some(first), Some(second)) = (states.pop(), states.pop()) else {
+        return Err(Fail::from("two replicas are there"));
+    };
+    let (first, second) = (Mutex::new(first), Mutex::new(second));
+    let (one, two) = (AtomicBool::new(false), AtomicBool::new(false));
+    let (is_first, is_second) = thread::join(
+        &rt,
+        || apply_and_meet(&rt, &first, &one, &two),
+        || apply_and_meet(&rt, &second, &two, &one),
+    );
+    assert!(rt; is_first && is_second);
+    Ok(())
+}

@@ -1,0 +1,63 @@
+//! A gate at which the workers of replicas 0 and 1 wait for each other.
+use cluster_workers::TurnGate;
+use ledger_model::ReplicaId;
+use std::sync::atomic::{AtomicBool, Ordering};
+use std::thread;
+
+/// How often a thread looks for another one before it leaves a note.
+pub(crate) const MAX_TURNS: u32 = 1_000_000;
+
+/// Raises the own flag, and waits for the other one. False where it did not come in so many turns.
+pub(crate) fn meet(own: &AtomicBool, other: &AtomicBool) -> bool {
+    own.store(true, Ordering::SeqCst);
+    for _ in 0..MAX_TURNS {
+        if other.load(Ordering::SeqCst) {
+            return true;
+        }
+        thread::yield_now();
+    }
+    false
+}
+
+/// Before each turn, and so before the first, either worker waits until the other has come to a turn.
+#[derive(Drop)]
+pub(crate) struct MeetingGate {
+    first: AtomicBool,
+    second: AtomicBool,
+    note: AtomicBool,
+}
+
+impl MeetingGate {
+    pub(crate) fn new() -> Self {
+        MeetingGate {
+            first: AtomicBool::new(false),
+            second: AtomicBool::new(false),
+            note: AtomicBool::new(false),
+        }
+    }
+
+    /// Whether one waited in vain.
+    pub(crate) fn has_note(&self) -> bool {
+        self.note.load(Ordering::SeqCst)
+    }
+
+    /// Whether both came.
+    pub(crate) fn have_met(&self) -> bool {
+        self.first.load(Ordering::SeqCst) && self.second.load(Ordering::SeqCst)
+    }
+}
+
+impl TurnGate for MeetingGate {
+    fn before(&self, replica: ReplicaId) {
+        let has_met = match replica.number() {
+            0 => meet(&self.first, &self.second),
+            1 => meet(&self.second, &self.first),
+            _ => true,
+        };
+        if !has_met {
+            self.note.store(true, Ordering::SeqCst);
+        }
+    }
+
+    fn after(&self, _replica: ReplicaId) {}
+}

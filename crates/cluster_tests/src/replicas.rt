@@ -1,0 +1,65 @@
+//! Four replicas, each with `a=1` in its pool.
+ghost use Rattle.std.specs.Prelude.{◌≡◌, ◌<◌, Some, slice_get, vec_len, IfOk};
+ghost use Rattle.key_ring.specs.Signers.{key_of};
+ghost use Rattle.cluster_keys.specs.Keys.{secret_of};
+
+use app_kinds::AnyKind;
+use bytes::Bytes;
+use cluster_keys::Cluster;
+use cluster_workers::{new_replica, ring_of_all};
+use key_ring::KeyRing;
+use ledger_model::{AppKind, Config, Event, ReplicaId};
+use lm_ots::{Params, TreeHeight, Width};
+use locked_replica::State;
+use std::alloc::Global;
+use std::hash::RandomState;
+use std::random::RandomSource;
+use std::test::Fail;
+
+const PARAMS: Params = Params {
+    width: Width::W4,
+    height: TreeHeight::H5,
+};
+
+/// A cluster of four, of which one may lie.
+pub(crate) fn four() -> Result<Cluster, Fail> {
+    Ok(Cluster {
+        config: Config::new(4, 1, AppKind::KvStore)?,
+        params: PARAMS,
+        seed: [0; 32],
+    })
+}
+
+/// One of its replicas, with `a=1` in its pool.
+fn replica<R: RandomSource>(
+    rt: &R,
+    alloc: Global,
+    cluster: &Cluster,
+    ring: &KeyRing,
+    id: u8,
+) -> Result<State<AnyKind>, Fail>
+    requires below { id < cluster.now.config.replicas }
+    requires own_key { slice_get ring.now id ≡ Some (key_of (secret_of cluster.now id)) }
+{
+    let app = AnyKind::new(alloc, cluster.config.kind);
+    let randoms = [RandomState::new(rt)?, RandomState::new(rt)?];
+    let mut state = new_replica(alloc, cluster, ring, ReplicaId::new(id), app, randoms)?;
+    state.apply(Event::Submit(Bytes::from_static(b"a=1")))?;
+    Ok(state)
+}
+
+/// All of them, by number.
+pub(crate) fn replicas<R: RandomSource>(
+    rt: &R,
+    alloc: Global,
+    cluster: &Cluster,
+) -> Result<Vec<State<AnyKind>>, Fail>
+    ensures { IfOk result (λ states. vec_len states ≡ cluster.now.config.replicas) }
+{
+    let ring = ring_of_all(alloc, cluster)?;
+    let mut states = Vec::new(alloc);
+    for id in 0..cluster.config.replicas {
+        states.push(replica(rt, alloc, cluster, &ring, id)?)?;
+    }
+    Ok(states)
+}
