@@ -7,12 +7,14 @@
 # bench: proves and builds the benchmark, and prints what keys and signatures cost on this machine.
 # bench-v3: the same, of a program for processors with AVX2 (x86-64-v3), which the gate doesn't build; on any other the program
 #       ends at once with status 127.
+# soak: proves and builds the program, and runs live clusters and many sessions on this machine, some minutes; no part of the gate, since
+#       what a clock brings differs from machine to machine.
 # prove-NAME: proves a library and what it stands on; what was said is in crates/NAME/out/said.
 # One of them at a time in one tree: the gate sets crates/*/out aside while it runs.
 # What the checker said in the gate is in gate.log; a line for each crate and each edit appears.
 SHELL := bash
 .SHELLFLAGS := -o pipefail -c
-.PHONY: demo prove bench bench-v3 test
+.PHONY: demo prove bench bench-v3 soak test
 
 crates := $(shell sed -n 's/^\([a-z_]*\)\( [^:]*\)\?:.*/\1/p' crates.txt)
 below = $(filter $(crates),$(shell sed -n 's/^$(1)\( [^:]*\)\?://p' crates.txt))
@@ -33,7 +35,7 @@ demo:
 prove:
 	@echo "proving the crates below the program, and the program, on $$(nproc) processors:"
 	@$(MAKE) --no-print-directory -j3 prove-ledger_model prove-octets prove-plain_text
-	@cd crates/program && mkdir -p out && rt all check --jobs $$((2 * $$(nproc))) 2>&1 | tee out/said | while read -r line; do \
+	@cd crates/abft && mkdir -p out && rt all check --jobs $$((2 * $$(nproc))) 2>&1 | tee out/said | while read -r line; do \
 	    case $$line in "== "*) crate=$${line#== };; logic=proved*) echo "$$crate: proved after $$SECONDS s";; esac; done \
 	    || { grep -E 'error|not proved|no proof|failed' out/said | tail -n 40; exit 1; }
 	@cd crates/abft && mkdir -p out && { rt run --jobs $$(nproc) -- --version >out/said 2>&1 || { tail -n 20 out/said; exit 1; }; }
@@ -46,6 +48,10 @@ bench-v3:
 	@echo "a program for processors with AVX2 (x86-64-v3); on any other it ends at once with status 127"
 	@cd crates/lms_speed && rt run --cpu x86-64-v3 </dev/null >/dev/null
 	@crates/lms_speed/out/lms_speed table
+
+soak:
+	@cd crates/abft && rt run -- --version </dev/null >/dev/null
+	@tests/soak.sh
 
 # The scripts take the programs that `rt ci` has just made.
 test:

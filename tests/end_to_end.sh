@@ -102,7 +102,7 @@ refuses "error: --value is a transaction of 1 to 64 bytes, not '${ones}1'" sign 
 refuses 'error: a word of the command line is not UTF-8' sign report --value $'\xff'
 refuses 'error: a word of the command line is not UTF-8' $'\xff'
 refuses "error: 'abft' requires a subcommand but one was not provided
-  [subcommands: sign, deliver, simulate, help]
+  [subcommands: sign, deliver, simulate, cluster, serve, help]
 
 Usage: abft <COMMAND>
 
@@ -158,6 +158,21 @@ refuses "error: the argument '--n <n>' cannot be used multiple times
 Usage: abft deliver [OPTIONS]
 
 For more information, try '--help'." deliver --n 4 --n 4
+refuses "error: --rounds is a number from 0 to 4000000000, not '4000000001'" cluster --rounds 4000000001
+refuses "error: --base-ms is a number from 1 to 60000, not '0'" serve --base-ms 0
+refuses "error: --port is a number from 0 to 65535, not '65536'" serve --port 65536
+refuses "error: --sessions is a number from 1 to 1000, not '1001'" serve --sessions 1001
+refuses 'error: --tx has a space: write it \20' cluster --tx "'a b'"
+refuses "error: unexpected argument '--port' found
+
+Usage: abft cluster [OPTIONS]
+
+For more information, try '--help'." cluster --port 1
+refuses "error: unexpected value '1' for '--quiet' found; no more were expected
+
+Usage: abft cluster --quiet
+
+For more information, try '--help'." cluster --quiet=1
 
 # Streams that fail.
 full='error: No space left on device (os error 28)'$'\n'
@@ -196,6 +211,8 @@ Commands:
   sign      Signs a report or an acknowledgement, and writes its frame to standard output
   deliver   Delivers the frames of standard input to a replica, and prints what it answers
   simulate  Plays the scenario of standard input on a whole cluster, and prints what its replicas answer
+  cluster   Runs a whole cluster in one process, a thread for each replica, and prints what each committed
+  serve     Runs such a cluster beside a listener on 127.0.0.1, whose clients speak to its replicas
   help      Print this message or the help of the given subcommand(s)
 
 Options:
@@ -294,6 +311,68 @@ Exit status:
   3  want of memory, or a failed read or write
 EOT
 check 'help of simulate' 0 "'$abft' simulate --help"
+cat >"$room/running" <<'EOT'
+      --tx <tx>            The transaction that each pool is given [default: a=1]
+      --rounds <rounds>    How many rounds each replica ends, 0 to 4000000000 [default: 40]
+      --base-ms <base-ms>  Milliseconds of the first round, 1 to 60000; each later round has one more [default: 200]
+      --quiet              Tells nothing of its progress
+EOT
+{
+    cat <<'EOT'
+Runs a whole cluster in one process, a thread for each replica, and prints what each committed
+
+Usage: abft cluster [OPTIONS]
+
+Options:
+EOT
+    cat "$room/common" "$room/running"
+    cat <<'EOT'
+  -h, --help               Print help
+
+Lines, one for each replica:
+  commits R C  replica R committed C blocks
+
+Progress is told on standard error if that is a terminal, unless --quiet is there.
+
+Exit status:
+  0  the rounds are over, and the lines were printed
+  2  a fault of usage
+  3  want of memory, a thread that can't be made, or a failed write
+EOT
+} >"$room/wanted-out"
+check 'help of cluster' 0 "'$abft' cluster --help"
+# The longer name of --sessions moves the texts of the options by two columns.
+{
+    cat <<'EOT'
+Runs such a cluster beside a listener on 127.0.0.1, whose clients speak to its replicas
+
+Usage: abft serve [OPTIONS]
+
+Options:
+EOT
+    sed -E 's/^(.{27})/\1  /' "$room/common" "$room/running"
+    cat <<'EOT'
+      --port <port>          The port to listen at, 0 to 65535; 0 for one that is free [default: 0]
+      --sessions <sessions>  How many connections are taken, 1 to 1000 [default: 1]
+  -h, --help                 Print help
+
+The first line:
+  listening PORT  clients can connect to this port
+
+Then lines as of 'abft cluster', one for each replica:
+  commits R C  replica R committed C blocks
+
+It ends when the rounds are over and as many connections as --sessions says have ended.
+Progress is told on standard error if that is a terminal, unless --quiet is there.
+docs/OPERATING.md has the rest.
+
+Exit status:
+  0  the rounds are over, and the lines were printed
+  2  a fault of usage
+  3  want of memory, a thread that can't be made, a port that can't be listened at, or a failed write
+EOT
+} >"$room/wanted-out"
+check 'help of serve' 0 "'$abft' serve --help"
 runs 'the scenario in the help of simulate' 0 'submit 0 ok
 propose 0 1 [a=1]
 end 0 1 sent 1
@@ -309,5 +388,21 @@ end 2 2 sent 0
 end 3 2 sent 0
 execute 0 nothing
 ' "'$abft' simulate --help | sed -n '/^Input/,/^$/s/^  //p' | '$abft' simulate"
+
+# Live clusters, by the machine's clock.
+runs 'a cluster of no rounds' 0 $'commits 0 0\ncommits 1 0\ncommits 2 0\ncommits 3 0\n' "'$abft' cluster --rounds 0"
+exec 3< <("$abft" serve --rounds 100 --base-ms 150 --tree 10 --sessions 5; echo "status $?")
+read -r -u 3 listening port
+runs 'the first line of a server' 0 'listening' "printf %s '$listening'"
+runs 'sessions byte by byte' 0 'no request: 000101 000101 000105
+early: 000100 000102
+later: 000700 at least 3 0131
+' "tests/live_session.py '$port'"
+runs 'a client sees its transaction run' 0 $'height N: blue\n' "examples/client.py '$port' colour blue | sed 's/[0-9][0-9]*/N/'"
+faults 'a port that is taken' 3 "error: can't listen at 127.0.0.1:$port: Address already in use (os error 98)"$'\n' \
+    "'$abft' serve --port '$port'"
+cat <&3 >"$room/served"
+runs 'what each replica committed' 0 $'commits 0\ncommits 1\ncommits 2\ncommits 3\nstatus 0\n' \
+    "sed -E 's/^(commits [0-3]) [1-9][0-9]*$/\1/' '$room/served'"
 
 finish

@@ -1,19 +1,42 @@
 //! The program `abft`: a Byzantine fault tolerant replicated ledger.
 #![tactic(auto)]
 
-use program::{refuse_words, run};
+use cluster_service::{cluster, serve};
+use program::{Outcome, finish, refuse_words, run};
+use std::io::{IsTerminal, Stderr};
 use std::process::ExitCode;
 use std::{env, io};
 
 fn main(rt: HostRuntime) -> ExitCode {
-    match run_host(&rt) {
-        Ok(status) => ExitCode::from(status),
-        Err(error) => ExitCode::from(refuse_words(rt.alloc(), error, &mut rt.stderr())),
+    let alloc = rt.alloc();
+    let mut faults = rt.stderr();
+    let status = match run_host(&rt) {
+        Ok(Outcome::Ended(status)) => status,
+        Ok(Outcome::Cluster(settings)) => {
+            let done = cluster(&rt, alloc, &settings, terminal(&rt), &mut rt.stdout());
+            finish(alloc, done.map(|_| 0u8), &mut faults)
+        }
+        Ok(Outcome::Serve(settings)) => {
+            let done = serve(&rt, alloc, &settings, terminal(&rt), &mut rt.stdout());
+            finish(alloc, done.map(|_| 0u8), &mut faults)
+        }
+        Err(error) => refuse_words(alloc, error, &mut faults),
+    };
+    ExitCode::from(status)
+}
+
+/// Standard error, where it is a terminal.
+fn terminal(rt: &HostRuntime) -> Option<Stderr> {
+    let faults = rt.stderr();
+    if faults.is_terminal() {
+        Some(faults)
+    } else {
+        None
     }
 }
 
 /// Runs the program on the words and streams of the process. An `Err` is of the words.
-fn run_host(rt: &HostRuntime) -> io::Result<u8> {
+fn run_host(rt: &HostRuntime) -> io::Result<Outcome> {
     let alloc = rt.alloc();
     let words: Vec<String> = env::args(rt)?.collect(alloc)?;
     let words: Vec<&str> = words.iter().map(|word| word.as_str()).collect(alloc)?;

@@ -1,8 +1,10 @@
 -- From the matches of the words to the subcommand that they name.
-use Rattle.std.proofs.Common.{◌≡◌, ◌∙◌, true, List, refl, sym, ap, subst, codes, inl, inr}
+use Rattle.std.proofs.Common.{◌≡◌, ◌∙◌, true, false, List, refl, sym, ap, subst, codes, inl, inr}
 use Rattle.std.specs.Prelude.{◌⊎◌, Option, Some, None, option_map, option_and_then, find}
 use Rattle.std.specs.Str.{bytes_eq}
+use Rattle.std.proofs.lemmas.Bool.Decides.{not_from_Decides}
 use Rattle.std.proofs.lemmas.Option.{same_Some}
+use Rattle.std.proofs.lemmas.Slice.Eq.{bytes_eq-Decides}
 use Rattle.clap.specs.Facts.{Entry}
 use Rattle.clap.specs.Walk.{row_of}
 use Rattle.clap.specs.Matches.{matched_of}
@@ -15,10 +17,12 @@ use Rattle.clap.specs.declared.parser.matches.ArgMatches.TheViews.{out-ArgMatche
 use Rattle.std.specs.Box.{box_value}
 use Rattle.clap.proofs.OnLiterals.{clap_on_literals}
 use Rattle.command_line.specs.Grammar.{abft_app}
-use Rattle.command_line.specs.Options.{Sets, SetsSign, SetsDeliver, SetsSimulate}
+use Rattle.command_line.specs.Options.{Sets, SetsSign, SetsDeliver, SetsSimulate, SetsRunning, SetsServe}
 use Rattle.settings.specs.declared.sign.SignSettings.{SignSettings}
 use Rattle.settings.specs.declared.deliver.DeliverSettings.{DeliverSettings}
 use Rattle.settings.specs.declared.simulate.SimulateSettings.{SimulateSettings}
+use Rattle.settings.specs.declared.cluster.ClusterSettings.{ClusterSettings}
+use Rattle.settings.specs.declared.cluster.ServeSettings.{ServeSettings}
 use Rattle.settings.specs.declared.Settings.{Settings}
 use Rattle.settings.specs.declared.Settings.TheVariants as settings
 
@@ -50,35 +54,62 @@ found_is m name rows named rowed = pair_is (subcommand_rows_of m) name rows (nam
 pub rows_are : (m : ArgMatches) (app : App) (words : List Text) → app ≡ abft_app → HasMatchesOf app words m → subcommand_rows_of m ≡ subcommand_of abft_app words
 rows_are m app words is has = (has (ap is_simple is ∙ abft_is_simple)).1 ∙ ap (λ a. subcommand_of a words) is
 
--- the name is one of the three subcommands'
-abbrev pub IsOneOfThree : Option Text → Type 0
-IsOneOfThree name = (name ≡ Some (codes "sign")) ⊎ ((name ≡ Some (codes "deliver")) ⊎ (name ≡ Some (codes "simulate")))
+-- the name is one of the five subcommands'
+abbrev pub IsOneOfFive : Option Text → Type 0
+IsOneOfFive name =
+    (name ≡ Some (codes "sign")) ⊎ ((name ≡ Some (codes "deliver")) ⊎ ((name ≡ Some (codes "simulate")) ⊎ ((name ≡ Some (codes "cluster")) ⊎ (name ≡ Some (codes "serve")))))
 
 -- whatever is set is set by a subcommand of one of these names
-named : (o : Option (Text × List Row)) (s : Settings) → Sets o s → IsOneOfThree (option_map (λ p. p.0) o)
+named : (o : Option (Text × List Row)) (s : Settings) → Sets o s → IsOneOfFive (option_map (λ p. p.0) o)
 named None s sets = absurd sets
 named (Some p) (settings.Sign t) sets = inl (ap (λ n. Some n) sets.0)
 named (Some p) (settings.Deliver t) sets = inr (inl (ap (λ n. Some n) sets.0))
-named (Some p) (settings.Simulate t) sets = inr (inr (ap (λ n. Some n) sets.0))
+named (Some p) (settings.Simulate t) sets = inr (inr (inl (ap (λ n. Some n) sets.0)))
+named (Some p) (settings.Cluster t) sets = inr (inr (inr (inl (ap (λ n. Some n) sets.0))))
+named (Some p) (settings.Serve t) sets = inr (inr (inr (inr (ap (λ n. Some n) sets.0))))
 
-pub names_one : (m : ArgMatches) (s : Settings) → Sets (subcommand_rows_of m) s → IsOneOfThree (subcommand_name_of m)
-names_one m s sets = subst IsOneOfThree (name_is m) (named (subcommand_rows_of m) s sets)
+pub names_one : (m : ArgMatches) (s : Settings) → Sets (subcommand_rows_of m) s → IsOneOfFive (subcommand_name_of m)
+names_one m s sets = subst IsOneOfFive (name_is m) (named (subcommand_rows_of m) s sets)
 
--- what is set by `sign`, what by `deliver`, and what by `simulate`
+-- names that differ are not the same
+differ : {W : Type 0} (x y : Text) → bytes_eq x y ≡ false → x ≡ y → W
+differ x y are same = absurd (not_from_Decides (bytes_eq x y) (bytes_eq-Decides x y) are same)
+
+-- what is set by a subcommand of each name
 pub sets_sign : {W : Type 0} (rows : List Row) (s : Settings) → ((t : SignSettings) → SetsSign rows t → W) → Sets (Some (codes "sign", rows)) s → W
 sets_sign rows (settings.Sign t) then sets = then t sets.1
-sets_sign rows (settings.Deliver t) then sets = let bad : codes "sign" ≡ codes "deliver" = sets.0 in absurd cc
-sets_sign rows (settings.Simulate t) then sets = let bad : codes "sign" ≡ codes "simulate" = sets.0 in absurd cc
+sets_sign rows (settings.Deliver t) then sets = differ _ _ refl sets.0
+sets_sign rows (settings.Simulate t) then sets = differ _ _ refl sets.0
+sets_sign rows (settings.Cluster t) then sets = differ _ _ refl sets.0
+sets_sign rows (settings.Serve t) then sets = differ _ _ refl sets.0
 
 pub sets_deliver : {W : Type 0} (rows : List Row) (s : Settings) → ((t : DeliverSettings) → SetsDeliver rows t → W) → Sets (Some (codes "deliver", rows)) s → W
 sets_deliver rows (settings.Deliver t) then sets = then t sets.1
-sets_deliver rows (settings.Sign t) then sets = let bad : codes "deliver" ≡ codes "sign" = sets.0 in absurd cc
-sets_deliver rows (settings.Simulate t) then sets = let bad : codes "deliver" ≡ codes "simulate" = sets.0 in absurd cc
+sets_deliver rows (settings.Sign t) then sets = differ _ _ refl sets.0
+sets_deliver rows (settings.Simulate t) then sets = differ _ _ refl sets.0
+sets_deliver rows (settings.Cluster t) then sets = differ _ _ refl sets.0
+sets_deliver rows (settings.Serve t) then sets = differ _ _ refl sets.0
 
 pub sets_simulate : {W : Type 0} (rows : List Row) (s : Settings) → ((t : SimulateSettings) → SetsSimulate rows t → W) → Sets (Some (codes "simulate", rows)) s → W
 sets_simulate rows (settings.Simulate t) then sets = then t sets.1
-sets_simulate rows (settings.Sign t) then sets = let bad : codes "simulate" ≡ codes "sign" = sets.0 in absurd cc
-sets_simulate rows (settings.Deliver t) then sets = let bad : codes "simulate" ≡ codes "deliver" = sets.0 in absurd cc
+sets_simulate rows (settings.Sign t) then sets = differ _ _ refl sets.0
+sets_simulate rows (settings.Deliver t) then sets = differ _ _ refl sets.0
+sets_simulate rows (settings.Cluster t) then sets = differ _ _ refl sets.0
+sets_simulate rows (settings.Serve t) then sets = differ _ _ refl sets.0
+
+pub sets_cluster : {W : Type 0} (rows : List Row) (s : Settings) → ((t : ClusterSettings) → SetsRunning rows t → W) → Sets (Some (codes "cluster", rows)) s → W
+sets_cluster rows (settings.Cluster t) then sets = then t sets.1
+sets_cluster rows (settings.Sign t) then sets = differ _ _ refl sets.0
+sets_cluster rows (settings.Deliver t) then sets = differ _ _ refl sets.0
+sets_cluster rows (settings.Simulate t) then sets = differ _ _ refl sets.0
+sets_cluster rows (settings.Serve t) then sets = differ _ _ refl sets.0
+
+pub sets_serve : {W : Type 0} (rows : List Row) (s : Settings) → ((t : ServeSettings) → SetsServe rows t → W) → Sets (Some (codes "serve", rows)) s → W
+sets_serve rows (settings.Serve t) then sets = then t sets.1
+sets_serve rows (settings.Sign t) then sets = differ _ _ refl sets.0
+sets_serve rows (settings.Deliver t) then sets = differ _ _ refl sets.0
+sets_serve rows (settings.Simulate t) then sets = differ _ _ refl sets.0
+sets_serve rows (settings.Cluster t) then sets = differ _ _ refl sets.0
 
 -- where an option's value came from, among the entries and among the rows
 pub source_is : (f : Found) (id : Text) → option_and_then (λ a. a.source) (matched_of f id) ≡ option_and_then (λ (r : Row). r.source) (find (λ (r : Row). bytes_eq r.id id) (rows_of f))

@@ -2,7 +2,7 @@
 use Rattle.std.specs.Prelude.{Some, true, List, [], ◌∷◌, codes}
 use Rattle.clap.specs.Words.{App, Rule, Text, new_app, new_rule, with_rule, with_subcommand}
 use Rattle.clap.specs.declared.builder.action.ArgAction.TheVariants.{SetTrue}
-use Rattle.command_line.specs.declared.grammar.ValueOption.{ValueOption}
+use Rattle.command_line.specs.declared.value_options.ValueOption.{ValueOption}
 
 -- an option with a value: its name, and the value where the words name none
 abbrev pub option_rule : Text → Text → Rule
@@ -17,7 +17,7 @@ with_options a (o ∷ os) = with_options (with_rule a (option_rule o.name.now o.
 abbrev pub seed_rule : Rule
 seed_rule = option_rule (codes "seed") (codes "0000000000000000000000000000000000000000000000000000000000000000")
 
--- the options of a cluster, which `abft sign` and `abft deliver` have
+-- the options of a cluster, which every subcommand but `abft simulate` has
 abbrev pub with_cluster : App → App
 with_cluster a =
     with_rule (with_rule (with_rule (with_rule (with_rule (with_rule a
@@ -66,10 +66,43 @@ flag_rule name = record (new_rule name) { long = Some name; action = Some SetTru
 abbrev pub simulate_app : App
 simulate_app = with_rule (with_rule (new_app (codes "simulate")) seed_rule) (flag_rule (codes "histories"))
 
+-- the options of a run that have a value
+abbrev pub with_run : App → App
+with_run a =
+    with_rule (with_rule (with_rule a
+    (option_rule (codes "tx") (codes "a=1")))
+    (option_rule (codes "rounds") (codes "40")))
+    (option_rule (codes "base-ms") (codes "200"))
+
+-- the options of a running cluster, which `abft cluster` and `abft serve` have
+abbrev pub with_running : App → App
+with_running a = with_rule (with_run (with_cluster a)) (flag_rule (codes "quiet"))
+
+-- `abft cluster`: its options
+abbrev pub cluster_app : App
+cluster_app = with_running (new_app (codes "cluster"))
+
+-- the options of `abft serve` alone
+abbrev pub with_serve : App → App
+with_serve a =
+    with_rule (with_rule a
+    (option_rule (codes "port") (codes "0")))
+    (option_rule (codes "sessions") (codes "1"))
+
+-- `abft serve`: its options
+abbrev pub serve_app : App
+serve_app = with_serve (with_running (new_app (codes "serve")))
+
 -- a subcommand is required, and `--version` is there
 abbrev pub at_top : App → App
 at_top a = record a { top = record a.top { has_version = true; subcommand_required = true } }
 
--- the program: its three subcommands
+-- the program: its five subcommands
 abbrev pub abft_app : App
-abft_app = with_subcommand (with_subcommand (with_subcommand (at_top (new_app (codes "abft"))) sign_app.top) deliver_app.top) simulate_app.top
+abft_app =
+    with_subcommand (with_subcommand (with_subcommand (with_subcommand (with_subcommand (at_top (new_app (codes "abft")))
+    sign_app.top)
+    deliver_app.top)
+    simulate_app.top)
+    cluster_app.top)
+    serve_app.top

@@ -16,6 +16,8 @@ use Rattle.cluster_keys.specs.declared.cluster.Cluster.{Cluster}
 use Rattle.settings.specs.declared.sign.SignSettings.{SignSettings}
 use Rattle.settings.specs.declared.deliver.DeliverSettings.{DeliverSettings}
 use Rattle.settings.specs.declared.simulate.SimulateSettings.{SimulateSettings}
+use Rattle.settings.specs.declared.cluster.ClusterSettings.{ClusterSettings}
+use Rattle.settings.specs.declared.cluster.ServeSettings.{ServeSettings}
 use Rattle.settings.specs.declared.Settings.{Settings}
 use Rattle.settings.specs.declared.Settings.TheVariants as settings
 use Rattle.settings.specs.declared.sign.What.{What}
@@ -95,12 +97,28 @@ pub record SetsSimulate (rows : List Row) (s : SimulateSettings) : Type 0 where
   pub seed : IsSeed rows s.seed
   pub histories : IsTrue s.histories ↔ IsNamed rows (codes "histories")
 
+-- the options of `abft cluster` set these settings: it is to be quiet where the words name that option
+pub record SetsRunning (rows : List Row) (s : ClusterSettings) : Type 0 where
+  pub cluster : SetsCluster rows s.cluster
+  pub tx : IsWritten rows (codes "tx") s.tx
+  pub rounds : IsNumber rows (codes "rounds") 0 4000000000 s.rounds
+  pub base : IsNumber rows (codes "base-ms") 1 60000 s.base_ms
+  pub quiet : IsTrue s.is_quiet ↔ IsNamed rows (codes "quiet")
+
+-- the options of `abft serve` set these settings
+pub record SetsServe (rows : List Row) (s : ServeSettings) : Type 0 where
+  pub cluster : SetsRunning rows s.cluster
+  pub port : IsNumber rows (codes "port") 0 65535 s.port
+  pub sessions : IsNumber rows (codes "sessions") 1 1000 s.sessions
+
 -- the subcommand that the words name, and its options
 abbrev pub Sets : Option (Text × List Row) → Settings → Type 0
 Sets None s = ⊥
 Sets (Some found) (settings.Sign s) = (found.0 ≡ codes "sign") × SetsSign found.1 s
 Sets (Some found) (settings.Deliver s) = (found.0 ≡ codes "deliver") × SetsDeliver found.1 s
 Sets (Some found) (settings.Simulate s) = (found.0 ≡ codes "simulate") × SetsSimulate found.1 s
+Sets (Some found) (settings.Cluster s) = (found.0 ≡ codes "cluster") × SetsRunning found.1 s
+Sets (Some found) (settings.Serve s) = (found.0 ≡ codes "serve") × SetsServe found.1 s
 
 -- the words set this
 abbrev pub IsSet : List Text → Settings → Type 0
@@ -116,8 +134,8 @@ WantsMemory (fault.CommandLine error) = kind_of error ≡ kind.OutOfMemory
 WantsMemory (fault.Number option least most word) = ⊥
 WantsMemory (fault.Seed word) = ⊥
 WantsMemory (fault.TooFew replicas faults) = ⊥
-WantsMemory (fault.Spelling why) = ⊥
-WantsMemory (fault.NoTransaction word) = ⊥
+WantsMemory (fault.Spelling option why) = ⊥
+WantsMemory (fault.NoTransaction option word) = ⊥
 WantsMemory (fault.What word) = ⊥
 WantsMemory (fault.Missing option) = ⊥
 WantsMemory fault.NoSubcommand = ⊥
@@ -129,8 +147,8 @@ AsksForText (fault.CommandLine error) = (kind_of error ≡ kind.DisplayHelp) ⊎
 AsksForText (fault.Number option least most word) = ⊥
 AsksForText (fault.Seed word) = ⊥
 AsksForText (fault.TooFew replicas faults) = ⊥
-AsksForText (fault.Spelling why) = ⊥
-AsksForText (fault.NoTransaction word) = ⊥
+AsksForText (fault.Spelling option why) = ⊥
+AsksForText (fault.NoTransaction option word) = ⊥
 AsksForText (fault.What word) = ⊥
 AsksForText (fault.Missing option) = ⊥
 AsksForText fault.NoSubcommand = ⊥

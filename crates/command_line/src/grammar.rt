@@ -1,10 +1,12 @@
 //! The grammar of the command line, as clap is told it: subcommands, options, defaults and help.
 ghost use Rattle.std.specs.Prelude.{◌≡◌, IfOk, codes, false};
-ghost use Rattle.clap.specs.Words.{app_of, new_app, with_rule};
+ghost use Rattle.clap.specs.Words.{app_of, new_app};
 ghost use Rattle.clap.specs.declared.builder.command.Command.TheViews.{out-Command as fields_of};
-ghost use Rattle.command_line.specs.Grammar.{option_rule, with_options, sign_app, deliver_app, simulate_app, at_top, abft_app};
+ghost use Rattle.command_line.specs.Grammar.{sign_app, deliver_app, simulate_app, at_top, abft_app};
 
-use clap::{Arg, ArgAction, Command};
+use crate::running_grammar::{cluster_command, serve_command};
+use crate::value_options::{SEED, ValueOption, with_cluster, with_flag, with_option, with_options};
+use clap::{Arg, Command};
 use std::alloc::{AllocError, Global};
 
 /// The version that `abft --version` prints.
@@ -58,51 +60,6 @@ Exit status:
   2  a fault of usage
   3  want of memory, or a failed read or write";
 
-/// An option that has a value: its name, its value where the words name none, and its help.
-#[derive(Clone, Copy)]
-struct ValueOption {
-    name: &'static str,
-    default: &'static str,
-    help: &'static str,
-}
-
-/// The seed of all keys, which every subcommand has.
-const SEED: ValueOption = ValueOption {
-    name: "seed",
-    default: "0000000000000000000000000000000000000000000000000000000000000000",
-    help: "The seed of all keys, 64 hexadecimal digits",
-};
-
-/// The options of a cluster, which `abft sign` and `abft deliver` have.
-const CLUSTER: [ValueOption; 6] = [
-    ValueOption {
-        name: "n",
-        default: "4",
-        help: "How many replicas there are, 4 to 13",
-    },
-    ValueOption {
-        name: "t",
-        default: "1",
-        help: "How many may lie, 1 to 4, with 3t+1 <= n",
-    },
-    ValueOption {
-        name: "kind",
-        default: "1",
-        help: "The application: 1 keys and values, 2 a counter, 3 a purse",
-    },
-    ValueOption {
-        name: "w",
-        default: "4",
-        help: "Bits of a digit of a signature: 4 or 8",
-    },
-    ValueOption {
-        name: "tree",
-        default: "5",
-        help: "Height of a signature tree: 5 or 10",
-    },
-    SEED,
-];
-
 /// The options of `abft sign` alone.
 const SIGN: [ValueOption; 4] = [
     ValueOption {
@@ -151,40 +108,6 @@ const DELIVER: [ValueOption; 4] = [
     },
 ];
 
-/// The command with one option more.
-fn with_option<'a>(
-    alloc: Global,
-    command: Command<'a>,
-    option: &ValueOption,
-) -> Result<Command<'a>, AllocError>
-    requires { (fields_of command).has_globals ≡ false }
-    ensures app { IfOk result (λ c. app_of c ≡ with_rule (app_of command.entry) (option_rule option.now.name.now option.now.default.now)) }
-    ensures local { IfOk result (λ c. (fields_of c).has_globals ≡ false) }
-{
-    let arg = Arg::new(alloc, option.name)
-        .long(option.name)
-        .default_value(option.default)
-        .help(option.help);
-    command.arg(arg)
-}
-
-/// The command with these options more, in turn.
-fn with_options<'a>(
-    alloc: Global,
-    command: Command<'a>,
-    options: &[ValueOption],
-) -> Result<Command<'a>, AllocError>
-    requires { (fields_of command).has_globals ≡ false }
-    ensures app { IfOk result (λ c. app_of c ≡ with_options (app_of command.entry) options.now) }
-    ensures local { IfOk result (λ c. (fields_of c).has_globals ≡ false) }
-{
-    let mut command = command;
-    for option in options {
-        command = with_option(alloc, command, option)?;
-    }
-    Ok(command)
-}
-
 /// `abft sign WHAT`.
 fn sign_command<'a>(alloc: Global) -> Result<Command<'a>, AllocError>
     ensures app { IfOk result (λ c. app_of c ≡ sign_app) }
@@ -193,7 +116,7 @@ fn sign_command<'a>(alloc: Global) -> Result<Command<'a>, AllocError>
     let command = Command::new(alloc, "sign")
         .about("Signs a report or an acknowledgement, and writes its frame to standard output")
         .after_help(REUSE);
-    let command = with_options(alloc, command, &CLUSTER)?;
+    let command = with_cluster(alloc, command)?;
     let what = Arg::new(alloc, "what")
         .required(true)
         .help("What to sign: report or ack");
@@ -209,7 +132,7 @@ fn deliver_command<'a>(alloc: Global) -> Result<Command<'a>, AllocError>
     let command = Command::new(alloc, "deliver")
         .about("Delivers the frames of standard input to a replica, and prints what it answers")
         .after_help(LINES);
-    let command = with_options(alloc, command, &CLUSTER)?;
+    let command = with_cluster(alloc, command)?;
     with_options(alloc, command, &DELIVER)
 }
 
@@ -224,11 +147,12 @@ fn simulate_command<'a>(alloc: Global) -> Result<Command<'a>, AllocError>
         )
         .after_help(SCENARIO);
     let command = with_option(alloc, command, &SEED)?;
-    let histories = Arg::new(alloc, "histories")
-        .long("histories")
-        .action(ArgAction::SetTrue)
-        .help("Writes the histories of the correct replicas, as bytes, in place of the lines");
-    command.arg(histories)
+    with_flag(
+        alloc,
+        command,
+        "histories",
+        "Writes the histories of the correct replicas, as bytes, in place of the lines",
+    )
 }
 
 /// The command of the program, without its subcommands.
@@ -251,5 +175,9 @@ pub(crate) fn abft_command<'a>(alloc: Global) -> Result<Command<'a>, AllocError>
     let deliver = deliver_command(alloc)?;
     let command = command.subcommand(deliver)?;
     let simulate = simulate_command(alloc)?;
-    command.subcommand(simulate)
+    let command = command.subcommand(simulate)?;
+    let cluster = cluster_command(alloc)?;
+    let command = command.subcommand(cluster)?;
+    let serve = serve_command(alloc)?;
+    command.subcommand(serve)
 }

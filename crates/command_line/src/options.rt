@@ -3,6 +3,7 @@ ghost use Rattle.std.specs.Prelude.{◌≡◌, ◌↔◌, IsTrue, ℕ, List, ◌
 ghost use Rattle.clap.specs.Words.{found_of, rows_of, first_of};
 ghost use Rattle.lm_ots.specs.Parameters.{bits_of, levels_of};
 ghost use Rattle.command_line.specs.Options.{IsNamed, IsNumber, IsSeed, IsWritten, SetsCluster, WantsMemory, number_of, word_of};
+ghost use Rattle.plain_text.specs.Transactions.{StandsFor};
 ghost use Rattle.ledger_model.specs.declared.config.AppKind.{AppKind};
 ghost use Rattle.cluster_keys.specs.declared.cluster.Cluster.{Cluster};
 ghost use Rattle.settings.specs.declared.sign.What.{What};
@@ -16,7 +17,7 @@ use cluster_keys::Cluster;
 use hex::FromHex;
 use ledger_model::{AppKind, Config, Tx};
 use lm_ots::{Params, TreeHeight, Width};
-use plain_text::{decimal, written};
+use plain_text::{SpellingFault, decimal, written};
 use settings::What;
 use std::alloc::Global;
 
@@ -77,15 +78,34 @@ pub(crate) fn small_number<'a>(
     Ok(number as u8)
 }
 
-/// The option `--value`: one transaction.
-pub(crate) fn value<'a>(alloc: Global, matches: &ArgMatches<'a>) -> Result<Tx, UsageFault<'a>>
-    ensures some { IfOk result (λ tx. IsWritten (rows_of (found_of matches.now)) (codes "value") tx) }
-    ensures none { IfErr result (λ e. (tx : List ℕ) → IsWritten (rows_of (found_of matches.now)) (codes "value") tx → WantsMemory e) }
+/// The bytes that the text of an option stands for.
+fn bytes<'a>(alloc: Global, option: &'static str, text: &'a str) -> Result<Vec<u8>, UsageFault<'a>>
+    ensures some { IfOk result (λ v. StandsFor text.now v.items) }
+    ensures none { IfErr result (λ e. (v : List ℕ) → StandsFor text.now v → WantsMemory e) }
 {
-    let text = text(matches, "value")?;
-    let bytes = written(alloc, text)?;
+    match written(alloc, text) {
+        Ok(bytes) => Ok(bytes),
+        Err(SpellingFault::NoMemory) => Err(UsageFault::NoMemory),
+        Err(fault) => Err(UsageFault::Spelling { option, fault }),
+    }
+}
+
+/// An option that is one transaction.
+pub(crate) fn transaction<'a>(
+    alloc: Global,
+    matches: &ArgMatches<'a>,
+    name: &'static str,
+) -> Result<Tx, UsageFault<'a>>
+    ensures some { IfOk result (λ tx. IsWritten (rows_of (found_of matches.now)) name.now tx) }
+    ensures none { IfErr result (λ e. (tx : List ℕ) → IsWritten (rows_of (found_of matches.now)) name.now tx → WantsMemory e) }
+{
+    let text = text(matches, name)?;
+    let bytes = bytes(alloc, name, text)?;
     let Ok(tx) = Tx::new(bytes) else {
-        return Err(UsageFault::NoTransaction(text));
+        return Err(UsageFault::NoTransaction {
+            option: name,
+            word: text,
+        });
     };
     Ok(tx)
 }

@@ -2,18 +2,22 @@
 ghost use Rattle.std.specs.Prelude.{◌≡◌, map, true, IfOk, IfErr, OnErr};
 ghost use Rattle.clap.specs.Words.{found_of, rows_of, subcommand_of, subcommand_rows_of, takes};
 ghost use Rattle.command_line.specs.Grammar.{abft_app};
-ghost use Rattle.command_line.specs.Options.{IsSet, Sets, SetsDeliver, SetsSign, SetsSimulate, WantsMemory};
+ghost use Rattle.command_line.specs.Options.{IsSet, Sets, SetsDeliver, SetsRunning, SetsServe, SetsSign, SetsSimulate, WantsMemory};
 ghost use Rattle.settings.specs.declared.sign.SignSettings.{SignSettings};
 ghost use Rattle.settings.specs.declared.deliver.DeliverSettings.{DeliverSettings};
 ghost use Rattle.settings.specs.declared.simulate.SimulateSettings.{SimulateSettings};
+ghost use Rattle.settings.specs.declared.cluster.ClusterSettings.{ClusterSettings};
+ghost use Rattle.settings.specs.declared.cluster.ServeSettings.{ServeSettings};
 ghost use Rattle.settings.specs.declared.Settings.{Settings};
 
 use crate::grammar::abft_command;
-use crate::options::{cluster, is_named, number, seed, small_number, value, what};
+use crate::options::{cluster, is_named, number, seed, small_number, transaction, what};
 use crate::usage_fault::UsageFault;
 use clap::ArgMatches;
 use ledger_model::{Height, Phase, ReplicaId};
-use settings::{DeliverSettings, Settings, SignSettings, SimulateSettings};
+use settings::{
+    ClusterSettings, DeliverSettings, ServeSettings, Settings, SignSettings, SimulateSettings,
+};
 use std::alloc::Global;
 
 /// `abft sign`, by its matches.
@@ -29,7 +33,7 @@ fn sign_settings<'a>(
     let replica = small_number(matches, "replica", 0, cluster.config.replicas - 1)?;
     let height = number(matches, "height", 1, 4096)?;
     let phase = number(matches, "phase", 1, 1_000_000_000)?;
-    let value = value(alloc, matches)?;
+    let value = transaction(alloc, matches, "value")?;
     Ok(SignSettings {
         cluster,
         what,
@@ -50,7 +54,7 @@ fn deliver_settings<'a>(
 {
     let cluster = cluster(matches)?;
     let replica = small_number(matches, "replica", 0, cluster.config.replicas - 1)?;
-    let value = value(alloc, matches)?;
+    let value = transaction(alloc, matches, "value")?;
     let height = number(matches, "height", 1, 4)?;
     let rounds = number(matches, "rounds", 0, 1)?;
     Ok(DeliverSettings {
@@ -71,6 +75,45 @@ fn simulate_settings<'a>(matches: &ArgMatches<'a>) -> Result<SimulateSettings, U
     Ok(SimulateSettings {
         seed,
         histories: is_named(matches, "histories"),
+    })
+}
+
+/// `abft cluster`, by its matches.
+fn cluster_settings<'a>(
+    alloc: Global,
+    matches: &ArgMatches<'a>,
+) -> Result<ClusterSettings, UsageFault<'a>>
+    ensures some { IfOk result (λ s. SetsRunning (rows_of (found_of matches.now)) s) }
+    ensures none { IfErr result (λ e. (s : ClusterSettings) → SetsRunning (rows_of (found_of matches.now)) s → WantsMemory e) }
+{
+    let cluster = cluster(matches)?;
+    let tx = transaction(alloc, matches, "tx")?;
+    let rounds = number(matches, "rounds", 0, 4_000_000_000)?;
+    let base_ms = number(matches, "base-ms", 1, 60_000)?;
+    Ok(ClusterSettings {
+        cluster,
+        tx,
+        rounds,
+        base_ms,
+        is_quiet: is_named(matches, "quiet"),
+    })
+}
+
+/// `abft serve`, by its matches.
+fn serve_settings<'a>(
+    alloc: Global,
+    matches: &ArgMatches<'a>,
+) -> Result<ServeSettings, UsageFault<'a>>
+    ensures some { IfOk result (λ s. SetsServe (rows_of (found_of matches.now)) s) }
+    ensures none { IfErr result (λ e. (s : ServeSettings) → SetsServe (rows_of (found_of matches.now)) s → WantsMemory e) }
+{
+    let cluster = cluster_settings(alloc, matches)?;
+    let port = number(matches, "port", 0, 65_535)?;
+    let sessions = number(matches, "sessions", 1, 1000)?;
+    Ok(ServeSettings {
+        cluster,
+        port: port as u16,
+        sessions,
     })
 }
 
@@ -98,6 +141,8 @@ fn settings_of<'a>(alloc: Global, matches: &ArgMatches<'a>) -> Result<Settings, 
         "sign" => Ok(Settings::Sign(sign_settings(alloc, options)?)),
         "deliver" => Ok(Settings::Deliver(deliver_settings(alloc, options)?)),
         "simulate" => Ok(Settings::Simulate(simulate_settings(options)?)),
+        "cluster" => Ok(Settings::Cluster(cluster_settings(alloc, options)?)),
+        "serve" => Ok(Settings::Serve(serve_settings(alloc, options)?)),
         _ => Err(UsageFault::NoSubcommand),
     }
 }

@@ -1,7 +1,6 @@
 //! What is wrong with a command line.
 ghost use Rattle.std.specs.Prelude.{◌≡◌};
 ghost use Rattle.command_line.specs.declared.usage_fault.UsageFault.TheVariants.{NoMemory};
-ghost use Rattle.plain_text.specs.declared.spelling_fault.SpellingFault.TheVariants as spelling;
 
 use clap::error::ErrorKind;
 use ledger_model::Tx;
@@ -29,10 +28,16 @@ pub enum UsageFault<'a> {
         replicas: u8,
         faults: u8,
     },
-    /// The word at `--value` spells no transaction.
-    Spelling(SpellingFault),
-    /// The word at `--value` spells no byte, or more than a transaction has.
-    NoTransaction(&'a str),
+    /// The word at this option spells no transaction.
+    Spelling {
+        option: &'static str,
+        fault: SpellingFault,
+    },
+    /// The word at this option spells no byte, or more than a transaction has.
+    NoTransaction {
+        option: &'static str,
+        word: &'a str,
+    },
     /// What is to be signed is neither a report nor an acknowledgement.
     What(&'a str),
     /// An option without a default is not there.
@@ -70,8 +75,8 @@ impl UsageFault<'_> {
 }
 
 /// Whether the option takes the two ends of its limits, and nothing between them.
-fn takes_its_ends_alone(option: &str) -> bool {
-    matches!(option, "w" | "tree" | "rounds")
+fn takes_its_ends_alone(option: &str, least: u32, most: u32) -> bool {
+    matches!(option, "w" | "tree") || least.checked_add(1) == Some(most)
 }
 
 /// Writes which numbers an option takes, and what stands there.
@@ -84,7 +89,7 @@ fn show_number<W: fmt::Write>(
 ) -> fmt::Result {
     if least == most {
         write!(f, "error: --{option} is {least}, not '{word}'")
-    } else if takes_its_ends_alone(option) {
+    } else if takes_its_ends_alone(option, least, most) {
         write!(f, "error: --{option} is {least} or {most}, not '{word}'")
     } else {
         write!(
@@ -111,10 +116,10 @@ impl fmt::Display for UsageFault<'_> {
                 f,
                 "error: --n {replicas} is too few for --t {faults}: n is at least 3t + 1"
             ),
-            UsageFault::Spelling(fault) => write!(f, "error: --value {fault}"),
-            UsageFault::NoTransaction(word) => write!(
+            UsageFault::Spelling { option, fault } => write!(f, "error: --{option} {fault}"),
+            UsageFault::NoTransaction { option, word } => write!(
                 f,
-                "error: --value is a transaction of 1 to {} bytes, not '{word}'",
+                "error: --{option} is a transaction of 1 to {} bytes, not '{word}'",
                 Tx::MAX_LEN
             ),
             UsageFault::What(word) => {
@@ -134,16 +139,5 @@ impl From<AllocError> for UsageFault<'_> {
 
     fn from(_error: AllocError) -> Self {
         UsageFault::NoMemory
-    }
-}
-
-impl From<SpellingFault> for UsageFault<'_> {
-    ghost from_gives = { λ fault e. fault ≡ spelling.NoMemory → e ≡ NoMemory };
-
-    fn from(fault: SpellingFault) -> Self {
-        match fault {
-            SpellingFault::NoMemory => UsageFault::NoMemory,
-            fault => UsageFault::Spelling(fault),
-        }
     }
 }

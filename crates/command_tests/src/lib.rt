@@ -4,6 +4,8 @@
 #[cfg(test)]
 mod key_tests;
 #[cfg(test)]
+mod running_words;
+#[cfg(test)]
 mod setting_tests;
 #[cfg(test)]
 mod word_tests;

@@ -5,7 +5,7 @@ use Rattle.std.specs.Io.KnownBytes.{Appends, Keeps}
 use Rattle.std.proofs.KnownBytes.{Consumes-nil}
 use Rattle.ledger_model.specs.Spelling.{frame_bytes}
 use Rattle.settings.specs.declared.Settings.{Settings}
-use Rattle.settings.specs.declared.Settings.TheVariants.{Sign, Deliver, Simulate}
+use Rattle.settings.specs.declared.Settings.TheVariants.{Sign, Deliver, Simulate, Cluster, Serve}
 use Rattle.settings.specs.declared.sign.SignSettings.{SignSettings}
 use Rattle.settings.specs.declared.deliver.DeliverSettings.{DeliverSettings}
 use Rattle.settings.specs.declared.simulate.SimulateSettings.{SimulateSettings}
@@ -21,39 +21,43 @@ use Rattle.frame_delivery.specs.Streams.{DeliversStream, DeliversStreamSome}
 use Rattle.scenario_playing.specs.declared.text_end.TextEnd.{TextEnd}
 use Rattle.scenario_playing.specs.declared.text_end.TextEnd.TheVariants as scenario
 use Rattle.scenario_playing.specs.Simulating.{PlaysText, PlaysTextSome}
-use Rattle.program.specs.Doing.{Begins, Done, Halted, Performs, status_of_stream, status_of_text}
+use Rattle.program.specs.declared.outcome.Outcome.{Outcome}
+use Rattle.program.specs.declared.outcome.Outcome.TheVariants as outcome
+use Rattle.program.specs.declared.outcome.Piped.{Piped}
+use Rattle.program.specs.declared.outcome.Piped.TheVariants as piped
+use Rattle.program.specs.Doing.{Begins, Done, Halted, IfEnded, IfHanded, IsHanded, Performs, settings_of, status_of_stream, status_of_text}
 
 -- the frame was written
-pub signed_done : (x : Settings) (s : SignSettings) (unread before after : Option (List ℕ)) → x ≡ Sign s → Appends before after (frame_bytes (signed s)) → Done x 0 unread unread before after
+pub signed_done : (x : Piped) (s : SignSettings) (unread before after : Option (List ℕ)) → x ≡ piped.Sign s → Appends before after (frame_bytes (signed s)) → Done (settings_of x) 0 unread unread before after
 signed_done x s unread before after is written =
-    subst (λ y. Done y 0 unread unread before after) (sym is) (refl, record { input = []; text = frame_bytes (signed s); goes_with = (refl, refl); read = Consumes-nil unread; written = written })
+    subst (λ y. Done (settings_of y) 0 unread unread before after) (sym is) (refl, record { input = []; text = frame_bytes (signed s); goes_with = (refl, refl); read = Consumes-nil unread; written = written })
 
 -- a beginning of it was
-pub signed_halted : (x : Settings) (s : SignSettings) (unread before after : Option (List ℕ)) → x ≡ Sign s → AppendsSome before after (frame_bytes (signed s)) → Halted x unread unread before after
+pub signed_halted : (x : Piped) (s : SignSettings) (unread before after : Option (List ℕ)) → x ≡ piped.Sign s → AppendsSome before after (frame_bytes (signed s)) → Halted (settings_of x) unread unread before after
 signed_halted x s unread before after is written =
-    subst (λ y. Halted y unread unread before after) (sym is) (record { input = []; text = frame_bytes (signed s); goes_with = (refl, refl); read = Consumes-nil unread; written = written })
+    subst (λ y. Halted (settings_of y) unread unread before after) (sym is) (record { input = []; text = frame_bytes (signed s); goes_with = (refl, refl); read = Consumes-nil unread; written = written })
 
 -- a stream was delivered
-pub delivered_done : (x : Settings) (s : DeliverSettings) (end : StreamEnd) (status : ℕ) (unread left before after : Option (List ℕ)) → x ≡ Deliver s → status ≡ status_of_stream end
-    → DeliversStream s end unread left before after → Done x status unread left before after
-delivered_done x s end status unread left before after is answered done = subst (λ y. Done y status unread left before after) (sym is) (end, (answered, done))
+pub delivered_done : (x : Piped) (s : DeliverSettings) (end : StreamEnd) (status : ℕ) (unread left before after : Option (List ℕ)) → x ≡ piped.Deliver s → status ≡ status_of_stream end
+    → DeliversStream s end unread left before after → Done (settings_of x) status unread left before after
+delivered_done x s end status unread left before after is answered done = subst (λ y. Done (settings_of y) status unread left before after) (sym is) (end, (answered, done))
 
-pub delivered_halted : (x : Settings) (s : DeliverSettings) (unread left before after : Option (List ℕ)) → x ≡ Deliver s → DeliversStreamSome s unread left before after → Halted x unread left before after
-delivered_halted x s unread left before after is some = subst (λ y. Halted y unread left before after) (sym is) some
+pub delivered_halted : (x : Piped) (s : DeliverSettings) (unread left before after : Option (List ℕ)) → x ≡ piped.Deliver s → DeliversStreamSome s unread left before after → Halted (settings_of x) unread left before after
+delivered_halted x s unread left before after is some = subst (λ y. Halted (settings_of y) unread left before after) (sym is) some
 
 -- a text was played
-pub played_done : (x : Settings) (s : SimulateSettings) (end : TextEnd) (status : ℕ) (unread left before after : Option (List ℕ)) → x ≡ Simulate s → status ≡ status_of_text end
-    → PlaysText s end unread left before after → Done x status unread left before after
-played_done x s end status unread left before after is answered done = subst (λ y. Done y status unread left before after) (sym is) (end, (answered, done))
+pub played_done : (x : Piped) (s : SimulateSettings) (end : TextEnd) (status : ℕ) (unread left before after : Option (List ℕ)) → x ≡ piped.Simulate s → status ≡ status_of_text end
+    → PlaysText s end unread left before after → Done (settings_of x) status unread left before after
+played_done x s end status unread left before after is answered done = subst (λ y. Done (settings_of y) status unread left before after) (sym is) (end, (answered, done))
 
-pub played_halted : (x : Settings) (s : SimulateSettings) (unread left before after : Option (List ℕ)) → x ≡ Simulate s → PlaysTextSome s unread left before after → Halted x unread left before after
-played_halted x s unread left before after is some = subst (λ y. Halted y unread left before after) (sym is) some
+pub played_halted : (x : Piped) (s : SimulateSettings) (unread left before after : Option (List ℕ)) → x ≡ piped.Simulate s → PlaysTextSome s unread left before after → Halted (settings_of x) unread left before after
+played_halted x s unread left before after is some = subst (λ y. Halted (settings_of y) unread left before after) (sym is) some
 
 -- all was written, and then a flush failed
-pub done_halted : (x : Settings) (status : ℕ) (unread left before mid after : Option (List ℕ)) → Done x status unread left before mid → Keeps mid after → Halted x unread left before after
-done_halted (Sign s) status unread left before mid after (is, done) keeps = responds_some _ _ unread left before mid after (λ input text does. does) done keeps
-done_halted (Deliver s) status unread left before mid after (end, (is, (to_end, done))) keeps = responds_some _ _ unread left before mid after (λ input text does. inr (end, does)) done keeps
-done_halted (Simulate s) status unread left before mid after (end, (is, (to_end, done))) keeps = responds_some _ _ unread left before mid after (λ input text does. inr (end, does)) done keeps
+pub done_halted : (x : Piped) (status : ℕ) (unread left before mid after : Option (List ℕ)) → Done (settings_of x) status unread left before mid → Keeps mid after → Halted (settings_of x) unread left before after
+done_halted (piped.Sign s) status unread left before mid after (is, done) keeps = responds_some _ _ unread left before mid after (λ input text does. does) done keeps
+done_halted (piped.Deliver s) status unread left before mid after (end, (is, (to_end, done))) keeps = responds_some _ _ unread left before mid after (λ input text does. inr (end, does)) done keeps
+done_halted (piped.Simulate s) status unread left before mid after (end, (is, (to_end, done))) keeps = responds_some _ _ unread left before mid after (λ input text does. inr (end, does)) done keeps
 
 -- a status of what was done is 0 or 1
 stream_small : (end : StreamEnd) → status_of_stream end ≤ 1
@@ -69,17 +73,20 @@ done_small : (x : Settings) (status : ℕ) (unread left before after : Option (L
 done_small (Sign s) status unread left before after (is, done) = omega (arith, is)
 done_small (Deliver s) status unread left before after (end, (is, done)) = omega (arith, is, stream_small end)
 done_small (Simulate s) status unread left before after (end, (is, done)) = omega (arith, is, text_small end)
+done_small (Cluster s) status unread left before after done = absurd done
+done_small (Serve s) status unread left before after done = absurd done
 
 -- what was done for settings, and the status of it
 abbrev pub Settled : Settings → ℕ → Option (List ℕ) → Option (List ℕ) → Option (List ℕ) → Option (List ℕ) → Type 0 → Type 0
 Settled s status unread left before after Quiet = (Quiet × Done s status unread left before after) ⊎ ((status ≡ 3) × Halted s unread left before after)
 
 -- the status of what was done
-pub settled : {E Q : Type 0} (s : Settings) (r : Result ℕ E) (status : ℕ) (unread left before after : Option (List ℕ))
+pub settled : {E Q : Type 0} (s x : Settings) (r : Result ℕ E) (status : ℕ) (unread left before after : Option (List ℕ)) → s ≡ x
     → MatchResult r (λ found. Done s found unread left before after) (λ _. Halted s unread left before after)
-    → MatchResult r (λ found. (status ≡ found) × Q) (λ _. status ≡ 3) → Settled s status unread left before after Q
-settled s (Ok found) status unread left before after done is = inl (is.1, subst (λ n. Done s n unread left before after) (sym is.0) done)
-settled s (Err e) status unread left before after halted is = inr (is, halted)
+    → MatchResult r (λ found. (status ≡ found) × Q) (λ _. status ≡ 3) → Settled x status unread left before after Q
+settled s x (Ok found) status unread left before after same done is =
+    inl (is.1, subst (λ y. Done y status unread left before after) same (subst (λ n. Done s n unread left before after) (sym is.0) done))
+settled s x (Err e) status unread left before after same halted is = inr (is, subst (λ y. Halted y unread left before after) same halted)
 
 module _ (words : List (List ℕ)) (s : Settings) (set : IsSet words s) (status : ℕ) (unread left before after : Option (List ℕ)) where
   pub settled_finishes : (Q : Type 0) → Settled s status unread left before after Q → (status ≡ 0) ⊎ (status ≡ 1) → Performs words status unread left before after
@@ -115,8 +122,8 @@ asks_no_memory (fault.CommandLine error) (inr version) wants = let bad = sym ver
 asks_no_memory (fault.Number option least most word) asks wants = asks
 asks_no_memory (fault.Seed word) asks wants = asks
 asks_no_memory (fault.TooFew replicas faults) asks wants = asks
-asks_no_memory (fault.Spelling why) asks wants = asks
-asks_no_memory (fault.NoTransaction word) asks wants = asks
+asks_no_memory (fault.Spelling option why) asks wants = asks
+asks_no_memory (fault.NoTransaction option word) asks wants = asks
 asks_no_memory (fault.What word) asks wants = asks
 asks_no_memory (fault.Missing option) asks wants = asks
 asks_no_memory fault.NoSubcommand asks wants = asks
@@ -156,3 +163,25 @@ module _ (words : List (List ℕ)) (f : UsageFault) (status : ℕ) (Q K : Type 0
   told_known (inl (asks, inr three)) = omega (arith, three)
   told_known (inr (kept, inl (two, enough))) = omega (arith, two)
   told_known (inr (kept, inr three)) = omega (arith, three)
+
+-- what follows of the status, and of the settings that were handed back
+pub if_ended : (o : Outcome) (P Q : ℕ → Type 0) → ((status : ℕ) → P status → Q status) → IfEnded o P → IfEnded o Q
+if_ended (outcome.Ended status) P Q so holds = so status holds
+if_ended (outcome.Cluster s) P Q so holds = tt
+if_ended (outcome.Serve s) P Q so holds = tt
+
+pub if_handed : (o : Outcome) (P Q : Settings → Type 0) → ((s : Settings) → P s → Q s) → IfHanded o P → IfHanded o Q
+if_handed (outcome.Ended status) P Q so holds = tt
+if_handed (outcome.Cluster s) P Q so holds = so (Cluster s) holds
+if_handed (outcome.Serve s) P Q so holds = so (Serve s) holds
+
+-- settings that are handed back are no end
+pub handed_ends : (x : Settings) (o : Outcome) (P : ℕ → Type 0) → IsHanded x o → IfEnded o P
+handed_ends x (outcome.Ended status) P is = absurd is
+handed_ends x (outcome.Cluster s) P is = tt
+handed_ends x (outcome.Serve s) P is = tt
+
+pub handed_settings : (x : Settings) (o : Outcome) (K L M : Type 0) → IsHanded x o → K → L → M → IfHanded o (λ s. (s ≡ x) × K × L × M)
+handed_settings x (outcome.Ended status) K L M is k l m = tt
+handed_settings x (outcome.Cluster s) K L M is k l m = (sym is, k, l, m)
+handed_settings x (outcome.Serve s) K L M is k l m = (sym is, k, l, m)

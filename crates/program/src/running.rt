@@ -3,11 +3,12 @@ ghost use Rattle.std.specs.Prelude.{◌≡◌, ◌⊎◌, ◌≤◌, map, IfOk, 
 ghost use Rattle.std.specs.IoError.{error_kind};
 ghost use Rattle.std.specs.Io.KnownBytes.{Keeps};
 ghost use Rattle.ledger_model.specs.Spelling.{frame_bytes};
-ghost use Rattle.command_line.specs.Options.{AsksForText, IsRefused, WantsMemory};
+ghost use Rattle.command_line.specs.Options.{AsksForText, IsRefused, IsSet, WantsMemory};
 ghost use Rattle.frame_signing.specs.Statements.{signed};
 ghost use Rattle.program_streams.specs.Writing.{Writes};
-ghost use Rattle.program.specs.Doing.{Begins, Done, Halted, Performs, status_of_stream, status_of_text};
+ghost use Rattle.program.specs.Doing.{Begins, Done, Halted, IfEnded, IfHanded, Performs, settings_of, status_of_stream, status_of_text};
 
+use crate::outcome::{Outcome, Piped};
 use crate::printing::{complain, print};
 use command_line::{UsageFault, settings};
 use frame_delivery::{StreamEnd, deliver};
@@ -30,7 +31,7 @@ const STOPPED: u8 = 3;
 
 /// Runs the program on its words, of which the first is its name, and answers its exit status: 0 done, 1 bad input, 2 bad
 /// usage, 3 no memory, a full history or a failed stream. At 2 and 3 it writes to `faults` what is wrong. The random bytes
-/// of `source` are the keys of hashes.
+/// of `source` are the keys of hashes. Settings of a cluster that runs are handed back: for them nothing is done here.
 ///
 /// What stdin gives and stdout takes no clause can say; at readers and writers over memory each byte is known.
 pub fn run<S: RandomSource, R: Read, W: Write, F: Write>(
@@ -40,43 +41,55 @@ pub fn run<S: RandomSource, R: Read, W: Write, F: Write>(
     reader: &mut R,
     writer: &mut W,
     faults: &mut F,
-) -> u8
+) -> Outcome
     // What the words set was done, or they ask for the help or the version.
-    ensures finishes { (result ≡ 0) ⊎ (result ≡ 1)
-        → Performs (map (λ w. w.now) words.entry.now) result (R.remaining reader.old) (R.remaining reader.new) (W.contents writer.old) (W.contents writer.new)
-        ⊎ (IsRefused (map (λ w. w.now) words.entry.now) × (result ≡ 0) × Keeps (R.remaining reader.old) (R.remaining reader.new)) }
-    ensures quiet { (result ≡ 0) ⊎ (result ≡ 1) → Keeps (F.contents faults.old) (F.contents faults.new) }
+    ensures finishes { IfEnded result (λ status. (status ≡ 0) ⊎ (status ≡ 1)
+        → Performs (map (λ w. w.now) words.entry.now) status (R.remaining reader.old) (R.remaining reader.new) (W.contents writer.old) (W.contents writer.new)
+        ⊎ (IsRefused (map (λ w. w.now) words.entry.now) × (status ≡ 0) × Keeps (R.remaining reader.old) (R.remaining reader.new))) }
+    ensures quiet { IfEnded result (λ status. (status ≡ 0) ⊎ (status ≡ 1) → Keeps (F.contents faults.old) (F.contents faults.new)) }
     // The words are no command line, or set nothing.
-    ensures refuses { result ≡ 2 → IsRefused (map (λ w. w.now) words.entry.now)
-        × Keeps (R.remaining reader.old) (R.remaining reader.new) × Keeps (W.contents writer.old) (W.contents writer.new) }
+    ensures refuses { IfEnded result (λ status. status ≡ 2 → IsRefused (map (λ w. w.now) words.entry.now)
+        × Keeps (R.remaining reader.old) (R.remaining reader.new) × Keeps (W.contents writer.old) (W.contents writer.new)) }
     // What the words set was begun, or nothing was, or the help or the version could not be written.
-    ensures stops { result ≡ 3
+    ensures stops { IfEnded result (λ status. status ≡ 3
         → Begins (map (λ w. w.now) words.entry.now) (R.remaining reader.old) (R.remaining reader.new) (W.contents writer.old) (W.contents writer.new)
         ⊎ (Keeps (R.remaining reader.old) (R.remaining reader.new)
-        × (Keeps (W.contents writer.old) (W.contents writer.new) ⊎ IsRefused (map (λ w. w.now) words.entry.now))) }
-    ensures known { result ≤ 3 }
+        × (Keeps (W.contents writer.old) (W.contents writer.new) ⊎ IsRefused (map (λ w. w.now) words.entry.now)))) }
+    ensures known { IfEnded result (λ status. status ≤ 3) }
+    // They are those that the words set, and no stream was touched.
+    ensures hands_back { IfHanded result (λ settings. IsSet (map (λ w. w.now) words.entry.now) settings
+        × Keeps (R.remaining reader.old) (R.remaining reader.new) × Keeps (W.contents writer.old) (W.contents writer.new)
+        × Keeps (F.contents faults.old) (F.contents faults.new)) }
 {
     match settings(alloc, words) {
-        Ok(settings) => run_settings(source, alloc, &settings, reader, writer, faults),
-        Err(fault) => tell(alloc, &fault, writer, faults),
+        Ok(settings) => run_settings(source, alloc, settings, reader, writer, faults),
+        Err(fault) => Outcome::Ended(tell(alloc, &fault, writer, faults)),
     }
 }
 
-/// Does what the settings ask for, and answers the exit status.
+/// Does what the settings ask for, and answers the exit status; or hands them back, if that takes threads.
 fn run_settings<S: RandomSource, R: Read, W: Write, F: Write>(
     source: &S,
     alloc: Global,
-    settings: &Settings,
+    settings: Settings,
     reader: &mut R,
     writer: &mut W,
     faults: &mut F,
-) -> u8
-    ensures { (Keeps (F.contents faults.old) (F.contents faults.new)
-        × Done settings.now result (R.remaining reader.old) (R.remaining reader.new) (W.contents writer.old) (W.contents writer.new))
-        ⊎ ((result ≡ 3) × Halted settings.now (R.remaining reader.old) (R.remaining reader.new) (W.contents writer.old) (W.contents writer.new)) }
+) -> Outcome
+    ensures ended { IfEnded result (λ status. (Keeps (F.contents faults.old) (F.contents faults.new)
+        × Done settings status (R.remaining reader.old) (R.remaining reader.new) (W.contents writer.old) (W.contents writer.new))
+        ⊎ ((status ≡ 3) × Halted settings (R.remaining reader.old) (R.remaining reader.new) (W.contents writer.old) (W.contents writer.new))) }
+    ensures handed { IfHanded result (λ handed. (handed ≡ settings)
+        × Keeps (R.remaining reader.old) (R.remaining reader.new) × Keeps (W.contents writer.old) (W.contents writer.new)
+        × Keeps (F.contents faults.old) (F.contents faults.new)) }
 {
-    let done = perform_whole(source, alloc, settings, reader, writer);
-    finish(alloc, done, faults)
+    match Piped::of(settings) {
+        Ok(piped) => {
+            let done = perform_whole(source, alloc, &piped, reader, writer);
+            Outcome::Ended(finish(alloc, done, faults))
+        }
+        Err(handed) => handed,
+    }
 }
 
 /// Shows the help or the version if the words ask for it, or else writes what is wrong with them. Answers the exit status.
@@ -116,24 +129,24 @@ pub fn refuse_words<F: Write>(alloc: Global, error: io::Error, faults: &mut F) -
 fn perform<S: RandomSource, R: Read, W: Write>(
     source: &S,
     alloc: Global,
-    settings: &Settings,
+    settings: &Piped,
     reader: &mut R,
     writer: &mut W,
 ) -> Result<u8, ProgramFault>
     ensures { MatchResult result
-        (λ status. Done settings.now status (R.remaining reader.old) (R.remaining reader.new) (W.contents writer.old) (W.contents writer.new))
-        (λ _. Halted settings.now (R.remaining reader.old) (R.remaining reader.new) (W.contents writer.old) (W.contents writer.new)) }
+        (λ status. Done (settings_of settings.now) status (R.remaining reader.old) (R.remaining reader.new) (W.contents writer.old) (W.contents writer.new))
+        (λ _. Halted (settings_of settings.now) (R.remaining reader.old) (R.remaining reader.new) (W.contents writer.old) (W.contents writer.new)) }
 {
     match settings {
-        Settings::Sign(settings) => {
+        Piped::Sign(settings) => {
             sign(alloc, settings, writer)?;
             Ok(DONE)
         }
-        Settings::Deliver(settings) => {
+        Piped::Deliver(settings) => {
             let end = deliver(source, alloc, settings, reader, writer)?;
             Ok(stream_status(end))
         }
-        Settings::Simulate(settings) => {
+        Piped::Simulate(settings) => {
             let end = simulate(source, alloc, settings, reader, writer)?;
             Ok(text_status(end))
         }
@@ -144,13 +157,13 @@ fn perform<S: RandomSource, R: Read, W: Write>(
 fn perform_whole<S: RandomSource, R: Read, W: Write>(
     source: &S,
     alloc: Global,
-    settings: &Settings,
+    settings: &Piped,
     reader: &mut R,
     writer: &mut W,
 ) -> Result<u8, ProgramFault>
     ensures { MatchResult result
-        (λ status. Done settings.now status (R.remaining reader.old) (R.remaining reader.new) (W.contents writer.old) (W.contents writer.new))
-        (λ _. Halted settings.now (R.remaining reader.old) (R.remaining reader.new) (W.contents writer.old) (W.contents writer.new)) }
+        (λ status. Done (settings_of settings.now) status (R.remaining reader.old) (R.remaining reader.new) (W.contents writer.old) (W.contents writer.new))
+        (λ _. Halted (settings_of settings.now) (R.remaining reader.old) (R.remaining reader.new) (W.contents writer.old) (W.contents writer.new)) }
 {
     let status = perform(source, alloc, settings, reader, writer)?;
     writer.flush()?;
@@ -204,7 +217,7 @@ fn show<W: Write>(
 }
 
 /// The exit status of what was done. Writes why the program could not go on, if it couldn't.
-fn finish<F: Write>(alloc: Global, done: Result<u8, ProgramFault>, faults: &mut F) -> u8
+pub fn finish<F: Write>(alloc: Global, done: Result<u8, ProgramFault>, faults: &mut F) -> u8
     ensures { MatchResult done (λ status. (result ≡ status) × Keeps (F.contents faults.old) (F.contents faults.new)) (λ _. result ≡ 3) }
 {
     match done {

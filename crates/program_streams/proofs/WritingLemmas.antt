@@ -1,13 +1,17 @@
 -- Beginnings of texts that were written.
-use Rattle.std.proofs.Common.{◌≡◌, ℕ, List, [], ◌++◌, refl, sym, ap, ◌∙◌, append_assoc, append-nil}
+use Rattle.std.proofs.Common.{ℕ, List, [], ◌++◌, refl, sym, ap, ◌∙◌, append_assoc, append-nil}
 use Rattle.std.specs.Prelude.{Option}
-use Rattle.std.specs.Io.KnownBytes.{Appends}
-use Rattle.std.proofs.KnownBytes.{Appends-nil, Appends-trans}
+use Rattle.std.specs.Io.KnownBytes.{Appends, Keeps}
+use Rattle.std.proofs.KnownBytes.{Appends-kept, Appends-nil, Appends-trans}
 use Rattle.program_streams.specs.Writing.{AppendsSome}
 
 -- all of a text is a beginning of it
 pub all_some : (a b : Option (List ℕ)) (text : List ℕ) → Appends a b text → AppendsSome a b text
 all_some a b text written = record { done = text; left = []; split = append-nil text; written = written }
+
+-- so it is where nothing was written behind it
+pub kept_some : (a b c : Option (List ℕ)) (text : List ℕ) → Appends a b text → Keeps b c → AppendsSome a c text
+kept_some a b c text written keeps = all_some a c text (Appends-kept a b c text written keeps)
 
 -- nothing is a beginning of any text
 pub nothing_some : (a : Option (List ℕ)) (text : List ℕ) → AppendsSome a a text

@@ -15,6 +15,12 @@ pub enum ProgramFault {
     /// The history of a replica takes no more entries.
     #[error("error: the history is full")]
     HistoryFull,
+    /// A port of 127.0.0.1 can't be listened at.
+    #[error("error: can't listen at 127.0.0.1:{0}: {1}")]
+    NoListener(u16, io::Error),
+    /// A thread could not be made.
+    #[error("error: a thread could not be made")]
+    NoThread,
 }
 
 impl From<AllocError> for ProgramFault {

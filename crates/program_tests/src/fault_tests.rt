@@ -1,5 +1,5 @@
 //! Faults of the program: each has a status, and a text that is written at once.
-use program::{refuse_words, run};
+use program::{Outcome, refuse_words, run};
 use std::alloc::Global;
 use std::io::{self, ErrorKind, Read, Write};
 use std::random::RandomSource;
@@ -33,15 +33,23 @@ impl Write for Counted {
     }
 }
 
-/// The exit status of the program on these words, with nothing to read but a fault; what it writes to standard error is added.
-fn status_of<S: RandomSource>(
+/// What the program comes to on these words, with nothing to read but a fault; what it writes to standard error is added.
+fn outcome_of<S: RandomSource>(
     source: &S,
     alloc: Global,
     words: &[&str],
     faults: &mut Counted,
-) -> u8 {
+) -> Outcome {
     let mut output = Vec::new(alloc);
     run(source, alloc, words, &mut Broken, &mut output, faults)
+}
+
+/// The exit status, if the program ended.
+fn status_of(outcome: Outcome) -> Option<u8> {
+    match outcome {
+        Outcome::Ended(status) => Some(status),
+        _ => None,
+    }
 }
 
 #[test]
@@ -55,8 +63,8 @@ fn each_fault_is_one_write(rt: HostRuntime) {
             text: Vec::new(alloc),
             writes: 0,
         };
-        let found = status_of(&rt, alloc, &["abft", subcommand], &mut faults);
-        assert_eq!(rt; found, status, "at {subcommand}");
+        let found = status_of(outcome_of(&rt, alloc, &["abft", subcommand], &mut faults));
+        assert_eq!(rt; found, Some(status), "at {subcommand}");
         assert_eq!(rt; faults.text.as_slice(), text, "at {subcommand}");
         assert_eq!(rt; faults.writes, 1, "at {subcommand}");
     }
@@ -69,8 +77,8 @@ fn bad_usage_is_told_at_once(rt: HostRuntime) {
         text: Vec::new(alloc),
         writes: 0,
     };
-    let found = status_of(&rt, alloc, &["abft", "vote"], &mut faults);
-    assert_eq!(rt; found, 2);
+    let found = status_of(outcome_of(&rt, alloc, &["abft", "vote"], &mut faults));
+    assert_eq!(rt; found, Some(2));
     assert_eq!(rt; faults.writes, 1);
     assert!(rt; faults.text.ends_with(b"\n"));
 }
@@ -97,4 +105,24 @@ fn words_that_cannot_be_read_are_refused(rt: HostRuntime) {
         );
         assert_eq!(rt; faults.as_slice(), text);
     }
+}
+
+#[test]
+fn settings_of_running_clusters_are_handed_back(rt: HostRuntime) {
+    let alloc = rt.alloc();
+    let mut faults = Counted {
+        text: Vec::new(alloc),
+        writes: 0,
+    };
+    let words = ["abft", "cluster", "--rounds", "7", "--base-ms", "9"];
+    match outcome_of(&rt, alloc, &words, &mut faults) {
+        Outcome::Cluster(settings) => assert_eq!(rt; (settings.rounds, settings.base_ms), (7, 9)),
+        _ => assert!(rt; false, "not handed back"),
+    }
+    let words = ["abft", "serve", "--port", "7000", "--sessions", "3"];
+    match outcome_of(&rt, alloc, &words, &mut faults) {
+        Outcome::Serve(settings) => assert_eq!(rt; (settings.port, settings.sessions), (7000, 3)),
+        _ => assert!(rt; false, "not handed back"),
+    }
+    assert_eq!(rt; faults.writes, 0);
 }

@@ -12,4 +12,4 @@ returns-clause-app c =
     let common = c.in_ok-command.ensures.app ∙ ap with_cluster start in
     let what_is : rule_of c.help-what.result ≡ what_rule = search rules in
     let what = one_more _ _ _ _ _ common what_is (c.in_ok-command-2.ensures.shape (search rules)) in
-    IfOk-weaker c.with_options-2.result _ _ (λ x same. same ∙ ap with_sign what) c.with_options-2.ensures.app
+    IfOk-weaker c.with_options.result _ _ (λ x same. same ∙ ap with_sign what) c.with_options.ensures.app

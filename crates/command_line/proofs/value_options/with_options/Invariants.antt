@@ -3,7 +3,7 @@ use Rattle.std.proofs.Common.{◌≡◌, false, drop}
 use Rattle.clap.specs.Words.{app_of}
 use Rattle.clap.specs.declared.builder.command.Command.TheViews.{out-Command as fields_of}
 use Rattle.command_line.specs.Grammar.{with_options}
-use Rattle.command_line.proofs.grammar.with_options.Given as goal
+use Rattle.command_line.proofs.value_options.with_options.Given as goal
 
 abbrev pub invariant-loop-option : goal.invariant-loop-option
 invariant-loop-option l = record {

@@ -3,7 +3,7 @@ use Rattle.std.proofs.lemmas.Result.{IfOk-weaker}
 use Rattle.clap.specs.Words.{rule_of}
 use Rattle.command_line.specs.Grammar.{option_rule}
 use Rattle.command_line.proofs.Chains.{one_more}
-use Rattle.command_line.proofs.grammar.with_option.Goals as goal
+use Rattle.command_line.proofs.value_options.with_option.Goals as goal
 
 pub returns-clause-app : goal.returns-clause-app
 returns-clause-app c =

@@ -5,7 +5,7 @@ use Rattle.std.proofs.lemmas.Option.{same_Some}
 use Rattle.plain_text.specs.Transactions.{StandsFor}
 use Rattle.plain_text.proofs.TransactionLemmas.{stands_once}
 use Rattle.command_line.proofs.NumberLemmas.{is_transaction}
-use Rattle.command_line.proofs.options.value.Goals as goal
+use Rattle.command_line.proofs.options.transaction.Goals as goal
 
 pub returns-in_default-clause-none : goal.returns-in_default-clause-none
 returns-in_default-clause-none c = λ tx i.

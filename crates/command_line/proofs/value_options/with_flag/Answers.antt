@@ -1,0 +1,11 @@
+use Rattle.std.proofs.Common.{◌≡◌, rules, refl}
+use Rattle.std.proofs.lemmas.Result.{IfOk-weaker}
+use Rattle.clap.specs.Words.{rule_of}
+use Rattle.command_line.specs.Grammar.{flag_rule}
+use Rattle.command_line.proofs.Chains.{one_more}
+use Rattle.command_line.proofs.value_options.with_flag.Goals as goal
+
+pub returns-clause-app : goal.returns-clause-app
+returns-clause-app c =
+    let is_rule : rule_of c.help-arg.result ≡ flag_rule c.args.name.now = search rules in
+    IfOk-weaker c.arg.result _ _ (λ x adds. one_more _ _ _ _ _ refl is_rule (adds.shape (search rules))) c.arg.ensures

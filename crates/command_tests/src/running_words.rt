@@ -1,0 +1,140 @@
+//! What the words of `abft cluster` and `abft serve` set, and what is told of words that set nothing.
+use cluster_keys::Cluster;
+use command_line::settings;
+use settings::{ClusterSettings, Settings};
+use std::alloc::{AllocError, Global};
+use std::test::Fail;
+
+/// The options of a cluster, as a line: how many replicas, how many of them may lie, the application, bits and leaves of keys, and the
+/// seed's last byte.
+fn cluster_line(alloc: Global, cluster: &Cluster) -> Result<String, AllocError> {
+    let config = cluster.config;
+    let params = cluster.params;
+    let width = params.width;
+    let leaves = params.leaves();
+    format!(in alloc;
+        "{} {} {:?} {width:?} {leaves} {}",
+        config.replicas, config.faults, config.kind, cluster.seed[31]
+    )
+}
+
+/// The settings of `abft cluster`, as a line.
+fn running_line(alloc: Global, running: &ClusterSettings) -> Result<String, AllocError> {
+    let cluster = cluster_line(alloc, &running.cluster)?;
+    let tx = running.tx.as_bytes();
+    format!(in alloc;
+        "{cluster} {tx:?} {} {} {}",
+        running.rounds, running.base_ms, running.is_quiet
+    )
+}
+
+/// What the words set, as a line, or what is told of them.
+fn told(alloc: Global, words: &[&str]) -> Result<String, AllocError> {
+    match settings(alloc, words) {
+        Ok(Settings::Cluster(running)) => running_line(alloc, &running),
+        Ok(Settings::Serve(serve)) => {
+            let running = running_line(alloc, &serve.cluster)?;
+            format!(in alloc; "{running}, {} {}", serve.port, serve.sessions)
+        }
+        Ok(_) => format!(in alloc; "other settings"),
+        Err(fault) => format!(in alloc; "{fault}"),
+    }
+}
+
+#[test]
+fn the_words_of_cluster_and_serve_set_each_option(rt: HostRuntime) -> Result<(), Fail> {
+    for (words, line) in [
+        (
+            "abft cluster",
+            "4 1 KvStore W4 32 0 [97, 61, 49] 40 200 false",
+        ),
+        (
+            "abft cluster --n 7 --t=2 --kind 3 --w 8 --tree 10 --seed 0000000000000000000000000000000000000000000000000000000000000011 \
+             --tx \\00 --rounds 4000000000 --base-ms 60000 --quiet",
+            "7 2 Purse W8 1024 17 [0] 4000000000 60000 true",
+        ),
+        (
+            "abft serve",
+            "4 1 KvStore W4 32 0 [97, 61, 49] 40 200 false, 0 1",
+        ),
+        (
+            "abft serve --n 13 --tx b=2 --rounds 0 --base-ms 1 --quiet --port 65535 --sessions 1000",
+            "13 1 KvStore W4 32 0 [98, 61, 50] 0 1 true, 65535 1000",
+        ),
+    ] {
+        let words: Vec<&str> = words.split(' ').collect(rt.alloc())?;
+        let told = told(rt.alloc(), &words)?;
+        assert_eq!(rt; told.as_str(), line);
+    }
+    Ok(())
+}
+
+#[test]
+fn a_fault_of_usage_names_its_option(rt: HostRuntime) -> Result<(), Fail> {
+    for (subcommand, option, word, text) in [
+        (
+            "cluster",
+            "--rounds",
+            "4000000001",
+            "error: --rounds is a number from 0 to 4000000000, not '4000000001'",
+        ),
+        (
+            "cluster",
+            "--base-ms",
+            "0",
+            "error: --base-ms is a number from 1 to 60000, not '0'",
+        ),
+        (
+            "serve",
+            "--base-ms",
+            "60001",
+            "error: --base-ms is a number from 1 to 60000, not '60001'",
+        ),
+        (
+            "serve",
+            "--sessions",
+            "0",
+            "error: --sessions is a number from 1 to 1000, not '0'",
+        ),
+        (
+            "serve",
+            "--sessions",
+            "1001",
+            "error: --sessions is a number from 1 to 1000, not '1001'",
+        ),
+        (
+            "serve",
+            "--port",
+            "65536",
+            "error: --port is a number from 0 to 65535, not '65536'",
+        ),
+        (
+            "cluster",
+            "--tx",
+            "a b",
+            "error: --tx has a space: write it \\20",
+        ),
+        (
+            "serve",
+            "--tx",
+            "",
+            "error: --tx is a transaction of 1 to 64 bytes, not ''",
+        ),
+        (
+            "deliver",
+            "--value",
+            "a b",
+            "error: --value has a space: write it \\20",
+        ),
+        (
+            "deliver",
+            "--rounds",
+            "2",
+            "error: --rounds is 0 or 1, not '2'",
+        ),
+    ] {
+        let told = told(rt.alloc(), &["abft", subcommand, option, word])?;
+        assert_eq!(rt; told.as_str(), text);
+    }
+    Ok(())
+}

@@ -1,0 +1,31 @@
+#!/usr/bin/env bash
+# Clusters that run by the machine's clock, and a server under many sessions: `make soak`. It takes some minutes, and is no part of
+# the gate, since what a clock brings differs from machine to machine. The last line is `N passed, M failed`.
+#
+# ABFT names the program; its figures go to standard output.
+set -u
+cd "$(dirname "$0")/.." || exit 1
+abft=${ABFT:-$PWD/crates/abft/out/abft}
+passed=0
+failed=0
+
+# notes NAME STATUS: counts a run
+notes() {
+    if [ "$2" = 0 ]; then passed=$((passed + 1)); else failed=$((failed + 1)); echo "failed: $1"; fi
+}
+
+# Ten clusters: every replica commits.
+for run in 1 2 3 4 5 6 7 8 9 10; do
+    lines=$("$abft" cluster --rounds 40 --base-ms 50 | tr '\n' ' ')
+    echo "cluster $run: $lines"
+    [ "$(echo "$lines" | grep -oE 'commits [0-9]+ [1-9]' | wc -l)" = 4 ]
+    notes "cluster $run" $?
+done
+
+# A thousand sessions one after another, and 64 at once.
+tests/sessions.py "$abft" 1000 1
+notes '1000 sessions one after another' $?
+tests/sessions.py "$abft" 64 64
+notes '64 sessions at once' $?
+echo "$passed passed, $failed failed"
+[ "$failed" = 0 ]
