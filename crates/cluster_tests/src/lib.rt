@@ -11,3 +11,7 @@ mod meeting_gate;
 mod quiet_clock;
 #[cfg(test)]
 mod replicas;
+#[cfg(test)]
+mod seated;
+#[cfg(test)]
+mod turn_tests;

@@ -1,0 +1,85 @@
+//! Turns of one replica: what they answer, and what stands in its history and on the board then.
+use crate::seated::{Seated, last_of_four};
+use bytes::Bytes;
+use ledger_model::{Event, Height, Tx};
+use locked_replica::{ApplyFault, EventView, ReplyView};
+use std::alloc::{AllocError, Global};
+use std::test::Fail;
+
+/// How many entries the history has, and the height of its replica on the board.
+fn numbers(seated: &mut Seated) -> (usize, u32) {
+    (seated.state().len(), seated.published())
+}
+
+/// Whether these bytes were submitted and taken at an index of the history.
+fn has_submitted(seated: &Seated, index: usize, bytes: &[u8]) -> bool {
+    let Some(entry) = seated.state().entry(index) else {
+        return false;
+    };
+    let EventView::Submit(given) = entry.event() else {
+        return false;
+    };
+    given == bytes && matches!(entry.reply(), ReplyView::Submitted(Ok(())))
+}
+
+fn are_both(transactions: &[Tx]) -> bool {
+    match transactions {
+        [first, second] => first.as_bytes() == b"a=1".as_slice()
+            && second.as_bytes() == b"b=2".as_slice(),
+        _ => false,
+    }
+}
+
+/// Whether a height was opened with both transactions at an index of the history.
+fn has_opened(seated: &Seated, index: usize) -> bool {
+    let Some(entry) = seated.state().entry(index) else {
+        return false;
+    };
+    match entry.reply() {
+        ReplyView::Proposed(Ok(batch)) => are_both(batch.transactions()),
+        _ => false,
+    }
+}
+
+/// Whether at an index of the history a block was to be run, and none was decided.
+fn has_run_nothing(seated: &Seated, index: usize) -> bool {
+    let Some(entry) = seated.state().entry(index) else {
+        return false;
+    };
+    matches!(entry.event(), EventView::Execute)
+        && matches!(entry.reply(), ReplyView::Executed(Err(_)))
+}
+
+#[test]
+fn a_turn_takes_its_events_in_order(rt: HostRuntime) -> Result<(), Fail> {
+    let mut seated = last_of_four(&rt, rt.alloc())?;
+    let bytes = Bytes::from_static(b"b=2");
+    assert_eq!(rt; seated.submit(rt.alloc(), bytes)?, 1);
+    let events = vec![in rt.alloc(); Event::Propose(Height::new(1)), Event::Execute]?;
+    assert_eq!(rt; seated.turn(events), Ok(2));
+    assert!(rt; has_submitted(&seated, 0, b"a=1") && has_submitted(&seated, 1, b"b=2"));
+    assert!(rt; has_opened(&seated, 2) && has_run_nothing(&seated, 3));
+    assert_eq!(rt; numbers(&mut seated), (4, 0));
+    Ok(())
+}
+
+/// So many ends of rounds.
+fn round_ends(alloc: Global, count: usize) -> Result<Vec<Event>, AllocError> {
+    let mut events = Vec::with_capacity(alloc, count)?;
+    for _ in 0..count {
+        events.push(Event::RoundEnd)?;
+    }
+    Ok(events)
+}
+
+#[test]
+fn a_turn_ends_where_the_history_is_full(rt: HostRuntime) -> Result<(), Fail> {
+    let mut seated = last_of_four(&rt, rt.alloc())?;
+    assert_eq!(rt; seated.turn(round_ends(rt.alloc(), 65_534)?), Ok(1));
+    let last = Event::Submit(Bytes::from_static(b"b=2"));
+    let events = vec![in rt.alloc(); last, Event::RoundEnd]?;
+    assert_eq!(rt; seated.turn(events), Err(ApplyFault::HistoryFull));
+    assert!(rt; has_submitted(&seated, 65_535, b"b=2"));
+    assert_eq!(rt; numbers(&mut seated), (65_536, 0));
+    Ok(())
+}
