@@ -1,6 +1,6 @@
 -- A replica as contracts see it: what it was made with, how many leaves of its key pair are used, its history, and its
 -- application's machine.
-use Rattle.std.specs.Prelude.{◌≡◌, ℕ, ◌<◌, ◌≤◌, List, Some, length, slice_get}
+use Rattle.std.specs.Prelude.{◌≡◌, ℕ, ◌+◌, ◌<◌, ◌≤◌, List, Some, length, slice_get}
 use Rattle.ledger_model.specs.declared.config.Config.{Config}
 use Rattle.ledger_model.specs.declared.history.Entry.{Entry}
 use Rattle.ledger_model.specs.Applications.{Machine, run}
@@ -10,6 +10,7 @@ use Rattle.ledger_model.specs.Lawful.{Replay}
 use Rattle.lms_tree.specs.Trees.{Secret}
 use Rattle.key_ring.specs.Signers.{Keys, key_of}
 use Rattle.replica_core.specs.Holding.{Held, Matches}
+use Rattle.replica_core.specs.RoundEnds.{due}
 
 -- a replica as contracts see it
 pub record Replica : Type 0 where
@@ -51,3 +52,11 @@ pub record IsReplica (held : Held) (entries : List Entry) : Type 0 where
 -- its application is what it is run alone on the committed blocks
 unfoldable pub RunsAlone : Replica → Type 0
 RunsAlone r = r.machine ≡ run r.config.kind (commits_of r.config r.id r.entries)
+
+-- at most as many leaves more are used as the next round end has statements to sign, by what the history makes the replica keep
+pub record SpendsWithin (old new : Replica) : Type 0 where
+  pub held : Held
+  pub config : held.config ≡ old.config
+  pub id : held.id ≡ old.id
+  pub matches : Matches held old.entries
+  pub most : new.used ≤ old.used + due (held.clock + 1) held.rows

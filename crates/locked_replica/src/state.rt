@@ -46,7 +46,7 @@ impl<A: Application> State<A> {
     ghost use Rattle.key_ring.specs.Signers.{key_of, leaves_of};
     ghost use Rattle.replica_core.specs.Steps.{UsesLeaves};
     ghost use Rattle.replica_core.specs.Telling.{block_at, info_reply};
-    ghost use Rattle.locked_replica.specs.Replicas.{Replica, IsMember, RunsAlone, keys_in};
+    ghost use Rattle.locked_replica.specs.Replicas.{Replica, IsMember, RunsAlone, SpendsWithin, keys_in};
 
     /// A replica with no history. The application is in its opening state, of the configured kind; the ring has the public keys
     /// of the replicas by number. The first random keys are those of the pool's hashes; the second are for what a replica finds
@@ -205,6 +205,8 @@ impl<A: Application> State<A> {
         ensures refused { IsErrOf result ApplyFault.HistoryFull → self.new ≡ self.old }
         // A fault spends leaves at a round end alone.
         ensures spared { OnErr result (event ≢ events.RoundEnd → self.new ≡ self.old) }
+        // And then no more of them than the round end would have used.
+        ensures within { OnErr result (SpendsWithin self.old self.new) }
         ensures replay { Replay self.new.config self.new.ring self.new.id self.new.entries }
         // The application is what it is run alone on the committed blocks.
         ensures machine { RunsAlone self.new }

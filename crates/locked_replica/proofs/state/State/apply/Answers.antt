@@ -1,7 +1,7 @@
-use Rattle.std.proofs.Common.{◌≡◌, ◌<◌, ◌++◌, ◌∷◌, [], length, sym, subst, rules}
+use Rattle.std.proofs.Common.{◌≡◌, ◌<◌, ◌++◌, ◌∷◌, [], length, sym, subst, rules, arith}
 use Rattle.ledger_model.specs.declared.history.Entry.{Entry}
 use Rattle.replica_core.specs.Steps.{UsesLeaves}
-use Rattle.locked_replica.proofs.Applied.{replay_on, replay_still, matches_on, few_on}
+use Rattle.locked_replica.proofs.Applied.{few_on, leaves_few, matches_on, on_fault, replay_on, replay_still, spends_within}
 use Rattle.locked_replica.proofs.state.State.apply.Goals as goal
 
 pub invariant_of-self-2 : goal.invariant_of-self-2
@@ -44,3 +44,20 @@ returns-clause-replay g c =
     let told = c.in_ok-reply.ensures in
     replay_still s.core.held now c.push.new.self.items told.same.config told.same.ring told.same.id
     (replay_on s.core.held now s.entries.items c.push.new.self.items e c.self.invariant.replay c.self.invariant.matches told.step grown)
+
+pub returns-then-index-ge-MAX_ENTRIES-clause-within : goal.returns-then-index-ge-MAX_ENTRIES-clause-within
+returns-then-index-ge-MAX_ENTRIES-clause-within g c =
+    let s = c.self.inside in
+    rw (sym c.self.view_is) (spends_within s.core.held s.core.keys s.entries.items _ c.self.invariant.matches (omega arith))
+
+pub returns-in_err-reserve-clause-within : goal.returns-in_err-reserve-clause-within
+returns-in_err-reserve-clause-within g c =
+    let s = c.self.inside in
+    on_fault c.from_residual.result c.args.self.now _ (rw (sym c.self.view_is) (spends_within s.core.held s.core.keys s.entries.items _ c.self.invariant.matches (omega arith)))
+
+pub returns-in_err-reply-clause-within : goal.returns-in_err-reply-clause-within
+returns-in_err-reply-clause-within g c =
+    let s = c.self.inside in
+    let spent = c.in_err-reply.ensures.most in
+    let few = leaves_few s.core.held s.core.keys c.args.event in
+    on_fault c.from_residual-in_err-reply.result c.args.self.now _ (rw (sym c.self.view_is) (spends_within s.core.held s.core.keys s.entries.items _ c.self.invariant.matches (omega (arith, spent, few))))
