@@ -70,20 +70,39 @@ impl Holder {
     fn holds(&self, wanted: &[(u32, u8)]) -> Result<bool, Fail> {
         Ok(self.held()?.as_slice() == wanted)
     }
+
+    // Whether a fifth value finds no room, and leaves the four.
+    fn refuses_a_fifth(&mut self) -> Result<bool, Fail> {
+        let has_room = self.has_room(b'e')?;
+        let answer = self.take(5, b'e')?;
+        let are_held = self.holds(&[(2, b'a'), (4, b'b'), (1, b'c'), (3, b'd')])?;
+        Ok(!has_room && answer == Err(TableFull) && are_held)
+    }
+
+    // Whether a held value is renewed.
+    fn renews_the_second(&mut self) -> Result<bool, Fail> {
+        let has_room = self.has_room(b'b')?;
+        let answer = self.take(6, b'b')?;
+        let are_held = self.holds(&[(2, b'a'), (6, b'b'), (1, b'c'), (3, b'd')])?;
+        Ok(has_room && answer == Ok(()) && are_held)
+    }
+
+    // Whether nothing is released before the phase of the lock that is read, and then what is of no later phase.
+    fn releases_two(&mut self) -> Result<bool, Fail> {
+        self.release(3, b'b', 2)?;
+        let count = self.table.held().len();
+        self.release(3, b'b', 3)?;
+        let are_held = self.holds(&[(2, b'b'), (5, b'd')])?;
+        Ok(count == 4 && are_held)
+    }
 }
 
 #[test]
 fn holds_four_values_and_renews_them(rt: HostRuntime) -> Result<(), Fail> {
     let mut holder = Holder::new(rt.alloc())?;
     holder.take_all(&[(1, b'c'), (2, b'a'), (3, b'd'), (4, b'b')])?;
-    assert_eq!(rt;
-        (holder.has_room(b'e')?, holder.has_room(b'b')?),
-        (false, true)
-    );
-    assert_eq!(rt; holder.take(5, b'e')?, Err(TableFull));
-    assert!(rt; holder.holds(&[(2, b'a'), (4, b'b'), (1, b'c'), (3, b'd')])?);
-    assert_eq!(rt; holder.take(6, b'b')?, Ok(()));
-    assert!(rt; holder.holds(&[(2, b'a'), (6, b'b'), (1, b'c'), (3, b'd')])?);
+    assert!(rt; holder.refuses_a_fifth()?);
+    assert!(rt; holder.renews_the_second()?);
     Ok(())
 }
 
@@ -91,10 +110,6 @@ fn holds_four_values_and_renews_them(rt: HostRuntime) -> Result<(), Fail> {
 fn releases_other_values_of_no_later_phase(rt: HostRuntime) -> Result<(), Fail> {
     let mut holder = Holder::new(rt.alloc())?;
     holder.take_all(&[(1, b'a'), (2, b'b'), (3, b'c'), (5, b'd')])?;
-    // before its phase it releases nothing
-    holder.release(3, b'b', 2)?;
-    assert_eq!(rt; holder.table.held().len(), 4);
-    holder.release(3, b'b', 3)?;
-    assert!(rt; holder.holds(&[(2, b'b'), (5, b'd')])?);
+    assert!(rt; holder.releases_two()?);
     Ok(())
 }

@@ -25,6 +25,33 @@ fn told(fault: ApplyFault) -> ProgramFault {
     }
 }
 
+fn randoms<R: RandomSource>(source: &R) -> Result<[RandomState; 2], ProgramFault> {
+    Ok([RandomState::new(source)?, RandomState::new(source)?])
+}
+
+fn submit(alloc: Global, state: &mut State<AnyKind>, tx: &Tx) -> Result<(), ProgramFault> {
+    let tx = Bytes::copy_from_slice(alloc, tx.as_bytes())?;
+    let _ = state.apply(Event::Submit(tx)).map_err(told)?;
+    Ok(())
+}
+
+/// A replica with nothing in its pool.
+fn empty_state<R: RandomSource>(
+    source: &R,
+    alloc: Global,
+    cluster: &ClusterSeed,
+    ring: &KeyRing,
+    id: u8,
+) -> Result<State<AnyKind>, ProgramFault>
+    requires below { id < cluster.now.config.replicas }
+    requires own_key { slice_get ring.now id ≡ Some (key_of (secret_of cluster.now id)) }
+{
+    let randoms = randoms(source)?;
+    let app = AnyKind::new(alloc, cluster.config.kind);
+    let state = new_replica(alloc, cluster, ring, ReplicaId::new(id), app, randoms)?;
+    Ok(state)
+}
+
 /// A replica with the transaction in its pool.
 fn new_state<R: RandomSource>(
     source: &R,
@@ -37,11 +64,8 @@ fn new_state<R: RandomSource>(
     requires below { id < cluster.now.config.replicas }
     requires own_key { slice_get ring.now id ≡ Some (key_of (secret_of cluster.now id)) }
 {
-    let app = AnyKind::new(alloc, cluster.config.kind);
-    let randoms = [RandomState::new(source)?, RandomState::new(source)?];
-    let mut state = new_replica(alloc, cluster, ring, ReplicaId::new(id), app, randoms)?;
-    let tx = Bytes::copy_from_slice(alloc, tx.as_bytes())?;
-    let _ = state.apply(Event::Submit(tx)).map_err(told)?;
+    let mut state = empty_state(source, alloc, cluster, ring, id)?;
+    submit(alloc, &mut state, tx)?;
     Ok(state)
 }
 

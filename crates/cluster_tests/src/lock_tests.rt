@@ -4,6 +4,8 @@ use crate::replicas::{four, replicas};
 use app_kinds::AnyKind;
 use ledger_model::Event;
 use replica_turns::LockedReplica;
+use std::alloc::Global;
+use std::random::RandomSource;
 use std::sync::atomic::AtomicBool;
 use std::sync::{Mutex, Wait};
 use std::test::Fail;
@@ -21,14 +23,20 @@ fn apply_and_meet<R: Wait>(
     meet(own, other) && is_taken
 }
 
+/// Two replicas of a cluster, each behind its lock.
+fn two<R: RandomSource>(
+    rt: &R,
+    alloc: Global,
+) -> Result<(LockedReplica<AnyKind>, LockedReplica<AnyKind>), Fail> {
+    let mut states = replicas(rt, alloc, &four()?)?;
+    let first = states.pop().ok_or("no replica")?;
+    let second = states.pop().ok_or("no second replica")?;
+    Ok((Mutex::new(first), Mutex::new(second)))
+}
+
 #[test]
 fn two_threads_change_two_replicas_at_once(rt: HostRuntime) -> Result<(), Fail> {
-    let alloc = rt.alloc();
-    let mut states = replicas(&rt, alloc, &four()?)?;
-    let (Some(first), Some(second)) = (states.pop(), states.pop()) else {
-        return Err(Fail::from("two replicas are there"));
-    };
-    let (first, second) = (Mutex::new(first), Mutex::new(second));
+    let (first, second) = two(&rt, rt.alloc())?;
     let (one, two) = (AtomicBool::new(false), AtomicBool::new(false));
     let (is_first, is_second) = thread::join(
         &rt,

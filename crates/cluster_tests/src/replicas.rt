@@ -30,6 +30,31 @@ pub(crate) fn four() -> Result<Cluster, Fail> {
     })
 }
 
+fn randoms<R: RandomSource>(rt: &R) -> Result<[RandomState; 2], Fail> {
+    Ok([RandomState::new(rt)?, RandomState::new(rt)?])
+}
+
+/// One of its replicas, with nothing in its pool.
+fn new_state<R: RandomSource>(
+    rt: &R,
+    alloc: Global,
+    cluster: &Cluster,
+    ring: &KeyRing,
+    id: u8,
+) -> Result<State<AnyKind>, Fail>
+    requires below { id < cluster.now.config.replicas }
+    requires own_key { slice_get ring.now id ≡ Some (key_of (secret_of cluster.now id)) }
+{
+    let app = AnyKind::new(alloc, cluster.config.kind);
+    let state = new_replica(alloc, cluster, ring, ReplicaId::new(id), app, randoms(rt)?)?;
+    Ok(state)
+}
+
+fn submit(state: &mut State<AnyKind>) -> Result<(), Fail> {
+    state.apply(Event::Submit(Bytes::from_static(b"a=1")))?;
+    Ok(())
+}
+
 /// One of its replicas, with `a=1` in its pool.
 fn replica<R: RandomSource>(
     rt: &R,
@@ -41,10 +66,8 @@ fn replica<R: RandomSource>(
     requires below { id < cluster.now.config.replicas }
     requires own_key { slice_get ring.now id ≡ Some (key_of (secret_of cluster.now id)) }
 {
-    let app = AnyKind::new(alloc, cluster.config.kind);
-    let randoms = [RandomState::new(rt)?, RandomState::new(rt)?];
-    let mut state = new_replica(alloc, cluster, ring, ReplicaId::new(id), app, randoms)?;
-    state.apply(Event::Submit(Bytes::from_static(b"a=1")))?;
+    let mut state = new_state(rt, alloc, cluster, ring, id)?;
+    submit(&mut state)?;
     Ok(state)
 }
 

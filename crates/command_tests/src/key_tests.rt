@@ -3,9 +3,13 @@ use crate::setting_tests::signing;
 use cluster_keys::{Cluster, key_pair, signer_and_ring};
 use frame_signing::signed_frame;
 use hex::FromHex;
+use key_ring::{KeyRing, Signer};
 use ledger_model::{AppKind, Config, ReplicaId};
 use lm_ots::{Params, TreeHeight, Width};
+use lms_tree::PublicKey;
 use sha2::{Digest, Sha256};
+use signed_frames::Frame;
+use std::alloc::Global;
 use std::process::Abort;
 use std::test::Fail;
 
@@ -37,21 +41,34 @@ fn cluster<R: Abort>(rt: &R, width: Width, seed: [u8; 32]) -> Cluster {
     }
 }
 
+/// Whether these are the bytes of the key.
+fn is_spelled(key: &PublicKey, digits: &str) -> bool {
+    <[u8; 56] as FromHex>::from_hex(digits) == Ok(*key.as_bytes())
+}
+
+/// The first of four replicas whose key in the ring is another.
+fn first_other(ring: &KeyRing) -> Option<u8> {
+    for replica in 0..4u8 {
+        match ring.key(ReplicaId::new(replica)) {
+            Some(key) if is_spelled(key, PUBLIC_KEYS[usize::from(replica)]) => {}
+            _ => return Some(replica),
+        }
+    }
+    None
+}
+
+/// Whether the signer has replica 1's key, and all of its leaves.
+fn is_replica_1(signer: &Signer) -> bool {
+    is_spelled(&signer.public(), PUBLIC_KEYS[1]) && signer.leaves_left() == 32
+}
+
 #[test]
 fn a_ring_has_the_key_of_each_replica(rt: HostRuntime) -> Result<(), Fail> {
     let cluster = cluster(&rt, Width::W4, [0; 32]);
     let (signer, ring) = signer_and_ring(rt.alloc(), &cluster, ReplicaId::new(1))?;
-    for replica in 0..4u8 {
-        let wanted = <[u8; 56] as FromHex>::from_hex(PUBLIC_KEYS[usize::from(replica)]);
-        let found = ring.key(ReplicaId::new(replica)).map(|key| *key.as_bytes());
-        assert_eq!(rt; found, wanted.ok(), "at replica {replica}");
-    }
+    assert_eq!(rt; first_other(&ring), None);
     assert!(rt; ring.key(ReplicaId::new(4)).is_none());
-    assert_eq!(rt;
-        Some(*signer.public().as_bytes()),
-        <[u8; 56] as FromHex>::from_hex(PUBLIC_KEYS[1]).ok()
-    );
-    assert_eq!(rt; signer.leaves_left(), 32);
+    assert!(rt; is_replica_1(&signer));
     Ok(())
 }
 
@@ -59,11 +76,22 @@ fn a_ring_has_the_key_of_each_replica(rt: HostRuntime) -> Result<(), Fail> {
 fn a_key_pair_is_of_its_seed_and_width(rt: HostRuntime) -> Result<(), Fail> {
     let cluster = cluster(&rt, Width::W8, [0x11; 32]);
     let signer = key_pair(rt.alloc(), &cluster, ReplicaId::new(2))?;
-    assert_eq!(rt;
-        Some(*signer.public().as_bytes()),
-        <[u8; 56] as FromHex>::from_hex(WIDE_KEY).ok()
-    );
+    assert!(rt; is_spelled(&signer.public(), WIDE_KEY));
     Ok(())
+}
+
+/// The frame that is signed at these words.
+fn frame_of(alloc: Global, words: &[&str]) -> Result<Frame, Fail> {
+    match signing(alloc, words) {
+        Some(settings) => Ok(signed_frame(alloc, &settings)?),
+        None => Err(Fail::from("the words are no command line")),
+    }
+}
+
+fn digest(bytes: &[u8]) -> [u8; 32] {
+    let mut hasher = Sha256::new();
+    hasher.update(bytes);
+    hasher.finalize()
 }
 
 #[test]
@@ -85,15 +113,8 @@ fn the_frame_of_an_acknowledgement_is_signed_exactly(rt: HostRuntime) -> Result<
         "--phase",
         "3",
     ];
-    let Some(sign) = signing(rt.alloc(), &words) else {
-        panic!(rt; "the words are a command line");
-    };
-    let frame = signed_frame(rt.alloc(), &sign)?;
-    let mut hasher = Sha256::new();
-    hasher.update(frame.as_bytes());
-    assert_eq!(rt;
-        Some(hasher.finalize()),
-        <[u8; 32] as FromHex>::from_hex(ACK_DIGEST).ok()
-    );
+    let frame = frame_of(rt.alloc(), &words)?;
+    let wanted = <[u8; 32] as FromHex>::from_hex(ACK_DIGEST);
+    assert!(rt; wanted == Ok(digest(frame.as_bytes())));
     Ok(())
 }

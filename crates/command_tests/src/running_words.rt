@@ -41,6 +41,11 @@ fn told(alloc: Global, words: &[&str]) -> Result<String, AllocError> {
     }
 }
 
+/// Whether that is said of the words.
+fn is_told(alloc: Global, words: &[&str], text: &str) -> Result<bool, Fail> {
+    Ok(told(alloc, words)?.as_str() == text)
+}
+
 #[test]
 fn the_words_of_cluster_and_serve_set_each_option(rt: HostRuntime) -> Result<(), Fail> {
     for (words, line) in [
@@ -63,8 +68,7 @@ fn the_words_of_cluster_and_serve_set_each_option(rt: HostRuntime) -> Result<(),
         ),
     ] {
         let words: Vec<&str> = words.split(' ').collect(rt.alloc())?;
-        let told = told(rt.alloc(), &words)?;
-        assert_eq!(rt; told.as_str(), line);
+        assert!(rt; is_told(rt.alloc(), &words, line)?, "{line}");
     }
     Ok(())
 }
@@ -133,8 +137,10 @@ fn a_fault_of_usage_names_its_option(rt: HostRuntime) -> Result<(), Fail> {
             "error: --rounds is 0 or 1, not '2'",
         ),
     ] {
-        let told = told(rt.alloc(), &["abft", subcommand, option, word])?;
-        assert_eq!(rt; told.as_str(), text);
+        assert!(rt;
+            is_told(rt.alloc(), &["abft", subcommand, option, word], text)?,
+            "{text}"
+        );
     }
     Ok(())
 }

@@ -34,6 +34,42 @@ fn is_exact<S: RandomSource>(source: &S, alloc: Global, told: &Snapshot) -> Resu
     Ok(first_taken(source, alloc, told, len - 1)?.is_none())
 }
 
+/// What the history's last entry answers to a frame, where followers agree.
+fn agreed_answer<S: RandomSource>(
+    source: &S,
+    alloc: Global,
+    told: &Snapshot,
+) -> Result<Result<(), Ignored>, Fail> {
+    if is_exact(source, alloc, told)? {
+        last_answer(told)
+    } else {
+        Err(Fail::from("a follower takes another answer"))
+    }
+}
+
+/// What the replica answered to the last frame, where followers agree.
+fn answer_in<S: RandomSource>(
+    source: &S,
+    alloc: Global,
+    simulation: &Simulation<AnyKind>,
+    replica: u8,
+) -> Result<Result<(), Ignored>, Fail> {
+    match history_of(simulation, replica)? {
+        Some(told) => agreed_answer(source, alloc, &told),
+        None => Err(Fail::from("no history")),
+    }
+}
+
+/// The frame is injected to the replica.
+fn inject(simulation: &mut Simulation<AnyKind>, bytes: Bytes, to: u8) -> Result<(), Fail> {
+    let to = u32::from(to);
+    if plays(simulation, &Command::Inject { to, bytes }) {
+        Ok(())
+    } else {
+        Err(Fail::from("out of memory"))
+    }
+}
+
 /// What the replica answers to the frame behind what the script plays, where followers agree.
 fn answer_of<S: RandomSource>(
     source: &S,
@@ -43,24 +79,16 @@ fn answer_of<S: RandomSource>(
     to: u8,
 ) -> Result<Result<(), Ignored>, Fail> {
     let mut simulation = played(source, alloc, script)?;
-    let command = Command::Inject {
-        to: u32::from(to),
-        bytes,
-    };
-    if !plays(&mut simulation, &command) {
-        return Err(Fail::from("out of memory"));
-    }
-    let told = history_of(&simulation, to)?.ok_or("no history")?;
-    if !is_exact(source, alloc, &told)? {
-        return Err(Fail::from("a follower takes another answer"));
-    }
-    last_answer(&told)
+    inject(&mut simulation, bytes, to)?;
+    answer_in(source, alloc, &simulation, to)
 }
 
 /// The first frame with this head that the replica sent.
 fn frame_in(simulation: &Simulation<AnyKind>, replica: u8, head: Head) -> Result<Bytes, Fail> {
-    let told = history_of(simulation, replica)?.ok_or("no history")?;
-    frame_of(&told, head)
+    match history_of(simulation, replica)? {
+        Some(told) => frame_of(&told, head),
+        None => Err(Fail::from("no history")),
+    }
 }
 
 /// The frame of the report of a replica at a height, in phase 1.
@@ -73,17 +101,21 @@ fn report_in(simulation: &Simulation<AnyKind>, replica: u8, height: u8) -> Resul
     frame_in(simulation, replica, head)
 }
 
-/// The frame of a lock at height 1 by three reports, the first one's of this height.
-fn lock_at<S: RandomSource>(source: &S, alloc: Global, height: u8) -> Result<Bytes, Fail> {
-    let scenario = scenario_of(alloc, LOCKS_DUE)?;
-    let cluster = cluster_of(&scenario.setup);
+/// The reports of replicas 0, 2 and 3 where locks are due, the first one's of this height.
+fn reports_at<S: RandomSource>(source: &S, alloc: Global, height: u8) -> Result<[Bytes; 3], Fail> {
     let simulation = played(source, alloc, LOCKS_DUE)?;
-    let reports = [
+    Ok([
         report_in(&simulation, 0, height)?,
         report_in(&simulation, 2, 1)?,
         report_in(&simulation, 3, 1)?,
-    ];
-    lock_by(alloc, &cluster, reports)
+    ])
+}
+
+/// The frame of a lock at height 1 by three reports, the first one's of this height.
+fn lock_at<S: RandomSource>(source: &S, alloc: Global, height: u8) -> Result<Bytes, Fail> {
+    let reports = reports_at(source, alloc, height)?;
+    let scenario = scenario_of(alloc, LOCKS_DUE)?;
+    lock_by(alloc, &cluster_of(&scenario.setup), reports)
 }
 
 /// The frame of the lock of the sixth phase.

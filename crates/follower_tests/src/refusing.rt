@@ -1,7 +1,10 @@
 //! Which changed replies of a history a follower refuses.
 use crate::changing::{Change, changed};
 use crate::following::{is_taken, taking};
+use app_kinds::AnyKind;
+use ledger_model::{Entry, Reply};
 use locked_replica::Snapshot;
+use replica_core::Follower;
 use std::alloc::Global;
 use std::random::RandomSource;
 use std::test::Fail;
@@ -22,6 +25,33 @@ const CHANGES: [Change; 11] = [
     Change::Byte(2000),
 ];
 
+/// Whether the follower refuses the entry with this reply, and with its own from then on.
+fn is_lost_at(
+    follower: &mut Follower<AnyKind>,
+    alloc: Global,
+    entry: &Entry,
+    reply: &Reply,
+) -> Result<bool, Fail> {
+    let is_first_taken = is_taken(follower, alloc, &entry.event, reply)?;
+    let is_next_taken = is_taken(follower, alloc, &entry.event, &entry.reply)?;
+    Ok(!is_first_taken && !is_next_taken && follower.is_lost())
+}
+
+/// Whether the entry at this place is refused with this reply behind those before it, and with its own from then on.
+fn is_refused_with<S: RandomSource>(
+    source: &S,
+    alloc: Global,
+    told: &Snapshot,
+    at: usize,
+    entry: &Entry,
+    reply: &Reply,
+) -> Result<bool, Fail> {
+    match taking(source, alloc, told, at)? {
+        Some(mut follower) => is_lost_at(&mut follower, alloc, entry, reply),
+        None => Ok(false),
+    }
+}
+
 /// Whether the entry at this place, its reply changed so, is refused behind those before it, and the true one is refused from
 /// then on. It is true where the reply has nothing to be changed so.
 fn is_refused<S: RandomSource>(
@@ -34,17 +64,10 @@ fn is_refused<S: RandomSource>(
     let Some(entry) = told.history.entries.as_slice().get(at) else {
         return Ok(false);
     };
-    let Some(reply) = changed(alloc, &entry.reply, change)? else {
-        return Ok(true);
-    };
-    let Some(mut follower) = taking(source, alloc, told, at)? else {
-        return Ok(false);
-    };
-    if is_taken(&mut follower, alloc, &entry.event, &reply)? {
-        return Ok(false);
+    match changed(alloc, &entry.reply, change)? {
+        Some(reply) => is_refused_with(source, alloc, told, at, entry, &reply),
+        None => Ok(true),
     }
-    let is_taken_again = is_taken(&mut follower, alloc, &entry.event, &entry.reply)?;
-    Ok(follower.is_lost() && !is_taken_again)
 }
 
 /// The first change of the entry at this place that is not refused.

@@ -63,6 +63,53 @@ fn stays_silent(
     Ok(true)
 }
 
+/// What comes of the entry with this reply, at a follower that took those before it.
+fn flagged(
+    follower: &mut Follower<AnyKind>,
+    alloc: Global,
+    entry: &Entry,
+    reply: &Reply,
+    later: &[Entry],
+) -> Result<Flagged, AllocError> {
+    if !is_taken(follower, alloc, &entry.event, reply)? {
+        return Ok(Flagged::Refused);
+    }
+    if stays_silent(follower, alloc, later)? {
+        Ok(Flagged::Silenced)
+    } else {
+        Ok(Flagged::Ignored)
+    }
+}
+
+/// It, and what may come of it.
+fn judged(
+    follower: &mut Follower<AnyKind>,
+    alloc: Global,
+    entry: &Entry,
+    reply: &Reply,
+    later: &[Entry],
+) -> Result<(Flagged, bool), Fail> {
+    let may = may_be_mute(&entry.reply, follower.clock().saturating_add(1));
+    Ok((flagged(follower, alloc, entry, reply, later)?, may))
+}
+
+/// What comes of the entry at this place with this reply, and what may come of it.
+fn outcome_with<S: RandomSource>(
+    source: &S,
+    alloc: Global,
+    told: &Snapshot,
+    at: usize,
+    entry: &Entry,
+    reply: &Reply,
+) -> Result<(Flagged, bool), Fail> {
+    let entries = told.history.entries.as_slice();
+    let later = entries.get(at.saturating_add(1)..).unwrap_or(&[]);
+    match taking(source, alloc, told, at)? {
+        Some(mut follower) => judged(&mut follower, alloc, entry, reply, later),
+        None => Err(Fail::from("an entry was refused")),
+    }
+}
+
 /// What comes of the entry at this place with the other mute flag, and what may come of it.
 fn outcome_of<S: RandomSource>(
     source: &S,
@@ -70,28 +117,12 @@ fn outcome_of<S: RandomSource>(
     told: &Snapshot,
     at: usize,
 ) -> Result<(Flagged, bool), Fail> {
-    let entries = told.history.entries.as_slice();
-    let Some(entry) = entries.get(at) else {
+    let Some(entry) = told.history.entries.as_slice().get(at) else {
         return Ok((Flagged::Other, false));
     };
-    let Some(reply) = with_other_flag(&entry.reply)? else {
-        return Ok((Flagged::Other, false));
-    };
-    let Some(mut follower) = taking(source, alloc, told, at)? else {
-        return Err(Fail::from("an entry was refused"));
-    };
-    let may = may_be_mute(&entry.reply, follower.clock().saturating_add(1));
-    if !is_taken(&mut follower, alloc, &entry.event, &reply)? {
-        return Ok((Flagged::Refused, may));
-    }
-    if stays_silent(
-        &mut follower,
-        alloc,
-        entries.get(at.saturating_add(1)..).unwrap_or(&[]),
-    )? {
-        Ok((Flagged::Silenced, may))
-    } else {
-        Ok((Flagged::Ignored, may))
+    match with_other_flag(&entry.reply)? {
+        Some(reply) => outcome_with(source, alloc, told, at, entry, &reply),
+        None => Ok((Flagged::Other, false)),
     }
 }
 

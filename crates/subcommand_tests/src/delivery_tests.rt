@@ -1,11 +1,13 @@
 //! `abft deliver` over streams.
 use crate::streams::{Broken, Counted};
 use cluster_keys::Cluster;
-use frame_delivery::deliver;
+use frame_delivery::{StreamEnd, deliver};
 use frame_signing::signed_frame;
 use ledger_model::{AppKind, Config, Height, Phase, ReplicaId, Tx};
 use lm_ots::{Params, TreeHeight, Width};
+use program_streams::ProgramFault;
 use settings::{DeliverSettings, SignSettings, What};
+use signed_frames::Frame;
 use std::alloc::Global;
 use std::io::{Read, Write};
 use std::random::RandomSource;
@@ -23,8 +25,8 @@ fn cluster() -> Result<Cluster, Fail> {
     })
 }
 
-/// A report of replica 0 at height 1 in phase 1, twice.
-fn report_twice(alloc: Global) -> Result<Vec<u8>, Fail> {
+/// The frame of a report of replica 0 at height 1 in phase 1.
+fn report(alloc: Global) -> Result<Frame, Fail> {
     let cluster = cluster()?;
     if cluster.config.replicas == 0 {
         return Err(Fail::from("there are replicas"));
@@ -37,10 +39,23 @@ fn report_twice(alloc: Global) -> Result<Vec<u8>, Fail> {
         phase: Phase::new(1),
         value: Tx::new(b"a=1".to_vec(alloc)?)?,
     };
-    let frame = signed_frame(alloc, &settings)?;
+    Ok(signed_frame(alloc, &settings)?)
+}
+
+/// It, twice.
+fn report_twice(alloc: Global) -> Result<Vec<u8>, Fail> {
+    let frame = report(alloc)?;
     let mut frames = frame.as_bytes().to_vec(alloc)?;
     frames.extend_from_slice(frame.as_bytes())?;
     Ok(frames)
+}
+
+/// How a stream ended, or the fault, as text.
+fn text_of(alloc: Global, ended: Result<StreamEnd, ProgramFault>) -> Result<String, Fail> {
+    Ok(match ended {
+        Ok(end) => format!(in alloc; "{end:?}")?,
+        Err(fault) => format!(in alloc; "{fault}")?,
+    })
 }
 
 /// What replica 1 of `abft deliver` says of a stream, for which it ends one round: how the stream ended, or the fault.
@@ -61,10 +76,7 @@ fn told<S: RandomSource, R: Read, W: Write>(
         height: Height::new(1),
         rounds: 1,
     };
-    Ok(match deliver(source, alloc, &settings, reader, writer) {
-        Ok(end) => format!(in alloc; "{end:?}")?,
-        Err(fault) => format!(in alloc; "{fault}")?,
-    })
+    text_of(alloc, deliver(source, alloc, &settings, reader, writer))
 }
 
 #[test]
