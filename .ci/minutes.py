@@ -43,6 +43,12 @@ def part_of(process):
     return crate, "tests" if "--test" in words else "proof"
 
 
+def stolen():
+    """Processor seconds that this machine's host gave to others while something here was ready to run, since the machine began."""
+    with open("/proc/stat", encoding="utf-8") as it:
+        return int(it.readline().split()[8]) / TICKS
+
+
 def rss_of(process):
     with open(f"/proc/{process}/statm", encoding="utf-8") as it:
         return int(it.read().split()[1]) * resource.getpagesize()
@@ -107,7 +113,7 @@ def main(words):
     to = None
     if words[:1] == ["--table"]:
         to, words = words[1], words[2:]
-    began = time.monotonic()
+    began, taken = time.monotonic(), stolen()
     running = subprocess.Popen(words)
     sampler = Sampler(running.pid)
     looking = threading.Thread(target=sampler.run, daemon=True)
@@ -119,8 +125,9 @@ def main(words):
     wall, processor = (time.monotonic() - began) / 60, (used.ru_utime + used.ru_stime) / 60
     processors = len(os.sched_getaffinity(0))
     said = (
-        f"{wall:.0f} minutes by the clock on {processors} processors, {processor:.0f} processor minutes, "
-        f"at most {sampler.memory / 2**30:.1f} GiB at once in the prover\n\n"
+        f"{wall:.0f} minutes by the clock on {processors} processors, {processor:.0f} processor minutes, and "
+        f"{(stolen() - taken) / 60:.0f} more that the machine's host gave to others; at most {sampler.memory / 2**30:.1f} GiB at once "
+        f"in the prover\n\n"
         f"Processor minutes by crate:\n\n{table_of(sampler.minutes())}"
     )
     print(f"\n{said}", flush=True)
