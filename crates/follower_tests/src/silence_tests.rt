@@ -64,7 +64,7 @@ fn stays_silent(
 }
 
 /// What comes of the entry with this reply, at a follower that took those before it.
-fn flagged(
+fn come_of(
     follower: &mut Follower<AnyKind>,
     alloc: Global,
     entry: &Entry,
@@ -90,7 +90,7 @@ fn judged(
     later: &[Entry],
 ) -> Result<(Flagged, bool), Fail> {
     let may = may_be_mute(&entry.reply, follower.clock().saturating_add(1));
-    Ok((flagged(follower, alloc, entry, reply, later)?, may))
+    Ok((come_of(follower, alloc, entry, reply, later)?, may))
 }
 
 /// What comes of the entry at this place with this reply, and what may come of it.

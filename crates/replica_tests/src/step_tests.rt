@@ -10,6 +10,7 @@ use lm_ots::{Identifier, Params, Seed, TreeHeight, Width};
 use locked_replica::{EventView, ReplyView, RoundEndView, State};
 use std::alloc::Global;
 use std::hash::RandomState;
+use std::random::RandomSource;
 use std::test::Fail;
 
 const PARAMS: Params = Params {
@@ -43,11 +44,17 @@ fn numbers(state: &State<AnyKind>) -> (usize, u32, u32, bool) {
     (state.len(), state.clock(), state.height(), state.is_empty())
 }
 
+fn new_replica<S: RandomSource>(source: &S, alloc: Global) -> Result<State<AnyKind>, Fail> {
+    replica(
+        alloc,
+        [RandomState::new(source)?, RandomState::new(source)?],
+    )
+}
+
 #[test]
 fn a_new_replica_has_no_history(rt: HostRuntime) -> Result<(), Fail> {
-    let state = replica(rt.alloc(), [RandomState::new(&rt)?, RandomState::new(&rt)?])?;
-    assert_eq!(rt; numbers(&state), (0, 0, 0, true));
-    assert!(rt; state.entry(0).is_none());
+    let state = new_replica(&rt, rt.alloc())?;
+    assert!(rt; numbers(&state) == (0, 0, 0, true) && state.entry(0).is_none());
     Ok(())
 }
 
@@ -68,18 +75,24 @@ fn answer_at(state: &State<AnyKind>, index: usize) -> Result<Result<(), SubmitRe
     }
 }
 
-#[test]
-fn submits_are_refused_by_their_causes(rt: HostRuntime) -> Result<(), Fail> {
-    let mut state = replica(rt.alloc(), [RandomState::new(&rt)?, RandomState::new(&rt)?])?;
+// Whether it takes a transaction, and refuses three others by their causes.
+fn answers_submits(state: &mut State<AnyKind>) -> Result<bool, Fail> {
+    let mut are_right = true;
     for (bytes, answer) in [
         (b"a=1".as_slice(), Ok(())),
         (b"a=1".as_slice(), Err(SubmitRefusal::Duplicate)),
         (b"".as_slice(), Err(SubmitRefusal::Empty)),
         ([7; 65].as_slice(), Err(SubmitRefusal::TooLong)),
     ] {
-        assert_eq!(rt; submitted(&mut state, bytes)?, answer);
+        are_right &= submitted(state, bytes)? == answer;
     }
-    assert_eq!(rt; numbers(&state), (4, 0, 0, false));
+    Ok(are_right && numbers(state) == (4, 0, 0, false))
+}
+
+#[test]
+fn submits_are_refused_by_their_causes(rt: HostRuntime) -> Result<(), Fail> {
+    let mut state = new_replica(&rt, rt.alloc())?;
+    assert!(rt; answers_submits(&mut state)?);
     Ok(())
 }
 
@@ -104,10 +117,9 @@ fn proposal_at(
     }
 }
 
-#[test]
-fn a_height_is_opened_or_refused_by_its_cause(rt: HostRuntime) -> Result<(), Fail> {
-    let mut state = replica(rt.alloc(), [RandomState::new(&rt)?, RandomState::new(&rt)?])?;
-    assert_eq!(rt; submitted(&mut state, b"a=1")?, Ok(()));
+// Whether it opens heights 1 and 4 with the transaction, and refuses others by their causes.
+fn answers_proposals(state: &mut State<AnyKind>) -> Result<bool, Fail> {
+    let mut are_right = submitted(state, b"a=1")? == Ok(());
     for (height, answer) in [
         (0, Err(ProposeRefusal::Closed)),
         (4097, Err(ProposeRefusal::Closed)),
@@ -116,9 +128,23 @@ fn a_height_is_opened_or_refused_by_its_cause(rt: HostRuntime) -> Result<(), Fai
         (1, Err(ProposeRefusal::AlreadyOpen)),
         (4, Ok(1)),
     ] {
-        assert_eq!(rt; proposed(&mut state, height)?, answer);
+        are_right &= proposed(state, height)? == answer;
     }
+    Ok(are_right)
+}
+
+#[test]
+fn a_height_is_opened_or_refused_by_its_cause(rt: HostRuntime) -> Result<(), Fail> {
+    let mut state = new_replica(&rt, rt.alloc())?;
+    assert!(rt; answers_proposals(&mut state)?);
     Ok(())
+}
+
+// Whether it takes a transaction and opens height 1 with it.
+fn opens_one(state: &mut State<AnyKind>) -> Result<bool, Fail> {
+    let is_taken = submitted(state, b"a=1")?.is_ok();
+    let count = proposed(state, 1)?;
+    Ok(is_taken && count == Ok(1))
 }
 
 // Whether one frame of this length is sent to all.
@@ -142,13 +168,17 @@ fn sends_one(state: &State<AnyKind>, index: usize, len: usize) -> Result<bool, F
     }
 }
 
+// Whether the round opens, and a report is sent.
+fn reports(state: &mut State<AnyKind>) -> Result<bool, Fail> {
+    let index = state.apply(Event::RoundEnd)?;
+    sends_one(state, index, 2377)
+}
+
 #[test]
 fn a_report_is_sent_as_the_first_round_opens(rt: HostRuntime) -> Result<(), Fail> {
-    let mut state = replica(rt.alloc(), [RandomState::new(&rt)?, RandomState::new(&rt)?])?;
-    assert_eq!(rt; submitted(&mut state, b"a=1")?, Ok(()));
-    assert_eq!(rt; proposed(&mut state, 1)?, Ok(1));
-    let index = state.apply(Event::RoundEnd)?;
-    assert!(rt; sends_one(&state, index, 2377)?);
+    let mut state = new_replica(&rt, rt.alloc())?;
+    assert!(rt; opens_one(&mut state)?);
+    assert!(rt; reports(&mut state)?);
     assert_eq!(rt; numbers(&state), (3, 1, 0, false));
     Ok(())
 }
@@ -170,8 +200,7 @@ fn opens_quietly(state: &mut State<AnyKind>) -> Result<bool, Fail> {
 
 // Whether the first four rounds open, and one report alone is sent, of a height that was opened.
 fn opens_four_rounds(state: &mut State<AnyKind>) -> Result<bool, Fail> {
-    let index = state.apply(Event::RoundEnd)?;
-    let is_sent = sends_one(state, index, 2377)?;
+    let is_sent = reports(state)?;
     let is_second_quiet = opens_quietly(state)?;
     let is_third_quiet = opens_quietly(state)?;
     let is_fourth_quiet = opens_quietly(state)?;
@@ -210,15 +239,19 @@ fn waits_at_one(state: &State<AnyKind>) -> bool {
     is_undecided && is_loud && state.config().replicas == 4 && state.id().number() == 0
 }
 
+// Whether it opens height 1 and four rounds, and then has no block and no value.
+fn decides_nothing(state: &mut State<AnyKind>, query: Event) -> Result<bool, Fail> {
+    let is_open = opens_one(state)?;
+    let are_quiet = opens_four_rounds(state)?;
+    let has_no_block = has_no_block(state)?;
+    let finds_nothing = finds_nothing(state, query)?;
+    Ok(is_open && are_quiet && has_no_block && finds_nothing)
+}
+
 #[test]
 fn a_replica_alone_decides_nothing(rt: HostRuntime) -> Result<(), Fail> {
-    let mut state = replica(rt.alloc(), [RandomState::new(&rt)?, RandomState::new(&rt)?])?;
-    assert_eq!(rt; submitted(&mut state, b"a=1")?, Ok(()));
-    assert_eq!(rt; proposed(&mut state, 1)?, Ok(1));
-    assert!(rt; opens_four_rounds(&mut state)?);
-    assert!(rt; has_no_block(&mut state)?);
-    assert!(rt; finds_nothing(&mut state, query(rt.alloc())?)?);
-    assert_eq!(rt; numbers(&state), (8, 4, 0, false));
-    assert!(rt; waits_at_one(&state));
+    let mut state = new_replica(&rt, rt.alloc())?;
+    assert!(rt; decides_nothing(&mut state, query(rt.alloc())?)?);
+    assert!(rt; numbers(&state) == (8, 4, 0, false) && waits_at_one(&state));
     Ok(())
 }
