@@ -29,6 +29,21 @@ fn sign_first(alloc: Global, mut signer: Signer, message: &[u8]) -> Result<Vec<u
     }
 }
 
+/// The signature of a message by the first leaf of the replica's key pair.
+fn first_signature(
+    alloc: Global,
+    settings: &SignSettings,
+    message: &[u8],
+) -> Result<Vec<u8>, AllocError>
+    ensures signature { IfOk result (λ signature. signature.items ≡ signed_with (secret_of settings.now.cluster settings.now.replica) 0 message.now) }
+    ensures verifies { IfOk result (λ signature.
+        verifies (key_of (secret_of settings.now.cluster settings.now.replica)) message.now signature.items ≡ true) }
+    ensures short { IfOk result (λ signature. length signature.items ≤ max_signature_len) }
+{
+    let signer = key_pair(alloc, &settings.cluster, settings.replica)?;
+    sign_first(alloc, signer, message)
+}
+
 /// The frame of the statement, signed with the first leaf of the replica's key pair.
 pub fn signed_frame(alloc: Global, settings: &SignSettings) -> Result<Frame, AllocError>
     ensures signed { IfOk result (λ frame. frame ≡ signed settings.now) }
@@ -36,7 +51,6 @@ pub fn signed_frame(alloc: Global, settings: &SignSettings) -> Result<Frame, All
         (statement_bytes frame.statement) frame.signature ≡ true) }
 {
     let unsigned = UnsignedFrame::new(alloc, statement(alloc, settings)?)?;
-    let signer = key_pair(alloc, &settings.cluster, settings.replica)?;
-    let signature = sign_first(alloc, signer, unsigned.statement_bytes())?;
+    let signature = first_signature(alloc, settings, unsigned.statement_bytes())?;
     unsigned.with_signature(&signature)
 }

@@ -80,6 +80,20 @@ fn add_submit_refusal(out: &mut Text, refusal: SubmitRefusal) -> Result<(), Allo
     }
 }
 
+/// `propose R H `, or the like: a word, a replica and a height.
+fn add_head(
+    out: &mut Text,
+    word: &str,
+    replica: ReplicaId,
+    height: u32,
+) -> Result<(), AllocError>
+    ensures { OnOk result (out.new ≡ out.old ++ word.now ++ codes " " ++ decimal replica ++ codes " " ++ decimal height ++ codes " ") }
+{
+    let number = replica.number();
+    let head = format!(in out.allocator(); "{word} {number} {height} ")?;
+    out.add(&head)
+}
+
 /// `submit R ok`, `submit R refused 3`, `submit R refused 5 code 2`.
 pub(crate) fn add_submitted(
     out: &mut Text,
@@ -110,10 +124,7 @@ pub(crate) fn add_proposed(
 ) -> Result<(), AllocError>
     ensures { OnOk result (out.new ≡ out.old ++ ended (proposed_text replica height (result_map_both (λ b. b.now) (λ why. why) answer.entry))) }
 {
-    let number = replica.number();
-    let height = height.number();
-    let head = format!(in out.allocator(); "propose {number} {height} ")?;
-    out.add(&head)?;
+    add_head(out, "propose", replica, height.number())?;
     match answer {
         Ok(batch) => out.add_batch(batch)?,
         Err(refusal) => {
@@ -182,9 +193,7 @@ pub(crate) fn add_decision(
     let Some(batch) = decided else {
         return Ok(());
     };
-    let number = replica.number();
-    let head = format!(in out.allocator(); "decided {number} {height} ")?;
-    out.add(&head)?;
+    add_head(out, "decided", replica, height)?;
     out.add_batch(batch)?;
     out.add("\n")
 }
@@ -233,10 +242,7 @@ pub(crate) fn add_executed(
 ) -> Result<(), AllocError>
     ensures { OnOk result (out.new ≡ out.old ++ ended (block_text replica (option_copied batch.entry) block.now)) }
 {
-    let number = replica.number();
-    let height = block.height.number();
-    let head = format!(in out.allocator(); "execute {number} {height} ")?;
-    out.add(&head)?;
+    add_head(out, "execute", replica, block.height.number())?;
     add_any_batch(out, batch)?;
     add_codes(out, block)?;
     out.add("\n")
@@ -259,10 +265,7 @@ pub(crate) fn add_found(
 ) -> Result<(), AllocError>
     ensures { OnOk result (out.new ≡ out.old ++ ended (found_text replica answer.now)) }
 {
-    let number = replica.number();
-    let height = answer.height.number();
-    let head = format!(in out.allocator(); "query {number} {height} ")?;
-    out.add(&head)?;
+    add_head(out, "query", replica, answer.height.number())?;
     match &answer.value {
         Some(value) => out.add_bytes(value.as_slice())?,
         None => out.add("absent")?,

@@ -1,6 +1,10 @@
 //! A statement that is to be signed: its bytes, in a buffer that has room for the whole frame.
-ghost use Rattle.std.specs.Prelude.{◌≡◌, ◌≤◌, ◌++◌, length, drop};
+ghost use Rattle.std.specs.Prelude.{◌≡◌, ◌≤◌, ◌++◌, length, drop, IfOk};
 ghost use Rattle.std.specs.Int.{w32, to_be_bytes};
+ghost use Rattle.ledger_model.specs.declared.statement.Statement.{Statement};
+ghost use Rattle.ledger_model.specs.Limits.{max_signature_len};
+ghost use Rattle.ledger_model.specs.Spelling.{IsStatement, SpellsFrame};
+ghost use Rattle.signed_frames.specs.Parts.{HoldsStatement};
 
 use crate::parsing::LENGTH_LEN;
 use crate::{Frame, HEADER_LEN};
@@ -21,9 +25,6 @@ pub struct UnsignedFrame {
 }
 
 impl Model for UnsignedFrame {
-    ghost use Rattle.ledger_model.specs.declared.statement.Statement.{Statement};
-    ghost use Rattle.signed_frames.specs.Parts.{HoldsStatement};
-
     ghost Value = { Statement };
 
     ghost view = { λ u. u.statement };
@@ -32,19 +33,14 @@ impl Model for UnsignedFrame {
 }
 
 impl UnsignedFrame {
-    ghost use Rattle.std.specs.Prelude.{◌≡◌, ◌≤◌, length, IfOk};
-    ghost use Rattle.ledger_model.specs.Limits.{max_signature_len};
-    ghost use Rattle.ledger_model.specs.Spelling.{statement_bytes, IsStatement};
+    ghost use Rattle.ledger_model.specs.Spelling.{statement_bytes};
 
     /// The statement, spelled once, with room for a length and for a signature of at most [`Signature::MAX_LEN`] bytes.
     pub fn new(alloc: Global, statement: Statement) -> Result<Self, AllocError>
         requires { IsStatement statement }
         ensures { IfOk result (λ unsigned. unsigned ≡ statement) }
     {
-        let room = HEADER_LEN + encoded_len(&statement) + LENGTH_LEN + Signature::MAX_LEN;
-        let mut bytes = Vec::with_capacity(alloc, room)?;
-        put_u32(&mut bytes, 0)?;
-        put_statement(&mut bytes, &statement)?;
+        let bytes = spelled(alloc, &statement)?;
         Ok(UnsignedFrame { statement, bytes })
     }
 
@@ -61,17 +57,36 @@ impl UnsignedFrame {
         requires { length signature.now ≤ max_signature_len }
         ensures { IfOk result (λ frame. frame ≡ record { statement = self; signature = signature.now }) }
     {
-        let UnsignedFrame {
-            statement,
-            mut bytes,
-        } = self;
-        let body_len = bytes.len() - HEADER_LEN + LENGTH_LEN + signature.len();
-        put_length(&mut bytes, body_len as u32);
-        put_u16(&mut bytes, signature.len() as u16)?;
-        put_bytes(&mut bytes, signature)?;
-        let bytes = Bytes::from_vec(bytes)?;
+        let UnsignedFrame { statement, bytes } = self;
+        let bytes = signed(bytes, signature)?;
         Ok(Frame::holding(bytes, statement, signature.len()))
     }
+}
+
+/// The place of a length, and the bytes of a statement, in a buffer that has room for the frame.
+fn spelled(alloc: Global, statement: &Statement) -> Result<Vec<u8>, AllocError>
+    requires { IsStatement statement.now }
+    ensures { IfOk result (λ bytes. HoldsStatement bytes.items statement.now) }
+{
+    let room = HEADER_LEN + encoded_len(statement) + LENGTH_LEN + Signature::MAX_LEN;
+    let mut bytes = Vec::with_capacity(alloc, room)?;
+    put_u32(&mut bytes, 0)?;
+    put_statement(&mut bytes, statement)?;
+    Ok(bytes)
+}
+
+/// The bytes of a frame: those of its statement with the length of the body before them, and the signature behind them.
+fn signed(mut bytes: Vec<u8>, signature: &[u8]) -> Result<Bytes, AllocError>
+    requires short { length signature.now ≤ max_signature_len }
+    requires stands { (statement : Statement) × HoldsStatement bytes.items statement }
+    ensures { IfOk result (λ frame. (statement : Statement) → HoldsStatement bytes.items statement
+        → SpellsFrame frame (record { statement = statement; signature = signature.now })) }
+{
+    let body_len = bytes.len() - HEADER_LEN + LENGTH_LEN + signature.len();
+    put_length(&mut bytes, body_len as u32);
+    put_u16(&mut bytes, signature.len() as u16)?;
+    put_bytes(&mut bytes, signature)?;
+    Ok(Bytes::from_vec(bytes)?)
 }
 
 /// Writes the length of a body into the first bytes.
