@@ -101,5 +101,5 @@ fn digests_in_turns(rt: HostRuntime) {
     for message in &messages {
         hasher.update(message);
     }
-    assert_eq!(rt; hasher.finalize(), AFTER_TURNS);
+    assert!(rt; hasher.finalize() == AFTER_TURNS);
 }

@@ -55,17 +55,13 @@ fn signatures_of_both_widths(rt: HostRuntime) -> Result<(), Fail> {
             width: expected.width,
             height: TreeHeight::H5,
         };
-        assert_eq!(rt; public_hash(params, &identifier, 3, &seed), expected.public);
-        assert_eq!(rt;
-            public_hashes(params, &identifier, 0, &seed)[3],
-            expected.public
-        );
+        assert!(rt; public_hash(params, &identifier, 3, &seed) == expected.public);
+        assert!(rt; public_hashes(params, &identifier, 0, &seed)[3] == expected.public);
         let signature = sign(rt.alloc(), params, &identifier, 3, &seed, MESSAGE)?;
-        assert_eq!(rt; signature.len(), expected.length);
-        assert_eq!(rt; Sha256::digest(&signature), expected.signature);
-        assert_eq!(rt;
-            candidate(params, &identifier, 3, MESSAGE, &signature),
-            Some(expected.public)
+        assert!(rt; signature.len() == expected.length);
+        assert!(rt; Sha256::digest(&signature) == expected.signature);
+        assert!(rt;
+            candidate(params, &identifier, 3, MESSAGE, &signature) == Some(expected.public)
         );
         assert!(rt;
             candidate(params, &identifier, 4, MESSAGE, &signature) != Some(expected.public)
@@ -95,7 +91,7 @@ fn steps_of_signatures(rt: HostRuntime) -> Result<(), Fail> {
         let signature = sign(rt.alloc(), params, &identifier, leaf, &seed, MESSAGE)?;
         let randomizer = signature.get(4..36).unwrap_or(&[]);
         let found = signed_steps(params, &identifier, leaf, randomizer, MESSAGE);
-        assert_eq!(rt; found, steps);
+        assert!(rt; found == steps);
     }
     Ok(())
 }
@@ -110,19 +106,10 @@ fn other_lengths_and_types(rt: HostRuntime) {
     let mut signature = [0u8; 1125];
     signature[3] = 4;
     assert!(rt; candidate(params, &identifier, 0, MESSAGE, &signature[..1124]).is_some());
-    assert_eq!(rt;
-        candidate(params, &identifier, 0, MESSAGE, &signature),
-        None
-    );
-    assert_eq!(rt;
-        candidate(params, &identifier, 0, MESSAGE, &signature[..1123]),
-        None
-    );
+    assert!(rt; candidate(params, &identifier, 0, MESSAGE, &signature) == None);
+    assert!(rt; candidate(params, &identifier, 0, MESSAGE, &signature[..1123]) == None);
     signature[3] = 3;
-    assert_eq!(rt;
-        candidate(params, &identifier, 0, MESSAGE, &signature[..1124]),
-        None
-    );
+    assert!(rt; candidate(params, &identifier, 0, MESSAGE, &signature[..1124]) == None);
 }
 
 #[test]
@@ -131,10 +118,10 @@ fn parameter_sets(rt: HostRuntime) {
         width: Width::W4,
         height: TreeHeight::H10,
     };
-    assert_eq!(rt; Params::from_codes(6, 3), Some(set));
-    assert_eq!(rt; Params::from_codes(7, 3), None);
-    assert_eq!(rt; Params::from_codes(5, 5), None);
-    assert_eq!(rt; set.leaves(), 1024);
-    assert_eq!(rt; set.ots_len(), 2180);
-    assert_eq!(rt; set.signature_len(), 2508);
+    assert!(rt; Params::from_codes(6, 3) == Some(set));
+    assert!(rt; Params::from_codes(7, 3) == None);
+    assert!(rt; Params::from_codes(5, 5) == None);
+    assert!(rt; set.leaves() == 1024);
+    assert!(rt; set.ots_len() == 2180);
+    assert!(rt; set.signature_len() == 2508);
 }

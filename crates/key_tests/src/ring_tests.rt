@@ -19,8 +19,8 @@ fn small(alloc: Global, width: Width) -> Result<Signer, Fail> {
 #[test]
 fn a_signer_has_the_key_of_its_seed(rt: HostRuntime) -> Result<(), Fail> {
     let signer = small(rt.alloc(), Width::W8)?;
-    assert_eq!(rt; &signer.public().as_bytes()[24..], ROOT.as_slice());
-    assert_eq!(rt; signer.leaves_left(), 32);
+    assert!(rt; &signer.public().as_bytes()[24..] == ROOT.as_slice());
+    assert!(rt; signer.leaves_left() == 32);
     Ok(())
 }
 
@@ -31,18 +31,15 @@ fn each_leaf_signs_once(rt: HostRuntime) -> Result<(), Fail> {
     let mut signer = small(alloc, Width::W4)?;
     let key = signer.public();
     for leaf in 0..32u8 {
-        assert_eq!(rt; signer.leaves_left(), 32 - u32::from(leaf));
+        assert!(rt; signer.leaves_left() == 32 - u32::from(leaf));
         let signature = signer.sign(alloc, MESSAGE)?;
-        assert_eq!(rt; signature.len(), 2348);
-        assert_eq!(rt; &signature[..4], [0, 0, 0, leaf].as_slice());
+        assert!(rt; signature.len() == 2348);
+        assert!(rt; &signature[..4] == [0, 0, 0, leaf].as_slice());
         assert!(rt; verify(&key, MESSAGE, &signature));
     }
     for _ in 0..2 {
-        assert_eq!(rt; signer.leaves_left(), 0);
-        assert_eq!(rt;
-            signer.sign(alloc, MESSAGE).err(),
-            Some(SignFault::Exhausted)
-        );
+        assert!(rt; signer.leaves_left() == 0);
+        assert!(rt; signer.sign(alloc, MESSAGE).err() == Some(SignFault::Exhausted));
     }
     Ok(())
 }
@@ -53,8 +50,8 @@ fn keys_stand_at_their_replicas(rt: HostRuntime) -> Result<(), Fail> {
     let wide = small(alloc, Width::W8)?.public();
     let narrow = small(alloc, Width::W4)?.public();
     let ring = KeyRing::new(vec![in alloc; wide, narrow]?);
-    assert_eq!(rt; ring.key(ReplicaId::new(0)).copied(), Some(wide));
-    assert_eq!(rt; ring.key(ReplicaId::new(1)).copied(), Some(narrow));
+    assert!(rt; ring.key(ReplicaId::new(0)).copied() == Some(wide));
+    assert!(rt; ring.key(ReplicaId::new(1)).copied() == Some(narrow));
     assert!(rt; ring.key(ReplicaId::new(2)).is_none());
     Ok(())
 }
@@ -69,7 +66,7 @@ fn a_ring_verifies_under_the_signers_key(rt: HostRuntime) -> Result<(), Fail> {
     let signature = signer.sign(alloc, MESSAGE)?;
     for (replica, verifies) in [(0, false), (1, true), (2, false)] {
         let found = ring.verifies(ReplicaId::new(replica), MESSAGE, &signature);
-        assert_eq!(rt; found, verifies, "{replica}");
+        assert!(rt; found == verifies, "{replica}");
     }
     assert!(rt; !ring.verifies(ReplicaId::new(1), b"another", &signature));
     Ok(())

@@ -34,13 +34,13 @@ fn small(alloc: Global, width: Width) -> Result<Tree, Fail> {
 fn key_of_a_small_tree(rt: HostRuntime) -> Result<(), Fail> {
     let tree = small(rt.alloc(), Width::W8)?;
     let key = tree.public();
-    assert_eq!(rt; &key.as_bytes()[..8], [0, 0, 0, 5, 0, 0, 0, 4].as_slice());
-    assert_eq!(rt; &key.as_bytes()[8..24], IDENTIFIER.as_slice());
-    assert_eq!(rt; &key.as_bytes()[24..], ROOT.as_slice());
-    assert_eq!(rt; key.identifier(), Identifier::new(IDENTIFIER));
-    assert_eq!(rt; key.params(), tree.params());
-    assert_eq!(rt; PublicKey::from_bytes(key.as_bytes()).ok(), Some(key));
-    assert_eq!(rt; tree.leaves(), 32);
+    assert!(rt; &key.as_bytes()[..8] == [0, 0, 0, 5, 0, 0, 0, 4].as_slice());
+    assert!(rt; &key.as_bytes()[8..24] == IDENTIFIER.as_slice());
+    assert!(rt; &key.as_bytes()[24..] == ROOT.as_slice());
+    assert!(rt; key.identifier() == Identifier::new(IDENTIFIER));
+    assert!(rt; key.params() == tree.params());
+    assert!(rt; PublicKey::from_bytes(key.as_bytes()).ok() == Some(key));
+    assert!(rt; tree.leaves() == 32);
     Ok(())
 }
 
@@ -57,11 +57,11 @@ fn key_of_a_tall_tree(rt: HostRuntime) -> Result<(), Fail> {
         Seed::new(TALL_SEED),
     )?;
     let key = tree.public();
-    assert_eq!(rt; &key.as_bytes()[..8], [0, 0, 0, 6, 0, 0, 0, 3].as_slice());
-    assert_eq!(rt; &key.as_bytes()[24..], TALL_ROOT.as_slice());
-    assert_eq!(rt; tree.leaves(), 1024);
+    assert!(rt; &key.as_bytes()[..8] == [0, 0, 0, 6, 0, 0, 0, 3].as_slice());
+    assert!(rt; &key.as_bytes()[24..] == TALL_ROOT.as_slice());
+    assert!(rt; tree.leaves() == 1024);
     let signature = tree.sign(rt.alloc(), 1000, MESSAGE)?;
-    assert_eq!(rt; signature.len(), 2508);
+    assert!(rt; signature.len() == 2508);
     assert!(rt; verify(&key, MESSAGE, &signature));
     Ok(())
 }
@@ -71,21 +71,21 @@ fn key_of_a_tall_tree(rt: HostRuntime) -> Result<(), Fail> {
 fn signature_of_a_small_tree(rt: HostRuntime) -> Result<(), Fail> {
     let tree = small(rt.alloc(), Width::W8)?;
     let signature = tree.sign(rt.alloc(), 3, MESSAGE)?;
-    assert_eq!(rt; signature.len(), 1292);
+    assert!(rt; signature.len() == 1292);
     let expected: [u8; 32] = [
         0x8f, 0xb0, 0x54, 0x66, 0x1a, 0x3a, 0x7f, 0x70, 0x97, 0x0f, 0x1c, 0xec, 0xf4, 0x42, 0x28,
         0x40, 0xb8, 0xa2, 0x69, 0x5e, 0x03, 0x4c, 0x3d, 0x6b, 0x99, 0xc7, 0x92, 0x60, 0x1e, 0x23,
         0x5f, 0xf1,
     ];
-    assert_eq!(rt; Sha256::digest(&signature), expected);
+    assert!(rt; Sha256::digest(&signature) == expected);
     let path = tree.path(rt.alloc(), 3)?;
-    assert_eq!(rt; path.len(), 160);
+    assert!(rt; path.len() == 160);
     let expected: [u8; 32] = [
         0xf7, 0x50, 0x77, 0xa8, 0xb8, 0xd7, 0x58, 0xbf, 0xf7, 0x94, 0xff, 0xed, 0xad, 0x63, 0xc1,
         0xf7, 0x29, 0x3f, 0x1a, 0xb0, 0x5b, 0x5c, 0x80, 0x07, 0x72, 0x4b, 0xd3, 0x9b, 0x08, 0xb7,
         0x85, 0x49,
     ];
-    assert_eq!(rt; Sha256::digest(&path), expected);
+    assert!(rt; Sha256::digest(&path) == expected);
     Ok(())
 }
 
@@ -94,7 +94,7 @@ fn only_what_was_signed_verifies(rt: HostRuntime) -> Result<(), Fail> {
     let tree = small(rt.alloc(), Width::W4)?;
     let key = tree.public();
     let mut signature = tree.sign(rt.alloc(), 31, MESSAGE)?;
-    assert_eq!(rt; signature.len(), 2348);
+    assert!(rt; signature.len() == 2348);
     assert!(rt; verify(&key, MESSAGE, &signature));
     assert!(rt; !verify(&key, b"The powers delegated", &signature));
     signature.push(0)?;
@@ -111,7 +111,7 @@ fn no_changed_byte_verifies(rt: HostRuntime) -> Result<(), Fail> {
     let key = tree.public();
     for place in [3usize, 2, 7, 8, 39, 40, 1127, 1131, 1132, 1291] {
         let mut signature = tree.sign(rt.alloc(), 3, MESSAGE)?;
-        assert_eq!(rt; signature.len(), 1292);
+        assert!(rt; signature.len() == 1292);
         assert!(rt; place < 1292);
         signature[place] ^= 1;
         assert!(rt; !verify(&key, MESSAGE, &signature), "{place}");
@@ -140,11 +140,11 @@ fn lengths(rt: HostRuntime) -> Result<(), Fail> {
         (Width::W4, TreeHeight::H10, 2508),
     ] {
         let params = Params { width, height };
-        assert_eq!(rt; params.signature_len(), len);
+        assert!(rt; params.signature_len() == len);
         let tree = Tree::build(alloc, params, Identifier::new(IDENTIFIER), Seed::new(SEED))?;
         let key = tree.public();
         let mut signature = tree.sign(alloc, 0, MESSAGE)?;
-        assert_eq!(rt; signature.len(), len);
+        assert!(rt; signature.len() == len);
         assert!(rt; verify(&key, MESSAGE, &signature));
         signature.push(0)?;
         assert!(rt; !verify(&key, MESSAGE, &signature));
@@ -157,27 +157,21 @@ fn lengths(rt: HostRuntime) -> Result<(), Fail> {
 #[test]
 fn bytes_that_are_no_key(rt: HostRuntime) {
     let mut bytes = [0; 56];
-    assert_eq!(rt;
-        PublicKey::from_bytes(&bytes[..55]).err(),
-        Some(KeyFault::Length)
-    );
-    assert_eq!(rt;
-        PublicKey::from_bytes(&[0; 57]).err(),
-        Some(KeyFault::Length)
-    );
+    assert!(rt; PublicKey::from_bytes(&bytes[..55]).err() == Some(KeyFault::Length));
+    assert!(rt; PublicKey::from_bytes(&[0; 57]).err() == Some(KeyFault::Length));
     bytes[3] = 7;
     bytes[7] = 4;
-    assert_eq!(rt; PublicKey::from_bytes(&bytes).err(), Some(KeyFault::Scheme));
+    assert!(rt; PublicKey::from_bytes(&bytes).err() == Some(KeyFault::Scheme));
     bytes[3] = 6;
     bytes[7] = 5;
-    assert_eq!(rt; PublicKey::from_bytes(&bytes).err(), Some(KeyFault::Scheme));
+    assert!(rt; PublicKey::from_bytes(&bytes).err() == Some(KeyFault::Scheme));
     bytes[7] = 4;
     let key = PublicKey::from_bytes(&bytes).ok();
-    assert_eq!(rt;
-        key.map(|k| k.params()),
-        Some(Params {
-            width: Width::W8,
-            height: TreeHeight::H10
-        })
+    assert!(rt;
+        key.map(|k| k.params())
+            == Some(Params {
+                width: Width::W8,
+                height: TreeHeight::H10
+            })
     );
 }

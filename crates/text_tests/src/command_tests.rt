@@ -1,134 +1,118 @@
 //! Each line of a step.
-use crate::texts::{Outcome, line_outcome, step};
-use scenario_texts::{Command, Lie, Towards};
+use crate::texts::{Outcome, line_outcome, seen_step};
+use ledger_model::Tx;
+use scenario_texts::{Command, Towards};
 use std::alloc::Global;
 
-fn says_submit(alloc: Global, line: &[u8], wanted: u32, spelled: &[u8]) -> bool {
-    match step(alloc, line) {
-        Some(Command::Submit { replica, bytes }) => replica == wanted && &*bytes == spelled,
-        _ => false,
-    }
-}
-
-fn says_inject(alloc: Global, line: &[u8], wanted: u32, spelled: &[u8]) -> bool {
-    match step(alloc, line) {
-        Some(Command::Inject { to, bytes }) => to == wanted && &*bytes == spelled,
-        _ => false,
-    }
-}
-
-fn says_query(alloc: Global, line: &[u8], wanted: u32, spelled: &[u8]) -> bool {
-    match step(alloc, line) {
-        Some(Command::Query { replica, key }) => replica == wanted && key.as_bytes() == spelled,
-        _ => false,
-    }
-}
-
-fn is_propose(step: &Command, wanted: (u32, u32)) -> bool {
+/// The name of a step with bytes, its number, and whether these are the bytes.
+fn bytes_of(step: &Command, spelled: &[u8]) -> (&'static str, u32, bool) {
     match step {
-        Command::Propose { replica, height } => {
-            *replica == wanted.0 && height.number() == wanted.1
-        }
-        _ => false,
+        Command::Submit { replica, bytes } => ("submit", *replica, bytes.as_slice() == spelled),
+        Command::Inject { to, bytes } => ("inject", *to, bytes.as_slice() == spelled),
+        Command::Query { replica, key } => ("query", *replica, key.as_bytes() == spelled),
+        _ => ("", 0, false),
     }
 }
 
-fn says_propose(alloc: Global, line: &[u8], wanted: (u32, u32)) -> bool {
-    match step(alloc, line) {
-        Some(step) => is_propose(&step, wanted),
-        None => false,
-    }
-}
-
-fn says_pass(alloc: Global, line: &[u8], wanted: (u32, u32, u32)) -> bool {
-    match step(alloc, line) {
-        Some(Command::Pass { from, index, to }) => (from, index, to) == wanted,
-        _ => false,
-    }
-}
-
-/// The name of a step of one number or none, and that number.
-fn simple(alloc: Global, line: &[u8]) -> (&'static str, u32) {
-    match step(alloc, line) {
-        Some(Command::End { replica }) => ("end", replica),
-        Some(Command::Execute { replica }) => ("execute", replica),
-        Some(Command::Info { replica }) => ("info", replica),
-        Some(Command::Silent) => ("silent", 0),
-        Some(Command::Round) => ("round", 0),
-        _ => ("", 0),
-    }
+fn says_bytes(alloc: Global, line: &[u8], spelled: &[u8]) -> Option<(&'static str, u32, bool)> {
+    seen_step(alloc, line, |step| bytes_of(step, spelled))
 }
 
 #[test]
 fn bytes_of_submit_inject_and_query(rt: HostRuntime) {
-    assert!(rt; says_submit(rt.alloc(), b"submit 0 a=1", 0, b"a=1"));
-    assert!(rt; says_submit(rt.alloc(), b"submit 300 \\20\\ff\\5b", 300, b" \xff["));
-    assert!(rt; says_submit(rt.alloc(), b"submit 0", 0, b""));
-    assert!(rt; says_inject(rt.alloc(), b"inject 2 00ff0a", 2, b"\x00\xff\n"));
-    assert!(rt; says_inject(rt.alloc(), b"inject 2", 2, b""));
-    assert!(rt; says_query(rt.alloc(), b"query 3 a\\2c", 3, b"a,"));
-    assert!(rt; says_query(rt.alloc(), b"query 3", 3, b""));
+    for (line, name, number, spelled) in [
+        (b"submit 0 a=1".as_slice(), "submit", 0, b"a=1".as_slice()),
+        (b"submit 300 \\20\\ff\\5b", "submit", 300, b" \xff["),
+        (b"submit 0", "submit", 0, b""),
+        (b"inject 2 00ff0a", "inject", 2, b"\x00\xff\n"),
+        (b"inject 2", "inject", 2, b""),
+        (b"query 3 a\\2c", "query", 3, b"a,"),
+        (b"query 3", "query", 3, b""),
+    ] {
+        let said = says_bytes(rt.alloc(), line, spelled);
+        assert!(rt; said == Some((name, number, true)), "{name} {number}");
+    }
+}
+
+/// The name of another step, and its numbers, 0 for those that it hasn't.
+fn numbers_of(step: &Command) -> (&'static str, [u32; 3]) {
+    match step {
+        Command::Propose { replica, height } => ("propose", [*replica, height.number(), 0]),
+        Command::Pass { from, index, to } => ("pass", [*from, *index, *to]),
+        Command::End { replica } => ("end", [*replica, 0, 0]),
+        Command::Execute { replica } => ("execute", [*replica, 0, 0]),
+        Command::Info { replica } => ("info", [*replica, 0, 0]),
+        Command::Silent => ("silent", [0; 3]),
+        Command::Round => ("round", [0; 3]),
+        _ => ("", [0; 3]),
+    }
 }
 
 #[test]
 fn numbers_of_other_steps(rt: HostRuntime) {
-    assert!(rt; says_propose(rt.alloc(), b"propose 0 4294967295", (0, 4_294_967_295)));
-    assert!(rt; says_pass(rt.alloc(), b"pass 0 12 3", (0, 12, 3)));
-    assert_eq!(rt; simple(rt.alloc(), b"end 0"), ("end", 0));
-    assert_eq!(rt; simple(rt.alloc(), b"execute 7"), ("execute", 7));
-    assert_eq!(rt; simple(rt.alloc(), b"info 10"), ("info", 10));
-    assert_eq!(rt; simple(rt.alloc(), b"silent"), ("silent", 0));
-    assert_eq!(rt; simple(rt.alloc(), b"round"), ("round", 0));
+    for (line, wanted) in [
+        (
+            b"propose 0 4294967295".as_slice(),
+            ("propose", [0, 4_294_967_295, 0]),
+        ),
+        (b"pass 0 12 3", ("pass", [0, 12, 3])),
+        (b"end 0", ("end", [0, 0, 0])),
+        (b"execute 7", ("execute", [7, 0, 0])),
+        (b"info 10", ("info", [10, 0, 0])),
+        (b"silent", ("silent", [0, 0, 0])),
+        (b"round", ("round", [0, 0, 0])),
+    ] {
+        assert!(rt; seen_step(rt.alloc(), line, numbers_of) == Some(wanted));
+    }
 }
 
-/// Whether the lie is of replica 1, with these numbers, these transactions and this addressee.
-fn is_lie(lie: &Lie, numbers: (u32, u32), spelled: &[&[u8]], to: Towards) -> bool {
-    let transactions = lie.batch.transactions();
-    lie.liar.number() == 1
-        && (lie.height.number(), lie.phase.number()) == numbers
+/// Whether these are transactions of these bytes.
+fn are_spelled(transactions: &[Tx], spelled: &[&[u8]]) -> bool {
+    for (transaction, bytes) in transactions.iter().zip(spelled) {
+        if transaction.as_bytes() != *bytes {
+            return false;
+        }
+    }
+    transactions.len() == spelled.len()
+}
+
+/// What a lie is, its height and its phase, and whether it is of replica 1, with these transactions and to this addressee.
+fn lie_of(step: &Command, spelled: &[&[u8]], to: Towards) -> (&'static str, (u32, u32), bool) {
+    let (name, lie) = match step {
+        Command::LieReport(lie) => ("report", lie),
+        Command::LieLock(lie) => ("lock", lie),
+        Command::LieAck(lie) => ("ack", lie),
+        _ => return ("", (0, 0), false),
+    };
+    let is_told = lie.liar.number() == 1
         && lie.to == to
-        && transactions.len() == spelled.len()
-        && transactions
-            .iter()
-            .zip(spelled)
-            .all(|(transaction, bytes)| transaction.as_bytes() == *bytes)
+        && are_spelled(lie.batch.transactions(), spelled);
+    (name, (lie.height.number(), lie.phase.number()), is_told)
 }
 
-fn says_report(alloc: Global, line: &[u8], numbers: (u32, u32), spelled: &[&[u8]]) -> bool {
-    match step(alloc, line) {
-        Some(Command::LieReport(lie)) => is_lie(&lie, numbers, spelled, Towards::All),
-        _ => false,
-    }
-}
-
-fn says_lock(alloc: Global, line: &[u8], numbers: (u32, u32), spelled: &[&[u8]]) -> bool {
-    match step(alloc, line) {
-        Some(Command::LieLock(lie)) => is_lie(&lie, numbers, spelled, Towards::One(3)),
-        _ => false,
-    }
-}
-
-fn says_ack(alloc: Global, line: &[u8], numbers: (u32, u32), spelled: &[&[u8]]) -> bool {
-    match step(alloc, line) {
-        Some(Command::LieAck(lie)) => is_lie(&lie, numbers, spelled, Towards::One(0)),
-        _ => false,
-    }
+fn says_lie(
+    alloc: Global,
+    line: &[u8],
+    spelled: &[&[u8]],
+    to: Towards,
+) -> Option<(&'static str, (u32, u32), bool)> {
+    seen_step(alloc, line, |step| lie_of(step, spelled, to))
 }
 
 #[test]
 fn lies(rt: HostRuntime) {
-    let two: [&[u8]; 2] = [b"a=1", b"b\n"];
-    let one: [&[u8]; 1] = [b"x"];
-    assert!(rt;
-        says_report(
-            rt.alloc(),
-            b"lie-report 1 2 3 [a=1,b\\0a] all",
-            (2, 3),
-            &two
-        )
+    let alloc = rt.alloc();
+    let said = says_lie(
+        alloc,
+        b"lie-report 1 2 3 [a=1,b\\0a] all",
+        &[b"a=1", b"b\n"],
+        Towards::All,
     );
-    assert!(rt; says_lock(rt.alloc(), b"lie-lock 1 1 1 [x] 3", (1, 1), &one));
-    assert!(rt; says_ack(rt.alloc(), b"lie-ack 1 4 5 [] 0", (4, 5), &[]));
+    assert!(rt; said == Some(("report", (2, 3), true)));
+    let said = says_lie(alloc, b"lie-lock 1 1 1 [x] 3", &[b"x"], Towards::One(3));
+    assert!(rt; said == Some(("lock", (1, 1), true)));
+    let said = says_lie(alloc, b"lie-ack 1 4 5 [] 0", &[], Towards::One(0));
+    assert!(rt; said == Some(("ack", (4, 5), true)));
 }
 
 #[test]
@@ -170,9 +154,8 @@ fn lines_that_are_no_step(rt: HostRuntime) {
         b"config 4 1 1",
     ];
     for (index, line) in lines.iter().enumerate() {
-        assert_eq!(rt;
-            line_outcome(rt.alloc(), line),
-            Outcome::BadLine(3),
+        assert!(rt;
+            line_outcome(rt.alloc(), line) == Outcome::BadLine(3),
             "line {index}"
         );
     }

@@ -2,7 +2,6 @@
 use crate::texts::{Outcome, line_outcome, outcome_of};
 use scenario_texts::TextFault;
 use std::alloc::{AllocError, Global};
-use std::test::Fail;
 
 #[test]
 fn ends_and_lines_that_are_passed_over(rt: HostRuntime) {
@@ -24,7 +23,7 @@ fn ends_and_lines_that_are_passed_over(rt: HostRuntime) {
         (b"config 4 1 1\n", Outcome::Read),
     ];
     for (index, (text, wanted)) in texts.iter().enumerate() {
-        assert_eq!(rt; outcome_of(rt.alloc(), text), *wanted, "text {index}");
+        assert!(rt; outcome_of(rt.alloc(), text) == *wanted, "text {index}");
     }
 }
 
@@ -38,32 +37,25 @@ fn lines(alloc: Global, count: u32) -> Result<Vec<u8>, AllocError> {
 }
 
 #[test]
-fn many_lines(rt: HostRuntime) -> Result<(), Fail> {
-    let most = lines(rt.alloc(), 10_000)?;
-    assert_eq!(rt; outcome_of(rt.alloc(), most.as_slice()), Outcome::Read);
-    let more = lines(rt.alloc(), 10_001)?;
-    assert_eq!(rt;
-        outcome_of(rt.alloc(), more.as_slice()),
-        Outcome::BadLine(10_001)
-    );
-    Ok(())
+fn many_lines(rt: HostRuntime) {
+    let most = lines(rt.alloc(), 10_000).expect(&rt, "memory");
+    assert!(rt; outcome_of(rt.alloc(), &most) == Outcome::Read);
+    let more = lines(rt.alloc(), 10_001).expect(&rt, "memory");
+    assert!(rt; outcome_of(rt.alloc(), &more) == Outcome::BadLine(10_001));
 }
 
-/// A line of `#` and `count` bytes in all.
-fn comment(alloc: Global, count: usize) -> Result<Vec<u8>, AllocError> {
-    vec![in alloc; b'#'; count]
+/// What comes of a line of `#` and `count` bytes in all.
+fn comment_outcome(alloc: Global, count: usize) -> Result<Outcome, AllocError> {
+    let line = vec![in alloc; b'#'; count]?;
+    Ok(line_outcome(alloc, &line))
 }
 
 #[test]
-fn long_lines(rt: HostRuntime) -> Result<(), Fail> {
-    let most = comment(rt.alloc(), 400_000)?;
-    assert_eq!(rt; line_outcome(rt.alloc(), most.as_slice()), Outcome::Read);
-    let more = comment(rt.alloc(), 400_001)?;
-    assert_eq!(rt;
-        line_outcome(rt.alloc(), more.as_slice()),
-        Outcome::BadLine(3)
-    );
-    Ok(())
+fn long_lines(rt: HostRuntime) {
+    for (count, wanted) in [(400_000, Outcome::Read), (400_001, Outcome::BadLine(3))] {
+        let found = comment_outcome(rt.alloc(), count).expect(&rt, "memory");
+        assert!(rt; found == wanted, "{count}");
+    }
 }
 
 /// A line with a key or a transaction of this many bytes.
@@ -92,28 +84,27 @@ fn with_transactions(alloc: Global, count: usize) -> Result<Vec<u8>, AllocError>
 }
 
 #[test]
-fn limits_of_keys_transactions_and_batches(rt: HostRuntime) -> Result<(), Fail> {
+fn limits_of_keys_transactions_and_batches(rt: HostRuntime) {
     let alloc = rt.alloc();
     for (count, wanted) in [(64, Outcome::Read), (65, Outcome::BadLine(3))] {
-        let key = with_bytes(alloc, b"query 0 ", count, b"")?;
-        assert_eq!(rt; line_outcome(alloc, key.as_slice()), wanted);
-        let lie = with_bytes(alloc, b"lie-lock 1 1 1 [", count, b"] all")?;
-        assert_eq!(rt; line_outcome(alloc, lie.as_slice()), wanted);
+        let key = with_bytes(alloc, b"query 0 ", count, b"").expect(&rt, "memory");
+        assert!(rt; line_outcome(alloc, &key) == wanted);
+        let lie = with_bytes(alloc, b"lie-lock 1 1 1 [", count, b"] all").expect(&rt, "memory");
+        assert!(rt; line_outcome(alloc, &lie) == wanted);
     }
     for (count, wanted) in [(16, Outcome::Read), (17, Outcome::BadLine(3))] {
-        let lie = with_transactions(alloc, count)?;
-        assert_eq!(rt; line_outcome(alloc, lie.as_slice()), wanted);
+        let lie = with_transactions(alloc, count).expect(&rt, "memory");
+        assert!(rt; line_outcome(alloc, &lie) == wanted);
     }
-    Ok(())
 }
 
 #[test]
-fn faults_are_shown(rt: HostRuntime) -> Result<(), Fail> {
-    let bad = TextFault::BadLine(10_001);
-    let bad = format!(in rt.alloc(); "{bad}")?;
-    assert_eq!(rt; bad.as_str(), "line 10001 bad");
-    let memory = TextFault::NoMemory;
-    let memory = format!(in rt.alloc(); "{memory}")?;
-    assert_eq!(rt; memory.as_str(), "out of memory");
-    Ok(())
+fn faults_are_shown(rt: HostRuntime) {
+    for (fault, wanted) in [
+        (TextFault::BadLine(10_001), "line 10001 bad"),
+        (TextFault::NoMemory, "out of memory"),
+    ] {
+        let shown = format!(in rt.alloc(); "{fault}").expect(&rt, "memory");
+        assert!(rt; shown.as_str() == wanted);
+    }
 }

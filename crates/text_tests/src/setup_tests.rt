@@ -1,13 +1,13 @@
 //! The lines before the steps.
-use crate::texts::{Outcome, outcome_of, scenario};
-use ledger_model::{AppKind, ReplicaId};
+use crate::texts::{Outcome, outcome_of, seen};
+use ledger_model::AppKind;
 use lm_ots::{TreeHeight, Width};
+use scenario_texts::Scenario;
 use std::alloc::Global;
 
-/// N, t, the width, the height and the number of liars of the text, if it is a scenario of purses.
-fn purses(alloc: Global, text: &[u8]) -> Option<(u8, u8, u8, TreeHeight, usize)> {
-    let scenario = scenario(alloc, text)?;
-    let setup = scenario.setup;
+/// N, t, the width, the height and the number of liars of a scenario of purses.
+fn purses(scenario: &Scenario) -> Option<(u8, u8, u8, TreeHeight, usize)> {
+    let setup = &scenario.setup;
     if setup.config.kind != AppKind::Purse {
         return None;
     }
@@ -21,46 +21,41 @@ fn purses(alloc: Global, text: &[u8]) -> Option<(u8, u8, u8, TreeHeight, usize)>
     ))
 }
 
-/// Whether these are the numbers of the liars, in order.
-fn are_liars(liars: &[ReplicaId], wanted: &[u8]) -> bool {
+/// Whether the liars of a scenario are these, in order.
+fn are_liars(scenario: &Scenario, wanted: &[u8]) -> bool {
+    let liars = scenario.setup.liars.as_slice();
+    for (liar, number) in liars.iter().zip(wanted) {
+        if liar.number() != *number {
+            return false;
+        }
+    }
     liars.len() == wanted.len()
-        && liars
-            .iter()
-            .zip(wanted)
-            .all(|(liar, number)| liar.number() == *number)
 }
 
 /// Whether the liars of the text are these, in order.
-fn has_liars(alloc: Global, text: &[u8], wanted: &[u8]) -> bool {
-    let Some(scenario) = scenario(alloc, text) else {
-        return false;
-    };
-    are_liars(scenario.setup.liars.as_slice(), wanted)
+fn has_liars(alloc: Global, text: &[u8], wanted: &[u8]) -> Option<bool> {
+    seen(alloc, text, |scenario| are_liars(scenario, wanted))
 }
 
 #[test]
 fn clusters_and_keys(rt: HostRuntime) {
     let alloc = rt.alloc();
-    assert_eq!(rt;
-        purses(alloc, b"config 13 4 3\nliar 12\nliar 0\nliar 3\nliar 7\n"),
-        Some((13, 4, 4, TreeHeight::H5, 4))
-    );
-    assert_eq!(rt;
-        purses(alloc, b"config 4 1 3\nkeys 4 10\n"),
-        Some((4, 1, 4, TreeHeight::H10, 0))
-    );
-    assert_eq!(rt;
-        purses(alloc, b"config 4 1 3\nkeys 8 5\nliar 2\n"),
-        Some((4, 1, 8, TreeHeight::H5, 1))
-    );
-    assert!(rt;
-        has_liars(
-            alloc,
-            b"config 13 4 3\nliar 12\nliar 0\nliar 3\nliar 7\nsilent\n",
-            &[12, 0, 3, 7]
-        )
-    );
-    assert_eq!(rt; Width::W8.bits(), 8);
+    for (text, wanted) in [
+        (
+            b"config 13 4 3\nliar 12\nliar 0\nliar 3\nliar 7\n".as_slice(),
+            (13, 4, 4, TreeHeight::H5, 4),
+        ),
+        (b"config 4 1 3\nkeys 4 10\n", (4, 1, 4, TreeHeight::H10, 0)),
+        (
+            b"config 4 1 3\nkeys 8 5\nliar 2\n",
+            (4, 1, 8, TreeHeight::H5, 1),
+        ),
+    ] {
+        assert!(rt; seen(alloc, text, purses) == Some(Some(wanted)));
+    }
+    let text = b"config 13 4 3\nliar 12\nliar 0\nliar 3\nliar 7\nsilent\n";
+    assert!(rt; has_liars(alloc, text, &[12, 0, 3, 7]) == Some(true));
+    assert!(rt; Width::W8.bits() == 8);
 }
 
 #[test]
@@ -85,9 +80,8 @@ fn lines_that_set_nothing(rt: HostRuntime) {
         (b"config 4 1 1\nsilent\nliar 1\n", 3),
     ];
     for (index, (text, number)) in texts.iter().enumerate() {
-        assert_eq!(rt;
-            outcome_of(rt.alloc(), text),
-            Outcome::BadLine(*number),
+        assert!(rt;
+            outcome_of(rt.alloc(), text) == Outcome::BadLine(*number),
             "text {index}"
         );
     }

@@ -15,20 +15,25 @@ pub(crate) enum Outcome {
 
 /// What comes of the text.
 pub(crate) fn outcome_of(alloc: Global, text: &[u8]) -> Outcome {
-    match read(alloc, text) {
-        Ok(_scenario) => Outcome::Read,
-        Err(TextFault::BadLine(number)) => Outcome::BadLine(number),
-        Err(TextFault::NoMemory) => Outcome::NoMemory,
+    match read(alloc, text).err() {
+        None => Outcome::Read,
+        Some(TextFault::BadLine(number)) => Outcome::BadLine(number),
+        Some(TextFault::NoMemory) => Outcome::NoMemory,
     }
 }
 
-/// The scenario of the text, if it is one.
-pub(crate) fn scenario(alloc: Global, text: &[u8]) -> Option<Scenario> {
-    read(alloc, text).ok()
+/// What is seen of the scenario of the text, if it is one.
+pub(crate) fn seen<T, F: FnOnce(&Scenario) -> T>(alloc: Global, text: &[u8], look: F) -> Option<T>
+    requires { F.IsAlwaysCallable look }
+{
+    match read(alloc, text) {
+        Ok(scenario) => Some(look(&scenario)),
+        Err(_) => None,
+    }
 }
 
 /// The text of four replicas, of which 1 lies, with this line behind.
-pub(crate) fn text_of_line(alloc: Global, line: &[u8]) -> Result<Vec<u8>, AllocError> {
+fn text_of_line(alloc: Global, line: &[u8]) -> Result<Vec<u8>, AllocError> {
     let mut text = Vec::from_slice(alloc, b"config 4 1 1\nliar 1\n")?;
     text.extend_from_slice(line)?;
     text.push(b'\n')?;
@@ -43,13 +48,18 @@ pub(crate) fn line_outcome(alloc: Global, line: &[u8]) -> Outcome {
     }
 }
 
-/// The step that the line says there, if it is the one step.
-pub(crate) fn step(alloc: Global, line: &[u8]) -> Option<Command> {
+/// What is seen of the step that the line says there, if it is the one step.
+pub(crate) fn seen_step<T, F: FnOnce(&Command) -> T>(
+    alloc: Global,
+    line: &[u8],
+    look: F,
+) -> Option<T>
+    requires { F.IsAlwaysCallable look }
+{
     let text = text_of_line(alloc, line).ok()?;
-    let mut scenario = scenario(alloc, text.as_slice())?;
-    let step = scenario.commands.pop()?;
-    if !scenario.commands.is_empty() {
-        return None;
+    let scenario = read(alloc, text.as_slice()).ok()?;
+    match scenario.commands.as_slice() {
+        [step] => Some(look(step)),
+        _ => None,
     }
-    Some(step)
 }
