@@ -9,7 +9,7 @@ use Rattle.ledger_model.specs.Sessions.{Exchange, Serves, Session, Session_of, f
 use Rattle.client_sessions.specs.declared.session_end.SessionEnd.{SessionEnd}
 use Rattle.client_sessions.specs.declared.session_end.SessionFault.{SessionFault}
 use Rattle.client_sessions.specs.declared.session_end.SessionFault.TheVariants as fault
-use Rattle.client_sessions.specs.Faults.{FailsToWrite}
+use Rattle.client_sessions.specs.Faults.{FailsToRead, FailsToWrite}
 use Rattle.client_sessions.specs.Heights.{Rises}
 use Rattle.client_sessions.specs.Serving.{Ended, Replies, Served, Stopped}
 use Rattle.client_sessions.specs.Streams.{EndsBehind, IsBody, ReadsPart}
@@ -134,6 +134,13 @@ module _ {T : Type 0} (asks : T → Exchange → T → Type 0) (count : ℕ) (be
       served = so_far.served;
       written = so_far.written;
     }
+
+    -- by any fault that comes of a read
+    pub breaks_off : (last : Option (List ℕ)) (fault : SessionFault) → FailsToRead {T = Unit {0}} (Err fault) → ReadsPart left last → Stopped asks count before now old session unread last had has fault
+    breaks_off last (fault.Read error) is read = read_fails last error read
+    breaks_off last (fault.Write error) is read = absurd is
+    breaks_off last fault.NoMemory is read = absurd is
+    breaks_off last fault.TooMany is read = absurd is
 
     -- no more requests are served
     pub too_many : number ≡ 2 ^ 64 - 1 → Stopped asks count before now old session unread left had has fault.TooMany

@@ -81,12 +81,7 @@ fn add_submit_refusal(out: &mut Text, refusal: SubmitRefusal) -> Result<(), Allo
 }
 
 /// `propose R H `, or the like: a word, a replica and a height.
-fn add_head(
-    out: &mut Text,
-    word: &str,
-    replica: ReplicaId,
-    height: u32,
-) -> Result<(), AllocError>
+fn add_head(out: &mut Text, word: &str, replica: ReplicaId, height: u32) -> Result<(), AllocError>
     ensures { OnOk result (out.new ≡ out.old ++ word.now ++ codes " " ++ decimal replica ++ codes " " ++ decimal height ++ codes " ") }
 {
     let number = replica.number();

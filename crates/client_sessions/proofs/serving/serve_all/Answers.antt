@@ -5,7 +5,7 @@ use Rattle.client_sessions.specs.Streams.{Receives}
 use Rattle.client_sessions.specs.Watching.{stream_of}
 use Rattle.client_sessions.specs.Writing.{AppendsSome}
 use Rattle.client_sessions.proofs.Results.{on_this, or_false}
-use Rattle.client_sessions.proofs.UnderWay.{starts, goes_on, fails}
+use Rattle.client_sessions.proofs.UnderWay.{breaks_off, starts, goes_on, fails}
 use Rattle.client_sessions.proofs.serving.serve_all.Goals as goal
 
 pub loop-served-init : goal.loop-served-init
@@ -18,6 +18,11 @@ loop-served-init g c = record {
   reader = refl;
   writer = refl;
 }
+
+pub returns-in_err-end-clause-served : goal.returns-in_err-end-clause-served
+returns-in_err-end-clause-served g c =
+    let k = c.in_err-end.ensures in
+    on_this _ _ _ _ c.from_residual.ensures.1 (breaks_off _ _ _ _ _ _ _ _ _ _ _ c.loop-served.invariant.under_way _ _ k.fault k.received)
 
 pub returns-in_err-reply_to-in-Body-clause-served : goal.returns-in_err-reply_to-in-Body-clause-served
 returns-in_err-reply_to-in-Body-clause-served g c =
