@@ -1,6 +1,6 @@
 //! Four replicas, each with its own keys, that pass frames to each other: what they send, and that one decides.
 
-ghost use Rattle.std.specs.Prelude.{◌≡◌, IfOk, IfSome};
+ghost use Rattle.std.specs.Prelude.{◌≡◌, IfSome};
 ghost use Rattle.ledger_model.specs.Notes.{signer_of};
 ghost use Rattle.ledger_model.specs.Spelling.{IsStatement};
 ghost use Rattle.instance.specs.Plans.{IsOwnMade};
@@ -11,7 +11,6 @@ use instance::{Ending, Instance, Made, OwnFrame, Plan};
 use ledger_model::{AppKind, Config, Height, ReplicaId, Signature, Statement};
 use signed_frames::{Frame, UnsignedFrame};
 use std::alloc::Global;
-use std::test::Fail;
 use test_support::{Cluster, value};
 
 // A replica at height 1, and the round that is open.
@@ -26,17 +25,17 @@ struct Member {
 }
 
 // The frame of the statement, which its signer signs.
-fn framed(alloc: Global, cluster: &mut Cluster, statement: Statement) -> Result<Frame, Fail>
+fn framed(alloc: Global, cluster: &mut Cluster, statement: Statement) -> Option<Frame>
     requires { IsStatement statement }
-    ensures { IfOk result (λ frame. frame.statement ≡ statement) }
+    ensures { IfSome result (λ frame. frame.statement ≡ statement) }
 {
     let signer = statement.signer().number();
-    let unsigned = UnsignedFrame::new(alloc, statement)?;
-    let signature = cluster.signature(signer, unsigned.statement_bytes())?;
+    let unsigned = UnsignedFrame::new(alloc, statement).ok()?;
+    let signature = cluster.signature(signer, unsigned.statement_bytes()).ok()?;
     if signature.len() > Signature::MAX_LEN {
-        return Err(Fail::from("a long signature"));
+        return None;
     }
-    Ok(unsigned.with_signature(&signature)?)
+    unsigned.with_signature(&signature).ok()
 }
 
 // What is made of a statement that is chosen.
@@ -45,41 +44,40 @@ fn made(
     cluster: &mut Cluster,
     statement: Option<Statement>,
     number: u8,
-) -> Result<Made, Fail>
+) -> Option<Made>
     requires spelled { IfSome statement IsStatement }
     requires own { IfSome statement (λ s. signer_of s ≡ number) }
-    ensures { IfOk result (λ made. IsOwnMade number made) }
+    ensures { IfSome result (λ made. IsOwnMade number made) }
 {
     let Some(statement) = statement else {
-        return Ok(Made::Unsent);
+        return Some(Made::Unsent);
     };
     let frame = framed(alloc, cluster, statement)?;
-    Ok(Made::Sent(OwnFrame::new(alloc, frame)?))
+    Some(Made::Sent(OwnFrame::new(alloc, frame).ok()?))
 }
 
 // The frames that are sent, the own one first.
-fn sent_frames(alloc: Global, ending: &Ending, made: &Made) -> Result<Vec<Bytes>, Fail> {
-    let mut frames = Vec::new(alloc);
+fn put_sent(frames: &mut Vec<Bytes>, ending: &Ending, made: &Made) -> Option<()> {
     if let Made::Sent(own) = made {
-        frames.push(own.frame().share()?)?;
+        frames.push(own.frame().share().ok()?).ok()?;
     }
     for frame in ending.sends_on() {
-        frames.push(frame.clone()?)?;
+        frames.push(frame.clone().ok()?).ok()?;
     }
-    Ok(frames)
+    Some(())
 }
 
 impl Member {
     // Its own value is [a=1], and no round is open.
-    fn open(alloc: Global, number: u8) -> Result<Self, Fail> {
-        let config = Config::new(4, 1, AppKind::KvStore)?;
+    fn open(alloc: Global, number: u8) -> Option<Self> {
+        let config = Config::new(4, 1, AppKind::KvStore).ok()?;
         if number >= 4 {
-            return Err(Fail::from("no replica"));
+            return None;
         }
-        let own = value(alloc, b"a=1")?;
+        let own = value(alloc, b"a=1").ok()?;
         let id = ReplicaId::new(number);
-        let instance = Instance::open(alloc, &config, id, Height::new(1), &own)?;
-        Ok(Member {
+        let instance = Instance::open(alloc, &config, id, Height::new(1), &own).ok()?;
+        Some(Member {
             alloc,
             number,
             instance,
@@ -88,93 +86,121 @@ impl Member {
     }
 
     // The next round opens: the frames that are sent.
-    fn end_round(&mut self, cluster: &mut Cluster) -> Result<Vec<Bytes>, Fail> {
+    fn end_round(&mut self, cluster: &mut Cluster) -> Option<Vec<Bytes>> {
         if self.clock >= 1000 {
-            return Err(Fail::from("too late"));
+            return None;
         }
-        let Plan { statement, ending } = self.instance.plan_end(self.alloc, self.clock)?;
+        let mut frames = Vec::new(self.alloc);
+        let Plan { statement, ending } = self.instance.plan_end(self.alloc, self.clock).ok()?;
         let made = made(self.alloc, cluster, statement, self.number)?;
-        let frames = sent_frames(self.alloc, &ending, &made)?;
+        put_sent(&mut frames, &ending, &made)?;
         self.instance.close(ending, made, self.clock);
         self.clock += 1;
-        Ok(frames)
+        Some(frames)
     }
 
     // A frame comes in, which may be ignored.
-    fn read(&mut self, cluster: &Cluster, bytes: &[u8]) -> Result<(), Fail> {
+    fn read(&mut self, cluster: &Cluster, bytes: &[u8]) -> Option<()> {
         let frame = parsed(self.alloc, bytes)?;
         if self.clock > 1000
             || frame.statement().signer().number() >= 4
             || frame.statement().height() != self.instance.height()
         {
-            return Err(Fail::from("no frame of the height"));
+            return None;
         }
-        let _ = self
-            .instance
-            .read(self.alloc, cluster.ring(), frame, self.clock)?;
-        Ok(())
+        let ring = cluster.ring();
+        let read = self.instance.read(self.alloc, ring, frame, self.clock);
+        let _ = read.ok()?;
+        Some(())
     }
 
     // Each of the frames comes in.
-    fn read_all(&mut self, cluster: &Cluster, frames: &[Bytes]) -> Result<(), Fail> {
+    fn read_all(&mut self, cluster: &Cluster, frames: &[Bytes]) -> Option<()> {
         for frame in frames {
             self.read(cluster, frame.as_slice())?;
         }
-        Ok(())
+        Some(())
     }
 
-    fn has_decided(&self) -> Result<bool, Fail> {
-        let own = value(self.alloc, b"a=1")?;
-        Ok(
-            self.instance
-                .decided()
-                .is_some_and(|decided| *decided == own),
-        )
-    }
-}
-
-fn four_members(alloc: Global) -> Result<Vec<Member>, Fail> {
-    let mut members = Vec::new(alloc);
-    for number in 0..4 {
-        members.push(Member::open(alloc, number)?)?;
-    }
-    Ok(members)
-}
-
-// Every replica's round ends, and then each reads what the others sent. How many frames each sent.
-fn pass_round(
-    alloc: Global,
-    members: &mut [Member],
-    cluster: &mut Cluster,
-) -> Result<Vec<usize>, Fail> {
-    let mut counts = Vec::new(alloc);
-    let mut sent = Vec::new(alloc);
-    for member in members.iter_mut() {
-        let frames = member.end_round(cluster)?;
-        counts.push(frames.len())?;
-        sent.push(frames)?;
-    }
-    for (number, member) in members.iter_mut().enumerate() {
-        for (sender, frames) in sent.iter().enumerate() {
-            if sender != number {
-                member.read_all(cluster, frames)?;
-            }
+    // Whether it has decided its own value.
+    fn has_decided(&self) -> Option<bool> {
+        let own = value(self.alloc, b"a=1").ok()?;
+        match self.instance.decided() {
+            Some(decided) => Some(*decided == own),
+            None => Some(false),
         }
     }
-    Ok(counts)
+}
+
+fn put_four(alloc: Global, members: &mut Vec<Member>) -> Option<()> {
+    for number in 0..4 {
+        members.push(Member::open(alloc, number)?).ok()?;
+    }
+    Some(())
+}
+
+fn four_members(alloc: Global) -> Option<Vec<Member>> {
+    let mut members = Vec::new(alloc);
+    put_four(alloc, &mut members)?;
+    Some(members)
+}
+
+// Every replica's round ends: the frames that each sends.
+fn end_rounds(
+    members: &mut [Member],
+    cluster: &mut Cluster,
+    sent: &mut Vec<Vec<Bytes>>,
+) -> Option<()> {
+    for member in members.iter_mut() {
+        sent.push(member.end_round(cluster)?).ok()?;
+    }
+    Some(())
+}
+
+// A replica reads what the others sent.
+fn read_others(
+    member: &mut Member,
+    number: usize,
+    cluster: &Cluster,
+    sent: &[Vec<Bytes>],
+) -> Option<()> {
+    for (sender, frames) in sent.iter().enumerate() {
+        if sender != number {
+            member.read_all(cluster, frames)?;
+        }
+    }
+    Some(())
+}
+
+// Whether each sent so many frames.
+fn have_lens(sent: &[Vec<Bytes>], counts: [usize; 4]) -> bool {
+    for (frames, count) in sent.iter().zip(&counts) {
+        if frames.len() != *count {
+            return false;
+        }
+    }
+    sent.len() == 4
+}
+
+// Every replica's round ends, and then each reads what the others sent. Whether each sent so many frames.
+fn pass_round(members: &mut [Member], cluster: &mut Cluster, counts: [usize; 4]) -> Option<bool> {
+    let mut sent = Vec::new(members.first()?.alloc);
+    end_rounds(members, cluster, &mut sent)?;
+    for (number, member) in members.iter_mut().enumerate() {
+        read_others(member, number, cluster, &sent)?;
+    }
+    Some(have_lens(&sent, counts))
 }
 
 // As all propose [a=1], the owner of phase 1 decides it as its fourth round ends, and no other replica does.
 #[test]
-fn the_owner_of_the_first_phase_decides(rt: HostRuntime) -> Result<(), Fail> {
-    let mut cluster = Cluster::new(rt.alloc(), 4, 1)?;
-    let mut members = four_members(rt.alloc())?;
+fn the_owner_of_the_first_phase_decides(rt: HostRuntime) {
+    let mut cluster = Cluster::new(rt.alloc(), 4, 1).expect(&rt, "a cluster");
+    let mut members = four_members(rt.alloc()).expect(&rt, "four replicas");
     for counts in [[1, 1, 1, 1], [0, 1, 0, 0], [1, 0, 1, 1], [1, 1, 1, 1]] {
-        let sent = pass_round(rt.alloc(), &mut members, &mut cluster)?;
-        assert_eq!(rt; sent.as_slice(), counts.as_slice());
+        assert!(rt; pass_round(&mut members, &mut cluster, counts) == Some(true));
     }
     for (number, member) in members.iter().enumerate() {
-        assert_eq!(rt; member.has_decided()?, number == 1);
+        assert!(rt; member.has_decided() == Some(number == 1));
     }
-    Ok(())
 }

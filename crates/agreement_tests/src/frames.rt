@@ -1,6 +1,7 @@
-//! Frames of given bytes. None of these functions says what it gives: a test that knew it would be slow to prove.
+//! Frames of given bytes, and a cluster that signs them. None of these functions says what it gives: a test that knew it would be
+//! slow to prove.
 
-ghost use Rattle.std.specs.Prelude.{IfOk};
+ghost use Rattle.std.specs.Prelude.{IfSome};
 ghost use Rattle.lock_proofs.specs.LockFrames.{IsLockFrame};
 
 use bytes::Bytes;
@@ -9,21 +10,33 @@ use ledger_model::{Config, Statement};
 use lock_proofs::{LockFault, LockFrame, check_lock};
 use signed_frames::Frame;
 use std::alloc::Global;
-use std::test::Fail;
+use test_support::Cluster;
+
+/// What is played with a cluster of four that signs, of which one may lie.
+pub(crate) fn with_four<T, F: FnOnce(Global, &mut Cluster) -> Option<T>>(
+    alloc: Global,
+    play: F,
+) -> Option<T>
+    requires { F.IsAlwaysCallable play }
+{
+    let mut cluster = Cluster::new(alloc, 4, 1).ok()?;
+    play(alloc, &mut cluster)
+}
 
 /// The frame of these bytes.
-pub(crate) fn parsed(alloc: Global, bytes: &[u8]) -> Result<Frame, Fail> {
-    Ok(Frame::parse(alloc, Bytes::copy_from_slice(alloc, bytes)?)?)
+pub(crate) fn parsed(alloc: Global, bytes: &[u8]) -> Option<Frame> {
+    let copied = Bytes::copy_from_slice(alloc, bytes).ok()?;
+    Frame::parse(alloc, copied).ok()
 }
 
 /// The frame of a lock.
-pub(crate) fn parsed_lock(alloc: Global, bytes: &[u8]) -> Result<Frame, Fail>
-    ensures { IfOk result (λ frame. IsLockFrame frame) }
+pub(crate) fn parsed_lock(alloc: Global, bytes: &[u8]) -> Option<Frame>
+    ensures { IfSome result (λ frame. IsLockFrame frame) }
 {
     let frame = parsed(alloc, bytes)?;
     match frame.statement() {
-        Statement::Lock(_) => Ok(frame),
-        Statement::Report(_) | Statement::Ack(_) => Err(Fail::from("no lock")),
+        Statement::Lock(_) => Some(frame),
+        Statement::Report(_) | Statement::Ack(_) => None,
     }
 }
 
@@ -39,6 +52,6 @@ pub(crate) fn check(
     config: &Config,
     ring: &KeyRing,
     bytes: &[u8],
-) -> Result<Result<LockFrame, LockFault>, Fail> {
-    Ok(checked(config, ring, parsed_lock(alloc, bytes)?))
+) -> Option<Result<LockFrame, LockFault>> {
+    Some(checked(config, ring, parsed_lock(alloc, bytes)?))
 }

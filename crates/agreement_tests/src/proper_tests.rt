@@ -1,122 +1,116 @@
 //! What is proper for replica 0 of four, of which one may lie, after one phase.
 
 use super::read_reports::{four, read};
-use ledger_model::ReplicaId;
+use ledger_model::{Batch, ReplicaId};
 use proper_sets::Proper;
 use std::alloc::Global;
-use std::test::Fail;
 use test_support::{Told, naming, value, values};
 
-fn opened(alloc: Global, own: &[u8]) -> Result<Proper, Fail> {
-    Ok(Proper::new(alloc, &four()?, &value(alloc, own)?)?)
+fn opened(alloc: Global, own: &[u8]) -> Option<Proper> {
+    Proper::new(alloc, &four()?, &value(alloc, own).ok()?).ok()
 }
 
-fn after_phase(alloc: Global, own: &[u8], told: &[Told<'_>]) -> Result<Proper, Fail> {
-    let config = four()?;
-    let read = read(alloc, &config, told)?;
-    let mut proper = opened(alloc, own)?;
-    proper.absorb(ReplicaId::new(0), &read)?;
-    Ok(proper)
+fn has_all(proper: &Proper, named: &[Batch]) -> bool {
+    for value in named {
+        if !proper.has(value) {
+            return false;
+        }
+    }
+    true
 }
 
 // Whether just these values are proper by name, and all others if `all` says so.
-fn are_proper(alloc: Global, proper: &Proper, all: bool, explicit: &[&[u8]]) -> Result<bool, Fail> {
-    let named = values(alloc, explicit)?;
-    for value in &named {
-        if !proper.has(value) {
-            return Ok(false);
-        }
-    }
-    let other = value(alloc, b"z")?;
-    Ok(proper.all() == all && proper.has(&other) == all && proper.explicit() == named.as_slice())
+fn are_proper(alloc: Global, proper: &Proper, all: bool, explicit: &[&[u8]]) -> Option<bool> {
+    let other = value(alloc, b"z").ok()?;
+    let named = values(alloc, explicit).ok()?;
+    Some(
+        has_all(proper, &named)
+            && proper.all() == all
+            && proper.has(&other) == all
+            && proper.explicit() == named.as_slice(),
+    )
 }
 
-// Whether this is so after the phase.
+fn absorb(alloc: Global, proper: &mut Proper, told: &[Told<'_>]) -> Option<()> {
+    let read = read(alloc, &four()?, told)?;
+    proper.absorb(ReplicaId::new(0), &read).ok()
+}
+
+// Whether this is so after a phase in which these reports were read.
 fn makes_proper(
     alloc: Global,
     own: &[u8],
     told: &[Told<'_>],
     all: bool,
     explicit: &[&[u8]],
-) -> Result<bool, Fail> {
-    are_proper(alloc, &after_phase(alloc, own, told)?, all, explicit)
+) -> Option<bool> {
+    let mut proper = opened(alloc, own)?;
+    absorb(alloc, &mut proper, told)?;
+    are_proper(alloc, &proper, all, explicit)
+}
+
+const FOUR: [&[u8]; 4] = [b"a", b"b", b"c", b"d"];
+
+// A report for which every value is proper, and which lists this one.
+fn with_all<'a>(signer: u8, proper: &'a [&'a [u8]]) -> Told<'a> {
+    Told {
+        all: true,
+        ..naming(signer, b"a", proper)
+    }
 }
 
 #[test]
-fn two_others_name_a_value(rt: HostRuntime) -> Result<(), Fail> {
+fn reports_make_values_proper(rt: HostRuntime) {
+    let alloc = rt.alloc();
+    // two others name a value
     let told = [
         naming(1, b"x", &[b"x"]),
         naming(2, b"y", &[b"y"]),
         naming(3, b"y", &[b"y"]),
     ];
-    assert!(rt; makes_proper(rt.alloc(), b"x", &told, false, &[b"x", b"y"])?);
-    Ok(())
-}
-
-#[test]
-fn one_other_names_too_few(rt: HostRuntime) -> Result<(), Fail> {
+    assert!(rt; makes_proper(alloc, b"x", &told, false, &[b"x", b"y"]) == Some(true));
+    // one other names too few
     let told = [naming(1, b"a", &[b"a"]), naming(2, b"b", &[b"b"])];
-    assert!(rt; makes_proper(rt.alloc(), b"a", &told, false, &[b"a"])?);
-    Ok(())
+    assert!(rt; makes_proper(alloc, b"a", &told, false, &[b"a"]) == Some(true));
+    // the least three others are kept
+    let told = [naming(1, b"m", &FOUR), naming(2, b"m", &FOUR)];
+    assert!(rt; makes_proper(alloc, b"m", &told, false, &[b"a", b"b", b"c", b"m"]) == Some(true));
 }
 
 #[test]
-fn the_least_three_others_are_kept(rt: HostRuntime) -> Result<(), Fail> {
-    let four: [&[u8]; 4] = [b"a", b"b", b"c", b"d"];
-    let told = [naming(1, b"m", &four), naming(2, b"m", &four)];
-    let kept: [&[u8]; 4] = [b"a", b"b", b"c", b"m"];
-    assert!(rt; makes_proper(rt.alloc(), b"m", &told, false, &kept)?);
-    Ok(())
-}
-
-#[test]
-fn split_initial_values_make_every_value_proper(rt: HostRuntime) -> Result<(), Fail> {
+fn reports_make_every_value_proper(rt: HostRuntime) {
+    let alloc = rt.alloc();
+    // split initial values
     let told = [naming(1, b"b", &[b"b"]), naming(2, b"c", &[b"c"])];
-    assert!(rt; makes_proper(rt.alloc(), b"a", &told, true, &[b"a"])?);
-    Ok(())
-}
-
-#[test]
-fn two_others_say_that_every_value_is_proper(rt: HostRuntime) -> Result<(), Fail> {
-    let all = Told {
-        all: true,
-        ..naming(1, b"a", &[b"a"])
-    };
-    let told = [all, Told { signer: 2, ..all }];
-    assert!(rt; makes_proper(rt.alloc(), b"a", &told, true, &[b"a"])?);
-    Ok(())
+    assert!(rt; makes_proper(alloc, b"a", &told, true, &[b"a"]) == Some(true));
+    // two others say so
+    let told = [with_all(1, &[b"a"]), with_all(2, &[b"a"])];
+    assert!(rt; makes_proper(alloc, b"a", &told, true, &[b"a"]) == Some(true));
 }
 
 // The own report lists c, and the others say that every value is proper: c isn't proper by name.
 #[test]
-fn what_the_own_report_lists_counts_for_nothing(rt: HostRuntime) -> Result<(), Fail> {
-    let all = Told {
-        all: true,
-        ..naming(1, b"a", &[b"a"])
-    };
-    let told = [naming(0, b"a", &[b"c"]), all, Told { signer: 2, ..all }];
-    assert!(rt; makes_proper(rt.alloc(), b"a", &told, true, &[b"a"])?);
-    let listing = Told {
-        all: true,
-        ..naming(1, b"a", &[b"c"])
-    };
-    let told = [listing, Told { signer: 2, ..all }];
-    assert!(rt; makes_proper(rt.alloc(), b"a", &told, true, &[b"a", b"c"])?);
-    Ok(())
+fn what_the_own_report_lists_counts_for_nothing(rt: HostRuntime) {
+    let alloc = rt.alloc();
+    let told = [
+        naming(0, b"a", &[b"c"]),
+        with_all(1, &[b"a"]),
+        with_all(2, &[b"a"]),
+    ];
+    assert!(rt; makes_proper(alloc, b"a", &told, true, &[b"a"]) == Some(true));
+    let told = [with_all(1, &[b"c"]), with_all(2, &[b"a"])];
+    assert!(rt; makes_proper(alloc, b"a", &told, true, &[b"a", b"c"]) == Some(true));
+}
+
+// Whether the own value alone is proper at first, and it can be copied.
+fn begins_with(alloc: Global, own: &[u8]) -> Option<bool> {
+    let value = value(alloc, own).ok()?;
+    let proper = opened(alloc, own)?;
+    let is_alone = are_proper(alloc, &proper, false, &[own])?;
+    Some(is_alone && *proper.own() == value && proper.copy().is_ok())
 }
 
 #[test]
-fn the_own_value_is_proper_at_first(rt: HostRuntime) -> Result<(), Fail> {
-    let proper = opened(rt.alloc(), b"a")?;
-    assert!(rt; are_proper(rt.alloc(), &proper, false, &[b"a"])?);
-    assert!(rt; *proper.own() == value(rt.alloc(), b"a")?);
-    Ok(())
-}
-
-#[test]
-fn a_copy_has_the_same(rt: HostRuntime) -> Result<(), Fail> {
-    let told = [naming(1, b"b", &[b"b"]), naming(2, b"b", &[b"b"])];
-    let copied = after_phase(rt.alloc(), b"a", &told)?.copy()?;
-    assert!(rt; are_proper(rt.alloc(), &copied, false, &[b"a", b"b"])?);
-    Ok(())
+fn the_own_value_is_proper_at_first(rt: HostRuntime) {
+    assert!(rt; begins_with(rt.alloc(), b"a") == Some(true));
 }

@@ -2,13 +2,25 @@
 
 use ledger_model::{AppKind, Config, ReplicaId, SignedReport};
 use std::alloc::Global;
-use std::test::Fail;
 use tally::Tally;
 use test_support::{Told, signed_report};
 
 /// Four replicas, of which one may lie.
-pub(crate) fn four() -> Result<Config, Fail> {
-    Ok(Config::new(4, 1, AppKind::KvStore)?)
+pub(crate) fn four() -> Option<Config> {
+    Config::new(4, 1, AppKind::KvStore).ok()
+}
+
+fn add_all(alloc: Global, tally: &mut Tally<SignedReport>, told: &[Told<'_>]) -> Option<()> {
+    for what in told {
+        if what.signer >= tally.replicas() {
+            return None;
+        }
+        tally.add(
+            ReplicaId::new(what.signer),
+            signed_report(alloc, what).ok()?,
+        );
+    }
+    Some(())
 }
 
 /// The reports that tell this.
@@ -16,13 +28,8 @@ pub(crate) fn read(
     alloc: Global,
     config: &Config,
     told: &[Told<'_>],
-) -> Result<Tally<SignedReport>, Fail> {
-    let mut tally = Tally::new(alloc, config)?;
-    for what in told {
-        if what.signer >= tally.replicas() {
-            return Err(Fail::from("no replica"));
-        }
-        tally.add(ReplicaId::new(what.signer), signed_report(alloc, what)?);
-    }
-    Ok(tally)
+) -> Option<Tally<SignedReport>> {
+    let mut tally = Tally::new(alloc, config).ok()?;
+    add_all(alloc, &mut tally, told)?;
+    Some(tally)
 }

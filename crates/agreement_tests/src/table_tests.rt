@@ -4,7 +4,6 @@ use super::frames::check;
 use ledger_model::Phase;
 use lock_proofs::{LockFrame, LockTable, TableFull};
 use std::alloc::Global;
-use std::test::Fail;
 use test_support::Cluster;
 
 // Four replicas, and the locks that one of them holds.
@@ -15,101 +14,107 @@ struct Holder {
     table: LockTable,
 }
 
+// The phase of a lock, and the first byte of its value.
+fn told(lock: &LockFrame) -> (u32, u8) {
+    let letter = match lock.value().transactions() {
+        [tx, ..] => tx.as_bytes()[0],
+        [] => 0,
+    };
+    (lock.phase().number(), letter)
+}
+
 impl Holder {
-    fn new(alloc: Global) -> Result<Self, Fail> {
-        Ok(Holder {
+    fn new(alloc: Global) -> Option<Self> {
+        let cluster = Cluster::new(alloc, 4, 1).ok()?;
+        let table = LockTable::new(alloc).ok()?;
+        Some(Holder {
             alloc,
-            cluster: Cluster::new(alloc, 4, 1)?,
-            table: LockTable::new(alloc)?,
+            cluster,
+            table,
         })
     }
 
     // A valid lock of a phase, on the value that begins with this letter.
-    fn lock(&mut self, phase: u8, letter: u8) -> Result<LockFrame, Fail> {
-        let bytes = self.cluster.lock_frame(phase, phase % 4, letter, 3)?;
+    fn lock(&mut self, phase: u8, letter: u8) -> Option<LockFrame> {
+        let bytes = self.cluster.lock_frame(phase, phase % 4, letter, 3).ok()?;
         let config = self.cluster.config();
-        Ok(check(self.alloc, &config, self.cluster.ring(), &bytes)??)
+        check(self.alloc, &config, self.cluster.ring(), &bytes)?.ok()
     }
 
     // Whether the table has room for the value that begins with this letter.
-    fn has_room(&mut self, letter: u8) -> Result<bool, Fail> {
+    fn has_room(&mut self, letter: u8) -> Option<bool> {
         let lock = self.lock(5, letter)?;
-        Ok(self.table.has_room_for(lock.value()))
+        Some(self.table.has_room_for(lock.value()))
     }
 
-    fn take(&mut self, phase: u8, letter: u8) -> Result<Result<(), TableFull>, Fail> {
+    fn take(&mut self, phase: u8, letter: u8) -> Option<Result<(), TableFull>> {
         let lock = self.lock(phase, letter)?;
-        Ok(self.table.take(lock))
+        Some(self.table.take(lock))
     }
 
-    fn take_all(&mut self, locks: &[(u8, u8)]) -> Result<(), Fail> {
+    fn take_all(&mut self, locks: &[(u8, u8)]) -> Option<()> {
         for (phase, letter) in locks {
-            self.take(*phase, *letter)??;
+            self.take(*phase, *letter)?.ok()?;
         }
-        Ok(())
+        Some(())
     }
 
     // Such a lock is read in a phase.
-    fn release(&mut self, phase: u8, letter: u8, now: u32) -> Result<(), Fail> {
+    fn release(&mut self, phase: u8, letter: u8, now: u32) -> Option<()> {
         let lock = self.lock(phase, letter)?;
         self.table.release(&lock, Phase::new(now));
-        Ok(())
+        Some(())
     }
 
-    // The phase of each lock, and the first byte of its value.
-    fn held(&self) -> Result<Vec<(u32, u8)>, Fail> {
-        let mut held = Vec::new(self.alloc);
-        for lock in self.table.held() {
-            let first = lock.value().transactions().first();
-            let letter = first.and_then(|tx| tx.as_bytes().first()).copied();
-            held.push((lock.phase().number(), letter.unwrap_or(0)))?;
+    // Whether it holds just the locks of these phases, on values that begin with these letters.
+    fn holds(&self, wanted: &[(u32, u8)]) -> bool {
+        let held = self.table.held();
+        for (lock, wanted) in held.iter().zip(wanted) {
+            if told(lock) != *wanted {
+                return false;
+            }
         }
-        Ok(held)
-    }
-
-    fn holds(&self, wanted: &[(u32, u8)]) -> Result<bool, Fail> {
-        Ok(self.held()?.as_slice() == wanted)
+        held.len() == wanted.len()
     }
 
     // Whether a fifth value finds no room, and leaves the four.
-    fn refuses_a_fifth(&mut self) -> Result<bool, Fail> {
+    fn refuses_a_fifth(&mut self) -> Option<bool> {
         let has_room = self.has_room(b'e')?;
         let answer = self.take(5, b'e')?;
-        let are_held = self.holds(&[(2, b'a'), (4, b'b'), (1, b'c'), (3, b'd')])?;
-        Ok(!has_room && answer == Err(TableFull) && are_held)
+        let are_held = self.holds(&[(2, b'a'), (4, b'b'), (1, b'c'), (3, b'd')]);
+        Some(!has_room && answer == Err(TableFull) && are_held)
     }
 
     // Whether a held value is renewed.
-    fn renews_the_second(&mut self) -> Result<bool, Fail> {
+    fn renews_the_second(&mut self) -> Option<bool> {
         let has_room = self.has_room(b'b')?;
         let answer = self.take(6, b'b')?;
-        let are_held = self.holds(&[(2, b'a'), (6, b'b'), (1, b'c'), (3, b'd')])?;
-        Ok(has_room && answer == Ok(()) && are_held)
+        let are_held = self.holds(&[(2, b'a'), (6, b'b'), (1, b'c'), (3, b'd')]);
+        Some(has_room && answer == Ok(()) && are_held)
     }
 
     // Whether nothing is released before the phase of the lock that is read, and then what is of no later phase.
-    fn releases_two(&mut self) -> Result<bool, Fail> {
+    fn releases_two(&mut self) -> Option<bool> {
         self.release(3, b'b', 2)?;
         let count = self.table.held().len();
         self.release(3, b'b', 3)?;
-        let are_held = self.holds(&[(2, b'b'), (5, b'd')])?;
-        Ok(count == 4 && are_held)
+        Some(count == 4 && self.holds(&[(2, b'b'), (5, b'd')]))
     }
 }
 
 #[test]
-fn holds_four_values_and_renews_them(rt: HostRuntime) -> Result<(), Fail> {
-    let mut holder = Holder::new(rt.alloc())?;
-    holder.take_all(&[(1, b'c'), (2, b'a'), (3, b'd'), (4, b'b')])?;
-    assert!(rt; holder.refuses_a_fifth()?);
-    assert!(rt; holder.renews_the_second()?);
-    Ok(())
+fn holds_four_values_and_renews_them(rt: HostRuntime) {
+    let mut holder = Holder::new(rt.alloc()).expect(&rt, "a table");
+    let taken = holder.take_all(&[(1, b'c'), (2, b'a'), (3, b'd'), (4, b'b')]);
+    assert!(rt; taken.is_some());
+    assert!(rt; holder.refuses_a_fifth() == Some(true));
+    assert!(rt; holder.renews_the_second() == Some(true));
 }
 
 #[test]
-fn releases_other_values_of_no_later_phase(rt: HostRuntime) -> Result<(), Fail> {
-    let mut holder = Holder::new(rt.alloc())?;
-    holder.take_all(&[(1, b'a'), (2, b'b'), (3, b'c'), (5, b'd')])?;
-    assert!(rt; holder.releases_two()?);
-    Ok(())
+fn releases_other_values_of_no_later_phase(rt: HostRuntime) {
+    let mut holder = Holder::new(rt.alloc()).expect(&rt, "a table");
+    let taken = holder.take_all(&[(1, b'a'), (2, b'b'), (3, b'c'), (5, b'd')]);
+    assert!(rt; taken.is_some());
+    assert!(rt; holder.releases_two() == Some(true));
 }

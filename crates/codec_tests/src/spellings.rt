@@ -1,7 +1,6 @@
 //! Bytes of statements and frames, written by hand.
 
-use std::alloc::Global;
-use std::test::Fail;
+use std::alloc::{AllocError, Global};
 use test_support::{lock_bytes, report_bytes};
 
 /// The report of replica 0 on the batch [a=1] at height 1 and phase 1, with no ALL and no locks.
@@ -20,59 +19,76 @@ pub(crate) const ALL_REPORT: [u8; 21] = [
 /// Signatures have 2348 bytes here.
 const SIGNATURE_LEN: [u8; 2] = [0x09, 0x2c];
 
-/// The lock of replica 1 on [a=1] at height 1 and phase 1, with the reports of these signers on it, each under the signature 5, 6.
-pub(crate) fn lock_of(alloc: Global, count: u8, signers: &[u8]) -> Result<Vec<u8>, Fail> {
-    let mut bytes = Vec::from_slice(alloc, &lock_bytes(1, 1, b'a', count))?;
-    for signer in signers {
-        bytes.extend_from_slice(&report_bytes(1, 1, *signer, b'a'))?;
-        bytes.extend_from_slice(&[0, 2, 5, 6])?;
+fn put_all(bytes: &mut Vec<u8>, parts: &[&[u8]]) -> Result<(), AllocError> {
+    for part in parts {
+        bytes.extend_from_slice(part)?;
     }
+    Ok(())
+}
+
+/// These bytes, one part behind the other.
+pub(crate) fn joined(alloc: Global, parts: &[&[u8]]) -> Result<Vec<u8>, AllocError> {
+    let mut bytes = Vec::new(alloc);
+    put_all(&mut bytes, parts)?;
     Ok(bytes)
 }
 
-/// A signature's length and so many bytes, all the same.
-fn signature_bytes(alloc: Global, byte: u8) -> Result<Vec<u8>, Fail> {
-    let mut bytes = Vec::from_slice(alloc, &SIGNATURE_LEN)?;
-    for _ in 0..2348 {
-        bytes.push(byte)?;
+// The reports of these signers on [a=1] at height 1 and phase 1, each under the signature of its signer's number and 5.
+fn put_reports(bytes: &mut Vec<u8>, signers: &[u8]) -> Result<(), AllocError> {
+    for signer in signers {
+        bytes.extend_from_slice(&report_bytes(1, 1, *signer, b'a'))?;
+        bytes.extend_from_slice(&[0, 2, *signer, 5])?;
     }
+    Ok(())
+}
+
+/// The lock of replica 1 on [a=1] at height 1 and phase 1, with the reports of these signers on it, each under the signature of
+/// its signer's number and 5.
+pub(crate) fn lock_of(alloc: Global, count: u8, signers: &[u8]) -> Result<Vec<u8>, AllocError> {
+    let mut bytes = joined(alloc, &[&lock_bytes(1, 1, b'a', count)])?;
+    put_reports(&mut bytes, signers)?;
     Ok(bytes)
 }
 
 /// The frame of a statement's bytes under a signature of bytes 7, with the length that it announces.
-fn frame_of(alloc: Global, len: &[u8], statement: &[u8]) -> Result<Vec<u8>, Fail> {
-    let mut bytes = Vec::from_slice(alloc, len)?;
-    bytes.extend_from_slice(statement)?;
-    bytes.extend_from_slice(&signature_bytes(alloc, 7)?)?;
-    Ok(bytes)
+fn frame_of(alloc: Global, len: [u8; 4], statement: &[u8]) -> Result<Vec<u8>, AllocError> {
+    joined(alloc, &[&len, statement, &SIGNATURE_LEN, &[7; 2348]])
 }
 
-pub(crate) fn report_frame(alloc: Global) -> Result<Vec<u8>, Fail> {
-    frame_of(alloc, &[0, 0, 0x09, 0x45], &REPORT)
+pub(crate) fn report_frame(alloc: Global) -> Result<Vec<u8>, AllocError> {
+    frame_of(alloc, [0, 0, 0x09, 0x45], &REPORT)
 }
 
-pub(crate) fn ack_frame(alloc: Global) -> Result<Vec<u8>, Fail> {
-    frame_of(alloc, &[0, 0, 0x09, 0x3d], &ACK)
+pub(crate) fn ack_frame(alloc: Global) -> Result<Vec<u8>, AllocError> {
+    frame_of(alloc, [0, 0, 0x09, 0x3d], &ACK)
 }
 
 /// The lock with the reports of replicas 0, 2 and 3, each under a signature of bytes that are its number.
-pub(crate) fn lock_frame(alloc: Global) -> Result<Vec<u8>, Fail> {
-    let mut lock = Vec::from_slice(alloc, &lock_bytes(1, 1, b'a', 3))?;
-    for signer in [0u8, 2, 3] {
-        lock.extend_from_slice(&report_bytes(1, 1, signer, b'a'))?;
-        lock.extend_from_slice(&signature_bytes(alloc, signer)?)?;
-    }
-    frame_of(alloc, &[0, 0, 0x25, 0x0d], &lock)
+pub(crate) fn lock_statement(alloc: Global) -> Result<Vec<u8>, AllocError> {
+    joined(
+        alloc,
+        &[
+            &lock_bytes(1, 1, b'a', 3),
+            &report_bytes(1, 1, 0, b'a'),
+            &SIGNATURE_LEN,
+            &[0; 2348],
+            &report_bytes(1, 1, 2, b'a'),
+            &SIGNATURE_LEN,
+            &[2; 2348],
+            &report_bytes(1, 1, 3, b'a'),
+            &SIGNATURE_LEN,
+            &[3; 2348],
+        ],
+    )
 }
 
-/// The lock with the reports of replicas 0 to 8, each under a signature of its number and 5.
-pub(crate) fn long_lock_frame(alloc: Global) -> Result<Vec<u8>, Fail> {
-    let mut bytes = Vec::from_slice(alloc, &[0, 0, 1, 7])?;
-    bytes.extend_from_slice(&lock_bytes(1, 1, b'a', 9))?;
-    for signer in 0..9u8 {
-        bytes.extend_from_slice(&report_bytes(1, 1, signer, b'a'))?;
-        bytes.extend_from_slice(&[0, 2, signer, 5])?;
-    }
-    bytes.extend_from_slice(&[0, 2, 6, 7])?;
-    Ok(bytes)
+/// The frame of that lock.
+pub(crate) fn lock_frame(alloc: Global) -> Result<Vec<u8>, AllocError> {
+    frame_of(alloc, [0, 0, 0x25, 0x0d], &lock_statement(alloc)?)
+}
+
+/// The frame of the lock with the reports of replicas 0 to 8, each under a signature of its number and 5.
+pub(crate) fn long_lock_frame(alloc: Global) -> Result<Vec<u8>, AllocError> {
+    let lock = lock_of(alloc, 9, &[0, 1, 2, 3, 4, 5, 6, 7, 8])?;
+    joined(alloc, &[&[0, 0, 1, 7], &lock, &[0, 2, 6, 7]])
 }

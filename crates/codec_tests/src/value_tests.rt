@@ -6,8 +6,6 @@ use ledger_model::{
 };
 use std::alloc::Global;
 use std::cmp::Ordering;
-use std::process::Abort;
-use std::test::Fail;
 use test_support::{batch, tx, value, values};
 
 // Whether a cluster has its numbers and its kind, or why there is none.
@@ -37,25 +35,29 @@ fn sizes_of_clusters(rt: HostRuntime) {
 
 #[test]
 fn numbers(rt: HostRuntime) {
-    assert!(rt; Height::new(4096).number() == 4096);
-    assert!(rt; Phase::new(7).number() == 7);
-    assert!(rt; ReplicaId::new(12).number() == 12);
+    let height = Height::new(4096).number();
+    let phase = Phase::new(7).number();
+    assert!(rt; (height, phase, ReplicaId::new(12).number()) == (4096, 7, 12));
     assert!(rt; Height::new(9) < Height::new(10));
 }
 
 // Whether the bytes come back from a transaction, or why they are none.
-fn tx_shows(alloc: Global, bytes: &[u8]) -> Result<Result<bool, TxFault>, Fail> {
-    let made = Tx::new(Vec::from_slice(alloc, bytes)?);
-    Ok(made.map(|tx| tx.as_bytes() == bytes))
+fn tx_shows(alloc: Global, bytes: &[u8]) -> Option<Result<bool, TxFault>> {
+    match Tx::new(Vec::from_slice(alloc, bytes).ok()?) {
+        Ok(tx) => Some(Ok(tx.as_bytes() == bytes)),
+        Err(fault) => Some(Err(fault)),
+    }
 }
 
-fn key_shows(alloc: Global, bytes: &[u8]) -> Result<Result<bool, KeyFault>, Fail> {
-    let made = Key::new(Vec::from_slice(alloc, bytes)?);
-    Ok(made.map(|key| key.as_bytes() == bytes))
+fn key_shows(alloc: Global, bytes: &[u8]) -> Option<Result<bool, KeyFault>> {
+    match Key::new(Vec::from_slice(alloc, bytes).ok()?) {
+        Ok(key) => Some(Ok(key.as_bytes() == bytes)),
+        Err(fault) => Some(Err(fault)),
+    }
 }
 
 #[test]
-fn lengths_of_transactions_and_keys(rt: HostRuntime) -> Result<(), Fail> {
+fn lengths_of_transactions_and_keys(rt: HostRuntime) {
     let long = [7; 65];
     for (len, of_tx, of_key) in [
         (0, Err(TxFault::Empty), Ok(true)),
@@ -63,141 +65,144 @@ fn lengths_of_transactions_and_keys(rt: HostRuntime) -> Result<(), Fail> {
         (64, Ok(true), Ok(true)),
         (65, Err(TxFault::TooLong), Err(KeyFault::TooLong)),
     ] {
-        assert!(rt; tx_shows(rt.alloc(), &long[..len])? == of_tx, "{len} bytes");
         assert!(rt;
-            key_shows(rt.alloc(), &long[..len])? == of_key,
+            tx_shows(rt.alloc(), &long[..len]) == Some(of_tx),
+            "{len} bytes"
+        );
+        assert!(rt;
+            key_shows(rt.alloc(), &long[..len]) == Some(of_key),
             "{len} bytes"
         );
     }
-    Ok(())
 }
 
-#[test]
-fn a_key_is_copied(rt: HostRuntime) -> Result<(), Fail> {
-    let copied = Key::new(Vec::from_slice(rt.alloc(), b"count")?)?.copy()?;
-    assert!(rt; copied.as_bytes() == b"count".as_slice());
-    Ok(())
-}
-
-fn tx_of(alloc: Global, bytes: &[u8]) -> Result<Tx, Fail> {
-    Ok(tx(alloc, bytes)?)
-}
-
-fn are_same_tx(alloc: Global, tx: &Tx, bytes: &[u8]) -> Result<bool, Fail> {
-    Ok(*tx == tx_of(alloc, bytes)?)
-}
-
-#[test]
-fn a_transaction_is_copied(rt: HostRuntime) -> Result<(), Fail> {
-    let copied = tx_of(rt.alloc(), b"a=1")?.copy()?;
-    assert!(rt; copied.as_bytes() == b"a=1".as_slice());
-    assert!(rt; are_same_tx(rt.alloc(), &copied, b"a=1")?);
-    assert!(rt; !are_same_tx(rt.alloc(), &copied, b"a=2")?);
-    Ok(())
-}
-
-fn order_of(alloc: Global, first: &[u8], second: &[u8]) -> Result<Ordering, Fail> {
-    Ok(tx_of(alloc, first)?.cmp(&tx_of(alloc, second)?))
-}
-
-fn is_below(alloc: Global, first: &[u8], second: &[u8]) -> Result<bool, Fail> {
-    Ok(tx_of(alloc, first)? < tx_of(alloc, second)?)
+// The order of two transactions, whether the first is below, and whether they are one.
+fn order_of(alloc: Global, first: &[u8], second: &[u8]) -> Option<(Ordering, bool, bool)> {
+    let first = tx(alloc, first).ok()?;
+    let second = tx(alloc, second).ok()?;
+    Some((first.cmp(&second), first < second, first == second))
 }
 
 // Shorter ones come first.
 #[test]
-fn order_of_transactions(rt: HostRuntime) -> Result<(), Fail> {
-    let alloc = rt.alloc();
-    for (first, second, order, below) in [
-        (b"z".as_slice(), b"aa".as_slice(), Ordering::Less, true),
-        (b"ab", b"aa", Ordering::Greater, false),
-        (b"ab", b"ab", Ordering::Equal, false),
+fn order_of_transactions(rt: HostRuntime) {
+    for (first, second, wanted) in [
+        (
+            b"z".as_slice(),
+            b"aa".as_slice(),
+            (Ordering::Less, true, false),
+        ),
+        (b"ab", b"aa", (Ordering::Greater, false, false)),
+        (b"ab", b"ab", (Ordering::Equal, false, true)),
     ] {
-        assert!(rt; order_of(alloc, first, second)? == order);
-        assert!(rt; is_below(alloc, first, second)? == below);
+        assert!(rt; order_of(rt.alloc(), first, second) == Some(wanted));
     }
-    Ok(())
+}
+
+fn put_transactions(alloc: Global, made: &mut Vec<Tx>, count: usize) -> Option<()> {
+    for _ in 0..count {
+        made.push(tx(alloc, b"x").ok()?).ok()?;
+    }
+    Some(())
 }
 
 // How many transactions a batch of so many has, or why there is none.
-fn sizes(alloc: Global, count: usize) -> Result<Result<usize, BatchFault>, Fail> {
+fn sizes(alloc: Global, count: usize) -> Option<Result<usize, BatchFault>> {
     let mut transactions = Vec::new(alloc);
-    for _ in 0..count {
-        transactions.push(tx(alloc, b"x")?)?;
+    put_transactions(alloc, &mut transactions, count)?;
+    match Batch::new(transactions) {
+        Ok(batch) => Some(Ok(batch.transactions().len())),
+        Err(fault) => Some(Err(fault)),
     }
-    Ok(Batch::new(transactions).map(|batch| batch.transactions().len()))
 }
 
 #[test]
-fn sizes_of_batches(rt: HostRuntime) -> Result<(), Fail> {
+fn sizes_of_batches(rt: HostRuntime) {
     for (count, wanted) in [(0, Ok(0)), (16, Ok(16)), (17, Err(BatchFault::TooMany))] {
-        assert_eq!(rt; sizes(rt.alloc(), count)?, wanted);
+        assert!(rt; sizes(rt.alloc(), count) == Some(wanted), "{count}");
     }
-    Ok(())
 }
 
-fn are_same(alloc: Global, value: &Batch, transactions: &[&[u8]]) -> Result<bool, Fail> {
-    Ok(*value == batch(alloc, transactions)?)
-}
-
-#[test]
-fn a_batch_is_copied(rt: HostRuntime) -> Result<(), Fail> {
-    let copied = batch(rt.alloc(), &[b"a=1", b"b=2"])?.copy()?;
-    assert!(rt; are_same(rt.alloc(), &copied, &[b"a=1", b"b=2"])?);
-    assert!(rt; !are_same(rt.alloc(), &copied, &[b"b=2", b"a=1"])?);
-    Ok(())
+fn is_same(alloc: Global, value: &Batch, transactions: &[&[u8]]) -> Option<bool> {
+    let other = batch(alloc, transactions).ok()?;
+    Some(*value == other)
 }
 
 // Whether these are transactions of these bytes.
 fn are_spelled(transactions: &[Tx], wanted: &[&[u8]]) -> bool {
+    for (tx, bytes) in transactions.iter().zip(wanted) {
+        if tx.as_bytes() != *bytes {
+            return false;
+        }
+    }
     transactions.len() == wanted.len()
-        && transactions
-            .iter()
-            .zip(wanted)
-            .all(|(tx, bytes)| tx.as_bytes() == *bytes)
 }
 
 #[test]
-fn a_batch_shows_its_transactions(rt: HostRuntime) -> Result<(), Fail> {
-    let made = batch(rt.alloc(), &[b"a=1", b"b=2"])?;
+fn a_batch_shows_its_transactions(rt: HostRuntime) {
+    let made = batch(rt.alloc(), &[b"a=1", b"b=2"]).expect(&rt, "a batch");
     assert!(rt; are_spelled(made.transactions(), &[b"a=1", b"b=2"]));
-    Ok(())
+    assert!(rt; is_same(rt.alloc(), &made, &[b"a=1", b"b=2"]) == Some(true));
+    assert!(rt; is_same(rt.alloc(), &made, &[b"b=2", b"a=1"]) == Some(false));
 }
 
 // `[]`, `[z]`, `[aa]`, `[a,a]`: their encodings begin 00, 01 01, 01 02 and 02.
-fn in_order(alloc: Global) -> Result<Vec<Batch>, Fail> {
+const IN_ORDER: [&[&[u8]]; 4] = [&[], &[b"z"], &[b"aa"], &[b"a", b"a"]];
+
+fn in_order(alloc: Global) -> Option<Vec<Batch>> {
     let mut made = Vec::new(alloc);
-    made.push(batch(alloc, &[])?)?;
-    made.push(value(alloc, b"z")?)?;
-    made.push(value(alloc, b"aa")?)?;
-    made.push(batch(alloc, &[b"a", b"a"])?)?;
-    Ok(made)
+    put_each(alloc, &mut made)?;
+    Some(made)
 }
 
-// Compares each of these batches with each other one.
-fn compare_all<R: Abort>(rt: &R, values: &[Batch]) {
+fn put_each(alloc: Global, made: &mut Vec<Batch>) -> Option<()> {
+    for transactions in IN_ORDER {
+        made.push(batch(alloc, transactions).ok()?).ok()?;
+    }
+    Some(())
+}
+
+// The first two batches of these, compared, that do not stand in the order of their places.
+fn first_misplaced(values: &[Batch]) -> Option<(usize, usize)> {
     for (i, value) in values.iter().enumerate() {
         for (j, other) in values.iter().enumerate() {
-            assert!(rt; value.cmp(other) == i.cmp(&j), "{i} and {j}");
-            assert!(rt; (value < other) == (i < j), "{i} and {j}");
+            if value.cmp(other) != i.cmp(&j) || (value < other) != (i < j) {
+                return Some((i, j));
+            }
         }
     }
+    None
 }
 
 #[test]
-fn order_of_batches(rt: HostRuntime) -> Result<(), Fail> {
-    let values = in_order(rt.alloc())?;
-    compare_all(&rt, values.as_slice());
-    Ok(())
-}
-
-#[test]
-fn ascending_batches(rt: HostRuntime) -> Result<(), Fail> {
-    let mut made = in_order(rt.alloc())?;
-    assert!(rt; are_ascending(&[]));
-    assert!(rt; are_ascending(made.as_slice()));
+fn order_of_batches(rt: HostRuntime) {
+    let mut made = in_order(rt.alloc()).expect(&rt, "batches");
+    assert!(rt; made.len() == 4 && first_misplaced(&made).is_none());
+    assert!(rt; are_ascending(&[]) && are_ascending(&made));
     made.reverse();
-    assert!(rt; !are_ascending(made.as_slice()));
-    assert!(rt; !are_ascending(values(rt.alloc(), &[b"a=1", b"a=1"])?.as_slice()));
-    Ok(())
+    assert!(rt; !are_ascending(&made));
+    let twice = values(rt.alloc(), &[b"a=1", b"a=1"]).expect(&rt, "batches");
+    assert!(rt; !are_ascending(&twice));
+}
+
+fn key_is_copied(alloc: Global) -> Option<bool> {
+    let key = Key::new(Vec::from_slice(alloc, b"count").ok()?).ok()?;
+    Some(key.copy().ok()?.as_bytes() == b"count".as_slice())
+}
+
+fn tx_is_copied(alloc: Global) -> Option<bool> {
+    let copied = tx(alloc, b"a=1").ok()?.copy().ok()?;
+    Some(copied.as_bytes() == b"a=1".as_slice())
+}
+
+fn batch_is_copied(alloc: Global) -> Option<bool> {
+    let copied = batch(alloc, &[b"a=1", b"b=2"]).ok()?.copy().ok()?;
+    is_same(alloc, &copied, &[b"a=1", b"b=2"])
+}
+
+#[test]
+fn values_are_copied(rt: HostRuntime) {
+    assert!(rt; key_is_copied(rt.alloc()) == Some(true));
+    assert!(rt; tx_is_copied(rt.alloc()) == Some(true));
+    assert!(rt; batch_is_copied(rt.alloc()) == Some(true));
 }
