@@ -8,11 +8,11 @@ use Rattle.ledger_model.specs.declared.statement.Statement.TheVariants as statem
 use Rattle.ledger_model.specs.Notes.{is_report, is_lock, is_ack}
 use Rattle.ledger_model.specs.Rules.{Ring, first_of, has_owner, is_signed}
 use Rattle.instance.specs.Rows.{Row}
-use Rattle.instance.specs.Reads.{round_causes, row_causes, report_causes, lock_causes, ack_causes, cause_told}
+use Rattle.instance.specs.Reads.{round_causes, row_causes, report_causes, room_causes, lock_causes, ack_causes, cause_told}
 use Rattle.ledger_model.specs.declared.reply.Ignored.TheVariants as cause
 use Rattle.ledger_model.specs.Rounds.{place_of, owner_of}
 use Rattle.ledger_model.specs.Validity.{is_quorate, is_supporting}
-use Rattle.ledger_model.specs.LockTables.{has_four_others}
+use Rattle.ledger_model.specs.LockTables.{SignedLock, as_statement, has_four_others}
 use Rattle.lock_proofs.specs.declared.fault.LockFault.{LockFault}
 use Rattle.lock_proofs.specs.declared.fault.LockFault.TheVariants as fault
 use Rattle.lock_proofs.specs.Faults.{faults, are_signed}
@@ -58,3 +58,16 @@ lock_fault row ring c (statement.Lock l) g f lock owner e =
     ((place_of c == 2) && has_four_others l.value row.table) f owner e
 lock_fault row ring c (statement.Report r) g f lock owner e = cc
 lock_fault row ring c (statement.Ack a) g f lock owner e = cc
+
+-- by the four tests, which all hold
+passed : (owner signed quorate reports supporting full : Bool) (u : Unit {0})
+    → Ok u ≡ first_of ((not owner, fault.NotOwner) ∷ (not signed, fault.BadSignature) ∷ (not (quorate && reports), fault.BadProof) ∷ (not supporting, fault.NotSupporting) ∷ [])
+    → first_of ((full, cause.TableFull) ∷ []) ≡ first_of ((not signed, cause.BadSignature) ∷ (not (quorate && reports && supporting), cause.BadProof) ∷ (full, cause.TableFull) ∷ [])
+passed owner signed quorate reports supporting full u e = grind arith
+
+-- a lock that is valid is ignored for want of room alone
+pub lock_room : (row : Row) (ring : Ring) (c : ℕ) (s : SignedLock) → Ok tt ≡ first_of (faults row.config ring s)
+    → first_of (room_causes (place_of c == 2) row s.lock.value) ≡ first_of (lock_causes row ring c (as_statement s))
+lock_room row ring c s e =
+    passed (s.lock.signer == owner_of row.config s.lock.phase) (is_signed ring (as_statement s)) (is_quorate row.config s.lock) (are_signed ring s.lock.proof) (is_supporting s.lock)
+    ((place_of c == 2) && has_four_others s.lock.value row.table) tt e

@@ -82,6 +82,10 @@ lock_causes row ring c s =
     ∷ ((place_of c == 2) && is_lock (λ l. has_four_others l.value row.table) s.statement, cause.TableFull)
     ∷ []
 
+-- the cause that is left for a valid lock on the value, which is taken or not
+abbrev pub room_causes : Bool → Row → Value → List (Bool × Ignored)
+room_causes taken row value = (taken && has_four_others value row.table, cause.TableFull) ∷ []
+
 -- those of an acknowledgement
 abbrev pub ack_causes : Row → Ring → SignedStatement → List (Bool × Ignored)
 ack_causes row ring s =

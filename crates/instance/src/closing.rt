@@ -6,6 +6,7 @@ ghost use Rattle.ledger_model.specs.Locks.{lock_value};
 use crate::height::Instance;
 use crate::made::{Kept, Made, OwnFrame};
 use crate::plan::Ending;
+use crate::reading::into_ack;
 use crate::rounds::{Place, place_of};
 use ledger_model::{Ack, Batch, Signature, SignedReport, Statement};
 use lock_proofs::LockFrame;
@@ -100,12 +101,7 @@ impl Instance {
         match kept {
             Kept::Report(signature) => self.put_report(frame, signature),
             Kept::Lock(made, taken) => self.put_lock(frame, made, taken),
-            Kept::Ack => {
-                let Statement::Ack(ack) = frame.into_statement() else {
-                    unreachable!()
-                };
-                self.put_ack(ack);
-            }
+            Kept::Ack => self.put_ack(into_ack(frame)),
         }
     }
 

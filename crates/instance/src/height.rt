@@ -1,4 +1,6 @@
 //! Agreement at one height: what is kept of it, and how it begins.
+ghost use Rattle.std.specs.Prelude.{◌≡◌, None, IfOk, replicate};
+
 use ledger_model::{Ack, Batch, Config, Height, ReplicaId, SignedReport};
 use lock_proofs::LockTable;
 use proper_sets::Proper;
@@ -84,14 +86,17 @@ impl Instance {
         ensures matches { IfOk result (λ row. (ring : Ring) (log : List Note) → only_rounds log ≡ true
             → Matches ring row (log ++ Proposed initial.now ∷ [])) }
     {
+        let proper = Proper::new(alloc, config, initial)?;
+        let locks = LockTable::new(alloc)?;
+        let (reports, acks) = empty_places(alloc, config)?;
         Ok(Instance {
             config: *config,
             id,
             height,
-            proper: Proper::new(alloc, config, initial)?,
-            locks: LockTable::new(alloc)?,
-            reports: Tally::new(alloc, config)?,
-            acks: Tally::new(alloc, config)?,
+            proper,
+            locks,
+            reports,
+            acks,
             taken: None,
             made: None,
             decided: None,
@@ -113,4 +118,15 @@ impl Instance {
     {
         self.decided.as_ref()
     }
+}
+
+/// Places for the reports and the acknowledgements of a phase, before the first is read.
+fn empty_places(
+    alloc: Global,
+    config: &Config,
+) -> Result<(Tally<SignedReport>, Tally<Ack>), AllocError>
+    ensures reports { IfOk result (λ places. places.0 ≡ replicate config.now.replicas None) }
+    ensures acks { IfOk result (λ places. places.1 ≡ replicate config.now.replicas None) }
+{
+    Ok((Tally::new(alloc, config)?, Tally::new(alloc, config)?))
 }

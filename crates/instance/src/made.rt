@@ -47,18 +47,39 @@ impl Model for OwnFrame {
     ghost invariant = { λ o. IsFrame o.frame × IsKeptOf o.frame o.kept };
 }
 
+impl Kept {
+    ghost use Rattle.ledger_model.specs.Spelling.{IsFrame};
+    ghost use Rattle.instance.specs.Kept.{IsKeptOf};
+
+    /// What is kept of a lock on the value.
+    fn of_value(value: &Batch) -> Result<Self, AllocError>
+        ensures { IfOk result (λ kept. kept ≡ Kept.Lock value.now value.now) }
+    {
+        Ok(Kept::Lock(value.copy()?, value.copy()?))
+    }
+
+    /// What is kept of the frame's statement.
+    fn of_frame(alloc: Global, frame: &Frame) -> Result<Self, AllocError>
+        ensures kept { IfOk result (λ kept. IsKeptOf frame.now kept) }
+        ensures frame { IsFrame frame.now }
+    {
+        match frame.statement() {
+            Statement::Report(_) => {
+                let signature = Vec::from_slice(alloc, frame.signature())?;
+                Ok(Kept::Report(Signature::new(signature)))
+            }
+            Statement::Lock(lock) => Kept::of_value(&lock.value),
+            Statement::Ack(_) => Ok(Kept::Ack),
+        }
+    }
+}
+
 impl OwnFrame {
     /// The frame of a statement of one's own. It takes the memory that keeping it needs.
     pub fn new(alloc: Global, frame: Frame) -> Result<Self, AllocError>
         ensures { IfOk result (λ own. own ≡ frame) }
     {
-        let kept = match frame.statement() {
-            Statement::Report(_) => {
-                Kept::Report(Signature::new(Vec::from_slice(alloc, frame.signature())?))
-            }
-            Statement::Lock(lock) => Kept::Lock(lock.value.copy()?, lock.value.copy()?),
-            Statement::Ack(_) => Kept::Ack,
-        };
+        let kept = Kept::of_frame(alloc, &frame)?;
         Ok(OwnFrame { frame, kept })
     }
 

@@ -22,7 +22,7 @@ impl Instance {
     ghost use Rattle.ledger_model.specs.LockTables.{as_statement};
     ghost use Rattle.lock_proofs.specs.Tables.{values_of};
     ghost use Rattle.instance.specs.Matching.{Matches};
-    ghost use Rattle.instance.specs.Plans.{own_report, own_lock, locking_of, chosen_lock, own_acks, sent_ack, unsent_ack, decides_now, decides_first, chosen_statement, ended, IsOwnStatement};
+    ghost use Rattle.instance.specs.Plans.{own_report, own_lock, locking_of, chosen_lock, own_acks, sent_ack, unsent_ack, decides_now, decides_first, chosen_statement, ended, nothing_ends, IsOwnStatement};
     ghost use Rattle.instance.specs.Laws.{MayBeSent, IsLockSentOn};
     ghost use Rattle.ledger_model.specs.Limits.{last_round};
 
@@ -204,9 +204,35 @@ impl Instance {
         Ok(frames)
     }
 
+    /// What is to be done as the lock-release round of a phase opens: the held locks are sent on, and a value may be decided.
+    fn release_ending(&self, alloc: Global, phase: Phase) -> Result<Ending, AllocError>
+        ensures { IfOk result (λ ending. ending ≡ record nothing_ends {
+          sends_on = map (λ s. frame_bytes (as_statement s)) self.now.table;
+          decided = decides_first self.now phase;
+        }) }
+    {
+        let sends_on = self.held_frames(alloc)?;
+        let decided = self.decides_first(phase)?;
+        Ok(Ending::releasing(sends_on, decided))
+    }
+
+    /// What is to be done as a round opens, whatever is sent.
+    #[tactic(auto, unfolding(crate::specs::Plans::ended))]
+    fn ending(&self, alloc: Global, round: u32) -> Result<Ending, AllocError>
+        requires { (1 ≤ round) × (round ≤ last_round) }
+        ensures { IfOk result (λ ending. ending ≡ ended self.now round) }
+    {
+        let phase = phase_of(round);
+        match place_of(round) {
+            Place::Reports => Ok(Ending::nothing(alloc)),
+            Place::Lock => Ok(Ending::absorbing(alloc, self.absorbed()?)),
+            Place::Acknowledgements => Ok(Ending::acknowledging(alloc, self.unsent_ack(phase)?)),
+            Place::Release => self.release_ending(alloc, phase),
+        }
+    }
+
     /// What is to be done as the next round opens, whatever is sent; `clock` is the number of the round that closes. Nothing
     /// changes yet.
-    #[tactic(auto, unfolding(crate::specs::Plans::ended))]
     pub fn prepare_end(&self, alloc: Global, clock: u32) -> Result<Ending, AllocError>
         requires clock { clock < last_round }
         ensures ending { IfOk result (λ ending. ending ≡ ended self.now (clock + 1)) }
@@ -217,19 +243,7 @@ impl Instance {
         ensures readable { IfOk result (λ ending. (ring : Ring) (log : List Note) → Matches ring self.now log
             → AllByRecursion (IsLockSentOn ring self.now.height) ending.sends_on) }
     {
-        let round = clock + 1;
-        let phase = phase_of(round);
-        let mut ending = Ending::nothing(alloc);
-        match place_of(round) {
-            Place::Reports => {}
-            Place::Lock => ending.proper = Some(self.absorbed()?),
-            Place::Acknowledgements => ending.unsent = self.unsent_ack(phase)?,
-            Place::Release => {
-                ending.sends_on = self.held_frames(alloc)?;
-                ending.decided = self.decides_first(phase)?;
-            }
-        }
-        Ok(ending)
+        self.ending(alloc, clock + 1)
     }
 
     /// What is to be done as the next round opens, `clock` being the number of the one that closes: the statement to send,

@@ -35,7 +35,7 @@ impl Model for Ending {
 }
 
 impl Ending {
-    ghost use Rattle.std.specs.Prelude.{◌≡◌};
+    ghost use Rattle.std.specs.Prelude.{◌≡◌, Some};
     ghost use Rattle.std.specs.Option.{option_copied};
     ghost use Rattle.instance.specs.Plans.{nothing_ends};
 
@@ -47,6 +47,42 @@ impl Ending {
             sends_on: Vec::new(alloc),
             proper: None,
             decided: None,
+            unsent: None,
+        }
+    }
+
+    /// One that makes this proper.
+    pub(crate) fn absorbing(alloc: Global, proper: Proper) -> Self
+        ensures { result ≡ record nothing_ends { proper = Some proper } }
+    {
+        Ending {
+            sends_on: Vec::new(alloc),
+            proper: Some(proper),
+            decided: None,
+            unsent: None,
+        }
+    }
+
+    /// One in which an owner may acknowledge its own lock to itself.
+    pub(crate) fn acknowledging(alloc: Global, unsent: Option<Ack>) -> Self
+        ensures { result ≡ record nothing_ends { unsent = unsent } }
+    {
+        Ending {
+            sends_on: Vec::new(alloc),
+            proper: None,
+            decided: None,
+            unsent,
+        }
+    }
+
+    /// One that sends these frames on, and may decide a value.
+    pub(crate) fn releasing(sends_on: Vec<Bytes>, decided: Option<Batch>) -> Self
+        ensures { result ≡ record nothing_ends { sends_on = sends_on.items; decided = decided } }
+    {
+        Ending {
+            sends_on,
+            proper: None,
+            decided,
             unsent: None,
         }
     }

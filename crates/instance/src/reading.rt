@@ -1,5 +1,6 @@
 //! Frames of the height come in.
-ghost use Rattle.std.specs.Prelude.{◌≡◌, ◌≤◌};
+ghost use Rattle.std.specs.Prelude.{◌≡◌, ◌≤◌, true, IsTrue};
+ghost use Rattle.ledger_model.specs.Notes.{is_ack};
 ghost use Rattle.ledger_model.specs.Rules.{has_place, has_phase, has_owner};
 ghost use Rattle.instance.specs.Places.{number_of};
 ghost use Rattle.instance.specs.Reads.{cause_told};
@@ -8,8 +9,8 @@ ghost use Rattle.ledger_model.specs.Limits.{last_round};
 use crate::height::Instance;
 use crate::rounds::{Place, phase_of, place_of};
 use key_ring::KeyRing;
-use ledger_model::{Ack, Config, Ignored, Signature, SignedReport, Statement};
-use lock_proofs::{LockFault, check_lock, is_signed};
+use ledger_model::{Ack, Batch, Config, Ignored, Signature, SignedReport, Statement};
+use lock_proofs::{LockFault, LockFrame, check_lock, is_signed};
 use signed_frames::Frame;
 use std::alloc::{AllocError, Global};
 
@@ -56,18 +57,30 @@ fn cause_of(fault: LockFault) -> Ignored
     }
 }
 
+/// The acknowledgement of a frame that has one.
+pub(crate) fn into_ack(frame: Frame) -> Ack
+    requires { IsTrue (is_ack (λ a. true) frame.statement) }
+    ensures { frame.statement ≡ Statement.Ack result }
+{
+    match frame.into_statement() {
+        Statement::Ack(ack) => ack,
+        Statement::Report(_) | Statement::Lock(_) => unreachable!(),
+    }
+}
+
 impl Instance {
-    ghost use Rattle.std.specs.Prelude.{◌≡◌, ◌==◌, ◌<◌, ◌≤◌, ◌++◌, ◌∷◌, ℕ, List, [], None, not, false, true, is_some, IsTrue, IfOk, OnErr};
+    ghost use Rattle.std.specs.Prelude.{◌≡◌, ◌==◌, ◌<◌, ◌≤◌, ◌++◌, ◌∷◌, ℕ, List, [], None, Some, slice_set, not, false, true, is_some, IsTrue, IfOk, OnOk, OnErr};
     ghost use Rattle.std.specs.Option.{option_map_or};
     ghost use Rattle.ledger_model.specs.Values.{same_value};
-    ghost use Rattle.ledger_model.specs.Rounds.{place_of};
+    ghost use Rattle.ledger_model.specs.Rounds.{phase_of, place_of};
     ghost use Rattle.ledger_model.specs.Notes.{Note, Read, clock_of, signer_of, is_report, is_lock, is_ack};
     ghost use Rattle.ledger_model.specs.Logs.{height_of};
     ghost use Rattle.ledger_model.specs.Rules.{answer_to, first_of};
-    ghost use Rattle.ledger_model.specs.Spelling.{IsFrame};
+    ghost use Rattle.ledger_model.specs.Spelling.{IsFrame, IsLock};
+    ghost use Rattle.ledger_model.specs.LockTables.{as_statement, with_lock, has_four_others, released};
     ghost use Rattle.ledger_model.specs.Tallies.{read_of};
     ghost use Rattle.instance.specs.Matching.{Matches};
-    ghost use Rattle.instance.specs.Reads.{round_causes, row_causes, report_causes, lock_causes, ack_causes, is_kept_already, after_read, if_accepted, IsSameHeight};
+    ghost use Rattle.instance.specs.Reads.{round_causes, row_causes, report_causes, room_causes, lock_causes, ack_causes, is_kept_already, after_read, if_accepted, IsSameHeight};
     ghost use Rattle.ledger_model.specs.Limits.{last_round};
 
     /// Whether one such statement is kept already.
@@ -102,6 +115,36 @@ impl Instance {
         Ok(())
     }
 
+    /// Keeps the first report of its signer in this phase, with its signature. It takes no memory.
+    fn put_read_report(&mut self, frame: Frame, signature: Signature)
+        requires kind { IsTrue (is_report (λ r. true) frame.statement) }
+        requires signer { signer_of frame.statement < self.old.config.replicas }
+        requires first { read_of self.old.reports (signer_of frame.statement) ≡ None }
+        requires frame { IsFrame frame }
+        requires signature { signature ≡ frame.signature }
+        ensures { (round : ℕ) → self.new ≡ after_read self.old round frame }
+    {
+        let Statement::Report(report) = frame.into_statement() else {
+            unreachable!()
+        };
+        self.reports
+            .add(report.signer, SignedReport { report, signature });
+    }
+
+    /// Takes the first report of its signer in this phase, whose signature verifies.
+    fn take_report(&mut self, alloc: Global, frame: Frame) -> Result<(), AllocError>
+        requires kind { IsTrue (is_report (λ r. true) frame.statement) }
+        requires signer { signer_of frame.statement < self.old.config.replicas }
+        requires first { read_of self.old.reports (signer_of frame.statement) ≡ None }
+        requires frame { IsFrame frame }
+        ensures after { (round : ℕ) → OnOk result (self.new ≡ after_read self.old round frame) }
+        ensures err { OnErr result (self.new ≡ self.old) }
+    {
+        let signature = Signature::new(Vec::from_slice(alloc, frame.signature())?);
+        self.put_read_report(frame, signature);
+        Ok(())
+    }
+
     /// Reads the first report of its signer in this phase, if its signature verifies.
     fn read_report(
         &mut self,
@@ -120,12 +163,7 @@ impl Instance {
         if !is_signed(ring, &frame) {
             return Ok(Err(Ignored::BadSignature));
         }
-        let signature = Signature::new(Vec::from_slice(alloc, frame.signature())?);
-        let Statement::Report(report) = frame.into_statement() else {
-            unreachable!()
-        };
-        self.reports
-            .add(report.signer, SignedReport { report, signature });
+        self.take_report(alloc, frame)?;
         Ok(Ok(()))
     }
 
@@ -134,6 +172,15 @@ impl Instance {
         ensures { result ≡ option_map_or (same_value ack.now.value) self.now.made false }
     {
         self.made.as_ref().is_some_and(|value| ack.value == *value)
+    }
+
+    /// Keeps the first acknowledgement of its signer in this phase. It takes no memory.
+    fn put_read_ack(&mut self, ack: Ack)
+        requires signer { ack.signer < self.old.config.replicas }
+        requires first { read_of self.old.acks ack.signer ≡ None }
+        ensures { self.new ≡ record self.old { acks = slice_set self.old.acks ack.signer (Some ack) } }
+    {
+        self.acks.add(ack.signer, ack);
     }
 
     /// Reads the first acknowledgement of its signer in this phase, if its signature verifies and it is of the own lock.
@@ -147,14 +194,71 @@ impl Instance {
         if !is_signed(ring, &frame) {
             return Err(Ignored::BadSignature);
         }
-        let Statement::Ack(ack) = frame.into_statement() else {
-            unreachable!()
-        };
+        let ack = into_ack(frame);
         if !self.is_of_own_lock(&ack) {
             return Err(Ignored::NotMine);
         }
-        self.acks.add(ack.signer, ack);
+        self.put_read_ack(ack);
         Ok(())
+    }
+
+    /// Keeps a lock for which the table has a place, and its value as that of the lock that was taken. It takes no memory.
+    fn put_taken(&mut self, lock: LockFrame, value: Batch)
+        requires lock { IsLock lock.lock }
+        requires value { value ≡ lock.lock.value }
+        requires room { has_four_others lock.lock.value self.old.table ≡ false }
+        ensures { self.new ≡ record self.old { table = with_lock lock self.old.table; taken = Some lock.lock.value } }
+    {
+        let Ok(()) = self.locks.take(lock) else {
+            unreachable!()
+        };
+        self.taken = Some(value);
+    }
+
+    /// Whether the table has a place for a lock on the value.
+    fn has_room_for(&self, value: &Batch) -> bool
+        ensures { result ≡ not (has_four_others value.now self.now.table) }
+    {
+        self.locks.has_room_for(value)
+    }
+
+    /// Takes a valid lock, if the table has a place for it.
+    fn take_lock(&mut self, lock: LockFrame) -> Result<Result<(), Ignored>, AllocError>
+        requires lock { IsLock lock.lock }
+        ensures answer { IfOk result (λ r. r ≡ first_of (room_causes true self.old lock.lock.value)) }
+        ensures after { IfOk result (λ r. self.new
+            ≡ if_accepted r (record self.old { table = with_lock lock self.old.table; taken = Some lock.lock.value }) self.old) }
+        ensures err { OnErr result (self.new ≡ self.old) }
+    {
+        if !self.has_room_for(lock.value()) {
+            return Ok(Err(Ignored::TableFull));
+        }
+        let value = lock.value().copy()?;
+        self.put_taken(lock, value);
+        Ok(Ok(()))
+    }
+
+    /// Ends the holding of other locks by one that was read in a lock-release round.
+    fn release_by(&mut self, lock: &LockFrame, round: u32)
+        requires { round ≤ last_round }
+        ensures { self.new ≡ record self.old { table = released (phase_of round) lock.now.lock self.old.table } }
+    {
+        self.locks.release(lock, phase_of(round));
+    }
+
+    /// Reads a valid lock of its phase's owner: in the round of locks it is taken, in a lock-release round it releases others.
+    fn read_valid(&mut self, lock: LockFrame, round: u32) -> Result<Result<(), Ignored>, AllocError>
+        requires round { round ≤ last_round }
+        requires lock { IsLock lock.lock }
+        ensures answer { IfOk result (λ r. r ≡ first_of (room_causes (place_of round == 2) self.old lock.lock.value)) }
+        ensures after { IfOk result (λ r. self.new ≡ if_accepted r (after_read self.old round (as_statement lock)) self.old) }
+        ensures err { OnErr result (self.new ≡ self.old) }
+    {
+        if place_of(round) == Place::Lock {
+            return self.take_lock(lock);
+        }
+        self.release_by(&lock, round);
+        Ok(Ok(()))
     }
 
     /// Reads a lock of its phase's owner, if it is valid: in the round of locks it is taken, in a lock-release round it
@@ -173,23 +277,10 @@ impl Instance {
         ensures after { IfOk result (λ r. self.new ≡ if_accepted r (after_read self.old round frame) self.old) }
         ensures err { OnErr result (self.new ≡ self.old) }
     {
-        let lock = match check_lock(&self.config, ring, frame) {
-            Ok(lock) => lock,
-            Err(fault) => return Ok(Err(cause_of(fault))),
-        };
-        if place_of(round) != Place::Lock {
-            self.locks.release(&lock, phase_of(round));
-            return Ok(Ok(()));
+        match check_lock(&self.config, ring, frame) {
+            Ok(lock) => self.read_valid(lock, round),
+            Err(fault) => Ok(Err(cause_of(fault))),
         }
-        if !self.locks.has_room_for(lock.value()) {
-            return Ok(Err(Ignored::TableFull));
-        }
-        let value = lock.value().copy()?;
-        let Ok(()) = self.locks.take(lock) else {
-            unreachable!()
-        };
-        self.taken = Some(value);
-        Ok(Ok(()))
     }
 
     /// A frame of this height comes in, whose signer is a replica, while this round is open: it is read, or ignored by the

@@ -1,5 +1,5 @@
 -- The statements that are due are signed in order.
-use Rattle.std.specs.Prelude.{◌≡◌, ℕ, ◌+◌, List, [], ◌∷◌, Some, None, is_some, if◌then◌else◌}
+use Rattle.std.specs.Prelude.{◌≡◌, ℕ, ◌+◌, Bool, List, [], ◌∷◌, Some, None, is_some, if◌then◌else◌}
 use Rattle.ledger_model.specs.Spelling.{statement_bytes}
 use Rattle.lms_tree.specs.Trees.{Secret}
 use Rattle.key_ring.specs.Signers.{signed_with}
@@ -31,3 +31,7 @@ SignsPlans secret leaf (plan ∷ plans) [] = ⊥
 -- the plan whose statement is spelled
 abbrev pub plan_spelled : Spelled → Plan
 plan_spelled spelled = record { statement = spelled.statement; ending = spelled.ending }
+
+-- what is made at a height at which nothing is sent
+abbrev pub nothing_made : Bool → Made
+nothing_made mute = if mute then made.Mute else made.Unsent

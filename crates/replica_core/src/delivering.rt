@@ -50,6 +50,20 @@ impl<A: Application> Kept<A> {
         self.rows.read(alloc, &self.ring, frame, self.clock)
     }
 
+    /// A frame comes: it is read, or ignored by the first cause that fits, which changes nothing.
+    fn take(&mut self, alloc: Global, frame: Frame) -> Result<Result<(), Ignored>, AllocError>
+        ensures step { IfOk result (λ r. (bytes : List ℕ) → reading bytes ≡ Some frame
+            → IsStep self.old (event.Deliver bytes) (reply.Delivered r) self.new) }
+        ensures rest { self.new ≡ record self.old { rows = self.new.rows } }
+        ensures ignored { IfOk result (λ r. OnErr r (self.new ≡ self.old)) }
+        ensures err { OnErr result (self.new ≡ self.old) }
+    {
+        match self.find_place(&frame) {
+            Ok(()) => self.read(alloc, frame),
+            Err(cause) => Ok(Err(cause)),
+        }
+    }
+
     /// Bytes come from the network: a frame that fits is read, and all else is ignored by the first cause that fits, which
     /// changes nothing.
     pub(crate) fn deliver(
@@ -62,14 +76,10 @@ impl<A: Application> Kept<A> {
         ensures ignored { IfOk result (λ r. OnErr r (self.new ≡ self.old)) }
         ensures err { OnErr result (self.new ≡ self.old) }
     {
-        let frame = match Frame::parse(alloc, bytes.clone()?) {
-            Ok(frame) => frame,
-            Err(DecodeFault::Malformed) => return Ok(Err(Ignored::Malformed)),
-            Err(DecodeFault::NoMemory) => return Err(AllocError),
-        };
-        if let Err(cause) = self.find_place(&frame) {
-            return Ok(Err(cause));
+        match Frame::parse(alloc, bytes.clone()?) {
+            Ok(frame) => self.take(alloc, frame),
+            Err(DecodeFault::Malformed) => Ok(Err(Ignored::Malformed)),
+            Err(DecodeFault::NoMemory) => Err(AllocError),
         }
-        self.read(alloc, frame)
     }
 }

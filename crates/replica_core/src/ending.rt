@@ -1,8 +1,9 @@
 //! A round ends, and the next one opens.
+use crate::closings::make_nothing;
 use crate::kept::Kept;
 use crate::replica::Core;
 use crate::sending::frames_to_send;
-use crate::signing::{count_due, make_all, make_none};
+use crate::signing::{count_due, make_all};
 use abci::Application;
 use height_row::Closing;
 use instance::Plan;
@@ -95,7 +96,7 @@ impl<A: Application> Core<A> {
         ensures err { OnErr result (self.new ≡ self.old) }
         ensures same { IsSameReplica self.old self.new }
     {
-        let closings = make_none(alloc, plans)?;
+        let closings = make_nothing(alloc, plans, true)?;
         self.kept.open_round(alloc, closings, true)
     }
 
@@ -148,6 +149,27 @@ impl<A: Application> Core<A> {
         self.kept.is_over()
     }
 
+    /// A round ends that is not the last one: what is due is signed, or the replica becomes mute.
+    fn end_planned(&mut self, alloc: Global, plans: Vec<Plan>) -> Result<RoundEnded, AllocError>
+        requires clock { self.old.held.clock < last_round }
+        requires held { IsHeld self.old.held }
+        requires plans { plans.items ≡ map (plan_of (self.old.held.clock + 1)) self.old.held.rows }
+        requires spelled { AllByRecursion (λ plan. IfSome plan.statement IsStatement) plans.items }
+        ensures step { IfOk result (λ r. IsStep self.old.held event.RoundEnd (reply.RoundEnded (Ok r)) self.new.held) }
+        ensures leaves { IfOk result (λ r. UsesLeaves self.old.keys self.old.held.clock (reply.RoundEnded (Ok r)) self.new.keys) }
+        ensures mute { IfOk result (λ _. self.new.held.mute ≡ is_mute_next self.old) }
+        ensures err { OnErr result (self.new ≡ record self.old { keys = self.new.keys }) }
+        ensures least { self.old.keys.used ≤ self.new.keys.used }
+        ensures most { self.new.keys.used ≤ self.old.keys.used + due_then self.old }
+        ensures same { IsSameReplica self.old self.new }
+    {
+        if self.is_mute_next(&plans) {
+            self.end_mute(alloc, plans)
+        } else {
+            self.end_signed(alloc, plans)
+        }
+    }
+
     /// A round ends: what is due is signed, or the replica becomes mute, and the next round opens.
     pub(crate) fn end_round(
         &mut self,
@@ -165,10 +187,6 @@ impl<A: Application> Core<A> {
             return Ok(Err(LastRound));
         }
         let plans = self.plan_ends(alloc)?;
-        if self.is_mute_next(&plans) {
-            Ok(Ok(self.end_mute(alloc, plans)?))
-        } else {
-            Ok(Ok(self.end_signed(alloc, plans)?))
-        }
+        Ok(Ok(self.end_planned(alloc, plans)?))
     }
 }

@@ -1,11 +1,11 @@
 //! One entry of another replica's history: whether its reply is lawful, and what is kept then.
+use crate::closings::make_nothing;
 use crate::comparing::{
     is_same_delivered, is_same_executed, is_same_frames, is_same_proposed, is_same_queried,
     is_same_submitted,
 };
 use crate::kept::Kept;
-use crate::signing::make_none;
-use crate::told_frames::{make_told, make_unsent, read_frames, send_locks};
+use crate::told_frames::{make_told, read_frames, send_locks};
 use abci::Application;
 use height_row::Closing;
 use instance::Plan;
@@ -65,9 +65,9 @@ impl<A: Application> Kept<A> {
         ensures endings { IfOk result (λ o. IfSome o (λ closings. map (λ c. c.ending) closings.items ≡ map (λ row. ended row (self.now.clock + 1)) self.now.rows)) }
     {
         if end.mute {
-            Ok(Some(make_none(alloc, plans)?))
+            Ok(Some(make_nothing(alloc, plans, true)?))
         } else if send_locks(&plans) {
-            Ok(Some(make_unsent(alloc, plans)?))
+            Ok(Some(make_nothing(alloc, plans, false)?))
         } else {
             self.read_end(alloc, plans, end)
         }

@@ -68,13 +68,14 @@ impl<A: Application> Kept<A> {
         requires opening { A.machine app ≡ run config.kind [] }
         ensures { IfOk result (λ kept. kept ≡ nothing_held config id ring) }
     {
+        let executor = Executor::new(app)?;
         Ok(Kept {
             config,
             id,
             ring,
             rows: HeightRow::new(alloc, &config, id),
             pool: Pool::new(alloc, random),
-            executor: Executor::new(app)?,
+            executor,
             committed: Vec::new(alloc),
             clock: 0,
             mute: false,

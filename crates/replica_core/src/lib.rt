@@ -8,6 +8,7 @@
 //! history a replay.
 #![tactic(auto)]
 
+mod closings;
 mod comparing;
 mod delivering;
 mod ending;

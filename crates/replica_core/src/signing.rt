@@ -1,6 +1,7 @@
 //! The statements that are due as a round opens, signed.
-ghost use Rattle.std.specs.Prelude.{◌≡◌, ◌+◌, ◌<◌, ◌≤◌, ◌∷◌, [], true, map, IfOk, IfSome};
+ghost use Rattle.std.specs.Prelude.{◌≡◌, ◌+◌, ◌<◌, ◌≤◌, ◌∷◌, [], length, true, map, IfOk, IfSome};
 ghost use Rattle.std.specs.List.{AllByRecursion};
+ghost use Rattle.ledger_model.specs.Limits.{max_signature_len};
 ghost use Rattle.ledger_model.specs.Signatures.{verifies};
 ghost use Rattle.ledger_model.specs.Spelling.{statement_bytes, IsStatement, IsFrame};
 ghost use Rattle.key_ring.specs.Signers.{leaves_of, key_of, signed_with};
@@ -53,6 +54,21 @@ fn spell_all(alloc: Global, plans: Vec<Plan>) -> Result<Vec<Spelled>, AllocError
     Ok(spelled)
 }
 
+/// The statement's signature by the next leaf, which is used then, with or without memory.
+fn sign(alloc: Global, signer: &mut Signer, unsigned: &UnsignedFrame) -> Result<Vec<u8>, AllocError>
+    requires leaf { signer.old.used < leaves_of signer.old.secret }
+    ensures signature { IfOk result (λ signature. signature.items ≡ signed_with signer.old.secret signer.old.used (statement_bytes unsigned.now)) }
+    ensures verifies { IfOk result (λ signature. verifies (key_of signer.old.secret) (statement_bytes unsigned.now) signature.items ≡ true) }
+    ensures short { IfOk result (λ signature. length signature.items ≤ max_signature_len) }
+    ensures used { signer.new ≡ record signer.old { used = signer.old.used + 1 } }
+{
+    match signer.sign(alloc, unsigned.statement_bytes()) {
+        Ok(signature) => Ok(signature),
+        Err(SignFault::NoMemory) => Err(AllocError),
+        Err(SignFault::Exhausted) => unreachable!(),
+    }
+}
+
 /// The statement signed with the next leaf, with room for what is kept of it. The leaf is used then, with or without memory.
 fn signed(
     alloc: Global,
@@ -66,11 +82,7 @@ fn signed(
     ensures frame { IfOk result (λ own. IsFrame own) }
     ensures used { signer.new ≡ record signer.old { used = signer.old.used + 1 } }
 {
-    let signature = match signer.sign(alloc, unsigned.statement_bytes()) {
-        Ok(signature) => signature,
-        Err(SignFault::NoMemory) => return Err(AllocError),
-        Err(SignFault::Exhausted) => unreachable!(),
-    };
+    let signature = sign(alloc, signer, &unsigned)?;
     let frame = unsigned.with_signature(&signature)?;
     // The frame shows that it can be spelled.
     let _ = frame.statement();
@@ -117,21 +129,6 @@ pub(crate) fn make_all(
     let mut closings = Vec::with_capacity(alloc, plans.len())?;
     for spelled in spell_all(alloc, plans)? {
         closings.push(make(alloc, signer, spelled)?)?;
-    }
-    Ok(closings)
-}
-
-/// What a mute replica does at each height, in order: it makes nothing.
-pub(crate) fn make_none(alloc: Global, plans: Vec<Plan>) -> Result<Vec<Closing>, AllocError>
-    ensures endings { IfOk result (λ closings. map (λ c. c.ending) closings.items ≡ map (λ plan. plan.ending) plans.items) }
-    ensures mute { IfOk result (λ closings. AllByRecursion (λ c. c.made ≡ Made.Mute) closings.items) }
-{
-    let mut closings = Vec::with_capacity(alloc, plans.len())?;
-    for plan in plans {
-        closings.push(Closing {
-            ending: plan.ending,
-            made: Made::Mute,
-        })?;
     }
     Ok(closings)
 }

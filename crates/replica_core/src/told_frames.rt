@@ -1,10 +1,11 @@
 //! What the frames of another replica's round end tell of what it made, at each open height.
-ghost use Rattle.std.specs.Prelude.{◌≡◌, ◌≤◌, ◌<◌, ◌+◌, length, map, None, true, IfOk, IfSome, OnOk};
+ghost use Rattle.std.specs.Prelude.{◌≡◌, ◌∷◌, ◌++◌, [], length, map, None, IfOk, IfSome, OnOk};
 ghost use Rattle.std.specs.List.{list_any, AllByRecursion};
 ghost use Rattle.ledger_model.specs.Spelling.{IsFrame};
 ghost use Rattle.instance.specs.Laws.{IsFrameMade};
 ghost use Rattle.replica_core.specs.ToldEnds.{statements_told, next_told, left_next, made_of, made_each, is_some_there, AreSpelled};
 
+use crate::closings::push_closing;
 use height_row::Closing;
 use instance::{Instance, Made, OwnFrame, Plan};
 use ledger_model::{Height, Sent};
@@ -18,21 +19,6 @@ pub(crate) fn send_locks(plans: &[Plan]) -> bool
     ensures { result ≡ list_any (λ plan. is_some_there plan.ending.sends_on) plans.now }
 {
     plans.iter().any(|plan| !plan.ending.sends_on().is_empty())
-}
-
-/// What is done at each height, in order, by a replica that makes nothing there and is not mute.
-pub(crate) fn make_unsent(alloc: Global, plans: Vec<Plan>) -> Result<Vec<Closing>, AllocError>
-    ensures endings { IfOk result (λ closings. map (λ c. c.ending) closings.items ≡ map (λ plan. plan.ending) plans.items) }
-    ensures unsent { IfOk result (λ closings. AllByRecursion (λ c. c.made ≡ Made.Unsent) closings.items) }
-{
-    let mut closings = Vec::with_capacity(alloc, plans.len())?;
-    for plan in plans {
-        closings.push(Closing {
-            ending: plan.ending,
-            made: Made::Unsent,
-        })?;
-    }
-    Ok(closings)
 }
 
 /// The frames that these are, in order: none where one of them spells no statement.
@@ -69,7 +55,7 @@ fn next_of(frames: &mut VecDeque<Frame>, height: Height) -> Option<Frame>
 
 /// What is made, where this is sent.
 fn made_of(alloc: Global, sent: Option<Frame>) -> Result<Made, AllocError>
-    ensures made { IfOk result (λ made. made ≡ made_of sent) }
+    ensures { IfOk result (λ made. made ≡ made_of sent) }
 {
     match sent {
         Some(frame) => Ok(Made::Sent(OwnFrame::new(alloc, frame)?)),
@@ -77,7 +63,58 @@ fn made_of(alloc: Global, sent: Option<Frame>) -> Result<Made, AllocError>
     }
 }
 
+/// What is made at the height: the next of the frames that are left, if it is of the height.
+fn make_next(
+    alloc: Global,
+    frames: &mut VecDeque<Frame>,
+    height: Height,
+) -> Result<Made, AllocError>
+    ensures made { IfOk result (λ made. made ≡ made_of (next_told height frames.old.items)) }
+    ensures left { frames.new.items ≡ left_next height frames.old.items }
+{
+    made_of(alloc, next_of(frames, height))
+}
+
+/// What is done at the height, behind what is done at the lower ones.
+fn push_told(
+    alloc: Global,
+    closings: &mut Vec<Closing>,
+    height: Height,
+    plan: Plan,
+    frames: &mut VecDeque<Frame>,
+) -> Result<(), AllocError>
+    ensures closing { OnOk result (closings.new.items ≡ closings.old.items ++ record { ending = plan.ending; made = made_of (next_told height frames.old.items) } ∷ []) }
+    ensures left { frames.new.items ≡ left_next height frames.old.items }
+{
+    let made = make_next(alloc, frames, height)?;
+    push_closing(closings, plan, made)
+}
+
 /// What is done at each height, in order: each makes the next of the frames that are left, if it is of the height.
+fn tell_each(
+    alloc: Global,
+    instances: &[Instance],
+    plans: Vec<Plan>,
+    frames: &mut VecDeque<Frame>,
+) -> Result<Vec<Closing>, AllocError>
+    requires count { length plans.items ≡ length instances.now }
+    ensures endings { IfOk result (λ closings. map (λ c. c.ending) closings.items ≡ map (λ plan. plan.ending) plans.items) }
+    ensures made { IfOk result (λ closings. map (λ c. c.made) closings.items ≡ made_each (map (λ row. row.height) instances.now) frames.old.items) }
+{
+    let mut closings = Vec::with_capacity(alloc, plans.len())?;
+    for (place, plan) in plans.into_iter().enumerate() {
+        push_told(
+            alloc,
+            &mut closings,
+            instances[place].height(),
+            plan,
+            frames,
+        )?;
+    }
+    Ok(closings)
+}
+
+/// What is done at each height, in order, where these frames tell of what is made.
 pub(crate) fn make_told(
     alloc: Global,
     instances: &[Instance],
@@ -88,13 +125,5 @@ pub(crate) fn make_told(
     ensures endings { IfOk result (λ closings. map (λ c. c.ending) closings.items ≡ map (λ plan. plan.ending) plans.items) }
     ensures made { IfOk result (λ closings. map (λ c. c.made) closings.items ≡ made_each (map (λ row. row.height) instances.now) frames.items) }
 {
-    let mut closings = Vec::with_capacity(alloc, plans.len())?;
-    for (place, plan) in plans.into_iter().enumerate() {
-        let next = next_of(&mut frames, instances[place].height());
-        closings.push(Closing {
-            ending: plan.ending,
-            made: made_of(alloc, next)?,
-        })?;
-    }
-    Ok(closings)
+    tell_each(alloc, instances, plans, &mut frames)
 }

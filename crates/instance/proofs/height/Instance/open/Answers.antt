@@ -15,12 +15,12 @@ returns-clause-matches c = λ ring log rounds.
     let config = c.args.config.now in
     let own = c.args.initial.now in
     subst (λ row. Matches ring row (log ++ Proposed own ∷ [])) (sym (returns-clause-row c))
-    (opens config c.args.id c.args.height own ring log c.requires.member (c.requires.height.0, omega (arith, c.requires.height.1)) c.in_ok-new.ensures.spelled rounds)
+    (opens config c.args.id c.args.height own ring log c.requires.member (c.requires.height.0, omega (arith, c.requires.height.1)) c.in_ok-proper.ensures.spelled rounds)
 
 pub invariant_of-result : goal.invariant_of-result
 invariant_of-result c =
     let config = c.args.config.now in
     let row = opened_row config c.args.id c.args.height c.args.initial.now in
-    let spelled : IsSpelled row = (opens config c.args.id c.args.height c.args.initial.now [] [] c.requires.member (c.requires.height.0, omega (arith, c.requires.height.1)) c.in_ok-new.ensures.spelled refl).sound.spelled in
-    rw (c.in_ok-new.ensures.config, c.in_ok-new.ensures.set, c.in_ok-new-2.ensures, c.in_ok-new-3.ensures, c.in_ok-new-4.ensures)
+    let spelled : IsSpelled row = (opens config c.args.id c.args.height c.args.initial.now [] [] c.requires.member (c.requires.height.0, omega (arith, c.requires.height.1)) c.in_ok-proper.ensures.spelled refl).sound.spelled in
+    rw (c.in_ok-proper.ensures.config, c.in_ok-proper.ensures.set, c.in_ok-locks.ensures, c.in_ok-reports.ensures.reports, c.in_ok-reports.ensures.acks)
     (refl, c.requires.member, length-replicate _ None, length-replicate _ None, spelled)

@@ -1,9 +1,13 @@
-use Rattle.std.proofs.Common.{rules, sym, subst, ap, ◌∙◌}
-use Rattle.std.specs.Prelude.{Some, Err}
+use Rattle.std.proofs.Common.{◌≡◌, rules, sym, subst, ap, ◌∙◌}
+use Rattle.std.specs.Prelude.{Ok, Err}
 use Rattle.ledger_model.specs.declared.statement.SignedStatement.{SignedStatement}
-use Rattle.ledger_model.specs.Spelling.{IsLock, IsStatement}
-use Rattle.instance.proofs.SpelledRows.{drops_locks, keeps_lock}
-use Rattle.instance.proofs.KindCauses.{lock_fault}
+use Rattle.ledger_model.specs.Rules.{first_of}
+use Rattle.ledger_model.specs.Spelling.{IsStatement}
+use Rattle.lock_proofs.specs.Faults.{faults}
+use Rattle.lock_proofs.specs.LockFrames.{lock_in}
+use Rattle.instance.specs.Rows.{Row}
+use Rattle.instance.proofs.AtClock.{by_row}
+use Rattle.instance.proofs.KindCauses.{lock_fault, lock_room}
 use Rattle.instance.proofs.height.Instance.read_lock.Goals as goal
 
 pub returns-in-Err-clause-answer : goal.returns-in-Err-clause-answer
@@ -11,13 +15,15 @@ returns-in-Err-clause-answer c =
     ap Err c.cause_of.ensures
     ∙ lock_fault c.args.self.now c.args.ring.now c.args.round c.args.frame.statement c.args.frame.signature c.in-Err.fault c.requires.kind c.requires.owner (search rules)
 
-pub invariant_of-self : goal.invariant_of-self
-invariant_of-self c =
-    let i = c.self.invariant in
-    (i.0, i.1, i.2, i.3, drops_locks i.4 c.phase_of.result c.in-Ok.lock.lock _ c.release.ensures)
+pub read_valid-requires-clause-lock : goal.read_valid-requires-clause-lock
+read_valid-requires-clause-lock c = subst (λ (s : SignedStatement). IsStatement s.statement) (sym c.in-Ok.ensures.lock) c.requires.frame.statement
 
-pub invariant_of-self-2 : goal.invariant_of-self-2
-invariant_of-self-2 c =
-    let i = c.self.invariant in
-    let frame : IsLock c.in-Ok.lock.lock = subst (λ (s : SignedStatement). IsStatement s.statement) (sym c.in-Ok.ensures.lock) c.requires.frame.statement in
-    (i.0, i.1, i.2, i.3, keeps_lock i.4 _ _ _ _ frame.value (sym c.in-Ok-take.ensures.full) c.in-Ok-take.ensures.taken (ap Some (c.in_ok-value.ensures.same ∙ c.value-2.ensures)))
+pub returns-in-Ok-clause-answer : goal.returns-in-Ok-clause-answer
+returns-in-Ok-clause-answer c =
+    let valid = subst (λ (s : SignedStatement). Ok tt ≡ first_of (faults c.self.inside.config c.args.ring.now (lock_in s))) (sym c.in-Ok.ensures.lock) c.in-Ok.ensures.fault in
+    rw (sym c.in-Ok.ensures.lock)
+    (by_row c.read_valid.result _ _ c.read_valid.ensures.answer
+    (lock_room c.args.self.now c.args.ring.now c.args.round c.in-Ok.lock (subst (λ (row : Row). Ok tt ≡ first_of (faults row.config c.args.ring.now c.in-Ok.lock)) c.self.view_is valid)))
+
+pub returns-in-Ok-clause-after : goal.returns-in-Ok-clause-after
+returns-in-Ok-clause-after c = rw (sym c.in-Ok.ensures.lock) c.read_valid.ensures.after

@@ -5,16 +5,16 @@ use Rattle.replica_core.proofs.Machines.{kind_is, reached}
 use Rattle.replica_core.proofs.kept.Kept.new.Goals as goal
 
 -- src/kept.rt:75:23
-pub new-requires-3 : goal.new-requires-3
-new-requires-3 g c = reached (g.A.Application.machine c.args.app) (c.args.config.kind) [] (c.requires.opening)
+pub new-requires : goal.new-requires
+new-requires g c = reached (g.A.Application.machine c.args.app) (c.args.config.kind) [] (c.requires.opening)
 
 -- src/kept.rt:69:9
 pub invariant_of-result : goal.invariant_of-result
 invariant_of-result g c = rw c.new-4.ensures.items (
   c.requires.member,
-  ap (λ (x : Heights). x.config) (c.new.ensures.row),
-  ap (λ (x : Heights). x.id) (c.new.ensures.row),
-  c.in_ok-new.ensures ∙ ap (λ k. run k []) (kind_is (g.A.Application.machine c.args.app) (c.args.config.kind) [] (c.requires.opening)),
+  ap (λ (x : Heights). x.config) (c.new-2.ensures.row),
+  ap (λ (x : Heights). x.id) (c.new-2.ensures.row),
+  c.in_ok-executor.ensures ∙ ap (λ k. run k []) (kind_is (g.A.Application.machine c.args.app) (c.args.config.kind) [] (c.requires.opening)),
   omega arith,
   omega arith,
 )
@@ -22,16 +22,16 @@ invariant_of-result g c = rw c.new-4.ensures.items (
 -- src/kept.rt:59:5
 pub returns : goal.returns
 returns g c =
-    let rows : c.new.result.rows ≡ [] = ap (λ (x : Heights). x.rows) c.new.ensures.row in
+    let rows : c.new-2.result.rows ≡ [] = ap (λ (x : Heights). x.rows) c.new-2.ensures.row in
     let commits : c.new-4.result.items ≡ [] = c.new-4.ensures.items in
-    let machine : c.in_ok-new.field-0 ≡ run c.args.config.kind [] =
-    c.in_ok-new.ensures ∙ ap (λ k. run k []) (kind_is (g.A.Application.machine c.args.app) (c.args.config.kind) [] (c.requires.opening)) in
+    let machine : c.in_ok-executor.executor ≡ run c.args.config.kind [] =
+    c.in_ok-executor.ensures ∙ ap (λ k. run k []) (kind_is (g.A.Application.machine c.args.app) (c.args.config.kind) [] (c.requires.opening)) in
     λ i. record {
       config = c.args.config;
       id = c.args.id;
       ring = c.args.ring;
       rows = rows i;
-      pool = c.new-2.ensures i;
+      pool = c.new-3.ensures i;
       commits = commits i;
       machine = machine i;
       clock = 0;

@@ -11,31 +11,31 @@ read_end-requires-clause-none_on g c =
     sym (plans_release (held.clock + 1) held.rows c.args.plans.items c.deref.result.now c.send_locks.result c.send_locks.ensures c.deref.ensures.value c.requires.plans) ∙ c.if-send_locks.false
 
 -- a mute replica
-pub returns-in_ok-make_none-clause-told : goal.returns-in_ok-make_none-clause-told
-returns-in_ok-make_none-clause-told g c =
+pub returns-in_ok-make_nothing-clause-told : goal.returns-in_ok-make_nothing-clause-told
+returns-in_ok-make_nothing-clause-told g c =
     let held : Held = c.args.self.now in
-    let xs : List Closing = c.in_ok-make_none.field-0.items in
-    let ends = closing_ends (held.clock + 1) held.rows c.args.plans.items xs c.in_ok-make_none.ensures.endings c.requires.plans in
-    told_mute held c.args.end.now c.requires.held c.requires.clock (mades xs) c.if-end.true (all_of_it made.Mute (held.clock + 1) held.rows xs ends c.in_ok-make_none.ensures.mute)
+    let xs : List Closing = c.in_ok-make_nothing.field-0.items in
+    let ends = closing_ends (held.clock + 1) held.rows c.args.plans.items xs c.in_ok-make_nothing.ensures.endings c.requires.plans in
+    told_mute held c.args.end.now c.requires.held c.requires.clock (mades xs) c.if-end.true (all_of_it made.Mute (held.clock + 1) held.rows xs ends c.in_ok-make_nothing.ensures.nothing)
 
-pub returns-in_ok-make_none-clause-endings : goal.returns-in_ok-make_none-clause-endings
-returns-in_ok-make_none-clause-endings g c =
+pub returns-in_ok-make_nothing-clause-endings : goal.returns-in_ok-make_nothing-clause-endings
+returns-in_ok-make_nothing-clause-endings g c =
     let held : Held = c.args.self.now in
-    closing_ends (held.clock + 1) held.rows c.args.plans.items c.in_ok-make_none.field-0.items c.in_ok-make_none.ensures.endings c.requires.plans
+    closing_ends (held.clock + 1) held.rows c.args.plans.items c.in_ok-make_nothing.field-0.items c.in_ok-make_nothing.ensures.endings c.requires.plans
 
 -- one that sends locks on
-pub returns-in_ok-make_unsent-clause-told : goal.returns-in_ok-make_unsent-clause-told
-returns-in_ok-make_unsent-clause-told g c =
+pub returns-in_ok-make_nothing-2-clause-told : goal.returns-in_ok-make_nothing-2-clause-told
+returns-in_ok-make_nothing-2-clause-told g c =
     let held : Held = c.args.self.now in
-    let xs : List Closing = c.in_ok-make_unsent.field-0.items in
-    let ends = closing_ends (held.clock + 1) held.rows c.args.plans.items xs c.in_ok-make_unsent.ensures.endings c.requires.plans in
+    let xs : List Closing = c.in_ok-make_nothing-2.field-0.items in
+    let ends = closing_ends (held.clock + 1) held.rows c.args.plans.items xs c.in_ok-make_nothing-2.ensures.endings c.requires.plans in
     let some = sym (plans_release (held.clock + 1) held.rows c.args.plans.items c.deref.result.now c.send_locks.result c.send_locks.ensures c.deref.ensures.value c.requires.plans) ∙ c.if-send_locks.true in
-    told_release held c.args.end.now c.requires.held c.requires.clock c.if-end.false (mades xs) some (all_of_it made.Unsent (held.clock + 1) held.rows xs ends c.in_ok-make_unsent.ensures.unsent)
+    told_release held c.args.end.now c.requires.held c.requires.clock c.if-end.false (mades xs) some (all_of_it made.Unsent (held.clock + 1) held.rows xs ends c.in_ok-make_nothing-2.ensures.nothing)
 
-pub returns-in_ok-make_unsent-clause-endings : goal.returns-in_ok-make_unsent-clause-endings
-returns-in_ok-make_unsent-clause-endings g c =
+pub returns-in_ok-make_nothing-2-clause-endings : goal.returns-in_ok-make_nothing-2-clause-endings
+returns-in_ok-make_nothing-2-clause-endings g c =
     let held : Held = c.args.self.now in
-    closing_ends (held.clock + 1) held.rows c.args.plans.items c.in_ok-make_unsent.field-0.items c.in_ok-make_unsent.ensures.endings c.requires.plans
+    closing_ends (held.clock + 1) held.rows c.args.plans.items c.in_ok-make_nothing-2.field-0.items c.in_ok-make_nothing-2.ensures.endings c.requires.plans
 
 -- one that tells more
 pub returns-else-send_locks-clause-told : goal.returns-else-send_locks-clause-told

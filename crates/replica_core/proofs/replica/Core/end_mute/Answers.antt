@@ -11,18 +11,18 @@ open_round-requires-clause-endings g c =
     c.in_ok-closings.ensures.endings ∙ ap (map (λ (p : Plan). p.ending)) plans ∙ planned_ends (c.self.inside.kept.clock + 1) c.self.inside.kept.rows
 
 pub open_round-requires-clause-own : goal.open_round-requires-clause-own
-open_round-requires-clause-own g c = mute_own c.self.inside.kept.id c.in_ok-closings.closings.items c.in_ok-closings.ensures.mute
+open_round-requires-clause-own g c = mute_own c.self.inside.kept.id c.in_ok-closings.closings.items c.in_ok-closings.ensures.nothing
 
 pub returns-clause-step : goal.returns-clause-step
 returns-clause-step g c =
     let ends = mute_step c.args.self.now c.self.inside.kept c.self.inside.signer c.args.plans.items c.in_ok-closings.closings.items c.self.view_is c.requires.held c.requires.plans
-    c.requires.clock c.in_ok-closings.ensures.endings c.in_ok-closings.ensures.mute in
+    c.requires.clock c.in_ok-closings.ensures.endings c.in_ok-closings.ensures.nothing in
     rw (sym c.self.view_is)
     (step_told c.self.inside.kept c.open_round.new.self true (map (λ (x : Closing). x.made) c.in_ok-closings.closings.items) c.open_round.result c.open_round.ensures.ended c.open_round.ensures.after ends.0)
 
 pub returns-clause-leaves : goal.returns-clause-leaves
 returns-clause-leaves g c =
     let ends = mute_step c.args.self.now c.self.inside.kept c.self.inside.signer c.args.plans.items c.in_ok-closings.closings.items c.self.view_is c.requires.held c.requires.plans
-    c.requires.clock c.in_ok-closings.ensures.endings c.in_ok-closings.ensures.mute in
+    c.requires.clock c.in_ok-closings.ensures.endings c.in_ok-closings.ensures.nothing in
     rw (sym c.self.view_is)
     (leaves_told c.self.inside.kept c.self.inside.signer c.self.inside.signer true (map (λ (x : Closing). x.made) c.in_ok-closings.closings.items) c.open_round.result c.open_round.ensures.ended ends.1)

@@ -1,7 +1,7 @@
 -- those so far end as they are planned, and make what is told
 use Rattle.std.specs.Vec.Iter.{into_iter_items}
 use Rattle.replica_core.proofs.ToldClosings.{IsTelling}
-use Rattle.replica_core.proofs.told_frames.make_told.Given as goal
+use Rattle.replica_core.proofs.told_frames.tell_each.Given as goal
 
 abbrev pub invariant-loop-place : goal.invariant-loop-place
 invariant-loop-place l =
