@@ -1,13 +1,36 @@
 -- Commands that are made step by step.
-use Rattle.std.proofs.Common.{◌≡◌, ◌∙◌, ap}
-use Rattle.clap.specs.Simple.{Shape}
-use Rattle.clap.specs.Words.{App, Rule, with_rule, with_subcommand}
+use Rattle.std.proofs.Common.{◌≡◌, ◌∙◌, ◌∷◌, ◌++◌, ◌+◌, ◌<◌, ℕ, [], List, ap, false, get_or, length, map, sym, take}
+use Rattle.std.proofs.lemmas.List.{map-append, map_more}
+use Rattle.std.proofs.lemmas.List.Elements.{All-head, All-tail}
+use Rattle.std.specs.Prelude.{◌||◌}
+use Rattle.std.specs.List.{All}
+use Rattle.clap.specs.Built.{AddsArg, AddsInTurn, AddsSubcommand}
+use Rattle.clap.specs.Words.{app_of, rule_of}
+use Rattle.clap.specs.declared.builder.arg.Arg.{Arg}
+use Rattle.clap.specs.declared.builder.command.Command.{Command}
+use Rattle.clap.specs.declared.builder.command.Command.TheViews.{out-Command as fields_of}
+use Rattle.command_line.specs.Grammar.{with_rules, with_subcommands}
 
--- one argument more
-pub one_more : (a b c : App) (r s : Rule) → b ≡ a → s ≡ r → c ≡ with_rule b s → c ≡ with_rule a r
-one_more a b c r s same rule more = more ∙ ap (λ x. with_rule x s) same ∙ ap (λ x. with_rule a x) rule
+-- arguments in turn, none of them global
+pub args_added : (c d : Command) (xs : List Arg) → (fields_of c).has_globals ≡ false → All (λ a. a.global ≡ false) xs → AddsInTurn AddsArg c xs d
+    → (app_of d ≡ with_rules (app_of c) (map rule_of xs)) × ((fields_of d).has_globals ≡ false)
+args_added c d [] local all same = (ap app_of (sym same), ap (λ x. (fields_of x).has_globals) (sym same) ∙ local)
+args_added c d (x ∷ xs) local all added =
+    let own = All-head (λ (a : Arg). a.global ≡ false) x xs all in
+    let mid = added.1.globals ∙ ap (λ b. b || x.global) local ∙ own in
+    let rest = args_added added.0 d xs mid (All-tail (λ (a : Arg). a.global ≡ false) x xs all) added.2 in
+    (rest.0 ∙ ap (λ a. with_rules a (map rule_of xs)) (added.1.shape own), rest.1)
 
--- one subcommand more
-pub one_more_command : (a b c : App) (s t : Shape) → b ≡ a → t ≡ s → c ≡ with_subcommand b t → c ≡ with_subcommand a s
-one_more_command a b c s t same shape more =
-    more ∙ ap (λ x. with_subcommand x t) same ∙ ap (λ x. with_subcommand a x) shape
+-- subcommands in turn, none with a global argument
+pub commands_added : (c d : Command) (xs : List Command) → All (λ x. (fields_of x).has_globals ≡ false) xs → AddsInTurn AddsSubcommand c xs d
+    → app_of d ≡ with_subcommands (app_of c) (map app_of xs)
+commands_added c d [] all same = ap app_of (sym same)
+commands_added c d (x ∷ xs) all added =
+    let own = All-head (λ (y : Command). (fields_of y).has_globals ≡ false) x xs all in
+    commands_added added.0 d xs (All-tail (λ (y : Command). (fields_of y).has_globals ≡ false) x xs all) added.2 ∙ ap (λ a. with_subcommands a (map app_of xs)) (added.1.shape own)
+
+-- a list that follows another one: one more of each
+pub one_more_made : {X Y Z : Type 0} (f : X → Z) (g : Y → Z) (xs : List X) (ys : List Y) (i : ℕ) (x : X) (d : Y) → i < length ys
+    → map f xs ≡ map g (take i ys) → f x ≡ g (get_or ys i d) → map f (xs ++ x ∷ []) ≡ map g (take (i + 1) ys)
+one_more_made f g xs ys i x d within made same =
+    map-append f xs (x ∷ []) ∙ ap (λ zs. zs ++ f x ∷ []) made ∙ ap (λ z. map g (take i ys) ++ z ∷ []) same ∙ sym (map_more g ys i d within)

@@ -1,6 +1,6 @@
 -- From the matches of the words to the subcommand that they name.
 use Rattle.std.proofs.Common.{◌≡◌, ◌∙◌, true, false, List, refl, sym, ap, subst, codes, inl, inr}
-use Rattle.std.specs.Prelude.{◌⊎◌, Option, Some, None, option_map, option_and_then, find}
+use Rattle.std.specs.Prelude.{◌⊎◌, Option, Some, None, Result, Ok, Err, IfOk, IfErr, OnErr, IsOkAnd, MatchResult, option_map, option_and_then, find}
 use Rattle.std.specs.Str.{bytes_eq}
 use Rattle.std.proofs.lemmas.Bool.Decides.{not_from_Decides}
 use Rattle.std.proofs.lemmas.Option.{same_Some}
@@ -17,7 +17,8 @@ use Rattle.clap.specs.declared.parser.matches.ArgMatches.TheViews.{out-ArgMatche
 use Rattle.std.specs.Box.{box_value}
 use Rattle.clap.proofs.OnLiterals.{clap_on_literals}
 use Rattle.command_line.specs.Grammar.{abft_app}
-use Rattle.command_line.specs.Options.{Sets, SetsSign, SetsDeliver, SetsSimulate, SetsRunning, SetsServe}
+use Rattle.command_line.specs.Options.{Sets, SetsSign, SetsDeliver, SetsSimulate, SetsRunning, SetsServe, WantsMemory}
+use Rattle.command_line.specs.declared.usage_fault.UsageFault.{UsageFault}
 use Rattle.settings.specs.declared.sign.SignSettings.{SignSettings}
 use Rattle.settings.specs.declared.deliver.DeliverSettings.{DeliverSettings}
 use Rattle.settings.specs.declared.simulate.SimulateSettings.{SimulateSettings}
@@ -118,3 +119,27 @@ source_is f id = go (find (λ (e : Entry). bytes_eq e.0.now id) f.entries.items)
     go : (o : Option Entry) → option_and_then (λ (a : MatchedArg). a.source) (option_map (λ e. e.1) o) ≡ option_and_then (λ (r : Row). r.source) (option_map row_of o)
     go None = refl
     go (Some e) = refl
+
+-- settings that are set are set as those of the subcommand
+pub set_alike : {T : Type 0} (Q : T → Settings → Type 0) (S : T → Type 0) (o : Option (Text × List Row)) (p : Text × List Row) (r : Result T UsageFault) (told : Result Settings UsageFault) → o ≡ Some p
+    → ((t : T) (s : Settings) → Q t s → S t → Sets (Some p) s)
+    → IfOk r S → MatchResult r (λ t. IsOkAnd told (Q t)) (λ e. told ≡ Err e)
+    → IfOk told (λ s. Sets o s)
+set_alike Q S o p (Ok t) (Ok s) found join set cases = subst (λ q. Sets q s) (sym found) (join t s cases set)
+set_alike Q S o p (Ok t) (Err e) found join set cases = absurd cases
+set_alike Q S o p (Err e) told found join set cases = subst (λ (x : Result Settings UsageFault). IfOk x (λ s. Sets o s)) (sym cases) tt
+
+-- settings that are refused are refused as those of the subcommand
+pub refused_alike : {T : Type 0} (Q : T → Settings → Type 0) (S : T → Type 0) (o : Option (Text × List Row)) (p : Text × List Row) (r : Result T UsageFault) (told : Result Settings UsageFault) → o ≡ Some p
+    → ((e : UsageFault) (s : Settings) → ((t : T) → S t → WantsMemory e) → Sets (Some p) s → WantsMemory e)
+    → IfErr r (λ e. (t : T) → S t → WantsMemory e) → MatchResult r (λ t. IsOkAnd told (Q t)) (λ e. told ≡ Err e)
+    → IfErr told (λ e. (s : Settings) → Sets o s → WantsMemory e)
+refused_alike Q S o p (Ok t) (Ok s) found split refused cases = tt
+refused_alike Q S o p (Ok t) (Err e) found split refused cases = absurd cases
+refused_alike Q S o p (Err e) told found split refused cases =
+    subst (λ (x : Result Settings UsageFault). IfErr x (λ f. (s : Settings) → Sets o s → WantsMemory f)) (sym cases) (λ s sets. split e s refused (subst (λ q. Sets q s) found sets))
+
+-- what nothing sets is refused for whatever reason
+pub refused_anyway : {T E : Type 0} (S : T → Type 0) (P : E → Type 0) (r : Result T E) → OnErr r ((t : T) → S t → ⊥) → IfErr r (λ e. (t : T) → S t → P e)
+refused_anyway S P (Ok x) none = tt
+refused_anyway S P (Err e) none = λ t sets. absurd (none t sets)

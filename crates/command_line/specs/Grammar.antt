@@ -1,17 +1,46 @@
 -- The command line of the program, in clap's words: which options each subcommand has, and their defaults.
-use Rattle.std.specs.Prelude.{Some, true, List, [], ◌∷◌, codes}
+use Rattle.std.specs.Prelude.{Some, true, List, [], ◌∷◌, codes, map}
 use Rattle.clap.specs.Words.{App, Rule, Text, new_app, new_rule, with_rule, with_subcommand}
 use Rattle.clap.specs.declared.builder.action.ArgAction.TheVariants.{SetTrue}
-use Rattle.command_line.specs.declared.value_options.ValueOption.{ValueOption}
+use Rattle.command_line.specs.declared.subcommand.Argument.{Argument}
+use Rattle.command_line.specs.declared.subcommand.Kind.{Kind}
+use Rattle.command_line.specs.declared.subcommand.Kind.TheVariants.{Value, Flag, Word}
+use Rattle.command_line.specs.declared.subcommand.Subcommand.{Subcommand}
 
 -- an option with a value: its name, and the value where the words name none
 abbrev pub option_rule : Text → Text → Rule
 option_rule name default = record (new_rule name) { long = Some name; defaults = default ∷ [] }
 
--- options with values, in turn
-abbrev pub with_options : App → List ValueOption → App
-with_options a [] = a
-with_options a (o ∷ os) = with_options (with_rule a (option_rule o.name.now o.default.now)) os
+-- a flag: an option without a value
+abbrev pub flag_rule : Text → Rule
+flag_rule name = record (new_rule name) { long = Some name; action = Some SetTrue }
+
+-- a word that is required
+abbrev pub word_rule : Text → Rule
+word_rule name = record (new_rule name) { required = true }
+
+-- an argument by its kind
+abbrev pub kind_rule : Text → Kind → Rule
+kind_rule name (Value default) = option_rule name default.now
+kind_rule name Flag = flag_rule name
+kind_rule name Word = word_rule name
+
+abbrev pub argument_rule : Argument → Rule
+argument_rule a = kind_rule a.name.now a.kind
+
+-- arguments in turn
+abbrev pub with_rules : App → List Rule → App
+with_rules a [] = a
+with_rules a (r ∷ rs) = with_rules (with_rule a r) rs
+
+-- a subcommand: its name and its arguments
+abbrev pub subcommand_app : Subcommand → App
+subcommand_app s = with_rules (new_app s.name.now) (map argument_rule s.arguments.now)
+
+-- subcommands in turn
+abbrev pub with_subcommands : App → List App → App
+with_subcommands a [] = a
+with_subcommands a (s ∷ ss) = with_subcommands (with_subcommand a s.top) ss
 
 -- the seed of all keys, which every subcommand has
 abbrev pub seed_rule : Rule
@@ -30,7 +59,7 @@ with_cluster a =
 
 -- what is to be signed: a word that is required
 abbrev pub what_rule : Rule
-what_rule = record (new_rule (codes "what")) { required = true }
+what_rule = word_rule (codes "what")
 
 -- the options of `abft sign` alone
 abbrev pub with_sign : App → App
@@ -57,10 +86,6 @@ with_deliver a =
 -- `abft deliver`: its options
 abbrev pub deliver_app : App
 deliver_app = with_deliver (with_cluster (new_app (codes "deliver")))
-
--- a flag: an option without a value
-abbrev pub flag_rule : Text → Rule
-flag_rule name = record (new_rule name) { long = Some name; action = Some SetTrue }
 
 -- `abft simulate`: the seed, and whether histories are asked for
 abbrev pub simulate_app : App

@@ -1,12 +1,12 @@
 //! The grammar of the command line, as clap is told it: subcommands, options, defaults and help.
-ghost use Rattle.std.specs.Prelude.{◌≡◌, IfOk, codes, false};
+ghost use Rattle.std.specs.Prelude.{◌≡◌, IfOk, codes};
 ghost use Rattle.clap.specs.Words.{app_of, new_app};
-ghost use Rattle.clap.specs.declared.builder.command.Command.TheViews.{out-Command as fields_of};
-ghost use Rattle.command_line.specs.Grammar.{sign_app, deliver_app, simulate_app, at_top, abft_app};
+ghost use Rattle.command_line.specs.Grammar.{at_top, abft_app};
 
-use crate::running_grammar::{cluster_command, serve_command};
-use crate::value_options::{SEED, ValueOption, with_cluster, with_flag, with_option, with_options};
-use clap::{Arg, Command};
+use crate::running_grammar::{RUN_CLUSTER, SERVE};
+use crate::shared_arguments::{APPLICATION, FAULTS, REPLICAS, SEED, TREE, WIDTH};
+use crate::subcommand::{Argument, Kind, Subcommand, clap_commands};
+use clap::Command;
 use std::alloc::{AllocError, Global};
 
 /// The version that `abft --version` prints.
@@ -60,100 +60,98 @@ Exit status:
   2  a fault of usage
   3  want of memory, or a failed read or write";
 
-/// The options of `abft sign` alone.
-const SIGN: [ValueOption; 4] = [
-    ValueOption {
-        name: "replica",
-        default: "0",
-        help: "Who signs, below n",
-    },
-    ValueOption {
-        name: "height",
-        default: "1",
-        help: "The height, 1 to 4096",
-    },
-    ValueOption {
-        name: "phase",
-        default: "1",
-        help: "The phase, 1 to 1000000000",
-    },
-    ValueOption {
-        name: "value",
-        default: "a=1",
-        help: "The one transaction of the batch",
-    },
-];
-
-/// The options of `abft deliver` alone.
-const DELIVER: [ValueOption; 4] = [
-    ValueOption {
-        name: "replica",
-        default: "1",
-        help: "Which replica, below n",
-    },
-    ValueOption {
-        name: "value",
-        default: "a=1",
-        help: "The transaction that it submits",
-    },
-    ValueOption {
-        name: "height",
-        default: "1",
-        help: "The height that it opens, 1 to 4",
-    },
-    ValueOption {
-        name: "rounds",
-        default: "1",
-        help: "How many rounds it ends, 0 or 1",
-    },
-];
-
 /// `abft sign WHAT`.
-fn sign_command<'a>(alloc: Global) -> Result<Command<'a>, AllocError>
-    ensures app { IfOk result (λ c. app_of c ≡ sign_app) }
-    ensures local { IfOk result (λ c. (fields_of c).has_globals ≡ false) }
-{
-    let command = Command::new(alloc, "sign")
-        .about("Signs a report or an acknowledgement, and writes its frame to standard output")
-        .after_help(REUSE);
-    let command = with_cluster(alloc, command)?;
-    let what = Arg::new(alloc, "what")
-        .required(true)
-        .help("What to sign: report or ack");
-    let command = command.arg(what)?;
-    with_options(alloc, command, &SIGN)
-}
+const SIGN: Subcommand = Subcommand {
+    name: "sign",
+    about: "Signs a report or an acknowledgement, and writes its frame to standard output",
+    arguments: &[
+        REPLICAS,
+        FAULTS,
+        APPLICATION,
+        WIDTH,
+        TREE,
+        SEED,
+        Argument {
+            name: "what",
+            kind: Kind::Word,
+            help: "What to sign: report or ack",
+        },
+        Argument {
+            name: "replica",
+            kind: Kind::Value("0"),
+            help: "Who signs, below n",
+        },
+        Argument {
+            name: "height",
+            kind: Kind::Value("1"),
+            help: "The height, 1 to 4096",
+        },
+        Argument {
+            name: "phase",
+            kind: Kind::Value("1"),
+            help: "The phase, 1 to 1000000000",
+        },
+        Argument {
+            name: "value",
+            kind: Kind::Value("a=1"),
+            help: "The one transaction of the batch",
+        },
+    ],
+    after_help: REUSE,
+};
 
 /// `abft deliver`.
-fn deliver_command<'a>(alloc: Global) -> Result<Command<'a>, AllocError>
-    ensures app { IfOk result (λ c. app_of c ≡ deliver_app) }
-    ensures local { IfOk result (λ c. (fields_of c).has_globals ≡ false) }
-{
-    let command = Command::new(alloc, "deliver")
-        .about("Delivers the frames of standard input to a replica, and prints what it answers")
-        .after_help(LINES);
-    let command = with_cluster(alloc, command)?;
-    with_options(alloc, command, &DELIVER)
-}
+const DELIVER: Subcommand = Subcommand {
+    name: "deliver",
+    about: "Delivers the frames of standard input to a replica, and prints what it answers",
+    arguments: &[
+        REPLICAS,
+        FAULTS,
+        APPLICATION,
+        WIDTH,
+        TREE,
+        SEED,
+        Argument {
+            name: "replica",
+            kind: Kind::Value("1"),
+            help: "Which replica, below n",
+        },
+        Argument {
+            name: "value",
+            kind: Kind::Value("a=1"),
+            help: "The transaction that it submits",
+        },
+        Argument {
+            name: "height",
+            kind: Kind::Value("1"),
+            help: "The height that it opens, 1 to 4",
+        },
+        Argument {
+            name: "rounds",
+            kind: Kind::Value("1"),
+            help: "How many rounds it ends, 0 or 1",
+        },
+    ],
+    after_help: LINES,
+};
 
 /// `abft simulate`.
-fn simulate_command<'a>(alloc: Global) -> Result<Command<'a>, AllocError>
-    ensures app { IfOk result (λ c. app_of c ≡ simulate_app) }
-    ensures local { IfOk result (λ c. (fields_of c).has_globals ≡ false) }
-{
-    let command = Command::new(alloc, "simulate")
-        .about(
-            "Plays the scenario of standard input on a whole cluster, and prints what its replicas answer",
-        )
-        .after_help(SCENARIO);
-    let command = with_option(alloc, command, &SEED)?;
-    with_flag(
-        alloc,
-        command,
-        "histories",
-        "Writes the histories of the correct replicas, as bytes, in place of the lines",
-    )
-}
+const SIMULATE: Subcommand = Subcommand {
+    name: "simulate",
+    about: "Plays the scenario of standard input on a whole cluster, and prints what its replicas answer",
+    arguments: &[
+        SEED,
+        Argument {
+            name: "histories",
+            kind: Kind::Flag,
+            help: "Writes the histories of the correct replicas, as bytes, in place of the lines",
+        },
+    ],
+    after_help: SCENARIO,
+};
+
+/// The subcommands, in the order of `abft --help`.
+const SUBCOMMANDS: [Subcommand; 5] = [SIGN, DELIVER, SIMULATE, RUN_CLUSTER, SERVE];
 
 /// The command of the program, without its subcommands.
 fn top_command<'a>(alloc: Global) -> Command<'a>
@@ -170,14 +168,6 @@ fn top_command<'a>(alloc: Global) -> Command<'a>
 pub(crate) fn abft_command<'a>(alloc: Global) -> Result<Command<'a>, AllocError>
     ensures { IfOk result (λ c. app_of c ≡ abft_app) }
 {
-    let sign = sign_command(alloc)?;
-    let command = top_command(alloc).subcommand(sign)?;
-    let deliver = deliver_command(alloc)?;
-    let command = command.subcommand(deliver)?;
-    let simulate = simulate_command(alloc)?;
-    let command = command.subcommand(simulate)?;
-    let cluster = cluster_command(alloc)?;
-    let command = command.subcommand(cluster)?;
-    let serve = serve_command(alloc)?;
-    command.subcommand(serve)
+    let commands = clap_commands(alloc, &SUBCOMMANDS)?;
+    top_command(alloc).subcommands(commands)
 }

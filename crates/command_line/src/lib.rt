@@ -5,8 +5,9 @@ mod grammar;
 mod options;
 mod running_grammar;
 mod settings_of_words;
+mod shared_arguments;
+mod subcommand;
 mod usage_fault;
-mod value_options;
 
 pub use settings_of_words::settings;
 pub use usage_fault::UsageFault;

@@ -138,11 +138,11 @@ fn settings_of<'a>(alloc: Global, matches: &ArgMatches<'a>) -> Result<Settings, 
         return Err(UsageFault::NoSubcommand);
     };
     match name {
-        "sign" => Ok(Settings::Sign(sign_settings(alloc, options)?)),
-        "deliver" => Ok(Settings::Deliver(deliver_settings(alloc, options)?)),
-        "simulate" => Ok(Settings::Simulate(simulate_settings(options)?)),
-        "cluster" => Ok(Settings::Cluster(cluster_settings(alloc, options)?)),
-        "serve" => Ok(Settings::Serve(serve_settings(alloc, options)?)),
+        "sign" => sign_settings(alloc, options).map(Settings::Sign),
+        "deliver" => deliver_settings(alloc, options).map(Settings::Deliver),
+        "simulate" => simulate_settings(options).map(Settings::Simulate),
+        "cluster" => cluster_settings(alloc, options).map(Settings::Cluster),
+        "serve" => serve_settings(alloc, options).map(Settings::Serve),
         _ => Err(UsageFault::NoSubcommand),
     }
 }

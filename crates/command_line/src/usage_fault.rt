@@ -99,35 +99,59 @@ fn show_number<W: fmt::Write>(
     }
 }
 
+/// Writes what is wanted, and what stands there.
+fn show_wanted<W: fmt::Write>(f: &mut fmt::Formatter<W>, wanted: &str, word: &str) -> fmt::Result {
+    write!(f, "error: {wanted}, not '{word}'")
+}
+
+/// Writes what is told of an option.
+fn show_option<W: fmt::Write, D: fmt::Display>(
+    f: &mut fmt::Formatter<W>,
+    option: &str,
+    told: &D,
+) -> fmt::Result {
+    write!(f, "error: --{option} {told}")
+}
+
+/// Writes that a word at an option is no transaction.
+fn show_no_transaction<W: fmt::Write>(
+    f: &mut fmt::Formatter<W>,
+    option: &str,
+    word: &str,
+) -> fmt::Result {
+    write!(
+        f,
+        "error: --{option} is a transaction of 1 to {} bytes, not '{word}'",
+        Tx::MAX_LEN
+    )
+}
+
+/// Writes that there are too few replicas.
+fn show_too_few<W: fmt::Write>(f: &mut fmt::Formatter<W>, replicas: u8, faults: u8) -> fmt::Result {
+    write!(
+        f,
+        "error: --n {replicas} is too few for --t {faults}: n is at least 3t + 1"
+    )
+}
+
 impl fmt::Display for UsageFault<'_> {
     fn fmt<W: fmt::Write>(&self, f: &mut fmt::Formatter<W>) -> fmt::Result {
         match self {
-            UsageFault::CommandLine(error) => write!(f, "{error}"),
+            UsageFault::CommandLine(error) => fmt::Display::fmt(error, f),
             UsageFault::Number {
                 option,
                 least,
                 most,
                 word,
             } => show_number(f, option, *least, *most, word),
-            UsageFault::Seed(word) => {
-                write!(f, "error: --seed is 64 hexadecimal digits, not '{word}'")
-            }
-            UsageFault::TooFew { replicas, faults } => write!(
-                f,
-                "error: --n {replicas} is too few for --t {faults}: n is at least 3t + 1"
-            ),
-            UsageFault::Spelling { option, fault } => write!(f, "error: --{option} {fault}"),
-            UsageFault::NoTransaction { option, word } => write!(
-                f,
-                "error: --{option} is a transaction of 1 to {} bytes, not '{word}'",
-                Tx::MAX_LEN
-            ),
-            UsageFault::What(word) => {
-                write!(f, "error: what to sign is 'report' or 'ack', not '{word}'")
-            }
-            UsageFault::Missing(option) => write!(f, "error: --{option} is missing"),
-            UsageFault::NoSubcommand => write!(f, "error: a subcommand is missing"),
-            UsageFault::NoMemory => write!(f, "error: out of memory"),
+            UsageFault::Seed(word) => show_wanted(f, "--seed is 64 hexadecimal digits", word),
+            UsageFault::TooFew { replicas, faults } => show_too_few(f, *replicas, *faults),
+            UsageFault::Spelling { option, fault } => show_option(f, option, fault),
+            UsageFault::NoTransaction { option, word } => show_no_transaction(f, option, word),
+            UsageFault::What(word) => show_wanted(f, "what to sign is 'report' or 'ack'", word),
+            UsageFault::Missing(option) => show_option(f, option, &"is missing"),
+            UsageFault::NoSubcommand => f.write_str("error: a subcommand is missing"),
+            UsageFault::NoMemory => f.write_str("error: out of memory"),
         }
     }
 }

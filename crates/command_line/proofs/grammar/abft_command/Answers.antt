@@ -1,13 +1,11 @@
-use Rattle.std.proofs.Common.{ap}
+use Rattle.std.proofs.Common.{◌∙◌, ap, codes, map}
 use Rattle.std.proofs.lemmas.Result.{IfOk-weaker}
-use Rattle.clap.specs.Words.{App}
-use Rattle.command_line.proofs.Chains.{one_more_command}
+use Rattle.clap.specs.Words.{app_of, new_app}
+use Rattle.command_line.specs.Grammar.{at_top, with_subcommands}
+use Rattle.command_line.proofs.Chains.{commands_added}
 use Rattle.command_line.proofs.grammar.abft_command.Goals as goal
 
 pub returns : goal.returns
-returns c =
-    let one = one_more_command _ _ _ _ _ c.top_command.ensures (ap (λ (a : App). a.top) c.in_ok-sign.ensures.app) (c.in_ok-command.ensures.shape c.in_ok-sign.ensures.local) in
-    let two = one_more_command _ _ _ _ _ one (ap (λ (a : App). a.top) c.in_ok-deliver.ensures.app) (c.in_ok-command-2.ensures.shape c.in_ok-deliver.ensures.local) in
-    let three = one_more_command _ _ _ _ _ two (ap (λ (a : App). a.top) c.in_ok-simulate.ensures.app) (c.in_ok-command-3.ensures.shape c.in_ok-simulate.ensures.local) in
-    let four = one_more_command _ _ _ _ _ three (ap (λ (a : App). a.top) c.in_ok-cluster.ensures.app) (c.in_ok-command-4.ensures.shape c.in_ok-cluster.ensures.local) in
-    IfOk-weaker c.subcommand-5.result _ _ (λ x adds. one_more_command _ _ _ _ _ four (ap (λ (a : App). a.top) c.in_ok-serve.ensures.app) (adds.shape c.in_ok-serve.ensures.local)) c.subcommand-5.ensures
+returns c = IfOk-weaker c.subcommands.result _ _ (λ d added. commands_added _ d _ c.in_ok-commands.ensures.local added
+    ∙ ap (λ a. with_subcommands a (map app_of c.in_ok-commands.commands.items)) c.top_command.ensures
+    ∙ ap (with_subcommands (at_top (new_app (codes "abft")))) c.in_ok-commands.ensures.apps) c.subcommands.ensures

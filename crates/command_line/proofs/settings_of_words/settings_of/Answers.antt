@@ -1,86 +1,70 @@
-use Rattle.std.proofs.Common.{◌∙◌, inl, inr, List, rules, refl, sym, subst, codes}
+use Rattle.std.proofs.Common.{◌≡◌, ◌∙◌, inl, inr, List, Some, refl, rules, codes, subst, sym}
 use Rattle.std.proofs.lemmas.Option.{same_Some}
-use Rattle.clap.specs.Words.{Row, found_of, rows_of, subcommand_rows_of}
-use Rattle.command_line.specs.Options.{Sets, WantsMemory}
-use Rattle.settings.specs.declared.Settings.{Settings}
+use Rattle.clap.specs.Words.{Row, found_of, rows_of}
+use Rattle.command_line.specs.Options.{Sets, SetsSign, SetsDeliver, SetsSimulate, SetsRunning, SetsServe, WantsMemory}
 use Rattle.settings.specs.declared.Settings.TheVariants as settings
-use Rattle.command_line.proofs.MatchesLemmas.{found_is, names_one, sets_sign, sets_deliver, sets_simulate, sets_cluster, sets_serve}
-use Rattle.command_line.proofs.NumberLemmas.{if_err}
-use Rattle.clap.proofs.TakesLemmas.{passed_up}
+use Rattle.command_line.proofs.MatchesLemmas.{found_is, names_one, refused_alike, set_alike, refused_anyway, sets_sign, sets_deliver, sets_simulate, sets_cluster, sets_serve}
 use Rattle.command_line.proofs.settings_of_words.settings_of.Goals as goal
 
-pub returns-in_ok-sign_settings-in-sign-clause-set : goal.returns-in_ok-sign_settings-in-sign-clause-set
-returns-in_ok-sign_settings-in-sign-clause-set c =
+pub returns-in-sign-clause-set : goal.returns-in-sign-clause-set
+returns-in-sign-clause-set c =
     let rows : List Row = rows_of (found_of c.in-Some.options.now) in
     let found = found_is c.args.matches.now (codes "sign") rows (search (rules, c.in-sign.is, c.in-Some.ensures.name)) c.in-Some.ensures.rows in
-    subst (λ o. Sets o (settings.Sign c.in_ok-sign_settings-in-sign.field-0)) (sym found) (refl, c.in_ok-sign_settings-in-sign.ensures.some)
+    set_alike (λ t s. s ≡ settings.Sign t) (SetsSign rows) _ _ c.sign_settings.result c.map.result found (λ t s is set. subst (λ x. Sets (Some (codes "sign", rows)) x) (sym is) (refl, set)) c.sign_settings.ensures.some c.map.ensures.cases
 
-pub returns-in_err-sign_settings-in-sign-clause-refused : goal.returns-in_err-sign_settings-in-sign-clause-refused
-returns-in_err-sign_settings-in-sign-clause-refused c =
+pub returns-in-sign-clause-refused : goal.returns-in-sign-clause-refused
+returns-in-sign-clause-refused c =
     let rows : List Row = rows_of (found_of c.in-Some.options.now) in
     let found = found_is c.args.matches.now (codes "sign") rows (search (rules, c.in-sign.is, c.in-Some.ensures.name)) c.in-Some.ensures.rows in
-    passed_up _ c.in_err-sign_settings-in-sign.field-0.0
-    (λ e. (s : Settings) → Sets (subcommand_rows_of c.args.matches.now) s → WantsMemory e)
-    c.from_residual.ensures.1
-    (λ s sets. sets_sign rows s c.in_err-sign_settings-in-sign.ensures.none (subst (λ o. Sets o s) found sets))
+    refused_alike _ (SetsSign rows) _ _ c.sign_settings.result c.map.result found (λ e s. sets_sign rows s) c.sign_settings.ensures.none c.map.ensures.cases
 
-pub returns-in_ok-deliver_settings-in-deliver-clause-set : goal.returns-in_ok-deliver_settings-in-deliver-clause-set
-returns-in_ok-deliver_settings-in-deliver-clause-set c =
+pub returns-in-deliver-clause-set : goal.returns-in-deliver-clause-set
+returns-in-deliver-clause-set c =
     let rows : List Row = rows_of (found_of c.in-Some.options.now) in
     let found = found_is c.args.matches.now (codes "deliver") rows (search (rules, c.in-deliver.is, c.in-Some.ensures.name)) c.in-Some.ensures.rows in
-    subst (λ o. Sets o (settings.Deliver c.in_ok-deliver_settings-in-deliver.field-0)) (sym found) (refl, c.in_ok-deliver_settings-in-deliver.ensures.some)
+    set_alike (λ t s. s ≡ settings.Deliver t) (SetsDeliver rows) _ _ c.deliver_settings.result c.map-in-deliver.result found (λ t s is set. subst (λ x. Sets (Some (codes "deliver", rows)) x) (sym is) (refl, set)) c.deliver_settings.ensures.some c.map-in-deliver.ensures.cases
 
-pub returns-in_err-deliver_settings-in-deliver-clause-refused : goal.returns-in_err-deliver_settings-in-deliver-clause-refused
-returns-in_err-deliver_settings-in-deliver-clause-refused c =
+pub returns-in-deliver-clause-refused : goal.returns-in-deliver-clause-refused
+returns-in-deliver-clause-refused c =
     let rows : List Row = rows_of (found_of c.in-Some.options.now) in
     let found = found_is c.args.matches.now (codes "deliver") rows (search (rules, c.in-deliver.is, c.in-Some.ensures.name)) c.in-Some.ensures.rows in
-    passed_up _ c.in_err-deliver_settings-in-deliver.field-0.0
-    (λ e. (s : Settings) → Sets (subcommand_rows_of c.args.matches.now) s → WantsMemory e)
-    c.from_residual-in_err-deliver_settings-in-deliver.ensures.1
-    (λ s sets. sets_deliver rows s c.in_err-deliver_settings-in-deliver.ensures.none (subst (λ o. Sets o s) found sets))
+    refused_alike _ (SetsDeliver rows) _ _ c.deliver_settings.result c.map-in-deliver.result found (λ e s. sets_deliver rows s) c.deliver_settings.ensures.none c.map-in-deliver.ensures.cases
 
-pub returns-in_ok-simulate_settings-in-simulate-clause-set : goal.returns-in_ok-simulate_settings-in-simulate-clause-set
-returns-in_ok-simulate_settings-in-simulate-clause-set c =
+pub returns-in-simulate-clause-set : goal.returns-in-simulate-clause-set
+returns-in-simulate-clause-set c =
     let rows : List Row = rows_of (found_of c.in-Some.options.now) in
     let found = found_is c.args.matches.now (codes "simulate") rows (search (rules, c.in-simulate.is, c.in-Some.ensures.name)) c.in-Some.ensures.rows in
-    subst (λ o. Sets o (settings.Simulate c.in_ok-simulate_settings-in-simulate.field-0)) (sym found) (refl, c.in_ok-simulate_settings-in-simulate.ensures.some)
+    set_alike (λ t s. s ≡ settings.Simulate t) (SetsSimulate rows) _ _ c.simulate_settings.result c.map-in-simulate.result found (λ t s is set. subst (λ x. Sets (Some (codes "simulate", rows)) x) (sym is) (refl, set)) c.simulate_settings.ensures.some c.map-in-simulate.ensures.cases
 
-pub returns-in_err-simulate_settings-in-simulate-clause-refused : goal.returns-in_err-simulate_settings-in-simulate-clause-refused
-returns-in_err-simulate_settings-in-simulate-clause-refused c =
+pub returns-in-simulate-clause-refused : goal.returns-in-simulate-clause-refused
+returns-in-simulate-clause-refused c =
     let rows : List Row = rows_of (found_of c.in-Some.options.now) in
     let found = found_is c.args.matches.now (codes "simulate") rows (search (rules, c.in-simulate.is, c.in-Some.ensures.name)) c.in-Some.ensures.rows in
-    if_err {P = λ e. (s : Settings) → Sets (subcommand_rows_of c.args.matches.now) s → WantsMemory e} _
-    (λ e s sets. sets_simulate rows s (λ t ts. absurd (c.in_err-simulate_settings-in-simulate.ensures.none t ts)) (subst (λ o. Sets o s) found sets))
+    refused_alike _ (SetsSimulate rows) _ _ c.simulate_settings.result c.map-in-simulate.result found (λ e s. sets_simulate rows s) (refused_anyway (SetsSimulate rows) WantsMemory _ c.simulate_settings.ensures.none) c.map-in-simulate.ensures.cases
 
-pub returns-in_ok-cluster_settings-in-cluster-clause-set : goal.returns-in_ok-cluster_settings-in-cluster-clause-set
-returns-in_ok-cluster_settings-in-cluster-clause-set c =
+pub returns-in-cluster-clause-set : goal.returns-in-cluster-clause-set
+returns-in-cluster-clause-set c =
     let rows : List Row = rows_of (found_of c.in-Some.options.now) in
     let found = found_is c.args.matches.now (codes "cluster") rows (search (rules, c.in-cluster.is, c.in-Some.ensures.name)) c.in-Some.ensures.rows in
-    subst (λ o. Sets o (settings.Cluster c.in_ok-cluster_settings-in-cluster.field-0)) (sym found) (refl, c.in_ok-cluster_settings-in-cluster.ensures.some)
+    set_alike (λ t s. s ≡ settings.Cluster t) (SetsRunning rows) _ _ c.cluster_settings.result c.map-in-cluster.result found (λ t s is set. subst (λ x. Sets (Some (codes "cluster", rows)) x) (sym is) (refl, set)) c.cluster_settings.ensures.some c.map-in-cluster.ensures.cases
 
-pub returns-in_err-cluster_settings-in-cluster-clause-refused : goal.returns-in_err-cluster_settings-in-cluster-clause-refused
-returns-in_err-cluster_settings-in-cluster-clause-refused c =
+pub returns-in-cluster-clause-refused : goal.returns-in-cluster-clause-refused
+returns-in-cluster-clause-refused c =
     let rows : List Row = rows_of (found_of c.in-Some.options.now) in
     let found = found_is c.args.matches.now (codes "cluster") rows (search (rules, c.in-cluster.is, c.in-Some.ensures.name)) c.in-Some.ensures.rows in
-    passed_up _ c.in_err-cluster_settings-in-cluster.field-0.0
-    (λ e. (s : Settings) → Sets (subcommand_rows_of c.args.matches.now) s → WantsMemory e)
-    c.from_residual-in_err-cluster_settings-in-cluster.ensures.1
-    (λ s sets. sets_cluster rows s c.in_err-cluster_settings-in-cluster.ensures.none (subst (λ o. Sets o s) found sets))
+    refused_alike _ (SetsRunning rows) _ _ c.cluster_settings.result c.map-in-cluster.result found (λ e s. sets_cluster rows s) c.cluster_settings.ensures.none c.map-in-cluster.ensures.cases
 
-pub returns-in_ok-serve_settings-in-serve-clause-set : goal.returns-in_ok-serve_settings-in-serve-clause-set
-returns-in_ok-serve_settings-in-serve-clause-set c =
+pub returns-in-serve-clause-set : goal.returns-in-serve-clause-set
+returns-in-serve-clause-set c =
     let rows : List Row = rows_of (found_of c.in-Some.options.now) in
     let found = found_is c.args.matches.now (codes "serve") rows (search (rules, c.in-serve.is, c.in-Some.ensures.name)) c.in-Some.ensures.rows in
-    subst (λ o. Sets o (settings.Serve c.in_ok-serve_settings-in-serve.field-0)) (sym found) (refl, c.in_ok-serve_settings-in-serve.ensures.some)
+    set_alike (λ t s. s ≡ settings.Serve t) (SetsServe rows) _ _ c.serve_settings.result c.map-in-serve.result found (λ t s is set. subst (λ x. Sets (Some (codes "serve", rows)) x) (sym is) (refl, set)) c.serve_settings.ensures.some c.map-in-serve.ensures.cases
 
-pub returns-in_err-serve_settings-in-serve-clause-refused : goal.returns-in_err-serve_settings-in-serve-clause-refused
-returns-in_err-serve_settings-in-serve-clause-refused c =
+pub returns-in-serve-clause-refused : goal.returns-in-serve-clause-refused
+returns-in-serve-clause-refused c =
     let rows : List Row = rows_of (found_of c.in-Some.options.now) in
     let found = found_is c.args.matches.now (codes "serve") rows (search (rules, c.in-serve.is, c.in-Some.ensures.name)) c.in-Some.ensures.rows in
-    passed_up _ c.in_err-serve_settings-in-serve.field-0.0
-    (λ e. (s : Settings) → Sets (subcommand_rows_of c.args.matches.now) s → WantsMemory e)
-    c.from_residual-in_err-serve_settings-in-serve.ensures.1
-    (λ s sets. sets_serve rows s c.in_err-serve_settings-in-serve.ensures.none (subst (λ o. Sets o s) found sets))
+    refused_alike _ (SetsServe rows) _ _ c.serve_settings.result c.map-in-serve.result found (λ e s. sets_serve rows s) c.serve_settings.ensures.none c.map-in-serve.ensures.cases
 
 pub returns-in_default-name-clause-refused : goal.returns-in_default-name-clause-refused
 returns-in_default-name-clause-refused c = λ s sets.

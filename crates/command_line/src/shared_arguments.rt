@@ -1,0 +1,72 @@
+//! The arguments that several subcommands have.
+use crate::subcommand::{Argument, Kind};
+
+/// How many replicas a cluster has.
+pub(crate) const REPLICAS: Argument = Argument {
+    name: "n",
+    kind: Kind::Value("4"),
+    help: "How many replicas there are, 4 to 13",
+};
+
+/// How many of them may lie.
+pub(crate) const FAULTS: Argument = Argument {
+    name: "t",
+    kind: Kind::Value("1"),
+    help: "How many may lie, 1 to 4, with 3t+1 <= n",
+};
+
+/// The application.
+pub(crate) const APPLICATION: Argument = Argument {
+    name: "kind",
+    kind: Kind::Value("1"),
+    help: "The application: 1 keys and values, 2 a counter, 3 a purse",
+};
+
+/// The width of a digit of a signature.
+pub(crate) const WIDTH: Argument = Argument {
+    name: "w",
+    kind: Kind::Value("4"),
+    help: "Bits of a digit of a signature: 4 or 8",
+};
+
+/// The height of a signature tree.
+pub(crate) const TREE: Argument = Argument {
+    name: "tree",
+    kind: Kind::Value("5"),
+    help: "Height of a signature tree: 5 or 10",
+};
+
+/// The seed of all keys, which every subcommand has.
+pub(crate) const SEED: Argument = Argument {
+    name: "seed",
+    kind: Kind::Value("0000000000000000000000000000000000000000000000000000000000000000"),
+    help: "The seed of all keys, 64 hexadecimal digits",
+};
+
+/// The transaction of a run.
+pub(crate) const TRANSACTION: Argument = Argument {
+    name: "tx",
+    kind: Kind::Value("a=1"),
+    help: "The transaction that each pool is given",
+};
+
+/// The rounds of a run.
+pub(crate) const ROUNDS: Argument = Argument {
+    name: "rounds",
+    kind: Kind::Value("40"),
+    help: "How many rounds each replica ends, 0 to 4000000000",
+};
+
+/// How long the first round of a run is.
+pub(crate) const FIRST_ROUND: Argument = Argument {
+    name: "base-ms",
+    kind: Kind::Value("200"),
+    help: "Milliseconds of the first round, 1 to 60000; each later round has one more",
+};
+
+/// Whether a run is quiet.
+pub(crate) const QUIET: Argument = Argument {
+    name: "quiet",
+    kind: Kind::Flag,
+    help: "Tells nothing of its progress",
+};

@@ -1,0 +1,91 @@
+//! A subcommand as a table describes it, and as clap is told it.
+ghost use Rattle.std.specs.Prelude.{◌≡◌, IfOk, false, map};
+ghost use Rattle.std.specs.List.{All};
+ghost use Rattle.clap.specs.Words.{app_of, rule_of};
+ghost use Rattle.clap.specs.declared.builder.command.Command.TheViews.{out-Command as fields_of};
+ghost use Rattle.command_line.specs.Grammar.{argument_rule, subcommand_app};
+
+use clap::{Arg, ArgAction, Command};
+use std::alloc::{AllocError, Global};
+
+/// How the words of a command line give an argument.
+pub(crate) enum Kind {
+    /// By `--name VALUE`; this is its value where the words name none.
+    Value(&'static str),
+    /// By `--name` alone.
+    Flag,
+    /// By its value alone, which has to be there.
+    Word,
+}
+
+/// An argument of a subcommand.
+pub(crate) struct Argument {
+    pub(crate) name: &'static str,
+    pub(crate) kind: Kind,
+    pub(crate) help: &'static str,
+}
+
+/// A subcommand: what it does, its arguments in turn, and the end of its help.
+pub(crate) struct Subcommand {
+    pub(crate) name: &'static str,
+    pub(crate) about: &'static str,
+    pub(crate) arguments: &'static [Argument],
+    pub(crate) after_help: &'static str,
+}
+
+impl Argument {
+    /// The argument as clap is told it.
+    fn clap_arg<'a>(&self, alloc: Global) -> Arg<'a>
+        ensures rule { rule_of result ≡ argument_rule self.now }
+        ensures local { result.global ≡ false }
+    {
+        let arg = Arg::new(alloc, self.name).help(self.help);
+        match self.kind {
+            Kind::Value(default) => arg.long(self.name).default_value(default),
+            Kind::Flag => arg.long(self.name).action(ArgAction::SetTrue),
+            Kind::Word => arg.required(true),
+        }
+    }
+}
+
+/// The arguments as clap is told them.
+fn clap_args<'a>(alloc: Global, arguments: &[Argument]) -> Result<Vec<Arg<'a>>, AllocError>
+    ensures rules { IfOk result (λ v. map rule_of v.items ≡ map argument_rule arguments.now) }
+    ensures local { IfOk result (λ v. All (λ a. a.global ≡ false) v.items) }
+{
+    let mut args = Vec::new(alloc);
+    for argument in arguments {
+        args.push(argument.clap_arg(alloc))?;
+    }
+    Ok(args)
+}
+
+impl Subcommand {
+    /// The subcommand as clap is told it.
+    fn clap_command<'a>(&self, alloc: Global) -> Result<Command<'a>, AllocError>
+        ensures app { IfOk result (λ c. app_of c ≡ subcommand_app self.now) }
+        ensures local { IfOk result (λ c. (fields_of c).has_globals ≡ false) }
+    {
+        let args = clap_args(alloc, self.arguments)?;
+        Command::new(alloc, self.name)
+            .about(self.about)
+            .after_help(self.after_help)
+            .args(args)
+    }
+}
+
+/// The subcommands as clap is told them.
+pub(crate) fn clap_commands<'a>(
+    alloc: Global,
+    subcommands: &[Subcommand],
+) -> Result<Vec<Command<'a>>, AllocError>
+    ensures apps { IfOk result (λ v. map app_of v.items ≡ map subcommand_app subcommands.now) }
+    ensures local { IfOk result (λ v. All (λ c. (fields_of c).has_globals ≡ false) v.items) }
+{
+    let mut commands = Vec::new(alloc);
+    for subcommand in subcommands {
+        let command = subcommand.clap_command(alloc)?;
+        commands.push(command)?;
+    }
+    Ok(commands)
+}
