@@ -1,7 +1,7 @@
 //! The program `abft`: a Byzantine fault tolerant replicated ledger.
 #![tactic(auto)]
 
-use cluster_service::{cluster, serve};
+use cluster_commands::{cluster, serve};
 use program::{Outcome, finish, refuse_words, run};
 use std::io::{IsTerminal, Stderr};
 use std::process::ExitCode;

@@ -1,11 +1,12 @@
 //! A running cluster: what its workers share.
-ghost use Rattle.std.specs.Prelude.{◌≡◌, vec_len, IfOk};
+ghost use Rattle.std.specs.Prelude.{◌≡◌, vec_len, IfOk, All};
+ghost use Rattle.std.specs.Arc.{arc_value};
 
-use crate::mail::{Mail, mail_of};
+use crate::mail::{Inlet, Mail, Outlet, mail_of};
 use crate::post::{Post, posts_of};
 use crate::worker::Worker;
 use abci::Application;
-use commit_board::{Board, ReaderSeat};
+use commit_board::{Board, ReaderSeat, WriterSeat};
 use ledger_model::{Config, ReplicaId};
 use locked_replica::State;
 use replica_turns::LockedReplica;
@@ -47,7 +48,20 @@ fn lock_all<A: Application>(
     Ok(replicas)
 }
 
-/// A worker for each replica, in order.
+/// The worker of a replica.
+fn hire<A: Application>(
+    alloc: Global,
+    replica: &Arc<LockedReplica<A>>,
+    post: Post,
+    inlet: Inlet,
+    outlets: Vec<Outlet>,
+    rounds: u32,
+) -> Result<Worker<A>, AllocError> {
+    let replica = Arc::try_clone(replica)?;
+    Ok(Worker::new(alloc, replica, post, inlet, outlets, rounds))
+}
+
+/// A worker for each replica, in order, with its post and its ends of the inboxes.
 fn staff<A: Application>(
     alloc: Global,
     replicas: &[Arc<LockedReplica<A>>],
@@ -57,18 +71,27 @@ fn staff<A: Application>(
 ) -> Result<Vec<Worker<A>>, AllocError> {
     let mut workers = Vec::with_capacity(alloc, replicas.len())?;
     let Mail { inlets, outlets } = mail;
-    let mut posts = posts.into_iter();
-    let mut inlets = inlets.into_iter();
-    let mut outlets = outlets.into_iter();
-    for replica in replicas {
-        let (Some(post), Some(inlet), Some(outlets)) = (posts.next(), inlets.next(), outlets.next())
-        else {
-            break;
-        };
-        let shared = Arc::try_clone(replica)?;
-        workers.push(Worker::new(alloc, shared, post, inlet, outlets, rounds))?;
+    let ends = inlets.into_iter().zip(outlets);
+    for (replica, (post, (inlet, outlets))) in replicas.iter().zip(posts.into_iter().zip(ends)) {
+        workers.push(hire(alloc, replica, post, inlet, outlets, rounds)?)?;
     }
     Ok(workers)
+}
+
+/// The workers of these replicas, whose seats of the board are given in the same order.
+fn workers_of<A: Application>(
+    alloc: Global,
+    board: &Arc<Board>,
+    seats: Vec<WriterSeat>,
+    replicas: &[Arc<LockedReplica<A>>],
+    count: u8,
+    rounds: u32,
+) -> Result<Vec<Worker<A>>, AllocError>
+    requires { All (λ seat. seat.board ≡ arc_value board.now) seats.items }
+{
+    let posts = posts_of(alloc, board, seats)?;
+    let mail = mail_of(alloc, count)?;
+    staff(alloc, replicas, posts, mail, rounds)
 }
 
 impl<A: Application> Cluster<A> {
@@ -92,10 +115,8 @@ impl<A: Application> Cluster<A> {
     {
         let (board, seats, reading) = Board::new(alloc, config, readers)?;
         let board = Arc::new(alloc, board)?;
-        let posts = posts_of(alloc, &board, seats)?;
-        let mail = mail_of(alloc, config.replicas)?;
         let replicas = lock_all(alloc, states)?;
-        let workers = staff(alloc, &replicas, posts, mail, rounds)?;
+        let workers = workers_of(alloc, &board, seats, &replicas, config.replicas, rounds)?;
         Ok((Cluster { replicas, board }, workers, reading))
     }
 

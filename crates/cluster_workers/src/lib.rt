@@ -9,16 +9,13 @@
 //! its rounds are over. The workers are generic over a [`RoundClock`], which tells when rounds end, and over a [`TurnGate`], which
 //! is called round each turn.
 //!
-//! Proved: what a worker does by itself, whether a frame is early, and where it goes (`own_events`, `is_early`, `is_for`), and each
-//! turn. Only tested: that the workers run at once, and that the cluster commits. Not promised: progress and time.
+//! Proved: what a worker goes by and each turn (`replica_turns`). Only tested: that the workers run at once, and that the cluster
+//! commits. Not promised: progress and time.
 #![tactic(auto)]
 
-mod addressing;
 mod cluster;
-mod early;
 mod gate;
 mod mail;
-mod own;
 mod post;
 mod replica;
 mod round_clock;

@@ -1,15 +1,13 @@
 //! The worker of one replica: what it does in one pass of its loop, and the loop.
-use crate::early::early_of;
 use crate::gate::TurnGate;
 use crate::mail::{Inlet, Outlet};
-use crate::own::{Own, events_of, offered, own_of};
 use crate::post::{Post, Turned};
 use crate::round_clock::{Progress, RoundClock};
-use crate::sending::{send, sent_at};
+use crate::sending::send;
 use abci::Application;
 use bytes::Bytes;
 use ledger_model::{Event, ReplicaId, Sent};
-use replica_turns::LockedReplica;
+use replica_turns::{LockedReplica, Own, early_of, events_of, offered, own_of, sent_at};
 use std::alloc::{AllocError, Global};
 use std::mem;
 use std::sync::{Arc, Wait};

@@ -1,5 +1,30 @@
-//! One replica and its atomic step. This crate has tests alone.
+//! One replica and its atomic step; and histories of the worked runs, followed entry by entry, and with a reply changed. This crate has
+//! tests alone.
 #![tactic(auto)]
 
+#[cfg(test)]
+mod changing;
+#[cfg(test)]
+mod ending_changes;
+#[cfg(test)]
+mod entry_tests;
+#[cfg(test)]
+mod following;
+#[cfg(test)]
+mod following_tests;
+#[cfg(test)]
+mod frame_tests;
+#[cfg(test)]
+mod frames;
+#[cfg(test)]
+mod memory_tests;
+#[cfg(test)]
+mod playing;
+#[cfg(test)]
+mod refusing;
+#[cfg(test)]
+mod scripts;
+#[cfg(test)]
+mod silence_tests;
 #[cfg(test)]
 mod step_tests;

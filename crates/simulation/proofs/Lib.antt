@@ -1,3 +1,4 @@
+mod FirstServing
 pub mod Passing
 pub mod PlayLemmas
 pub mod Ranges

@@ -18,7 +18,7 @@ use Rattle.ledger_model.specs.Worlds.{World, entries_in, frames_sent}
 use Rattle.key_ring.specs.declared.fault.SignFault.TheVariants as sign
 use Rattle.adversary_net.specs.Clusters.{RunningCluster, liar_at, world_of}
 use Rattle.scenario_texts.specs.declared.command.Lie.{Lie}
-use Rattle.lies.specs.Lies.{lying_lock}
+use Rattle.simulation.specs.Lies.{lying_lock}
 use Rattle.reply_lines.specs.Lines.{ended, entry_text, undecided, step_text}
 use Rattle.simulation.specs.Playing.{Simulated, Answers, Ends, IsAnswered, Lies, LiesLock, PlaysRound, Signed, answer_text, correct_in, injections_to, is_taken, lie_receivers, pass_text, passes_of, target}
 use Rattle.simulation.proofs.Ranges.{take_item}

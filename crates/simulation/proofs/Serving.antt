@@ -7,7 +7,7 @@ use Rattle.ledger_model.specs.declared.statement.SignedReport.{SignedReport}
 use Rattle.ledger_model.specs.Validity.{ascends_within, signers_of}
 use Rattle.ledger_model.proofs.Counting.{ascends_from, ascends_lower, take-within}
 use Rattle.scenario_texts.specs.declared.command.Lie.{Lie}
-use Rattle.lies.specs.Lies.{first_serving, report_in, serves}
+use Rattle.simulation.specs.Lies.{first_serving, report_in, serves}
 use Rattle.simulation.specs.Playing.{Simulated, all_serving, frames_of, proof_for, serving}
 
 -- the first that passes a test passes it

@@ -27,7 +27,7 @@ use Rattle.adversary_net.specs.Clusters.{RunningCluster, IsSameCluster, SignsFor
 use Rattle.scenario_texts.specs.declared.command.Command.{Command}
 use Rattle.scenario_texts.specs.declared.command.Command.TheVariants as command
 use Rattle.scenario_texts.specs.declared.command.Lie.{Lie}
-use Rattle.lies.specs.Lies.{first_serving, lying_ack, lying_lock, lying_report}
+use Rattle.simulation.specs.Lies.{first_serving, lying_ack, lying_lock, lying_report}
 use Rattle.scenario_texts.specs.declared.command.Towards.{Towards}
 use Rattle.scenario_texts.specs.declared.command.Towards.TheVariants as towards
 use Rattle.simulation.specs.declared.signing.Signing.{Signing}

@@ -8,6 +8,8 @@
 mod playing;
 mod proving;
 mod rounds;
+mod said;
+mod serving_reports;
 mod signing;
 mod simulation;
 mod stepping;

@@ -2,10 +2,10 @@
 ghost use Rattle.std.specs.Prelude.{◌≡◌, IfOk, IfSome};
 ghost use Rattle.ledger_model.specs.Spelling.{IsSigned};
 
+use crate::serving_reports::{first_in_frames, first_in_history};
 use crate::simulation::Simulation;
 use abci::Application;
 use ledger_model::{ReplicaId, SignedReport};
-use lies::{first_in_frames, first_in_history};
 use scenario_texts::Lie;
 use std::alloc::AllocError;
 

@@ -1,15 +1,15 @@
 //! Lies: what liars sign, and to whom it is injected.
 ghost use Rattle.std.specs.Prelude.{◌≡◌, ◌++◌, IfOk, OnOk};
 ghost use Rattle.ledger_model.specs.Spelling.{IsStatement};
-ghost use Rattle.lies.specs.Lies.{lying_report, lying_ack};
+ghost use Rattle.simulation.specs.Lies.{lying_report, lying_ack};
 ghost use Rattle.simulation.specs.Playing.{named};
 
+use crate::said::{ack_of, lock_of, report_of};
 use crate::signing::Signing;
 use crate::simulation::Simulation;
 use abci::Application;
 use key_ring::SignFault;
 use ledger_model::{ReplicaId, Statement, WorldStep};
-use lies::{ack_of, lock_of, report_of};
 use reply_lines::Text;
 use scenario_texts::{Lie, Towards};
 use signed_frames::{Frame, UnsignedFrame};

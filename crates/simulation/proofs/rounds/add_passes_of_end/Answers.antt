@@ -1,5 +1,5 @@
 use Rattle.std.proofs.Common.{◌<◌, length, sym, arith}
-use Rattle.lies.proofs.FirstServing.{some_within}
+use Rattle.simulation.proofs.FirstServing.{some_within}
 use Rattle.simulation.proofs.Passing.{passes_next}
 use Rattle.simulation.proofs.rounds.add_passes_of_end.Goals.{in-Some+in_ok-add_passes_of_frame, in_default}
 use Rattle.simulation.proofs.rounds.add_passes_of_end.Goals as goal

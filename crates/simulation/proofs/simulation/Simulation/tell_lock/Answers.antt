@@ -1,5 +1,5 @@
 use Rattle.std.proofs.Common.{◌≡◌, ◌-◌, length, sym, ap, ◌∙◌}
-use Rattle.lies.specs.Lies.{lying_lock}
+use Rattle.simulation.specs.Lies.{lying_lock}
 use Rattle.simulation.specs.Playing.{proof_for}
 use Rattle.simulation.proofs.PlayLemmas.{on_ok, lock_can}
 use Rattle.simulation.proofs.simulation.Simulation.tell_lock.Goals as goal

@@ -1,6 +1,0 @@
--- the frames so far
-use Rattle.std.proofs.Common.{◌≡◌, take}
-use Rattle.cluster_workers.proofs.sending.copied.Given as goal
-
-abbrev pub invariant-loop-index : goal.invariant-loop-index
-invariant-loop-index l = l.frames.items ≡ take l.index l.ended.frames

@@ -1,0 +1,68 @@
+//! What a liar's statement says.
+ghost use Rattle.std.specs.Prelude.{◌≡◌, ◌≤◌, length, IfOk, IsTrue};
+ghost use Rattle.std.specs.List.{AllByRecursion};
+ghost use Rattle.ledger_model.specs.Spelling.{IsAck, IsLock, IsPlace, IsReport, IsSigned};
+ghost use Rattle.ledger_model.specs.Validity.{ascends_within, signers_of};
+ghost use Rattle.simulation.specs.Lies.{lying_ack, lying_lock, lying_report};
+
+use ledger_model::{Ack, Batches, Lock, LockProof, Report, SignedReport};
+use scenario_texts::Lie;
+use std::alloc::{AllocError, Global};
+
+/// Shows that the height, the phase and the liar can be spelled, as their types keep of them. It does nothing at run time
+/// but to read them.
+fn show_place(lie: &Lie)
+    ensures { IsPlace lie.now.height lie.now.phase lie.now.liar }
+{
+    let _ = (lie.height.number(), lie.phase.number(), lie.liar.number());
+}
+
+/// The report of a lie: its initial and only proper value is the batch, and it tells of no lock.
+pub(crate) fn report_of(alloc: Global, lie: &Lie) -> Result<Report, AllocError>
+    ensures report { IfOk result (λ report. report ≡ lying_report lie.now) }
+    ensures spelled { IfOk result (λ report. IsReport report) }
+{
+    show_place(lie);
+    let proper = lie.batch.copy()?;
+    Ok(Report {
+        height: lie.height,
+        phase: lie.phase,
+        signer: lie.liar,
+        all: false,
+        initial: lie.batch.copy()?,
+        proper: Batches::new(vec![in alloc; proper]?),
+        locked: Batches::new(Vec::new(alloc)),
+    })
+}
+
+/// The acknowledgement of a lie.
+pub(crate) fn ack_of(lie: &Lie) -> Result<Ack, AllocError>
+    ensures ack { IfOk result (λ ack. ack ≡ lying_ack lie.now) }
+    ensures spelled { IfOk result (λ ack. IsAck ack) }
+{
+    show_place(lie);
+    Ok(Ack {
+        height: lie.height,
+        phase: lie.phase,
+        signer: lie.liar,
+        value: lie.batch.copy()?,
+    })
+}
+
+/// The lock of a lie, with this proof: from 3 to 12 reports of ascending signers.
+pub(crate) fn lock_of(lie: &Lie, proof: Vec<SignedReport>) -> Result<Lock, AllocError>
+    requires count { (3 ≤ length proof.items) × (length proof.items ≤ 12) }
+    requires each { AllByRecursion IsSigned proof.items }
+    requires signers { IsTrue (ascends_within 0 256 (signers_of proof.items)) }
+    ensures lock { IfOk result (λ lock. lock ≡ lying_lock lie.now proof.items) }
+    ensures spelled { IfOk result (λ lock. IsLock lock) }
+{
+    show_place(lie);
+    Ok(Lock {
+        height: lie.height,
+        phase: lie.phase,
+        signer: lie.liar,
+        value: lie.batch.copy()?,
+        proof: LockProof::new(proof),
+    })
+}
