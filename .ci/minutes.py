@@ -68,7 +68,7 @@ class Sampler:
                     parents[int(name)], seconds[int(name)] = stat_of(name)
                 except (OSError, ValueError, IndexError):
                     pass
-        held = 0
+        held, provers = 0, {}
         for process in parents:
             above = process
             while above in parents and above != self.root:
@@ -78,10 +78,14 @@ class Sampler:
             try:
                 part = part_of(process)
                 if part:
-                    self.seen[process, part] = seconds[process]
+                    provers[process] = part
                     held += rss_of(process)
             except (OSError, ValueError, IndexError):
                 pass
+        for process, part in provers.items():
+            # (what a copy takes that the prover made of itself is its parent's, once it ends)
+            if parents[process] not in provers:
+                self.seen[process, part] = seconds[process]
         self.memory = max(self.memory, held)
 
     def run(self):
