@@ -58,32 +58,3 @@ fn checksum(params: Params, digest: &[u8; 32]) -> u16
     }
     sum << width.checksum_shift()
 }
-
-#[cfg(test)]
-mod tests {
-    use super::*;
-    use crate::TreeHeight;
-
-    #[test]
-    fn digits_of_bytes(rt: HostRuntime) {
-        let bytes = [0x12, 0x34];
-        assert_eq!(rt; coefficient(&bytes, 0, Width::W4), 1);
-        assert_eq!(rt; coefficient(&bytes, 3, Width::W4), 4);
-        assert_eq!(rt; coefficient(&bytes, 1, Width::W8), 0x34);
-    }
-
-    #[test]
-    fn checksums_of_zeros(rt: HostRuntime) {
-        let height = TreeHeight::H5;
-        let wide = Params {
-            width: Width::W8,
-            height,
-        };
-        let narrow = Params {
-            width: Width::W4,
-            height,
-        };
-        assert_eq!(rt; checksum(wide, &[0; 32]), 0x1fe0);
-        assert_eq!(rt; checksum(narrow, &[0; 32]), 0x3c00);
-    }
-}

@@ -1,4 +1,4 @@
-use Rattle.std.proofs.Common.{◌≡◌, refl, take, ap, ◌∙◌}
+use Rattle.std.proofs.Common.{◌≡◌, refl, take, ap, ◌∙◌, rules}
 use Rattle.std.proofs.lemmas.List.{take_rest}
 use Rattle.ledger_model.specs.Signatures.{public_value}
 use Rattle.lm_ots.specs.Parameters.{chains_of}
@@ -12,3 +12,6 @@ returns-clause-value c =
     refl (take_rest c.args.signature.now 36) c.message_digest-digest.ensures
     (c.public_value.ensures ∙ ap (λ n. public_value c.args.identifier.now c.args.leaf (take n c.climbed_ends-ends.result)) all
     ∙ ap (public_value c.args.identifier.now c.args.leaf) c.climbed_ends-ends.ensures)
+
+pub returns-clause-fits : goal.returns-clause-fits
+returns-clause-fits c = search rules

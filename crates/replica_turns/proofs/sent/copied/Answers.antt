@@ -1,4 +1,5 @@
-use Rattle.std.proofs.Common.{◌≡◌, [], ◌∷◌, ◌++◌, Some, slice_get, sym, ap, ◌∙◌, rules}
+use Rattle.std.proofs.lemmas.Grind.{common_steps}
+use Rattle.std.proofs.Common.{◌≡◌, [], ◌∷◌, ◌++◌, Some, slice_get, sym, ap, ◌∙◌, rules, arith}
 use Rattle.ledger_model.specs.declared.reply.Sent.{Sent}
 use Rattle.batch_pool.proofs.Entries.{take-next}
 use Rattle.replica_turns.proofs.sent.copied.Goals as goal
@@ -10,3 +11,6 @@ loop-index-preserved c =
     let here : slice_get c.args.ended.now.frames c.loop-index.index ≡ Some frame = rw same (sym c.in-Some.ensures) in
     let grown : c.push.new.self.items ≡ c.loop-index.frames.items ++ frame ∷ [] = search rules in
     grown ∙ (ap (λ xs. xs ++ frame ∷ []) c.loop-index.invariant ∙ sym (take-next c.args.ended.now.frames c.loop-index.index frame here))
+
+pub returns : goal.returns
+returns c = grind (arith, common_steps)

@@ -1,3 +1,4 @@
+use Rattle.std.proofs.lemmas.Grind.{common_steps}
 use Rattle.std.proofs.Common.{◌≡◌, Some, length, sym, ap, ◌∙◌, arith}
 use Rattle.height_row.specs.Heights.{place_for}
 use Rattle.height_row.proofs.Finding.{own_at, IsOf}
@@ -62,3 +63,6 @@ returns-in-Err-clause-own c = rw (sym c.self.view_is) (own_at _ _ c.self.inside.
 
 pub returns-in_err-instance-clause-own : goal.returns-in_err-instance-clause-own
 returns-in_err-instance-clause-own c = rw (sym c.self.view_is) (own_at _ _ c.self.inside.instances.items c.self.invariant.1)
+
+pub invariant_of-self : goal.invariant_of-self
+invariant_of-self c = grind (arith, common_steps)

@@ -1,4 +1,5 @@
-use Rattle.std.proofs.Common.{refl}
+use Rattle.std.proofs.lemmas.Grind.{common_steps}
+use Rattle.std.proofs.Common.{refl, arith}
 use Rattle.proper_sets.proofs.Counts.{filter_more}
 use Rattle.proper_sets.proofs.Orders.{with_values-append}
 use Rattle.proper_sets.proofs.reported.PhaseReports.put_named_by.Goals as goal
@@ -11,3 +12,6 @@ loop-value-preserved c =
       | then-is_named+in_ok-put w ↦ rw (← c.is_named.ensures, w.if-is_named.true, w.values-is, w.in_ok-put.ensures.ok, ← c.loop-value.invariant) refl
       | else-is_named w ↦ rw (← c.is_named.ensures, w.if-is_named.false, w.values-is, ← c.loop-value.invariant) refl
     ])
+
+pub returns : goal.returns
+returns c = grind (arith, common_steps)

@@ -9,3 +9,6 @@ loop-signer-preserved g c =
       | then-is_some+in_ok-push w ↦ grind (rules, signers_with)
       | else-is_some w ↦ grind (rules, signers_without)
     ]
+
+pub loop-signer-init : goal.loop-signer-init
+loop-signer-init g c = search rules

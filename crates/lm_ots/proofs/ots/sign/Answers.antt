@@ -1,0 +1,5 @@
+use Rattle.std.proofs.Common.{rules}
+use Rattle.lm_ots.proofs.ots.sign.Goals as goal
+
+pub returns : goal.returns
+returns c = search rules
