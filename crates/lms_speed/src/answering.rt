@@ -5,12 +5,12 @@ ghost use Rattle.ledger_model.specs.Signatures.{public_key, signature_of, verifi
 ghost use Rattle.lm_ots.specs.Parameters.{numbers_of};
 ghost use Rattle.lms_speed.specs.Requests.{IsAnswer};
 
-use crate::fault::ProgramFault;
-use crate::parsing::parse;
-use crate::rates::rate;
+use crate::parsing::{LineFault, parse};
+use crate::rates::rate_text;
 use crate::request::{KeyPair, Request, SignRequest, VerifyRequest};
 use lms_tree::{PublicKey, Tree, verify};
 use std::alloc::{AllocError, Global};
+use std::io::{self, ErrorKind};
 use std::time::Clock;
 
 /// The answer where nothing is asked for.
@@ -66,32 +66,22 @@ pub fn verdict_text(request: &VerifyRequest) -> &'static str
 }
 
 /// What is answered to a request.
-fn reply<C: Clock>(clock: &C, alloc: Global, request: Request) -> Result<String, ProgramFault>
+fn reply<C: Clock>(clock: &C, alloc: Global, request: Request) -> io::Result<String>
     ensures { IfOk result (λ text. IsAnswer request (string_bytes text)) }
 {
     match request {
         Request::Public(pair) => Ok(public_text(alloc, pair)?),
         Request::Sign(request) => Ok(signature_text(alloc, request)?),
         Request::Verify(request) => Ok(String::from_str(alloc, verdict_text(&request))?),
-        Request::Rate(request) => {
-            let rate = rate(clock, alloc, &request)?;
-            Ok(format!(in alloc; "{rate:.1}")?)
-        }
+        Request::Rate(request) => rate_text(clock, alloc, &request),
     }
 }
 
-/// The answer to a text: what it asks for, or `bad` where it asks for nothing.
-fn answer_text<C: Clock>(clock: &C, alloc: Global, text: &str) -> Result<String, ProgramFault> {
-    match parse(alloc, text)? {
-        Some(request) => reply(clock, alloc, request),
-        None => Ok(String::from_str(alloc, BAD)?),
-    }
-}
-
-/// The answer to a line, without its end. A line that is no text asks for nothing.
-pub fn answer<C: Clock>(clock: &C, alloc: Global, line: &[u8]) -> Result<String, ProgramFault> {
-    match str::from_utf8(line) {
-        Ok(text) => answer_text(clock, alloc, text),
-        Err(_) => Ok(String::from_str(alloc, BAD)?),
+/// The answer to a line, without its end: what it asks for, or `bad` where it asks for nothing.
+pub fn answer<C: Clock>(clock: &C, alloc: Global, line: &[u8]) -> io::Result<String> {
+    match parse(alloc, line) {
+        Ok(request) => reply(clock, alloc, request),
+        Err(LineFault::Unspelled) => Ok(String::from_str(alloc, BAD)?),
+        Err(LineFault::NoMemory) => Err(io::Error::from(ErrorKind::OutOfMemory)),
     }
 }

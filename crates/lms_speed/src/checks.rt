@@ -1,9 +1,10 @@
 //! A few operations, checked through public calls.
-use crate::fault::{CheckFault, ProgramFault};
+use crate::wrong::{self, ensure};
 use key_ring::{SignFault, Signer};
 use lm_ots::{Identifier, Params, Seed, TreeHeight, Width, candidate, public_hash};
-use lms_tree::{Tree, verify};
+use lms_tree::{PublicKey, Tree, verify};
 use std::alloc::Global;
+use std::io::{self, ErrorKind};
 
 /// The identifier of test case 2 of RFC 8554, Appendix F, at height 5.
 const IDENTIFIER: [u8; 16] = [
@@ -26,51 +27,50 @@ const MESSAGE: &[u8] = b"The powers not delegated";
 
 const OTHER_MESSAGE: &[u8] = b"The powers delegated";
 
-/// The fault where something isn't so.
-fn ensure(holds: bool, fault: CheckFault) -> Result<(), CheckFault> {
-    if holds { Ok(()) } else { Err(fault) }
+/// Checks two verifications of a signature.
+fn check_signature(key: &PublicKey, signature: &[u8]) -> io::Result<()> {
+    ensure(verify(key, MESSAGE, signature), wrong::REFUSED)?;
+    ensure(!verify(key, OTHER_MESSAGE, signature), wrong::FORGED)
+}
+
+/// Checks a signature and two verifications of a key pair.
+fn check_signer(alloc: Global, signer: &mut Signer) -> io::Result<()> {
+    match signer.sign(alloc, MESSAGE) {
+        Ok(signature) => check_signature(&signer.public(), &signature),
+        Err(SignFault::NoMemory) => Err(io::Error::from(ErrorKind::OutOfMemory)),
+        Err(SignFault::Exhausted) => Err(io::Error::other(wrong::EXHAUSTED)),
+    }
 }
 
 /// Checks a key generation, a signature and two verifications of a parameter set.
-fn check_params(alloc: Global, params: Params) -> Result<(), ProgramFault> {
+fn check_params(alloc: Global, params: Params) -> io::Result<()> {
     let identifier = Identifier::new(IDENTIFIER);
     let mut signer = Signer::new(alloc, params, identifier, Seed::new(SEED))?;
-    let key = signer.public();
-    let signature = match signer.sign(alloc, MESSAGE) {
-        Ok(signature) => signature,
-        Err(SignFault::NoMemory) => return Err(ProgramFault::NoMemory),
-        Err(SignFault::Exhausted) => return Err(ProgramFault::Check(CheckFault::Exhausted)),
-    };
-    ensure(verify(&key, MESSAGE, &signature), CheckFault::Refused)?;
-    ensure(!verify(&key, OTHER_MESSAGE, &signature), CheckFault::Forged)?;
-    Ok(())
+    check_signer(alloc, &mut signer)
 }
 
 /// Checks a one-time signature of a parameter set.
-fn check_leaf(alloc: Global, params: Params) -> Result<(), ProgramFault> {
+fn check_leaf(alloc: Global, params: Params) -> io::Result<()> {
     let identifier = Identifier::new(IDENTIFIER);
     let seed = Seed::new(SEED);
     let public = public_hash(params, &identifier, 3, &seed);
     let signature = lm_ots::sign(alloc, params, &identifier, 3, &seed, MESSAGE)?;
     let found = candidate(params, &identifier, 3, MESSAGE, &signature);
-    ensure(found == Some(public), CheckFault::Candidate)?;
-    Ok(())
+    ensure(found == Some(public), wrong::CANDIDATE)
 }
 
 /// Checks the root of the standard's test case.
-fn check_root(alloc: Global) -> Result<(), ProgramFault> {
+fn check_root(alloc: Global) -> io::Result<()> {
     let params = Params {
         width: Width::W8,
         height: TreeHeight::H5,
     };
     let tree = Tree::build(alloc, params, Identifier::new(IDENTIFIER), Seed::new(SEED))?;
-    let key = tree.public();
-    ensure(key.as_bytes()[24..] == ROOT[..], CheckFault::Root)?;
-    Ok(())
+    ensure(tree.public().as_bytes()[24..] == ROOT[..], wrong::ROOT)
 }
 
 /// Checks key pairs of both widths, and the standard's test case.
-pub fn check(alloc: Global) -> Result<(), ProgramFault> {
+pub fn check(alloc: Global) -> io::Result<()> {
     for width in [Width::W4, Width::W8] {
         let params = Params {
             width,

@@ -3,7 +3,7 @@
 
 mod answering;
 mod checks;
-mod fault;
+mod output;
 mod parsing;
 mod rates;
 mod request;
@@ -11,6 +11,7 @@ mod running;
 mod table;
 mod timing;
 mod work;
+mod wrong;
 
 use running::run;
 use std::env;
@@ -31,7 +32,6 @@ fn main(rt: HostRuntime) -> ExitCode {
 fn run_host(rt: &HostRuntime) -> io::Result<u8> {
     let alloc = rt.alloc();
     let words: Vec<String> = env::args(rt)?.collect(alloc)?;
-    let words: Vec<&str> = words.iter().map(|word| word.as_str()).collect(alloc)?;
     let mut reader = BufReader::new(alloc, rt.reader())?;
     let mut writer = rt.stdout();
     let mut faults = rt.stderr();

@@ -6,6 +6,29 @@ use lm_ots::{Identifier, Params, Seed, TreeHeight, Width};
 use plain_text::decimal;
 use std::alloc::{AllocError, Global};
 
+/// Why nothing was read from a line.
+#[derive(Clone, Copy)]
+pub enum LineFault {
+    /// It asks for nothing.
+    Unspelled,
+    NoMemory,
+}
+
+impl From<AllocError> for LineFault {
+    fn from(_error: AllocError) -> LineFault {
+        LineFault::NoMemory
+    }
+}
+
+impl From<FromHexError> for LineFault {
+    fn from(error: FromHexError) -> LineFault {
+        match error {
+            FromHexError::OutOfMemory => LineFault::NoMemory,
+            _ => LineFault::Unspelled,
+        }
+    }
+}
+
 /// The parameter set of a width and a height of the tree.
 fn params(width: &str, height: &str) -> Option<Params> {
     let width = match width {
@@ -34,16 +57,11 @@ fn key_pair(width: &str, height: &str, identifier: &str, seed: &str) -> Option<K
 }
 
 /// The bytes that a word spells in hexadecimal digits; `-` spells none.
-fn bytes(alloc: Global, word: &str) -> Result<Option<Vec<u8>>, AllocError> {
+fn bytes(alloc: Global, word: &str) -> Result<Vec<u8>, LineFault> {
     match word {
-        "" => return Ok(None),
-        "-" => return Ok(Some(Vec::new(alloc))),
-        _ => {}
-    }
-    match hex::decode(alloc, word) {
-        Ok(bytes) => Ok(Some(bytes)),
-        Err(FromHexError::OutOfMemory) => Err(AllocError),
-        Err(_) => Ok(None),
+        "" => Err(LineFault::Unspelled),
+        "-" => Ok(Vec::new(alloc)),
+        _ => Ok(hex::decode(alloc, word)?),
     }
 }
 
@@ -66,51 +84,39 @@ fn public_request(operands: &[&str]) -> Option<KeyPair> {
 }
 
 /// What the operands of `sign` ask for, if the leaf is one of the tree.
-fn sign_request(alloc: Global, operands: &[&str]) -> Result<Option<SignRequest>, AllocError> {
+fn sign_request(alloc: Global, operands: &[&str]) -> Result<SignRequest, LineFault> {
     let [width, height, identifier, seed, leaf, message] = operands else {
-        return Ok(None);
-    };
-    let Some(pair) = key_pair(width, height, identifier, seed) else {
-        return Ok(None);
+        return Err(LineFault::Unspelled);
     };
     let Some(leaf) = decimal(leaf) else {
-        return Ok(None);
+        return Err(LineFault::Unspelled);
+    };
+    let Some(pair) = key_pair(width, height, identifier, seed) else {
+        return Err(LineFault::Unspelled);
     };
     if leaf >= pair.params.leaves() {
-        return Ok(None);
+        return Err(LineFault::Unspelled);
     }
-    match bytes(alloc, message)? {
-        Some(message) => Ok(Some(SignRequest {
-            pair,
-            leaf,
-            message,
-        })),
-        None => Ok(None),
-    }
+    Ok(SignRequest {
+        pair,
+        leaf,
+        message: bytes(alloc, message)?,
+    })
 }
 
 /// What the operands of `verify` ask for.
-fn verify_request(alloc: Global, operands: &[&str]) -> Result<Option<VerifyRequest>, AllocError> {
+fn verify_request(alloc: Global, operands: &[&str]) -> Result<VerifyRequest, LineFault> {
     let [key, message, signature] = operands else {
-        return Ok(None);
+        return Err(LineFault::Unspelled);
     };
-    let Some(key) = bytes(alloc, key)? else {
-        return Ok(None);
-    };
-    let Some(message) = bytes(alloc, message)? else {
-        return Ok(None);
-    };
-    let Some(signature) = bytes(alloc, signature)? else {
-        return Ok(None);
-    };
-    Ok(Some(VerifyRequest {
-        key,
-        message,
-        signature,
-    }))
+    Ok(VerifyRequest {
+        key: bytes(alloc, key)?,
+        message: bytes(alloc, message)?,
+        signature: bytes(alloc, signature)?,
+    })
 }
 
-/// The milliseconds of a number of seconds, which has up to three digits behind a point.
+/// The milliseconds of a number of seconds, which has up to three digits behind a point, or the most there are.
 fn milliseconds(text: &str) -> Option<u32> {
     let (whole, fraction) = text.split_once('.').unwrap_or((text, "0"));
     let unit = match fraction.len() {
@@ -119,8 +125,8 @@ fn milliseconds(text: &str) -> Option<u32> {
         3 => 1,
         _ => return None,
     };
-    let whole = decimal(whole)?.checked_mul(1000)?;
-    whole.checked_add(decimal(fraction)?.checked_mul(unit)?)
+    let whole = decimal(whole)?.saturating_mul(1000);
+    Some(whole.saturating_add(decimal(fraction)?.saturating_mul(unit)))
 }
 
 /// What the operands of `rate` ask for: a time from 0.001 to 60 seconds.
@@ -141,27 +147,29 @@ fn rate_request(operands: &[&str]) -> Option<RateRequest> {
     })
 }
 
-/// What the words of a line ask for, if they ask for anything.
-fn request(alloc: Global, words: &[&str]) -> Result<Option<Request>, AllocError> {
+/// What the words of a line ask for.
+fn request(alloc: Global, words: &[&str]) -> Result<Request, LineFault> {
     let Some((name, operands)) = words.split_first() else {
-        return Ok(None);
+        return Err(LineFault::Unspelled);
     };
     match *name {
-        "public" => Ok(public_request(operands).map(Request::Public)),
-        "sign" => Ok(sign_request(alloc, operands)?.map(Request::Sign)),
-        "verify" => Ok(verify_request(alloc, operands)?.map(Request::Verify)),
-        "rate" => Ok(rate_request(operands).map(Request::Rate)),
-        _ => Ok(None),
+        "public" => public_request(operands)
+            .map(Request::Public)
+            .ok_or(LineFault::Unspelled),
+        "sign" => sign_request(alloc, operands).map(Request::Sign),
+        "verify" => verify_request(alloc, operands).map(Request::Verify),
+        "rate" => rate_request(operands)
+            .map(Request::Rate)
+            .ok_or(LineFault::Unspelled),
+        _ => Err(LineFault::Unspelled),
     }
 }
 
-/// The words of a line, parted by one space each.
-fn words<'a>(alloc: Global, line: &'a str) -> Result<Vec<&'a str>, AllocError> {
-    line.split(' ').collect(alloc)
-}
-
-/// What a line asks for, if it asks for anything.
-pub fn parse(alloc: Global, line: &str) -> Result<Option<Request>, AllocError> {
-    let words = words(alloc, line)?;
+/// What a line asks for, without its end. A line that is no text asks for nothing.
+pub fn parse(alloc: Global, line: &[u8]) -> Result<Request, LineFault> {
+    let Ok(text) = str::from_utf8(line) else {
+        return Err(LineFault::Unspelled);
+    };
+    let words: Vec<&str> = text.split(' ').collect(alloc)?;
     request(alloc, &words)
 }

@@ -3,7 +3,6 @@ ghost use Rattle.std.specs.Prelude.{◌<◌, ◌≤◌, ◌^◌};
 ghost use Rattle.lm_ots.specs.Parameters.{levels_of};
 
 use lm_ots::{Identifier, Params, Seed};
-use std::fmt;
 
 /// What a key pair is made of.
 #[derive(Drop)]
@@ -31,19 +30,20 @@ pub struct VerifyRequest {
 }
 
 /// What is measured.
-#[derive(Clone, Copy, Debug, PartialEq, Eq)]
+#[derive(Clone, Copy)]
 pub enum Operation {
     Verification,
     Signature,
     KeyGeneration,
 }
 
-impl fmt::Display for Operation {
-    fn fmt<W: fmt::Write>(&self, f: &mut fmt::Formatter<W>) -> fmt::Result {
+impl Operation {
+    /// Its name in the table.
+    pub fn name(self) -> &'static str {
         match self {
-            Operation::Verification => f.pad("verification"),
-            Operation::Signature => f.pad("signature"),
-            Operation::KeyGeneration => f.pad("key generation"),
+            Operation::Verification => "verification",
+            Operation::Signature => "signature",
+            Operation::KeyGeneration => "key generation",
         }
     }
 }

@@ -1,11 +1,11 @@
 //! The program over any clock and any streams.
 use crate::answering::answer;
 use crate::checks::check;
-use crate::fault::ProgramFault;
+use crate::output::write_line;
 use crate::table::write_table;
 use plain_text::decimal;
 use std::alloc::Global;
-use std::io::{BufRead, Write};
+use std::io::{self, BufRead, ErrorKind, Write};
 use std::time::{Clock, Duration};
 
 /// All was done.
@@ -33,7 +33,7 @@ Without a word it answers lines of standard input: 'public W H I SEED', 'sign W 
 pub fn run<C: Clock, R: BufRead, W: Write, F: Write>(
     clock: &C,
     alloc: Global,
-    words: &[&str],
+    words: &[String],
     reader: &mut R,
     writer: &mut W,
     faults: &mut F,
@@ -42,16 +42,24 @@ pub fn run<C: Clock, R: BufRead, W: Write, F: Write>(
         Some(Asked::Answers) => check_and_answer(clock, alloc, reader, writer),
         Some(Asked::Table(time)) => write_table(clock, alloc, writer, time),
         None => {
-            let _ = writeln!(faults, "{USAGE}");
+            let _ = write_line(faults, USAGE);
             return BAD_USAGE;
         }
     };
     match done {
         Ok(()) => DONE,
-        Err(fault) => {
-            let _ = writeln!(faults, "{fault}");
-            status_of(&fault)
+        Err(error) => {
+            let _ = writeln!(faults, "error: {error}");
+            status_of(error.kind())
         }
+    }
+}
+
+/// The exit status after an error: one of the kind `Other` is of a wrong answer.
+fn status_of(kind: ErrorKind) -> u8 {
+    match kind {
+        ErrorKind::Other => WRONG,
+        _ => STOPPED,
     }
 }
 
@@ -65,22 +73,17 @@ enum Asked {
 }
 
 /// What the words ask for, if they are a command line.
-fn read_words(words: &[&str]) -> Option<Asked> {
+fn read_words(words: &[String]) -> Option<Asked> {
     let seconds = match words {
         [] | [_] => return Some(Asked::Answers),
-        [_, "table"] => SECONDS,
-        [_, "table", seconds] => decimal(seconds).filter(|seconds| *seconds <= MAX_SECONDS)?,
+        [_, name] if name.as_str() == "table" => SECONDS,
+        [_, name, seconds] if name.as_str() == "table" => decimal(seconds)?,
         _ => return None,
     };
-    Some(Asked::Table(Duration::from_secs(u64::from(seconds))))
-}
-
-/// The exit status after a fault.
-fn status_of(fault: &ProgramFault) -> u8 {
-    match fault {
-        ProgramFault::Check(_) => WRONG,
-        ProgramFault::NoMemory | ProgramFault::Stream(_) => STOPPED,
+    if seconds > MAX_SECONDS {
+        return None;
     }
+    Some(Asked::Table(Duration::from_secs(u64::from(seconds))))
 }
 
 /// Checks a few operations, and then answers each line.
@@ -89,7 +92,7 @@ fn check_and_answer<C: Clock, R: BufRead, W: Write>(
     alloc: Global,
     reader: &mut R,
     writer: &mut W,
-) -> Result<(), ProgramFault> {
+) -> io::Result<()> {
     check(alloc)?;
     let mut line = Vec::new(alloc);
     for _ in 0..u64::MAX {
@@ -97,10 +100,19 @@ fn check_and_answer<C: Clock, R: BufRead, W: Write>(
         if reader.read_until(b'\n', &mut line)? == 0 {
             break;
         }
-        let text = line.strip_suffix(b"\n").unwrap_or(&line);
-        let answer = answer(clock, alloc, text)?;
-        writeln!(writer, "{answer}")?;
-        writer.flush()?;
+        answer_line(clock, alloc, &line, writer)?;
     }
     Ok(())
+}
+
+/// Answers a line.
+fn answer_line<C: Clock, W: Write>(
+    clock: &C,
+    alloc: Global,
+    line: &[u8],
+    writer: &mut W,
+) -> io::Result<()> {
+    let line = line.strip_suffix(b"\n").unwrap_or(line);
+    let answer = answer(clock, alloc, line)?;
+    write_line(writer, &answer)
 }

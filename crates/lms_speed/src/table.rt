@@ -1,20 +1,18 @@
 //! The table of figures.
-use crate::fault::ProgramFault;
-use crate::rates::{SEED, measure_cost};
+use crate::output::write_line;
+use crate::rates::{Cost, measure_cost};
 use crate::request::Operation;
 use crate::timing::measure;
-use crate::work::{
-    IDENTIFIER, LONG_MESSAGE, LongDigests, MESSAGE, OneBlockDigests, signatures_of, tree_of,
-};
+use crate::work::{IDENTIFIER, Keys, LONG_MESSAGE, LongDigests, MESSAGE, OneBlockDigests};
 use lm_ots::{Identifier, Params, TreeHeight, Width};
 use lms_blocks::{blocks, key_generation_blocks, signature_blocks};
-use std::alloc::Global;
-use std::io::Write;
+use std::alloc::{AllocError, Global};
+use std::io::{self, Write};
 use std::num::nearest_u64_to_f64;
 use std::time::{Clock, Duration};
 
 /// The parameter sets, in the order of the table.
-const ALL_KEYS: [Params; 4] = [
+const ALL_KEYS: &[Params] = &[
     Params {
         width: Width::W4,
         height: TreeHeight::H5,
@@ -33,57 +31,37 @@ const ALL_KEYS: [Params; 4] = [
     },
 ];
 
-/// A line of the table: an operation, and the blocks that it hashes.
-#[derive(Clone, Copy)]
-struct Row {
-    operation: Operation,
-    params: Params,
-    ideal: f64,
-}
+/// The operations, in the order of the table.
+const OPERATIONS: &[Operation] = &[
+    Operation::KeyGeneration,
+    Operation::Signature,
+    Operation::Verification,
+];
 
-/// The lines of a parameter set; for signatures by the mean over those that are measured.
-fn rows(alloc: Global, params: Params) -> Result<[Row; 3], ProgramFault> {
-    let tree = tree_of(alloc, params, SEED)?;
-    let signatures = signatures_of(alloc, &tree)?;
+/// The blocks that the operation hashes; for a signature and its verification the mean over those that are measured.
+fn blocks_hashed(keys: &Keys) -> f64 {
     let identifier = Identifier::new(IDENTIFIER);
-    let mut signing = 0.0;
-    let mut verification = 0.0;
-    for (leaf, signature) in (0u32..32).zip(signatures.iter()) {
+    let mut sum = 0.0;
+    for (leaf, signature) in (0u32..32).zip(keys.signatures.iter()) {
         let randomizer = signature.get(8..40).unwrap_or(&[]);
-        let found = signature_blocks(params, &identifier, leaf, randomizer, &MESSAGE);
-        signing += nearest_u64_to_f64(found.signing);
-        verification += nearest_u64_to_f64(found.verification);
+        let found = signature_blocks(keys.params, &identifier, leaf, randomizer, &MESSAGE);
+        sum += nearest_u64_to_f64(match keys.operation {
+            Operation::KeyGeneration => key_generation_blocks(keys.params),
+            Operation::Signature => found.signing,
+            Operation::Verification => found.verification,
+        });
     }
-    let count = nearest_u64_to_f64(signatures.len() as u64);
-    let row = |operation, ideal| Row {
-        operation,
-        params,
-        ideal,
-    };
-    Ok([
-        row(
-            Operation::KeyGeneration,
-            nearest_u64_to_f64(key_generation_blocks(params)),
-        ),
-        row(Operation::Signature, signing / count),
-        row(Operation::Verification, verification / count),
-    ])
-}
-
-/// The nanoseconds of a digest of 55 bytes, which is one block.
-fn one_block<C: Clock>(clock: &C, time: Duration) -> Result<f64, ProgramFault> {
-    let mut work = OneBlockDigests { block: [0; 55] };
-    Ok(measure(clock, &mut work, time)?.nanoseconds())
+    sum / nearest_u64_to_f64(keys.signatures.len() as u64)
 }
 
 /// The nanoseconds of each block of a long message.
-fn long_block<C: Clock>(clock: &C, alloc: Global, time: Duration) -> Result<f64, ProgramFault> {
+fn long_block<C: Clock>(clock: &C, alloc: Global, time: Duration) -> io::Result<f64> {
     let mut work = LongDigests {
         message: vec![in alloc; 0u8; LONG_MESSAGE]?,
         digest: [0; 32],
     };
-    let pace = measure(clock, &mut work, time)?;
-    Ok(pace.nanoseconds() / nearest_u64_to_f64(blocks(32 + LONG_MESSAGE as u64)))
+    let digest = measure(clock, &mut work, time)?;
+    Ok(digest / nearest_u64_to_f64(blocks(32 + LONG_MESSAGE as u64)))
 }
 
 /// The name of a parameter set.
@@ -96,29 +74,69 @@ fn keys_name(params: Params) -> &'static str {
     }
 }
 
-/// Measures the operation of a line beside one block, and writes the line.
+/// The lines above those of the operations, of the nanoseconds of a block alone and in a long message.
+fn heading(alloc: Global, block: f64, long: f64) -> Result<String, AllocError> {
+    format!(in alloc;
+        "\
+SHA-256, a digest of 55 bytes (one block) {block:>10.1} ns
+SHA-256, a block of a long message        {long:>10.1} ns
+
+keys   operation          a second     time in blocks  blocks hashed    ratio"
+    )
+}
+
+/// The line of an operation.
+fn row(alloc: Global, keys: &Keys, cost: Cost) -> Result<String, AllocError> {
+    let name = keys_name(keys.params);
+    let operation = keys.operation.name();
+    let rate = 1e9 / cost.operation;
+    let found = cost.operation / cost.block;
+    let hashed = blocks_hashed(keys);
+    let ratio = found / hashed;
+    format!(in alloc;
+        "{name:<6} {operation:<14} {rate:>12.1} {found:>18.1} {hashed:>14.1} {ratio:>8.3}"
+    )
+}
+
+/// Measures and writes the lines above those of the operations.
+fn write_heading<C: Clock, W: Write>(
+    clock: &C,
+    alloc: Global,
+    writer: &mut W,
+    time: Duration,
+) -> io::Result<()> {
+    let block = measure(clock, &mut OneBlockDigests { block: [0; 55] }, time)?;
+    let long = long_block(clock, alloc, time)?;
+    let text = heading(alloc, block, long)?;
+    write_line(writer, &text)
+}
+
+/// Measures the operation of the keys beside one block, and writes its line.
 fn write_row<C: Clock, W: Write>(
     clock: &C,
     alloc: Global,
     writer: &mut W,
-    row: Row,
+    keys: &mut Keys,
     time: Duration,
-) -> Result<(), ProgramFault> {
-    let Row {
-        operation,
-        params,
-        ideal,
-    } = row;
-    let cost = measure_cost(clock, alloc, operation, params, time)?;
-    let keys = keys_name(params);
-    let rate = 1e9 / cost.operation;
-    let found = cost.operation / cost.block;
-    let ratio = found / ideal;
-    writeln!(
-        writer,
-        "{keys:<6} {operation:<14} {rate:>12.1} {found:>18.1} {ideal:>14.1} {ratio:>8.3}"
-    )?;
-    writer.flush()?;
+) -> io::Result<()> {
+    let cost = measure_cost(clock, keys, time)?;
+    let text = row(alloc, keys, cost)?;
+    write_line(writer, &text)
+}
+
+/// Measures the operations of a parameter set, and writes their lines.
+fn write_rows<C: Clock, W: Write>(
+    clock: &C,
+    alloc: Global,
+    writer: &mut W,
+    params: Params,
+    time: Duration,
+) -> io::Result<()> {
+    let mut keys = Keys::new(alloc, params, Operation::KeyGeneration)?;
+    for operation in OPERATIONS {
+        keys.operation = *operation;
+        write_row(clock, alloc, writer, &mut keys, time)?;
+    }
     Ok(())
 }
 
@@ -130,26 +148,10 @@ pub fn write_table<C: Clock, W: Write>(
     alloc: Global,
     writer: &mut W,
     time: Duration,
-) -> Result<(), ProgramFault> {
-    let block = one_block(clock, time)?;
-    let long = long_block(clock, alloc, time)?;
-    writeln!(
-        writer,
-        "SHA-256, a digest of 55 bytes (one block) {block:>10.1} ns"
-    )?;
-    writeln!(
-        writer,
-        "SHA-256, a block of a long message        {long:>10.1} ns"
-    )?;
-    writeln!(writer)?;
-    writeln!(
-        writer,
-        "keys   operation          a second     time in blocks  blocks hashed    ratio"
-    )?;
+) -> io::Result<()> {
+    write_heading(clock, alloc, writer, time)?;
     for params in ALL_KEYS {
-        for row in rows(alloc, params)? {
-            write_row(clock, alloc, writer, row, time)?;
-        }
+        write_rows(clock, alloc, writer, *params, time)?;
     }
     Ok(())
 }
