@@ -27,30 +27,35 @@ const FIVE_PAID: [u8; 32] = [
     0x86, 0x23, 0xda, 0xc1, 0xb5, 0x9d, 0x8c, 0x05, 0x31, 0xda, 0x92, 0xa4, 0xfb, 0x7b, 0x42, 0x39,
 ];
 
+/// The number 2 in nine bytes, one more than a number has.
+const LONG: &[u8] = b"\x00\x00\x00\x00\x00\x00\x00\x00\x02";
+
 // Whether a block of these transactions has these codes.
 fn plays<A: Application>(
     alloc: Global,
     app: &mut A,
     transactions: &[&[u8]],
     codes: &[u32],
-) -> Result<bool, Fail> {
+) -> bool {
     if app.info().height >= Height::MAX {
-        return Err(Fail::from("no height is left"));
+        return false;
     }
-    let block = batch(alloc, transactions)?;
-    Ok(run_block(alloc, app, &block)?.codes.as_slice() == codes)
+    let Ok(block) = batch(alloc, transactions) else {
+        return false;
+    };
+    match run_block(alloc, app, &block) {
+        Ok(done) => done.codes.as_slice() == codes,
+        Err(_) => false,
+    }
 }
 
-// Whether an application holds this under a key.
-fn holds<A: Application>(app: &A, key: &[u8], wanted: &[u8]) -> Result<bool, Fail> {
-    Ok(
-        app.query(key, 0)?
-            .is_some_and(|value| value.as_slice() == wanted),
-    )
-}
-
-fn lacks<A: Application>(app: &A, key: &[u8]) -> Result<bool, Fail> {
-    Ok(app.query(key, 0)?.is_none())
+// Whether an application holds this under a key, or nothing.
+fn holds<A: Application>(app: &A, key: &[u8], wanted: Option<&[u8]>) -> bool {
+    match app.query(key, 0) {
+        Ok(Some(value)) => wanted == Some(value.as_slice()),
+        Ok(None) => wanted.is_none(),
+        Err(_) => false,
+    }
 }
 
 // Whether CheckTx has this code for a transaction.
@@ -60,8 +65,11 @@ fn checks<A: Application>(
     bytes: &[u8],
     kind: CheckKind,
     code: u32,
-) -> Result<bool, Fail> {
-    Ok(app.check_tx(&tx(alloc, bytes)?, kind) == code)
+) -> bool {
+    match tx(alloc, bytes) {
+        Ok(tx) => app.check_tx(&tx, kind) == code,
+        Err(_) => false,
+    }
 }
 
 // Whether an application tells this height and this hash.
@@ -69,131 +77,118 @@ fn tells<A: Application>(app: &A, height: u32, hash: [u8; 32]) -> bool {
     app.info() == Info { height, hash }
 }
 
-// Whether the store of the test has its pairs and no other.
-fn has_three_pairs(store: &KvStore) -> Result<bool, Fail> {
-    Ok(
-        holds(store, b"k", b"k")?
-            && holds(store, b"", b"v")?
-            && holds(store, b"a", b"b=c")?
-            && lacks(store, b"b")?,
-    )
-}
-
-// Whether a block of four transactions sets the three pairs.
-fn sets_three_pairs(alloc: Global, store: &mut KvStore) -> Result<bool, Fail> {
+// Whether a block of four transactions sets three pairs, and no other.
+fn sets_three_pairs(alloc: Global, store: &mut KvStore) -> bool {
     let transactions: [&[u8]; 4] = [b"k", b"=v", b"a=1", b"a=b=c"];
-    Ok(
-        plays(alloc, store, &transactions, &[0, 0, 0, 0])?
-            && has_three_pairs(store)?
-            && tells(store, 1, THREE_PAIRS),
-    )
+    plays(alloc, store, &transactions, &[0, 0, 0, 0])
+        && holds(store, b"k", Some(b"k"))
+        && holds(store, b"", Some(b"v"))
+        && holds(store, b"a", Some(b"b=c"))
+        && holds(store, b"b", None)
+        && tells(store, 1, THREE_PAIRS)
 }
 
 // What stands before the first sign of equality is the key, all of it where there is none.
 #[test]
-fn store_sets_what_stands_after_the_first_sign(rt: HostRuntime) -> Result<(), Fail> {
+fn store_sets_what_stands_after_the_first_sign(rt: HostRuntime) {
     let mut store = KvStore::new(rt.alloc());
-    assert!(rt; sets_three_pairs(rt.alloc(), &mut store)?);
-    Ok(())
+    assert!(rt; sets_three_pairs(rt.alloc(), &mut store));
 }
 
-// The number 2 in nine bytes, one more than a number has.
-const LONG: &[u8] = b"\x00\x00\x00\x00\x00\x00\x00\x00\x02";
-
-// Whether the first block counts the number 0, and not a number of nine bytes.
-fn counts_zero(alloc: Global, counter: &mut Counter) -> Result<bool, Fail> {
-    Ok(
-        checks(alloc, counter, LONG, CheckKind::New, 1)?
-            && checks(alloc, counter, b"\x00", CheckKind::New, 0)?
-            && plays(alloc, counter, &[b"\x00", LONG], &[0, 1])?,
-    )
+// Whether the first block counts nothing, as both transactions are too long for a number.
+fn counts_nothing(alloc: Global, counter: &mut Counter) -> bool {
+    plays(alloc, counter, &[b"123456789", b"9876543210"], &[1, 1])
+        && tells(counter, 1, COUNT_OF_ZERO)
 }
 
-// Whether the second block counts the number 1, which is then refused.
-fn counts_one(alloc: Global, counter: &mut Counter) -> Result<bool, Fail> {
-    Ok(
-        checks(alloc, counter, b"\x01", CheckKind::New, 0)?
-            && plays(alloc, counter, &[b"\x01"], &[0])?
-            && checks(alloc, counter, b"\x01", CheckKind::Recheck, 2)?,
-    )
+// Whether the second block counts the number 0, and not a number of nine bytes.
+fn counts_zero(alloc: Global, counter: &mut Counter) -> bool {
+    checks(alloc, counter, LONG, CheckKind::New, 1)
+        && checks(alloc, counter, b"\x00", CheckKind::New, 0)
+        && plays(alloc, counter, &[b"\x00", LONG], &[0, 1])
 }
 
-// Whether two blocks counted to 2, which alone is held.
-fn is_at_two(counter: &Counter) -> Result<bool, Fail> {
-    Ok(
-        tells(counter, 2, COUNT_OF_TWO)
-            && holds(counter, b"count", &[0, 0, 0, 0, 0, 0, 0, 2])?
-            && lacks(counter, b"counts")?
-            && counter.query(b"count", 1) == Err(QueryFault::NotHeld),
-    )
+// Whether the third block counts the number 1, which is then refused.
+fn counts_one(alloc: Global, counter: &mut Counter) -> bool {
+    checks(alloc, counter, b"\x01", CheckKind::New, 0)
+        && plays(alloc, counter, &[b"\x01"], &[0])
+        && checks(alloc, counter, b"\x01", CheckKind::Recheck, 2)
+}
+
+// Whether three blocks counted to 2, which alone is held.
+fn is_at_two(counter: &Counter) -> bool {
+    tells(counter, 3, COUNT_OF_TWO)
+        && holds(counter, b"count", Some(&[0, 0, 0, 0, 0, 0, 0, 2]))
+        && holds(counter, b"counts", None)
+        && matches!(counter.query(b"count", 1), Err(QueryFault::NotHeld))
 }
 
 #[test]
-fn counter_counts_in_turn(rt: HostRuntime) -> Result<(), Fail> {
-    let mut counter = Counter::new(rt.alloc());
-    assert!(rt; counts_zero(rt.alloc(), &mut counter)? && counts_one(rt.alloc(), &mut counter)?);
-    assert!(rt; is_at_two(&counter)?);
-    Ok(())
+fn counter_counts_in_turn(rt: HostRuntime) {
+    let alloc = rt.alloc();
+    let mut counter = Counter::new(alloc);
+    assert!(rt;
+        counts_nothing(alloc, &mut counter)
+            && counts_zero(alloc, &mut counter)
+            && counts_one(alloc, &mut counter)
+            && is_at_two(&counter)
+    );
 }
 
 // Whether account 0 paid 5 to account 1, and no other key is held.
-fn has_five_paid(purse: &Purse) -> Result<bool, Fail> {
-    Ok(
-        holds(purse, b"\x00", &[0, 0, 3, 0xe3, 0, 0, 0, 1])?
-            && holds(purse, b"\x01", &[0, 0, 3, 0xed, 0, 0, 0, 0])?
-            && lacks(purse, b"\x00\x00")?,
-    )
+fn has_five_paid(purse: &Purse) -> bool {
+    holds(purse, b"\x00", Some(&[0, 0, 3, 0xe3, 0, 0, 0, 1]))
+        && holds(purse, b"\x01", Some(&[0, 0, 3, 0xed, 0, 0, 0, 0]))
+        && holds(purse, b"\x00\x00", None)
 }
 
 // 5 from account 0 to account 1; the same again; more than there is; to oneself; and too few bytes.
+const PAYMENTS: [&[u8]; 5] = [
+    b"\x00\x01\x00\x00\x00\x05\x00\x00\x00\x00",
+    b"\x00\x01\x00\x00\x00\x05\x00\x00\x00\x00",
+    b"\x00\x01\x00\x00\x03\xe4\x00\x00\x00\x01",
+    b"\x00\x00\x00\x00\x00\x01\x00\x00\x00\x01",
+    b"\x00\x01",
+];
+
 #[test]
 fn purse_moves_an_amount_once(rt: HostRuntime) -> Result<(), Fail> {
     let mut executor = Executor::new(Purse::new(rt.alloc()))?;
-    let transactions: [&[u8]; 5] = [
-        b"\x00\x01\x00\x00\x00\x05\x00\x00\x00\x00",
-        b"\x00\x01\x00\x00\x00\x05\x00\x00\x00\x00",
-        b"\x00\x01\x00\x00\x03\xe4\x00\x00\x00\x01",
-        b"\x00\x00\x00\x00\x00\x01\x00\x00\x00\x01",
-        b"\x00\x01",
-    ];
     let wanted = (1, [0, 2, 3, 4, 1].as_slice(), FIVE_PAID);
-    assert!(rt; answers(&rt, rt.alloc(), &mut executor, &transactions, wanted)?);
-    assert!(rt; has_five_paid(executor.app())?);
+    assert!(rt;
+        answers(rt.alloc(), &mut executor, &PAYMENTS, wanted) && has_five_paid(executor.app())
+    );
     Ok(())
 }
 
-// Nothing that is too long for a number is counted.
-#[test]
-fn a_block_is_run(rt: HostRuntime) -> Result<(), Fail> {
-    let mut counter = Counter::new(rt.alloc());
-    assert!(rt;
-        plays(
-            rt.alloc(),
-            &mut counter,
-            &[b"123456789", b"9876543210"],
-            &[1, 1]
-        )?
-    );
-    assert!(rt; tells(&counter, 1, COUNT_OF_ZERO));
-    Ok(())
+// Whether the next three blocks are empty, and leave the count at 0.
+fn runs_three_empty_blocks(alloc: Global, executor: &mut Executor<Counter>) -> bool {
+    for number in 1..=3 {
+        if !answers(alloc, executor, &[], (number, &[], COUNT_OF_ZERO)) {
+            return false;
+        }
+    }
+    true
+}
+
+// Whether the count is told at a height.
+fn is_told_at(executor: &Executor<Counter>, height: u32) -> bool {
+    match executor.query(b"count", height) {
+        Ok(answer) => answer.value.is_some(),
+        Err(_) => false,
+    }
 }
 
 // Whether the count is told with this height alone, which is the last.
 fn is_asked_at(executor: &Executor<Counter>, last: u32, other: u32) -> bool {
     executor.app().info().height == last
         && executor.query(b"count", other).is_err()
-        && executor
-            .query(b"count", last)
-            .is_ok_and(|answer| answer.value.is_some())
+        && is_told_at(executor, last)
 }
 
 #[test]
 fn blocks_follow_one_another(rt: HostRuntime) -> Result<(), Fail> {
     let mut executor = Executor::new(Counter::new(rt.alloc()))?;
-    for number in 1..=3 {
-        let wanted = (number, [].as_slice(), COUNT_OF_ZERO);
-        assert!(rt; answers(&rt, rt.alloc(), &mut executor, &[], wanted)?);
-    }
-    assert!(rt; is_asked_at(&executor, 3, 2));
+    assert!(rt; runs_three_empty_blocks(rt.alloc(), &mut executor) && is_asked_at(&executor, 3, 2));
     Ok(())
 }

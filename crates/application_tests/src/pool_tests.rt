@@ -7,7 +7,6 @@ use batch_pool::{Pool, SubmitFault};
 use ledger_model::{Batch, SubmitRefusal};
 use std::alloc::Global;
 use std::hash::RandomState;
-use std::process::Abort;
 use std::test::Fail;
 use test_support::batch;
 
@@ -21,14 +20,14 @@ const FULL: Result<(), SubmitFault> = Err(SubmitFault::Refused(SubmitRefusal::Fu
 
 const REJECTED: Result<(), SubmitFault> = Err(SubmitFault::Refused(SubmitRefusal::Rejected(1)));
 
-/// A pool of the numbers from 0 to `count` - 1, each in two bytes.
-fn pool_of_numbers(alloc: Global, random: RandomState, count: u16) -> Result<Pool, Fail> {
-    let app = Counter::new(alloc);
-    let mut pool = Pool::new(alloc, random);
+/// Puts the numbers from 0 to `count` - 1 into a pool, each in two bytes.
+fn takes_numbers(pool: &mut Pool, app: &Counter, count: u16) -> bool {
     for number in 0..count {
-        pool.submit(&number.to_be_bytes(), &app)?;
+        if !submits(pool, app, &number.to_be_bytes(), Ok(())) {
+            return false;
+        }
     }
-    Ok(pool)
+    true
 }
 
 /// Whether these are the numbers from `first` on, each in two bytes.
@@ -55,26 +54,30 @@ fn numbers_in(pool: &Pool) -> Option<u16> {
     Some(next)
 }
 
-// Offers bytes of each length, and compares the answer and how many transactions wait then.
-fn try_lengths<R: Abort>(rt: &R, pool: &mut Pool, app: &KvStore) {
-    let long = [7; 65];
-    for (len, wanted, waiting) in [
-        (0, EMPTY, 0),
-        (65, TOO_LONG, 0),
-        (64, Ok(()), 1),
-        (1, Ok(()), 2),
-        (64, DUPLICATE, 2),
-    ] {
-        let is_answered = submits(pool, app, &long[..len], wanted);
-        assert!(rt; is_answered && pool.len() == waiting, "{len} bytes");
+/// Bytes, their answer, and how many transactions wait then.
+const LENGTHS: [(&[u8], Result<(), SubmitFault>, usize); 5] = [
+    (&[], EMPTY, 0),
+    (&[7; 65], TOO_LONG, 0),
+    (&[7; 64], Ok(()), 1),
+    (&[7], Ok(()), 2),
+    (&[7; 64], DUPLICATE, 2),
+];
+
+// Whether bytes of each length get their answer, and leave so many transactions waiting.
+fn takes_lengths(pool: &mut Pool, app: &KvStore) -> bool {
+    for &(bytes, wanted, waiting) in &LENGTHS {
+        if !submits(pool, app, bytes, wanted) || pool.len() != waiting {
+            return false;
+        }
     }
+    true
 }
 
 #[test]
 fn lengths_from_1_to_64_are_taken_in(rt: HostRuntime) -> Result<(), Fail> {
     let mut pool = Pool::new(rt.alloc(), RandomState::new(&rt)?);
     let app = KvStore::new(rt.alloc());
-    try_lengths(&rt, &mut pool, &app);
+    assert!(rt; takes_lengths(&mut pool, &app));
     Ok(())
 }
 
@@ -95,51 +98,43 @@ fn refuses(pool: &mut Pool, app: &Counter) -> bool {
         && pool.len() == 1024
 }
 
-// 1024 transactions wait.
-#[test]
-fn a_full_pool_refuses(rt: HostRuntime) -> Result<(), Fail> {
-    let mut pool = pool_of_numbers(rt.alloc(), RandomState::new(&rt)?, 1023)?;
-    let app = Counter::new(rt.alloc());
-    assert!(rt; takes_the_last(&mut pool, &app) && refuses(&mut pool, &app));
-    Ok(())
-}
-
 // Whether a pool proposes so many numbers, from `first` on.
-fn proposes(pool: &Pool, first: u16, count: usize) -> Result<bool, Fail> {
-    let block = pool.reap()?;
-    Ok(block.transactions().len() == count && are_numbers_from(&block, first))
-}
-
-#[test]
-fn the_first_16_are_proposed_and_stay(rt: HostRuntime) -> Result<(), Fail> {
-    let pool = pool_of_numbers(rt.alloc(), RandomState::new(&rt)?, 18)?;
-    assert!(rt; proposes(&pool, 0, 16)?);
-    assert!(rt; numbers_in(&pool) == Some(18));
-    Ok(())
+fn proposes(pool: &Pool, first: u16, count: usize) -> bool {
+    match pool.reap() {
+        Ok(block) => block.transactions().len() == count && are_numbers_from(&block, first),
+        Err(_) => false,
+    }
 }
 
 // Whether a block of the number 2, which the counter refuses as out of turn, and of 0 and 1 leaves the others.
-fn runs_three<R: Abort>(
-    rt: &R,
-    alloc: Global,
-    executor: &mut Executor<Counter>,
-    pool: &mut Pool,
-) -> Result<bool, Fail> {
-    let block = batch(alloc, &[&[0, 2], &[0, 0], &[0, 1]])?;
-    Ok(is_run(rt, alloc, executor, pool, &block, &[2, 0, 0])? && pool.len() == 1021)
+fn runs_three(alloc: Global, executor: &mut Executor<Counter>, pool: &mut Pool) -> bool {
+    let Ok(block) = batch(alloc, &[&[0, 2], &[0, 0], &[0, 1]]) else {
+        return false;
+    };
+    is_run(alloc, executor, pool, &block, &[2, 0, 0]) && pool.len() == 1021
 }
 
 // Whether the next numbers are proposed then, and the number 2 may come again.
-fn goes_on_at_three(pool: &mut Pool, app: &Counter) -> Result<bool, Fail> {
-    Ok(proposes(pool, 3, 16)? && submits(pool, app, &[0, 2], Ok(())) && pool.len() == 1022)
+fn goes_on_at_three(pool: &mut Pool, app: &Counter) -> bool {
+    proposes(pool, 3, 16) && submits(pool, app, &[0, 2], Ok(())) && pool.len() == 1022
 }
 
-// The pool is full.
+// Whether a pool is filled with 1024 transactions, and refuses more.
+fn is_filled(pool: &mut Pool, app: &Counter) -> bool {
+    takes_numbers(pool, app, 1023) && takes_the_last(pool, app) && refuses(pool, app)
+}
+
+// The first 16 are proposed and stay, until a block takes its transactions out.
 #[test]
-fn a_block_takes_its_transactions_out(rt: HostRuntime) -> Result<(), Fail> {
-    let mut pool = pool_of_numbers(rt.alloc(), RandomState::new(&rt)?, 1024)?;
+fn a_full_pool_refuses_and_goes_on_behind_a_block(rt: HostRuntime) -> Result<(), Fail> {
+    let random = RandomState::new(&rt)?;
     let mut executor = Executor::new(Counter::new(rt.alloc()))?;
-    assert!(rt; runs_three(&rt, rt.alloc(), &mut executor, &mut pool)?);
-    assert!(rt; goes_on_at_three(&mut pool, executor.app())?);
+    let mut pool = Pool::new(rt.alloc(), random);
+    assert!(rt; is_filled(&mut pool, executor.app()));
+    assert!(rt; proposes(&pool, 0, 16) && numbers_in(&pool) == Some(1024));
+    assert!(rt;
+        runs_three(rt.alloc(), &mut executor, &mut pool)
+            && goes_on_at_three(&mut pool, executor.app())
+    );
     Ok(())
 }

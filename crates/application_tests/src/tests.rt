@@ -4,10 +4,9 @@ use abci::{Application, Info};
 use abci_executor::Executor;
 use app_kinds::{AnyKind, Counted, Counter, KvStore, Refusing};
 use batch_pool::{Pool, SubmitFault};
-use ledger_model::{AppKind, Batch, BlockResult, Height, SubmitRefusal};
-use std::alloc::{AllocError, Global};
+use ledger_model::{AppKind, Batch, BlockResult, Height, QueryAnswer, SubmitRefusal};
+use std::alloc::Global;
 use std::hash::RandomState;
-use std::process::Abort;
 use std::test::Fail;
 use test_support::batch;
 
@@ -35,43 +34,63 @@ const COUNT_OF_THREE: [u8; 32] = [
     0x52, 0xa6, 0x2e, 0xde, 0x36, 0xba, 0xc7, 0x9e, 0xb7, 0x10, 0xf8, 0x03, 0xb2, 0xf6, 0x3b, 0x3c,
 ];
 
-/// Runs the next block.
-fn execute<R: Abort, A: Application>(
-    rt: &R,
+/// Runs the next block. There is none where no height is left or memory runs out.
+fn execute<A: Application>(
     alloc: Global,
     executor: &mut Executor<A>,
     block: &Batch,
-) -> Result<BlockResult, AllocError> {
-    let height = executor.height();
-    assert!(rt; height < Height::MAX);
-    executor.execute(alloc, block)
+) -> Option<BlockResult> {
+    if executor.height() < Height::MAX {
+        executor.execute(alloc, block).ok()
+    } else {
+        None
+    }
+}
+
+/// Runs a block of these transactions.
+fn runs<A: Application>(
+    alloc: Global,
+    executor: &mut Executor<A>,
+    transactions: &[&[u8]],
+) -> Option<BlockResult> {
+    let block = batch(alloc, transactions).ok()?;
+    execute(alloc, executor, &block)
 }
 
 /// Runs a block of these transactions, and tells whether it has this number, these codes and this hash.
-pub(crate) fn answers<R: Abort, A: Application>(
-    rt: &R,
+pub(crate) fn answers<A: Application>(
     alloc: Global,
     executor: &mut Executor<A>,
     transactions: &[&[u8]],
     (number, codes, hash): (u32, &[u32], [u8; 32]),
-) -> Result<bool, Fail> {
-    let block = batch(alloc, transactions)?;
-    let done = execute(rt, alloc, executor, &block)?;
-    Ok(done.height.number() == number && done.codes.as_slice() == codes && done.hash == hash)
+) -> bool {
+    match runs(alloc, executor, transactions) {
+        Some(done) => {
+            done.height.number() == number && done.codes.as_slice() == codes && done.hash == hash
+        }
+        None => false,
+    }
 }
 
 /// Runs a block, whose transactions the pool then takes out, and tells whether it has these codes.
-pub(crate) fn is_run<R: Abort, A: Application>(
-    rt: &R,
+pub(crate) fn is_run<A: Application>(
     alloc: Global,
     executor: &mut Executor<A>,
     pool: &mut Pool,
     block: &Batch,
     codes: &[u32],
-) -> Result<bool, Fail> {
-    let done = execute(rt, alloc, executor, block)?;
+) -> bool {
+    let is_met = match execute(alloc, executor, block) {
+        Some(done) => done.codes.as_slice() == codes,
+        None => false,
+    };
     pool.after_block(block, executor.app());
-    Ok(done.codes.as_slice() == codes)
+    is_met
+}
+
+/// What a pool answers to a transaction.
+fn answer<A: Application>(pool: &mut Pool, app: &A, bytes: &[u8]) -> Result<(), SubmitFault> {
+    pool.submit(bytes, app)
 }
 
 /// Whether a pool answers this to a transaction.
@@ -81,19 +100,23 @@ pub(crate) fn submits<A: Application>(
     bytes: &[u8],
     wanted: Result<(), SubmitFault>,
 ) -> bool {
-    pool.submit(bytes, app) == wanted
+    answer(pool, app, bytes) == wanted
+}
+
+/// Whether an answer has this height and this value.
+fn is_answer(answer: &QueryAnswer, height: u32, wanted: &[u8]) -> bool {
+    match &answer.value {
+        Some(bytes) => answer.height.number() == height && bytes.as_slice() == wanted,
+        None => false,
+    }
 }
 
 /// Whether a key has this value, told with the last block's height.
-fn holds<A: Application>(
-    executor: &Executor<A>,
-    key: &[u8],
-    last: u32,
-    wanted: &[u8],
-) -> Result<bool, Fail> {
-    let answer = executor.query(key, 0)?;
-    let value = answer.value;
-    Ok(answer.height.number() == last && value.is_some_and(|bytes| bytes.as_slice() == wanted))
+fn holds<A: Application>(executor: &Executor<A>, key: &[u8], last: u32, wanted: &[u8]) -> bool {
+    match executor.query(key, 0) {
+        Ok(answer) => is_answer(&answer, last, wanted),
+        Err(_) => false,
+    }
 }
 
 /// Whether an executor tells this height and this hash.
@@ -101,43 +124,26 @@ fn tells<A: Application>(executor: &Executor<A>, height: u32, hash: [u8; 32]) ->
     executor.info() == Info { height, hash }
 }
 
-#[test]
-fn an_empty_block_has_a_height_and_a_hash(rt: HostRuntime) -> Result<(), Fail> {
-    let mut executor = Executor::new(KvStore::new(rt.alloc()))?;
-    let wanted = (1, [].as_slice(), EMPTY_STORE);
-    assert!(rt; answers(&rt, rt.alloc(), &mut executor, &[], wanted)?);
-    Ok(())
-}
-
 // Whether a block finds no memory at its second delivery, and leaves the executor as it began.
-fn finds_no_memory<R: Abort>(
-    rt: &R,
-    alloc: Global,
-    executor: &mut Executor<Counted<Refusing<Counter>>>,
-) -> Result<bool, Fail> {
-    let block = batch(alloc, &[&[0], &[1], &[2]])?;
-    let failed = execute(rt, alloc, executor, &block).is_err();
-    Ok(failed && tells(executor, 0, COUNT_OF_ZERO) && executor.app().delivered() == 2)
+fn finds_no_memory(alloc: Global, executor: &mut Executor<Counted<Refusing<Counter>>>) -> bool {
+    runs(alloc, executor, &[&[0], &[1], &[2]]).is_none()
+        && tells(executor, 0, COUNT_OF_ZERO)
+        && executor.app().delivered() == 2
 }
 
 // Another block, which names the same numbers, is then run from the same state.
+fn counts_to_three(alloc: Global, executor: &mut Executor<Counted<Refusing<Counter>>>) -> bool {
+    let wanted = (1, [0, 0, 0].as_slice(), COUNT_OF_THREE);
+    answers(alloc, executor, &[&[0, 0], &[0, 1], &[0, 2]], wanted)
+        && executor.app().delivered() == 5
+        && holds(executor, b"count", 1, &[0, 0, 0, 0, 0, 0, 0, 3])
+}
+
 #[test]
 fn after_a_block_that_found_no_memory_another_is_run(rt: HostRuntime) -> Result<(), Fail> {
     let alloc = rt.alloc();
     let mut executor = Executor::new(Counted::new(Refusing::new(Counter::new(alloc), 2)))?;
-    assert!(rt; finds_no_memory(&rt, alloc, &mut executor)?);
-    let wanted = (1, [0, 0, 0].as_slice(), COUNT_OF_THREE);
-    assert!(rt;
-        answers(
-            &rt,
-            alloc,
-            &mut executor,
-            &[&[0, 0], &[0, 1], &[0, 2]],
-            wanted
-        )?
-    );
-    assert!(rt; executor.app().delivered() == 5);
-    assert!(rt; holds(&executor, b"count", 1, &[0, 0, 0, 0, 0, 0, 0, 3])?);
+    assert!(rt; finds_no_memory(alloc, &mut executor) && counts_to_three(alloc, &mut executor));
     Ok(())
 }
 
@@ -151,103 +157,114 @@ fn takes_two<A: Application>(pool: &mut Pool, app: &A) -> bool {
 }
 
 // Whether a block with one of the two leaves none: the other is refused then.
-fn drops_the_other<R: Abort>(
-    rt: &R,
-    alloc: Global,
-    executor: &mut Executor<Counter>,
-    pool: &mut Pool,
-) -> Result<bool, Fail> {
-    let two = takes_two(pool, executor.app());
-    let block = batch(alloc, &[&[0]])?;
-    Ok(two && is_run(rt, alloc, executor, pool, &block, &[0])? && pool.is_empty())
+fn drops_the_other(alloc: Global, executor: &mut Executor<Counter>, pool: &mut Pool) -> bool {
+    let Ok(block) = batch(alloc, &[&[0]]) else {
+        return false;
+    };
+    is_run(alloc, executor, pool, &block, &[0]) && pool.is_empty()
 }
 
 #[test]
 fn a_recheck_drops_what_came_too_late(rt: HostRuntime) -> Result<(), Fail> {
-    let mut pool = Pool::new(rt.alloc(), RandomState::new(&rt)?);
+    let random = RandomState::new(&rt)?;
     let mut executor = Executor::new(Counter::new(rt.alloc()))?;
-    assert!(rt; drops_the_other(&rt, rt.alloc(), &mut executor, &mut pool)?);
+    let mut pool = Pool::new(rt.alloc(), random);
+    assert!(rt;
+        takes_two(&mut pool, executor.app())
+            && drops_the_other(rt.alloc(), &mut executor, &mut pool)
+    );
     Ok(())
 }
 
 // Runs what a pool of one transaction proposes, and tells whether that transaction waited until then and not longer.
-fn is_proposed_and_run<R: Abort, A: Application>(
-    rt: &R,
+fn is_proposed_and_run<A: Application>(
     alloc: Global,
     executor: &mut Executor<A>,
     pool: &mut Pool,
-) -> Result<bool, Fail> {
-    let block = pool.reap()?;
-    let waiting = pool.len();
-    let done = is_run(rt, alloc, executor, pool, &block, &[0])?;
-    Ok(done && block.transactions().len() == 1 && waiting == 1 && pool.is_empty())
+) -> bool {
+    let Ok(block) = pool.reap() else {
+        return false;
+    };
+    block.transactions().len() == 1
+        && pool.len() == 1
+        && is_run(alloc, executor, pool, &block, &[0])
+        && pool.is_empty()
 }
 
-// Whether a transaction that is submitted comes into the next block.
-fn comes_into_the_next_block<R: Abort>(
-    rt: &R,
+// Whether a transaction that is submitted comes into the next block, which is the second.
+fn comes_into_the_next_block(
     alloc: Global,
     executor: &mut Executor<KvStore>,
-    random: RandomState,
-) -> Result<bool, Fail> {
-    let mut pool = Pool::new(alloc, random);
-    let taken = submits(&mut pool, executor.app(), b"a=1", Ok(()));
-    Ok(is_proposed_and_run(rt, alloc, executor, &mut pool)? && taken)
+    pool: &mut Pool,
+) -> bool {
+    submits(pool, executor.app(), b"a=1", Ok(()))
+        && is_proposed_and_run(alloc, executor, pool)
+        && tells(executor, 2, ONE_PAIR)
+        && holds(executor, b"a", 2, b"1")
 }
 
+// The first block is empty: it has a height and a hash all the same.
 #[test]
 fn what_waits_is_proposed_run_and_taken_out(rt: HostRuntime) -> Result<(), Fail> {
     let random = RandomState::new(&rt)?;
     let mut executor = Executor::new(KvStore::new(rt.alloc()))?;
-    assert!(rt; comes_into_the_next_block(&rt, rt.alloc(), &mut executor, random)?);
-    assert!(rt; tells(&executor, 1, ONE_PAIR));
-    assert!(rt; holds(&executor, b"a", 1, b"1")?);
+    let mut pool = Pool::new(rt.alloc(), random);
+    let wanted = (1, [].as_slice(), EMPTY_STORE);
+    assert!(rt;
+        answers(rt.alloc(), &mut executor, &[], wanted)
+            && comes_into_the_next_block(rt.alloc(), &mut executor, &mut pool)
+    );
     Ok(())
 }
 
 // Whether an application accepts a transaction in its next block.
-fn accepts<R: Abort, A: Application>(
-    rt: &R,
+fn accepts<A: Application>(alloc: Global, executor: &mut Executor<A>, tx: &[u8]) -> bool {
+    match runs(alloc, executor, &[tx]) {
+        Some(done) => done.codes.as_slice() == [0].as_slice(),
+        None => false,
+    }
+}
+
+// Whether an application accepts a transaction in its first block, and then holds this under a key.
+fn plays<A: Application>(
     alloc: Global,
     executor: &mut Executor<A>,
     tx: &[u8],
-) -> Result<bool, Fail> {
-    let block = batch(alloc, &[tx])?;
-    Ok(execute(rt, alloc, executor, &block)?.codes.as_slice() == [0].as_slice())
+    (key, held): (&[u8], &[u8]),
+) -> bool {
+    executor.height() == 0
+        && accepts(alloc, executor, tx)
+        && executor.height() == 1
+        && holds(executor, key, 1, held)
 }
 
-// Whether an application of a kind begins at height 0, accepts a transaction in its first block, and then holds this.
-fn is_played<R: Abort>(
-    rt: &R,
-    alloc: Global,
-    kind: AppKind,
-    tx: &[u8],
-    (key, held): (&[u8], &[u8]),
-) -> Result<bool, Fail> {
-    let mut executor = Executor::new(AnyKind::new(alloc, kind))?;
-    let is_new = executor.height() == 0;
-    let accepted = accepts(rt, alloc, &mut executor, tx)?;
-    Ok(is_new && accepted && executor.height() == 1 && holds(&executor, key, 1, held)?)
+// Whether an application of a kind does so.
+fn is_played(alloc: Global, kind: AppKind, tx: &[u8], held: (&[u8], &[u8])) -> bool {
+    match Executor::new(AnyKind::new(alloc, kind)) {
+        Ok(mut executor) => plays(alloc, &mut executor, tx, held),
+        Err(_) => false,
+    }
 }
+
+/// A kind, a transaction that it accepts, and what it then holds under a key.
+const KINDS: [(AppKind, &[u8], (&[u8], &[u8])); 3] = [
+    (AppKind::KvStore, b"a=1", (b"a", b"1")),
+    (
+        AppKind::Counter,
+        &[0],
+        (b"count", &[0, 0, 0, 0, 0, 0, 0, 1]),
+    ),
+    (
+        AppKind::Purse,
+        &[0, 1, 0, 0, 0, 5, 0, 0, 0, 0],
+        (&[0], &[0, 0, 3, 227, 0, 0, 0, 1]),
+    ),
+];
 
 // Each kind, chosen at run time, runs a block of its own: its code, its height, and what it then holds.
 #[test]
-fn a_kind_is_chosen_at_run_time(rt: HostRuntime) -> Result<(), Fail> {
-    let kinds: [(AppKind, &[u8], (&[u8], &[u8])); 3] = [
-        (AppKind::KvStore, b"a=1", (b"a", b"1")),
-        (
-            AppKind::Counter,
-            &[0],
-            (b"count", &[0, 0, 0, 0, 0, 0, 0, 1]),
-        ),
-        (
-            AppKind::Purse,
-            &[0, 1, 0, 0, 0, 5, 0, 0, 0, 0],
-            (&[0], &[0, 0, 3, 227, 0, 0, 0, 1]),
-        ),
-    ];
-    for (kind, tx, held) in kinds {
-        assert!(rt; is_played(&rt, rt.alloc(), kind, tx, held)?);
+fn a_kind_is_chosen_at_run_time(rt: HostRuntime) {
+    for &(kind, tx, held) in &KINDS {
+        assert!(rt; is_played(rt.alloc(), kind, tx, held));
     }
-    Ok(())
 }

@@ -1,4 +1,4 @@
-//! An application whose calls are written down, and that may find no memory for its answers to queries.
+//! An application whose calls are written down, and that finds no memory for its answers to queries.
 ghost use Rattle.std.specs.Prelude.{◌≡◌};
 
 use abci::{Application, CheckKind, Info, QueryFault};
@@ -7,7 +7,7 @@ use std::alloc::AllocError;
 use std::cell::Cell;
 
 /// A call that an engine made. A transaction is told by its first byte.
-#[derive(Clone, Copy, Debug, PartialEq, Eq)]
+#[derive(Clone, Copy, PartialEq, Eq)]
 pub(crate) enum Call {
     InitChain,
     CheckNew(u8),
@@ -19,15 +19,13 @@ pub(crate) enum Call {
 }
 
 /// The most calls that are written down.
-const MAX_CALLS: usize = 16;
+pub(crate) const MAX_CALLS: usize = 9;
 
 /// An application, and the calls that were made on it but for Info and Query.
 #[derive(Drop)]
 pub(crate) struct Traced<X: Application> {
     app: X,
     calls: Cell<[Option<Call>; MAX_CALLS]>,
-    /// Whether a query finds no memory for its answer.
-    forgets: bool,
 }
 
 impl<X: Application> Traced<X> {
@@ -38,18 +36,6 @@ impl<X: Application> Traced<X> {
         Traced {
             app,
             calls: Cell::new([None; MAX_CALLS]),
-            forgets: false,
-        }
-    }
-
-    /// The application, whose queries will find no memory.
-    pub(crate) fn forgetful(app: X) -> Self
-        ensures { result.app ≡ app }
-    {
-        Traced {
-            app,
-            calls: Cell::new([None; MAX_CALLS]),
-            forgets: true,
         }
     }
 
@@ -114,8 +100,8 @@ impl<X: Application> Application for Traced<X> {
 
     fn query(&self, key: &[u8], height: u32) -> Result<Option<Vec<u8>>, QueryFault> {
         match self.app.query(key, height) {
-            Ok(_) if self.forgets => Err(QueryFault::NoMemory),
-            answer => answer,
+            Ok(_) => Err(QueryFault::NoMemory),
+            Err(fault) => Err(fault),
         }
     }
 }

@@ -1,6 +1,6 @@
 //! Two threads that publish heights while two others read them: what is read never falls, and comes to what was published.
-ghost use Rattle.std.specs.Prelude.{◌≡◌, ◌<◌, ℕ, Some, vec_len, slice_get, IfSome};
-ghost use Rattle.commit_board.specs.Seats.{replicas_of, new_writer, new_reader};
+ghost use Rattle.std.specs.Prelude.{◌≡◌, ◌<◌};
+ghost use Rattle.commit_board.specs.Seats.{replicas_of};
 
 use commit_board::{Board, ReaderSeat, WriterSeat};
 use ledger_model::{AppKind, Config, Height, ReplicaId};
@@ -103,38 +103,12 @@ fn both_follow<R: Threads + Wait + Sync>(
     one && two
 }
 
-/// The seats of two of four writers.
-fn two_writers(board: &Board, mut writing: Vec<WriterSeat>) -> Option<(WriterSeat, WriterSeat)>
-    requires count { vec_len writing ≡ 4 }
-    requires writers { (k : ℕ) → k < 4 → slice_get writing.items k ≡ Some (new_writer board.now k) }
-    ensures { IfSome result (λ seats. (seats.0.board ≡ board.now) × (seats.1.board ≡ board.now)) }
-{
-    match (writing.pop(), writing.pop()) {
-        (Some(first), Some(second)) => Some((first, second)),
-        _ => None,
-    }
-}
-
-/// The seats of two readers.
-fn two_readers(board: &Board, mut reading: Vec<ReaderSeat>) -> Option<(ReaderSeat, ReaderSeat)>
-    requires count { vec_len reading ≡ 2 }
-    requires readers { (k : ℕ) → k < 2 → slice_get reading.items k ≡ Some (new_reader board.now) }
-    ensures { IfSome result (λ seats. (seats.0.board ≡ board.now) × (seats.1.board ≡ board.now)) }
-{
-    match (reading.pop(), reading.pop()) {
-        (Some(first), Some(second)) => Some((first, second)),
-        _ => None,
-    }
-}
-
 #[test]
 fn two_threads_publish_and_two_others_read(rt: HostRuntime) -> Result<(), Fail> {
     let config = Config::new(4, 1, AppKind::Counter)?;
-    let (board, writing, reading) = Board::new(rt.alloc(), &config, 2)?;
-    let (Some((a, b)), Some((c, d))) = (two_writers(&board, writing), two_readers(&board, reading))
-    else {
-        return Ok(assert!(rt; false, "a seat is missing"));
-    };
+    let (board, mut writing, mut reading) = Board::new(rt.alloc(), &config, 2)?;
+    let (a, b) = (writing.pop().unwrap(), writing.pop().unwrap());
+    let (c, d) = (reading.pop().unwrap(), reading.pop().unwrap());
     let board = &board;
     let handle = &rt;
     let (published, followed) = thread::join(

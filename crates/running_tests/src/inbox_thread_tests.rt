@@ -1,9 +1,9 @@
 //! Four threads that put into one inbox while a fifth takes: nothing is lost, doubled or reordered within a pass.
 ghost use Rattle.std.specs.Prelude.{◌≡◌};
 
-use bytes::Bytes;
-use inbox::{Inbox, Item, PuttingPass, TakingPass};
-use std::alloc::{AllocError, Global};
+use crate::inbox_tests::{put_bytes, takes};
+use inbox::{Inbox, PuttingPass, TakingPass};
+use std::alloc::Global;
 use std::sync::Wait;
 use std::test::Fail;
 use std::thread;
@@ -15,42 +15,6 @@ const NUMBERS: u32 = 100_000;
 /// How many passes put.
 const PUTTERS: u32 = 4;
 
-/// Puts a number as a frame, and answers whether there was room.
-fn puts<R: Wait>(
-    rt: &R,
-    alloc: Global,
-    inbox: &Inbox,
-    pass: &mut PuttingPass,
-    number: u32,
-) -> Result<bool, AllocError>
-    requires { pass.old.inbox ≡ inbox.now }
-    ensures { pass.new.inbox ≡ pass.old.inbox }
-{
-    let bytes = Bytes::copy_from_slice(alloc, &number.to_be_bytes())?;
-    let item = Item::new(pass.number(), bytes);
-    Ok(inbox.put(rt, pass, item).is_ok())
-}
-
-/// The number that a frame is.
-fn number_of(bytes: &[u8]) -> Option<u32> {
-    match bytes {
-        [a, b, c, d] => Some(u32::from_be_bytes([*a, *b, *c, *d])),
-        _ => None,
-    }
-}
-
-/// Takes a number, and answers by which pass it came.
-fn takes<R: Wait>(rt: &R, inbox: &Inbox, pass: &mut TakingPass) -> Option<(u32, u32)>
-    requires { pass.old.inbox ≡ inbox.now }
-    ensures { pass.new.inbox ≡ pass.old.inbox }
-{
-    let item = inbox.take(rt, pass)?;
-    let from = item.pass();
-    let bytes = item.into_bytes();
-    let number = number_of(bytes.as_slice())?;
-    Some((from, number))
-}
-
 /// Puts all numbers, each again until there is room.
 fn sends<R: Wait>(rt: &R, alloc: Global, inbox: &Inbox, mut pass: PuttingPass) -> bool
     requires { pass.inbox ≡ inbox.now }
@@ -60,9 +24,9 @@ fn sends<R: Wait>(rt: &R, alloc: Global, inbox: &Inbox, mut pass: PuttingPass) -
         if next >= NUMBERS {
             return true;
         }
-        match puts(rt, alloc, inbox, &mut pass, next) {
-            Ok(true) => next += 1,
-            Ok(false) => thread::yield_now(),
+        match put_bytes(rt, alloc, inbox, &mut pass, &u32::to_be_bytes(next)) {
+            Ok(None) => next += 1,
+            Ok(Some(_)) => thread::yield_now(),
             Err(_) => return false,
         }
     }
@@ -93,22 +57,31 @@ fn both_send<R: Threads + Wait + Sync>(
 }
 
 /// Which number comes next of each pass, and how many are to come in all.
-#[derive(Drop)]
+#[derive(Clone, Copy)]
 struct Expected {
     next: [u32; 4],
     left: u32,
 }
 
 impl Expected {
-    /// Counts a number, and answers whether it was the next of its pass.
-    fn count(&mut self, from: u32, number: u32) -> bool {
+    /// Counts a frame, and answers whether it was the next number of its pass.
+    fn count(&mut self, from: u32, frame: &[u8]) -> bool {
         let Some(next) = self.next.get_mut(from as usize) else {
             return false;
         };
-        let is_next = *next == number;
-        *next = number.wrapping_add(1);
+        let is_next = frame == next.to_be_bytes().as_slice();
+        *next = next.wrapping_add(1);
         self.left = self.left.saturating_sub(1);
         is_next
+    }
+
+    /// Takes a frame, and answers whether it was the next number of its pass.
+    fn takes_next<R: Wait>(&mut self, rt: &R, inbox: &Inbox, pass: &mut TakingPass) -> Option<bool>
+        requires { pass.old.inbox ≡ inbox.now }
+        ensures { pass.new.inbox ≡ pass.old.inbox }
+    {
+        let (from, frame) = takes(rt, inbox, pass)?;
+        Some(self.count(from, frame.as_slice()))
     }
 }
 
@@ -124,12 +97,9 @@ fn receives<R: Wait>(rt: &R, inbox: &Inbox, mut pass: TakingPass) -> bool
         if expected.left == 0 {
             return takes(rt, inbox, &mut pass).is_none();
         }
-        match takes(rt, inbox, &mut pass) {
-            Some((from, number)) => {
-                if !expected.count(from, number) {
-                    return false;
-                }
-            }
+        match expected.takes_next(rt, inbox, &mut pass) {
+            Some(true) => {}
+            Some(false) => return false,
             None => thread::yield_now(),
         }
     }

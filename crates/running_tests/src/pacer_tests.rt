@@ -23,7 +23,7 @@ const CASES: [(u64, u64, u32, u32, u32); 12] = [
 
 #[test]
 fn ends_are_due_by_the_millisecond(rt: HostRuntime) {
-    for (start, now, base, ended, wanted) in CASES {
+    for &(start, now, base, ended, wanted) in &CASES {
         assert_eq!(rt; due(start, now, base, ended), wanted, "{now} {ended}");
     }
 }

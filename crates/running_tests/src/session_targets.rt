@@ -5,7 +5,7 @@ use ledger_model::{Batch, Height, QueryAnswer, ReplicaId, SubmitRefusal, Tx};
 use std::alloc::{AllocError, Global};
 
 /// What a submit is answered.
-type Submitted = Result<Result<(), SubmitRefusal>, TargetFault>;
+pub(crate) type Submitted = Result<Result<(), SubmitRefusal>, TargetFault>;
 
 /// Replicas at these heights, whose blocks are all `a=1`.
 #[derive(Drop)]
