@@ -1,4 +1,4 @@
-use Rattle.std.proofs.Common.{ℕ, ◌<◌, sym, ap, ◌∙◌, subst}
+use Rattle.std.proofs.Common.{ℕ, ◌<◌, sym, ap, ◌∙◌, subst, rules}
 use Rattle.atomic_table.specs.Seated.{TableId}
 use Rattle.commit_board.specs.Seats.{Writer}
 use Rattle.commit_board.proofs.Moves.{owns}
@@ -10,3 +10,6 @@ load-height-requires c =
     let tie = ap (λ (w : Writer). w.board) c.seat.view_is ∙ c.requires ∙ sym c.self.view_is in
     let word = c.from-word.ensures ∙ c.number.ensures in
     (tie, subst (λ (y : ℕ × TableId). y.0 < y.1.words) (λ k. (sym word k, tie k)) i.4, owns _ _ _ _ _ i.1 (i.3 ∙ sym word))
+
+pub returns-clause-height : goal.returns-clause-height
+returns-clause-height c = search rules

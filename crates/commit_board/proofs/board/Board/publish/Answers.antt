@@ -1,4 +1,4 @@
-use Rattle.std.proofs.Common.{ℕ, ◌<◌, sym, ap, ◌∙◌, subst, arith}
+use Rattle.std.proofs.Common.{ℕ, ◌<◌, sym, ap, ◌∙◌, subst, arith, rules}
 use Rattle.atomic_table.specs.Seated.{TableId}
 use Rattle.commit_board.specs.Seats.{Writer}
 use Rattle.commit_board.proofs.Moves.{raises}
@@ -10,3 +10,9 @@ fetch_max-requires c =
     let tie = ap (λ (w : Writer). w.board) c.seat.view_is ∙ c.requires ∙ sym c.self.view_is in
     let word = c.from-word.ensures ∙ c.number.ensures in
     (tie, subst (λ (y : ℕ × TableId). y.0 < y.1.words) (λ k. (sym word k, tie k)) i.4, raises _ _ _ _ _ _ i.1 i.2 (i.3 ∙ sym word) (omega arith))
+
+pub returns-clause-height : goal.returns-clause-height
+returns-clause-height c = search rules
+
+pub returns-clause-step : goal.returns-clause-step
+returns-clause-step c = search rules

@@ -1,4 +1,4 @@
-use Rattle.std.proofs.Common.{ℕ, ◌<◌, sym, ap, ◌∙◌, subst}
+use Rattle.std.proofs.Common.{ℕ, ◌<◌, sym, ap, ◌∙◌, subst, rules}
 use Rattle.atomic_table.specs.Seated.{TableId}
 use Rattle.commit_board.specs.Seats.{Reader}
 use Rattle.commit_board.proofs.Moves.{loads}
@@ -11,3 +11,15 @@ load-found-requires c =
     let within : c.from-word.result < c.self.inside.table.shared.table_id.words = subst (λ (y : ℕ × TableId). y.0 < y.1.words) (λ k. (sym word k, sym c.self.view_is k)) c.requires.replica in
     let key : c.from-word.result < c.self.inside.table.shared.key = subst (λ (m : ℕ). c.from-word.result < m) (sym c.self.invariant.0) within in
     (ap (λ (s : Reader). s.board) c.seat.view_is ∙ c.requires.board ∙ sym c.self.view_is, within, loads _ _ _ _ _ key i.1 i.2)
+
+pub returns-clause-seen : goal.returns-clause-seen
+returns-clause-seen c = search rules
+
+pub returns-clause-rises : goal.returns-clause-rises
+returns-clause-rises c = search rules
+
+pub returns-clause-last : goal.returns-clause-last
+returns-clause-last c = search rules
+
+pub returns-clause-step : goal.returns-clause-step
+returns-clause-step c = search rules

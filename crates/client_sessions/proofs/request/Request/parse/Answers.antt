@@ -1,0 +1,9 @@
+use Rattle.std.proofs.Common.{arith}
+use Rattle.std.proofs.lemmas.Grind.{common_steps, elements}
+use Rattle.client_sessions.proofs.request.Request.parse.Goals as goal
+
+pub returns-in-2 : goal.returns-in-2
+returns-in-2 c = grind (arith, common_steps)
+
+pub returns-in-1 : goal.returns-in-1
+returns-in-1 c = grind (arith, elements)

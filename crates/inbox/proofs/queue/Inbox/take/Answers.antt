@@ -1,0 +1,8 @@
+use Rattle.std.proofs.Common.{rules}
+use Rattle.inbox.proofs.queue.Inbox.take.Goals as goal
+
+pub returns-clause-taken : goal.returns-clause-taken
+returns-clause-taken g c = search rules
+
+pub returns-clause-step : goal.returns-clause-step
+returns-clause-step g c = search rules
