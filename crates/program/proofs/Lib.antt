@@ -1,1 +1,11 @@
+mod AnsweringLemmas
+mod PrintingLemmas
+mod StreamLemmas
+mod PieceLemmas
+mod StreamEnds
+mod DeliveringLemmas
+mod SimulatingLemmas
+mod OpeningLemmas
+mod HistoryLemmas
+mod ScenarioLemmas
 mod RunningLemmas

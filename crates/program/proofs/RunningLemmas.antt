@@ -15,12 +15,12 @@ use Rattle.command_line.specs.declared.usage_fault.UsageFault.TheVariants as fau
 use Rattle.command_line.specs.Options.{AsksForText, IsRefused, IsSet, WantsMemory}
 use Rattle.program_streams.specs.Writing.{AppendsSome}
 use Rattle.program_streams.proofs.RespondingLemmas.{responds_some}
-use Rattle.frame_delivery.specs.declared.stream_end.StreamEnd.{StreamEnd}
-use Rattle.frame_delivery.specs.declared.stream_end.StreamEnd.TheVariants as stream
-use Rattle.frame_delivery.specs.Streams.{DeliversStream, DeliversStreamSome}
-use Rattle.scenario_playing.specs.declared.text_end.TextEnd.{TextEnd}
-use Rattle.scenario_playing.specs.declared.text_end.TextEnd.TheVariants as scenario
-use Rattle.scenario_playing.specs.Simulating.{PlaysText, PlaysTextSome}
+use Rattle.program.specs.declared.stream_end.StreamEnd.{StreamEnd}
+use Rattle.program.specs.declared.stream_end.StreamEnd.TheVariants as stream
+use Rattle.program.specs.Streams.{DeliversStream, DeliversStreamSome}
+use Rattle.program.specs.declared.text_end.TextEnd.{TextEnd}
+use Rattle.program.specs.declared.text_end.TextEnd.TheVariants as scenario
+use Rattle.program.specs.Simulating.{PlaysText, PlaysTextSome}
 use Rattle.program.specs.declared.outcome.Outcome.{Outcome}
 use Rattle.program.specs.declared.outcome.Outcome.TheVariants as outcome
 use Rattle.program.specs.declared.outcome.Piped.{Piped}

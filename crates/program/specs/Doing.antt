@@ -7,12 +7,12 @@ use Rattle.settings.specs.declared.sign.SignSettings.{SignSettings}
 use Rattle.command_line.specs.Options.{IsSet}
 use Rattle.frame_signing.specs.Statements.{signed}
 use Rattle.program_streams.specs.Responding.{Responds, RespondsSome}
-use Rattle.frame_delivery.specs.declared.stream_end.StreamEnd.{StreamEnd}
-use Rattle.frame_delivery.specs.declared.stream_end.StreamEnd.TheVariants as stream
-use Rattle.frame_delivery.specs.Streams.{DeliversStream, DeliversStreamSome}
-use Rattle.scenario_playing.specs.declared.text_end.TextEnd.{TextEnd}
-use Rattle.scenario_playing.specs.declared.text_end.TextEnd.TheVariants as scenario
-use Rattle.scenario_playing.specs.Simulating.{PlaysText, PlaysTextSome}
+use Rattle.program.specs.declared.stream_end.StreamEnd.{StreamEnd}
+use Rattle.program.specs.declared.stream_end.StreamEnd.TheVariants as stream
+use Rattle.program.specs.Streams.{DeliversStream, DeliversStreamSome}
+use Rattle.program.specs.declared.text_end.TextEnd.{TextEnd}
+use Rattle.program.specs.declared.text_end.TextEnd.TheVariants as scenario
+use Rattle.program.specs.Simulating.{PlaysText, PlaysTextSome}
 use Rattle.program.specs.declared.outcome.Outcome.{Outcome}
 use Rattle.program.specs.declared.outcome.Outcome.TheVariants as outcome
 use Rattle.program.specs.declared.outcome.Piped.{Piped}

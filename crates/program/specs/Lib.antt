@@ -1,1 +1,5 @@
+pub mod Lines
+pub mod Answering
+pub mod Streams
+pub mod Simulating
 pub mod Doing

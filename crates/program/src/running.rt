@@ -8,13 +8,15 @@ ghost use Rattle.frame_signing.specs.Statements.{signed};
 ghost use Rattle.program_streams.specs.Writing.{Writes};
 ghost use Rattle.program.specs.Doing.{Begins, Done, Halted, IfEnded, IfHanded, Performs, settings_of, status_of_stream, status_of_text};
 
+use crate::delivering::deliver;
 use crate::outcome::{Outcome, Piped};
 use crate::printing::{complain, print};
+use crate::simulating::simulate;
+use crate::stream_end::StreamEnd;
+use crate::text_end::TextEnd;
 use command_line::{UsageFault, settings};
-use frame_delivery::{StreamEnd, deliver};
 use frame_signing::signed_frame;
 use program_streams::{ProgramFault, write_whole};
-use scenario_playing::{TextEnd, simulate};
 use settings::{Settings, SignSettings};
 use std::alloc::Global;
 use std::io::{self, ErrorKind, Read, Write};

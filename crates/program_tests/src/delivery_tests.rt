@@ -1,10 +1,10 @@
 //! `abft deliver` over streams.
 use crate::streams::{Broken, Counted};
 use cluster_keys::Cluster;
-use frame_delivery::{StreamEnd, deliver};
 use frame_signing::signed_frame;
 use ledger_model::{AppKind, Config, Height, Phase, ReplicaId, Tx};
 use lm_ots::{Params, TreeHeight, Width};
+use program::{StreamEnd, deliver};
 use program_streams::ProgramFault;
 use settings::{DeliverSettings, SignSettings, What};
 use signed_frames::Frame;

@@ -1,6 +1,6 @@
 //! `abft simulate` over streams.
 use crate::streams::{Broken, Counted};
-use scenario_playing::simulate;
+use program::simulate;
 use settings::SimulateSettings;
 use std::alloc::Global;
 use std::io::{Read, Write};

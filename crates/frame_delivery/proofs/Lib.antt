@@ -1,6 +1,0 @@
-mod AnsweringLemmas
-mod PrintingLemmas
-mod StreamLemmas
-mod PieceLemmas
-mod StreamEnds
-mod DeliveringLemmas

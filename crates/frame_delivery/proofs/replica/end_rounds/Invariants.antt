@@ -1,8 +1,0 @@
--- so many rounds have ended
-use Rattle.std.proofs.Common.{[], replicate}
-use Rattle.ledger_model.specs.declared.event.Event.TheVariants as event
-use Rattle.frame_delivery.specs.Answering.{Answers}
-use Rattle.frame_delivery.proofs.replica.end_rounds.Given as goal
-
-abbrev pub invariant-loop : goal.invariant-loop
-invariant-loop l = Answers l.initial.state (replicate l.counter event.RoundEnd) [] l.state

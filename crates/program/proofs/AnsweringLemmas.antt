@@ -1,0 +1,109 @@
+-- A replica that takes events one after the other.
+use Rattle.std.proofs.Common.{◌≡◌, ℕ, List, [], ◌∷◌, ◌++◌, map, refl, sym, ap, ◌∙◌, append_assoc, append-nil}
+use Rattle.std.proofs.lemmas.List.{map-append}
+use Rattle.std.proofs.lemmas.List.Concat.{flat_map-append}
+use Rattle.ledger_model.specs.declared.event.Event.{Event}
+use Rattle.ledger_model.specs.declared.event.Event.TheVariants as event
+use Rattle.ledger_model.specs.declared.reply.Reply.{Reply}
+use Rattle.ledger_model.specs.declared.reply.Reply.TheVariants as reply
+use Rattle.ledger_model.specs.declared.history.Entry.{Entry}
+use Rattle.ledger_model.specs.Lawful.{Lawful, Replay}
+use Rattle.locked_replica.specs.Replicas.{Replica}
+use Rattle.program.specs.Lines.{lines_of, reply_text}
+use Rattle.program.specs.Answering.{Answers, AnswersSome}
+
+-- the replica is the same but for what events change
+abbrev pub IsSame : Replica → Replica → Type 0
+IsSame old new = new ≡ record old { used = new.used; entries = new.entries; machine = new.machine }
+
+-- no event
+pub answers_none : (a : Replica) → Answers a [] [] a
+answers_none a = record {
+  added = [];
+  grown = record { entries = sym (append-nil a.entries); same = refl; replay = λ x. x };
+  these = refl;
+  lines = refl;
+}
+
+-- an event that is not taken
+pub answers_refused : (old new : Replica) → new.entries ≡ old.entries → IsSame old new → Replay new.config new.ring new.id new.entries → Answers old [] [] new
+answers_refused old new stays same replay = record {
+  added = [];
+  grown = record { entries = stays ∙ sym (append-nil old.entries); same = same; replay = λ _. replay };
+  these = refl;
+  lines = refl;
+}
+
+-- one event
+pub answers_one : (old new : Replica) (e : Event) (r : Reply) (text : List ℕ) → new.entries ≡ old.entries ++ record { event = e; reply = r } ∷ []
+    → IsSame old new → Replay new.config new.ring new.id new.entries → reply_text r ≡ text → Answers old (e ∷ []) text new
+answers_one old new e r text grown same replay line = record {
+  added = record { event = e; reply = r } ∷ [];
+  grown = record { entries = grown; same = same; replay = λ _. replay };
+  these = refl;
+  lines = append-nil (reply_text r) ∙ line;
+}
+
+-- events, and then others
+pub answers_both : (a b c : Replica) (xs ys : List Event) (s t : List ℕ) → Answers a xs s b → Answers b ys t c → Answers a (xs ++ ys) (s ++ t) c
+answers_both a b c xs ys s t first second = record {
+  added = first.added ++ second.added;
+  grown = record {
+    entries = second.grown.entries ∙ ap (λ l. l ++ second.added) first.grown.entries ∙ append_assoc a.entries first.added second.added;
+    same = second.grown.same ∙ ap (λ (r : Replica). record r { used = c.used; entries = c.entries; machine = c.machine }) first.grown.same;
+    replay = λ x. second.grown.replay (first.grown.replay x);
+  };
+  these = map-append _ first.added second.added ∙ ap (λ l. l ++ map (λ (e : Entry). e.event) second.added) first.these ∙ ap (λ l. xs ++ l) second.these;
+  lines = flat_map-append _ first.added second.added ∙ ap (λ l. l ++ lines_of second.added) first.lines ∙ ap (λ l. s ++ l) second.lines;
+}
+
+-- all of the events are the first of them
+pub some_all : (a b : Replica) (xs : List Event) (s : List ℕ) → Answers a xs s b → AnswersSome a xs s b
+some_all a b xs s all = record { taken = xs; later = []; split = append-nil xs; answers = all }
+
+-- none is, of any events
+pub some_none : (a b : Replica) (xs : List Event) → Answers a [] [] b → AnswersSome a xs [] b
+some_none a b xs none = record { taken = []; later = xs; split = refl; answers = none }
+
+-- events, and then the first of others
+pub some_after : (a b c : Replica) (xs ys : List Event) (s t : List ℕ) → Answers a xs s b → AnswersSome b ys t c → AnswersSome a (xs ++ ys) (s ++ t) c
+some_after a b c xs ys s t first second = record {
+  taken = xs ++ second.taken;
+  later = second.later;
+  split = append_assoc xs second.taken second.later ∙ ap (λ l. xs ++ l) second.split;
+  answers = answers_both a b c xs second.taken s t first second.answers;
+}
+
+-- the first of some events are the first of more
+pub some_longer : (a b : Replica) (xs ys : List Event) (s : List ℕ) → AnswersSome a xs s b → AnswersSome a (xs ++ ys) s b
+some_longer a b xs ys s some = record {
+  taken = some.taken;
+  later = some.later ++ ys;
+  split = sym (append_assoc some.taken some.later ys) ∙ ap (λ l. l ++ ys) some.split;
+  answers = some.answers;
+}
+
+-- what is answered to other events than deliveries prints nothing
+pub submit_silent : (a : Replica) (bytes : List ℕ) (r : Reply) → Lawful a.config a.ring a.id a.entries (event.Submit bytes) r → reply_text r ≡ []
+submit_silent a bytes (reply.Submitted r) lawful = refl
+submit_silent a bytes (reply.Proposed r) lawful = refl
+submit_silent a bytes (reply.Delivered r) lawful = absurd lawful
+submit_silent a bytes (reply.RoundEnded r) lawful = refl
+submit_silent a bytes (reply.Executed r) lawful = refl
+submit_silent a bytes (reply.Queried r) lawful = refl
+
+pub propose_silent : (a : Replica) (h : ℕ) (r : Reply) → Lawful a.config a.ring a.id a.entries (event.Propose h) r → reply_text r ≡ []
+propose_silent a h (reply.Submitted r) lawful = refl
+propose_silent a h (reply.Proposed r) lawful = refl
+propose_silent a h (reply.Delivered r) lawful = absurd lawful
+propose_silent a h (reply.RoundEnded r) lawful = refl
+propose_silent a h (reply.Executed r) lawful = refl
+propose_silent a h (reply.Queried r) lawful = refl
+
+pub round_end_silent : (a : Replica) (r : Reply) → Lawful a.config a.ring a.id a.entries event.RoundEnd r → reply_text r ≡ []
+round_end_silent a (reply.Submitted r) lawful = refl
+round_end_silent a (reply.Proposed r) lawful = refl
+round_end_silent a (reply.Delivered r) lawful = absurd lawful
+round_end_silent a (reply.RoundEnded r) lawful = refl
+round_end_silent a (reply.Executed r) lawful = refl
+round_end_silent a (reply.Queried r) lawful = refl

@@ -1,0 +1,110 @@
+-- From the commands that are played to what `abft simulate` prints.
+use Rattle.std.proofs.Common.{◌≡◌, ℕ, Bool, true, false, not, List, [], refl, sym, subst, ◌∙◌, inl, inr, append-nil}
+use Rattle.std.specs.Prelude.{◌⊎◌, Option, if◌then◌else◌}
+use Rattle.std.specs.Io.KnownBytes.{Appends, Consumes, IsAtEnd}
+use Rattle.std.proofs.KnownBytes.{Appends-trans}
+use Rattle.ledger_model.specs.declared.config.Config.{Config}
+use Rattle.adversary_net.specs.Clusters.{HasRun}
+use Rattle.adversary_net.specs.Headline.{IsUnforged, IsOneLedger}
+use Rattle.scenario_texts.specs.declared.fault.TextFault.{TextFault}
+use Rattle.scenario_texts.specs.declared.fault.TextFault.TheVariants as fault
+use Rattle.scenario_texts.specs.Lines.{Spells, IsBadAt}
+use Rattle.scenario_texts.specs.Plans.{Plan}
+use Rattle.simulation.specs.Playing.{Simulated, PlaysAll}
+use Rattle.settings.specs.declared.simulate.SimulateSettings.{SimulateSettings}
+use Rattle.program_streams.specs.Writing.{AppendsSome}
+use Rattle.program.specs.declared.text_end.TextEnd.TheVariants.{Whole, BadLine}
+use Rattle.program.specs.Simulating.{IsConfigOf, Played, PlayedSome, PlaysText, PlaysTextSome, PlaysWritten, PlaysWrittenSome, bad_line, histories_of, if_wanted, opening}
+use Rattle.program_streams.proofs.WritingLemmas.{nothing_some, then_some}
+use Rattle.program.proofs.SimulatingLemmas.{written_nothing}
+
+-- the lines, or none of them, and then nothing, or the histories
+text_written : (h : Bool) (lines histories : List ℕ) (before mid after : Option (List ℕ))
+    → Appends before mid (if_wanted (not h) lines) → Appends mid after (if h then histories else []) → Appends before after (if h then histories else lines)
+text_written true lines histories before mid after first last = Appends-trans before mid after [] histories first last
+text_written false lines histories before mid after first last = subst (Appends before after) (append-nil lines) (Appends-trans before mid after lines [] first last)
+
+-- a beginning of them
+text_begun : (h : Bool) (lines histories : List ℕ) (before mid after : Option (List ℕ))
+    → Appends before mid (if_wanted (not h) lines) → AppendsSome mid after (if h then histories else []) → AppendsSome before after (if h then histories else lines)
+text_begun true lines histories before mid after first last = then_some before mid after [] histories first last
+text_begun false lines histories before mid after first last = subst (AppendsSome before after) (append-nil lines) (then_some before mid after lines [] first last)
+
+-- the text of a plan that was played was written
+abbrev pub PlayedWritten : SimulateSettings → Plan → Option (List ℕ) → Option (List ℕ) → Type 0
+PlayedWritten s p before after = (text : List ℕ) × (Played s p text × Appends before after text)
+
+-- a beginning of the text of a plan that was played, or of its first commands
+abbrev pub PlayedBegun : SimulateSettings → Plan → Option (List ℕ) → Option (List ℕ) → Type 0
+PlayedBegun s p before after = (text : List ℕ) × ((PlayedSome s p text ⊎ Played s p text) × AppendsSome before after text)
+
+module _ (s : SimulateSettings) (p : Plan) (config : Config) (sized : IsConfigOf p config) where
+  -- all commands were played
+  played_of : (a b : Simulated) (lines : List ℕ) → a ≡ opening s.seed config p → PlaysAll a p.commands lines b → HasRun b.cluster → (IsUnforged b.cluster → IsOneLedger b.cluster)
+      → Played s p (if s.histories then histories_of b.cluster else lines)
+  played_of a b lines opens plays since one_ledger = record {
+    config = config;
+    sized = sized;
+    lines = lines;
+    final = b;
+    plays = subst (λ x. PlaysAll x p.commands lines b) opens plays;
+    since = since;
+    one_ledger = one_ledger;
+    written = refl;
+  }
+
+  -- and what is wanted was written
+  pub played_whole : (a b : Simulated) (before mid after : Option (List ℕ)) → a ≡ opening s.seed config p → PlaysWritten (not s.histories) a p.commands b before mid
+      → HasRun b.cluster → (IsUnforged b.cluster → IsOneLedger b.cluster) → Appends mid after (if s.histories then histories_of b.cluster else []) → PlayedWritten s p before after
+  played_whole a b before mid after opens (lines, (plays, first)) since one_ledger last = (
+    if s.histories then histories_of b.cluster else lines,
+    (played_of a b lines opens plays since one_ledger, text_written s.histories lines (histories_of b.cluster) before mid after first last),
+  )
+
+  -- or a beginning of it
+  pub played_begun : (a b : Simulated) (before mid after : Option (List ℕ)) → a ≡ opening s.seed config p → PlaysWritten (not s.histories) a p.commands b before mid
+      → HasRun b.cluster → (IsUnforged b.cluster → IsOneLedger b.cluster) → AppendsSome mid after (if s.histories then histories_of b.cluster else []) → PlayedBegun s p before after
+  played_begun a b before mid after opens (lines, (plays, first)) since one_ledger last = (
+    if s.histories then histories_of b.cluster else lines,
+    (inr (played_of a b lines opens plays since one_ledger), text_begun s.histories lines (histories_of b.cluster) before mid after first last),
+  )
+
+  -- the first commands were played
+  pub played_part : (a : Simulated) (before after : Option (List ℕ)) → a ≡ opening s.seed config p → PlaysWrittenSome (not s.histories) a p.commands before after → PlayedBegun s p before after
+  played_part a before after opens part =
+      let (lines, (some, written)) = subst (λ x. PlaysWrittenSome (not s.histories) x p.commands before after) opens part in
+      (if_wanted (not s.histories) lines, (inl (config, (sized, (lines, (some, refl)))), written))
+
+  -- none was
+  pub played_nothing : (before : Option (List ℕ)) → PlayedBegun s p before before
+  played_nothing before = played_part (opening s.seed config p) before before refl (written_nothing (not s.histories) (opening s.seed config p) p.commands before)
+
+module _ (s : SimulateSettings) (input : List ℕ) (unread left before after : Option (List ℕ)) (read : Consumes unread left input) where
+  -- the plan of the text was played
+  pub simulated : (p : Plan) → Spells input p → IsAtEnd left → PlayedWritten s p before after → PlaysText s Whole unread left before after
+  simulated p spells to_end (text, (played, written)) = (to_end, record { input = input; text = text; goes_with = (p, (spells, played)); read = read; written = written })
+
+  -- or begun
+  pub simulated_part : (p : Plan) → Spells input p → PlayedBegun s p before after → PlaysTextSome s unread left before after
+  simulated_part p spells (text, (inl some, written)) = record { input = input; text = text; goes_with = inl (inr (p, (spells, some))); read = read; written = written }
+  simulated_part p spells (text, (inr played, written)) = record { input = input; text = text; goes_with = inr (Whole, (p, (spells, played))); read = read; written = written }
+
+  -- its first bad line was told
+  pub told_bad : (n : ℕ) → IsBadAt input n → IsAtEnd left → Appends before after (bad_line n) → PlaysText s (BadLine n) unread left before after
+  told_bad n bad to_end written = (to_end, record { input = input; text = bad_line n; goes_with = (bad, refl); read = read; written = written })
+
+  pub told_part : (n : ℕ) → IsBadAt input n → AppendsSome before after (bad_line n) → PlaysTextSome s unread left before after
+  told_part n bad written = record { input = input; text = bad_line n; goes_with = inr (BadLine n, (bad, refl)); read = read; written = written }
+
+-- nothing was written
+pub read_only : (s : SimulateSettings) (input : List ℕ) (unread left before : Option (List ℕ)) → Consumes unread left input → PlaysTextSome s unread left before before
+read_only s input unread left before read = record { input = input; text = []; goes_with = inl (inl refl); read = read; written = nothing_some before [] }
+
+-- the first bad line has one number
+pub bad_at : (why : TextFault) (n : ℕ) (text : List ℕ) → why ≡ fault.BadLine n
+    → (why ≡ fault.NoMemory) ⊎ ((m : ℕ) × ((why ≡ fault.BadLine m) × IsBadAt text m)) → IsBadAt text n
+bad_at why n text is (inl none) = let no = sym is ∙ none in absurd cc
+bad_at why n text is (inr (m, (also, bad))) = let same : m ≡ n = one_number (sym also ∙ is) in subst (IsBadAt text) same bad
+  where
+    one_number : fault.BadLine m ≡ fault.BadLine n → m ≡ n
+    one_number e = cc

@@ -1,0 +1,48 @@
+use Rattle.std.proofs.Common.{◌≡◌, List, [], ◌∷◌, ◌++◌, rules, length, sym, ap, subst, ◌∙◌, append_assoc, append-nil}
+use Rattle.std.specs.Vec.Iter.{into_iter_items}
+use Rattle.ledger_model.specs.declared.statement.SignedStatement.{SignedStatement}
+use Rattle.program.specs.Answering.{Printed, PrintedSome, deliveries}
+use Rattle.program_streams.proofs.Faults.{on_error}
+use Rattle.program.proofs.PrintingLemmas.{printed_none, printed_both, printed_after, printed_longer}
+use Rattle.program.proofs.PieceLemmas.{deliveries-append}
+use Rattle.program.proofs.frame_stream.deliver_all.Goals as goal
+
+-- of no length is the empty list alone
+none_of : (xs : List SignedStatement) → length xs ≡ 0 → xs ≡ []
+none_of [] is = search rules
+none_of (x ∷ xs) is = absurd cc
+
+pub loop-frame-init : goal.loop-frame-init
+loop-frame-init g c = ([], (search rules, printed_none _ _))
+
+pub loop-frame-preserved : goal.loop-frame-preserved
+loop-frame-preserved g c =
+    let (done, kept) = c.loop-frame.invariant in
+    let one : List SignedStatement = c.in-Some.frame ∷ [] in (
+      done ++ one,
+      (
+        kept.0 ∙ ap (λ l. done ++ l) c.in-Some.ensures.steps.0 ∙ sym (append_assoc done one (into_iter_items c.next.new.self)),
+        subst (λ l. Printed c.args.state.now l c.deliver_frame.new.state (g.W.Write.contents c.args.writer.now) (g.W.Write.contents c.deliver_frame.new.writer)) (deliveries-append done one)
+            (printed_both _ _ _ (deliveries done) (deliveries one) _ _ _ kept.1 c.in_ok-deliver_frame.ensures),
+      ),
+    )
+
+pub returns : goal.returns
+returns g c =
+    let (done, kept) = c.loop-frame.invariant in
+    let none : into_iter_items c.loop-frame.frame-iterator ≡ [] = none_of _ (sym c.loop-frame.frame-iterator.rest.ok.0 ∙ c.in-None.ensures.steps.0) in
+    let all : c.args.frames.items ≡ done = kept.0 ∙ ap (λ l. done ++ l) none ∙ append-nil done in
+    subst (λ l. Printed c.args.state.now (deliveries l) c.loop-frame.state (g.W.Write.contents c.args.writer.now) (g.W.Write.contents c.loop-frame.writer)) (sym all) kept.1
+
+pub returns-in_err-deliver_frame : goal.returns-in_err-deliver_frame
+returns-in_err-deliver_frame g c =
+    let (done, kept) = c.loop-frame.invariant in
+    let one : List SignedStatement = c.in-Some.frame ∷ [] in
+    let rest : List SignedStatement = into_iter_items c.next.new.self in
+    let all : (deliveries done ++ deliveries one) ++ deliveries rest ≡ deliveries c.args.frames.items =
+    append_assoc (deliveries done) (deliveries one) (deliveries rest) ∙ deliveries-append done (c.in-Some.frame ∷ rest)
+    ∙ ap (λ l. deliveries l) (sym (kept.0 ∙ ap (λ l. done ++ l) c.in-Some.ensures.steps.0)) in
+    on_error _ _ c.from_residual.ensures.0
+    (subst (λ l. PrintedSome c.args.state.now l c.deliver_frame.new.state (g.W.Write.contents c.args.writer.now) (g.W.Write.contents c.deliver_frame.new.writer)) all
+    (printed_longer _ _ (deliveries done ++ deliveries one) (deliveries rest) _ _
+    (printed_after _ _ _ (deliveries done) (deliveries one) _ _ _ kept.1 c.in_err-deliver_frame.ensures)))

@@ -1,0 +1,15 @@
+use Rattle.std.proofs.Common.{subst, ◌∙◌}
+use Rattle.program_streams.specs.Writing.{AppendsSome}
+use Rattle.history_bytes.specs.Histories.{history_bytes}
+use Rattle.program_streams.proofs.Faults.{on_error}
+use Rattle.program.proofs.HistoryLemmas.{first_some, next_some}
+use Rattle.program.proofs.playing.write_histories.Goals as goal
+
+pub returns-in_err-bytes : goal.returns-in_err-bytes
+returns-in_err-bytes g c = on_error _ _ c.from_residual.ensures.0 (first_some history_bytes c.args.histories.now c.loop-history.history-index _ _ c.loop-history.invariant)
+
+pub returns-in_err-write_whole : goal.returns-in_err-write_whole
+returns-in_err-write_whole g c =
+    on_error _ _ c.from_residual-in_err-write_whole.ensures.0
+    (next_some history_bytes c.args.histories.now c.loop-history.history-index _ _ c.loop-history.invariant _ c.history-item.result c.loop-history-test.true c.history-item.is
+    (subst (AppendsSome _ _) (c.deref.ensures.value ∙ c.in_ok-bytes.ensures) c.in_err-write_whole.ensures))

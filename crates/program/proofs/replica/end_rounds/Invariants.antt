@@ -1,0 +1,8 @@
+-- so many rounds have ended
+use Rattle.std.proofs.Common.{[], replicate}
+use Rattle.ledger_model.specs.declared.event.Event.TheVariants as event
+use Rattle.program.specs.Answering.{Answers}
+use Rattle.program.proofs.replica.end_rounds.Given as goal
+
+abbrev pub invariant-loop : goal.invariant-loop
+invariant-loop l = Answers l.initial.state (replicate l.counter event.RoundEnd) [] l.state

@@ -1,0 +1,8 @@
+use Rattle.std.proofs.Common.{rules}
+use Rattle.program.proofs.replica.new_replica.Goals as goal
+
+pub new-requires-clause-member : goal.new-requires-clause-member
+new-requires-clause-member c = record {
+  below = search rules;
+  own = rw c.in_ok-signer.ensures.signer (c.in_ok-signer.ensures.ring c.args.settings.now.replica (search rules));
+}

@@ -1,0 +1,53 @@
+-- What a replica answers to events, one after the other, and which text is printed of its replies.
+use Rattle.std.specs.Prelude.{◌≡◌, ℕ, List, ◌∷◌, ◌++◌, map, replicate, Option, Result, MatchResult}
+use Rattle.ledger_model.specs.declared.event.Event.{Event}
+use Rattle.ledger_model.specs.declared.event.Event.TheVariants as event
+use Rattle.ledger_model.specs.declared.history.Entry.{Entry}
+use Rattle.ledger_model.specs.declared.statement.SignedStatement.{SignedStatement}
+use Rattle.ledger_model.specs.Spelling.{frame_bytes}
+use Rattle.ledger_model.specs.Lawful.{Replay}
+use Rattle.locked_replica.specs.Replicas.{Replica}
+use Rattle.settings.specs.declared.deliver.DeliverSettings.{DeliverSettings}
+use Rattle.program.specs.Lines.{lines_of}
+use Rattle.program_streams.specs.Writing.{AppendsSome}
+use Rattle.std.specs.Io.KnownBytes.{Appends}
+
+-- these entries were added to the replica's history, which stays a replay, and it is the same replica
+pub record Grows (old : Replica) (added : List Entry) (new : Replica) : Type 0 where
+  pub entries : new.entries ≡ old.entries ++ added
+  pub same : new ≡ record old { used = new.used; entries = new.entries; machine = new.machine }
+  pub replay : Replay old.config old.ring old.id old.entries → Replay new.config new.ring new.id new.entries
+
+-- the replica took these events, in order; the text is the lines of its replies
+pub record Answers (old : Replica) (events : List Event) (text : List ℕ) (new : Replica) : Type 0 where
+  pub added : List Entry
+  pub grown : Grows old added new
+  pub these : map (λ e. e.event) added ≡ events
+  pub lines : lines_of added ≡ text
+
+-- the replica took the first of these events; the text is the lines of its replies
+pub record AnswersSome (old : Replica) (events : List Event) (text : List ℕ) (new : Replica) : Type 0 where
+  pub taken : List Event
+  pub later : List Event
+  pub split : taken ++ later ≡ events
+  pub answers : Answers old taken text new
+
+-- the replica took these events, and the lines of its replies were written
+abbrev pub Printed : Replica → List Event → Replica → Option (List ℕ) → Option (List ℕ) → Type 0
+Printed old events new before after = (text : List ℕ) × (Answers old events text new × Appends before after text)
+
+-- the replica took the first of these events, and a beginning of the lines of its replies was written
+abbrev pub PrintedSome : Replica → List Event → Replica → Option (List ℕ) → Option (List ℕ) → Type 0
+PrintedSome old events new before after = (text : List ℕ) × (AnswersSome old events text new × AppendsSome before after text)
+
+-- all of that, or some where there is a fault
+abbrev pub Prints : {T E : Type 0} → Result T E → Replica → List Event → Replica → Option (List ℕ) → Option (List ℕ) → Type 0
+Prints result old events new before after = MatchResult result (λ _. Printed old events new before after) (λ _. PrintedSome old events new before after)
+
+-- the deliveries of frames
+abbrev pub deliveries : List SignedStatement → List Event
+deliveries frames = map (λ f. event.Deliver (frame_bytes f)) frames
+
+-- what happens before the first frame is delivered: the value is submitted, the height proposed, the rounds end
+abbrev pub starting : DeliverSettings → List Event
+starting s = event.Submit s.value ∷ event.Propose s.height ∷ replicate s.rounds event.RoundEnd

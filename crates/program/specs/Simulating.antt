@@ -1,0 +1,104 @@
+-- What `abft simulate` writes of a scenario.
+use Rattle.std.specs.Prelude.{◌≡◌, ◌⊎◌, ℕ, Bool, not, List, [], ◌∷◌, ◌++◌, codes, decimal, Option, Result, MatchResult, unwrap_or, if◌then◌else◌}
+use Rattle.std.specs.List.{flat_map}
+use Rattle.std.specs.Io.KnownBytes.{Appends, IsAtEnd}
+use Rattle.ledger_model.specs.declared.config.Config.{Config}
+use Rattle.cluster_keys.specs.declared.cluster.Cluster.{Cluster}
+use Rattle.cluster_keys.specs.Keys.{secret_of}
+use Rattle.adversary_net.specs.Clusters.{RunningCluster, HasRun, world_of}
+use Rattle.adversary_net.specs.Headline.{IsUnforged, IsOneLedger}
+use Rattle.adversary_net.specs.Openings.{new_cluster}
+use Rattle.history_bytes.specs.Histories.{history_bytes}
+use Rattle.scenario_texts.specs.declared.command.Command.{Command}
+use Rattle.scenario_texts.specs.Plans.{Plan, small_keys}
+use Rattle.scenario_texts.specs.Lines.{Spells, IsBadAt}
+use Rattle.simulation.specs.Playing.{Simulated, PlaysAll}
+use Rattle.settings.specs.declared.simulate.SimulateSettings.{SimulateSettings}
+use Rattle.program_streams.specs.Writing.{AppendsSome}
+use Rattle.program_streams.specs.Responding.{Responds, RespondsSome}
+use Rattle.program.specs.declared.text_end.TextEnd.{TextEnd}
+use Rattle.program.specs.declared.text_end.TextEnd.TheVariants.{Whole, BadLine}
+
+-- the configuration is that of a plan
+pub record IsConfigOf (p : Plan) (config : Config) : Type 0 where
+  pub replicas : config.replicas ≡ p.replicas
+  pub faults : config.faults ≡ p.faults
+  pub kind : config.kind ≡ p.kind
+
+-- the cluster of a plan of this configuration, whose keys come from this seed
+abbrev pub cluster_of : List ℕ → Config → Plan → Cluster
+cluster_of seed config p = record { config = config; params = unwrap_or p.keys small_keys; seed = seed }
+
+-- the cluster as it begins, and no lie
+abbrev pub opening : List ℕ → Config → Plan → Simulated
+opening seed config p = record { cluster = new_cluster config (secret_of (cluster_of seed config p)) p.liars; lies = [] }
+
+-- the histories of the correct replicas as bytes, by ascending numbers
+abbrev pub histories_of : RunningCluster → List ℕ
+histories_of c = flat_map history_bytes (world_of c).histories
+
+-- lines, where they are wanted
+abbrev pub if_wanted : Bool → List ℕ → List ℕ
+if_wanted wanted lines = if wanted then lines else []
+
+-- the commands of a plan were played: it was a run from the beginning, one sequential ledger where nothing was forged; and the
+-- text is its lines, or the histories of its end
+pub record Played (s : SimulateSettings) (p : Plan) (text : List ℕ) : Type 0 where
+  pub config : Config
+  pub sized : IsConfigOf p config
+  pub lines : List ℕ
+  pub final : Simulated
+  pub plays : PlaysAll (opening s.seed config p) p.commands lines final
+  pub since : HasRun final.cluster
+  pub one_ledger : IsUnforged final.cluster → IsOneLedger final.cluster
+  pub written : text ≡ if s.histories then histories_of final.cluster else lines
+
+-- the first commands of a list were played, with these lines
+pub record PlaysSome (old : Simulated) (commands : List Command) (lines : List ℕ) : Type 0 where
+  pub taken : List Command
+  pub later : List Command
+  pub split : taken ++ later ≡ commands
+  pub new : Simulated
+  pub plays : PlaysAll old taken lines new
+
+-- the first commands of a plan were played, and the text is their lines, where lines are wanted
+abbrev pub PlayedSome : SimulateSettings → Plan → List ℕ → Type 0
+PlayedSome s p text = (config : Config) × (IsConfigOf p config × ((lines : List ℕ) × (PlaysSome (opening s.seed config p) p.commands lines × (text ≡ if_wanted (not s.histories) lines))))
+
+-- the line that tells the number of a bad line
+abbrev pub bad_line : ℕ → List ℕ
+bad_line n = codes "line " ++ decimal n ++ codes " bad" ++ 10 ∷ []
+
+-- what is printed of a text: what a plan that it spells comes to, or its first bad line
+abbrev pub Simulates : SimulateSettings → List ℕ → TextEnd → List ℕ → Type 0
+Simulates s input Whole text = (p : Plan) × (Spells input p × Played s p text)
+Simulates s input (BadLine n) text = IsBadAt input n × (text ≡ bad_line n)
+
+-- the same as far as it came
+abbrev pub SimulatesSome : SimulateSettings → List ℕ → List ℕ → Type 0
+SimulatesSome s input text = (text ≡ []) ⊎ ((p : Plan) × (Spells input p × PlayedSome s p text))
+
+-- a text was read to its end, and what is printed of it was written
+abbrev pub PlaysText : SimulateSettings → TextEnd → Option (List ℕ) → Option (List ℕ) → Option (List ℕ) → Option (List ℕ) → Type 0
+PlaysText s end unread left before after = IsAtEnd left × Responds (λ input text. Simulates s input end text) unread left before after
+
+-- some of it was read, and a beginning of what is printed of that was written
+abbrev pub PlaysTextSome : SimulateSettings → Option (List ℕ) → Option (List ℕ) → Option (List ℕ) → Option (List ℕ) → Type 0
+PlaysTextSome s unread left before after =
+    RespondsSome (λ input text. SimulatesSome s input text ⊎ ((end : TextEnd) × Simulates s input end text)) unread left before after
+
+-- ---- what calls say
+
+-- commands were played, and their lines written, if they are wanted
+abbrev pub PlaysWritten : Bool → Simulated → List Command → Simulated → Option (List ℕ) → Option (List ℕ) → Type 0
+PlaysWritten wanted old commands new before after = (lines : List ℕ) × (PlaysAll old commands lines new × Appends before after (if_wanted wanted lines))
+
+-- the first of them were played, and a beginning of their lines was written
+abbrev pub PlaysWrittenSome : Bool → Simulated → List Command → Option (List ℕ) → Option (List ℕ) → Type 0
+PlaysWrittenSome wanted old commands before after = (lines : List ℕ) × (PlaysSome old commands lines × AppendsSome before after (if_wanted wanted lines))
+
+-- a plan was played, in whole or in part, and what is printed of it was written, or a beginning of that
+abbrev pub PlansWritten : {T E : Type 0} → Result T E → SimulateSettings → Plan → Option (List ℕ) → Option (List ℕ) → Type 0
+PlansWritten result s p before after = MatchResult result
+    (λ _. (text : List ℕ) × (Played s p text × Appends before after text))
+    (λ _. (text : List ℕ) × ((PlayedSome s p text ⊎ Played s p text) × AppendsSome before after text))

@@ -1,0 +1,141 @@
+//! `abft deliver`: the frames of a stream at one replica.
+ghost use Rattle.std.specs.Prelude.{◌≡◌, ◌≢◌, ◌∷◌, ℕ, List, [], IfOk, MatchResult, Option};
+ghost use Rattle.std.specs.Io.KnownBytes.{Consumes, IsAtEnd};
+ghost use Rattle.ledger_model.specs.Streams.{SplitsTo};
+ghost use Rattle.ledger_model.specs.declared.statement.SignedStatement.{SignedStatement};
+ghost use Rattle.signed_frames.specs.declared.fault.FrameFault.TheVariants as faults;
+ghost use Rattle.signed_frames.specs.Reader.{Leaves, Reading};
+ghost use Rattle.locked_replica.specs.Replicas.{Replica};
+ghost use Rattle.program.specs.Answering.{Prints, deliveries};
+ghost use Rattle.program.specs.Streams.{Ended, GoesBehind, GoesOn, IsFed, IsReadTo, IsReading, IsTold, Stands, Stopped, UnderWay};
+
+use crate::line::Line;
+use crate::line_printing::print_line;
+use crate::replica::answer;
+use crate::stream_end::{StreamEnd, StreamFault};
+use app_kinds::AnyKind;
+use locked_replica::State;
+use program_streams::ProgramFault;
+use signed_frames::{Frame, FrameFault, FrameReader};
+use std::alloc::Global;
+use std::io::{self, ErrorKind, Read, Write};
+
+/// The most bytes of standard input that are read at once.
+const PIECE_LEN: usize = 8192;
+
+/// Delivers a frame, and writes the line of the answer.
+fn deliver_frame<W: Write>(
+    alloc: Global,
+    state: &mut State<AnyKind>,
+    frame: Frame,
+    writer: &mut W,
+) -> Result<(), ProgramFault>
+    ensures { Prints result state.old (deliveries (frame ∷ [])) state.new (W.contents writer.old) (W.contents writer.new) }
+{
+    let line = answer(state, frame.into_bytes())?;
+    print_line(alloc, writer, line)
+}
+
+/// Delivers the frames in order, and writes a line for each.
+fn deliver_all<W: Write>(
+    alloc: Global,
+    state: &mut State<AnyKind>,
+    frames: Vec<Frame>,
+    writer: &mut W,
+) -> Result<(), ProgramFault>
+    ensures { Prints result state.old (deliveries frames.items) state.new (W.contents writer.old) (W.contents writer.new) }
+{
+    for frame in frames {
+        deliver_frame(alloc, state, frame, writer)?;
+    }
+    Ok(())
+}
+
+/// The fault of the stream that a reader tells. The only error is want of memory.
+fn fault_of(fault: FrameFault) -> Result<StreamFault, ProgramFault>
+    requires { fault ≢ faults.Failed }
+    ensures { IfOk result (λ found. IsTold fault found) }
+{
+    match fault {
+        FrameFault::TooLong => Ok(StreamFault::TooLong),
+        FrameFault::Malformed => Ok(StreamFault::Malformed),
+        FrameFault::NoMemory => Err(ProgramFault::NoMemory),
+        FrameFault::Failed => unreachable!(),
+    }
+}
+
+/// The fault behind the frames that were handed out, if one stands there. The only error is want of memory.
+fn fault_behind(frames: &mut FrameReader) -> Result<Option<StreamFault>, ProgramFault>
+    requires { IsFed frames.old }
+    ensures { (bytes : List ℕ) (given : List SignedStatement) → Leaves bytes given frames.old
+        → IfOk result (λ found. GoesBehind bytes given frames.new found) }
+{
+    match frames.feed(&[]) {
+        Ok(_) => Ok(None),
+        Err(fault) => Ok(Some(fault_of(fault)?)),
+    }
+}
+
+/// Delivers the frames that a piece of the stream completes. Answers the fault behind them, if one stands there.
+fn deliver_piece<W: Write>(
+    alloc: Global,
+    state: &mut State<AnyKind>,
+    frames: &mut FrameReader,
+    piece: &[u8],
+    writer: &mut W,
+) -> Result<Option<StreamFault>, ProgramFault>
+    requires { IsReading frames.old }
+    ensures { (start : Replica) (unread now left before : Option (List ℕ))
+        → UnderWay start unread now before (W.contents writer.old) state.old frames.old → Consumes now left piece.now
+        → MatchResult result
+        (λ found. GoesOn start unread left before (W.contents writer.new) state.new frames.new found)
+        (λ _. Stopped start unread left before (W.contents writer.new) state.new) }
+{
+    match frames.feed(piece) {
+        Ok(found) => {
+            deliver_all(alloc, state, found, writer)?;
+            fault_behind(frames)
+        }
+        Err(fault) => Ok(Some(fault_of(fault)?)),
+    }
+}
+
+/// The end of a stream of which all was read, without a fault.
+fn end_of(frames: &FrameReader) -> StreamEnd
+    requires { IsReading frames.now }
+    ensures stands { (input : List ℕ) (given : List SignedStatement) (kept : List ℕ) → frames.now ≡ Reading kept
+        → SplitsTo input given kept → Stands input given result }
+    ensures no_fault { (left : Option (List ℕ)) → IsAtEnd left → IsReadTo result left }
+{
+    if frames.is_between() {
+        StreamEnd::Whole
+    } else {
+        StreamEnd::Cut
+    }
+}
+
+/// Delivers the frames of the stream piece by piece, to its end or to the first fault.
+pub(crate) fn deliver_pieces<R: Read, W: Write>(
+    alloc: Global,
+    state: &mut State<AnyKind>,
+    frames: &mut FrameReader,
+    reader: &mut R,
+    writer: &mut W,
+) -> Result<StreamEnd, ProgramFault>
+    requires { frames.old ≡ Reading [] }
+    ensures { MatchResult result
+        (λ end. Ended state.old (R.remaining reader.old) (R.remaining reader.new) (W.contents writer.old) (W.contents writer.new) state.new end)
+        (λ _. Stopped state.old (R.remaining reader.old) (R.remaining reader.new) (W.contents writer.old) (W.contents writer.new) state.new) }
+{
+    let mut piece = [0; PIECE_LEN];
+    for _ in 0..u64::MAX {
+        let count = reader.read(&mut piece)?;
+        if count == 0 {
+            return Ok(end_of(frames));
+        }
+        if let Some(fault) = deliver_piece(alloc, state, frames, &piece[..count], writer)? {
+            return Ok(StreamEnd::Fault(fault));
+        }
+    }
+    Err(ProgramFault::Stream(io::Error::from(ErrorKind::TimedOut)))
+}

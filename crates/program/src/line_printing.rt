@@ -1,0 +1,37 @@
+//! The lines of `abft deliver`, each printed by one write if the writer takes it whole.
+ghost use Rattle.program.specs.Lines.{ended, last_line};
+ghost use Rattle.program_streams.specs.Writing.{Writes};
+
+use crate::line::Line;
+use crate::stream_end::StreamEnd;
+use program_streams::{ProgramFault, write_whole};
+use std::alloc::Global;
+use std::io::Write;
+
+/// Writes a line and its end.
+pub(crate) fn print_line<W: Write>(
+    alloc: Global,
+    writer: &mut W,
+    line: Line,
+) -> Result<(), ProgramFault>
+    ensures { Writes result (W.contents writer.old) (W.contents writer.new) (ended line) }
+{
+    let text = format!(in alloc; "{line}\n")?;
+    write_whole(writer, text.as_bytes())?;
+    Ok(())
+}
+
+/// Writes the line that says what is wrong with the stream, if anything is.
+pub(crate) fn print_end<W: Write>(
+    alloc: Global,
+    writer: &mut W,
+    end: StreamEnd,
+) -> Result<(), ProgramFault>
+    ensures { Writes result (W.contents writer.old) (W.contents writer.new) (last_line end) }
+{
+    match end {
+        StreamEnd::Whole => Ok(()),
+        StreamEnd::Cut => print_line(alloc, writer, Line::Cut),
+        StreamEnd::Fault(fault) => print_line(alloc, writer, Line::Fault(fault)),
+    }
+}

@@ -1,0 +1,73 @@
+//! The cluster of a scenario, as it begins.
+ghost use Rattle.std.specs.Prelude.{◌≡◌, [], vec_len, All, IfOk};
+ghost use Rattle.ledger_model.specs.Applications.{run};
+ghost use Rattle.app_kinds.specs.Chosen.{machine_of};
+ghost use Rattle.scenario_texts.specs.Lawful.{IsPlan};
+ghost use Rattle.scenario_texts.specs.Plans.{plan_of};
+ghost use Rattle.program.specs.Simulating.{opening};
+
+use adversary_net::{WorldFault, count_correct};
+use app_kinds::AnyKind;
+use cluster_keys::Cluster;
+use ledger_model::AppKind;
+use program_streams::ProgramFault;
+use scenario_texts::Scenario;
+use settings::SimulateSettings;
+use simulation::Simulation;
+use std::alloc::{AllocError, Global};
+use std::hash::RandomState;
+use std::random::RandomSource;
+
+/// So many applications of a kind, each in its opening state.
+fn new_apps(alloc: Global, kind: AppKind, count: usize) -> Result<Vec<AnyKind>, AllocError>
+    ensures count { IfOk result (λ apps. vec_len apps ≡ count) }
+    ensures opening { IfOk result (λ apps. All (λ app. machine_of app ≡ run kind []) apps.items) }
+{
+    let mut apps = Vec::with_capacity(alloc, count)?;
+    for _ in 0..count {
+        apps.push(AnyKind::new(alloc, kind))?;
+    }
+    Ok(apps)
+}
+
+/// The random keys of so many replicas.
+fn new_randoms<S: RandomSource>(
+    source: &S,
+    alloc: Global,
+    count: usize,
+) -> Result<Vec<[RandomState; 2]>, ProgramFault>
+    ensures { IfOk result (λ randoms. vec_len randoms ≡ count) }
+{
+    let mut randoms = Vec::with_capacity(alloc, count)?;
+    for _ in 0..count {
+        randoms.push([RandomState::new(source)?, RandomState::new(source)?])?;
+    }
+    Ok(randoms)
+}
+
+/// The cluster of a scenario, as it begins.
+pub(crate) fn new_simulation<S: RandomSource>(
+    source: &S,
+    alloc: Global,
+    settings: &SimulateSettings,
+    scenario: &Scenario,
+) -> Result<Simulation<AnyKind>, ProgramFault>
+    requires { IsPlan (plan_of scenario.now) }
+    ensures { IfOk result (λ simulation. simulation ≡ opening settings.now.seed scenario.now.setup.config (plan_of scenario.now)) }
+{
+    let setup = &scenario.setup;
+    let cluster = Cluster {
+        config: setup.config,
+        params: setup.params(),
+        seed: settings.seed,
+    };
+    let count = count_correct(&cluster.config, &setup.liars);
+    let apps = new_apps(alloc, cluster.config.kind, count)?;
+    let randoms = new_randoms(source, alloc, count)?;
+    match Simulation::new(alloc, &cluster, &setup.liars, apps, randoms) {
+        Ok(simulation) => Ok(simulation),
+        Err(WorldFault::NoMemory) => Err(ProgramFault::NoMemory),
+        Err(WorldFault::TooManyLiars) => unreachable!(),
+        Err(WorldFault::NoSuchReplica) => unreachable!(),
+    }
+}

@@ -1,4 +1,0 @@
-mod SimulatingLemmas
-mod OpeningLemmas
-mod HistoryLemmas
-mod ScenarioLemmas

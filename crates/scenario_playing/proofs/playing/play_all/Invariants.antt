@@ -1,8 +1,0 @@
--- the first commands were played
-use Rattle.std.proofs.Common.{take}
-use Rattle.scenario_playing.specs.Simulating.{PlaysWritten}
-use Rattle.scenario_playing.proofs.playing.play_all.Given as goal
-
-abbrev pub invariant-loop-command : goal.invariant-loop-command
-invariant-loop-command g l =
-    PlaysWritten l.has_lines l.initial.simulation (take l.command-index l.commands) l.simulation (g.W.Write.contents l.initial.writer) (g.W.Write.contents l.writer)

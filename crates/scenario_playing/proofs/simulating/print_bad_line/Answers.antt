@@ -1,7 +1,0 @@
-use Rattle.program_streams.proofs.Faults.{on_error}
-use Rattle.program_streams.proofs.WritingLemmas.{nothing_some}
-use Rattle.scenario_playing.specs.Simulating.{bad_line}
-use Rattle.scenario_playing.proofs.simulating.print_bad_line.Goals as goal
-
-pub returns-in_err-line : goal.returns-in_err-line
-returns-in_err-line g c = on_error _ _ c.from_residual.ensures.0 (nothing_some _ (bad_line c.args.number))
