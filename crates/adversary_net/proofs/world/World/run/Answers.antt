@@ -1,4 +1,4 @@
-use Rattle.std.proofs.Common.{subst}
+use Rattle.std.proofs.Common.{subst, rules}
 use Rattle.adversary_net.specs.Clusters.{IsCluster}
 use Rattle.adversary_net.proofs.Headline.{one_ledger}
 use Rattle.adversary_net.proofs.Telling.{own_machines, own_replies}
@@ -30,3 +30,6 @@ returns-in_err-reserve-clause-one_ledger g c = rw c.in_err-reserve.ensures.items
 
 pub returns-clause-one_ledger : goal.returns-clause-one_ledger
 returns-clause-one_ledger g c = one_ledger c.run_each.new.self c.run_each.ensures.cluster
+
+pub returns-clause-runs : goal.returns-clause-runs
+returns-clause-runs g c = search rules

@@ -1,4 +1,4 @@
-use Rattle.std.proofs.Common.{sym, ◌∙◌}
+use Rattle.std.proofs.Common.{sym, ◌∙◌, rules}
 use Rattle.std.specs.Map.{values_of}
 use Rattle.batch_pool.proofs.Entries.{take-next}
 use Rattle.batch_pool.proofs.pool.Pool.reap.Goals as goal
@@ -7,3 +7,6 @@ pub loop-index-preserved : goal.loop-index-preserved
 loop-index-preserved c =
     let next = take-next (values_of c.self.inside.waiting.entries) c.loop-index.index c.index.result.now c.index.ensures in
     c.in_ok-push.ensures.items ∙ rw (c.loop-index.invariant, c.in_ok-copy.ensures.same) (sym next)
+
+pub returns : goal.returns
+returns c = search rules
