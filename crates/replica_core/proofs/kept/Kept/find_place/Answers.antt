@@ -1,4 +1,4 @@
-use Rattle.std.proofs.Common.{◌≡◌, ◌≤◌, ◌<◌, ap, subst, sym, ◌∙◌}
+use Rattle.std.proofs.Common.{◌≡◌, ◌≤◌, ◌<◌, ap, subst, sym, ◌∙◌, rules}
 use Rattle.std.specs.Prelude.{None}
 use Rattle.std.specs.Option.{option_copied}
 use Rattle.ledger_model.specs.Notes.{signer_of}
@@ -23,3 +23,6 @@ returns-in-None-clause-step g c = λ bytes is.
     (subst (λ n. n < c.self.inside.config.replicas) (c.number.ensures ∙ c.signer.ensures ∙ ap signer_of c.statement-statement.ensures.statement) c.if-number-self.false))
     (subst (λ (x : Held). row_at x.rows (height_of c.args.frame.now.statement) ≡ None) c.self.view_is
     (ap (row_at c.self.inside.rows.rows) (sym (c.height.ensures ∙ ap height_of c.statement-statement.ensures.statement)) ∙ sym c.get.ensures.row ∙ ap option_copied c.in-None.is))
+
+pub returns-in-Some-clause-step : goal.returns-in-Some-clause-step
+returns-in-Some-clause-step g c = search rules

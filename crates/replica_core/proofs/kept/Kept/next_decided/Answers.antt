@@ -1,4 +1,4 @@
-use Rattle.std.proofs.Common.{◌≡◌, ◌<◌, ◌+◌, ◌≤◌, subst, refl, length, arith}
+use Rattle.std.proofs.Common.{◌≡◌, ◌<◌, ◌+◌, ◌≤◌, subst, refl, length, arith, rules}
 use Rattle.std.specs.Prelude.{Option, Some, None}
 use Rattle.std.specs.Option.{IfSome}
 use Rattle.ledger_model.specs.Limits.{max_height}
@@ -22,3 +22,6 @@ returns-clause-low g c =
         of : (v : Option Value) → length c.self.inside.committed.items + 1 ≤ max_height → IfSome v (λ _. length c.self.inside.committed.items < max_height)
         of None le = tt
         of (Some v) le = omega (arith, le)
+
+pub returns-clause-decided : goal.returns-clause-decided
+returns-clause-decided g c = search rules

@@ -1,4 +1,4 @@
-use Rattle.std.proofs.Common.{◌≡◌}
+use Rattle.std.proofs.Common.{◌≡◌, rules}
 use Rattle.std.specs.Prelude.{Result, Ok, Err, OnOk}
 use Rattle.replica_core.proofs.kept.Kept.propose.Goals as goal
 use Rattle.replica_core.proofs.kept.Kept.propose.Goals.{in-Ok, in-Err-2}
@@ -14,3 +14,6 @@ returns-clause-opened g c = elim c.match-branch-3.branch [
   | in-Ok w ↦ rw w.result-is (on_ok c.in_ok-open.field-0 w.in-Ok.field-0 w.in-Ok.is c.in_ok-open.ensures.matches)
   | in-Err-2 w ↦ rw w.result-is tt
 ]
+
+pub returns-in-Err-clause-answer : goal.returns-in-Err-clause-answer
+returns-in-Err-clause-answer g c = search rules
