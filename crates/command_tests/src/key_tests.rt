@@ -1,5 +1,5 @@
 //! Keys and a frame of a cluster, against values of another implementation of RFC 8554 and of `docs/FORMATS.md`.
-use crate::setting_tests::signing;
+use crate::setting_tests::set;
 use cluster_keys::{Cluster, key_pair, signer_and_ring};
 use frame_signing::signed_frame;
 use hex::FromHex;
@@ -7,6 +7,7 @@ use key_ring::{KeyRing, Signer};
 use ledger_model::{AppKind, Config, ReplicaId};
 use lm_ots::{Params, TreeHeight, Width};
 use lms_tree::PublicKey;
+use settings::Settings;
 use sha2::{Digest, Sha256};
 use signed_frames::Frame;
 use std::alloc::Global;
@@ -57,6 +58,11 @@ fn first_other(ring: &KeyRing) -> Option<u8> {
     None
 }
 
+/// Whether the ring has the four keys, and no fifth.
+fn has_four_keys(ring: &KeyRing) -> bool {
+    first_other(ring).is_none() && ring.key(ReplicaId::new(4)).is_none()
+}
+
 /// Whether the signer has replica 1's key, and all of its leaves.
 fn is_replica_1(signer: &Signer) -> bool {
     is_spelled(&signer.public(), PUBLIC_KEYS[1]) && signer.leaves_left() == 32
@@ -66,9 +72,7 @@ fn is_replica_1(signer: &Signer) -> bool {
 fn a_ring_has_the_key_of_each_replica(rt: HostRuntime) -> Result<(), Fail> {
     let cluster = cluster(&rt, Width::W4, [0; 32]);
     let (signer, ring) = signer_and_ring(rt.alloc(), &cluster, ReplicaId::new(1))?;
-    assert_eq!(rt; first_other(&ring), None);
-    assert!(rt; ring.key(ReplicaId::new(4)).is_none());
-    assert!(rt; is_replica_1(&signer));
+    assert!(rt; has_four_keys(&ring) && is_replica_1(&signer));
     Ok(())
 }
 
@@ -80,22 +84,23 @@ fn a_key_pair_is_of_its_seed_and_width(rt: HostRuntime) -> Result<(), Fail> {
     Ok(())
 }
 
-/// The frame that is signed at these words.
-fn frame_of(alloc: Global, words: &[&str]) -> Result<Frame, Fail> {
-    match signing(alloc, words) {
-        Some(settings) => Ok(signed_frame(alloc, &settings)?),
-        None => Err(Fail::from("the words are no command line")),
+/// The frame that `abft sign` makes of its settings.
+fn frame_of(alloc: Global, settings: &Settings) -> Option<Frame> {
+    match settings {
+        Settings::Sign(sign) => signed_frame(alloc, sign).ok(),
+        _ => None,
     }
 }
 
-fn digest(bytes: &[u8]) -> [u8; 32] {
+/// Whether the SHA-256 of these bytes is spelled so.
+fn has_digest(bytes: &[u8], digits: &str) -> bool {
     let mut hasher = Sha256::new();
     hasher.update(bytes);
-    hasher.finalize()
+    <[u8; 32] as FromHex>::from_hex(digits) == Ok(hasher.finalize())
 }
 
 #[test]
-fn the_frame_of_an_acknowledgement_is_signed_exactly(rt: HostRuntime) -> Result<(), Fail> {
+fn the_frame_of_an_acknowledgement_is_signed_exactly(rt: HostRuntime) {
     let words = [
         "abft",
         "sign",
@@ -113,8 +118,7 @@ fn the_frame_of_an_acknowledgement_is_signed_exactly(rt: HostRuntime) -> Result<
         "--phase",
         "3",
     ];
-    let frame = frame_of(rt.alloc(), &words)?;
-    let wanted = <[u8; 32] as FromHex>::from_hex(ACK_DIGEST);
-    assert!(rt; wanted == Ok(digest(frame.as_bytes())));
-    Ok(())
+    let settings = set(rt.alloc(), &words).expect(&rt, "the words are a command line");
+    let frame = frame_of(rt.alloc(), &settings).expect(&rt, "a frame");
+    assert!(rt; has_digest(frame.as_bytes(), ACK_DIGEST));
 }
