@@ -3,13 +3,12 @@ use crate::ending_changes::changed_end;
 use bytes::Bytes;
 use ledger_model::{
     Batch, BlockResult, Codes, Height, Ignored, LastRound, NotHeld, NothingDecided, ProposeRefusal,
-    QueryAnswer, Reply, SubmitRefusal,
+    QueryAnswer, Reply, RoundEnded, SubmitRefusal,
 };
 use std::alloc::{AllocError, Global};
-use std::test::Fail;
 
 /// Where a reply is changed.
-#[derive(Clone, Copy, Debug, PartialEq, Eq)]
+#[derive(Clone, Copy)]
 pub(crate) enum Change {
     /// It is refused in place of done, or done in place of refused.
     Outcome,
@@ -26,8 +25,11 @@ pub(crate) enum Change {
 }
 
 /// A batch of no transaction.
-fn no_transactions(alloc: Global) -> Result<Batch, Fail> {
-    Ok(Batch::new(Vec::new(alloc))?)
+fn no_transactions(alloc: Global) -> Batch {
+    match Batch::new(Vec::new(alloc)) {
+        Ok(batch) => batch,
+        Err(_) => unreachable!(),
+    }
 }
 
 fn changed_submit(
@@ -56,29 +58,21 @@ fn changed_deliver(told: Result<(), Ignored>, change: Change) -> Option<Result<(
     }
 }
 
-/// Another batch: none of its transactions, where it has some.
-fn changed_batch(alloc: Global, batch: &Batch) -> Result<Option<Batch>, Fail> {
-    if batch.transactions().is_empty() {
-        return Ok(None);
-    }
-    Ok(Some(no_transactions(alloc)?))
-}
-
 fn changed_propose(
     alloc: Global,
     told: &Result<Batch, ProposeRefusal>,
     change: Change,
-) -> Result<Option<Result<Batch, ProposeRefusal>>, Fail> {
+) -> Option<Result<Batch, ProposeRefusal>> {
     match (change, told) {
-        (Change::Outcome, Ok(_)) => Ok(Some(Err(ProposeRefusal::AlreadyOpen))),
-        (Change::Outcome, Err(_)) => Ok(Some(Ok(no_transactions(alloc)?))),
-        (Change::Cause, Err(ProposeRefusal::Closed)) => Ok(Some(Err(ProposeRefusal::TooFar))),
-        (Change::Cause, Err(_)) => Ok(Some(Err(ProposeRefusal::Closed))),
-        (Change::Byte(0), Ok(batch)) => match changed_batch(alloc, batch)? {
-            Some(other) => Ok(Some(Ok(other))),
-            None => Ok(None),
-        },
-        _ => Ok(None),
+        (Change::Outcome, Ok(_)) => Some(Err(ProposeRefusal::AlreadyOpen)),
+        (Change::Outcome, Err(_)) => Some(Ok(no_transactions(alloc))),
+        (Change::Cause, Err(ProposeRefusal::Closed)) => Some(Err(ProposeRefusal::TooFar)),
+        (Change::Cause, Err(_)) => Some(Err(ProposeRefusal::Closed)),
+        // None of its transactions, where it has some.
+        (Change::Byte(0), Ok(batch)) if !batch.transactions().is_empty() => {
+            Some(Ok(no_transactions(alloc)))
+        }
+        _ => None,
     }
 }
 
@@ -189,20 +183,32 @@ fn changed_query(
     }
 }
 
+fn changed_round_end(
+    alloc: Global,
+    told: &Result<RoundEnded, LastRound>,
+    change: Change,
+) -> Result<Option<Result<RoundEnded, LastRound>>, AllocError> {
+    match (change, told) {
+        (Change::Outcome, Ok(_)) => Ok(Some(Err(LastRound))),
+        (_, Ok(end)) => match changed_end(alloc, end, change)? {
+            Some(other) => Ok(Some(Ok(other))),
+            None => Ok(None),
+        },
+        _ => Ok(None),
+    }
+}
+
 /// The reply, changed so; none where it has nothing of the kind.
-pub(crate) fn changed(alloc: Global, reply: &Reply, change: Change) -> Result<Option<Reply>, Fail> {
+pub(crate) fn changed(
+    alloc: Global,
+    reply: &Reply,
+    change: Change,
+) -> Result<Option<Reply>, AllocError> {
     Ok(match reply {
         Reply::Submitted(told) => changed_submit(*told, change).map(Reply::Submitted),
-        Reply::Proposed(told) => changed_propose(alloc, told, change)?.map(Reply::Proposed),
+        Reply::Proposed(told) => changed_propose(alloc, told, change).map(Reply::Proposed),
         Reply::Delivered(told) => changed_deliver(*told, change).map(Reply::Delivered),
-        Reply::RoundEnded(Ok(_)) if change == Change::Outcome => {
-            Some(Reply::RoundEnded(Err(LastRound)))
-        }
-        Reply::RoundEnded(Ok(end)) => match changed_end(alloc, end, change)? {
-            Some(other) => Some(Reply::RoundEnded(Ok(other))),
-            None => None,
-        },
-        Reply::RoundEnded(Err(_)) => None,
+        Reply::RoundEnded(told) => changed_round_end(alloc, told, change)?.map(Reply::RoundEnded),
         Reply::Executed(told) => changed_execute(alloc, told, change)?.map(Reply::Executed),
         Reply::Queried(told) => changed_query(alloc, told, change)?.map(Reply::Queried),
     })

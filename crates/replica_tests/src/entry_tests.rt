@@ -1,12 +1,14 @@
 //! Which entries the history of the plain run begins with.
-use crate::playing::{history_of, played};
+use crate::fault::Fault;
+use crate::playing::history_in;
 use crate::scripts::PLAIN;
 use ledger_model::{Entry, Event};
-use std::alloc::{AllocError, Global};
+use std::alloc::Global;
+use std::hash::RandomState;
 use std::test::Fail;
 
 /// The kind of an entry.
-#[derive(Clone, Copy, Debug, PartialEq, Eq)]
+#[derive(Clone, Copy, PartialEq, Eq)]
 enum Kind {
     Submit,
     Propose,
@@ -45,22 +47,26 @@ fn kind_of(event: &Event) -> Kind {
     }
 }
 
-fn kinds_of(alloc: Global, entries: &[Entry]) -> Result<Vec<Kind>, AllocError> {
-    let mut kinds = Vec::new(alloc);
-    for entry in entries {
-        kinds.push(kind_of(&entry.event))?;
+/// Whether the entries begin so.
+fn begins_so(entries: &[Entry]) -> bool {
+    for (at, kind) in BEGINNING.iter().enumerate() {
+        match entries.get(at) {
+            Some(entry) if kind_of(&entry.event) == *kind => {}
+            _ => return false,
+        }
     }
-    Ok(kinds)
+    true
+}
+
+/// Whether the history of replica 0 in the plain run does.
+fn plain_run_begins_so(alloc: Global, random: RandomState) -> Result<bool, Fault> {
+    let told = history_in(alloc, random, PLAIN, 0)?;
+    Ok(begins_so(told.history.entries.as_slice()))
 }
 
 #[test]
 fn the_plain_run_begins_so(rt: HostRuntime) -> Result<(), Fail> {
-    let simulation = played(&rt, rt.alloc(), PLAIN)?;
-    let told = history_of(&simulation, 0)?.ok_or("no history")?;
-    let kinds = kinds_of(rt.alloc(), told.history.entries.as_slice())?;
-    assert!(rt;
-        kinds.as_slice().starts_with(BEGINNING.as_slice()),
-        "{kinds:?}"
-    );
+    let random = RandomState::new(&rt)?;
+    assert!(rt; plain_run_begins_so(rt.alloc(), random)?);
     Ok(())
 }

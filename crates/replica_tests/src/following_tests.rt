@@ -1,127 +1,130 @@
 //! Each history of the worked runs is followed to its end, and at each entry a reply that is changed is refused.
-use crate::changing::Change;
-use crate::following::taken_of;
+use crate::fault::Fault;
+use crate::following::is_followed;
 use crate::playing::{history_of, played};
-use crate::refusing::first_fault;
+use crate::refusing::refuses_changes;
 use crate::scripts::{
     COUNTER, EMPTY_BLOCKS, FOUR_HEIGHTS, FOUR_PROPOSALS, LATE_ACKNOWLEDGEMENT, LOCK_RELEASED,
     NO_LEAF_LEFT, NO_LEAVES_FOR_FOUR, OTHER_PHASES, PLAIN, PURSE, REFUSALS, Script, TWO_PROPOSALS,
 };
 use app_kinds::AnyKind;
+use locked_replica::Snapshot;
 use simulation::Simulation;
 use std::alloc::Global;
-use std::random::RandomSource;
+use std::hash::RandomState;
 use std::test::Fail;
 
-/// How many entries of the replica's history a follower takes, and how many there are: none of a liar.
-fn taken_of_replica<S: RandomSource>(
-    source: &S,
-    alloc: Global,
-    simulation: &Simulation<AnyKind>,
-    replica: u8,
-) -> Result<(usize, usize), Fail> {
-    match history_of(simulation, replica)? {
-        Some(told) => taken_of(source, alloc, &told),
-        None => Ok((0, 0)),
+/// How many entries a history has, if a follower takes them all.
+fn len_followed(alloc: Global, random: RandomState, told: &Snapshot) -> Result<usize, Fault> {
+    if is_followed(alloc, random, told)? {
+        Ok(told.history.entries.as_slice().len())
+    } else {
+        Err(Fault::EntryRefused)
     }
 }
 
-/// How many entries of all histories followers take, and how many there are.
-fn taken_of_all<S: RandomSource>(
-    source: &S,
+/// How many entries the replica's history has, if a follower takes them all: none of a liar.
+fn len_of_replica(
     alloc: Global,
+    random: RandomState,
     simulation: &Simulation<AnyKind>,
-) -> Result<(usize, usize), Fail> {
-    let (mut taken, mut all) = (0usize, 0usize);
+    replica: u8,
+) -> Result<usize, Fault> {
+    match history_of(simulation, replica) {
+        Ok(told) => len_followed(alloc, random, &told),
+        Err(Fault::NoHistory) => Ok(0),
+        Err(fault) => Err(fault),
+    }
+}
+
+/// How many entries all histories have, if followers take them all.
+fn len_of_all(
+    alloc: Global,
+    random: RandomState,
+    simulation: &Simulation<AnyKind>,
+) -> Result<usize, Fault> {
+    let mut all = 0usize;
     for replica in 0..4 {
-        let (more, len) = taken_of_replica(source, alloc, simulation, replica)?;
-        taken = taken.saturating_add(more);
-        all = all.saturating_add(len);
+        all = all.saturating_add(len_of_replica(alloc, random, simulation, replica)?);
     }
-    Ok((taken, all))
+    Ok(all)
 }
 
-/// The first place in the replica's history at which a changed reply is taken, with the change.
-fn fault_of<S: RandomSource>(
-    source: &S,
+/// Whether a follower refuses each changed reply of the replica's.
+fn is_exact(
     alloc: Global,
+    random: RandomState,
     simulation: &Simulation<AnyKind>,
     replica: u8,
-) -> Result<Option<(usize, Change)>, Fail> {
-    match history_of(simulation, replica)? {
-        Some(told) => first_fault(source, alloc, &told),
-        None => Err(Fail::from("a liar has no history")),
-    }
-}
-
-/// How many entries of a script's histories followers take, how many there are, and the first fault at the replica.
-fn found<S: RandomSource>(
-    source: &S,
-    alloc: Global,
-    script: Script,
-    replica: u8,
-) -> Result<(usize, usize, Option<(usize, Change)>), Fail> {
-    let simulation = played(source, alloc, script)?;
-    let (taken, all) = taken_of_all(source, alloc, &simulation)?;
-    Ok((taken, all, fault_of(source, alloc, &simulation, replica)?))
+) -> Result<bool, Fault> {
+    let told = history_of(simulation, replica)?;
+    refuses_changes(alloc, random, &told)
 }
 
 /// Whether followers take all entries of a script's histories, so many, and refuse each changed reply of the replica's.
-fn is_followed<S: RandomSource>(
-    source: &S,
+fn is_script_followed(
     alloc: Global,
+    random: RandomState,
     script: Script,
     replica: u8,
     entries: usize,
-) -> Result<bool, Fail> {
-    Ok(found(source, alloc, script, replica)? == (entries, entries, None))
+) -> Result<bool, Fault> {
+    let simulation = played(alloc, random, script)?;
+    let len = len_of_all(alloc, random, &simulation)?;
+    let is_exact = is_exact(alloc, random, &simulation, replica)?;
+    Ok(is_exact && len == entries)
+}
+
+/// Whether each script is followed so at the replica, with so many entries.
+fn are_followed(
+    alloc: Global,
+    random: RandomState,
+    cases: &[(Script, u8, usize)],
+) -> Result<bool, Fault> {
+    for (script, replica, entries) in cases {
+        if !is_script_followed(alloc, random, *script, *replica, *entries)? {
+            return Ok(false);
+        }
+    }
+    Ok(true)
 }
 
 #[test]
 fn plain_runs_are_followed_exactly(rt: HostRuntime) -> Result<(), Fail> {
-    for (script, replica, entries) in [
+    let cases = [
         (PLAIN, 0, 199),
         (EMPTY_BLOCKS, 2, 99),
         (COUNTER, 1, 63),
         (PURSE, 1, 59),
-    ] {
-        assert!(rt;
-            is_followed(&rt, rt.alloc(), script, replica, entries)?,
-            "{entries}"
-        );
-    }
+    ];
+    let random = RandomState::new(&rt)?;
+    assert!(rt; are_followed(rt.alloc(), random, &cases)?);
     Ok(())
 }
 
 #[test]
 fn other_runs_are_followed_exactly(rt: HostRuntime) -> Result<(), Fail> {
-    for (script, replica, entries) in [
+    let cases = [
         (FOUR_PROPOSALS, 2, 130),
         (TWO_PROPOSALS, 2, 83),
         (LOCK_RELEASED, 0, 115),
         (LATE_ACKNOWLEDGEMENT, 1, 57),
         (OTHER_PHASES, 3, 105),
-    ] {
-        assert!(rt;
-            is_followed(&rt, rt.alloc(), script, replica, entries)?,
-            "{entries}"
-        );
-    }
+    ];
+    let random = RandomState::new(&rt)?;
+    assert!(rt; are_followed(rt.alloc(), random, &cases)?);
     Ok(())
 }
 
 #[test]
 fn several_heights_and_mute_replicas_are_followed_exactly(rt: HostRuntime) -> Result<(), Fail> {
-    for (script, replica, entries) in [
+    let cases = [
         (REFUSALS, 0, 25),
         (FOUR_HEIGHTS, 1, 218),
         (NO_LEAF_LEFT, 0, 542),
         (NO_LEAVES_FOR_FOUR, 0, 157),
-    ] {
-        assert!(rt;
-            is_followed(&rt, rt.alloc(), script, replica, entries)?,
-            "{entries}"
-        );
-    }
+    ];
+    let random = RandomState::new(&rt)?;
+    assert!(rt; are_followed(rt.alloc(), random, &cases)?);
     Ok(())
 }

@@ -1,151 +1,173 @@
 //! Locks that are delivered in another phase, or with a proof of another height.
-use crate::following::taken_of;
-use crate::frames::{Head, frame_of, lock_by};
-use crate::playing::{cluster_of, history_of, played, plays, scenario_of};
-use crate::refusing::first_taken;
+use crate::fault::Fault;
+use crate::following::is_followed;
+use crate::frames::{Head, frame_of, signed_by_one};
+use crate::playing::{cluster_of, history_in, history_of, play, played, scenario_of};
+use crate::refusing::refuses_changes_at;
 use crate::scripts::{LOCKS_DUE, Script, TWELVE_ROUNDS, TWENTY_TWO_ROUNDS};
 use app_kinds::AnyKind;
 use bytes::Bytes;
-use ledger_model::{Ignored, Reply};
+use ledger_model::{Entry, Ignored, Reply};
 use locked_replica::Snapshot;
 use scenario_texts::Command;
 use simulation::Simulation;
 use std::alloc::Global;
-use std::random::RandomSource;
+use std::hash::RandomState;
 use std::test::Fail;
+use test_support::lock_bytes;
 
-/// What the last entry answers to a frame.
-fn last_answer(told: &Snapshot) -> Result<Result<(), Ignored>, Fail> {
-    match told.history.entries.as_slice().last() {
+/// Whether the last entry answers so to a frame.
+fn ends_with(entries: &[Entry], answer: Result<(), Ignored>) -> bool {
+    match entries.last() {
         Some(entry) => match &entry.reply {
-            Reply::Delivered(answer) => Ok(*answer),
-            _ => Err(Fail::from("no frame was delivered")),
+            Reply::Delivered(given) => *given == answer,
+            _ => false,
         },
-        None => Err(Fail::from("nothing happened")),
+        None => false,
     }
 }
 
-/// Whether a follower takes the history, and refuses each change of the last reply.
-fn is_exact<S: RandomSource>(source: &S, alloc: Global, told: &Snapshot) -> Result<bool, Fail> {
-    let (taken, len) = taken_of(source, alloc, told)?;
-    if taken != len || len == 0 {
+/// Whether the history ends with this answer to a frame, and a follower takes it and refuses each change of the answer.
+fn is_answered(
+    alloc: Global,
+    random: RandomState,
+    told: &Snapshot,
+    answer: Result<(), Ignored>,
+) -> Result<bool, Fault> {
+    let entries = told.history.entries.as_slice();
+    if !ends_with(entries, answer) || !is_followed(alloc, random, told)? {
         return Ok(false);
     }
-    Ok(first_taken(source, alloc, told, len - 1)?.is_none())
+    refuses_changes_at(alloc, random, told, entries.len().saturating_sub(1))
 }
 
-/// What the history's last entry answers to a frame, where followers agree.
-fn agreed_answer<S: RandomSource>(
-    source: &S,
+/// The replica's history behind what the script plays and the command.
+fn history_behind(
     alloc: Global,
-    told: &Snapshot,
-) -> Result<Result<(), Ignored>, Fail> {
-    if is_exact(source, alloc, told)? {
-        last_answer(told)
-    } else {
-        Err(Fail::from("a follower takes another answer"))
-    }
-}
-
-/// What the replica answered to the last frame, where followers agree.
-fn answer_in<S: RandomSource>(
-    source: &S,
-    alloc: Global,
-    simulation: &Simulation<AnyKind>,
+    random: RandomState,
+    script: Script,
+    command: &Command,
     replica: u8,
-) -> Result<Result<(), Ignored>, Fail> {
-    match history_of(simulation, replica)? {
-        Some(told) => agreed_answer(source, alloc, &told),
-        None => Err(Fail::from("no history")),
-    }
+) -> Result<Snapshot, Fault> {
+    let mut simulation = played(alloc, random, script)?;
+    play(&mut simulation, command)?;
+    history_of(&simulation, replica)
 }
 
-/// The frame is injected to the replica.
-fn inject(simulation: &mut Simulation<AnyKind>, bytes: Bytes, to: u8) -> Result<(), Fail> {
-    let to = u32::from(to);
-    if plays(simulation, &Command::Inject { to, bytes }) {
-        Ok(())
-    } else {
-        Err(Fail::from("out of memory"))
-    }
-}
-
-/// What the replica answers to the frame behind what the script plays, where followers agree.
-fn answer_of<S: RandomSource>(
-    source: &S,
+/// Whether the replica answers so to the frame behind what the script plays, and followers agree.
+fn answers(
     alloc: Global,
+    random: RandomState,
     script: Script,
     bytes: Bytes,
     to: u8,
-) -> Result<Result<(), Ignored>, Fail> {
-    let mut simulation = played(source, alloc, script)?;
-    inject(&mut simulation, bytes, to)?;
-    answer_in(source, alloc, &simulation, to)
-}
-
-/// The first frame with this head that the replica sent.
-fn frame_in(simulation: &Simulation<AnyKind>, replica: u8, head: Head) -> Result<Bytes, Fail> {
-    match history_of(simulation, replica)? {
-        Some(told) => frame_of(&told, head),
-        None => Err(Fail::from("no history")),
-    }
+    answer: Result<(), Ignored>,
+) -> Result<bool, Fault> {
+    let command = Command::Inject {
+        to: u32::from(to),
+        bytes,
+    };
+    let told = history_behind(alloc, random, script, &command, to)?;
+    is_answered(alloc, random, &told, answer)
 }
 
 /// The frame of the report of a replica at a height, in phase 1.
-fn report_in(simulation: &Simulation<AnyKind>, replica: u8, height: u8) -> Result<Bytes, Fail> {
+fn report_in(simulation: &Simulation<AnyKind>, replica: u8, height: u8) -> Result<Bytes, Fault> {
+    let told = history_of(simulation, replica)?;
     let head = Head {
         kind: 1,
         height,
         phase: 1,
     };
-    frame_in(simulation, replica, head)
+    frame_of(&told, head)
 }
 
-/// The reports of replicas 0, 2 and 3 where locks are due, the first one's of this height.
-fn reports_at<S: RandomSource>(source: &S, alloc: Global, height: u8) -> Result<[Bytes; 3], Fail> {
-    let simulation = played(source, alloc, LOCKS_DUE)?;
-    Ok([
-        report_in(&simulation, 0, height)?,
-        report_in(&simulation, 2, 1)?,
-        report_in(&simulation, 3, 1)?,
-    ])
+/// Adds the report, which stands behind the frame's length.
+fn add_report(
+    statement: &mut Vec<u8>,
+    simulation: &Simulation<AnyKind>,
+    replica: u8,
+    height: u8,
+) -> Result<(), Fault> {
+    let frame = report_in(simulation, replica, height)?;
+    statement.extend_from_slice(frame.get(4..).unwrap_or(&[]))?;
+    Ok(())
 }
 
-/// The frame of a lock at height 1 by three reports, the first one's of this height.
-fn lock_at<S: RandomSource>(source: &S, alloc: Global, height: u8) -> Result<Bytes, Fail> {
-    let reports = reports_at(source, alloc, height)?;
+/// Adds the reports of replicas 0, 2 and 3 where locks are due, the first one's of this height.
+fn add_reports(
+    alloc: Global,
+    random: RandomState,
+    statement: &mut Vec<u8>,
+    height: u8,
+) -> Result<(), Fault> {
+    let simulation = played(alloc, random, LOCKS_DUE)?;
+    for (replica, height) in [(0, height), (2, 1), (3, 1)] {
+        add_report(statement, &simulation, replica, height)?;
+    }
+    Ok(())
+}
+
+/// The frame of a statement of replica 1 where locks are due.
+fn signed(alloc: Global, statement: &[u8]) -> Result<Bytes, Fault> {
     let scenario = scenario_of(alloc, LOCKS_DUE)?;
-    lock_by(alloc, &cluster_of(&scenario.setup), reports)
+    signed_by_one(alloc, &cluster_of(&scenario.setup), statement)
+}
+
+/// The frame of a lock of replica 1 on `[a=1]` in phase 1 of height 1, by three reports, the first one's of this height.
+fn lock_at(alloc: Global, random: RandomState, height: u8) -> Result<Bytes, Fault> {
+    let mut statement = Vec::from_slice(alloc, &lock_bytes(1, 1, b'a', 3))?;
+    add_reports(alloc, random, &mut statement, height)?;
+    signed(alloc, &statement)
+}
+
+/// Whether replica 0 answers so to the lock by three reports, the first one's of this height.
+fn answers_lock_at(
+    alloc: Global,
+    random: RandomState,
+    height: u8,
+    answer: Result<(), Ignored>,
+) -> Result<bool, Fault> {
+    let lock = lock_at(alloc, random, height)?;
+    answers(alloc, random, LOCKS_DUE, lock, 0, answer)
 }
 
 /// The frame of the lock of the sixth phase.
-fn sixth_lock<S: RandomSource>(source: &S, alloc: Global) -> Result<Bytes, Fail> {
-    let simulation = played(source, alloc, TWENTY_TWO_ROUNDS)?;
+fn sixth_lock(alloc: Global, random: RandomState) -> Result<Bytes, Fault> {
+    let told = history_in(alloc, random, TWENTY_TWO_ROUNDS, 2)?;
     let head = Head {
         kind: 2,
         height: 1,
         phase: 6,
     };
-    frame_in(&simulation, 2, head)
+    frame_of(&told, head)
+}
+
+/// Whether replica 3 answers so to it in the third phase.
+fn answers_sixth_lock(
+    alloc: Global,
+    random: RandomState,
+    answer: Result<(), Ignored>,
+) -> Result<bool, Fault> {
+    let lock = sixth_lock(alloc, random)?;
+    answers(alloc, random, TWELVE_ROUNDS, lock, 3, answer)
 }
 
 #[test]
 fn a_report_of_another_height_proves_no_lock(rt: HostRuntime) -> Result<(), Fail> {
-    let alloc = rt.alloc();
+    let random = RandomState::new(&rt)?;
     for (height, answer) in [(1, Ok(())), (2, Err(Ignored::BadProof))] {
-        let lock = lock_at(&rt, alloc, height)?;
-        assert_eq!(rt; answer_of(&rt, alloc, LOCKS_DUE, lock, 0)?, answer);
+        assert!(rt;
+            answers_lock_at(rt.alloc(), random, height, answer)?,
+            "{height}"
+        );
     }
     Ok(())
 }
 
 #[test]
 fn a_lock_of_the_sixth_phase_is_early_in_the_third(rt: HostRuntime) -> Result<(), Fail> {
-    let alloc = rt.alloc();
-    let lock = sixth_lock(&rt, alloc)?;
-    assert_eq!(rt;
-        answer_of(&rt, alloc, TWELVE_ROUNDS, lock, 3)?,
-        Err(Ignored::WrongPhase)
-    );
+    let random = RandomState::new(&rt)?;
+    assert!(rt; answers_sixth_lock(rt.alloc(), random, Err(Ignored::WrongPhase))?);
     Ok(())
 }

@@ -1,12 +1,10 @@
 //! Frames that no line of a scenario makes.
+use crate::fault::Fault;
 use bytes::Bytes;
 use cluster_keys::{Cluster, key_pair};
-use key_ring::Signer;
 use ledger_model::{Entry, ReplicaId, Reply, Sent};
 use locked_replica::Snapshot;
-use std::alloc::Global;
-use std::test::Fail;
-use test_support::lock_bytes;
+use std::alloc::{AllocError, Global};
 
 /// The first bytes of a frame, behind its length: the kind of its statement, the height and the phase.
 #[derive(Clone, Copy)]
@@ -38,39 +36,36 @@ fn sent_at(entry: &Entry, head: Head) -> Option<&Sent> {
 }
 
 /// The bytes of the first such frame that a replica sent.
-pub(crate) fn frame_of(told: &Snapshot, head: Head) -> Result<Bytes, Fail> {
+pub(crate) fn frame_of(told: &Snapshot, head: Head) -> Result<Bytes, Fault> {
     for entry in told.history.entries.as_slice() {
         if let Some(sent) = sent_at(entry, head) {
             return Ok(sent.frame.clone()?);
         }
     }
-    Err(Fail::from("no such frame"))
+    Err(Fault::NoFrame)
 }
 
-/// The frame of a statement, signed with the next leaf.
-fn signed(alloc: Global, signer: &mut Signer, statement: &[u8]) -> Result<Bytes, Fail> {
-    let signature = signer.sign(alloc, statement)?;
+/// The frame of a statement under this signature.
+fn framed(alloc: Global, statement: &[u8], signature: &[u8]) -> Result<Bytes, AllocError> {
     let len = statement
         .len()
-        .saturating_add(2)
-        .saturating_add(signature.len());
-    let mut bytes = Vec::from_slice(alloc, &u32::try_from(len)?.to_be_bytes())?;
+        .saturating_add(signature.len())
+        .saturating_add(2);
+    let len = u32::try_from(len).unwrap_or(u32::MAX);
+    let mut bytes = Vec::from_slice(alloc, &len.to_be_bytes())?;
     bytes.extend_from_slice(statement)?;
     bytes.extend_from_slice(&[0x09, 0x2c])?;
-    bytes.extend_from_slice(&signature)?;
+    bytes.extend_from_slice(signature)?;
     Ok(Bytes::from_vec(bytes)?)
 }
 
-/// The frame of a lock of replica 1 on `[a=1]` in phase 1 of height 1, by the reports in these frames.
-pub(crate) fn lock_by(
+/// The frame of a statement of replica 1, which signs it with its first leaf.
+pub(crate) fn signed_by_one(
     alloc: Global,
     cluster: &Cluster,
-    reports: [Bytes; 3],
-) -> Result<Bytes, Fail> {
+    statement: &[u8],
+) -> Result<Bytes, Fault> {
     let mut signer = key_pair(alloc, cluster, ReplicaId::new(1))?;
-    let mut statement = Vec::from_slice(alloc, &lock_bytes(1, 1, b'a', 3))?;
-    for frame in &reports {
-        statement.extend_from_slice(frame.get(4..).unwrap_or(&[]))?;
-    }
-    signed(alloc, &mut signer, &statement)
+    let signature = signer.sign(alloc, statement)?;
+    Ok(framed(alloc, statement, &signature)?)
 }

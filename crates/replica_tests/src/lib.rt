@@ -9,6 +9,8 @@ mod ending_changes;
 #[cfg(test)]
 mod entry_tests;
 #[cfg(test)]
+mod fault;
+#[cfg(test)]
 mod following;
 #[cfg(test)]
 mod following_tests;

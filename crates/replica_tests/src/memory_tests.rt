@@ -3,18 +3,19 @@ ghost use Rattle.std.specs.Prelude.{◌≡◌, [], vec_len, All, IfOk};
 ghost use Rattle.ledger_model.specs.Applications.{run};
 ghost use Rattle.app_kinds.specs.Chosen.{machine_of};
 
-use crate::following::{count_taken, follower_with, is_taken};
-use crate::playing::{correct_of, history_of, new_simulation, plays_all, scenario_of};
+use crate::fault::Fault;
+use crate::following::{follower_with, is_taken, takes_all};
+use crate::playing::{correct_of, history_of, new_simulation, play_all, scenario_of};
 use crate::scripts::REFUSED_BLOCK;
 use abci::Application;
 use app_kinds::{AnyKind, Refusing};
 use ledger_model::{AppKind, Entry};
 use locked_replica::Snapshot;
 use replica_core::Follower;
-use scenario_texts::Command;
+use scenario_texts::{Command, Setup};
 use simulation::Simulation;
 use std::alloc::{AllocError, Global};
-use std::random::RandomSource;
+use std::hash::RandomState;
 use std::test::Fail;
 
 /// So many applications of a kind in their opening state, of which each finds no memory for its second transaction.
@@ -49,7 +50,7 @@ fn plays_at_second_try<A: Application>(
     let Some((last, others)) = commands.split_last() else {
         return false;
     };
-    plays_all(simulation, others)
+    play_all(simulation, others).is_ok()
         && prints(simulation, last, b"refused 5\n")
         && prints(
             simulation,
@@ -67,7 +68,7 @@ fn takes_at_second_try<A: Application>(
     let Some((last, others)) = entries.split_last() else {
         return Ok(false);
     };
-    if count_taken(follower, alloc, others)? != others.len() {
+    if !takes_all(follower, alloc, others)? {
         return Ok(false);
     }
     if is_taken(follower, alloc, &last.event, &last.reply).is_ok() {
@@ -77,24 +78,51 @@ fn takes_at_second_try<A: Application>(
 }
 
 /// Whether a follower does so, whose application finds no memory for its second transaction.
-fn is_followed<S: RandomSource>(source: &S, alloc: Global, told: &Snapshot) -> Result<bool, Fail> {
+fn is_followed(alloc: Global, random: RandomState, told: &Snapshot) -> Result<bool, Fault> {
     let app = Refusing::new(AnyKind::new(alloc, told.config.kind), 2);
-    let mut follower = follower_with(source, alloc, told, app)?;
+    let mut follower = follower_with(alloc, random, told, app)?;
     Ok(takes_at_second_try(&mut follower, alloc, told.history.entries.as_slice())?)
+}
+
+/// The simulation of a scenario with such applications, as it begins.
+fn opened(
+    alloc: Global,
+    random: RandomState,
+    setup: &Setup,
+) -> Result<Simulation<Refusing<AnyKind>>, Fault> {
+    let apps = refusing_apps(alloc, setup.config.kind, correct_of(setup))?;
+    new_simulation(alloc, random, setup, apps)
+}
+
+/// The history of replica 1 where the last command is refused once.
+fn history_of_refused(
+    alloc: Global,
+    random: RandomState,
+    setup: &Setup,
+    commands: &[Command],
+) -> Result<Snapshot, Fault> {
+    let mut simulation = opened(alloc, random, setup)?;
+    if plays_at_second_try(&mut simulation, commands) {
+        history_of(&simulation, 1)
+    } else {
+        Err(Fault::OtherLines)
+    }
+}
+
+fn refused_block(alloc: Global, random: RandomState) -> Result<Snapshot, Fault> {
+    let scenario = scenario_of(alloc, REFUSED_BLOCK)?;
+    history_of_refused(alloc, random, &scenario.setup, &scenario.commands)
+}
+
+/// Whether the block is run again, and its entry followed again.
+fn is_run_again(alloc: Global, random: RandomState) -> Result<bool, Fault> {
+    let told = refused_block(alloc, random)?;
+    is_followed(alloc, random, &told)
 }
 
 #[test]
 fn a_block_that_found_no_memory_is_run_again(rt: HostRuntime) -> Result<(), Fail> {
-    let alloc = rt.alloc();
-    let scenario = scenario_of(alloc, REFUSED_BLOCK)?;
-    let apps = refusing_apps(
-        alloc,
-        scenario.setup.config.kind,
-        correct_of(&scenario.setup),
-    )?;
-    let mut simulation = new_simulation(&rt, alloc, &scenario.setup, apps)?;
-    assert!(rt; plays_at_second_try(&mut simulation, &scenario.commands));
-    let told = history_of(&simulation, 1)?.ok_or("no history")?;
-    assert!(rt; is_followed(&rt, alloc, &told)?);
+    let random = RandomState::new(&rt)?;
+    assert!(rt; is_run_again(rt.alloc(), random)?);
     Ok(())
 }

@@ -4,6 +4,7 @@ ghost use Rattle.ledger_model.specs.Applications.{run};
 ghost use Rattle.app_kinds.specs.Chosen.{machine_of};
 ghost use Rattle.adversary_net.specs.Openings.{correct_without};
 
+use crate::fault::Fault;
 use crate::scripts::{Script, text_of};
 use abci::Application;
 use adversary_net::count_correct;
@@ -15,8 +16,6 @@ use scenario_texts::{Command, Scenario, Setup, read};
 use simulation::Simulation;
 use std::alloc::{AllocError, Global};
 use std::hash::RandomState;
-use std::random::RandomSource;
-use std::test::Fail;
 
 /// So many applications of a kind, each in its opening state.
 fn new_apps(alloc: Global, kind: AppKind, count: usize) -> Result<Vec<AnyKind>, AllocError>
@@ -30,17 +29,17 @@ fn new_apps(alloc: Global, kind: AppKind, count: usize) -> Result<Vec<AnyKind>, 
     Ok(apps)
 }
 
-/// The random keys of so many replicas.
-fn new_randoms<S: RandomSource>(
-    source: &S,
+/// The keys of the hashes of so many replicas.
+fn new_randoms(
     alloc: Global,
+    random: RandomState,
     count: usize,
-) -> Result<Vec<[RandomState; 2]>, Fail>
+) -> Result<Vec<[RandomState; 2]>, AllocError>
     ensures { IfOk result (λ randoms. vec_len randoms ≡ count) }
 {
     let mut randoms = Vec::with_capacity(alloc, count)?;
     for _ in 0..count {
-        randoms.push([RandomState::new(source)?, RandomState::new(source)?])?;
+        randoms.push([random, random])?;
     }
     Ok(randoms)
 }
@@ -64,74 +63,93 @@ pub(crate) fn correct_of(setup: &Setup) -> usize
 }
 
 /// The simulation of a scenario with these applications, as it begins.
-pub(crate) fn new_simulation<S: RandomSource, A: Application>(
-    source: &S,
+pub(crate) fn new_simulation<A: Application>(
     alloc: Global,
+    random: RandomState,
     setup: &Setup,
     apps: Vec<A>,
-) -> Result<Simulation<A>, Fail>
+) -> Result<Simulation<A>, Fault>
     requires apps { vec_len apps ≡ length (correct_without setup.now.config setup.now.liars.items) }
     requires opening { All (λ app. A.machine app ≡ run setup.now.config.kind []) apps.items }
 {
     let cluster = cluster_of(setup);
-    let randoms = new_randoms(source, alloc, correct_of(setup))?;
-    match Simulation::new(alloc, &cluster, &setup.liars, apps, randoms) {
-        Ok(simulation) => Ok(simulation),
-        Err(fault) => Err(Fail::from(fault)),
+    let randoms = new_randoms(alloc, random, correct_of(setup))?;
+    Ok(Simulation::new(alloc, &cluster, &setup.liars, apps, randoms)?)
+}
+
+/// The simulation of a scenario with the applications of its kind, as it begins.
+fn opened(alloc: Global, random: RandomState, setup: &Setup) -> Result<Simulation<AnyKind>, Fault> {
+    let apps = new_apps(alloc, setup.config.kind, correct_of(setup))?;
+    new_simulation(alloc, random, setup, apps)
+}
+
+/// Plays a command.
+pub(crate) fn play<A: Application>(
+    simulation: &mut Simulation<A>,
+    command: &Command,
+) -> Result<(), AllocError> {
+    match simulation.play(command) {
+        Ok(_) => Ok(()),
+        Err(error) => Err(error),
     }
 }
 
-/// Plays a command, and says whether there was memory for it.
-pub(crate) fn plays<A: Application>(simulation: &mut Simulation<A>, command: &Command) -> bool {
-    simulation.play(command).is_ok()
-}
-
-/// Plays commands in order, and says whether there was memory for them.
-pub(crate) fn plays_all<A: Application>(
+/// Plays commands in order.
+pub(crate) fn play_all<A: Application>(
     simulation: &mut Simulation<A>,
     commands: &[Command],
-) -> bool {
+) -> Result<(), AllocError> {
     for command in commands {
-        if !plays(simulation, command) {
-            return false;
-        }
+        play(simulation, command)?;
     }
-    true
+    Ok(())
 }
 
 /// The scenario of a script.
-pub(crate) fn scenario_of(alloc: Global, script: Script) -> Result<Scenario, Fail> {
+pub(crate) fn scenario_of(alloc: Global, script: Script) -> Result<Scenario, Fault> {
     let text = text_of(alloc, script)?;
     Ok(read(alloc, &text)?)
 }
 
-/// What the text of a script comes to.
-pub(crate) fn played<S: RandomSource>(
-    source: &S,
+/// What a scenario comes to.
+fn come_of(
     alloc: Global,
-    script: Script,
-) -> Result<Simulation<AnyKind>, Fail> {
-    let scenario = scenario_of(alloc, script)?;
-    let apps = new_apps(
-        alloc,
-        scenario.setup.config.kind,
-        correct_of(&scenario.setup),
-    )?;
-    let mut simulation = new_simulation(source, alloc, &scenario.setup, apps)?;
-    if plays_all(&mut simulation, &scenario.commands) {
-        Ok(simulation)
-    } else {
-        Err(Fail::from("out of memory"))
-    }
+    random: RandomState,
+    scenario: &Scenario,
+) -> Result<Simulation<AnyKind>, Fault> {
+    let mut simulation = opened(alloc, random, &scenario.setup)?;
+    play_all(&mut simulation, &scenario.commands)?;
+    Ok(simulation)
 }
 
-/// The history of the replica of a number, if it is a correct one.
+/// What the text of a script comes to.
+pub(crate) fn played(
+    alloc: Global,
+    random: RandomState,
+    script: Script,
+) -> Result<Simulation<AnyKind>, Fault> {
+    let scenario = scenario_of(alloc, script)?;
+    come_of(alloc, random, &scenario)
+}
+
+/// The history of the replica of a number.
 pub(crate) fn history_of<A: Application>(
     simulation: &Simulation<A>,
     replica: u8,
-) -> Result<Option<Snapshot>, AllocError> {
+) -> Result<Snapshot, Fault> {
     match simulation.world().state(ReplicaId::new(replica)) {
-        Some(state) => Ok(Some(state.history()?)),
-        None => Ok(None),
+        Some(state) => Ok(state.history()?),
+        None => Err(Fault::NoHistory),
     }
+}
+
+/// The history of a replica that a script comes to.
+pub(crate) fn history_in(
+    alloc: Global,
+    random: RandomState,
+    script: Script,
+    replica: u8,
+) -> Result<Snapshot, Fault> {
+    let simulation = played(alloc, random, script)?;
+    history_of(&simulation, replica)
 }

@@ -1,13 +1,13 @@
-//! Which changed replies of a history a follower refuses.
+//! Whether a follower refuses the changed replies of a history.
 use crate::changing::{Change, changed};
-use crate::following::{is_taken, taking};
+use crate::fault::Fault;
+use crate::following::{is_taken, new_follower, takes_all};
 use app_kinds::AnyKind;
 use ledger_model::{Entry, Reply};
 use locked_replica::Snapshot;
 use replica_core::Follower;
-use std::alloc::Global;
-use std::random::RandomSource;
-use std::test::Fail;
+use std::alloc::{AllocError, Global};
+use std::hash::RandomState;
 
 /// The changes that are tried: of the frames' bytes those of a length, of a statement, and of a signature's number, first
 /// and last bytes.
@@ -25,76 +25,85 @@ const CHANGES: [Change; 11] = [
     Change::Byte(2000),
 ];
 
-/// Whether the follower refuses the entry with this reply, and with its own from then on.
+/// Whether the follower takes the entries before this place, refuses the one there with this reply, and with its own from then
+/// on.
 fn is_lost_at(
     follower: &mut Follower<AnyKind>,
     alloc: Global,
-    entry: &Entry,
+    entries: &[Entry],
+    at: usize,
     reply: &Reply,
-) -> Result<bool, Fail> {
+) -> Result<bool, AllocError> {
+    let (Some(before), Some(entry)) = (entries.get(..at), entries.get(at)) else {
+        return Ok(false);
+    };
+    let are_taken = takes_all(follower, alloc, before)?;
     let is_first_taken = is_taken(follower, alloc, &entry.event, reply)?;
     let is_next_taken = is_taken(follower, alloc, &entry.event, &entry.reply)?;
-    Ok(!is_first_taken && !is_next_taken && follower.is_lost())
+    Ok(are_taken && !is_first_taken && !is_next_taken && follower.is_lost())
 }
 
-/// Whether the entry at this place is refused with this reply behind those before it, and with its own from then on.
-fn is_refused_with<S: RandomSource>(
-    source: &S,
+/// Whether a follower does so.
+fn is_refused_with(
     alloc: Global,
+    random: RandomState,
     told: &Snapshot,
     at: usize,
-    entry: &Entry,
     reply: &Reply,
-) -> Result<bool, Fail> {
-    match taking(source, alloc, told, at)? {
-        Some(mut follower) => is_lost_at(&mut follower, alloc, entry, reply),
-        None => Ok(false),
-    }
+) -> Result<bool, Fault> {
+    let mut follower = new_follower(alloc, random, told)?;
+    Ok(is_lost_at(
+        &mut follower,
+        alloc,
+        told.history.entries.as_slice(),
+        at,
+        reply,
+    )?)
 }
 
 /// Whether the entry at this place, its reply changed so, is refused behind those before it, and the true one is refused from
 /// then on. It is true where the reply has nothing to be changed so.
-fn is_refused<S: RandomSource>(
-    source: &S,
+fn is_refused(
     alloc: Global,
+    random: RandomState,
     told: &Snapshot,
     at: usize,
     change: Change,
-) -> Result<bool, Fail> {
+) -> Result<bool, Fault> {
     let Some(entry) = told.history.entries.as_slice().get(at) else {
         return Ok(false);
     };
     match changed(alloc, &entry.reply, change)? {
-        Some(reply) => is_refused_with(source, alloc, told, at, entry, &reply),
+        Some(reply) => is_refused_with(alloc, random, told, at, &reply),
         None => Ok(true),
     }
 }
 
-/// The first change of the entry at this place that is not refused.
-pub(crate) fn first_taken<S: RandomSource>(
-    source: &S,
+/// Whether each change of the entry at this place is refused.
+pub(crate) fn refuses_changes_at(
     alloc: Global,
+    random: RandomState,
     told: &Snapshot,
     at: usize,
-) -> Result<Option<Change>, Fail> {
+) -> Result<bool, Fault> {
     for change in CHANGES {
-        if !is_refused(source, alloc, told, at, change)? {
-            return Ok(Some(change));
+        if !is_refused(alloc, random, told, at, change)? {
+            return Ok(false);
         }
     }
-    Ok(None)
+    Ok(true)
 }
 
-/// The first place at which a changed reply is taken, with the change.
-pub(crate) fn first_fault<S: RandomSource>(
-    source: &S,
+/// Whether each change of each entry is refused.
+pub(crate) fn refuses_changes(
     alloc: Global,
+    random: RandomState,
     told: &Snapshot,
-) -> Result<Option<(usize, Change)>, Fail> {
+) -> Result<bool, Fault> {
     for at in 0..told.history.entries.as_slice().len() {
-        if let Some(change) = first_taken(source, alloc, told, at)? {
-            return Ok(Some((at, change)));
+        if !refuses_changes_at(alloc, random, told, at)? {
+            return Ok(false);
         }
     }
-    Ok(None)
+    Ok(true)
 }

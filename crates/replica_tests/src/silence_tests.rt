@@ -1,27 +1,28 @@
 //! The mute flag: it is taken from the reply where nothing was due, and then silence is asked for.
 use crate::ending_changes::with_other_flag;
-use crate::following::{is_taken, taking};
-use crate::playing::{history_of, played};
+use crate::fault::Fault;
+use crate::following::{is_taken, new_follower, takes_all};
+use crate::playing::history_in;
 use crate::scripts::{FOUR_HEIGHTS, NO_LEAF_LEFT, NO_LEAVES_FOR_FOUR, PLAIN, Script};
 use app_kinds::AnyKind;
 use ledger_model::{Entry, Reply, RoundEnded};
 use locked_replica::Snapshot;
 use replica_core::Follower;
 use std::alloc::{AllocError, Global};
-use std::random::RandomSource;
+use std::hash::RandomState;
 use std::test::Fail;
 
 /// What comes of a round end whose mute flag is changed.
-#[derive(Clone, Copy, Debug, PartialEq, Eq)]
+#[derive(Clone, Copy)]
 enum Flagged {
     /// It is no round end.
     Other,
-    /// It is refused.
+    /// It is refused, since something was due.
     Refused,
-    /// It is taken, and the next round end that is not mute is refused, if there is one.
+    /// It is taken, since nothing was due, and the next round end that is not mute is refused, if there is one.
     Silenced,
-    /// It is taken, and so is that one.
-    Ignored,
+    /// None of these.
+    Wrong,
 }
 
 /// Whether something had to be signed for this end, as far as it tells: it sends frames, and not only locks that it holds.
@@ -63,103 +64,99 @@ fn stays_silent(
     Ok(true)
 }
 
-/// What comes of the entry with this reply, at a follower that took those before it.
+/// What comes of the entry at this place with this reply, at a follower that takes those before it.
 fn come_of(
     follower: &mut Follower<AnyKind>,
     alloc: Global,
-    entry: &Entry,
+    entries: &[Entry],
+    at: usize,
     reply: &Reply,
-    later: &[Entry],
 ) -> Result<Flagged, AllocError> {
-    if !is_taken(follower, alloc, &entry.event, reply)? {
+    let (Some(before), Some(entry)) = (entries.get(..at), entries.get(at)) else {
+        return Ok(Flagged::Wrong);
+    };
+    let are_taken = takes_all(follower, alloc, before)?;
+    let may_be_taken = may_be_mute(&entry.reply, follower.clock().saturating_add(1));
+    let is_taken = is_taken(follower, alloc, &entry.event, reply)?;
+    if !are_taken || is_taken != may_be_taken {
+        return Ok(Flagged::Wrong);
+    }
+    if !is_taken {
         return Ok(Flagged::Refused);
     }
+    let later = entries.get(at.saturating_add(1)..).unwrap_or(&[]);
     if stays_silent(follower, alloc, later)? {
         Ok(Flagged::Silenced)
     } else {
-        Ok(Flagged::Ignored)
+        Ok(Flagged::Wrong)
     }
 }
 
-/// It, and what may come of it.
-fn judged(
-    follower: &mut Follower<AnyKind>,
+/// What comes of the entry at this place with this reply.
+fn outcome_with(
     alloc: Global,
-    entry: &Entry,
-    reply: &Reply,
-    later: &[Entry],
-) -> Result<(Flagged, bool), Fail> {
-    let may = may_be_mute(&entry.reply, follower.clock().saturating_add(1));
-    Ok((come_of(follower, alloc, entry, reply, later)?, may))
-}
-
-/// What comes of the entry at this place with this reply, and what may come of it.
-fn outcome_with<S: RandomSource>(
-    source: &S,
-    alloc: Global,
+    random: RandomState,
     told: &Snapshot,
     at: usize,
-    entry: &Entry,
     reply: &Reply,
-) -> Result<(Flagged, bool), Fail> {
-    let entries = told.history.entries.as_slice();
-    let later = entries.get(at.saturating_add(1)..).unwrap_or(&[]);
-    match taking(source, alloc, told, at)? {
-        Some(mut follower) => judged(&mut follower, alloc, entry, reply, later),
-        None => Err(Fail::from("an entry was refused")),
-    }
+) -> Result<Flagged, Fault> {
+    let mut follower = new_follower(alloc, random, told)?;
+    Ok(come_of(
+        &mut follower,
+        alloc,
+        told.history.entries.as_slice(),
+        at,
+        reply,
+    )?)
 }
 
-/// What comes of the entry at this place with the other mute flag, and what may come of it.
-fn outcome_of<S: RandomSource>(
-    source: &S,
+/// What comes of the entry at this place with the other mute flag.
+fn outcome_of(
     alloc: Global,
+    random: RandomState,
     told: &Snapshot,
     at: usize,
-) -> Result<(Flagged, bool), Fail> {
+) -> Result<Flagged, Fault> {
     let Some(entry) = told.history.entries.as_slice().get(at) else {
-        return Ok((Flagged::Other, false));
+        return Ok(Flagged::Other);
     };
     match with_other_flag(&entry.reply)? {
-        Some(reply) => outcome_with(source, alloc, told, at, entry, &reply),
-        None => Ok((Flagged::Other, false)),
+        Some(reply) => outcome_with(alloc, random, told, at, &reply),
+        None => Ok(Flagged::Other),
     }
 }
 
-/// How many round ends are refused with the other flag, and how many silence the replica; none where one is neither, or the
-/// other of the two.
-fn counts<S: RandomSource>(
-    source: &S,
+/// How many round ends are refused with the other flag, and how many silence the replica; none where something else comes of one.
+fn counts(
     alloc: Global,
+    random: RandomState,
     told: &Snapshot,
-) -> Result<Option<(u32, u32)>, Fail> {
+) -> Result<Option<(u32, u32)>, Fault> {
     let (mut refused, mut silenced) = (0u32, 0u32);
     for at in 0..told.history.entries.as_slice().len() {
-        match outcome_of(source, alloc, told, at)? {
-            (Flagged::Other, _) => {}
-            (Flagged::Refused, false) => refused = refused.saturating_add(1),
-            (Flagged::Silenced, true) => silenced = silenced.saturating_add(1),
-            _ => return Ok(None),
+        match outcome_of(alloc, random, told, at)? {
+            Flagged::Other => {}
+            Flagged::Refused => refused = refused.saturating_add(1),
+            Flagged::Silenced => silenced = silenced.saturating_add(1),
+            Flagged::Wrong => return Ok(None),
         }
     }
     Ok(Some((refused, silenced)))
 }
 
-fn counts_of<S: RandomSource>(
-    source: &S,
+fn counts_of(
     alloc: Global,
+    random: RandomState,
     script: Script,
     replica: u8,
-) -> Result<Option<(u32, u32)>, Fail> {
-    let simulation = played(source, alloc, script)?;
-    match history_of(&simulation, replica)? {
-        Some(told) => counts(source, alloc, &told),
-        None => Err(Fail::from("a liar has no history")),
-    }
+) -> Result<Option<(u32, u32)>, Fault> {
+    let told = history_in(alloc, random, script, replica)?;
+    counts(alloc, random, &told)
 }
 
 #[test]
 fn the_mute_flag_asks_for_silence(rt: HostRuntime) -> Result<(), Fail> {
+    let random = RandomState::new(&rt)?;
     for (script, replica, answer) in [
         // Refused: where it sends a report in each of four phases, an acknowledgement in three, and a lock in the last.
         (PLAIN, 0, (8, 8)),
@@ -169,7 +166,7 @@ fn the_mute_flag_asks_for_silence(rt: HostRuntime) -> Result<(), Fail> {
         (NO_LEAF_LEFT, 3, (38, 96)),
         (NO_LEAVES_FOR_FOUR, 0, (11, 24)),
     ] {
-        assert_eq!(rt; counts_of(&rt, rt.alloc(), script, replica)?, Some(answer));
+        assert!(rt; counts_of(rt.alloc(), random, script, replica)? == Some(answer));
     }
     Ok(())
 }

@@ -1,5 +1,8 @@
 //! Replica 0 of four, whose ring has its own key alone, applies events.
+ghost use Rattle.std.specs.Prelude.{◌≡◌, ◌∷◌, [], IfOk};
+ghost use Rattle.key_ring.specs.Signers.{key_of};
 
+use crate::fault::Fault;
 use app_kinds::AnyKind;
 use bytes::Bytes;
 use key_ring::{KeyRing, Signer};
@@ -7,10 +10,9 @@ use ledger_model::{
     Addressee, AppKind, Config, Event, Height, Key, ProposeRefusal, ReplicaId, SubmitRefusal,
 };
 use lm_ots::{Identifier, Params, Seed, TreeHeight, Width};
-use locked_replica::{EventView, ReplyView, RoundEndView, State};
-use std::alloc::Global;
+use locked_replica::{ApplyFault, EntryView, EventView, ReplyView, RoundEndView, State};
+use std::alloc::{AllocError, Global};
 use std::hash::RandomState;
-use std::random::RandomSource;
 use std::test::Fail;
 
 const PARAMS: Params = Params {
@@ -18,25 +20,31 @@ const PARAMS: Params = Params {
     height: TreeHeight::H5,
 };
 
-fn signer(alloc: Global) -> Result<Signer, Fail> {
-    Ok(Signer::new(alloc, PARAMS, Identifier::new([7; 16]), Seed::new([9; 32]))?)
+fn signer(alloc: Global) -> Result<Signer, AllocError> {
+    Signer::new(alloc, PARAMS, Identifier::new([7; 16]), Seed::new([9; 32]))
 }
 
-fn replica(alloc: Global, randoms: [RandomState; 2]) -> Result<State<AnyKind>, Fail> {
-    let signer = signer(alloc)?;
+fn ring_of(alloc: Global, signer: &Signer) -> Result<KeyRing, AllocError>
+    ensures { IfOk result (λ ring. ring ≡ key_of signer.now.secret ∷ []) }
+{
+    Ok(KeyRing::new(vec![in alloc; signer.public()]?))
+}
+
+fn new_replica(alloc: Global, random: RandomState) -> Result<State<AnyKind>, Fault> {
     let config = Config::new(4, 1, AppKind::KvStore)?;
-    let ring = KeyRing::new(vec![in alloc; signer.public()]?);
+    let signer = signer(alloc)?;
+    let ring = ring_of(alloc, &signer)?;
     let app = AnyKind::new(alloc, config.kind);
     let id = ReplicaId::new(0);
-    Ok(State::new(alloc, config, id, signer, ring, app, randoms)?)
+    Ok(State::new(alloc, config, id, signer, ring, app, [random, random])?)
 }
 
-fn submit(bytes: &'static [u8]) -> Event {
-    Event::Submit(Bytes::from_static(bytes))
+fn apply(state: &mut State<AnyKind>, event: Event) -> Result<usize, ApplyFault> {
+    state.apply(event)
 }
 
-fn propose(height: u32) -> Event {
-    Event::Propose(Height::new(height))
+fn entry_at(state: &State<AnyKind>, index: usize) -> Option<EntryView<'_>> {
+    state.entry(index)
 }
 
 // What is known of a replica at once: its entries, its round, the height of its application, and whether it has no entry.
@@ -44,82 +52,68 @@ fn numbers(state: &State<AnyKind>) -> (usize, u32, u32, bool) {
     (state.len(), state.clock(), state.height(), state.is_empty())
 }
 
-fn new_replica<S: RandomSource>(source: &S, alloc: Global) -> Result<State<AnyKind>, Fail> {
-    replica(
-        alloc,
-        [RandomState::new(source)?, RandomState::new(source)?],
-    )
-}
-
-#[test]
-fn a_new_replica_has_no_history(rt: HostRuntime) -> Result<(), Fail> {
-    let state = new_replica(&rt, rt.alloc())?;
-    assert!(rt; numbers(&state) == (0, 0, 0, true) && state.entry(0).is_none());
-    Ok(())
-}
-
-// Why a submit is refused, if it is.
-fn submitted(
-    state: &mut State<AnyKind>,
-    bytes: &'static [u8],
-) -> Result<Result<(), SubmitRefusal>, Fail> {
-    let index = state.apply(submit(bytes))?;
-    answer_at(state, index)
-}
-
-fn answer_at(state: &State<AnyKind>, index: usize) -> Result<Result<(), SubmitRefusal>, Fail> {
-    let entry = state.entry(index).ok_or("the entry is there")?;
-    match entry.reply() {
-        ReplyView::Submitted(given) => Ok(given),
-        _ => Err(Fail::from("a submit is answered as one")),
+fn answer_at(state: &State<AnyKind>, index: usize) -> Option<Result<(), SubmitRefusal>> {
+    match entry_at(state, index)?.reply() {
+        ReplyView::Submitted(given) => Some(given),
+        _ => None,
     }
 }
 
-// Whether it takes a transaction, and refuses three others by their causes.
-fn answers_submits(state: &mut State<AnyKind>) -> Result<bool, Fail> {
-    let mut are_right = true;
+// What it answers to a transaction.
+fn submitted(
+    state: &mut State<AnyKind>,
+    bytes: &'static [u8],
+) -> Result<Option<Result<(), SubmitRefusal>>, ApplyFault> {
+    let index = apply(state, Event::Submit(Bytes::from_static(bytes)))?;
+    Ok(answer_at(state, index))
+}
+
+// Whether it has no history, takes a transaction, and refuses three others by their causes: four entries.
+fn answers_submits(state: &mut State<AnyKind>) -> Result<bool, ApplyFault> {
+    let mut are_right = numbers(state) == (0, 0, 0, true) && entry_at(state, 0).is_none();
     for (bytes, answer) in [
         (b"a=1".as_slice(), Ok(())),
         (b"a=1".as_slice(), Err(SubmitRefusal::Duplicate)),
         (b"".as_slice(), Err(SubmitRefusal::Empty)),
         ([7; 65].as_slice(), Err(SubmitRefusal::TooLong)),
     ] {
-        are_right &= submitted(state, bytes)? == answer;
+        are_right &= submitted(state, bytes)? == Some(answer);
     }
     Ok(are_right && numbers(state) == (4, 0, 0, false))
 }
 
+fn new_one_answers_submits(alloc: Global, random: RandomState) -> Result<bool, Fault> {
+    let mut state = new_replica(alloc, random)?;
+    Ok(answers_submits(&mut state)?)
+}
+
 #[test]
-fn submits_are_refused_by_their_causes(rt: HostRuntime) -> Result<(), Fail> {
-    let mut state = new_replica(&rt, rt.alloc())?;
-    assert!(rt; answers_submits(&mut state)?);
+fn a_new_replica_refuses_submits_by_their_causes(rt: HostRuntime) -> Result<(), Fail> {
+    let random = RandomState::new(&rt)?;
+    assert!(rt; new_one_answers_submits(rt.alloc(), random)?);
     Ok(())
+}
+
+fn proposal_at(state: &State<AnyKind>, index: usize) -> Option<Result<usize, ProposeRefusal>> {
+    match entry_at(state, index)?.reply() {
+        ReplyView::Proposed(Ok(batch)) => Some(Ok(batch.transactions().len())),
+        ReplyView::Proposed(Err(refusal)) => Some(Err(refusal)),
+        _ => None,
+    }
 }
 
 // How many transactions the proposal of a height has, or why there is none.
 fn proposed(
     state: &mut State<AnyKind>,
     height: u32,
-) -> Result<Result<usize, ProposeRefusal>, Fail> {
-    let index = state.apply(propose(height))?;
-    proposal_at(state, index)
-}
-
-fn proposal_at(
-    state: &State<AnyKind>,
-    index: usize,
-) -> Result<Result<usize, ProposeRefusal>, Fail> {
-    let entry = state.entry(index).ok_or("the entry is there")?;
-    match entry.reply() {
-        ReplyView::Proposed(Ok(batch)) => Ok(Ok(batch.transactions().len())),
-        ReplyView::Proposed(Err(refusal)) => Ok(Err(refusal)),
-        _ => Err(Fail::from("a propose is answered as one")),
-    }
+) -> Result<Option<Result<usize, ProposeRefusal>>, ApplyFault> {
+    let index = apply(state, Event::Propose(Height::new(height)))?;
+    Ok(proposal_at(state, index))
 }
 
 // Whether it opens heights 1 and 4 with the transaction, and refuses others by their causes.
-fn answers_proposals(state: &mut State<AnyKind>) -> Result<bool, Fail> {
-    let mut are_right = submitted(state, b"a=1")? == Ok(());
+fn answers_proposals(state: &mut State<AnyKind>) -> Result<bool, ApplyFault> {
+    let mut are_right = submitted(state, b"a=1")? == Some(Ok(()));
     for (height, answer) in [
         (0, Err(ProposeRefusal::Closed)),
         (4097, Err(ProposeRefusal::Closed)),
@@ -128,23 +122,27 @@ fn answers_proposals(state: &mut State<AnyKind>) -> Result<bool, Fail> {
         (1, Err(ProposeRefusal::AlreadyOpen)),
         (4, Ok(1)),
     ] {
-        are_right &= proposed(state, height)? == answer;
+        are_right &= proposed(state, height)? == Some(answer);
     }
     Ok(are_right)
 }
 
+fn new_one_answers_proposals(alloc: Global, random: RandomState) -> Result<bool, Fault> {
+    let mut state = new_replica(alloc, random)?;
+    Ok(answers_proposals(&mut state)?)
+}
+
 #[test]
 fn a_height_is_opened_or_refused_by_its_cause(rt: HostRuntime) -> Result<(), Fail> {
-    let mut state = new_replica(&rt, rt.alloc())?;
-    assert!(rt; answers_proposals(&mut state)?);
+    let random = RandomState::new(&rt)?;
+    assert!(rt; new_one_answers_proposals(rt.alloc(), random)?);
     Ok(())
 }
 
 // Whether it takes a transaction and opens height 1 with it.
-fn opens_one(state: &mut State<AnyKind>) -> Result<bool, Fail> {
-    let is_taken = submitted(state, b"a=1")?.is_ok();
-    let count = proposed(state, 1)?;
-    Ok(is_taken && count == Ok(1))
+fn opens_one(state: &mut State<AnyKind>) -> Result<bool, ApplyFault> {
+    let is_taken = submitted(state, b"a=1")? == Some(Ok(()));
+    Ok(is_taken && proposed(state, 1)? == Some(Ok(1)))
 }
 
 // Whether one frame of this length is sent to all.
@@ -158,76 +156,81 @@ fn is_one_to_all(ended: &RoundEndView<'_>, len: usize) -> bool {
 }
 
 // Whether the entry is a round end that is not mute and sends one frame of this length to all.
-fn sends_one(state: &State<AnyKind>, index: usize, len: usize) -> Result<bool, Fail> {
-    let entry = state.entry(index).ok_or("the entry is there")?;
+fn sends_one(entry: &EntryView<'_>, len: usize) -> bool {
     match (entry.event(), entry.reply()) {
         (EventView::RoundEnd, ReplyView::RoundEnded(Ok(ended))) => {
-            Ok(!ended.is_mute() && is_one_to_all(&ended, len))
+            !ended.is_mute() && is_one_to_all(&ended, len)
         }
-        _ => Ok(false),
+        _ => false,
     }
 }
 
-// Whether the round opens, and a report is sent.
-fn reports(state: &mut State<AnyKind>) -> Result<bool, Fail> {
-    let index = state.apply(Event::RoundEnd)?;
-    sends_one(state, index, 2377)
-}
-
-#[test]
-fn a_report_is_sent_as_the_first_round_opens(rt: HostRuntime) -> Result<(), Fail> {
-    let mut state = new_replica(&rt, rt.alloc())?;
-    assert!(rt; opens_one(&mut state)?);
-    assert!(rt; reports(&mut state)?);
-    assert_eq!(rt; numbers(&state), (3, 1, 0, false));
-    Ok(())
+// Whether the first round opens, and a report is sent.
+fn reports(state: &mut State<AnyKind>) -> Result<bool, ApplyFault> {
+    let index = apply(state, Event::RoundEnd)?;
+    match entry_at(state, index) {
+        Some(entry) => Ok(sends_one(&entry, 2377)),
+        None => Ok(false),
+    }
 }
 
 // Whether the entry is a round end that is not mute and sends nothing.
-fn sends_nothing(state: &State<AnyKind>, index: usize) -> Result<bool, Fail> {
-    let entry = state.entry(index).ok_or("the entry is there")?;
+fn sends_nothing(entry: &EntryView<'_>) -> bool {
     match entry.reply() {
-        ReplyView::RoundEnded(Ok(ended)) => Ok(!ended.is_mute() && ended.is_empty()),
-        _ => Ok(false),
+        ReplyView::RoundEnded(Ok(ended)) => !ended.is_mute() && ended.is_empty(),
+        _ => false,
     }
 }
 
 // Whether the next round opens, and nothing is sent.
-fn opens_quietly(state: &mut State<AnyKind>) -> Result<bool, Fail> {
-    let index = state.apply(Event::RoundEnd)?;
-    sends_nothing(state, index)
-}
-
-// Whether the first four rounds open, and one report alone is sent, of a height that was opened.
-fn opens_four_rounds(state: &mut State<AnyKind>) -> Result<bool, Fail> {
-    let is_sent = reports(state)?;
-    let is_second_quiet = opens_quietly(state)?;
-    let is_third_quiet = opens_quietly(state)?;
-    let is_fourth_quiet = opens_quietly(state)?;
-    Ok(is_sent && is_second_quiet && is_third_quiet && is_fourth_quiet)
-}
-
-// Whether the next block is answered as not decided.
-fn has_no_block(state: &mut State<AnyKind>) -> Result<bool, Fail> {
-    let index = state.apply(Event::Execute)?;
-    let entry = state.entry(index).ok_or("the entry is there")?;
-    match entry.reply() {
-        ReplyView::Executed(answer) => Ok(answer.is_err()),
-        _ => Ok(false),
+fn opens_quietly(state: &mut State<AnyKind>) -> Result<bool, ApplyFault> {
+    let index = apply(state, Event::RoundEnd)?;
+    match entry_at(state, index) {
+        Some(entry) => Ok(sends_nothing(&entry)),
+        None => Ok(false),
     }
 }
 
-fn query(alloc: Global) -> Result<Event, Fail> {
-    Ok(Event::Query(Key::new(Vec::new(alloc))?, Height::new(0)))
+// Whether three more rounds open so.
+fn opens_three_quietly(state: &mut State<AnyKind>) -> Result<bool, ApplyFault> {
+    for _ in 0..3 {
+        if !opens_quietly(state)? {
+            return Ok(false);
+        }
+    }
+    Ok(true)
+}
+
+// Whether the next block is answered as not decided.
+fn has_no_block(state: &mut State<AnyKind>) -> Result<bool, ApplyFault> {
+    let index = apply(state, Event::Execute)?;
+    match entry_at(state, index) {
+        Some(entry) => Ok(matches!(entry.reply(), ReplyView::Executed(Err(_)))),
+        None => Ok(false),
+    }
+}
+
+// A query of the empty key at the last height.
+fn query(alloc: Global) -> Event {
+    match Key::new(Vec::new(alloc)) {
+        Ok(key) => Event::Query(key, Height::new(0)),
+        Err(_) => unreachable!(),
+    }
 }
 
 // Whether the query is answered with height 0 and no value.
-fn finds_nothing(state: &mut State<AnyKind>, query: Event) -> Result<bool, Fail> {
-    let index = state.apply(query)?;
-    let entry = state.entry(index).ok_or("the entry is there")?;
+fn is_nothing(entry: &EntryView<'_>) -> bool {
     match entry.reply() {
-        ReplyView::Queried(Ok(answer)) => Ok(answer.height.number() == 0 && answer.value.is_none()),
-        _ => Ok(false),
+        ReplyView::Queried(Ok(answer)) => answer.height.number() == 0 && answer.value.is_none(),
+        _ => false,
+    }
+}
+
+fn finds_nothing(state: &mut State<AnyKind>, alloc: Global) -> Result<bool, ApplyFault> {
+    let index = apply(state, query(alloc))?;
+    match entry_at(state, index) {
+        Some(entry) => Ok(is_nothing(&entry)),
+        None => Ok(false),
     }
 }
 
@@ -239,19 +242,36 @@ fn waits_at_one(state: &State<AnyKind>) -> bool {
     is_undecided && is_loud && state.config().replicas == 4 && state.id().number() == 0
 }
 
-// Whether it opens height 1 and four rounds, and then has no block and no value.
-fn decides_nothing(state: &mut State<AnyKind>, query: Event) -> Result<bool, Fail> {
+// Whether it opens height 1 and sends a report as the first round opens.
+fn begins_alone(state: &mut State<AnyKind>) -> Result<bool, ApplyFault> {
     let is_open = opens_one(state)?;
-    let are_quiet = opens_four_rounds(state)?;
+    let is_sent = reports(state)?;
+    Ok(is_open && is_sent && numbers(state) == (3, 1, 0, false))
+}
+
+// Whether it opens three more rounds, sends nothing, and then has no block and no value.
+fn decides_nothing(state: &mut State<AnyKind>, alloc: Global) -> Result<bool, ApplyFault> {
+    let are_quiet = opens_three_quietly(state)?;
     let has_no_block = has_no_block(state)?;
-    let finds_nothing = finds_nothing(state, query)?;
-    Ok(is_open && are_quiet && has_no_block && finds_nothing)
+    let finds_nothing = finds_nothing(state, alloc)?;
+    Ok(are_quiet && has_no_block && finds_nothing && numbers(state) == (8, 4, 0, false))
+}
+
+// Whether it does both, and then waits.
+fn waits_alone(state: &mut State<AnyKind>, alloc: Global) -> Result<bool, ApplyFault> {
+    let begins = begins_alone(state)?;
+    let decides_nothing = decides_nothing(state, alloc)?;
+    Ok(begins && decides_nothing && waits_at_one(state))
+}
+
+fn new_one_waits_alone(alloc: Global, random: RandomState) -> Result<bool, Fault> {
+    let mut state = new_replica(alloc, random)?;
+    Ok(waits_alone(&mut state, alloc)?)
 }
 
 #[test]
-fn a_replica_alone_decides_nothing(rt: HostRuntime) -> Result<(), Fail> {
-    let mut state = new_replica(&rt, rt.alloc())?;
-    assert!(rt; decides_nothing(&mut state, query(rt.alloc())?)?);
-    assert!(rt; numbers(&state) == (8, 4, 0, false) && waits_at_one(&state));
+fn a_replica_alone_reports_and_decides_nothing(rt: HostRuntime) -> Result<(), Fail> {
+    let random = RandomState::new(&rt)?;
+    assert!(rt; new_one_waits_alone(rt.alloc(), random)?);
     Ok(())
 }

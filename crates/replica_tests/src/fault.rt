@@ -1,0 +1,66 @@
+//! Why there is nothing to compare.
+use adversary_net::WorldFault;
+use key_ring::SignFault;
+use ledger_model::ConfigFault;
+use locked_replica::ApplyFault;
+use scenario_texts::TextFault;
+use std::alloc::AllocError;
+
+/// Why there is nothing to compare.
+#[derive(Clone, Copy, Debug)]
+pub(crate) enum Fault {
+    NoMemory,
+    /// The text is no scenario.
+    Text(TextFault),
+    /// There is no such cluster.
+    Config(ConfigFault),
+    World(WorldFault),
+    /// The replica lies, or the cluster has none of the number.
+    NoHistory,
+    /// A command printed other lines than it was to.
+    OtherLines,
+    /// A follower refused an entry that it was to take.
+    EntryRefused,
+    /// The replica sent no such frame.
+    NoFrame,
+    /// The key pair signed nothing.
+    Unsigned(SignFault),
+    /// The replica took no event.
+    Event(ApplyFault),
+}
+
+impl From<AllocError> for Fault {
+    fn from(_error: AllocError) -> Fault {
+        Fault::NoMemory
+    }
+}
+
+impl From<TextFault> for Fault {
+    fn from(fault: TextFault) -> Fault {
+        Fault::Text(fault)
+    }
+}
+
+impl From<ConfigFault> for Fault {
+    fn from(fault: ConfigFault) -> Fault {
+        Fault::Config(fault)
+    }
+}
+
+impl From<WorldFault> for Fault {
+    fn from(fault: WorldFault) -> Fault {
+        Fault::World(fault)
+    }
+}
+
+impl From<SignFault> for Fault {
+    fn from(fault: SignFault) -> Fault {
+        Fault::Unsigned(fault)
+    }
+}
+
+impl From<ApplyFault> for Fault {
+    fn from(fault: ApplyFault) -> Fault {
+        Fault::Event(fault)
+    }
+}
