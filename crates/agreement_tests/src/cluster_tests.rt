@@ -5,12 +5,12 @@ ghost use Rattle.ledger_model.specs.Notes.{signer_of};
 ghost use Rattle.ledger_model.specs.Spelling.{IsStatement};
 ghost use Rattle.instance.specs.Plans.{IsOwnMade};
 
-use super::frames::parsed;
+use super::frames::{opened, parsed};
 use bytes::Bytes;
 use instance::{Ending, Instance, Made, OwnFrame, Plan};
-use ledger_model::{AppKind, Config, Height, ReplicaId, Signature, Statement};
+use ledger_model::{Signature, Statement};
 use signed_frames::{Frame, UnsignedFrame};
-use std::alloc::Global;
+use std::alloc::{AllocError, Global};
 use test_support::{Cluster, value};
 
 // A replica at height 1, and the round that is open.
@@ -30,8 +30,12 @@ fn framed(alloc: Global, cluster: &mut Cluster, statement: Statement) -> Option<
     ensures { IfSome result (λ frame. frame.statement ≡ statement) }
 {
     let signer = statement.signer().number();
-    let unsigned = UnsignedFrame::new(alloc, statement).ok()?;
-    let signature = cluster.signature(signer, unsigned.statement_bytes()).ok()?;
+    let Ok(unsigned) = UnsignedFrame::new(alloc, statement) else {
+        return None;
+    };
+    let Ok(signature) = cluster.signature(signer, unsigned.statement_bytes()) else {
+        return None;
+    };
     if signature.len() > Signature::MAX_LEN {
         return None;
     }
@@ -56,27 +60,30 @@ fn made(
     Some(Made::Sent(OwnFrame::new(alloc, frame).ok()?))
 }
 
-// The frames that are sent, the own one first.
-fn put_sent(frames: &mut Vec<Bytes>, ending: &Ending, made: &Made) -> Option<()> {
+// Whether there was memory for the frame beside the others.
+fn put(frames: &mut Vec<Bytes>, frame: Result<Bytes, AllocError>) -> bool {
+    match frame {
+        Ok(frame) => frames.push(frame).is_ok(),
+        Err(_) => false,
+    }
+}
+
+// Puts the frames that are sent, the own one first. Whether there was memory.
+fn put_sent(frames: &mut Vec<Bytes>, ending: &Ending, made: &Made) -> bool {
+    let mut are_put = true;
     if let Made::Sent(own) = made {
-        frames.push(own.frame().share().ok()?).ok()?;
+        are_put &= put(frames, own.frame().share());
     }
     for frame in ending.sends_on() {
-        frames.push(frame.clone().ok()?).ok()?;
+        are_put &= put(frames, frame.clone());
     }
-    Some(())
+    are_put
 }
 
 impl Member {
     // Its own value is [a=1], and no round is open.
     fn open(alloc: Global, number: u8) -> Option<Self> {
-        let config = Config::new(4, 1, AppKind::KvStore).ok()?;
-        if number >= 4 {
-            return None;
-        }
-        let own = value(alloc, b"a=1").ok()?;
-        let id = ReplicaId::new(number);
-        let instance = Instance::open(alloc, &config, id, Height::new(1), &own).ok()?;
+        let instance = opened(alloc, number)?;
         Some(Member {
             alloc,
             number,
@@ -85,18 +92,31 @@ impl Member {
         })
     }
 
-    // The next round opens: the frames that are sent.
-    fn end_round(&mut self, cluster: &mut Cluster) -> Option<Vec<Bytes>> {
+    // The next round opens, and the frames that are sent are put beside the others. Whether there was memory.
+    fn ends_round(&mut self, cluster: &mut Cluster, frames: &mut Vec<Bytes>) -> bool {
         if self.clock >= 1000 {
-            return None;
+            return false;
         }
-        let mut frames = Vec::new(self.alloc);
-        let Plan { statement, ending } = self.instance.plan_end(self.alloc, self.clock).ok()?;
-        let made = made(self.alloc, cluster, statement, self.number)?;
-        put_sent(&mut frames, &ending, &made)?;
+        let Ok(Plan { statement, ending }) = self.instance.plan_end(self.alloc, self.clock) else {
+            return false;
+        };
+        let Some(made) = made(self.alloc, cluster, statement, self.number) else {
+            return false;
+        };
+        let are_put = put_sent(frames, &ending, &made);
         self.instance.close(ending, made, self.clock);
         self.clock += 1;
-        Some(frames)
+        are_put
+    }
+
+    // The frames that it sends as the next round opens.
+    fn frames_of_round(&mut self, cluster: &mut Cluster) -> Option<Vec<Bytes>> {
+        let mut frames = Vec::new(self.alloc);
+        if self.ends_round(cluster, &mut frames) {
+            Some(frames)
+        } else {
+            None
+        }
     }
 
     // A frame comes in, which may be ignored.
@@ -152,7 +172,7 @@ fn end_rounds(
     sent: &mut Vec<Vec<Bytes>>,
 ) -> Option<()> {
     for member in members.iter_mut() {
-        sent.push(member.end_round(cluster)?).ok()?;
+        sent.push(member.frames_of_round(cluster)?).ok()?;
     }
     Some(())
 }

@@ -2,9 +2,9 @@
 
 ghost use Rattle.std.specs.Prelude.{◌≡◌};
 
-use super::frames::{parsed, with_four};
+use super::frames::parsed;
 use height_row::HeightRow;
-use instance::Made;
+use instance::{Made, Plan};
 use key_ring::KeyRing;
 use ledger_model::{AppKind, Config, Height, Ignored, ProposeRefusal, ReplicaId, Statement};
 use std::alloc::Global;
@@ -42,44 +42,52 @@ impl Replica {
     }
 
     // Whether these heights are opened in this order.
-    fn opens(&mut self, heights: &[u32]) -> Option<bool> {
-        let mut are_open = true;
+    fn opens(&mut self, heights: &[u32]) -> bool {
         for height in heights {
-            are_open &= self.refuses(*height, 0)?.is_none();
+            if self.refuses(*height, 0) != Some(None) {
+                return false;
+            }
         }
-        Some(are_open)
+        true
     }
 
-    // The height that is named in the report that is to be made at this height, 0 for none.
-    fn reported_height(&self, height: u32) -> Option<u32> {
+    // What is to be done at this height as the next round opens.
+    fn plan(&self, height: u32) -> Option<Plan> {
         let height = Height::new(height);
         if self.clock >= 1000 || self.row.get(height).is_none() {
             return None;
         }
-        let plan = self.row.plan_end(self.alloc, height, self.clock).ok()?;
-        match &plan.statement {
-            Some(Statement::Report(report)) => Some(report.height.number()),
-            _ => Some(0),
+        self.row.plan_end(self.alloc, height, self.clock).ok()
+    }
+
+    // Whether a report that names the height is to be made at it.
+    fn reports_on(&self, height: u32) -> bool {
+        match self.plan(height) {
+            Some(plan) => is_report_on(&plan, height),
+            None => false,
         }
     }
 
-    // The open round ends at this height.
-    fn end_round_at(&mut self, height: u32) -> Option<()> {
+    // The open round ends at this height. Whether it could.
+    fn ends_round_at(&mut self, height: u32) -> bool {
         let height = Height::new(height);
         if self.clock >= 1000 || self.row.get(height).is_none() {
-            return None;
+            return false;
         }
-        let plan = self.row.plan_end(self.alloc, height, self.clock).ok()?;
-        self.row.close(height, plan.ending, Made::Mute, self.clock);
-        Some(())
+        let Ok(Plan { ending, .. }) = self.row.plan_end(self.alloc, height, self.clock) else {
+            return false;
+        };
+        self.row.close(height, ending, Made::Mute, self.clock);
+        true
     }
 
-    // The open round ends at heights 1 and 2.
-    fn end_round(&mut self) -> Option<()> {
-        self.end_round_at(1)?;
-        self.end_round_at(2)?;
+    // The open round ends at heights 1 and 2. Whether it could.
+    fn ends_round(&mut self) -> bool {
+        if !self.ends_round_at(1) || !self.ends_round_at(2) {
+            return false;
+        }
         self.clock = self.clock.wrapping_add(1);
-        Some(())
+        true
     }
 
     // Why the frame is ignored, if it is.
@@ -91,8 +99,10 @@ impl Replica {
         {
             return None;
         }
-        let answer = self.row.read(self.alloc, ring, frame, self.clock).ok()?;
-        Some(answer.err())
+        match self.row.read(self.alloc, ring, frame, self.clock) {
+            Ok(answer) => Some(answer.err()),
+            Err(_) => None,
+        }
     }
 
     fn is_open(&self, height: u32) -> bool {
@@ -115,21 +125,18 @@ impl Replica {
     }
 }
 
-// What is played with a replica that has opened heights 1 and 2, and no round.
-fn with_two_heights<F: FnOnce(&mut Replica) -> Option<bool>>(alloc: Global, play: F) -> Option<bool>
-    requires { F.IsAlwaysCallable play }
-{
-    let mut replica = Replica::new(alloc)?;
-    if !replica.opens(&[1, 2])? {
-        return Some(false);
+// Whether a report that names the height is to be made.
+fn is_report_on(plan: &Plan, height: u32) -> bool {
+    match &plan.statement {
+        Some(Statement::Report(report)) => report.height.number() == height,
+        _ => false,
     }
-    play(&mut replica)
 }
 
 #[test]
 fn a_height_is_refused_by_the_first_cause(rt: HostRuntime) {
     let mut replica = Replica::new(rt.alloc()).expect(&rt, "a replica");
-    for (height, committed, answer) in [
+    for &(height, committed, answer) in &[
         (0, 0, Some(ProposeRefusal::Closed)),
         (4097, 0, Some(ProposeRefusal::Closed)),
         (5, 0, Some(ProposeRefusal::TooFar)),
@@ -144,32 +151,29 @@ fn a_height_is_refused_by_the_first_cause(rt: HostRuntime) {
 #[test]
 fn open_heights_ascend(rt: HostRuntime) {
     let mut replica = Replica::new(rt.alloc()).expect(&rt, "a replica");
-    assert!(rt; replica.opens(&[3, 1, 4, 2]) == Some(true));
+    assert!(rt; replica.opens(&[3, 1, 4, 2]));
     assert!(rt; replica.has_open(&[1, 2, 3, 4]));
 }
 
-fn end_phase(replica: &mut Replica) -> Option<()> {
+fn ends_phase(replica: &mut Replica) -> bool {
     for _ in 0u8..4 {
-        replica.end_round()?;
+        if !replica.ends_round() {
+            return false;
+        }
     }
-    Some(())
-}
-
-// In each of two phases.
-fn reports_on_each_height(replica: &mut Replica) -> Option<bool> {
-    let mut is_reported = true;
-    for _ in 0u8..2 {
-        is_reported &= replica.reported_height(1)? == 1;
-        is_reported &= replica.reported_height(2)? == 2;
-        end_phase(replica)?;
-    }
-    let are_open = replica.is_open(2) && !replica.is_open(3);
-    Some(is_reported && are_open && !replica.is_decided(1))
+    true
 }
 
 #[test]
 fn each_height_is_reported_on_by_itself(rt: HostRuntime) {
-    assert!(rt; with_two_heights(rt.alloc(), reports_on_each_height) == Some(true));
+    let mut replica = Replica::new(rt.alloc()).expect(&rt, "a replica");
+    assert!(rt; replica.opens(&[1, 2]));
+    for _phase in 0u8..2 {
+        assert!(rt; replica.reports_on(1) && replica.reports_on(2));
+        assert!(rt; ends_phase(&mut replica));
+    }
+    assert!(rt; replica.is_open(2) && !replica.is_open(3));
+    assert!(rt; !replica.is_decided(1));
 }
 
 // What the replica answers to replica 2's report about a height.
@@ -179,25 +183,17 @@ fn answer(replica: &mut Replica, cluster: &mut Cluster, height: u8) -> Option<Op
 }
 
 // In the first round.
-fn reads_at_each_height(replica: &mut Replica, cluster: &mut Cluster) -> Option<bool> {
-    replica.end_round()?;
-    let mut is_answered = true;
-    for (height, wanted) in [
+#[test]
+fn a_frame_is_read_at_its_height_alone(rt: HostRuntime) {
+    let mut cluster = Cluster::new(rt.alloc(), 4, 1).expect(&rt, "a cluster");
+    let mut replica = Replica::new(rt.alloc()).expect(&rt, "a replica");
+    assert!(rt; replica.opens(&[1, 2]) && replica.ends_round());
+    for &(height, wanted) in &[
         (1, None),
         (1, Some(Ignored::Repeated)),
         (2, None),
         (2, Some(Ignored::Repeated)),
     ] {
-        is_answered &= answer(replica, cluster, height)? == wanted;
+        assert!(rt; answer(&mut replica, &mut cluster, height) == Some(wanted));
     }
-    Some(is_answered)
-}
-
-fn reads_frames(alloc: Global, cluster: &mut Cluster) -> Option<bool> {
-    with_two_heights(alloc, |replica| reads_at_each_height(replica, cluster))
-}
-
-#[test]
-fn a_frame_is_read_at_its_height_alone(rt: HostRuntime) {
-    assert!(rt; with_four(rt.alloc(), reads_frames) == Some(true));
 }
