@@ -6,9 +6,9 @@ use locked_replica::{ApplyFault, EventView, ReplyView};
 use std::alloc::{AllocError, Global};
 use std::test::Fail;
 
-/// How many entries the history has, and the height of its replica on the board.
-fn numbers(seated: &mut Seated) -> (usize, u32) {
-    (seated.state().len(), seated.published())
+/// Whether the history has so many entries, and nothing of its replica is published.
+fn is_unpublished(seated: &mut Seated, entries: usize) -> bool {
+    seated.state().len() == entries && seated.published() == 0
 }
 
 /// Whether these bytes were submitted and taken at an index of the history.
@@ -50,16 +50,27 @@ fn has_run_nothing(seated: &Seated, index: usize) -> bool {
         && matches!(entry.reply(), ReplyView::Executed(Err(_)))
 }
 
+/// A turn with a transaction, and one with two events. Whether their entries begin at 1 and at 2.
+fn takes_two_turns(alloc: Global, seated: &mut Seated) -> Result<bool, Fail> {
+    let first = seated.submit(alloc, Bytes::from_static(b"b=2"))?;
+    let events = vec![in alloc; Event::Propose(Height::new(1)), Event::Execute]?;
+    Ok(first == 1 && seated.turn(events) == Ok(2))
+}
+
+/// Whether the history is what these turns make of it.
+fn has_both_turns(seated: &mut Seated) -> bool {
+    has_submitted(seated, 0, b"a=1")
+        && has_submitted(seated, 1, b"b=2")
+        && has_opened(seated, 2)
+        && has_run_nothing(seated, 3)
+        && is_unpublished(seated, 4)
+}
+
 #[test]
 fn a_turn_takes_its_events_in_order(rt: HostRuntime) -> Result<(), Fail> {
     let mut seated = last_of_four(&rt, rt.alloc())?;
-    let bytes = Bytes::from_static(b"b=2");
-    assert_eq!(rt; seated.submit(rt.alloc(), bytes)?, 1);
-    let events = vec![in rt.alloc(); Event::Propose(Height::new(1)), Event::Execute]?;
-    assert_eq!(rt; seated.turn(events), Ok(2));
-    assert!(rt; has_submitted(&seated, 0, b"a=1") && has_submitted(&seated, 1, b"b=2"));
-    assert!(rt; has_opened(&seated, 2) && has_run_nothing(&seated, 3));
-    assert_eq!(rt; numbers(&mut seated), (4, 0));
+    assert!(rt; takes_two_turns(rt.alloc(), &mut seated)?);
+    assert!(rt; has_both_turns(&mut seated));
     Ok(())
 }
 
@@ -72,14 +83,18 @@ fn round_ends(alloc: Global, count: usize) -> Result<Vec<Event>, AllocError> {
     Ok(events)
 }
 
+/// Fills the history but for one entry, and hands in two events. Whether the turn is refused since the history is full.
+fn is_refused_where_full(alloc: Global, seated: &mut Seated) -> Result<bool, Fail> {
+    let is_filled = seated.turn(round_ends(alloc, 65_534)?) == Ok(1);
+    let last = Event::Submit(Bytes::from_static(b"b=2"));
+    let events = vec![in alloc; last, Event::RoundEnd]?;
+    Ok(is_filled && seated.turn(events) == Err(ApplyFault::HistoryFull))
+}
+
 #[test]
 fn a_turn_ends_where_the_history_is_full(rt: HostRuntime) -> Result<(), Fail> {
     let mut seated = last_of_four(&rt, rt.alloc())?;
-    assert_eq!(rt; seated.turn(round_ends(rt.alloc(), 65_534)?), Ok(1));
-    let last = Event::Submit(Bytes::from_static(b"b=2"));
-    let events = vec![in rt.alloc(); last, Event::RoundEnd]?;
-    assert_eq!(rt; seated.turn(events), Err(ApplyFault::HistoryFull));
-    assert!(rt; has_submitted(&seated, 65_535, b"b=2"));
-    assert_eq!(rt; numbers(&mut seated), (65_536, 0));
+    assert!(rt; is_refused_where_full(rt.alloc(), &mut seated)?);
+    assert!(rt; has_submitted(&seated, 65_535, b"b=2") && is_unpublished(&mut seated, 65_536));
     Ok(())
 }
