@@ -3,6 +3,7 @@ ghost use Rattle.std.specs.Prelude.{◌≡◌, []};
 ghost use Rattle.ledger_model.specs.Applications.{run};
 
 use crate::fault::Fault;
+use crate::lending::lent;
 use abci::Application;
 use app_kinds::AnyKind;
 use ledger_model::{Entry, Event, Reply};
@@ -68,6 +69,7 @@ pub(crate) fn is_followed(
     random: RandomState,
     told: &Snapshot,
 ) -> Result<bool, Fault> {
-    let mut follower = new_follower(alloc, random, told)?;
-    Ok(takes_all(&mut follower, alloc, told.history.entries.as_slice())?)
+    let follower = new_follower(alloc, random, told)?;
+    let entries = told.history.entries.as_slice();
+    Ok(lent(follower, |follower| takes_all(follower, alloc, entries))?)
 }

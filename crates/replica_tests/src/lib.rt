@@ -19,6 +19,8 @@ mod frame_tests;
 #[cfg(test)]
 mod frames;
 #[cfg(test)]
+mod lending;
+#[cfg(test)]
 mod memory_tests;
 #[cfg(test)]
 mod playing;

@@ -5,6 +5,7 @@ ghost use Rattle.app_kinds.specs.Chosen.{machine_of};
 
 use crate::fault::Fault;
 use crate::following::{follower_with, is_taken, takes_all};
+use crate::lending::lent;
 use crate::playing::{correct_of, history_of, new_simulation, play_all, scenario_of};
 use crate::scripts::REFUSED_BLOCK;
 use abci::Application;
@@ -80,8 +81,12 @@ fn takes_at_second_try<A: Application>(
 /// Whether a follower does so, whose application finds no memory for its second transaction.
 fn is_followed(alloc: Global, random: RandomState, told: &Snapshot) -> Result<bool, Fault> {
     let app = Refusing::new(AnyKind::new(alloc, told.config.kind), 2);
-    let mut follower = follower_with(alloc, random, told, app)?;
-    Ok(takes_at_second_try(&mut follower, alloc, told.history.entries.as_slice())?)
+    let follower = follower_with(alloc, random, told, app)?;
+    let entries = told.history.entries.as_slice();
+    Ok(lent(
+        follower,
+        |follower| takes_at_second_try(follower, alloc, entries),
+    )?)
 }
 
 /// The simulation of a scenario with such applications, as it begins.

@@ -2,6 +2,7 @@
 use crate::changing::{Change, changed};
 use crate::fault::Fault;
 use crate::following::{is_taken, new_follower, takes_all};
+use crate::lending::lent;
 use app_kinds::AnyKind;
 use ledger_model::{Entry, Reply};
 use locked_replica::Snapshot;
@@ -51,13 +52,11 @@ fn is_refused_with(
     at: usize,
     reply: &Reply,
 ) -> Result<bool, Fault> {
-    let mut follower = new_follower(alloc, random, told)?;
-    Ok(is_lost_at(
-        &mut follower,
-        alloc,
-        told.history.entries.as_slice(),
-        at,
-        reply,
+    let follower = new_follower(alloc, random, told)?;
+    let entries = told.history.entries.as_slice();
+    Ok(lent(
+        follower,
+        |follower| is_lost_at(follower, alloc, entries, at, reply),
     )?)
 }
 

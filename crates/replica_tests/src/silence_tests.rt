@@ -2,6 +2,7 @@
 use crate::ending_changes::with_other_flag;
 use crate::fault::Fault;
 use crate::following::{is_taken, new_follower, takes_all};
+use crate::lending::lent;
 use crate::playing::history_in;
 use crate::scripts::{FOUR_HEIGHTS, NO_LEAF_LEFT, NO_LEAVES_FOR_FOUR, PLAIN, Script};
 use app_kinds::AnyKind;
@@ -100,13 +101,11 @@ fn outcome_with(
     at: usize,
     reply: &Reply,
 ) -> Result<Flagged, Fault> {
-    let mut follower = new_follower(alloc, random, told)?;
-    Ok(come_of(
-        &mut follower,
-        alloc,
-        told.history.entries.as_slice(),
-        at,
-        reply,
+    let follower = new_follower(alloc, random, told)?;
+    let entries = told.history.entries.as_slice();
+    Ok(lent(
+        follower,
+        |follower| come_of(follower, alloc, entries, at, reply),
     )?)
 }
 

@@ -3,6 +3,7 @@ ghost use Rattle.std.specs.Prelude.{◌≡◌, ◌∷◌, [], IfOk};
 ghost use Rattle.key_ring.specs.Signers.{key_of};
 
 use crate::fault::Fault;
+use crate::lending::lent;
 use app_kinds::AnyKind;
 use bytes::Bytes;
 use key_ring::{KeyRing, Signer};
@@ -47,9 +48,10 @@ fn entry_at(state: &State<AnyKind>, index: usize) -> Option<EntryView<'_>> {
     state.entry(index)
 }
 
-// What is known of a replica at once: its entries, its round, the height of its application, and whether it has no entry.
-fn numbers(state: &State<AnyKind>) -> (usize, u32, u32, bool) {
-    (state.len(), state.clock(), state.height(), state.is_empty())
+// Whether so much is known of a replica at once: its entries, its round, the height of its application, and whether it has no
+// entry.
+fn has_numbers(state: &State<AnyKind>, wanted: (usize, u32, u32, bool)) -> bool {
+    (state.len(), state.clock(), state.height(), state.is_empty()) == wanted
 }
 
 fn answer_at(state: &State<AnyKind>, index: usize) -> Option<Result<(), SubmitRefusal>> {
@@ -59,32 +61,44 @@ fn answer_at(state: &State<AnyKind>, index: usize) -> Option<Result<(), SubmitRe
     }
 }
 
-// What it answers to a transaction.
-fn submitted(
+// Whether it answers so to a transaction.
+fn answers_submit(
     state: &mut State<AnyKind>,
     bytes: &'static [u8],
-) -> Result<Option<Result<(), SubmitRefusal>>, ApplyFault> {
+    answer: Result<(), SubmitRefusal>,
+) -> Result<bool, ApplyFault> {
     let index = apply(state, Event::Submit(Bytes::from_static(bytes)))?;
-    Ok(answer_at(state, index))
+    Ok(answer_at(state, index) == Some(answer))
 }
 
-// Whether it has no history, takes a transaction, and refuses three others by their causes: four entries.
-fn answers_submits(state: &mut State<AnyKind>) -> Result<bool, ApplyFault> {
-    let mut are_right = numbers(state) == (0, 0, 0, true) && entry_at(state, 0).is_none();
-    for (bytes, answer) in [
-        (b"a=1".as_slice(), Ok(())),
-        (b"a=1".as_slice(), Err(SubmitRefusal::Duplicate)),
-        (b"".as_slice(), Err(SubmitRefusal::Empty)),
-        ([7; 65].as_slice(), Err(SubmitRefusal::TooLong)),
-    ] {
-        are_right &= submitted(state, bytes)? == Some(answer);
+// Transactions in order, and the answer to each.
+const SUBMITS: [(&[u8], Result<(), SubmitRefusal>); 4] = [
+    (b"a=1", Ok(())),
+    (b"a=1", Err(SubmitRefusal::Duplicate)),
+    (b"", Err(SubmitRefusal::Empty)),
+    (&[7; 65], Err(SubmitRefusal::TooLong)),
+];
+
+// Whether it takes the first transaction, and refuses three others by their causes.
+fn answers_each_submit(state: &mut State<AnyKind>) -> Result<bool, ApplyFault> {
+    for &(bytes, answer) in &SUBMITS {
+        if !answers_submit(state, bytes, answer)? {
+            return Ok(false);
+        }
     }
-    Ok(are_right && numbers(state) == (4, 0, 0, false))
+    Ok(true)
+}
+
+// Whether it has no history, and answers so: four entries.
+fn answers_submits(state: &mut State<AnyKind>) -> Result<bool, ApplyFault> {
+    let is_new = has_numbers(state, (0, 0, 0, true)) && entry_at(state, 0).is_none();
+    let are_right = answers_each_submit(state)?;
+    Ok(is_new && are_right && has_numbers(state, (4, 0, 0, false)))
 }
 
 fn new_one_answers_submits(alloc: Global, random: RandomState) -> Result<bool, Fault> {
-    let mut state = new_replica(alloc, random)?;
-    Ok(answers_submits(&mut state)?)
+    let state = new_replica(alloc, random)?;
+    Ok(lent(state, answers_submits)?)
 }
 
 #[test]
@@ -102,34 +116,45 @@ fn proposal_at(state: &State<AnyKind>, index: usize) -> Option<Result<usize, Pro
     }
 }
 
-// How many transactions the proposal of a height has, or why there is none.
-fn proposed(
+// Whether the proposal of a height has so many transactions, or there is none for this cause.
+fn answers_propose(
     state: &mut State<AnyKind>,
     height: u32,
-) -> Result<Option<Result<usize, ProposeRefusal>>, ApplyFault> {
+    answer: Result<usize, ProposeRefusal>,
+) -> Result<bool, ApplyFault> {
     let index = apply(state, Event::Propose(Height::new(height)))?;
-    Ok(proposal_at(state, index))
+    Ok(proposal_at(state, index) == Some(answer))
 }
 
-// Whether it opens heights 1 and 4 with the transaction, and refuses others by their causes.
-fn answers_proposals(state: &mut State<AnyKind>) -> Result<bool, ApplyFault> {
-    let mut are_right = submitted(state, b"a=1")? == Some(Ok(()));
-    for (height, answer) in [
-        (0, Err(ProposeRefusal::Closed)),
-        (4097, Err(ProposeRefusal::Closed)),
-        (5, Err(ProposeRefusal::TooFar)),
-        (1, Ok(1)),
-        (1, Err(ProposeRefusal::AlreadyOpen)),
-        (4, Ok(1)),
-    ] {
-        are_right &= proposed(state, height)? == Some(answer);
+// Heights in order, and the answer to the proposal of each.
+const PROPOSALS: [(u32, Result<usize, ProposeRefusal>); 6] = [
+    (0, Err(ProposeRefusal::Closed)),
+    (4097, Err(ProposeRefusal::Closed)),
+    (5, Err(ProposeRefusal::TooFar)),
+    (1, Ok(1)),
+    (1, Err(ProposeRefusal::AlreadyOpen)),
+    (4, Ok(1)),
+];
+
+// Whether it opens heights 1 and 4 with one transaction, and refuses others by their causes.
+fn answers_each_propose(state: &mut State<AnyKind>) -> Result<bool, ApplyFault> {
+    for &(height, answer) in &PROPOSALS {
+        if !answers_propose(state, height, answer)? {
+            return Ok(false);
+        }
     }
-    Ok(are_right)
+    Ok(true)
+}
+
+// Whether it takes a transaction, and answers so.
+fn answers_proposals(state: &mut State<AnyKind>) -> Result<bool, ApplyFault> {
+    let is_taken = answers_submit(state, b"a=1", Ok(()))?;
+    Ok(answers_each_propose(state)? && is_taken)
 }
 
 fn new_one_answers_proposals(alloc: Global, random: RandomState) -> Result<bool, Fault> {
-    let mut state = new_replica(alloc, random)?;
-    Ok(answers_proposals(&mut state)?)
+    let state = new_replica(alloc, random)?;
+    Ok(lent(state, answers_proposals)?)
 }
 
 #[test]
@@ -141,8 +166,8 @@ fn a_height_is_opened_or_refused_by_its_cause(rt: HostRuntime) -> Result<(), Fai
 
 // Whether it takes a transaction and opens height 1 with it.
 fn opens_one(state: &mut State<AnyKind>) -> Result<bool, ApplyFault> {
-    let is_taken = submitted(state, b"a=1")? == Some(Ok(()));
-    Ok(is_taken && proposed(state, 1)? == Some(Ok(1)))
+    let is_taken = answers_submit(state, b"a=1", Ok(()))?;
+    Ok(answers_propose(state, 1, Ok(1))? && is_taken)
 }
 
 // Whether one frame of this length is sent to all.
@@ -246,7 +271,7 @@ fn waits_at_one(state: &State<AnyKind>) -> bool {
 fn begins_alone(state: &mut State<AnyKind>) -> Result<bool, ApplyFault> {
     let is_open = opens_one(state)?;
     let is_sent = reports(state)?;
-    Ok(is_open && is_sent && numbers(state) == (3, 1, 0, false))
+    Ok(is_open && is_sent && has_numbers(state, (3, 1, 0, false)))
 }
 
 // Whether it opens three more rounds, sends nothing, and then has no block and no value.
@@ -254,7 +279,7 @@ fn decides_nothing(state: &mut State<AnyKind>, alloc: Global) -> Result<bool, Ap
     let are_quiet = opens_three_quietly(state)?;
     let has_no_block = has_no_block(state)?;
     let finds_nothing = finds_nothing(state, alloc)?;
-    Ok(are_quiet && has_no_block && finds_nothing && numbers(state) == (8, 4, 0, false))
+    Ok(are_quiet && has_no_block && finds_nothing && has_numbers(state, (8, 4, 0, false)))
 }
 
 // Whether it does both, and then waits.
@@ -265,8 +290,8 @@ fn waits_alone(state: &mut State<AnyKind>, alloc: Global) -> Result<bool, ApplyF
 }
 
 fn new_one_waits_alone(alloc: Global, random: RandomState) -> Result<bool, Fault> {
-    let mut state = new_replica(alloc, random)?;
-    Ok(waits_alone(&mut state, alloc)?)
+    let state = new_replica(alloc, random)?;
+    Ok(lent(state, |state| waits_alone(state, alloc))?)
 }
 
 #[test]

@@ -1,6 +1,6 @@
 //! Heights that are published and read, in one thread.
-ghost use Rattle.std.specs.Prelude.{◌≡◌, ◌<◌};
-ghost use Rattle.commit_board.specs.Seats.{replicas_of};
+ghost use Rattle.std.specs.Prelude.{◌≡◌, ℕ, ◌<◌, Some, slice_get, vec_len};
+ghost use Rattle.commit_board.specs.Seats.{replicas_of, new_writer, new_reader};
 
 use commit_board::{Board, ReaderSeat, WriterSeat};
 use ledger_model::{AppKind, Config, Height, ReplicaId};
@@ -40,16 +40,25 @@ fn heights(board: &Board, reader: &mut ReaderSeat, mut writer: WriterSeat) -> [(
     [before, behind_seven, behind_five, by_reader]
 }
 
+/// Whether there are four writers' seats and one reader's, and what is published through the last of the four is read.
+fn is_read(board: &Board, writing: &mut Vec<WriterSeat>, reading: &mut Vec<ReaderSeat>) -> bool
+    requires four { vec_len writing.old ≡ 4 }
+    requires writers { (k : ℕ) → k < 4 → slice_get writing.old.items k ≡ Some (new_writer board.now k) }
+    requires one { vec_len reading.old ≡ 1 }
+    requires readers { (k : ℕ) → k < 1 → slice_get reading.old.items k ≡ Some (new_reader board.now) }
+    requires board { replicas_of board.now ≡ 4 }
+{
+    let are_so_many = writing.len() == 4 && reading.len() == 1;
+    let writer = writing.pop().unwrap();
+    let is_last = writer.replica().number() == 3;
+    let found = heights(board, &mut reading[0], writer);
+    are_so_many && is_last && found == [(0, 0), (7, 7), (7, 7), (7, 0)]
+}
+
 #[test]
 fn a_height_is_read_as_published(rt: HostRuntime) -> Result<(), Fail> {
     let config = Config::new(4, 1, AppKind::Counter)?;
     let (board, mut writing, mut reading) = Board::new(rt.alloc(), &config, 1)?;
-    assert_eq!(rt; (writing.len(), reading.len()), (4, 1));
-    let writer = writing.pop().unwrap();
-    assert_eq!(rt; writer.replica().number(), 3);
-    assert_eq!(rt;
-        heights(&board, &mut reading[0], writer),
-        [(0, 0), (7, 7), (7, 7), (7, 0)]
-    );
+    assert!(rt; is_read(&board, &mut writing, &mut reading));
     Ok(())
 }

@@ -1,5 +1,6 @@
 //! Frames through an inbox.
-ghost use Rattle.std.specs.Prelude.{◌≡◌};
+ghost use Rattle.std.specs.Prelude.{◌≡◌, ℕ, ◌<◌, Some, slice_get, vec_len};
+ghost use Rattle.inbox.specs.Passes.{new_putter};
 
 use bytes::Bytes;
 use inbox::{Inbox, Item, PuttingPass, TakingPass};
@@ -92,7 +93,49 @@ fn comes_in_order<R: Wait>(
     true
 }
 
-/// Whether an empty inbox takes in 1024 frames, a further one only once one is taken, and gives them in their order.
+/// Whether nothing comes.
+fn is_empty<R: Wait>(rt: &R, inbox: &Inbox, pass: &mut TakingPass) -> bool
+    requires { pass.old.inbox ≡ inbox.now }
+    ensures { pass.new.inbox ≡ pass.old.inbox }
+{
+    takes(rt, inbox, pass).is_none()
+}
+
+/// Whether a further frame comes back, and its byte is this one.
+fn hands_back<R: Wait>(
+    rt: &R,
+    alloc: Global,
+    inbox: &Inbox,
+    pass: &mut PuttingPass,
+    byte: u8,
+) -> Result<bool, AllocError>
+    requires { pass.old.inbox ≡ inbox.now }
+    ensures { pass.new.inbox ≡ pass.old.inbox }
+{
+    Ok(put_bytes(rt, alloc, inbox, pass, &[byte])? == Some(byte))
+}
+
+/// Whether 1024 frames are taken in, and a further one only once one is taken.
+fn takes_in_1024<R: Wait>(
+    rt: &R,
+    alloc: Global,
+    inbox: &Inbox,
+    taking: &mut TakingPass,
+    putting: &mut PuttingPass,
+) -> Result<bool, AllocError>
+    requires taking { taking.old.inbox ≡ inbox.now }
+    requires putting { putting.old.inbox ≡ inbox.now }
+    ensures taking { taking.new.inbox ≡ taking.old.inbox }
+    ensures putting { putting.new.inbox ≡ putting.old.inbox }
+{
+    let is_filled = fills(rt, alloc, inbox, putting, 1024)?;
+    let is_full = hands_back(rt, alloc, inbox, putting, 99)?;
+    let has_come = comes(rt, inbox, taking, 0);
+    let is_taken_in = fills(rt, alloc, inbox, putting, 1)?;
+    Ok(is_filled && is_full && has_come && is_taken_in)
+}
+
+/// Whether an empty inbox takes in so many, and gives them in their order.
 fn holds_1024<R: Wait>(
     rt: &R,
     alloc: Global,
@@ -105,38 +148,62 @@ fn holds_1024<R: Wait>(
     ensures taking { taking.new.inbox ≡ taking.old.inbox }
     ensures putting { putting.new.inbox ≡ putting.old.inbox }
 {
-    let was_empty = takes(rt, inbox, taking).is_none();
-    let is_filled = fills(rt, alloc, inbox, putting, 1024)?;
-    let back = put_bytes(rt, alloc, inbox, putting, &[99])?;
-    let first_came = comes(rt, inbox, taking, 0);
-    let last = put_bytes(rt, alloc, inbox, putting, &[0])?;
+    let was_empty = is_empty(rt, inbox, taking);
+    let are_held = takes_in_1024(rt, alloc, inbox, taking, putting)?;
     let others_came = comes_in_order(rt, inbox, taking, 1, 1025);
-    let is_empty = takes(rt, inbox, taking).is_none();
-    Ok(
-        was_empty
-            && is_filled
-            && back == Some(99)
-            && first_came
-            && last.is_none()
-            && others_came
-            && is_empty,
-    )
+    Ok(was_empty && are_held && others_came && is_empty(rt, inbox, taking))
+}
+
+/// Whether it is pass 1, by which an empty inbox holds so many, and three more come in, of which the first is taken.
+fn holds_by_one<R: Wait>(
+    rt: &R,
+    alloc: Global,
+    inbox: &Inbox,
+    taking: &mut TakingPass,
+    putting: &mut PuttingPass,
+) -> Result<bool, AllocError>
+    requires taking { taking.old.inbox ≡ inbox.now }
+    requires putting { putting.old.inbox ≡ inbox.now }
+    ensures taking { taking.new.inbox ≡ taking.old.inbox }
+    ensures putting { putting.new.inbox ≡ putting.old.inbox }
+{
+    let are_held = holds_1024(rt, alloc, inbox, taking, putting)?;
+    let are_filled = fills(rt, alloc, inbox, putting, 3)?;
+    let has_come = comes(rt, inbox, taking, 0);
+    Ok(putting.number() == 1 && are_held && are_filled && has_come)
+}
+
+/// Whether the second of two passes does so, and the others of its frames come once both passes are handed back.
+fn holds_by_two<R: Wait>(
+    rt: &R,
+    alloc: Global,
+    inbox: &Inbox,
+    taking: &mut TakingPass,
+    putting: &mut Vec<PuttingPass>,
+) -> Result<bool, AllocError>
+    requires taking { taking.old.inbox ≡ inbox.now }
+    requires two { vec_len putting.old ≡ 2 }
+    requires putting { (k : ℕ) → k < 2 → slice_get putting.old.items k ≡ Some (new_putter inbox.now k) }
+{
+    let are_two = putting.len() == 2;
+    let mut second = putting.pop().unwrap();
+    let first = putting.pop().unwrap();
+    let are_held = holds_by_one(rt, alloc, inbox, taking, &mut second);
+    inbox.retire(taking, second);
+    inbox.retire(taking, first);
+    let others_come = comes_in_order(rt, inbox, taking, 1, 3);
+    let is_empty = is_empty(rt, inbox, taking);
+    Ok(are_held? && are_two && others_come && is_empty)
+}
+
+/// Whether a new inbox with two passes does so.
+fn new_one_holds<R: Wait>(rt: &R, alloc: Global) -> Result<bool, AllocError> {
+    let (inbox, mut taking, mut putting) = Inbox::new(alloc, 2)?;
+    holds_by_two(rt, alloc, &inbox, &mut taking, &mut putting)
 }
 
 #[test]
 fn holds_1024_frames_in_order_and_those_of_passes_handed_back(rt: HostRuntime) -> Result<(), Fail> {
-    let alloc = rt.alloc();
-    let (inbox, mut taking, mut putting) = Inbox::new(alloc, 2)?;
-    assert_eq!(rt; putting.len(), 2);
-    let mut second = putting.pop().unwrap();
-    let first = putting.pop().unwrap();
-    assert_eq!(rt; second.number(), 1);
-    assert!(rt; holds_1024(&rt, alloc, &inbox, &mut taking, &mut second)?);
-    assert!(rt; fills(&rt, alloc, &inbox, &mut second, 3)? && comes(&rt, &inbox, &mut taking, 0));
-    inbox.retire(&mut taking, second);
-    inbox.retire(&mut taking, first);
-    assert!(rt;
-        comes_in_order(&rt, &inbox, &mut taking, 1, 3) && takes(&rt, &inbox, &mut taking).is_none()
-    );
+    assert!(rt; new_one_holds(&rt, rt.alloc())?);
     Ok(())
 }
