@@ -5,31 +5,18 @@ use Rattle.std.specs.Io.KnownBytes.{Appends}
 use Rattle.std.proofs.KnownBytes.{Appends-trans, Consumes-nil}
 use Rattle.ledger_model.specs.declared.config.Config.{Config}
 use Rattle.ledger_model.specs.declared.event.Event.{Event}
-use Rattle.ledger_model.specs.Applications.{run}
 use Rattle.ledger_model.specs.Rules.{Ring}
 use Rattle.ledger_model.specs.Lawful.{Replay, ReplaysFrom}
-use Rattle.cluster_keys.specs.Keys.{ring_of, secret_of}
+use Rattle.cluster_keys.specs.Keys.{ring_of}
 use Rattle.locked_replica.specs.Replicas.{Replica}
 use Rattle.settings.specs.declared.deliver.DeliverSettings.{DeliverSettings}
 use Rattle.program.specs.declared.stream_end.StreamEnd.{StreamEnd}
 use Rattle.program.specs.Lines.{last_line}
 use Rattle.program_streams.specs.Writing.{AppendsSome}
-use Rattle.program.specs.Answering.{Answers, AnswersSome, deliveries, starting}
+use Rattle.program.specs.Answering.{Answers, AnswersSome, deliveries, fresh, starting}
 use Rattle.program.specs.Streams.{Delivers, DeliversStream, DeliversStreamSome, Ended, Stopped}
 use Rattle.program_streams.proofs.WritingLemmas.{nothing_some, then_some}
 use Rattle.program.proofs.AnsweringLemmas.{answers_both, some_after, some_longer}
-
--- the replica of the settings, to which nothing happened
-abbrev pub fresh : DeliverSettings → Replica
-fresh s = record {
-  config = s.cluster.config;
-  id = s.replica;
-  ring = ring_of s.cluster;
-  secret = secret_of s.cluster s.replica;
-  used = 0;
-  entries = [];
-  machine = run s.cluster.config.kind [];
-}
 
 -- nothing is a replay
 replay_none : (config : Config) (ring : Ring) (id : ℕ) → Replay config ring id []

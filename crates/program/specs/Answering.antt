@@ -1,11 +1,13 @@
 -- What a replica answers to events, one after the other, and which text is printed of its replies.
-use Rattle.std.specs.Prelude.{◌≡◌, ℕ, List, ◌∷◌, ◌++◌, map, replicate, Option, Result, MatchResult}
+use Rattle.std.specs.Prelude.{◌≡◌, ℕ, List, [], ◌∷◌, ◌++◌, map, replicate, Option, Result, MatchResult}
 use Rattle.ledger_model.specs.declared.event.Event.{Event}
 use Rattle.ledger_model.specs.declared.event.Event.TheVariants as event
 use Rattle.ledger_model.specs.declared.history.Entry.{Entry}
 use Rattle.ledger_model.specs.declared.statement.SignedStatement.{SignedStatement}
 use Rattle.ledger_model.specs.Spelling.{frame_bytes}
+use Rattle.ledger_model.specs.Applications.{run}
 use Rattle.ledger_model.specs.Lawful.{Replay}
+use Rattle.cluster_keys.specs.Keys.{ring_of, secret_of}
 use Rattle.locked_replica.specs.Replicas.{Replica}
 use Rattle.settings.specs.declared.deliver.DeliverSettings.{DeliverSettings}
 use Rattle.program.specs.Lines.{lines_of}
@@ -47,6 +49,18 @@ Prints result old events new before after = MatchResult result (λ _. Printed ol
 -- the deliveries of frames
 abbrev pub deliveries : List SignedStatement → List Event
 deliveries frames = map (λ f. event.Deliver (frame_bytes f)) frames
+
+-- the replica of the settings, to which nothing happened
+abbrev pub fresh : DeliverSettings → Replica
+fresh s = record {
+  config = s.cluster.config;
+  id = s.replica;
+  ring = ring_of s.cluster;
+  secret = secret_of s.cluster s.replica;
+  used = 0;
+  entries = [];
+  machine = run s.cluster.config.kind [];
+}
 
 -- what happens before the first frame is delivered: the value is submitted, the height proposed, the rounds end
 abbrev pub starting : DeliverSettings → List Event

@@ -1,18 +1,40 @@
 //! `abft deliver`: a replica, and the frames of a stream that are delivered to it.
-ghost use Rattle.std.specs.Prelude.{MatchResult};
+ghost use Rattle.std.specs.Prelude.{◌≡◌, MatchResult};
+ghost use Rattle.program.specs.Answering.{fresh};
 ghost use Rattle.program.specs.Streams.{DeliversStream, DeliversStreamSome};
 
 use crate::frame_stream::deliver_pieces;
 use crate::line_printing::print_end;
 use crate::replica::{new_replica, start};
 use crate::stream_end::StreamEnd;
+use app_kinds::AnyKind;
+use locked_replica::State;
 use program_streams::ProgramFault;
 use settings::DeliverSettings;
 use signed_frames::FrameReader;
 use std::alloc::Global;
-use std::hash::RandomState;
 use std::io::{Read, Write};
 use std::random::RandomSource;
+
+/// Starts the replica, delivers the frames of a stream to it, and writes their lines and the last one.
+fn deliver_to<R: Read, W: Write>(
+    alloc: Global,
+    settings: &DeliverSettings,
+    state: &mut State<AnyKind>,
+    reader: &mut R,
+    writer: &mut W,
+) -> Result<StreamEnd, ProgramFault>
+    requires { state.old ≡ fresh settings.now }
+    ensures { MatchResult result
+        (λ end. DeliversStream settings.now end (R.remaining reader.old) (R.remaining reader.new) (W.contents writer.old) (W.contents writer.new))
+        (λ _. DeliversStreamSome settings.now (R.remaining reader.old) (R.remaining reader.new) (W.contents writer.old) (W.contents writer.new)) }
+{
+    start(alloc, settings, state)?;
+    let mut frames = FrameReader::new(alloc);
+    let end = deliver_pieces(alloc, state, &mut frames, reader, writer)?;
+    print_end(alloc, writer, end)?;
+    Ok(end)
+}
 
 /// Delivers the frames of a stream to the replica of the settings, and writes a line for each; the last line says what is
 /// wrong with the stream, if anything is. The random bytes are the keys of the replica's hashes.
@@ -27,11 +49,6 @@ pub fn deliver<S: RandomSource, R: Read, W: Write>(
         (λ end. DeliversStream settings.now end (R.remaining reader.old) (R.remaining reader.new) (W.contents writer.old) (W.contents writer.new))
         (λ _. DeliversStreamSome settings.now (R.remaining reader.old) (R.remaining reader.new) (W.contents writer.old) (W.contents writer.new)) }
 {
-    let randoms = [RandomState::new(source)?, RandomState::new(source)?];
-    let mut state = new_replica(alloc, settings, randoms)?;
-    start(alloc, settings, &mut state)?;
-    let mut frames = FrameReader::new(alloc);
-    let end = deliver_pieces(alloc, &mut state, &mut frames, reader, writer)?;
-    print_end(alloc, writer, end)?;
-    Ok(end)
+    let mut state = new_replica(source, alloc, settings)?;
+    deliver_to(alloc, settings, &mut state, reader, writer)
 }

@@ -3,8 +3,9 @@ ghost use Rattle.program.specs.Lines.{ended, last_line};
 ghost use Rattle.program_streams.specs.Writing.{Writes};
 
 use crate::line::Line;
+use crate::printing::write_bytes;
 use crate::stream_end::StreamEnd;
-use program_streams::{ProgramFault, write_whole};
+use program_streams::ProgramFault;
 use std::alloc::Global;
 use std::io::Write;
 
@@ -17,8 +18,7 @@ pub(crate) fn print_line<W: Write>(
     ensures { Writes result (W.contents writer.old) (W.contents writer.new) (ended line) }
 {
     let text = format!(in alloc; "{line}\n")?;
-    write_whole(writer, text.as_bytes())?;
-    Ok(())
+    write_bytes(writer, text.as_bytes())
 }
 
 /// Writes the line that says what is wrong with the stream, if anything is.

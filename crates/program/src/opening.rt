@@ -6,6 +6,7 @@ ghost use Rattle.scenario_texts.specs.Lawful.{IsPlan};
 ghost use Rattle.scenario_texts.specs.Plans.{plan_of};
 ghost use Rattle.program.specs.Simulating.{opening};
 
+use crate::replica::new_keys;
 use adversary_net::{WorldFault, count_correct};
 use app_kinds::AnyKind;
 use cluster_keys::Cluster;
@@ -40,7 +41,7 @@ fn new_randoms<S: RandomSource>(
 {
     let mut randoms = Vec::with_capacity(alloc, count)?;
     for _ in 0..count {
-        randoms.push([RandomState::new(source)?, RandomState::new(source)?])?;
+        randoms.push(new_keys(source)?)?;
     }
     Ok(randoms)
 }

@@ -1,8 +1,18 @@
 //! Texts of help and of faults, each printed by one write if the writer takes it whole.
+ghost use Rattle.program_streams.specs.Writing.{Writes};
+
 use program_streams::{ProgramFault, write_whole};
 use std::alloc::Global;
 use std::fmt::Display;
 use std::io::Write;
+
+/// Writes all of the bytes.
+pub(crate) fn write_bytes<W: Write>(writer: &mut W, bytes: &[u8]) -> Result<(), ProgramFault>
+    ensures { Writes result (W.contents writer.old) (W.contents writer.new) bytes.now }
+{
+    write_whole(writer, bytes)?;
+    Ok(())
+}
 
 /// Writes the text and the end of its last line.
 pub(crate) fn print<W: Write, D: Display>(
@@ -14,8 +24,7 @@ pub(crate) fn print<W: Write, D: Display>(
     if !lines.ends_with('\n') {
         lines.push('\n')?;
     }
-    write_whole(writer, lines.as_bytes())?;
-    Ok(())
+    write_bytes(writer, lines.as_bytes())
 }
 
 /// Writes what is wrong, as far as that can be written. Answers whether memory was there for its text; if not, it says

@@ -1,10 +1,8 @@
 //! The replica of `abft deliver`: how it is made, and what happens to it.
 ghost use Rattle.std.specs.Prelude.{◌≡◌, [], ◌∷◌, replicate, IfOk, MatchResult};
 ghost use Rattle.ledger_model.specs.declared.event.Event.TheVariants as event;
-ghost use Rattle.ledger_model.specs.Applications.{run};
-ghost use Rattle.cluster_keys.specs.Keys.{ring_of, secret_of};
 ghost use Rattle.program.specs.Lines.{ended};
-ghost use Rattle.program.specs.Answering.{Answers, AnswersSome, starting};
+ghost use Rattle.program.specs.Answering.{Answers, AnswersSome, fresh, starting};
 
 use crate::line::Line;
 use app_kinds::AnyKind;
@@ -16,23 +14,22 @@ use program_streams::ProgramFault;
 use settings::DeliverSettings;
 use std::alloc::Global;
 use std::hash::RandomState;
+use std::random::RandomSource;
 
-/// The replica of the settings, to which nothing happened.
-pub(crate) fn new_replica(
+/// The random keys of a replica's hashes.
+pub(crate) fn new_keys<S: RandomSource>(source: &S) -> Result<[RandomState; 2], ProgramFault> {
+    Ok([RandomState::new(source)?, RandomState::new(source)?])
+}
+
+/// The replica of the settings, to which nothing happened. The random bytes are the keys of its hashes.
+pub(crate) fn new_replica<S: RandomSource>(
+    source: &S,
     alloc: Global,
     settings: &DeliverSettings,
-    randoms: [RandomState; 2],
 ) -> Result<State<AnyKind>, ProgramFault>
-    ensures { IfOk result (λ state. state ≡ record {
-      config = settings.now.cluster.config;
-      id = settings.now.replica;
-      ring = ring_of settings.now.cluster;
-      secret = secret_of settings.now.cluster settings.now.replica;
-      used = 0;
-      entries = [];
-      machine = run settings.now.cluster.config.kind [];
-    }) }
+    ensures { IfOk result (λ state. state ≡ fresh settings.now) }
 {
+    let randoms = new_keys(source)?;
     let config = settings.cluster.config;
     let (signer, ring) = signer_and_ring(alloc, &settings.cluster, settings.replica)?;
     let app = AnyKind::new(alloc, config.kind);

@@ -10,7 +10,7 @@ ghost use Rattle.program.specs.Doing.{Begins, Done, Halted, IfEnded, IfHanded, P
 
 use crate::delivering::deliver;
 use crate::outcome::{Outcome, Piped};
-use crate::printing::{complain, print};
+use crate::printing::{complain, print, write_bytes};
 use crate::simulating::simulate;
 use crate::stream_end::StreamEnd;
 use crate::text_end::TextEnd;
@@ -201,8 +201,7 @@ fn sign<W: Write>(
     ensures { Writes result (W.contents writer.old) (W.contents writer.new) (frame_bytes (signed settings.now)) }
 {
     let frame = signed_frame(alloc, settings)?;
-    write_whole(writer, frame.as_bytes())?;
-    Ok(())
+    write_bytes(writer, frame.as_bytes())
 }
 
 /// Writes the help or the version that the words ask for, and answers the exit status.

@@ -5,8 +5,9 @@ ghost use Rattle.program_streams.specs.Writing.{Writes};
 ghost use Rattle.program.specs.Simulating.{PlaysText, PlaysTextSome, bad_line};
 
 use crate::playing::play;
+use crate::printing::write_bytes;
 use crate::text_end::TextEnd;
-use program_streams::{ProgramFault, write_whole};
+use program_streams::ProgramFault;
 use scenario_texts::{TextFault, read};
 use settings::SimulateSettings;
 use std::alloc::Global;
@@ -29,8 +30,7 @@ fn print_bad_line<W: Write>(alloc: Global, writer: &mut W, number: u32) -> Resul
     ensures { Writes result (W.contents writer.old) (W.contents writer.new) (bad_line number) }
 {
     let line = format!(in alloc; "line {number} bad\n")?;
-    write_whole(writer, line.as_bytes())?;
-    Ok(())
+    write_bytes(writer, line.as_bytes())
 }
 
 /// Plays the scenario of a stream, and writes its lines, or the histories that it comes to. A text with a bad line is not

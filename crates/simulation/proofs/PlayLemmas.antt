@@ -20,7 +20,7 @@ use Rattle.adversary_net.specs.Clusters.{RunningCluster, liar_at, world_of}
 use Rattle.scenario_texts.specs.declared.command.Lie.{Lie}
 use Rattle.simulation.specs.Lies.{lying_lock}
 use Rattle.reply_lines.specs.Lines.{ended, entry_text, undecided, step_text}
-use Rattle.simulation.specs.Playing.{Simulated, Answers, Ends, IsAnswered, Lies, LiesLock, PlaysRound, Signed, answer_text, correct_in, injections_to, is_taken, lie_receivers, pass_text, passes_of, target}
+use Rattle.simulation.specs.Playing.{Simulated, Answers, Ends, IsAnswered, Lies, LiesLock, PlaysRound, Signed, StepsEach, answer_text, correct_in, injections_to, is_taken, lie_receivers, pass_text, passes_of, target}
 use Rattle.simulation.proofs.Ranges.{take_item}
 use Rattle.simulation.proofs.StepLemmas.{SteppedTo, EndedTo, ended_more, stepped_more}
 use Rattle.simulation.proofs.StepTargets.{done_at}
@@ -112,20 +112,20 @@ round_so c mid d before out after correct none passes nothing is (ends, (more, (
 abbrev pub ToldTo : Lie → Statement → Simulated → List ℕ → List ℕ → Simulated → Type 0
 ToldTo l said p before after q = (text : List ℕ) × (Lies l said p text q × (after ≡ before ++ text))
 
--- the liar signs, and the frame is injected
-pub tells_so : (l : Lie) (said : Statement) (p q : Simulated) (mid : RunningCluster) (frame : SignedStatement) (receivers before after : List ℕ)
-    → (frame.statement ≡ said) × Signed p.cluster l.liar said (Ok frame.signature) mid → receivers ≡ lie_receivers mid l.to
-    → SteppedTo step_text mid (injections_to receivers (frame_bytes frame)) before after q.cluster → q.lies ≡ p.lies ++ frame_bytes frame ∷ []
+-- the liar signs, and the frame is injected and kept
+pub tells_so : (l : Lie) (said : Statement) (p q mid : Simulated) (frame : SignedStatement) (before after : List ℕ)
+    → (frame.statement ≡ said) × Signed p.cluster l.liar said (Ok frame.signature) mid.cluster → mid.lies ≡ p.lies
+    → (text : List ℕ) × (StepsEach step_text mid.cluster (injections_to (lie_receivers mid.cluster l.to) (frame_bytes frame)) text q.cluster × (after ≡ before ++ text) × (q.lies ≡ mid.lies ++ frame_bytes frame ∷ []))
     → ToldTo l said p before after q
-tells_so l said p q mid frame receivers before after (is, signs) to (text, (steps, printed)) kept =
+tells_so l said p q mid frame before after (is, signs) same_lies (text, (steps, printed, kept)) =
     let same : frame ≡ record { statement = said; signature = frame.signature } = ap (λ (x : Statement). let f : SignedStatement = record { statement = x; signature = frame.signature } in f) is in (
       text,
       (
         inl (
           Ok frame.signature,
           (
-            record { mid = mid; signs = signs; injected = rw (same, to) at steps },
-            kept ∙ ap (λ f. p.lies ++ frame_bytes f ∷ []) same,
+            record { mid = mid.cluster; signs = signs; injected = rw same at steps },
+            kept ∙ ap (λ ls. ls ++ frame_bytes frame ∷ []) same_lies ∙ ap (λ f. p.lies ++ frame_bytes f ∷ []) same,
           ),
         ),
         printed,

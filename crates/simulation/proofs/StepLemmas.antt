@@ -1,6 +1,6 @@
 -- Steps of a cluster, one after the other.
 use Rattle.std.proofs.Common.{◌≡◌, ℕ, List, [], ◌∷◌, ◌++◌, length, refl, sym, ap, subst, ◌∙◌, append_assoc, append-nil}
-use Rattle.std.specs.Prelude.{Some, None, Result, slice_get}
+use Rattle.std.specs.Prelude.{Option, Some, None, IfNone, IfSome, Result, slice_get}
 use Rattle.key_ring.specs.declared.fault.SignFault.{SignFault}
 use Rattle.adversary_net.proofs.LiarSignatures.{signed_world}
 use Rattle.ledger_model.specs.declared.config.Config.{Config}
@@ -48,6 +48,12 @@ pub signs_on : {X : Type 0} (view : X → List ℕ) (c : RunningCluster) (r : �
 signs_on view c r message answer d signs =
     let stay = same_config view c r message answer d signs in
     stays_in c d (signed_world view c r message answer d signs) stay.0 stay.1
+
+-- nor is a signature that isn't given
+pub signs_or_not : {X : Type 0} (view : X → List ℕ) (c : RunningCluster) (r : ℕ) (message : List ℕ) (answer : Option (Result X SignFault)) (d : RunningCluster)
+    → IfSome answer (λ given. SignsFor view c r message given d) → IfNone answer (d ≡ c) → GoesOn c d
+signs_or_not view c r message (Some given) d signs none = signs_on view c r message given d signs
+signs_or_not view c r message None d signs none = subst (GoesOn c) (sym none) (stays c)
 
 -- ---- one step
 

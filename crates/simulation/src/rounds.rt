@@ -109,7 +109,7 @@ impl<A: Application> Simulation<A> {
     ghost use Rattle.ledger_model.specs.Worlds.{entries_in, frames_sent};
     ghost use Rattle.adversary_net.specs.Clusters.{world_of};
     ghost use Rattle.reply_lines.specs.Lines.{step_text};
-    ghost use Rattle.simulation.specs.Playing.{EndsEach, StepsEach, PlaysRound, PlaysSilent, GoesOn, Ends, passes_of, pass_text};
+    ghost use Rattle.simulation.specs.Playing.{EndsEach, StepsEach, PlaysRound, PlaysSilent, GoesOn, Ends, correct_in, passes_of, pass_text};
 
     /// Adds the passes of what a step sent, before which its replica had sent so many frames.
     fn add_passes(
@@ -148,8 +148,7 @@ impl<A: Application> Simulation<A> {
         self.add_passes(passes, correct, before, &answer)
     }
 
-    /// Each correct replica ends its round.
-    #[tactic(auto, using(crate::proofs::StepLemmas::stays, crate::proofs::StepLemmas::goes_on, crate::proofs::StepLemmas::ends_snoc))]
+    /// Each of these replicas, which are the correct ones, ends its round.
     fn end_each(
         &mut self,
         correct: &[ReplicaId],
@@ -168,8 +167,19 @@ impl<A: Application> Simulation<A> {
         Ok(())
     }
 
+    /// Each correct replica ends its round: adds what is printed, and the passes of what they sent.
+    fn end_all(&mut self, passes: &mut Vec<WorldStep>, out: &mut Text) -> Result<(), AllocError>
+        ensures done { OnOk result ((text : List ℕ) × ((more : List WorldStep)
+            × (EndsEach (correct_in self.old.cluster) self.old.cluster (correct_in self.old.cluster) text more self.new.cluster
+            × (out.new ≡ out.old ++ text) × (passes.new.items ≡ passes.old.items ++ more)))) }
+        ensures lies { self.new.lies ≡ self.old.lies }
+        ensures goes_on { GoesOn self.old.cluster self.new.cluster }
+    {
+        let correct = self.correct()?;
+        self.end_each(&correct, passes, out)
+    }
+
     /// Each of these frames is passed.
-    #[tactic(auto, using(crate::proofs::StepLemmas::stays, crate::proofs::StepLemmas::goes_on, crate::proofs::StepLemmas::steps_snoc))]
     fn pass_each(&mut self, passes: &[WorldStep], out: &mut Text) -> Result<(), AllocError>
         ensures done { OnOk result ((text : List ℕ)
             × (StepsEach pass_text self.old.cluster passes.now text self.new.cluster × (out.new ≡ out.old ++ text))) }
@@ -183,26 +193,22 @@ impl<A: Application> Simulation<A> {
     }
 
     /// Each correct replica ends its round, and nothing is passed.
-    #[tactic(auto, using(crate::proofs::StepLemmas::stays))]
     pub(crate) fn play_silent(&mut self, out: &mut Text) -> Result<(), AllocError>
         ensures done { OnOk result ((text : List ℕ) × (PlaysSilent self.old text self.new × (out.new ≡ out.old ++ text))) }
         ensures goes_on { GoesOn self.old.cluster self.new.cluster }
     {
-        let correct = self.correct()?;
         let mut passes = Vec::new(self.allocator());
-        self.end_each(&correct, &mut passes, out)
+        self.end_all(&mut passes, out)
     }
 
     /// Each correct replica ends its round, and then each frame that was sent is passed to whom it is for.
-    #[tactic(auto, using(crate::proofs::StepLemmas::stays, crate::proofs::StepLemmas::goes_on))]
     pub(crate) fn play_round(&mut self, out: &mut Text) -> Result<(), AllocError>
         ensures done { OnOk result ((text : List ℕ) × (PlaysRound self.old.cluster text self.new.cluster × (out.new ≡ out.old ++ text))) }
         ensures lies { self.new.lies ≡ self.old.lies }
         ensures goes_on { GoesOn self.old.cluster self.new.cluster }
     {
-        let correct = self.correct()?;
         let mut passes = Vec::new(self.allocator());
-        self.end_each(&correct, &mut passes, out)?;
+        self.end_all(&mut passes, out)?;
         self.pass_each(&passes, out)
     }
 }

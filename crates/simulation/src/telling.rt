@@ -5,10 +5,9 @@ ghost use Rattle.simulation.specs.Lies.{lying_report, lying_ack};
 ghost use Rattle.simulation.specs.Playing.{named};
 
 use crate::said::{ack_of, lock_of, report_of};
-use crate::signing::Signing;
+use crate::signing::{Signing, signing_of};
 use crate::simulation::Simulation;
 use abci::Application;
-use key_ring::SignFault;
 use ledger_model::{ReplicaId, Statement, WorldStep};
 use reply_lines::Text;
 use scenario_texts::{Lie, Towards};
@@ -23,7 +22,7 @@ pub(crate) fn named(number: u32) -> ReplicaId
 }
 
 impl<A: Application> Simulation<A> {
-    ghost use Rattle.std.specs.Prelude.{ℕ, List};
+    ghost use Rattle.std.specs.Prelude.{ℕ, List, [], ◌∷◌};
     ghost use Rattle.ledger_model.specs.Spelling.{frame_bytes};
     ghost use Rattle.ledger_model.specs.declared.statement.Statement.TheVariants as statement;
     ghost use Rattle.reply_lines.specs.Lines.{step_text};
@@ -37,16 +36,11 @@ impl<A: Application> Simulation<A> {
         ensures goes_on { GoesOn self.old.cluster self.new.cluster }
     {
         let unsigned = UnsignedFrame::new(self.allocator(), statement)?;
-        match self.world.sign_as(liar, unsigned.statement_bytes()) {
-            Some(Ok(signature)) => Ok(Signing::Signed(unsigned.with_signature(&signature)?)),
-            Some(Err(SignFault::Exhausted)) => Ok(Signing::Exhausted),
-            Some(Err(SignFault::NoMemory)) => Err(AllocError),
-            None => Ok(Signing::NoLiar),
-        }
+        let answer = self.world.sign_as(liar, unsigned.statement_bytes());
+        signing_of(unsigned, answer)
     }
 
     /// Injects a frame to each of these replicas.
-    #[tactic(auto, using(crate::proofs::StepLemmas::stays, crate::proofs::StepLemmas::goes_on, crate::proofs::StepLemmas::steps_snoc))]
     fn inject_each(
         &mut self,
         receivers: &[ReplicaId],
@@ -78,20 +72,42 @@ impl<A: Application> Simulation<A> {
         }
     }
 
+    /// Injects a frame to the replicas to which a lie goes.
+    fn inject(&mut self, to: Towards, frame: &Frame, out: &mut Text) -> Result<(), AllocError>
+        ensures done { OnOk result ((text : List ℕ)
+            × (StepsEach step_text self.old.cluster (injections_to (lie_receivers self.old.cluster to) (frame_bytes frame.now)) text self.new.cluster × (out.new ≡ out.old ++ text))) }
+        ensures lies { self.new.lies ≡ self.old.lies }
+        ensures goes_on { GoesOn self.old.cluster self.new.cluster }
+    {
+        let receivers = self.receivers(to)?;
+        self.inject_each(&receivers, frame, out)
+    }
+
+    /// Injects the frame of a lie, and keeps it among what liars have signed.
+    fn inject_and_keep(
+        &mut self,
+        to: Towards,
+        frame: Frame,
+        out: &mut Text,
+    ) -> Result<(), AllocError>
+        ensures done { OnOk result ((text : List ℕ)
+            × (StepsEach step_text self.old.cluster (injections_to (lie_receivers self.old.cluster to) (frame_bytes frame)) text self.new.cluster
+            × (out.new ≡ out.old ++ text) × (self.new.lies ≡ self.old.lies ++ frame_bytes frame ∷ []))) }
+        ensures goes_on { GoesOn self.old.cluster self.new.cluster }
+    {
+        self.inject(to, &frame, out)?;
+        self.lies.push(frame.into_bytes())?;
+        Ok(())
+    }
+
     /// A liar signs the statement of a lie, whose frame is injected.
-    #[tactic(auto, using(crate::proofs::StepLemmas::stays, crate::proofs::StepLemmas::goes_on))]
     fn tell(&mut self, lie: &Lie, statement: Statement, out: &mut Text) -> Result<(), AllocError>
         requires { IsStatement statement }
         ensures done { OnOk result ((text : List ℕ) × (Lies lie.now statement self.old text self.new × (out.new ≡ out.old ++ text))) }
         ensures goes_on { GoesOn self.old.cluster self.new.cluster }
     {
         match self.sign(lie.liar, statement)? {
-            Signing::Signed(frame) => {
-                let receivers = self.receivers(lie.to)?;
-                self.inject_each(&receivers, &frame, out)?;
-                self.lies.push(frame.into_bytes())?;
-                Ok(())
-            }
+            Signing::Signed(frame) => self.inject_and_keep(lie.to, frame, out),
             Signing::Exhausted => out.add("exhausted\n"),
             Signing::NoLiar => Ok(()),
         }

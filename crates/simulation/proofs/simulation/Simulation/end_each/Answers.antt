@@ -13,3 +13,8 @@ loop-replica-preserved g c =
       c.in_ok-end.ensures.lies ∙ lies,
       goes_on _ _ _ goes c.in_ok-end.ensures.goes_on,
     )
+
+pub returns-in_err-end-clause-goes_on : goal.returns-in_err-end-clause-goes_on
+returns-in_err-end-clause-goes_on g c =
+    let (so_far, lies, goes) = c.loop-replica.invariant in
+    goes_on _ _ _ goes c.in_err-end.ensures.goes_on

@@ -15,3 +15,8 @@ loop-receiver-preserved g c =
       c.in_ok-step.ensures.lies ∙ lies,
       goes_on _ _ _ goes c.in_ok-step.ensures.goes_on,
     )
+
+pub returns-in_err-step-clause-goes_on : goal.returns-in_err-step-clause-goes_on
+returns-in_err-step-clause-goes_on g c =
+    let (so_far, lies, goes) = c.loop-receiver.invariant in
+    goes_on _ _ _ goes c.in_err-step.ensures.goes_on

@@ -1,4 +1,17 @@
+use Rattle.std.proofs.Common.{rules}
 use Rattle.simulation.proofs.simulation.Simulation.new.Goals as goal
 
 pub returns-in-Ok-clause-no_such : goal.returns-in-Ok-clause-no_such
 returns-in-Ok-clause-no_such g c = (λ no. absurd cc, λ p. absurd (let other = c.in-Ok.ensures.no_such.1 p in cc))
+
+pub returns-in-Ok-clause-new : goal.returns-in-Ok-clause-new
+returns-in-Ok-clause-new g c = search rules
+
+pub returns-in-Ok-clause-too_many : goal.returns-in-Ok-clause-too_many
+returns-in-Ok-clause-too_many g c = search rules
+
+pub returns-in-Err-clause-too_many : goal.returns-in-Err-clause-too_many
+returns-in-Err-clause-too_many g c = search rules
+
+pub returns-in-Err-clause-no_such : goal.returns-in-Err-clause-no_such
+returns-in-Err-clause-no_such g c = search rules

@@ -14,3 +14,8 @@ loop-step-preserved g c =
       c.in_ok-pass.ensures.lies ∙ lies,
       goes_on _ _ _ goes c.in_ok-pass.ensures.goes_on,
     )
+
+pub returns-in_err-pass-clause-goes_on : goal.returns-in_err-pass-clause-goes_on
+returns-in_err-pass-clause-goes_on g c =
+    let (so_far, lies, goes) = c.loop-step.invariant in
+    goes_on _ _ _ goes c.in_err-pass.ensures.goes_on

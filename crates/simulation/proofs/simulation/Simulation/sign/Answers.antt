@@ -1,27 +1,20 @@
-use Rattle.std.proofs.Common.{sym, subst}
+use Rattle.std.proofs.Common.{◌≡◌, ap, subst}
 use Rattle.simulation.specs.Playing.{GoesOn}
-use Rattle.simulation.proofs.StepLemmas.{stays, signs_on}
+use Rattle.simulation.proofs.StepLemmas.{stays, signs_or_not}
 use Rattle.simulation.proofs.simulation.Simulation.sign.Goals as goal
 
 pub returns-in_err-unsigned-clause-goes_on : goal.returns-in_err-unsigned-clause-goes_on
 returns-in_err-unsigned-clause-goes_on g c = stays c.args.self.now.cluster
 
-pub returns-in_err-with_signature-in-Some-Ok-clause-goes_on : goal.returns-in_err-with_signature-in-Some-Ok-clause-goes_on
-returns-in_err-with_signature-in-Some-Ok-clause-goes_on g c =
-    subst (λ s. GoesOn s.cluster c.sign_as.new.self) c.self.view_is (signs_on _ c.self.inside.world c.args.liar _ _ c.sign_as.new.self c.in-Some-Ok.ensures.signs)
-
-pub returns-in-Some-Ok-clause-goes_on : goal.returns-in-Some-Ok-clause-goes_on
-returns-in-Some-Ok-clause-goes_on g c =
-    subst (λ s. GoesOn s.cluster c.sign_as.new.self) c.self.view_is (signs_on _ c.self.inside.world c.args.liar _ _ c.sign_as.new.self c.in-Some-Ok.ensures.signs)
-
-pub returns-in-Some-Err-Exhausted-clause-goes_on : goal.returns-in-Some-Err-Exhausted-clause-goes_on
-returns-in-Some-Err-Exhausted-clause-goes_on g c =
-    subst (λ s. GoesOn s.cluster c.sign_as.new.self) c.self.view_is (signs_on _ c.self.inside.world c.args.liar _ _ c.sign_as.new.self c.in-Some-Err-Exhausted.ensures.signs)
-
-pub returns-in-Some-Err-NoMemory-clause-goes_on : goal.returns-in-Some-Err-NoMemory-clause-goes_on
-returns-in-Some-Err-NoMemory-clause-goes_on g c =
-    subst (λ s. GoesOn s.cluster c.sign_as.new.self) c.self.view_is (signs_on _ c.self.inside.world c.args.liar _ _ c.sign_as.new.self c.in-Some-Err-NoMemory.ensures.signs)
+pub returns-clause-done : goal.returns-clause-done
+returns-clause-done g c =
+    let same : c.self.inside.world ≡ c.args.self.now.cluster = ap (λ s. s.cluster) c.self.view_is in
+    let signed = c.sign_as-answer in
+    rw (same, c.in_ok-unsigned.ensures) at
+    (c.signing_of.ensures c.args.liar c.self.inside.world signed.new.self (rw c.statement_bytes.ensures at signed.ensures.signs) signed.ensures.none signed.ensures.same)
 
 pub returns-clause-goes_on : goal.returns-clause-goes_on
 returns-clause-goes_on g c =
-    subst (λ s. GoesOn s.cluster c.sign_as.new.self) c.self.view_is (subst (GoesOn c.self.inside.world) (sym c.in-None.ensures.same) (stays c.self.inside.world))
+    let signed = c.sign_as-answer in
+    subst (λ s. GoesOn s.cluster signed.new.self) c.self.view_is
+    (signs_or_not (λ s. s.items) c.self.inside.world c.args.liar _ signed.result signed.new.self signed.ensures.signs signed.ensures.same)
