@@ -1,5 +1,6 @@
 //! Clusters that run in threads of this process, by the machine's clock, and listen at its ports.
-ghost use Rattle.std.specs.Prelude.{◌≡◌, ◌⊎◌, vec_len, IfOk, IfSome, All};
+ghost use Rattle.std.specs.Prelude.{◌≡◌, ◌⊎◌, ◌<◌, ℕ, Some, slice_get, vec_len, IfOk, IfSome, All};
+ghost use Rattle.commit_board.specs.Seats.{new_reader};
 ghost use denote.Param.Send.{IsSend, IsSync};
 
 use crate::listening::{listen, targets_of};
@@ -104,6 +105,33 @@ where
     done
 }
 
+/// A cluster of the settings as it begins, its workers, and so many readers' seats of its board.
+fn new_cluster<S: RandomSource>(
+    source: &S,
+    alloc: Global,
+    settings: &ClusterSettings,
+    readers: u32,
+) -> Result<(Cluster<AnyKind>, Vec<Worker<AnyKind>>, Vec<ReaderSeat>), ProgramFault>
+    ensures replicas { IfOk result (λ r. r.0.replicas ≡ settings.now.cluster.config.replicas) }
+    ensures reader_count { IfOk result (λ r. vec_len r.2 ≡ readers) }
+    ensures readers { IfOk result (λ r. (k : ℕ) → k < readers → slice_get r.2.items k ≡ Some (new_reader r.0.board)) }
+{
+    let states = new_replicas(source, alloc, &settings.cluster, &settings.tx)?;
+    let made = Cluster::new(
+        alloc,
+        &settings.cluster.config,
+        states,
+        settings.rounds,
+        readers,
+    )?;
+    Ok(made)
+}
+
+/// The terminal, unless the settings ask for quiet.
+fn told_at<P: Drop>(settings: &ClusterSettings, terminal: Option<P>) -> Option<P> {
+    if settings.is_quiet { None } else { terminal }
+}
+
 /// Runs a cluster until its rounds are over, and answers how many blocks each replica committed, by number. How far it is is told on
 /// the terminal, if one is given and the settings don't ask for quiet.
 pub fn run_cluster<R, P>(
@@ -117,10 +145,8 @@ where
     P: Write + Drop + Send,
     ensures each { IfOk result (λ heights. vec_len heights ≡ settings.now.cluster.config.replicas) }
 {
-    let config = settings.cluster.config;
-    let states = new_replicas(rt, alloc, &settings.cluster, &settings.tx)?;
-    let (cluster, workers, mut seats) = Cluster::new(alloc, &config, states, settings.rounds, 1)?;
-    let terminal = if settings.is_quiet { None } else { terminal };
+    let terminal = told_at(settings, terminal);
+    let (cluster, workers, mut seats) = new_cluster(rt, alloc, settings, 1)?;
     run_workers(
         rt,
         alloc,
@@ -130,7 +156,31 @@ where
         seats.pop(),
         terminal,
     )?;
-    heights_of(rt, alloc, &cluster, config.replicas)
+    heights_of(rt, alloc, &cluster, settings.cluster.config.replicas)
+}
+
+/// Runs the workers of a cluster beside as many sessions as there are seats but one, by which its progress is told.
+fn serve_beside<R, P>(
+    rt: &R,
+    alloc: Global,
+    settings: &ClusterSettings,
+    cluster: &Cluster<AnyKind>,
+    workers: Vec<Worker<AnyKind>>,
+    mut seats: Vec<ReaderSeat>,
+    listener: &TcpListener,
+    terminal: Option<P>,
+) -> Result<(), ProgramFault>
+where
+    R: Clock + Threads + Wait + Sync,
+    P: Write + Drop + Send,
+    requires readers { (k : ℕ) → k < vec_len seats → slice_get seats.items k ≡ Some (new_reader cluster.now.board) }
+    requires replicas { settings.now.cluster.config.replicas ≡ cluster.now.replicas }
+{
+    let seat = seats.pop();
+    let targets = targets_of(rt, alloc, cluster, seats)?;
+    run_beside(
+        rt, alloc, settings, cluster, workers, seat, terminal, listener, targets,
+    )
 }
 
 /// The same beside the clients of a listener: it returns when the rounds are over and as many connections as the settings say
@@ -148,20 +198,8 @@ where
     ensures each { IfOk result (λ heights. vec_len heights ≡ settings.now.cluster.cluster.config.replicas) }
 {
     let run = &settings.cluster;
-    let config = run.cluster.config;
-    let states = new_replicas(rt, alloc, &run.cluster, &run.tx)?;
-    let (cluster, workers, mut seats) = Cluster::new(
-        alloc,
-        &config,
-        states,
-        run.rounds,
-        settings.sessions + 1,
-    )?;
-    let seat = seats.pop();
-    let targets = targets_of(rt, alloc, &cluster, seats)?;
-    let terminal = if run.is_quiet { None } else { terminal };
-    run_beside(
-        rt, alloc, run, &cluster, workers, seat, terminal, listener, targets,
-    )?;
-    heights_of(rt, alloc, &cluster, config.replicas)
+    let terminal = told_at(run, terminal);
+    let (cluster, workers, seats) = new_cluster(rt, alloc, run, settings.sessions + 1)?;
+    serve_beside(rt, alloc, run, &cluster, workers, seats, listener, terminal)?;
+    heights_of(rt, alloc, &cluster, run.cluster.config.replicas)
 }

@@ -3,6 +3,7 @@ use crate::meeting_gate::meet;
 use crate::replicas::{four, replicas};
 use app_kinds::AnyKind;
 use ledger_model::Event;
+use locked_replica::State;
 use replica_turns::LockedReplica;
 use std::alloc::Global;
 use std::random::RandomSource;
@@ -23,15 +24,23 @@ fn apply_and_meet<R: Wait>(
     meet(own, other) && is_taken
 }
 
+/// The last of these replicas, behind its lock.
+fn last(states: &mut Vec<State<AnyKind>>) -> Result<LockedReplica<AnyKind>, Fail> {
+    match states.pop() {
+        Some(state) => Ok(Mutex::new(state)),
+        None => Err(Fail::from("a replica is missing")),
+    }
+}
+
 /// Two replicas of a cluster, each behind its lock.
 fn two<R: RandomSource>(
     rt: &R,
     alloc: Global,
 ) -> Result<(LockedReplica<AnyKind>, LockedReplica<AnyKind>), Fail> {
     let mut states = replicas(rt, alloc, &four()?)?;
-    let first = states.pop().ok_or("no replica")?;
-    let second = states.pop().ok_or("no second replica")?;
-    Ok((Mutex::new(first), Mutex::new(second)))
+    let first = last(&mut states)?;
+    let second = last(&mut states)?;
+    Ok((first, second))
 }
 
 #[test]

@@ -5,6 +5,7 @@ ghost use Rattle.commit_board.specs.Seats.{new_writer};
 use crate::replicas::{four, replicas};
 use app_kinds::AnyKind;
 use bytes::Bytes;
+use cluster_keys::Cluster;
 use commit_board::{Board, WriterSeat};
 use ledger_model::Event;
 use locked_replica::{ApplyFault, State};
@@ -34,19 +35,45 @@ fn last_seat(board: &Board, mut seats: Vec<WriterSeat>) -> Result<WriterSeat, Fa
     }
 }
 
+/// A board on which nothing is published, and the last of its seats.
+fn board_and_seat(alloc: Global, cluster: &Cluster) -> Result<(Board, WriterSeat), Fail>
+    ensures { IfOk result (λ r. r.1.board ≡ r.0) }
+{
+    let (board, seats, _) = Board::new(alloc, &cluster.config, 0)?;
+    let seat = last_seat(&board, seats)?;
+    Ok((board, seat))
+}
+
+/// The last of the cluster's replicas, with `a=1` in its pool.
+fn last_state<R: RandomSource>(
+    rt: &R,
+    alloc: Global,
+    cluster: &Cluster,
+) -> Result<State<AnyKind>, Fail> {
+    let mut states = replicas(rt, alloc, cluster)?;
+    match states.pop() {
+        Some(state) => Ok(state),
+        None => Err(Fail::from("four replicas are there")),
+    }
+}
+
+/// The replica at its seat.
+fn take_seat(state: State<AnyKind>, board: Board, seat: WriterSeat) -> Result<Seated, Fail>
+    requires { seat.board ≡ board }
+{
+    if state.id() == seat.replica() {
+        Ok(Seated { state, board, seat })
+    } else {
+        Err(Fail::from("the seat is of another replica"))
+    }
+}
+
 /// The last of four replicas, with `a=1` in its pool, and with a board on which nothing is published.
 pub(crate) fn last_of_four<R: RandomSource>(rt: &R, alloc: Global) -> Result<Seated, Fail> {
     let cluster = four()?;
-    let (board, seats, _) = Board::new(alloc, &cluster.config, 0)?;
-    let seat = last_seat(&board, seats)?;
-    let mut states = replicas(rt, alloc, &cluster)?;
-    let Some(state) = states.pop() else {
-        return Err(Fail::from("four replicas are there"));
-    };
-    if state.id() != seat.replica() {
-        return Err(Fail::from("the seat is of another replica"));
-    }
-    Ok(Seated { state, board, seat })
+    let (board, seat) = board_and_seat(alloc, &cluster)?;
+    let state = last_state(rt, alloc, &cluster)?;
+    take_seat(state, board, seat)
 }
 
 impl Seated {

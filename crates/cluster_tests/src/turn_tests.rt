@@ -4,6 +4,7 @@ use bytes::Bytes;
 use ledger_model::{Event, Height, Tx};
 use locked_replica::{ApplyFault, EventView, ReplyView};
 use std::alloc::{AllocError, Global};
+use std::random::RandomSource;
 use std::test::Fail;
 
 /// Whether the history has so many entries, and nothing of its replica is published.
@@ -66,11 +67,15 @@ fn has_both_turns(seated: &mut Seated) -> bool {
         && is_unpublished(seated, 4)
 }
 
+/// Whether a new replica takes these turns, and has what they make then.
+fn goes_through_two_turns<R: RandomSource>(rt: &R, alloc: Global) -> Result<bool, Fail> {
+    let mut seated = last_of_four(rt, alloc)?;
+    Ok(takes_two_turns(alloc, &mut seated)? && has_both_turns(&mut seated))
+}
+
 #[test]
 fn a_turn_takes_its_events_in_order(rt: HostRuntime) -> Result<(), Fail> {
-    let mut seated = last_of_four(&rt, rt.alloc())?;
-    assert!(rt; takes_two_turns(rt.alloc(), &mut seated)?);
-    assert!(rt; has_both_turns(&mut seated));
+    assert!(rt; goes_through_two_turns(&rt, rt.alloc())?);
     Ok(())
 }
 
@@ -91,10 +96,15 @@ fn is_refused_where_full(alloc: Global, seated: &mut Seated) -> Result<bool, Fai
     Ok(is_filled && seated.turn(events) == Err(ApplyFault::HistoryFull))
 }
 
+/// Whether a new replica comes to the end of its history so, and keeps what it took.
+fn fills_its_history<R: RandomSource>(rt: &R, alloc: Global) -> Result<bool, Fail> {
+    let mut seated = last_of_four(rt, alloc)?;
+    let is_refused = is_refused_where_full(alloc, &mut seated)?;
+    Ok(is_refused && has_submitted(&seated, 65_535, b"b=2") && is_unpublished(&mut seated, 65_536))
+}
+
 #[test]
 fn a_turn_ends_where_the_history_is_full(rt: HostRuntime) -> Result<(), Fail> {
-    let mut seated = last_of_four(&rt, rt.alloc())?;
-    assert!(rt; is_refused_where_full(rt.alloc(), &mut seated)?);
-    assert!(rt; has_submitted(&seated, 65_535, b"b=2") && is_unpublished(&mut seated, 65_536));
+    assert!(rt; fills_its_history(&rt, rt.alloc())?);
     Ok(())
 }
