@@ -17,7 +17,6 @@ use std::marker::Model;
 /// It has the states of the correct replicas and the key pairs of the liars. Its type keeps that what happened is a run of the
 /// definitions, that each correct replica's application is what it is run alone on the replica's blocks, and that no more
 /// replicas lie than may.
-#[derive(Drop)]
 pub struct World<A: Application> {
     pub(crate) config: Config,
     pub(crate) ring: KeyRing,
@@ -25,6 +24,18 @@ pub struct World<A: Application> {
     pub(crate) parties: Vec<Party<CorrectReplica<A>>>,
     /// To which replica each entry went.
     pub(crate) order: Vec<ReplicaId>,
+}
+
+// It is dropped by a function of its own, so that whoever owns one drops it by a single call.
+impl<A: Application> Drop for World<A> {
+    fn drop(self) {
+        let World {
+            config: _config,
+            ring: _ring,
+            parties: _parties,
+            order: _order,
+        } = self;
+    }
 }
 
 impl<A: Application> Model for World<A> {

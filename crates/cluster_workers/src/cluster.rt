@@ -15,10 +15,19 @@ use std::marker::Model;
 use std::sync::{Arc, Mutex};
 
 /// The replicas of a running cluster by number, and the board of their heights. Threads share it by `&`.
-#[derive(Drop)]
 pub struct Cluster<A: Application> {
     replicas: Vec<Arc<LockedReplica<A>>>,
     board: Arc<Board>,
+}
+
+// It is dropped by a function of its own, so that whoever owns one drops it by a single call.
+impl<A: Application> Drop for Cluster<A> {
+    fn drop(self) {
+        let Cluster {
+            replicas: _replicas,
+            board: _board,
+        } = self;
+    }
 }
 
 impl<A: Application> Model for Cluster<A> {

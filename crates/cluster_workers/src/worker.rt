@@ -19,7 +19,6 @@ const MAX_FRAMES: usize = 64;
 const MAX_EARLY: usize = 1024;
 
 /// The worker of one replica. A thread of its own runs it.
-#[derive(Drop)]
 pub struct Worker<A: Application> {
     alloc: Global,
     replica: Arc<LockedReplica<A>>,
@@ -37,6 +36,25 @@ pub struct Worker<A: Application> {
     waiting: Vec<Bytes>,
     /// How many frames were put into inboxes since the clock was asked.
     sent: usize,
+}
+
+// It is dropped by a function of its own, so that whoever owns one drops it by a single call.
+impl<A: Application> Drop for Worker<A> {
+    fn drop(self) {
+        let Worker {
+            alloc: _alloc,
+            replica: _replica,
+            post: _post,
+            inlet: _inlet,
+            outlets: _outlets,
+            rounds: _rounds,
+            ended: _ended,
+            proposed: _proposed,
+            early: _early,
+            waiting: _waiting,
+            sent: _sent,
+        } = self;
+    }
 }
 
 /// What one pass of a worker's loop did.

@@ -9,7 +9,6 @@ use std::marker::Model;
 use tally::Tally;
 
 /// Agreement at one height. Contracts see a `Row`.
-#[derive(Drop)]
 pub struct Instance {
     pub(crate) config: Config,
     pub(crate) id: ReplicaId,
@@ -23,6 +22,24 @@ pub struct Instance {
     /// The value of the lock that was made in the open phase.
     pub(crate) made: Option<Batch>,
     pub(crate) decided: Option<Batch>,
+}
+
+// It is dropped by a function of its own, so that whoever owns one drops it by a single call.
+impl Drop for Instance {
+    fn drop(self) {
+        let Instance {
+            config: _config,
+            id: _id,
+            height: _height,
+            proper: _proper,
+            locks: _locks,
+            reports: _reports,
+            acks: _acks,
+            taken: _taken,
+            made: _made,
+            decided: _decided,
+        } = self;
+    }
 }
 
 impl Model for Instance {

@@ -17,10 +17,19 @@ pub const MAX_ENTRIES: usize = 65_536;
 ///
 /// Its type keeps that the history is a replay, each entry lawful after those before it and each signature in a reply
 /// verified, and that what is kept is what the history makes of it.
-#[derive(Drop)]
 pub struct State<A: Application> {
     core: Core<A>,
     entries: Vec<Entry>,
+}
+
+// It is dropped by a function of its own, so that whoever owns one drops it by a single call.
+impl<A: Application> Drop for State<A> {
+    fn drop(self) {
+        let State {
+            core: _core,
+            entries: _entries,
+        } = self;
+    }
 }
 
 impl<A: Application> Model for State<A> {

@@ -11,7 +11,6 @@ use std::marker::Model;
 
 /// The open heights, the pool, the application and what was committed to it, the open round, and whether the replica is mute.
 /// Contracts see a `Held`.
-#[derive(Drop)]
 pub(crate) struct Kept<A: Application> {
     pub(crate) config: Config,
     pub(crate) id: ReplicaId,
@@ -22,6 +21,23 @@ pub(crate) struct Kept<A: Application> {
     pub(crate) committed: Vec<Batch>,
     pub(crate) clock: u32,
     pub(crate) mute: bool,
+}
+
+// It is dropped by a function of its own, so that whoever owns one drops it by a single call.
+impl<A: Application> Drop for Kept<A> {
+    fn drop(self) {
+        let Kept {
+            config: _config,
+            id: _id,
+            ring: _ring,
+            rows: _rows,
+            pool: _pool,
+            executor: _executor,
+            committed: _committed,
+            clock: _clock,
+            mute: _mute,
+        } = self;
+    }
 }
 
 impl<A: Application> Model for Kept<A> {

@@ -9,10 +9,19 @@ use std::hash::RandomState;
 use std::marker::Model;
 
 /// A cluster that is simulated: the world, and the frames of what its liars have signed.
-#[derive(Drop)]
 pub struct Simulation<A: Application> {
     pub(crate) world: World<A>,
     pub(crate) lies: Vec<Bytes>,
+}
+
+// It is dropped by a function of its own, so that whoever owns one drops it by a single call.
+impl<A: Application> Drop for Simulation<A> {
+    fn drop(self) {
+        let Simulation {
+            world: _world,
+            lies: _lies,
+        } = self;
+    }
 }
 
 impl<A: Application> Model for Simulation<A> {

@@ -11,12 +11,23 @@ const SIGNATURE_LEN: [u8; 2] = [0x09, 0x2c];
 
 /// Replicas that sign, each with a key pair of its own, of width 4 and height 5. The key pair of replica `r` has an identifier
 /// and a seed whose bytes are all `r + 1`.
-#[derive(Drop)]
 pub struct Cluster {
     alloc: Global,
     config: Config,
     ring: KeyRing,
     signers: Vec<Signer>,
+}
+
+// It is dropped by a function of its own, so that whoever owns one drops it by a single call.
+impl Drop for Cluster {
+    fn drop(self) {
+        let Cluster {
+            alloc: _alloc,
+            config: _config,
+            ring: _ring,
+            signers: _signers,
+        } = self;
+    }
 }
 
 fn signer_of(alloc: Global, number: u8) -> Result<Signer, BuildFault> {

@@ -1,0 +1,6 @@
+use Rattle.std.proofs.Common.{arith}
+use Rattle.std.proofs.lemmas.Grind.{common_steps}
+use Rattle.adversary_net.proofs.creation.ring_of_signers.Goals as goal
+
+pub loop-signer-preserved : goal.loop-signer-preserved
+loop-signer-preserved c = grind (arith, common_steps)
