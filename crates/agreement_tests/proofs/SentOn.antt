@@ -1,6 +1,6 @@
 -- The first frame that is sent on.
-use Rattle.std.proofs.Common.{◌≡◌, ℕ, true, List, [], ◌∷◌, sym, subst, ◌∙◌}
-use Rattle.std.specs.Prelude.{Some, None, slice_get}
+use Rattle.std.proofs.Common.{◌≡◌, ℕ, true, List, [], ◌∷◌, subst}
+use Rattle.std.specs.Prelude.{Some, slice_get}
 use Rattle.std.specs.List.{AllByRecursion}
 use Rattle.ledger_model.specs.declared.statement.SignedStatement.{SignedStatement}
 use Rattle.ledger_model.specs.Reading.{reading}
@@ -15,14 +15,3 @@ module _ (ring : Ring) (height : ℕ) where
   first_reads (x ∷ xs) bytes all at =
       let same : x ≡ bytes = cc in
       (as_statement all.0.lock, (subst (λ b. reading b ≡ Some (as_statement all.0.lock)) same all.0.reads, all.0.signed))
-
-  pub first_signed : (sent : List (List ℕ)) (bytes : List ℕ) (frame : SignedStatement) → AllByRecursion (IsLockSentOn ring height) sent
-      → slice_get sent 0 ≡ Some bytes → reading bytes ≡ Some frame → is_signed ring frame ≡ true
-  first_signed sent bytes frame all at reads =
-      let found = first_reads sent bytes all at in
-      let same : found.0 ≡ frame = cc (sym found.1.0 ∙ reads) in
-      subst (λ s. is_signed ring s ≡ true) same found.1.1
-
-  pub first_is_one : (sent : List (List ℕ)) (bytes : List ℕ) → AllByRecursion (IsLockSentOn ring height) sent
-      → slice_get sent 0 ≡ Some bytes → reading bytes ≡ None → ⊥
-  first_is_one sent bytes all at none = (let found = first_reads sent bytes all at in let no : Some found.0 ≡ None = sym found.1.0 ∙ none in cc)

@@ -5,17 +5,21 @@ ghost use Rattle.std.specs.Prelude.{◌≡◌, ◌<◌, ◌≤◌, ◌+◌, List
 ghost use Rattle.ledger_model.specs.Limits.{last_round};
 ghost use Rattle.ledger_model.specs.Notes.{Note, clock_of, signer_of};
 ghost use Rattle.ledger_model.specs.Logs.{height_of};
-ghost use Rattle.ledger_model.specs.Rules.{answer_to};
+ghost use Rattle.ledger_model.specs.Rules.{answer_to, is_signed};
+ghost use Rattle.ledger_model.specs.Reading.{reading};
+ghost use Rattle.ledger_model.specs.Spelling.{IsStatement};
+ghost use Rattle.ledger_model.specs.declared.statement.SignedStatement.{SignedStatement};
 ghost use Rattle.instance.specs.Rows.{Row};
 ghost use Rattle.instance.specs.Matching.{Matches};
 ghost use Rattle.instance.specs.Laws.{opened_by};
 ghost use Rattle.instance.specs.declared.made.Made.TheVariants as made;
 ghost use Rattle.height_row.specs.Heights.{row_at};
 
+use bytes::Bytes;
 use height_row::HeightRow;
 use instance::{Instance, Made, OwnFrame, Plan};
 use key_ring::{KeyRing, Signer};
-use ledger_model::Ignored;
+use ledger_model::{Ignored, Statement};
 use lock_proofs::is_signed;
 use signed_frames::{Frame, UnsignedFrame};
 use statements::DecodeFault;
@@ -39,6 +43,18 @@ pub(crate) fn reads_in_the_cluster(
     row.read(alloc, ring, frame, clock)
 }
 
+// The statement that is planned, if any is.
+fn planned(alloc: Global, instance: &Instance, clock: u32) -> Option<Statement>
+    requires clock { clock < last_round }
+    ensures spelled { IfSome result IsStatement }
+    ensures own { IfSome result (λ s. signer_of s ≡ instance.now.id) }
+{
+    match instance.plan_end(alloc, clock) {
+        Ok(Plan { statement, .. }) => statement,
+        Err(_) => None,
+    }
+}
+
 /// Signs what is planned, if anything is, and frames it. No log is at hand.
 pub(crate) fn frame_of_plan(
     alloc: Global,
@@ -49,10 +65,7 @@ pub(crate) fn frame_of_plan(
     requires clock { clock < last_round }
     ensures { IfSome result (λ frame. signer_of frame.statement ≡ instance.now.id) }
 {
-    let Ok(Plan { statement, .. }) = instance.plan_end(alloc, clock) else {
-        return None;
-    };
-    let statement = statement?;
+    let statement = planned(alloc, instance, clock)?;
     let Ok(unsigned) = UnsignedFrame::new(alloc, statement) else {
         return None;
     };
@@ -60,6 +73,18 @@ pub(crate) fn frame_of_plan(
         return None;
     };
     unsigned.with_signature(&signature).ok()
+}
+
+// Whether the frame of these bytes is signed. It always is, where they spell a signed statement.
+fn is_signed_frame(alloc: Global, ring: &KeyRing, bytes: &Bytes) -> Result<bool, AllocError>
+    requires signed { (s : SignedStatement) × ((reading bytes.now ≡ Some s) × (is_signed ring.now s ≡ true)) }
+    ensures { IfOk result (λ yes. yes ≡ true) }
+{
+    match Frame::parse(alloc, bytes.clone()?) {
+        Ok(frame) => Ok(is_signed(ring, &frame)),
+        Err(DecodeFault::Malformed) => Ok(false),
+        Err(DecodeFault::NoMemory) => Err(AllocError),
+    }
 }
 
 /// Whether what is sent on first, if anything is, is a signed lock. It always is, where some log is matched.
@@ -74,13 +99,9 @@ pub(crate) fn sends_on_signed_locks(
     ensures { IfOk result (λ yes. yes ≡ true) }
 {
     let ending = instance.prepare_end(alloc, clock)?;
-    let Some(bytes) = ending.sends_on().first() else {
-        return Ok(true);
-    };
-    match Frame::parse(alloc, bytes.clone()?) {
-        Ok(frame) => Ok(is_signed(ring, &frame)),
-        Err(DecodeFault::Malformed) => Ok(false),
-        Err(DecodeFault::NoMemory) => Err(AllocError),
+    match ending.sends_on().first() {
+        Some(bytes) => is_signed_frame(alloc, ring, bytes),
+        None => Ok(true),
     }
 }
 
@@ -102,8 +123,8 @@ pub(crate) fn closes_with(
     if !instance.may_make(clock, Some(frame.statement())) || !is_signed(ring, &frame) {
         return Ok(false);
     }
+    let made = Made::Sent(OwnFrame::new(alloc, frame)?);
     let ending = instance.prepare_end(alloc, clock)?;
-    let own = OwnFrame::new(alloc, frame)?;
-    instance.close(ending, Made::Sent(own), clock);
+    instance.close(ending, made, clock);
     Ok(true)
 }

@@ -5,24 +5,14 @@ ghost use Rattle.ledger_model.specs.Notes.{signer_of};
 ghost use Rattle.ledger_model.specs.Spelling.{IsStatement};
 ghost use Rattle.instance.specs.Plans.{IsOwnMade};
 
-use super::frames::{opened, parsed};
+use super::replica::Replica;
 use bytes::Bytes;
-use instance::{Ending, Instance, Made, OwnFrame, Plan};
+use instance::{Ending, Made, OwnFrame, Plan};
+use key_ring::KeyRing;
 use ledger_model::{Signature, Statement};
 use signed_frames::{Frame, UnsignedFrame};
 use std::alloc::{AllocError, Global};
 use test_support::{Cluster, value};
-
-// A replica at height 1, and the round that is open.
-#[derive(Drop)]
-struct Member {
-    alloc: Global,
-    number: u8,
-    instance: Instance,
-    clock: u32,
-    ghost own: { instance.id ≡ number },
-    ghost four: { instance.config.replicas ≡ 4 },
-}
 
 // The frame of the statement, which its signer signs.
 fn framed(alloc: Global, cluster: &mut Cluster, statement: Statement) -> Option<Frame>
@@ -80,20 +70,9 @@ fn put_sent(frames: &mut Vec<Bytes>, ending: &Ending, made: &Made) -> bool {
     are_put
 }
 
-impl Member {
-    // Its own value is [a=1], and no round is open.
-    fn open(alloc: Global, number: u8) -> Option<Self> {
-        let instance = opened(alloc, number)?;
-        Some(Member {
-            alloc,
-            number,
-            instance,
-            clock: 0,
-        })
-    }
-
+impl Replica {
     // The next round opens, and the frames that are sent are put beside the others. Whether there was memory.
-    fn ends_round(&mut self, cluster: &mut Cluster, frames: &mut Vec<Bytes>) -> bool {
+    fn sends_round(&mut self, cluster: &mut Cluster, frames: &mut Vec<Bytes>) -> bool {
         if self.clock >= 1000 {
             return false;
         }
@@ -112,34 +91,21 @@ impl Member {
     // The frames that it sends as the next round opens.
     fn frames_of_round(&mut self, cluster: &mut Cluster) -> Option<Vec<Bytes>> {
         let mut frames = Vec::new(self.alloc);
-        if self.ends_round(cluster, &mut frames) {
+        if self.sends_round(cluster, &mut frames) {
             Some(frames)
         } else {
             None
         }
     }
 
-    // A frame comes in, which may be ignored.
-    fn read(&mut self, cluster: &Cluster, bytes: &[u8]) -> Option<()> {
-        let frame = parsed(self.alloc, bytes)?;
-        if self.clock > 1000
-            || frame.statement().signer().number() >= 4
-            || frame.statement().height() != self.instance.height()
-        {
-            return None;
-        }
-        let ring = cluster.ring();
-        let read = self.instance.read(self.alloc, ring, frame, self.clock);
-        let _ = read.ok()?;
-        Some(())
-    }
-
-    // Each of the frames comes in.
-    fn read_all(&mut self, cluster: &Cluster, frames: &[Bytes]) -> Option<()> {
+    // Each of the frames comes in, which may be ignored. Whether each could.
+    fn reads_all(&mut self, ring: &KeyRing, frames: &[Bytes]) -> bool {
         for frame in frames {
-            self.read(cluster, frame.as_slice())?;
+            if self.ignores(ring, frame.as_slice()).is_none() {
+                return false;
+            }
         }
-        Some(())
+        true
     }
 
     // Whether it has decided its own value.
@@ -152,62 +118,59 @@ impl Member {
     }
 }
 
-fn put_four(alloc: Global, members: &mut Vec<Member>) -> Option<()> {
+fn put_four(alloc: Global, replicas: &mut Vec<Replica>) -> Option<()> {
     for number in 0..4 {
-        members.push(Member::open(alloc, number)?).ok()?;
+        replicas.push(Replica::open(alloc, number)?).ok()?;
     }
     Some(())
 }
 
-fn four_members(alloc: Global) -> Option<Vec<Member>> {
-    let mut members = Vec::new(alloc);
-    put_four(alloc, &mut members)?;
-    Some(members)
+fn four_replicas(alloc: Global) -> Option<Vec<Replica>> {
+    let mut replicas = Vec::new(alloc);
+    put_four(alloc, &mut replicas)?;
+    Some(replicas)
 }
 
 // Every replica's round ends: the frames that each sends.
 fn end_rounds(
-    members: &mut [Member],
+    replicas: &mut [Replica],
     cluster: &mut Cluster,
     sent: &mut Vec<Vec<Bytes>>,
 ) -> Option<()> {
-    for member in members.iter_mut() {
-        sent.push(member.frames_of_round(cluster)?).ok()?;
+    for replica in replicas.iter_mut() {
+        sent.push(replica.frames_of_round(cluster)?).ok()?;
     }
     Some(())
 }
 
-// A replica reads what the others sent.
-fn read_others(
-    member: &mut Member,
-    number: usize,
-    cluster: &Cluster,
-    sent: &[Vec<Bytes>],
-) -> Option<()> {
+// A replica reads what the others sent. Whether it could.
+fn reads_others(replica: &mut Replica, ring: &KeyRing, sent: &[Vec<Bytes>]) -> bool {
     for (sender, frames) in sent.iter().enumerate() {
-        if sender != number {
-            member.read_all(cluster, frames)?;
+        if sender != usize::from(replica.number) && !replica.reads_all(ring, frames) {
+            return false;
         }
     }
-    Some(())
+    true
 }
 
 // Whether each sent so many frames.
 fn have_lens(sent: &[Vec<Bytes>], counts: [usize; 4]) -> bool {
-    for (frames, count) in sent.iter().zip(&counts) {
-        if frames.len() != *count {
-            return false;
+    match sent {
+        [first, second, third, fourth] => {
+            [first.len(), second.len(), third.len(), fourth.len()] == counts
         }
+        _ => false,
     }
-    sent.len() == 4
 }
 
 // Every replica's round ends, and then each reads what the others sent. Whether each sent so many frames.
-fn pass_round(members: &mut [Member], cluster: &mut Cluster, counts: [usize; 4]) -> Option<bool> {
-    let mut sent = Vec::new(members.first()?.alloc);
-    end_rounds(members, cluster, &mut sent)?;
-    for (number, member) in members.iter_mut().enumerate() {
-        read_others(member, number, cluster, &sent)?;
+fn pass_round(replicas: &mut [Replica], cluster: &mut Cluster, counts: [usize; 4]) -> Option<bool> {
+    let mut sent = Vec::new(replicas.first()?.alloc);
+    end_rounds(replicas, cluster, &mut sent)?;
+    for replica in replicas.iter_mut() {
+        if !reads_others(replica, cluster.ring(), &sent) {
+            return None;
+        }
     }
     Some(have_lens(&sent, counts))
 }
@@ -216,11 +179,11 @@ fn pass_round(members: &mut [Member], cluster: &mut Cluster, counts: [usize; 4])
 #[test]
 fn the_owner_of_the_first_phase_decides(rt: HostRuntime) {
     let mut cluster = Cluster::new(rt.alloc(), 4, 1).expect(&rt, "a cluster");
-    let mut members = four_members(rt.alloc()).expect(&rt, "four replicas");
+    let mut replicas = four_replicas(rt.alloc()).expect(&rt, "four replicas");
     for counts in [[1, 1, 1, 1], [0, 1, 0, 0], [1, 0, 1, 1], [1, 1, 1, 1]] {
-        assert!(rt; pass_round(&mut members, &mut cluster, counts) == Some(true));
+        assert!(rt; pass_round(&mut replicas, &mut cluster, counts) == Some(true));
     }
-    for (number, member) in members.iter().enumerate() {
-        assert!(rt; member.has_decided() == Some(number == 1));
+    for (number, replica) in replicas.iter().enumerate() {
+        assert!(rt; replica.has_decided() == Some(number == 1));
     }
 }

@@ -1,11 +1,8 @@
 //! One height at one of four replicas, which is mute: what it reads, what it is to make, and what it sends on.
 
-ghost use Rattle.std.specs.Prelude.{◌≡◌};
-
-use super::frames::{opened, parsed};
+use super::replica::Replica;
 use bytes::Bytes;
-use instance::{Instance, Made, Plan};
-use key_ring::KeyRing;
+use instance::{Made, Plan};
 use ledger_model::{Ack, Batch, Ignored, Lock, Report, Statement};
 use std::alloc::Global;
 use test_support::{Cluster, ack_bytes, report_bytes};
@@ -22,26 +19,7 @@ enum Task<'a> {
     SendOn(&'a [u8]),
 }
 
-// A replica at height 1, and the round that is open.
-#[derive(Drop)]
-struct Replica {
-    alloc: Global,
-    instance: Instance,
-    clock: u32,
-    ghost four: { instance.config.replicas ≡ 4 },
-}
-
 impl Replica {
-    // Its own value is [a=1], and no round is open.
-    fn open(alloc: Global, number: u8) -> Option<Self> {
-        let instance = opened(alloc, number)?;
-        Some(Replica {
-            alloc,
-            instance,
-            clock: 0,
-        })
-    }
-
     // What the replica is to do as the next round opens.
     fn plan(&self) -> Option<Plan> {
         if self.clock >= 1000 {
@@ -53,7 +31,7 @@ impl Replica {
     // Whether this is what it is to do as the next round opens.
     fn plans(&self, task: Task<'_>) -> bool {
         match self.plan() {
-            Some(plan) => is_planned(&plan, task),
+            Some(Plan { statement, ending }) => is_planned(&statement, ending.sends_on(), task),
             None => false,
         }
     }
@@ -83,21 +61,6 @@ impl Replica {
     // Whether nothing is decided at height 1.
     fn is_undecided(&self) -> bool {
         self.instance.height().number() == 1 && self.instance.decided().is_none()
-    }
-
-    // Why the frame is ignored, if it is.
-    fn ignores(&mut self, ring: &KeyRing, bytes: &[u8]) -> Option<Option<Ignored>> {
-        let frame = parsed(self.alloc, bytes)?;
-        if self.clock > 1000
-            || frame.statement().signer().number() >= 4
-            || frame.statement().height() != self.instance.height()
-        {
-            return None;
-        }
-        match self.instance.read(self.alloc, ring, frame, self.clock) {
-            Ok(answer) => Some(answer.err()),
-            Err(_) => None,
-        }
     }
 }
 
@@ -145,9 +108,8 @@ fn is_just(frames: &[Bytes], frame: &[u8]) -> bool {
     }
 }
 
-fn is_planned(plan: &Plan, task: Task<'_>) -> bool {
-    let frames = plan.ending.sends_on();
-    match (task, &plan.statement) {
+fn is_planned(statement: &Option<Statement>, frames: &[Bytes], task: Task<'_>) -> bool {
+    match (task, statement) {
         (Task::Nothing, None) => frames.is_empty(),
         (Task::Report(phase), Some(Statement::Report(report))) => is_report(report, phase),
         (Task::Lock, Some(Statement::Lock(lock))) => is_lock(lock),
@@ -330,36 +292,29 @@ fn a_lock_is_acknowledged_and_sent_on(rt: HostRuntime) {
 }
 
 // Whether the lock of phase 2 comes in the place of that of phase 1 on its value: it is read and sent on.
-fn is_renewed(scene: &mut Scene, second: &[u8]) -> bool {
+fn is_renewed(scene: &mut Scene) -> bool {
+    let Ok(second) = scene.cluster.lock_frame(2, 2, b'a', 3) else {
+        return false;
+    };
     scene.replica.ends_rounds(4)
-        && scene.reads(second)
+        && scene.reads(&second)
         && scene.replica.ends_round()
-        && scene.replica.plans(Task::SendOn(second))
+        && scene.replica.plans(Task::SendOn(&second))
         && scene.replica.ends_round()
 }
 
 // Whether the lock on another value, read in the lock-release round, ends it: nothing is sent on in the next phase.
-fn is_released(scene: &mut Scene, other: &[u8]) -> bool {
-    scene.reads(other) && scene.replica.ends_rounds(3) && scene.replica.plans(Task::Nothing)
+fn is_released(scene: &mut Scene) -> bool {
+    scene.answers_lock((2, 2, b'b', 3), None)
+        && scene.replica.ends_rounds(3)
+        && scene.replica.plans(Task::Nothing)
 }
 
 // A lock is renewed by a later one on its value, and ended in a lock-release round by one on another value.
 #[test]
 fn a_lock_is_renewed_and_released(rt: HostRuntime) {
     let mut scene = Scene::new(rt.alloc(), 0, 2).expect(&rt, "a scene");
-    let first = scene
-        .cluster
-        .lock_frame(1, 1, b'a', 3)
-        .expect(&rt, "a lock");
-    let second = scene
-        .cluster
-        .lock_frame(2, 2, b'a', 3)
-        .expect(&rt, "a lock");
-    let other = scene
-        .cluster
-        .lock_frame(2, 2, b'b', 3)
-        .expect(&rt, "a lock");
-    assert!(rt; scene.reads(&first));
-    assert!(rt; is_renewed(&mut scene, &second));
-    assert!(rt; is_released(&mut scene, &other));
+    assert!(rt; scene.answers_lock((1, 1, b'a', 3), None));
+    assert!(rt; is_renewed(&mut scene));
+    assert!(rt; is_released(&mut scene));
 }

@@ -19,6 +19,8 @@ mod proper_tests;
 #[cfg(test)]
 mod read_reports;
 #[cfg(test)]
+mod replica;
+#[cfg(test)]
 mod row_tests;
 #[cfg(test)]
 mod table_tests;

@@ -4,11 +4,15 @@ ghost use Rattle.std.specs.Prelude.{◌≡◌};
 
 use super::frames::parsed;
 use height_row::HeightRow;
-use instance::{Made, Plan};
+use instance::{Instance, Made, Plan};
 use key_ring::KeyRing;
 use ledger_model::{AppKind, Config, Height, Ignored, ProposeRefusal, ReplicaId, Statement};
 use std::alloc::Global;
 use test_support::{Cluster, report_bytes, value};
+
+fn number_of(instance: &Instance) -> u32 {
+    instance.height().number()
+}
 
 #[derive(Drop)]
 struct Replica {
@@ -114,14 +118,14 @@ impl Replica {
     }
 
     // Whether these are the open heights, as they stand.
-    fn has_open(&self, wanted: &[u32]) -> bool {
-        let open = self.row.instances();
-        for (instance, height) in open.iter().zip(wanted) {
-            if instance.height().number() != *height {
-                return false;
+    fn has_open(&self, wanted: [u32; 4]) -> bool {
+        match self.row.instances() {
+            [first, second, third, fourth] => {
+                (number_of(first), number_of(second)) == (wanted[0], wanted[1])
+                    && (number_of(third), number_of(fourth)) == (wanted[2], wanted[3])
             }
+            _ => false,
         }
-        open.len() == wanted.len()
     }
 }
 
@@ -152,7 +156,7 @@ fn a_height_is_refused_by_the_first_cause(rt: HostRuntime) {
 fn open_heights_ascend(rt: HostRuntime) {
     let mut replica = Replica::new(rt.alloc()).expect(&rt, "a replica");
     assert!(rt; replica.opens(&[3, 1, 4, 2]));
-    assert!(rt; replica.has_open(&[1, 2, 3, 4]));
+    assert!(rt; replica.has_open([1, 2, 3, 4]));
 }
 
 fn ends_phase(replica: &mut Replica) -> bool {

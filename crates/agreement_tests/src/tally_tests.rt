@@ -73,10 +73,10 @@ fn every_replica_of_the_greatest_cluster_has_a_place(rt: HostRuntime) {
     assert!(rt; adds_thirteen(&mut tally) == Some(true));
 }
 
-// Acknowledgements of replicas 0, 1, 2, and so on, of these phases on these values.
-fn add_acks(alloc: Global, acks: &mut Tally<Ack>, told: &[(u32, &[u8])]) -> Option<()> {
-    for (signer, (phase, bytes)) in (0u8..13).zip(told) {
-        add(acks, signer, ack(alloc, *phase, signer, bytes).ok()?)?;
+// Acknowledgements of these replicas, of these phases on these values.
+fn add_acks(alloc: Global, acks: &mut Tally<Ack>, told: &[(u8, u32, &[u8])]) -> Option<()> {
+    for &(signer, phase, bytes) in told {
+        add(acks, signer, ack(alloc, phase, signer, bytes).ok()?)?;
     }
     Some(())
 }
@@ -86,7 +86,7 @@ fn count_of(acks: &Tally<Ack>, phase: u32, value: &Batch) -> usize {
 }
 
 // How many acknowledge `x=1` in phase 2, and in phase 1.
-fn counted(alloc: Global, told: &[(u32, &[u8])]) -> Option<(usize, usize)> {
+fn counted(alloc: Global, told: &[(u8, u32, &[u8])]) -> Option<(usize, usize)> {
     let value = value(alloc, b"x=1").ok()?;
     let mut acks = empty(alloc, 4, 1)?;
     add_acks(alloc, &mut acks, told)?;
@@ -95,6 +95,11 @@ fn counted(alloc: Global, told: &[(u32, &[u8])]) -> Option<(usize, usize)> {
 
 #[test]
 fn acknowledgements_count_by_phase_and_value(rt: HostRuntime) {
-    let told: [(u32, &[u8]); 4] = [(2, b"x=1"), (2, b"x=1"), (2, b"x=2"), (1, b"x=1")];
+    let told: [(u8, u32, &[u8]); 4] = [
+        (0, 2, b"x=1"),
+        (1, 2, b"x=1"),
+        (2, 2, b"x=2"),
+        (3, 1, b"x=1"),
+    ];
     assert!(rt; counted(rt.alloc(), &told) == Some((2, 1)));
 }

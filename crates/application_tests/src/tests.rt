@@ -125,14 +125,14 @@ fn tells<A: Application>(executor: &Executor<A>, height: u32, hash: [u8; 32]) ->
 }
 
 // Whether a block finds no memory at its second delivery, and leaves the executor as it began.
-fn finds_no_memory(alloc: Global, executor: &mut Executor<Counted<Refusing<Counter>>>) -> bool {
+fn finds_no_memory<A: Application>(alloc: Global, executor: &mut Executor<Counted<A>>) -> bool {
     runs(alloc, executor, &[&[0], &[1], &[2]]).is_none()
         && tells(executor, 0, COUNT_OF_ZERO)
         && executor.app().delivered() == 2
 }
 
 // Another block, which names the same numbers, is then run from the same state.
-fn counts_to_three(alloc: Global, executor: &mut Executor<Counted<Refusing<Counter>>>) -> bool {
+fn counts_to_three<A: Application>(alloc: Global, executor: &mut Executor<Counted<A>>) -> bool {
     let wanted = (1, [0, 0, 0].as_slice(), COUNT_OF_THREE);
     answers(alloc, executor, &[&[0, 0], &[0, 1], &[0, 2]], wanted)
         && executor.app().delivered() == 5
@@ -191,13 +191,14 @@ fn is_proposed_and_run<A: Application>(
         && pool.is_empty()
 }
 
-// Whether a transaction that is submitted comes into the next block, which is the second.
-fn comes_into_the_next_block(
+// Whether the first block is empty, and a transaction that is then submitted comes into the second.
+fn comes_into_the_next_block<A: Application>(
     alloc: Global,
-    executor: &mut Executor<KvStore>,
+    executor: &mut Executor<A>,
     pool: &mut Pool,
 ) -> bool {
-    submits(pool, executor.app(), b"a=1", Ok(()))
+    answers(alloc, executor, &[], (1, &[], EMPTY_STORE))
+        && submits(pool, executor.app(), b"a=1", Ok(()))
         && is_proposed_and_run(alloc, executor, pool)
         && tells(executor, 2, ONE_PAIR)
         && holds(executor, b"a", 2, b"1")
@@ -209,11 +210,7 @@ fn what_waits_is_proposed_run_and_taken_out(rt: HostRuntime) -> Result<(), Fail>
     let random = RandomState::new(&rt)?;
     let mut executor = Executor::new(KvStore::new(rt.alloc()))?;
     let mut pool = Pool::new(rt.alloc(), random);
-    let wanted = (1, [].as_slice(), EMPTY_STORE);
-    assert!(rt;
-        answers(rt.alloc(), &mut executor, &[], wanted)
-            && comes_into_the_next_block(rt.alloc(), &mut executor, &mut pool)
-    );
+    assert!(rt; comes_into_the_next_block(rt.alloc(), &mut executor, &mut pool));
     Ok(())
 }
 

@@ -2,7 +2,7 @@
 
 use super::tests::{is_run, submits};
 use super::traced::{Call, MAX_CALLS, Traced};
-use abci::QueryFault;
+use abci::{Application, QueryFault};
 use abci_executor::Executor;
 use app_kinds::Counter;
 use batch_pool::Pool;
@@ -10,8 +10,6 @@ use std::alloc::Global;
 use std::hash::RandomState;
 use std::test::Fail;
 use test_support::batch;
-
-type TracedCounter = Executor<Traced<Counter>>;
 
 /// InitChain once, then for each block BeginBlock, DeliverTx in order, EndBlock and Commit, as ABCI 0.17.0 has it; and no
 /// more calls.
@@ -28,7 +26,11 @@ const MADE: [Option<Call>; MAX_CALLS] = [
 ];
 
 // Offers one transaction and runs a block of two others, and tells whether all are accepted.
-fn offers_and_runs(alloc: Global, executor: &mut TracedCounter, pool: &mut Pool) -> bool {
+fn offers_and_runs<A: Application>(
+    alloc: Global,
+    executor: &mut Executor<A>,
+    pool: &mut Pool,
+) -> bool {
     let Ok(block) = batch(alloc, &[&[0], &[1]]) else {
         return false;
     };
@@ -36,13 +38,19 @@ fn offers_and_runs(alloc: Global, executor: &mut TracedCounter, pool: &mut Pool)
 }
 
 // Why the count is not told at a height.
-fn fault_at(executor: &TracedCounter, height: u32) -> Option<QueryFault> {
+fn fault_at<A: Application>(executor: &Executor<A>, height: u32) -> Option<QueryFault> {
     executor.query(b"count", height).err()
 }
 
 // Whether the calls that were made are those of ABCI, in its order.
-fn is_in_order(executor: &TracedCounter) -> bool {
+fn is_in_order<A: Application>(executor: &Executor<Traced<A>>) -> bool {
     executor.app().calls() == MADE
+}
+
+// Whether the last height's answer finds no memory, and another height isn't held.
+fn hands_on_faults<A: Application>(executor: &Executor<A>) -> bool {
+    let wanted = (Some(QueryFault::NoMemory), Some(QueryFault::NotHeld));
+    (fault_at(executor, 0), fault_at(executor, 2)) == wanted
 }
 
 // The executor also hands on that the application found no memory for its answer, and still tells a height that isn't held.
@@ -51,9 +59,10 @@ fn calls_come_in_order_and_faults_are_handed_on(rt: HostRuntime) -> Result<(), F
     let random = RandomState::new(&rt)?;
     let mut executor = Executor::new(Traced::new(Counter::new(rt.alloc())))?;
     let mut pool = Pool::new(rt.alloc(), random);
-    assert!(rt; offers_and_runs(rt.alloc(), &mut executor, &mut pool));
-    assert!(rt; is_in_order(&executor));
-    assert!(rt; fault_at(&executor, 0) == Some(QueryFault::NoMemory));
-    assert!(rt; fault_at(&executor, 2) == Some(QueryFault::NotHeld));
+    assert!(rt;
+        offers_and_runs(rt.alloc(), &mut executor, &mut pool)
+            && is_in_order(&executor)
+            && hands_on_faults(&executor)
+    );
     Ok(())
 }

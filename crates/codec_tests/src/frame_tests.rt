@@ -6,7 +6,7 @@ use super::spellings::{
 use bytes::Bytes;
 use signed_frames::{Frame, UnsignedFrame};
 use statements::{DecodeFault, decode};
-use std::alloc::Global;
+use std::alloc::{AllocError, Global};
 use test_support::report_bytes;
 
 fn parsed(alloc: Global, bytes: &[u8]) -> Option<Frame> {
@@ -14,32 +14,38 @@ fn parsed(alloc: Global, bytes: &[u8]) -> Option<Frame> {
     Frame::parse(alloc, copied).ok()
 }
 
-// What is seen of a frame, if there is one.
-fn seen<T, F: FnOnce(&Frame) -> T>(frame: Option<Frame>, look: F) -> Option<T>
-    requires { F.IsAlwaysCallable look }
-{
-    match frame {
-        Some(frame) => Some(look(&frame)),
-        None => None,
+// The frame of what was built.
+fn parsed_of(alloc: Global, built: Result<Vec<u8>, AllocError>) -> Option<Frame> {
+    parsed(alloc, &built.ok()?)
+}
+
+// Whether a frame has these bytes where they are shared.
+fn shares(frame: &Frame, bytes: &[u8]) -> bool {
+    match frame.share() {
+        Ok(shared) => shared.as_slice() == bytes,
+        Err(_) => false,
     }
 }
 
 // Whether a frame has these bytes, also where they are shared, and can be copied.
 fn has_bytes(frame: &Frame, bytes: &[u8]) -> bool {
-    match frame.share() {
-        Ok(shared) => {
-            frame.as_bytes() == bytes && shared.as_slice() == bytes && frame.copy().is_ok()
-        }
-        Err(_) => false,
-    }
+    frame.as_bytes() == bytes && shares(frame, bytes) && frame.copy().is_ok()
 }
 
-// Whether a frame has these bytes and those of its statement, and its signature the other ones; and its signer.
-fn shown(frame: &Frame, statement: &[u8], bytes: &[u8]) -> (bool, u8) {
-    let is_whole = has_bytes(frame, bytes)
+// Whether a frame has these bytes and those of its statement, and its signature the other ones; and this signer.
+fn is_whole(frame: &Frame, statement: &[u8], bytes: &[u8], signer: u8) -> bool {
+    has_bytes(frame, bytes)
         && frame.statement_bytes() == statement
-        && frame.signature().len() == 2348;
-    (is_whole, frame.statement().signer().number())
+        && frame.signature().len() == 2348
+        && frame.statement().signer().number() == signer
+}
+
+// Whether there is such a frame.
+fn shows(frame: Option<Frame>, statement: &[u8], bytes: &[u8], signer: u8) -> bool {
+    let Some(frame) = frame else {
+        return false;
+    };
+    is_whole(&frame, statement, bytes, signer)
 }
 
 // The statement of these bytes under a signature of bytes 7. It is spelled by them before it is signed.
@@ -51,39 +57,46 @@ fn signed(alloc: Global, statement: &[u8]) -> Option<Frame> {
     unsigned.with_signature(&[7; 2348]).ok()
 }
 
-// Whether these bytes are parsed as the frame of the statement, which its signer makes, and are built from it.
-fn is_frame(alloc: Global, statement: &[u8], bytes: &[u8], signer: u8) -> bool {
-    let wanted = Some((true, signer));
-    seen(parsed(alloc, bytes), |frame| shown(frame, statement, bytes)) == wanted
-        && seen(
-            signed(alloc, statement),
-            |frame| shown(frame, statement, bytes),
-        ) == wanted
+// Whether so many bytes were built, and are parsed as the frame of the statement by this signer, and made from it.
+fn is_frame(
+    alloc: Global,
+    built: Result<Vec<u8>, AllocError>,
+    len: usize,
+    statement: &[u8],
+    signer: u8,
+) -> bool {
+    let Ok(bytes) = built else {
+        return false;
+    };
+    bytes.len() == len
+        && shows(parsed(alloc, &bytes), statement, &bytes, signer)
+        && shows(signed(alloc, statement), statement, &bytes, signer)
 }
 
 #[test]
 fn parses_and_builds_each_kind(rt: HostRuntime) {
     let alloc = rt.alloc();
-    let report = report_frame(alloc).expect(&rt, "memory");
-    assert!(rt; is_frame(alloc, &REPORT, &report, 0) && report.len() == 2377);
-    let ack = ack_frame(alloc).expect(&rt, "memory");
-    assert!(rt; is_frame(alloc, &ACK, &ack, 2) && ack.len() == 2369);
+    assert!(rt; is_frame(alloc, report_frame(alloc), 2377, &REPORT, 0));
+    assert!(rt; is_frame(alloc, ack_frame(alloc), 2369, &ACK, 2));
     let statement = lock_statement(alloc).expect(&rt, "memory");
-    let lock = lock_frame(alloc).expect(&rt, "memory");
-    assert!(rt; is_frame(alloc, &statement, &lock, 1) && lock.len() == 9489);
+    assert!(rt; is_frame(alloc, lock_frame(alloc), 9489, &statement, 1));
 }
 
-// Whether the frame of these bytes has them when it is taken apart, and the signer of its statement.
-fn taken_apart(alloc: Global, bytes: &[u8]) -> Option<(bool, u8)> {
-    let is_whole = parsed(alloc, bytes)?.into_bytes().as_slice() == bytes;
-    let statement = parsed(alloc, bytes)?.into_statement();
-    Some((is_whole, statement.signer().number()))
+// Whether the frame of these bytes gives them away.
+fn gives_bytes(alloc: Global, bytes: &[u8]) -> Option<bool> {
+    Some(parsed(alloc, bytes)?.into_bytes().as_slice() == bytes)
+}
+
+// The signer of the statement that the frame of these bytes gives away.
+fn signer_given(alloc: Global, bytes: &[u8]) -> Option<u8> {
+    Some(parsed(alloc, bytes)?.into_statement().signer().number())
 }
 
 #[test]
 fn is_taken_apart(rt: HostRuntime) {
     let ack = ack_frame(rt.alloc()).expect(&rt, "memory");
-    assert!(rt; taken_apart(rt.alloc(), &ack) == Some((true, 2)));
+    assert!(rt; gives_bytes(rt.alloc(), &ack) == Some(true));
+    assert!(rt; signer_given(rt.alloc(), &ack) == Some(2));
 }
 
 // Whether this is the report at a place of the lock, with its signer and its signature.
@@ -103,35 +116,43 @@ fn lends_nothing(frame: &Frame, place: usize) -> bool {
     frame.lent_reports().nth(place).is_none()
 }
 
-// Whether a lock lends its three reports, and nothing behind them.
-fn lends_three(frame: &Frame) -> bool {
-    lends(frame, 0, 0, &[0; 2348])
-        && lends(frame, 1, 2, &[2; 2348])
-        && lends(frame, 2, 3, &[3; 2348])
-        && lends_nothing(frame, 3)
-        && lends_nothing(frame, usize::MAX)
+// Whether these reports are lent, each at its place with its signer and its signature, and nothing behind them.
+fn lends_each(frame: &Frame, reports: &[(usize, u8, &[u8])], behind: usize) -> bool {
+    for (place, signer, signature) in reports {
+        if !lends(frame, *place, *signer, signature) {
+            return false;
+        }
+    }
+    lends_nothing(frame, behind) && lends_nothing(frame, usize::MAX)
 }
 
-// Whether a lock of nine lends the last one, and nothing behind it.
-fn lends_the_ninth(frame: &Frame) -> bool {
-    lends(frame, 8, 8, &[8, 5]) && lends_nothing(frame, 9)
+// Whether the frame that was built lends so.
+fn is_lender(
+    alloc: Global,
+    built: Result<Vec<u8>, AllocError>,
+    reports: &[(usize, u8, &[u8])],
+    behind: usize,
+) -> bool {
+    let Some(frame) = parsed_of(alloc, built) else {
+        return false;
+    };
+    lends_each(&frame, reports, behind)
 }
 
-fn lends_none(frame: &Frame) -> bool {
-    lends_nothing(frame, 0)
-}
-
+// Of the lock of nine only the last report is asked for.
 #[test]
 fn lends_the_reports_of_locks(rt: HostRuntime) {
     let alloc = rt.alloc();
-    let lock = lock_frame(alloc).expect(&rt, "memory");
-    assert!(rt; seen(parsed(alloc, &lock), lends_three) == Some(true));
-    let long = long_lock_frame(alloc).expect(&rt, "memory");
-    assert!(rt; seen(parsed(alloc, &long), lends_the_ninth) == Some(true));
-    let report = report_frame(alloc).expect(&rt, "memory");
-    assert!(rt; seen(parsed(alloc, &report), lends_none) == Some(true));
-    let ack = ack_frame(alloc).expect(&rt, "memory");
-    assert!(rt; seen(parsed(alloc, &ack), lends_none) == Some(true));
+    let three = [
+        (0, 0, [0; 2348].as_slice()),
+        (1, 2, &[2; 2348]),
+        (2, 3, &[3; 2348]),
+    ];
+    assert!(rt; is_lender(alloc, lock_frame(alloc), &three, 3));
+    let ninth = [(8, 8, [8, 5].as_slice())];
+    assert!(rt; is_lender(alloc, long_lock_frame(alloc), &ninth, 9));
+    assert!(rt; is_lender(alloc, report_frame(alloc), &[], 0));
+    assert!(rt; is_lender(alloc, ack_frame(alloc), &[], 0));
 }
 
 fn is_malformed(alloc: Global, bytes: &[u8]) -> Option<bool> {

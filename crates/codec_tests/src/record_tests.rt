@@ -25,33 +25,37 @@ fn a_ledger_grows(rt: HostRuntime) {
     assert!(rt; are_values(rt.alloc(), ledger.blocks(), &[b"a=1", b"b=2"]) == Some(true));
 }
 
-// Whether a report names and finds `a=1`.
-fn found(alloc: Global, told: &Told<'_>) -> Option<(bool, bool)> {
-    let value = value(alloc, b"a=1").ok()?;
+// Whether a report that tells this names and finds a value.
+fn found_in(alloc: Global, told: &Told<'_>, value: &Batch) -> Option<(bool, bool)> {
     let report = report(alloc, told).ok()?;
-    Some((report.names(&value), report.finds(&value)))
+    Some((report.names(value), report.finds(value)))
 }
 
-// What a report with ALL or not tells, which names these values and holds locks on those.
-fn telling<'a>(all: bool, proper: &'a [&'a [u8]], locked: &'a [&'a [u8]]) -> Told<'a> {
-    Told {
+// The same of `a=1` and a report with ALL or not, which names these values and holds locks on those.
+fn found(alloc: Global, all: bool, proper: &[&[u8]], locked: &[&[u8]]) -> Option<(bool, bool)> {
+    let told = Told {
         all,
         locked,
         ..naming(0, b"a=1", proper)
-    }
+    };
+    let value = value(alloc, b"a=1").ok()?;
+    found_in(alloc, &told, &value)
 }
+
+// Reports with ALL or not, the values that they name and lock, and whether they name and find `a=1`.
+const REPORTS: [(bool, &[&[u8]], &[&[u8]], (bool, bool)); 6] = [
+    (false, &[b"a=1"], &[], (true, true)),
+    (false, &[b"b=2"], &[], (false, false)),
+    (true, &[b"b=2"], &[], (true, true)),
+    (false, &[b"a=1"], &[b"a=1"], (true, true)),
+    (false, &[b"a=1"], &[b"a=1", b"b=2"], (true, false)),
+    (false, &[b"b=2"], &[b"a=1"], (false, false)),
+];
 
 #[test]
 fn what_reports_name_and_find(rt: HostRuntime) {
-    for (told, wanted) in [
-        (telling(false, &[b"a=1"], &[]), (true, true)),
-        (telling(false, &[b"b=2"], &[]), (false, false)),
-        (telling(true, &[b"b=2"], &[]), (true, true)),
-        (telling(false, &[b"a=1"], &[b"a=1"]), (true, true)),
-        (telling(false, &[b"a=1"], &[b"a=1", b"b=2"]), (true, false)),
-        (telling(false, &[b"b=2"], &[b"a=1"]), (false, false)),
-    ] {
-        assert!(rt; found(rt.alloc(), &told) == Some(wanted));
+    for &(all, proper, locked, wanted) in &REPORTS {
+        assert!(rt; found(rt.alloc(), all, proper, locked) == Some(wanted));
     }
 }
 

@@ -67,6 +67,16 @@ fn lens_as_read(alloc: Global, bytes: &[u8]) -> Option<(usize, usize)> {
     }
 }
 
+// Whether the statement of these bytes is shown so, and has these lengths.
+fn are_read(
+    alloc: Global,
+    bytes: &[u8],
+    wanted: (char, (u8, u32, u32)),
+    lens: (usize, usize),
+) -> bool {
+    seen(decode(alloc, bytes), shown) == Some(wanted) && lens_as_read(alloc, bytes) == Some(lens)
+}
+
 // An acknowledgement of a batch of transactions of one length, whose count and lengths may be wrong.
 fn batch_bytes(alloc: Global, count: u8, len: u8) -> Result<Vec<u8>, AllocError> {
     let mut bytes = joined(alloc, &[&ACK[..10], &[count]])?;
@@ -83,21 +93,29 @@ fn put_transactions(bytes: &mut Vec<u8>, count: u8, len: u8) -> Result<(), Alloc
     Ok(())
 }
 
+// Whether what was built is read so.
+fn are_built(
+    alloc: Global,
+    built: Result<Vec<u8>, AllocError>,
+    wanted: (char, (u8, u32, u32)),
+    lens: (usize, usize),
+) -> bool {
+    match &built {
+        Ok(bytes) => are_read(alloc, bytes, wanted, lens),
+        Err(_) => false,
+    }
+}
+
 #[test]
 fn reads_and_writes_statements(rt: HostRuntime) {
     let alloc = rt.alloc();
-    let lock = lock_of(alloc, 3, &[0, 2, 3]).expect(&rt, "memory");
-    let batch = batch_bytes(alloc, 16, 64).expect(&rt, "memory");
-    for (bytes, wanted, lens) in [
-        (REPORT.as_slice(), ('r', (0, 1, 1)), (23, 23)),
-        (&ALL_REPORT, ('r', (9, 2, 3)), (21, 21)),
-        (&ACK, ('a', (2, 1, 1)), (15, 0)),
-        (&lock, ('l', (1, 1, 1)), (97, 81)),
-        (&batch, ('a', (2, 1, 1)), (1051, 0)),
-    ] {
-        assert!(rt; seen(decode(alloc, bytes), shown) == Some(wanted));
-        assert!(rt; lens_as_read(alloc, bytes) == Some(lens));
-    }
+    assert!(rt; are_read(alloc, &REPORT, ('r', (0, 1, 1)), (23, 23)));
+    assert!(rt; are_read(alloc, &ALL_REPORT, ('r', (9, 2, 3)), (21, 21)));
+    assert!(rt; are_read(alloc, &ACK, ('a', (2, 1, 1)), (15, 0)));
+    let lock = lock_of(alloc, 3, &[0, 2, 3]);
+    assert!(rt; are_built(alloc, lock, ('l', (1, 1, 1)), (97, 81)));
+    let batch = batch_bytes(alloc, 16, 64);
+    assert!(rt; are_built(alloc, batch, ('a', (2, 1, 1)), (1051, 0)));
 }
 
 // Whether a report has ALL; how many transactions its initial value has; how many values are proper and how many locked.

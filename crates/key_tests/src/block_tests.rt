@@ -4,7 +4,6 @@ use lm_ots::{Identifier, Params, Seed, TreeHeight, Width};
 use lms_blocks::{blocks, key_generation_blocks, signature_blocks};
 use lms_tree::Tree;
 use std::alloc::{AllocError, Global};
-use std::test::Fail;
 
 /// The message that is signed.
 const MESSAGE: [u8; 64] = *b"sixty-four bytes, a message that each leaf of a tree signs once.";
@@ -40,17 +39,16 @@ fn blocks_of_messages(rt: HostRuntime) {
 }
 
 #[test]
-fn blocks_of_operations(rt: HostRuntime) -> Result<(), Fail> {
+fn blocks_of_operations(rt: HostRuntime) {
     for (width, generation, signing, verification) in [
         (Width::W4, 35486, 565, 557),
         (Width::W8, 279_198, 3862, 4876),
     ] {
         let params = params_of(width);
         assert!(rt; key_generation_blocks(params) == generation);
-        let randomizer = randomizer(rt.alloc(), params)?;
+        let randomizer = randomizer(rt.alloc(), params).expect(&rt, "a randomizer");
         let identifier = Identifier::new(IDENTIFIER);
         let found = signature_blocks(params, &identifier, 3, &randomizer, &MESSAGE);
         assert!(rt; (found.signing, found.verification) == (signing, verification));
     }
-    Ok(())
 }

@@ -6,7 +6,7 @@ use lm_ots::{
     signed_steps,
 };
 use sha2::{Digest, Sha256};
-use std::test::Fail;
+use std::alloc::Global;
 
 // What is expected was computed by an independent program in Python that also finds the roots given there.
 struct Expected {
@@ -46,54 +46,62 @@ const WIDE: Expected = Expected {
     ],
 };
 
-#[test]
-fn signatures_of_both_widths(rt: HostRuntime) -> Result<(), Fail> {
+fn params_of(width: Width) -> Params {
+    Params {
+        width,
+        height: TreeHeight::H5,
+    }
+}
+
+// Whether that is the public hash of leaf 3.
+fn is_public_hash(params: Params, expected: [u8; 32]) -> bool {
     let identifier = Identifier::new(IDENTIFIER);
     let seed = Seed::new(SEED);
+    public_hash(params, &identifier, 3, &seed) == expected
+        && public_hashes(params, &identifier, 0, &seed)[3] == expected
+}
+
+// Whether a signature leads to this public hash at leaf 3 and for its message alone.
+fn leads_to(params: Params, signature: &[u8], public: [u8; 32]) -> bool {
+    let identifier = Identifier::new(IDENTIFIER);
+    candidate(params, &identifier, 3, MESSAGE, signature) == Some(public)
+        && candidate(params, &identifier, 4, MESSAGE, signature) != Some(public)
+        && candidate(params, &identifier, 3, b"other", signature) != Some(public)
+}
+
+// What this leaf signs.
+fn signed(alloc: Global, params: Params, leaf: u32) -> Option<Vec<u8>> {
+    let identifier = Identifier::new(IDENTIFIER);
+    sign(alloc, params, &identifier, leaf, &Seed::new(SEED), MESSAGE).ok()
+}
+
+#[test]
+fn signatures_of_both_widths(rt: HostRuntime) {
     for expected in [&WIDE, &NARROW] {
-        let params = Params {
-            width: expected.width,
-            height: TreeHeight::H5,
-        };
-        assert!(rt; public_hash(params, &identifier, 3, &seed) == expected.public);
-        assert!(rt; public_hashes(params, &identifier, 0, &seed)[3] == expected.public);
-        let signature = sign(rt.alloc(), params, &identifier, 3, &seed, MESSAGE)?;
+        let params = params_of(expected.width);
+        assert!(rt; is_public_hash(params, expected.public));
+        let signature = signed(rt.alloc(), params, 3).expect(&rt, "a signature");
         assert!(rt; signature.len() == expected.length);
         assert!(rt; Sha256::digest(&signature) == expected.signature);
-        assert!(rt;
-            candidate(params, &identifier, 3, MESSAGE, &signature) == Some(expected.public)
-        );
-        assert!(rt;
-            candidate(params, &identifier, 4, MESSAGE, &signature) != Some(expected.public)
-        );
-        assert!(rt;
-            candidate(params, &identifier, 3, b"other", &signature) != Some(expected.public)
-        );
+        assert!(rt; leads_to(params, &signature, expected.public));
     }
-    Ok(())
 }
 
 // Counted by the same program.
 #[test]
-fn steps_of_signatures(rt: HostRuntime) -> Result<(), Fail> {
-    let identifier = Identifier::new(IDENTIFIER);
-    let seed = Seed::new(SEED);
+fn steps_of_signatures(rt: HostRuntime) {
     for (width, leaf, steps) in [
         (Width::W4, 3, 495),
         (Width::W4, 22, 585),
         (Width::W8, 4, 3315),
         (Width::W8, 28, 4845),
     ] {
-        let params = Params {
-            width,
-            height: TreeHeight::H5,
-        };
-        let signature = sign(rt.alloc(), params, &identifier, leaf, &seed, MESSAGE)?;
+        let params = params_of(width);
+        let signature = signed(rt.alloc(), params, leaf).expect(&rt, "a signature");
         let randomizer = signature.get(4..36).unwrap_or(&[]);
-        let found = signed_steps(params, &identifier, leaf, randomizer, MESSAGE);
-        assert!(rt; found == steps);
+        let identifier = Identifier::new(IDENTIFIER);
+        assert!(rt; signed_steps(params, &identifier, leaf, randomizer, MESSAGE) == steps);
     }
-    Ok(())
 }
 
 #[test]

@@ -4,70 +4,103 @@ use super::vectors::{IDENTIFIER, MESSAGE, ROOT, SEED};
 use key_ring::{KeyRing, SignFault, Signer};
 use ledger_model::ReplicaId;
 use lm_ots::{Identifier, Params, Seed, TreeHeight, Width};
-use lms_tree::verify;
+use lms_tree::{PublicKey, verify};
 use std::alloc::Global;
-use std::test::Fail;
 
-fn small(alloc: Global, width: Width) -> Result<Signer, Fail> {
+fn small(alloc: Global, width: Width) -> Option<Signer> {
     let params = Params {
         width,
         height: TreeHeight::H5,
     };
-    Ok(Signer::new(alloc, params, Identifier::new(IDENTIFIER), Seed::new(SEED))?)
+    Signer::new(alloc, params, Identifier::new(IDENTIFIER), Seed::new(SEED)).ok()
+}
+
+// The key of that signer.
+fn small_key(alloc: Global, width: Width) -> Option<PublicKey> {
+    Some(small(alloc, width)?.public())
 }
 
 #[test]
-fn a_signer_has_the_key_of_its_seed(rt: HostRuntime) -> Result<(), Fail> {
-    let signer = small(rt.alloc(), Width::W8)?;
+fn a_signer_has_the_key_of_its_seed(rt: HostRuntime) {
+    let signer = small(rt.alloc(), Width::W8).expect(&rt, "a signer");
     assert!(rt; &signer.public().as_bytes()[24..] == ROOT.as_slice());
     assert!(rt; signer.leaves_left() == 32);
-    Ok(())
+}
+
+// Whether it signs with this leaf.
+fn signs_with(alloc: Global, signer: &mut Signer, key: &PublicKey, leaf: u8) -> bool {
+    match signer.sign(alloc, MESSAGE) {
+        Ok(signature) => {
+            signature.len() == 2348
+                && &signature[..4] == [0, 0, 0, leaf].as_slice()
+                && verify(key, MESSAGE, &signature)
+        }
+        Err(_) => false,
+    }
+}
+
+fn is_exhausted(alloc: Global, signer: &mut Signer) -> bool {
+    signer.leaves_left() == 0 && signer.sign(alloc, MESSAGE).err() == Some(SignFault::Exhausted)
 }
 
 // Thirty-two signatures verify, with leaves 0 to 31; the next call changes nothing.
 #[test]
-fn each_leaf_signs_once(rt: HostRuntime) -> Result<(), Fail> {
-    let alloc = rt.alloc();
-    let mut signer = small(alloc, Width::W4)?;
+fn each_leaf_signs_once(rt: HostRuntime) {
+    let mut signer = small(rt.alloc(), Width::W4).expect(&rt, "a signer");
     let key = signer.public();
     for leaf in 0..32u8 {
         assert!(rt; signer.leaves_left() == 32 - u32::from(leaf));
-        let signature = signer.sign(alloc, MESSAGE)?;
-        assert!(rt; signature.len() == 2348);
-        assert!(rt; &signature[..4] == [0, 0, 0, leaf].as_slice());
-        assert!(rt; verify(&key, MESSAGE, &signature));
+        assert!(rt; signs_with(rt.alloc(), &mut signer, &key, leaf));
     }
     for _ in 0..2 {
-        assert!(rt; signer.leaves_left() == 0);
-        assert!(rt; signer.sign(alloc, MESSAGE).err() == Some(SignFault::Exhausted));
+        assert!(rt; is_exhausted(rt.alloc(), &mut signer));
     }
-    Ok(())
+}
+
+fn ring_of(alloc: Global, keys: [PublicKey; 2]) -> Option<KeyRing> {
+    Some(KeyRing::new(Vec::from_slice(alloc, &keys).ok()?))
+}
+
+// Whether the ring has these keys at replicas 0 and 1, and no other.
+fn has_keys(ring: &KeyRing, first: PublicKey, second: PublicKey) -> bool {
+    ring.key(ReplicaId::new(0)).copied() == Some(first)
+        && ring.key(ReplicaId::new(1)).copied() == Some(second)
+        && ring.key(ReplicaId::new(2)).is_none()
 }
 
 #[test]
-fn keys_stand_at_their_replicas(rt: HostRuntime) -> Result<(), Fail> {
-    let alloc = rt.alloc();
-    let wide = small(alloc, Width::W8)?.public();
-    let narrow = small(alloc, Width::W4)?.public();
-    let ring = KeyRing::new(vec![in alloc; wide, narrow]?);
-    assert!(rt; ring.key(ReplicaId::new(0)).copied() == Some(wide));
-    assert!(rt; ring.key(ReplicaId::new(1)).copied() == Some(narrow));
-    assert!(rt; ring.key(ReplicaId::new(2)).is_none());
-    Ok(())
+fn keys_stand_at_their_replicas(rt: HostRuntime) {
+    let wide = small_key(rt.alloc(), Width::W8).expect(&rt, "a key");
+    let narrow = small_key(rt.alloc(), Width::W4).expect(&rt, "a key");
+    let ring = ring_of(rt.alloc(), [wide, narrow]).expect(&rt, "a ring");
+    assert!(rt; has_keys(&ring, wide, narrow));
+}
+
+fn copied_ring(alloc: Global, keys: [PublicKey; 2]) -> Option<KeyRing> {
+    ring_of(alloc, keys)?.copy().ok()
+}
+
+// Whether a signature verifies under the key of replica 1 alone, and of its message alone.
+fn verifies_at_one(ring: &KeyRing, signature: &[u8]) -> bool {
+    for (replica, verifies) in [(0, false), (1, true), (2, false)] {
+        if ring.verifies(ReplicaId::new(replica), MESSAGE, signature) != verifies {
+            return false;
+        }
+    }
+    !ring.verifies(ReplicaId::new(1), b"another", signature)
+}
+
+// Whether that holds of what a signer signs whose key is replica 1's, beside another key.
+fn verifies_under_its_key(alloc: Global, signer: &mut Signer) -> Option<bool> {
+    let other = small_key(alloc, Width::W8)?;
+    let ring = copied_ring(alloc, [other, signer.public()])?;
+    let signature = signer.sign(alloc, MESSAGE).ok()?;
+    Some(verifies_at_one(&ring, &signature))
 }
 
 // Under the signer's key alone, and not where the ring has none.
 #[test]
-fn a_ring_verifies_under_the_signers_key(rt: HostRuntime) -> Result<(), Fail> {
-    let alloc = rt.alloc();
-    let mut signer = small(alloc, Width::W4)?;
-    let other = small(alloc, Width::W8)?.public();
-    let ring = KeyRing::new(vec![in alloc; other, signer.public()]?).copy()?;
-    let signature = signer.sign(alloc, MESSAGE)?;
-    for (replica, verifies) in [(0, false), (1, true), (2, false)] {
-        let found = ring.verifies(ReplicaId::new(replica), MESSAGE, &signature);
-        assert!(rt; found == verifies, "{replica}");
-    }
-    assert!(rt; !ring.verifies(ReplicaId::new(1), b"another", &signature));
-    Ok(())
+fn a_ring_verifies_under_the_signers_key(rt: HostRuntime) {
+    let mut signer = small(rt.alloc(), Width::W4).expect(&rt, "a signer");
+    assert!(rt; verifies_under_its_key(rt.alloc(), &mut signer) == Some(true));
 }

@@ -5,7 +5,6 @@ use lm_ots::{Identifier, Params, Seed, TreeHeight, Width};
 use lms_tree::{KeyFault, PublicKey, Tree, verify};
 use sha2::{Digest, Sha256};
 use std::alloc::Global;
-use std::test::Fail;
 
 // The tree of height 10 in the same test case.
 const TALL_IDENTIFIER: [u8; 16] = [
@@ -22,55 +21,76 @@ const TALL_ROOT: [u8; 32] = [
     0xc9, 0x21, 0x24, 0x40, 0x4d, 0x45, 0xfa, 0x53, 0xcf, 0x16, 0x1c, 0x28, 0xf1, 0xad, 0x5a, 0x8e,
 ];
 
-fn small(alloc: Global, width: Width) -> Result<Tree, Fail> {
-    let params = Params {
-        width,
-        height: TreeHeight::H5,
-    };
-    Ok(Tree::build(alloc, params, Identifier::new(IDENTIFIER), Seed::new(SEED))?)
+fn built(alloc: Global, width: Width, height: TreeHeight) -> Option<Tree> {
+    let params = Params { width, height };
+    Tree::build(alloc, params, Identifier::new(IDENTIFIER), Seed::new(SEED)).ok()
+}
+
+fn small(alloc: Global, width: Width) -> Option<Tree> {
+    built(alloc, width, TreeHeight::H5)
+}
+
+// Whether it is the key of the small tree of width 8, and is made of its bytes.
+fn is_small_key(key: &PublicKey) -> bool {
+    let bytes = key.as_bytes();
+    &bytes[..8] == [0, 0, 0, 5, 0, 0, 0, 4].as_slice()
+        && &bytes[8..24] == IDENTIFIER.as_slice()
+        && &bytes[24..] == ROOT.as_slice()
+        && key.identifier() == Identifier::new(IDENTIFIER)
+        && PublicKey::from_bytes(bytes).ok() == Some(*key)
 }
 
 #[test]
-fn key_of_a_small_tree(rt: HostRuntime) -> Result<(), Fail> {
-    let tree = small(rt.alloc(), Width::W8)?;
-    let key = tree.public();
-    assert!(rt; &key.as_bytes()[..8] == [0, 0, 0, 5, 0, 0, 0, 4].as_slice());
-    assert!(rt; &key.as_bytes()[8..24] == IDENTIFIER.as_slice());
-    assert!(rt; &key.as_bytes()[24..] == ROOT.as_slice());
-    assert!(rt; key.identifier() == Identifier::new(IDENTIFIER));
-    assert!(rt; key.params() == tree.params());
-    assert!(rt; PublicKey::from_bytes(key.as_bytes()).ok() == Some(key));
+fn key_of_a_small_tree(rt: HostRuntime) {
+    let tree = small(rt.alloc(), Width::W8).expect(&rt, "a tree");
+    assert!(rt; is_small_key(&tree.public()));
+    assert!(rt; tree.public().params() == tree.params());
     assert!(rt; tree.leaves() == 32);
-    Ok(())
 }
 
-#[test]
-fn key_of_a_tall_tree(rt: HostRuntime) -> Result<(), Fail> {
+// The signature with this leaf, if there is such a leaf.
+fn signed(alloc: Global, tree: &Tree, leaf: u32) -> Option<Vec<u8>> {
+    if leaf >= tree.leaves() {
+        return None;
+    }
+    tree.sign(alloc, leaf, MESSAGE).ok()
+}
+
+fn tall(alloc: Global) -> Option<Tree> {
     let params = Params {
         width: Width::W4,
         height: TreeHeight::H10,
     };
-    let tree = Tree::build(
-        rt.alloc(),
-        params,
-        Identifier::new(TALL_IDENTIFIER),
-        Seed::new(TALL_SEED),
-    )?;
-    let key = tree.public();
-    assert!(rt; &key.as_bytes()[..8] == [0, 0, 0, 6, 0, 0, 0, 3].as_slice());
-    assert!(rt; &key.as_bytes()[24..] == TALL_ROOT.as_slice());
+    let identifier = Identifier::new(TALL_IDENTIFIER);
+    Tree::build(alloc, params, identifier, Seed::new(TALL_SEED)).ok()
+}
+
+fn is_tall_key(key: &PublicKey) -> bool {
+    let bytes = key.as_bytes();
+    &bytes[..8] == [0, 0, 0, 6, 0, 0, 0, 3].as_slice() && &bytes[24..] == TALL_ROOT.as_slice()
+}
+
+// Whether the signature with this leaf has so many bytes and verifies.
+fn signs_with(alloc: Global, tree: &Tree, leaf: u32, len: usize) -> bool {
+    match signed(alloc, tree, leaf) {
+        Some(signature) => { signature.len() == len && verify(&tree.public(), MESSAGE, &signature) }
+        None => false,
+    }
+}
+
+#[test]
+fn key_of_a_tall_tree(rt: HostRuntime) {
+    let tree = tall(rt.alloc()).expect(&rt, "a tree");
+    assert!(rt; is_tall_key(&tree.public()));
     assert!(rt; tree.leaves() == 1024);
-    let signature = tree.sign(rt.alloc(), 1000, MESSAGE)?;
-    assert!(rt; signature.len() == 2508);
-    assert!(rt; verify(&key, MESSAGE, &signature));
-    Ok(())
+    assert!(rt; signs_with(rt.alloc(), &tree, 1000, 2508));
 }
 
 // The digests of the signature and of the path are those of an independent program in Python.
 #[test]
-fn signature_of_a_small_tree(rt: HostRuntime) -> Result<(), Fail> {
-    let tree = small(rt.alloc(), Width::W8)?;
-    let signature = tree.sign(rt.alloc(), 3, MESSAGE)?;
+fn signature_of_a_small_tree(rt: HostRuntime) {
+    let tree = small(rt.alloc(), Width::W8).expect(&rt, "a tree");
+    let signature = signed(rt.alloc(), &tree, 3).expect(&rt, "a signature");
     assert!(rt; signature.len() == 1292);
     let expected: [u8; 32] = [
         0x8f, 0xb0, 0x54, 0x66, 0x1a, 0x3a, 0x7f, 0x70, 0x97, 0x0f, 0x1c, 0xec, 0xf4, 0x42, 0x28,
@@ -78,7 +98,7 @@ fn signature_of_a_small_tree(rt: HostRuntime) -> Result<(), Fail> {
         0x5f, 0xf1,
     ];
     assert!(rt; Sha256::digest(&signature) == expected);
-    let path = tree.path(rt.alloc(), 3)?;
+    let path = tree.path(rt.alloc(), 3).expect(&rt, "a path");
     assert!(rt; path.len() == 160);
     let expected: [u8; 32] = [
         0xf7, 0x50, 0x77, 0xa8, 0xb8, 0xd7, 0x58, 0xbf, 0xf7, 0x94, 0xff, 0xed, 0xad, 0x63, 0xc1,
@@ -86,72 +106,75 @@ fn signature_of_a_small_tree(rt: HostRuntime) -> Result<(), Fail> {
         0x85, 0x49,
     ];
     assert!(rt; Sha256::digest(&path) == expected);
-    Ok(())
+}
+
+// Whether a signature has this length and verifies, and doesn't with one byte more or one byte less.
+fn has_one_length(key: &PublicKey, signature: &mut Vec<u8>, len: usize) -> bool {
+    if signature.len() != len || !verify(key, MESSAGE, signature) {
+        return false;
+    }
+    if signature.push(0).is_err() || verify(key, MESSAGE, signature) {
+        return false;
+    }
+    signature.truncate(len.saturating_sub(1));
+    !verify(key, MESSAGE, signature)
 }
 
 #[test]
-fn only_what_was_signed_verifies(rt: HostRuntime) -> Result<(), Fail> {
-    let tree = small(rt.alloc(), Width::W4)?;
-    let key = tree.public();
-    let mut signature = tree.sign(rt.alloc(), 31, MESSAGE)?;
-    assert!(rt; signature.len() == 2348);
-    assert!(rt; verify(&key, MESSAGE, &signature));
-    assert!(rt; !verify(&key, b"The powers delegated", &signature));
-    signature.push(0)?;
-    assert!(rt; !verify(&key, MESSAGE, &signature));
-    signature.truncate(2347);
-    assert!(rt; !verify(&key, MESSAGE, &signature));
-    Ok(())
+fn only_what_was_signed_verifies(rt: HostRuntime) {
+    let tree = small(rt.alloc(), Width::W4).expect(&rt, "a tree");
+    let mut signature = signed(rt.alloc(), &tree, 31).expect(&rt, "a signature");
+    assert!(rt; !verify(&tree.public(), b"The powers delegated", &signature));
+    assert!(rt; has_one_length(&tree.public(), &mut signature, 2348));
 }
 
 // The leaf number, both type codes, the randomizer, a chain and the path are all checked.
 #[test]
-fn no_changed_byte_verifies(rt: HostRuntime) -> Result<(), Fail> {
-    let tree = small(rt.alloc(), Width::W8)?;
+fn no_changed_byte_verifies(rt: HostRuntime) {
+    let tree = small(rt.alloc(), Width::W8).expect(&rt, "a tree");
     let key = tree.public();
     for place in [3usize, 2, 7, 8, 39, 40, 1127, 1131, 1132, 1291] {
-        let mut signature = tree.sign(rt.alloc(), 3, MESSAGE)?;
+        let mut signature = signed(rt.alloc(), &tree, 3).expect(&rt, "a signature");
         assert!(rt; signature.len() == 1292);
         assert!(rt; place < 1292);
         signature[place] ^= 1;
         assert!(rt; !verify(&key, MESSAGE, &signature), "{place}");
     }
-    Ok(())
 }
 
 #[test]
-fn another_width_does_not_verify(rt: HostRuntime) -> Result<(), Fail> {
-    let wide = small(rt.alloc(), Width::W8)?;
-    let narrow = small(rt.alloc(), Width::W4)?;
-    let signature = wide.sign(rt.alloc(), 0, MESSAGE)?;
+fn another_width_does_not_verify(rt: HostRuntime) {
+    let wide = small(rt.alloc(), Width::W8).expect(&rt, "a tree");
+    let narrow = small(rt.alloc(), Width::W4).expect(&rt, "a tree").public();
+    let signature = signed(rt.alloc(), &wide, 0).expect(&rt, "a signature");
     assert!(rt; verify(&wide.public(), MESSAGE, &signature));
-    assert!(rt; !verify(&narrow.public(), MESSAGE, &signature));
-    Ok(())
+    assert!(rt; !verify(&narrow, MESSAGE, &signature));
+}
+
+// Whether that holds of a signature in this parameter set.
+fn signs_with_one_length(
+    alloc: Global,
+    width: Width,
+    height: TreeHeight,
+    len: usize,
+) -> Option<bool> {
+    let tree = built(alloc, width, height)?;
+    let mut signature = signed(alloc, &tree, 0)?;
+    Some(has_one_length(&tree.public(), &mut signature, len))
 }
 
 // In each parameter set a signature has one length, and neither one byte more nor one byte less verifies.
 #[test]
-fn lengths(rt: HostRuntime) -> Result<(), Fail> {
-    let alloc = rt.alloc();
+fn lengths(rt: HostRuntime) {
     for (width, height, len) in [
         (Width::W8, TreeHeight::H5, 1292),
         (Width::W4, TreeHeight::H5, 2348),
         (Width::W8, TreeHeight::H10, 1452),
         (Width::W4, TreeHeight::H10, 2508),
     ] {
-        let params = Params { width, height };
-        assert!(rt; params.signature_len() == len);
-        let tree = Tree::build(alloc, params, Identifier::new(IDENTIFIER), Seed::new(SEED))?;
-        let key = tree.public();
-        let mut signature = tree.sign(alloc, 0, MESSAGE)?;
-        assert!(rt; signature.len() == len);
-        assert!(rt; verify(&key, MESSAGE, &signature));
-        signature.push(0)?;
-        assert!(rt; !verify(&key, MESSAGE, &signature));
-        signature.truncate(len - 1);
-        assert!(rt; !verify(&key, MESSAGE, &signature));
+        assert!(rt; Params { width, height }.signature_len() == len);
+        assert!(rt; signs_with_one_length(rt.alloc(), width, height, len) == Some(true));
     }
-    Ok(())
 }
 
 #[test]

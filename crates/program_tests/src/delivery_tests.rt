@@ -1,5 +1,5 @@
 //! `abft deliver` over streams.
-use crate::streams::{Broken, Counted};
+use crate::streams::{Case, Sink, Source};
 use cluster_keys::Cluster;
 use frame_signing::signed_frame;
 use ledger_model::{AppKind, Config, Height, Phase, ReplicaId, Tx};
@@ -7,9 +7,7 @@ use lm_ots::{Params, TreeHeight, Width};
 use program::{StreamEnd, deliver};
 use program_streams::ProgramFault;
 use settings::{DeliverSettings, SignSettings, What};
-use signed_frames::Frame;
-use std::alloc::Global;
-use std::io::{Read, Write};
+use std::alloc::{AllocError, Global};
 use std::random::RandomSource;
 use std::test::Fail;
 
@@ -25,29 +23,31 @@ fn cluster() -> Result<Cluster, Fail> {
     })
 }
 
-/// The frame of a report of replica 0 at height 1 in phase 1.
-fn report(alloc: Global) -> Result<Frame, Fail> {
+/// What signs a report of replica 0 at height 1 in phase 1.
+fn sign_settings(alloc: Global) -> Result<SignSettings, Fail> {
     let cluster = cluster()?;
     if cluster.config.replicas == 0 {
         return Err(Fail::from("there are replicas"));
     }
-    let settings = SignSettings {
+    Ok(SignSettings {
         cluster,
         what: What::Report,
         replica: ReplicaId::new(0),
         height: Height::new(1),
         phase: Phase::new(1),
         value: Tx::new(b"a=1".to_vec(alloc)?)?,
-    };
-    Ok(signed_frame(alloc, &settings)?)
+    })
 }
 
-/// It, twice.
+/// The frame that these settings sign, twice.
+fn twice(alloc: Global, settings: &SignSettings) -> Result<Vec<u8>, AllocError> {
+    signed_frame(alloc, settings)?.as_bytes().repeat(alloc, 2)
+}
+
+/// The frame of the report, twice.
 fn report_twice(alloc: Global) -> Result<Vec<u8>, Fail> {
-    let frame = report(alloc)?;
-    let mut frames = frame.as_bytes().to_vec(alloc)?;
-    frames.extend_from_slice(frame.as_bytes())?;
-    Ok(frames)
+    let settings = sign_settings(alloc)?;
+    Ok(twice(alloc, &settings)?)
 }
 
 /// How a stream ended, or the fault, as text.
@@ -58,60 +58,75 @@ fn text_of(alloc: Global, ended: Result<StreamEnd, ProgramFault>) -> Result<Stri
     })
 }
 
-/// What replica 1 of `abft deliver` says of a stream, for which it ends one round: how the stream ended, or the fault.
-fn told<S: RandomSource, R: Read, W: Write>(
-    source: &S,
-    alloc: Global,
-    reader: &mut R,
-    writer: &mut W,
-) -> Result<String, Fail> {
+/// What replica 1 of `abft deliver` delivers for, and ends one round.
+fn deliver_settings(alloc: Global) -> Result<DeliverSettings, Fail> {
     let cluster = cluster()?;
     if cluster.config.replicas <= 1 {
         return Err(Fail::from("there is a replica 1"));
     }
-    let settings = DeliverSettings {
+    Ok(DeliverSettings {
         cluster,
         replica: ReplicaId::new(1),
         value: Tx::new(b"a=1".to_vec(alloc)?)?,
         height: Height::new(1),
         rounds: 1,
-    };
-    text_of(alloc, deliver(source, alloc, &settings, reader, writer))
+    })
 }
 
-#[test]
-fn a_write_that_fails_in_mid_stream_stops_the_delivery(rt: HostRuntime) -> Result<(), Fail> {
-    let alloc = rt.alloc();
-    let frames = report_twice(alloc)?;
-    let mut room = [0u8; 12];
-    let told = told(&rt, alloc, &mut frames.as_slice(), &mut room.as_mut_slice())?;
-    assert_eq!(rt; told.as_str(), "error: failed to write whole buffer");
-    assert_eq!(rt; &room[..9], b"accepted\n".as_slice());
-    Ok(())
-}
-
-#[test]
-fn a_read_that_fails_in_mid_stream_stops_the_delivery(rt: HostRuntime) -> Result<(), Fail> {
-    let alloc = rt.alloc();
-    let mut output = Vec::new(alloc);
-    let told = told(
-        &rt,
+/// What replica 1 of `abft deliver` says of a stream: how the stream ended, or the fault.
+fn told<S: RandomSource>(
+    source: &S,
+    alloc: Global,
+    case: &Case<'_>,
+    output: &mut Sink,
+) -> Result<String, Fail> {
+    let settings = deliver_settings(alloc)?;
+    let mut reader = Source::new(case.text, case.fails);
+    text_of(
         alloc,
-        &mut Broken::new(b"\x00\x00\x09\x45"),
-        &mut output,
-    )?;
-    assert_eq!(rt; told.as_str(), "error: timed out");
-    assert!(rt; output.is_empty());
-    Ok(())
+        deliver(source, alloc, &settings, &mut reader, output),
+    )
+}
+
+/// Whether `abft deliver` makes that of the stream.
+fn delivers<S: RandomSource>(source: &S, alloc: Global, case: &Case<'_>) -> Result<bool, Fail> {
+    let mut output = Sink::new(alloc, case.room);
+    let told = told(source, alloc, case, &mut output)?;
+    Ok(case.is(&told, &output))
 }
 
 #[test]
-fn each_line_of_a_delivery_is_one_write(rt: HostRuntime) -> Result<(), Fail> {
+fn each_line_is_one_write_until_the_delivery_stops(rt: HostRuntime) -> Result<(), Fail> {
     let alloc = rt.alloc();
     let frames = report_twice(alloc)?;
-    let mut output = Counted::new();
-    let told = told(&rt, alloc, &mut frames.as_slice(), &mut output)?;
-    assert_eq!(rt; told.as_str(), "Whole");
-    assert_eq!(rt; (output.writes, output.ends), (2, 2));
+    let cases = [
+        Case {
+            text: &frames,
+            fails: false,
+            room: 99,
+            told: "Whole",
+            output: b"accepted\nignored 7 Repeated\n",
+            writes: 2,
+        },
+        Case {
+            text: &frames,
+            fails: false,
+            room: 12,
+            told: "error: failed to write whole buffer",
+            output: b"accepted\nign",
+            writes: 3,
+        },
+        Case {
+            text: b"\x00\x00\x09\x45",
+            fails: true,
+            room: 99,
+            told: "error: timed out",
+            output: b"",
+            writes: 0,
+        },
+    ];
+    for case in &cases {
+        assert!(rt; delivers(&rt, alloc, case)?, "not told: {}", case.told);
+    }
     Ok(())
 }

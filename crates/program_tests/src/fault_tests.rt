@@ -1,128 +1,96 @@
 //! Faults of the program: each has a status, and a text that is written at once.
+use crate::streams::{Sink, Source};
 use program::{Outcome, refuse_words, run};
 use std::alloc::Global;
-use std::io::{self, ErrorKind, Read, Write};
+use std::io::{self, ErrorKind};
 use std::random::RandomSource;
-
-/// A stream that fails.
-#[derive(Drop)]
-struct Broken;
-
-impl Read for Broken {
-    fn read(&mut self, _buf: &mut [u8]) -> io::Result<usize> {
-        Err(io::Error::from(ErrorKind::TimedOut))
-    }
-}
-
-/// A stream that takes each write whole, and counts them.
-#[derive(Drop)]
-struct Counted {
-    text: Vec<u8>,
-    writes: u32,
-}
-
-impl Write for Counted {
-    fn write(&mut self, buf: &[u8]) -> io::Result<usize> {
-        self.writes = self.writes.saturating_add(1);
-        self.text.extend_from_slice(buf)?;
-        Ok(buf.len())
-    }
-
-    fn flush(&mut self) -> io::Result<()> {
-        Ok(())
-    }
-}
 
 /// What the program comes to on these words, with nothing to read but a fault; what it writes to standard error is added.
 fn outcome_of<S: RandomSource>(
     source: &S,
     alloc: Global,
     words: &[&str],
-    faults: &mut Counted,
+    faults: &mut Sink,
 ) -> Outcome {
-    let mut output = Vec::new(alloc);
-    run(source, alloc, words, &mut Broken, &mut output, faults)
+    let mut output = Sink::new(alloc, 99);
+    run(
+        source,
+        alloc,
+        words,
+        &mut Source::new(b"", true),
+        &mut output,
+        faults,
+    )
 }
 
-/// The exit status, if the program ended.
-fn status_of(outcome: Outcome) -> Option<u8> {
-    match outcome {
-        Outcome::Ended(status) => Some(status),
-        _ => None,
-    }
+/// Whether the program ends with this status, and tells why by one write.
+fn ends_at_once<S: RandomSource>(
+    source: &S,
+    alloc: Global,
+    subcommand: &str,
+    status: u8,
+    faults: &mut Sink,
+) -> bool {
+    let outcome = outcome_of(source, alloc, &["abft", subcommand], faults);
+    matches!(outcome, Outcome::Ended(found) if found == status) && faults.writes == 1
 }
 
 #[test]
 fn each_fault_is_one_write(rt: HostRuntime) {
     let alloc = rt.alloc();
-    for (subcommand, status, text) in [
-        ("deliver", 3, b"error: timed out\n".as_slice()),
-        ("simulate", 3, b"error: timed out\n".as_slice()),
-    ] {
-        let mut faults = Counted {
-            text: Vec::new(alloc),
-            writes: 0,
-        };
-        let found = status_of(outcome_of(&rt, alloc, &["abft", subcommand], &mut faults));
-        assert_eq!(rt; found, Some(status), "at {subcommand}");
-        assert_eq!(rt; faults.text.as_slice(), text, "at {subcommand}");
-        assert_eq!(rt; faults.writes, 1, "at {subcommand}");
+    for subcommand in ["deliver", "simulate"] {
+        let mut faults = Sink::new(alloc, 99);
+        let is_told = ends_at_once(&rt, alloc, subcommand, 3, &mut faults)
+            && faults.text.as_slice() == b"error: timed out\n".as_slice();
+        assert!(rt; is_told, "at {subcommand}");
     }
 }
 
 #[test]
 fn bad_usage_is_told_at_once(rt: HostRuntime) {
     let alloc = rt.alloc();
-    let mut faults = Counted {
-        text: Vec::new(alloc),
-        writes: 0,
-    };
-    let found = status_of(outcome_of(&rt, alloc, &["abft", "vote"], &mut faults));
-    assert_eq!(rt; found, Some(2));
-    assert_eq!(rt; faults.writes, 1);
-    assert!(rt; faults.text.ends_with(b"\n"));
+    let mut faults = Sink::new(alloc, usize::MAX);
+    let is_told = ends_at_once(&rt, alloc, "vote", 2, &mut faults);
+    assert!(rt; is_told && faults.text.ends_with(b"\n"));
+}
+
+/// Whether words that this error keeps from being read are refused with this status and text.
+fn refuses(alloc: Global, kind: ErrorKind, status: u8, text: &[u8]) -> bool {
+    let mut faults = Vec::new(alloc);
+    refuse_words(alloc, io::Error::from(kind), &mut faults) == status && faults.as_slice() == text
 }
 
 #[test]
 fn words_that_cannot_be_read_are_refused(rt: HostRuntime) {
     let alloc = rt.alloc();
-    for (kind, status, text) in [
-        (
-            ErrorKind::InvalidData,
-            2,
-            b"error: a word of the command line is not UTF-8\n".as_slice(),
-        ),
-        (
-            ErrorKind::OutOfMemory,
-            3,
-            b"error: out of memory\n".as_slice(),
-        ),
-    ] {
-        let mut faults = Vec::new(alloc);
-        assert_eq!(rt;
-            refuse_words(alloc, io::Error::from(kind), &mut faults),
-            status
-        );
-        assert_eq!(rt; faults.as_slice(), text);
-    }
+    let text = b"error: a word of the command line is not UTF-8\n";
+    assert!(rt; refuses(alloc, ErrorKind::InvalidData, 2, text));
+    assert!(rt; refuses(alloc, ErrorKind::OutOfMemory, 3, b"error: out of memory\n"));
+}
+
+/// Whether the words of `abft cluster` are handed back as its settings.
+fn hands_back_a_cluster<S: RandomSource>(source: &S, alloc: Global, faults: &mut Sink) -> bool {
+    let words = ["abft", "cluster", "--rounds", "7", "--base-ms", "9"];
+    let Outcome::Cluster(settings) = outcome_of(source, alloc, &words, faults) else {
+        return false;
+    };
+    (settings.rounds, settings.base_ms) == (7, 9)
+}
+
+/// Whether the words of `abft serve` are handed back as its settings.
+fn hands_back_a_service<S: RandomSource>(source: &S, alloc: Global, faults: &mut Sink) -> bool {
+    let words = ["abft", "serve", "--port", "7000", "--sessions", "3"];
+    let Outcome::Serve(settings) = outcome_of(source, alloc, &words, faults) else {
+        return false;
+    };
+    (settings.port, settings.sessions) == (7000, 3)
 }
 
 #[test]
 fn settings_of_running_clusters_are_handed_back(rt: HostRuntime) {
     let alloc = rt.alloc();
-    let mut faults = Counted {
-        text: Vec::new(alloc),
-        writes: 0,
-    };
-    let words = ["abft", "cluster", "--rounds", "7", "--base-ms", "9"];
-    match outcome_of(&rt, alloc, &words, &mut faults) {
-        Outcome::Cluster(settings) => assert_eq!(rt; (settings.rounds, settings.base_ms), (7, 9)),
-        _ => assert!(rt; false, "not handed back"),
-    }
-    let words = ["abft", "serve", "--port", "7000", "--sessions", "3"];
-    match outcome_of(&rt, alloc, &words, &mut faults) {
-        Outcome::Serve(settings) => assert_eq!(rt; (settings.port, settings.sessions), (7000, 3)),
-        _ => assert!(rt; false, "not handed back"),
-    }
-    assert_eq!(rt; faults.writes, 0);
+    let mut faults = Sink::new(alloc, 99);
+    assert!(rt; hands_back_a_cluster(&rt, alloc, &mut faults));
+    assert!(rt; hands_back_a_service(&rt, alloc, &mut faults));
+    assert!(rt; faults.writes == 0);
 }

@@ -1,9 +1,8 @@
 //! `abft simulate` over streams.
-use crate::streams::{Broken, Counted};
+use crate::streams::{Case, Sink, Source};
 use program::simulate;
 use settings::SimulateSettings;
 use std::alloc::Global;
-use std::io::{Read, Write};
 use std::random::RandomSource;
 use std::test::Fail;
 
@@ -11,63 +10,72 @@ use std::test::Fail;
 const TEXT: &[u8] = b"config 4 1 1\nend 0\nexecute 0\n";
 
 /// What `abft simulate` says of a stream: how its text ended, or the fault.
-fn told<S: RandomSource, R: Read, W: Write>(
+fn told<S: RandomSource>(
     source: &S,
     alloc: Global,
-    reader: &mut R,
-    writer: &mut W,
+    case: &Case<'_>,
+    output: &mut Sink,
 ) -> Result<String, Fail> {
     let settings = SimulateSettings {
         seed: [0; 32],
         histories: false,
     };
-    Ok(match simulate(source, alloc, &settings, reader, writer) {
-        Ok(end) => format!(in alloc; "{end:?}")?,
-        Err(fault) => format!(in alloc; "{fault}")?,
-    })
+    let mut reader = Source::new(case.text, case.fails);
+    Ok(
+        match simulate(source, alloc, &settings, &mut reader, output) {
+            Ok(end) => format!(in alloc; "{end:?}")?,
+            Err(fault) => format!(in alloc; "{fault}")?,
+        },
+    )
 }
 
-#[test]
-fn a_write_that_fails_stops_the_scenario(rt: HostRuntime) -> Result<(), Fail> {
-    let alloc = rt.alloc();
-    let mut room = [0u8; 20];
-    let told = told(&rt, alloc, &mut TEXT, &mut room.as_mut_slice())?;
-    assert_eq!(rt; told.as_str(), "error: failed to write whole buffer");
-    assert_eq!(rt; &room[..15], b"end 0 1 sent 0\n".as_slice());
-    Ok(())
+/// Whether `abft simulate` makes that of the stream.
+fn plays<S: RandomSource>(source: &S, alloc: Global, case: &Case<'_>) -> Result<bool, Fail> {
+    let mut output = Sink::new(alloc, case.room);
+    let told = told(source, alloc, case, &mut output)?;
+    Ok(case.is(&told, &output))
 }
 
-#[test]
-fn a_text_that_cannot_be_read_whole_is_not_played(rt: HostRuntime) -> Result<(), Fail> {
-    let alloc = rt.alloc();
-    let mut output = Vec::new(alloc);
-    let told = told(&rt, alloc, &mut Broken::new(TEXT), &mut output)?;
-    assert_eq!(rt; told.as_str(), "error: timed out");
-    assert!(rt; output.is_empty());
-    Ok(())
-}
+/// A scenario that is played, one whose second line is written in part, one that cannot be read whole, and one with a bad line.
+const SCENARIOS: [Case<'static>; 4] = [
+    Case {
+        text: TEXT,
+        fails: false,
+        room: 99,
+        told: "Whole",
+        output: b"end 0 1 sent 0\nexecute 0 nothing\n",
+        writes: 2,
+    },
+    Case {
+        text: TEXT,
+        fails: false,
+        room: 20,
+        told: "error: failed to write whole buffer",
+        output: b"end 0 1 sent 0\nexecu",
+        writes: 3,
+    },
+    Case {
+        text: TEXT,
+        fails: true,
+        room: 99,
+        told: "error: timed out",
+        output: b"",
+        writes: 0,
+    },
+    Case {
+        text: b"config 4 1 1\nend 0\nend 00\n",
+        fails: false,
+        room: 99,
+        told: "BadLine(3)",
+        output: b"line 3 bad\n",
+        writes: 1,
+    },
+];
 
 #[test]
-fn each_line_of_a_scenario_is_one_write(rt: HostRuntime) -> Result<(), Fail> {
-    let alloc = rt.alloc();
-    let mut output = Counted::new();
-    let told = told(&rt, alloc, &mut TEXT, &mut output)?;
-    assert_eq!(rt; told.as_str(), "Whole");
-    assert_eq!(rt; (output.writes, output.ends), (2, 2));
-    Ok(())
-}
-
-#[test]
-fn a_bad_line_is_told_alone(rt: HostRuntime) -> Result<(), Fail> {
-    let alloc = rt.alloc();
-    let mut output = Vec::new(alloc);
-    let told = told(
-        &rt,
-        alloc,
-        &mut b"config 4 1 1\nend 0\nend 00\n".as_slice(),
-        &mut output,
-    )?;
-    assert_eq!(rt; told.as_str(), "BadLine(3)");
-    assert_eq!(rt; output.as_slice(), b"line 3 bad\n".as_slice());
+fn each_line_is_one_write_until_the_scenario_stops(rt: HostRuntime) -> Result<(), Fail> {
+    for case in &SCENARIOS {
+        assert!(rt; plays(&rt, rt.alloc(), case)?, "not told: {}", case.told);
+    }
     Ok(())
 }

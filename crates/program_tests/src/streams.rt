@@ -1,57 +1,93 @@
-//! Streams that fail, and one that counts.
+//! Streams that may fail, of one type for each direction: what a program ensures is proved once for each type.
+use std::alloc::Global;
 use std::io::{self, ErrorKind, Read, Write};
 
-/// A stream that gives a beginning of its bytes in one read, and then fails.
+/// A stream that gives its bytes, and then ends or fails.
 #[derive(Drop)]
-pub(crate) struct Broken<'a> {
+pub(crate) struct Source<'a> {
     text: &'a [u8],
-    is_read: bool,
+    fails: bool,
 }
 
-impl<'a> Broken<'a> {
-    pub(crate) fn new(text: &'a [u8]) -> Self {
-        Broken {
-            text,
-            is_read: false,
-        }
+impl<'a> Source<'a> {
+    /// A stream of the text, behind which a read fails or finds the end.
+    pub(crate) fn new(text: &'a [u8], fails: bool) -> Self {
+        Source { text, fails }
     }
 }
 
-impl Read for Broken<'_> {
+impl Read for Source<'_> {
     fn read(&mut self, buf: &mut [u8]) -> io::Result<usize> {
-        if self.is_read {
+        if self.fails && self.text.is_empty() {
             return Err(io::Error::from(ErrorKind::TimedOut));
         }
-        self.is_read = true;
         let count = self.text.len().min(buf.len());
         buf[..count].copy_from_slice(&self.text[..count]);
+        self.text = &self.text[count..];
         Ok(count)
     }
 }
 
-/// A stream that counts the writes, and how many of them end a line.
+/// A stream that has room for so many bytes, and counts the writes, and how many of them end a line.
 #[derive(Drop)]
-pub(crate) struct Counted {
+pub(crate) struct Sink {
+    room: usize,
+    pub(crate) text: Vec<u8>,
     pub(crate) writes: u32,
     pub(crate) ends: u32,
 }
 
-impl Counted {
-    pub(crate) fn new() -> Self {
-        Counted { writes: 0, ends: 0 }
+impl Sink {
+    /// An empty stream with room for so many bytes.
+    pub(crate) fn new(alloc: Global, room: usize) -> Self {
+        Sink {
+            room,
+            text: Vec::new(alloc),
+            writes: 0,
+            ends: 0,
+        }
     }
 }
 
-impl Write for Counted {
+impl Write for Sink {
     fn write(&mut self, buf: &[u8]) -> io::Result<usize> {
         self.writes = self.writes.saturating_add(1);
         if buf.ends_with(b"\n") {
             self.ends = self.ends.saturating_add(1);
         }
-        Ok(buf.len())
+        let count = buf.len().min(self.room);
+        self.room = self.room.saturating_sub(count);
+        self.text.extend_from_slice(&buf[..count])?;
+        Ok(count)
     }
 
     fn flush(&mut self) -> io::Result<()> {
         Ok(())
+    }
+}
+
+/// A stream that a subcommand reads, and what it makes of it.
+#[derive(Clone, Copy)]
+pub(crate) struct Case<'a> {
+    /// What is read.
+    pub(crate) text: &'a [u8],
+    /// Whether the read behind that fails.
+    pub(crate) fails: bool,
+    /// How many bytes the output takes.
+    pub(crate) room: usize,
+    /// How the stream ended, or the fault.
+    pub(crate) told: &'a str,
+    /// What the output took.
+    pub(crate) output: &'a [u8],
+    /// How many writes there were, each to the end of a line.
+    pub(crate) writes: u32,
+}
+
+impl Case<'_> {
+    /// Whether this was told, and that was written.
+    pub(crate) fn is(&self, told: &str, output: &Sink) -> bool {
+        told == self.told
+            && output.text.as_slice() == self.output
+            && (output.writes, output.ends) == (self.writes, self.writes)
     }
 }

@@ -32,48 +32,48 @@ fn no_transactions(alloc: Global) -> Batch {
     }
 }
 
-fn changed_submit(
-    told: Result<(), SubmitRefusal>,
-    change: Change,
-) -> Option<Result<(), SubmitRefusal>> {
-    match (change, told) {
-        (Change::Outcome, Ok(())) => Some(Err(SubmitRefusal::Duplicate)),
-        (Change::Outcome, Err(_)) => Some(Ok(())),
+fn changed_submit(told: Result<(), SubmitRefusal>, change: Change) -> Option<Reply> {
+    let other = match (change, told) {
+        (Change::Outcome, Ok(())) => Err(SubmitRefusal::Duplicate),
+        (Change::Outcome, Err(_)) => Ok(()),
         (Change::Cause, Err(SubmitRefusal::Rejected(code))) => {
-            Some(Err(SubmitRefusal::Rejected(code ^ 1)))
+            Err(SubmitRefusal::Rejected(code ^ 1))
         }
-        (Change::Cause, Err(SubmitRefusal::Full)) => Some(Err(SubmitRefusal::Empty)),
-        (Change::Cause, Err(_)) => Some(Err(SubmitRefusal::Full)),
-        _ => None,
-    }
+        (Change::Cause, Err(SubmitRefusal::Full)) => Err(SubmitRefusal::Empty),
+        (Change::Cause, Err(_)) => Err(SubmitRefusal::Full),
+        _ => return None,
+    };
+    Some(Reply::Submitted(other))
 }
 
-fn changed_deliver(told: Result<(), Ignored>, change: Change) -> Option<Result<(), Ignored>> {
-    match (change, told) {
-        (Change::Outcome, Ok(())) => Some(Err(Ignored::Repeated)),
-        (Change::Outcome, Err(_)) => Some(Ok(())),
-        (Change::Cause, Err(Ignored::NotMine)) => Some(Err(Ignored::Repeated)),
-        (Change::Cause, Err(_)) => Some(Err(Ignored::NotMine)),
-        _ => None,
-    }
+fn changed_deliver(told: Result<(), Ignored>, change: Change) -> Option<Reply> {
+    let other = match (change, told) {
+        (Change::Outcome, Ok(())) => Err(Ignored::Repeated),
+        (Change::Outcome, Err(_)) => Ok(()),
+        (Change::Cause, Err(Ignored::NotMine)) => Err(Ignored::Repeated),
+        (Change::Cause, Err(_)) => Err(Ignored::NotMine),
+        _ => return None,
+    };
+    Some(Reply::Delivered(other))
 }
 
 fn changed_propose(
     alloc: Global,
     told: &Result<Batch, ProposeRefusal>,
     change: Change,
-) -> Option<Result<Batch, ProposeRefusal>> {
-    match (change, told) {
-        (Change::Outcome, Ok(_)) => Some(Err(ProposeRefusal::AlreadyOpen)),
-        (Change::Outcome, Err(_)) => Some(Ok(no_transactions(alloc))),
-        (Change::Cause, Err(ProposeRefusal::Closed)) => Some(Err(ProposeRefusal::TooFar)),
-        (Change::Cause, Err(_)) => Some(Err(ProposeRefusal::Closed)),
+) -> Option<Reply> {
+    let other = match (change, told) {
+        (Change::Outcome, Ok(_)) => Err(ProposeRefusal::AlreadyOpen),
+        (Change::Outcome, Err(_)) => Ok(no_transactions(alloc)),
+        (Change::Cause, Err(ProposeRefusal::Closed)) => Err(ProposeRefusal::TooFar),
+        (Change::Cause, Err(_)) => Err(ProposeRefusal::Closed),
         // None of its transactions, where it has some.
         (Change::Byte(0), Ok(batch)) if !batch.transactions().is_empty() => {
-            Some(Ok(no_transactions(alloc)))
+            Ok(no_transactions(alloc))
         }
-        _ => None,
-    }
+        _ => return None,
+    };
+    Some(Reply::Proposed(other))
 }
 
 /// Other codes: one more, one fewer, or the first changed.
@@ -82,21 +82,15 @@ fn changed_codes(
     codes: &[u32],
     change: Change,
 ) -> Result<Option<Codes>, AllocError> {
-    let mut others = codes.to_vec(alloc)?;
+    let mut others = match (change, codes) {
+        (Change::More, _) | (Change::Cause, [_, ..]) => codes.to_vec(alloc)?,
+        (Change::Fewer, [others @ .., _]) => others.to_vec(alloc)?,
+        _ => return Ok(None),
+    };
     match change {
         Change::More => others.push(0)?,
-        Change::Fewer => {
-            if others.pop().is_none() {
-                return Ok(None);
-            }
-        }
-        Change::Cause => {
-            let Some(first) = others.first_mut() else {
-                return Ok(None);
-            };
-            *first ^= 1;
-        }
-        _ => return Ok(None),
+        Change::Cause => others[0] ^= 1,
+        _ => {}
     }
     Ok(Some(Codes::new(others)))
 }
@@ -108,39 +102,52 @@ fn changed_hash(hash: &[u8; 32], at: usize) -> [u8; 32] {
     other
 }
 
+/// The block with its codes changed so.
+fn with_changed_codes(
+    alloc: Global,
+    block: &BlockResult,
+    change: Change,
+) -> Result<Option<Reply>, AllocError> {
+    match changed_codes(alloc, block.codes.as_slice(), change)? {
+        Some(codes) => Ok(Some(Reply::Executed(Ok(BlockResult {
+            height: block.height,
+            codes,
+            hash: block.hash,
+        })))),
+        None => Ok(None),
+    }
+}
+
 fn changed_block(
     alloc: Global,
     block: &BlockResult,
     change: Change,
-) -> Result<Option<BlockResult>, AllocError> {
+) -> Result<Option<Reply>, AllocError> {
+    let height = block.height.number();
+    let (height, hash) = match change {
+        Change::Number => (height ^ 1, block.hash),
+        Change::Byte(at) => (height, changed_hash(&block.hash, at)),
+        _ => return with_changed_codes(alloc, block, change),
+    };
     let mut other = block.copy()?;
-    match change {
-        Change::Number => other.height = Height::new(block.height.number() ^ 1),
-        Change::Byte(at) => other.hash = changed_hash(&block.hash, at),
-        _ => match changed_codes(alloc, block.codes.as_slice(), change)? {
-            Some(codes) => other.codes = codes,
-            None => return Ok(None),
-        },
-    }
-    Ok(Some(other))
+    other.height = Height::new(height);
+    other.hash = hash;
+    Ok(Some(Reply::Executed(Ok(other))))
 }
 
 fn changed_execute(
     alloc: Global,
     told: &Result<BlockResult, NothingDecided>,
     change: Change,
-) -> Result<Option<Result<BlockResult, NothingDecided>>, AllocError> {
+) -> Result<Option<Reply>, AllocError> {
     match (change, told) {
-        (Change::Outcome, Ok(_)) => Ok(Some(Err(NothingDecided))),
-        (Change::Outcome, Err(_)) => Ok(Some(Ok(BlockResult {
+        (Change::Outcome, Ok(_)) => Ok(Some(Reply::Executed(Err(NothingDecided)))),
+        (Change::Outcome, Err(_)) => Ok(Some(Reply::Executed(Ok(BlockResult {
             height: Height::new(1),
             codes: Codes::new(Vec::new(alloc)),
             hash: [0; 32],
-        }))),
-        (_, Ok(block)) => match changed_block(alloc, block, change)? {
-            Some(other) => Ok(Some(Ok(other))),
-            None => Ok(None),
-        },
+        })))),
+        (_, Ok(block)) => changed_block(alloc, block, change),
         _ => Ok(None),
     }
 }
@@ -158,27 +165,38 @@ fn changed_value(alloc: Global, value: &Option<Bytes>) -> Result<Option<Bytes>, 
     Ok(Some(Bytes::from_vec(other)?))
 }
 
+fn changed_answer(
+    alloc: Global,
+    answer: &QueryAnswer,
+    change: Change,
+) -> Result<Option<Reply>, AllocError> {
+    let other = match change {
+        Change::Number => {
+            let mut other = answer.copy()?;
+            other.height = Height::new(answer.height.number() ^ 1);
+            other
+        }
+        Change::Byte(0) => QueryAnswer {
+            height: answer.height,
+            value: changed_value(alloc, &answer.value)?,
+        },
+        _ => return Ok(None),
+    };
+    Ok(Some(Reply::Queried(Ok(other))))
+}
+
 fn changed_query(
     alloc: Global,
     told: &Result<QueryAnswer, NotHeld>,
     change: Change,
-) -> Result<Option<Result<QueryAnswer, NotHeld>>, AllocError> {
+) -> Result<Option<Reply>, AllocError> {
     match (change, told) {
-        (Change::Outcome, Ok(_)) => Ok(Some(Err(NotHeld))),
-        (Change::Outcome, Err(_)) => Ok(Some(Ok(QueryAnswer {
+        (Change::Outcome, Ok(_)) => Ok(Some(Reply::Queried(Err(NotHeld)))),
+        (Change::Outcome, Err(_)) => Ok(Some(Reply::Queried(Ok(QueryAnswer {
             height: Height::new(0),
             value: None,
-        }))),
-        (Change::Number, Ok(answer)) => {
-            let mut other = answer.copy()?;
-            other.height = Height::new(answer.height.number() ^ 1);
-            Ok(Some(Ok(other)))
-        }
-        (Change::Byte(0), Ok(answer)) => {
-            let mut other = answer.copy()?;
-            other.value = changed_value(alloc, &answer.value)?;
-            Ok(Some(Ok(other)))
-        }
+        })))),
+        (_, Ok(answer)) => changed_answer(alloc, answer, change),
         _ => Ok(None),
     }
 }
@@ -187,13 +205,10 @@ fn changed_round_end(
     alloc: Global,
     told: &Result<RoundEnded, LastRound>,
     change: Change,
-) -> Result<Option<Result<RoundEnded, LastRound>>, AllocError> {
+) -> Result<Option<Reply>, AllocError> {
     match (change, told) {
-        (Change::Outcome, Ok(_)) => Ok(Some(Err(LastRound))),
-        (_, Ok(end)) => match changed_end(alloc, end, change)? {
-            Some(other) => Ok(Some(Ok(other))),
-            None => Ok(None),
-        },
+        (Change::Outcome, Ok(_)) => Ok(Some(Reply::RoundEnded(Err(LastRound)))),
+        (_, Ok(end)) => changed_end(alloc, end, change),
         _ => Ok(None),
     }
 }
@@ -204,12 +219,12 @@ pub(crate) fn changed(
     reply: &Reply,
     change: Change,
 ) -> Result<Option<Reply>, AllocError> {
-    Ok(match reply {
-        Reply::Submitted(told) => changed_submit(*told, change).map(Reply::Submitted),
-        Reply::Proposed(told) => changed_propose(alloc, told, change).map(Reply::Proposed),
-        Reply::Delivered(told) => changed_deliver(*told, change).map(Reply::Delivered),
-        Reply::RoundEnded(told) => changed_round_end(alloc, told, change)?.map(Reply::RoundEnded),
-        Reply::Executed(told) => changed_execute(alloc, told, change)?.map(Reply::Executed),
-        Reply::Queried(told) => changed_query(alloc, told, change)?.map(Reply::Queried),
-    })
+    match reply {
+        Reply::Submitted(told) => Ok(changed_submit(*told, change)),
+        Reply::Proposed(told) => Ok(changed_propose(alloc, told, change)),
+        Reply::Delivered(told) => Ok(changed_deliver(*told, change)),
+        Reply::RoundEnded(told) => changed_round_end(alloc, told, change),
+        Reply::Executed(told) => changed_execute(alloc, told, change),
+        Reply::Queried(told) => changed_query(alloc, told, change),
+    }
 }

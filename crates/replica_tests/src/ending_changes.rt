@@ -40,66 +40,73 @@ fn changed_frame(alloc: Global, sent: &Sent, change: Change) -> Result<Option<Se
     }
 }
 
-/// The frames from this one on.
-fn frames_from(alloc: Global, frames: &[Sent], first: usize) -> Result<Vec<Sent>, AllocError> {
-    let mut copies = Vec::new(alloc);
-    for sent in frames.iter().skip(first) {
-        copies.push(sent.copy()?)?;
+/// Adds copies of these frames.
+fn add_copies(others: &mut Vec<Sent>, frames: &[Sent]) -> Result<(), AllocError> {
+    for sent in frames {
+        others.push(sent.copy()?)?;
     }
-    Ok(copies)
+    Ok(())
 }
 
-/// The frames with the first one changed so.
-fn with_first_changed(
+/// Adds the frame, changed so. It tells whether there is such a change.
+fn add_changed_frame(
+    others: &mut Vec<Sent>,
     alloc: Global,
-    frames: &[Sent],
+    sent: &Sent,
     change: Change,
-) -> Result<Option<Vec<Sent>>, AllocError> {
-    let Some(sent) = frames.first() else {
-        return Ok(None);
-    };
-    let Some(first) = changed_frame(alloc, sent, change)? else {
-        return Ok(None);
-    };
-    let mut others = frames_from(alloc, frames, 1)?;
-    others.insert(0, first)?;
-    Ok(Some(others))
-}
-
-/// The frames, changed so.
-fn changed_frames(
-    alloc: Global,
-    frames: &[Sent],
-    change: Change,
-) -> Result<Option<Vec<Sent>>, AllocError> {
-    match change {
-        Change::Fewer if frames.is_empty() => Ok(None),
-        Change::Fewer => Ok(Some(frames_from(alloc, frames, 1)?)),
-        Change::More => {
-            let mut others = frames_from(alloc, frames, 0)?;
-            others.push(Sent {
-                addressee: Addressee::All,
-                frame: Bytes::from_static(b""),
-            })?;
-            Ok(Some(others))
+) -> Result<bool, AllocError> {
+    match changed_frame(alloc, sent, change)? {
+        Some(other) => {
+            others.push(other)?;
+            Ok(true)
         }
-        _ => with_first_changed(alloc, frames, change),
+        None => Ok(false),
     }
 }
 
-/// The round end, with its frames changed so.
+/// Adds an empty frame to all.
+fn add_empty_frame(others: &mut Vec<Sent>) -> Result<(), AllocError> {
+    Ok(others.push(Sent {
+        addressee: Addressee::All,
+        frame: Bytes::from_static(b""),
+    })?)
+}
+
+/// Adds the frames, changed so. It tells whether there is such a change.
+fn add_changed(
+    others: &mut Vec<Sent>,
+    alloc: Global,
+    frames: &[Sent],
+    change: Change,
+) -> Result<bool, AllocError> {
+    if let Change::More = change {
+        add_copies(others, frames)?;
+        add_empty_frame(others)?;
+        return Ok(true);
+    }
+    let [first, later @ ..] = frames else {
+        return Ok(false);
+    };
+    let is_fewer = matches!(change, Change::Fewer);
+    let is_changed = is_fewer || add_changed_frame(others, alloc, first, change)?;
+    add_copies(others, later)?;
+    Ok(is_changed)
+}
+
+/// The reply of the round end, with its frames changed so.
 pub(crate) fn changed_end(
     alloc: Global,
     end: &RoundEnded,
     change: Change,
-) -> Result<Option<RoundEnded>, AllocError> {
-    match changed_frames(alloc, end.frames.as_slice(), change)? {
-        Some(frames) => Ok(Some(RoundEnded {
-            mute: end.mute,
-            frames: SentFrames::new(frames),
-        })),
-        None => Ok(None),
+) -> Result<Option<Reply>, AllocError> {
+    let mut others = Vec::new(alloc);
+    if !add_changed(&mut others, alloc, end.frames.as_slice(), change)? {
+        return Ok(None);
     }
+    Ok(Some(Reply::RoundEnded(Ok(RoundEnded {
+        mute: end.mute,
+        frames: SentFrames::new(others),
+    }))))
 }
 
 /// The round end with the other mute flag.

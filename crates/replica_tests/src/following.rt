@@ -3,7 +3,6 @@ ghost use Rattle.std.specs.Prelude.{◌≡◌, []};
 ghost use Rattle.ledger_model.specs.Applications.{run};
 
 use crate::fault::Fault;
-use crate::lending::lent;
 use abci::Application;
 use app_kinds::AnyKind;
 use ledger_model::{Entry, Event, Reply};
@@ -11,6 +10,27 @@ use locked_replica::Snapshot;
 use replica_core::Follower;
 use std::alloc::{AllocError, Global};
 use std::hash::RandomState;
+
+/// An entry of a history, with those before it and behind it.
+#[derive(Clone, Copy)]
+pub(crate) struct Place<'a> {
+    pub(crate) before: &'a [Entry],
+    pub(crate) entry: &'a Entry,
+    pub(crate) later: &'a [Entry],
+}
+
+/// The entry of this number, if there is one.
+pub(crate) fn place_in(told: &Snapshot, at: usize) -> Option<Place<'_>> {
+    let entries = told.history.entries.as_slice();
+    match (entries.get(..at), entries.get(at..)) {
+        (Some(before), Some([entry, later @ ..])) => Some(Place {
+            before,
+            entry,
+            later,
+        }),
+        _ => None,
+    }
+}
 
 /// A follower before the first entry of the history.
 pub(crate) fn new_follower(
@@ -69,7 +89,6 @@ pub(crate) fn is_followed(
     random: RandomState,
     told: &Snapshot,
 ) -> Result<bool, Fault> {
-    let follower = new_follower(alloc, random, told)?;
-    let entries = told.history.entries.as_slice();
-    Ok(lent(follower, |follower| takes_all(follower, alloc, entries))?)
+    let mut follower = new_follower(alloc, random, told)?;
+    Ok(takes_all(&mut follower, alloc, told.history.entries.as_slice())?)
 }

@@ -75,14 +75,28 @@ fn is_script_followed(
     Ok(is_exact && len == entries)
 }
 
+/// Scripts, each with a replica, and how many entries all its histories have.
+const CASES: [(Script, u8, usize); 13] = [
+    (PLAIN, 0, 199),
+    (EMPTY_BLOCKS, 2, 99),
+    (COUNTER, 1, 63),
+    (PURSE, 1, 59),
+    (FOUR_PROPOSALS, 2, 130),
+    (TWO_PROPOSALS, 2, 83),
+    (LOCK_RELEASED, 0, 115),
+    (LATE_ACKNOWLEDGEMENT, 1, 57),
+    (OTHER_PHASES, 3, 105),
+    // Several heights, and replicas that are mute.
+    (REFUSALS, 0, 25),
+    (FOUR_HEIGHTS, 1, 218),
+    (NO_LEAF_LEFT, 0, 542),
+    (NO_LEAVES_FOR_FOUR, 0, 157),
+];
+
 /// Whether each script is followed so at the replica, with so many entries.
-fn are_followed(
-    alloc: Global,
-    random: RandomState,
-    cases: &[(Script, u8, usize)],
-) -> Result<bool, Fault> {
-    for (script, replica, entries) in cases {
-        if !is_script_followed(alloc, random, *script, *replica, *entries)? {
+fn are_followed(alloc: Global, random: RandomState) -> Result<bool, Fault> {
+    for &(script, replica, entries) in &CASES {
+        if !is_script_followed(alloc, random, script, replica, entries)? {
             return Ok(false);
         }
     }
@@ -90,41 +104,8 @@ fn are_followed(
 }
 
 #[test]
-fn plain_runs_are_followed_exactly(rt: HostRuntime) -> Result<(), Fail> {
-    let cases = [
-        (PLAIN, 0, 199),
-        (EMPTY_BLOCKS, 2, 99),
-        (COUNTER, 1, 63),
-        (PURSE, 1, 59),
-    ];
+fn each_run_is_followed_exactly(rt: HostRuntime) -> Result<(), Fail> {
     let random = RandomState::new(&rt)?;
-    assert!(rt; are_followed(rt.alloc(), random, &cases)?);
-    Ok(())
-}
-
-#[test]
-fn other_runs_are_followed_exactly(rt: HostRuntime) -> Result<(), Fail> {
-    let cases = [
-        (FOUR_PROPOSALS, 2, 130),
-        (TWO_PROPOSALS, 2, 83),
-        (LOCK_RELEASED, 0, 115),
-        (LATE_ACKNOWLEDGEMENT, 1, 57),
-        (OTHER_PHASES, 3, 105),
-    ];
-    let random = RandomState::new(&rt)?;
-    assert!(rt; are_followed(rt.alloc(), random, &cases)?);
-    Ok(())
-}
-
-#[test]
-fn several_heights_and_mute_replicas_are_followed_exactly(rt: HostRuntime) -> Result<(), Fail> {
-    let cases = [
-        (REFUSALS, 0, 25),
-        (FOUR_HEIGHTS, 1, 218),
-        (NO_LEAF_LEFT, 0, 542),
-        (NO_LEAVES_FOR_FOUR, 0, 157),
-    ];
-    let random = RandomState::new(&rt)?;
-    assert!(rt; are_followed(rt.alloc(), random, &cases)?);
+    assert!(rt; are_followed(rt.alloc(), random)?);
     Ok(())
 }

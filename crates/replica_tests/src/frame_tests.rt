@@ -54,6 +54,21 @@ fn history_behind(
     history_of(&simulation, replica)
 }
 
+/// The replica's history behind what the script plays and a frame to it.
+fn history_behind_frame(
+    alloc: Global,
+    random: RandomState,
+    script: Script,
+    bytes: Bytes,
+    to: u8,
+) -> Result<Snapshot, Fault> {
+    let command = Command::Inject {
+        to: u32::from(to),
+        bytes,
+    };
+    history_behind(alloc, random, script, &command, to)
+}
+
 /// Whether the replica answers so to the frame behind what the script plays, and followers agree.
 fn answers(
     alloc: Global,
@@ -63,11 +78,7 @@ fn answers(
     to: u8,
     answer: Result<(), Ignored>,
 ) -> Result<bool, Fault> {
-    let command = Command::Inject {
-        to: u32::from(to),
-        bytes,
-    };
-    let told = history_behind(alloc, random, script, &command, to)?;
+    let told = history_behind_frame(alloc, random, script, bytes, to)?;
     is_answered(alloc, random, &told, answer)
 }
 
@@ -102,7 +113,7 @@ fn add_reports(
     height: u8,
 ) -> Result<(), Fault> {
     let simulation = played(alloc, random, LOCKS_DUE)?;
-    for (replica, height) in [(0, height), (2, 1), (3, 1)] {
+    for &(replica, height) in &[(0, height), (2, 1), (3, 1)] {
         add_report(statement, &simulation, replica, height)?;
     }
     Ok(())
@@ -153,10 +164,13 @@ fn answers_sixth_lock(
     answers(alloc, random, TWELVE_ROUNDS, lock, 3, answer)
 }
 
+/// The height of the first report, and the answer to the lock.
+const HEIGHTS: [(u8, Result<(), Ignored>); 2] = [(1, Ok(())), (2, Err(Ignored::BadProof))];
+
 #[test]
 fn a_report_of_another_height_proves_no_lock(rt: HostRuntime) -> Result<(), Fail> {
     let random = RandomState::new(&rt)?;
-    for (height, answer) in [(1, Ok(())), (2, Err(Ignored::BadProof))] {
+    for &(height, answer) in &HEIGHTS {
         assert!(rt;
             answers_lock_at(rt.alloc(), random, height, answer)?,
             "{height}"

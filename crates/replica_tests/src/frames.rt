@@ -25,7 +25,12 @@ fn has_head(frame: &[u8], head: Head) -> bool {
 }
 
 fn among(frames: &[Sent], head: Head) -> Option<&Sent> {
-    frames.iter().find(|sent| has_head(&sent.frame, head))
+    for sent in frames {
+        if has_head(&sent.frame, head) {
+            return Some(sent);
+        }
+    }
+    None
 }
 
 fn sent_at(entry: &Entry, head: Head) -> Option<&Sent> {
@@ -52,11 +57,17 @@ fn framed(alloc: Global, statement: &[u8], signature: &[u8]) -> Result<Bytes, Al
         .saturating_add(signature.len())
         .saturating_add(2);
     let len = u32::try_from(len).unwrap_or(u32::MAX);
-    let mut bytes = Vec::from_slice(alloc, &len.to_be_bytes())?;
-    bytes.extend_from_slice(statement)?;
-    bytes.extend_from_slice(&[0x09, 0x2c])?;
-    bytes.extend_from_slice(signature)?;
+    let mut bytes = Vec::new(alloc);
+    for part in &[&len.to_be_bytes(), statement, &[0x09, 0x2c], signature] {
+        bytes.extend_from_slice(part)?;
+    }
     Ok(Bytes::from_vec(bytes)?)
+}
+
+/// The first signature of replica 1.
+fn signature_of(alloc: Global, cluster: &Cluster, statement: &[u8]) -> Result<Vec<u8>, Fault> {
+    let mut signer = key_pair(alloc, cluster, ReplicaId::new(1))?;
+    Ok(signer.sign(alloc, statement)?)
 }
 
 /// The frame of a statement of replica 1, which signs it with its first leaf.
@@ -65,7 +76,6 @@ pub(crate) fn signed_by_one(
     cluster: &Cluster,
     statement: &[u8],
 ) -> Result<Bytes, Fault> {
-    let mut signer = key_pair(alloc, cluster, ReplicaId::new(1))?;
-    let signature = signer.sign(alloc, statement)?;
+    let signature = signature_of(alloc, cluster, statement)?;
     Ok(framed(alloc, statement, &signature)?)
 }

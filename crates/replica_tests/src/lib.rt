@@ -19,8 +19,6 @@ mod frame_tests;
 #[cfg(test)]
 mod frames;
 #[cfg(test)]
-mod lending;
-#[cfg(test)]
 mod memory_tests;
 #[cfg(test)]
 mod playing;

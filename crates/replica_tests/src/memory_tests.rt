@@ -5,7 +5,6 @@ ghost use Rattle.app_kinds.specs.Chosen.{machine_of};
 
 use crate::fault::Fault;
 use crate::following::{follower_with, is_taken, takes_all};
-use crate::lending::lent;
 use crate::playing::{correct_of, history_of, new_simulation, play_all, scenario_of};
 use crate::scripts::REFUSED_BLOCK;
 use abci::Application;
@@ -69,24 +68,18 @@ fn takes_at_second_try<A: Application>(
     let Some((last, others)) = entries.split_last() else {
         return Ok(false);
     };
-    if !takes_all(follower, alloc, others)? {
-        return Ok(false);
-    }
-    if is_taken(follower, alloc, &last.event, &last.reply).is_ok() {
-        return Ok(false);
-    }
-    Ok(is_taken(follower, alloc, &last.event, &last.reply)? && follower.height() == 1)
+    let are_taken = takes_all(follower, alloc, others)?;
+    let is_first_taken = is_taken(follower, alloc, &last.event, &last.reply).is_ok();
+    let is_next_taken = is_taken(follower, alloc, &last.event, &last.reply)?;
+    Ok((are_taken, is_first_taken, is_next_taken, follower.height()) == (true, false, true, 1))
 }
 
 /// Whether a follower does so, whose application finds no memory for its second transaction.
 fn is_followed(alloc: Global, random: RandomState, told: &Snapshot) -> Result<bool, Fault> {
     let app = Refusing::new(AnyKind::new(alloc, told.config.kind), 2);
-    let follower = follower_with(alloc, random, told, app)?;
+    let mut follower = follower_with(alloc, random, told, app)?;
     let entries = told.history.entries.as_slice();
-    Ok(lent(
-        follower,
-        |follower| takes_at_second_try(follower, alloc, entries),
-    )?)
+    Ok(takes_at_second_try(&mut follower, alloc, entries)?)
 }
 
 /// The simulation of a scenario with such applications, as it begins.

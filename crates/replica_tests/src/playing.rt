@@ -37,11 +37,7 @@ fn new_randoms(
 ) -> Result<Vec<[RandomState; 2]>, AllocError>
     ensures { IfOk result (λ randoms. vec_len randoms ≡ count) }
 {
-    let mut randoms = Vec::with_capacity(alloc, count)?;
-    for _ in 0..count {
-        randoms.push([random, random])?;
-    }
-    Ok(randoms)
+    vec![in alloc; [random, random]; count]
 }
 
 /// The cluster of a scenario, with the keys of the seed of zeros.

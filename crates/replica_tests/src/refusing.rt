@@ -1,10 +1,9 @@
 //! Whether a follower refuses the changed replies of a history.
 use crate::changing::{Change, changed};
 use crate::fault::Fault;
-use crate::following::{is_taken, new_follower, takes_all};
-use crate::lending::lent;
+use crate::following::{Place, is_taken, new_follower, place_in, takes_all};
 use app_kinds::AnyKind;
-use ledger_model::{Entry, Reply};
+use ledger_model::Reply;
 use locked_replica::Snapshot;
 use replica_core::Follower;
 use std::alloc::{AllocError, Global};
@@ -31,17 +30,15 @@ const CHANGES: [Change; 11] = [
 fn is_lost_at(
     follower: &mut Follower<AnyKind>,
     alloc: Global,
-    entries: &[Entry],
-    at: usize,
+    place: Place<'_>,
     reply: &Reply,
 ) -> Result<bool, AllocError> {
-    let (Some(before), Some(entry)) = (entries.get(..at), entries.get(at)) else {
-        return Ok(false);
-    };
-    let are_taken = takes_all(follower, alloc, before)?;
+    let entry = place.entry;
+    let are_taken = takes_all(follower, alloc, place.before)?;
     let is_first_taken = is_taken(follower, alloc, &entry.event, reply)?;
     let is_next_taken = is_taken(follower, alloc, &entry.event, &entry.reply)?;
-    Ok(are_taken && !is_first_taken && !is_next_taken && follower.is_lost())
+    let are_wanted = (true, false, false, true);
+    Ok((are_taken, is_first_taken, is_next_taken, follower.is_lost()) == are_wanted)
 }
 
 /// Whether a follower does so.
@@ -49,15 +46,11 @@ fn is_refused_with(
     alloc: Global,
     random: RandomState,
     told: &Snapshot,
-    at: usize,
+    place: Place<'_>,
     reply: &Reply,
 ) -> Result<bool, Fault> {
-    let follower = new_follower(alloc, random, told)?;
-    let entries = told.history.entries.as_slice();
-    Ok(lent(
-        follower,
-        |follower| is_lost_at(follower, alloc, entries, at, reply),
-    )?)
+    let mut follower = new_follower(alloc, random, told)?;
+    Ok(is_lost_at(&mut follower, alloc, place, reply)?)
 }
 
 /// Whether the entry at this place, its reply changed so, is refused behind those before it, and the true one is refused from
@@ -69,11 +62,11 @@ fn is_refused(
     at: usize,
     change: Change,
 ) -> Result<bool, Fault> {
-    let Some(entry) = told.history.entries.as_slice().get(at) else {
+    let Some(place) = place_in(told, at) else {
         return Ok(false);
     };
-    match changed(alloc, &entry.reply, change)? {
-        Some(reply) => is_refused_with(alloc, random, told, at, &reply),
+    match changed(alloc, &place.entry.reply, change)? {
+        Some(reply) => is_refused_with(alloc, random, told, place, &reply),
         None => Ok(true),
     }
 }

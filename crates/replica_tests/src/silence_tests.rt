@@ -1,8 +1,7 @@
 //! The mute flag: it is taken from the reply where nothing was due, and then silence is asked for.
 use crate::ending_changes::with_other_flag;
 use crate::fault::Fault;
-use crate::following::{is_taken, new_follower, takes_all};
-use crate::lending::lent;
+use crate::following::{Place, is_taken, new_follower, place_in, takes_all};
 use crate::playing::history_in;
 use crate::scripts::{FOUR_HEIGHTS, NO_LEAF_LEFT, NO_LEAVES_FOR_FOUR, PLAIN, Script};
 use app_kinds::AnyKind;
@@ -69,24 +68,19 @@ fn stays_silent(
 fn come_of(
     follower: &mut Follower<AnyKind>,
     alloc: Global,
-    entries: &[Entry],
-    at: usize,
+    place: Place<'_>,
     reply: &Reply,
 ) -> Result<Flagged, AllocError> {
-    let (Some(before), Some(entry)) = (entries.get(..at), entries.get(at)) else {
-        return Ok(Flagged::Wrong);
-    };
-    let are_taken = takes_all(follower, alloc, before)?;
-    let may_be_taken = may_be_mute(&entry.reply, follower.clock().saturating_add(1));
-    let is_taken = is_taken(follower, alloc, &entry.event, reply)?;
-    if !are_taken || is_taken != may_be_taken {
+    let are_taken = takes_all(follower, alloc, place.before)?;
+    let may_be_taken = may_be_mute(&place.entry.reply, follower.clock().saturating_add(1));
+    let is_taken = is_taken(follower, alloc, &place.entry.event, reply)?;
+    if (are_taken, is_taken) != (true, may_be_taken) {
         return Ok(Flagged::Wrong);
     }
     if !is_taken {
         return Ok(Flagged::Refused);
     }
-    let later = entries.get(at.saturating_add(1)..).unwrap_or(&[]);
-    if stays_silent(follower, alloc, later)? {
+    if stays_silent(follower, alloc, place.later)? {
         Ok(Flagged::Silenced)
     } else {
         Ok(Flagged::Wrong)
@@ -98,15 +92,11 @@ fn outcome_with(
     alloc: Global,
     random: RandomState,
     told: &Snapshot,
-    at: usize,
+    place: Place<'_>,
     reply: &Reply,
 ) -> Result<Flagged, Fault> {
-    let follower = new_follower(alloc, random, told)?;
-    let entries = told.history.entries.as_slice();
-    Ok(lent(
-        follower,
-        |follower| come_of(follower, alloc, entries, at, reply),
-    )?)
+    let mut follower = new_follower(alloc, random, told)?;
+    Ok(come_of(&mut follower, alloc, place, reply)?)
 }
 
 /// What comes of the entry at this place with the other mute flag.
@@ -116,11 +106,11 @@ fn outcome_of(
     told: &Snapshot,
     at: usize,
 ) -> Result<Flagged, Fault> {
-    let Some(entry) = told.history.entries.as_slice().get(at) else {
+    let Some(place) = place_in(told, at) else {
         return Ok(Flagged::Other);
     };
-    match with_other_flag(&entry.reply)? {
-        Some(reply) => outcome_with(alloc, random, told, at, &reply),
+    match with_other_flag(&place.entry.reply)? {
+        Some(reply) => outcome_with(alloc, random, told, place, &reply),
         None => Ok(Flagged::Other),
     }
 }
@@ -153,19 +143,30 @@ fn counts_of(
     counts(alloc, random, &told)
 }
 
+/// Scripts with a replica: how many of its round ends are refused with the other flag, and how many silence it.
+const CASES: [(Script, u8, (u32, u32)); 4] = [
+    // Refused: where it sends a report in each of four phases, an acknowledgement in three, and a lock in the last.
+    (PLAIN, 0, (8, 8)),
+    // Where it sends reports twice, and locks once.
+    (FOUR_HEIGHTS, 1, (3, 2)),
+    // Where it sends reports, and where it is mute and would not be.
+    (NO_LEAF_LEFT, 3, (38, 96)),
+    (NO_LEAVES_FOR_FOUR, 0, (11, 24)),
+];
+
+/// Whether each script's counts are these.
+fn are_counted(alloc: Global, random: RandomState) -> Result<bool, Fault> {
+    for &(script, replica, answer) in &CASES {
+        if counts_of(alloc, random, script, replica)? != Some(answer) {
+            return Ok(false);
+        }
+    }
+    Ok(true)
+}
+
 #[test]
 fn the_mute_flag_asks_for_silence(rt: HostRuntime) -> Result<(), Fail> {
     let random = RandomState::new(&rt)?;
-    for (script, replica, answer) in [
-        // Refused: where it sends a report in each of four phases, an acknowledgement in three, and a lock in the last.
-        (PLAIN, 0, (8, 8)),
-        // Where it sends reports twice, and locks once.
-        (FOUR_HEIGHTS, 1, (3, 2)),
-        // Where it sends reports, and where it is mute and would not be.
-        (NO_LEAF_LEFT, 3, (38, 96)),
-        (NO_LEAVES_FOR_FOUR, 0, (11, 24)),
-    ] {
-        assert!(rt; counts_of(rt.alloc(), random, script, replica)? == Some(answer));
-    }
+    assert!(rt; are_counted(rt.alloc(), random)?);
     Ok(())
 }

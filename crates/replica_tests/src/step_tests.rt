@@ -3,7 +3,6 @@ ghost use Rattle.std.specs.Prelude.{◌≡◌, ◌∷◌, [], IfOk};
 ghost use Rattle.key_ring.specs.Signers.{key_of};
 
 use crate::fault::Fault;
-use crate::lending::lent;
 use app_kinds::AnyKind;
 use bytes::Bytes;
 use key_ring::{KeyRing, Signer};
@@ -97,8 +96,8 @@ fn answers_submits(state: &mut State<AnyKind>) -> Result<bool, ApplyFault> {
 }
 
 fn new_one_answers_submits(alloc: Global, random: RandomState) -> Result<bool, Fault> {
-    let state = new_replica(alloc, random)?;
-    Ok(lent(state, answers_submits)?)
+    let mut state = new_replica(alloc, random)?;
+    Ok(answers_submits(&mut state)?)
 }
 
 #[test]
@@ -153,8 +152,8 @@ fn answers_proposals(state: &mut State<AnyKind>) -> Result<bool, ApplyFault> {
 }
 
 fn new_one_answers_proposals(alloc: Global, random: RandomState) -> Result<bool, Fault> {
-    let state = new_replica(alloc, random)?;
-    Ok(lent(state, answers_proposals)?)
+    let mut state = new_replica(alloc, random)?;
+    Ok(answers_proposals(&mut state)?)
 }
 
 #[test]
@@ -290,8 +289,8 @@ fn waits_alone(state: &mut State<AnyKind>, alloc: Global) -> Result<bool, ApplyF
 }
 
 fn new_one_waits_alone(alloc: Global, random: RandomState) -> Result<bool, Fault> {
-    let state = new_replica(alloc, random)?;
-    Ok(lent(state, |state| waits_alone(state, alloc))?)
+    let mut state = new_replica(alloc, random)?;
+    Ok(waits_alone(&mut state, alloc)?)
 }
 
 #[test]

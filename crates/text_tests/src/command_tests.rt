@@ -18,19 +18,22 @@ fn says_bytes(alloc: Global, line: &[u8], spelled: &[u8]) -> Option<(&'static st
     seen_step(alloc, line, |step| bytes_of(step, spelled))
 }
 
+/// Lines of steps with bytes, the name of each, its number and its bytes.
+const BYTES: [(&[u8], &str, u32, &[u8]); 7] = [
+    (b"submit 0 a=1", "submit", 0, b"a=1"),
+    (b"submit 300 \\20\\ff\\5b", "submit", 300, b" \xff["),
+    (b"submit 0", "submit", 0, b""),
+    (b"inject 2 00ff0a", "inject", 2, b"\x00\xff\n"),
+    (b"inject 2", "inject", 2, b""),
+    (b"query 3 a\\2c", "query", 3, b"a,"),
+    (b"query 3", "query", 3, b""),
+];
+
 #[test]
 fn bytes_of_submit_inject_and_query(rt: HostRuntime) {
-    for (line, name, number, spelled) in [
-        (b"submit 0 a=1".as_slice(), "submit", 0, b"a=1".as_slice()),
-        (b"submit 300 \\20\\ff\\5b", "submit", 300, b" \xff["),
-        (b"submit 0", "submit", 0, b""),
-        (b"inject 2 00ff0a", "inject", 2, b"\x00\xff\n"),
-        (b"inject 2", "inject", 2, b""),
-        (b"query 3 a\\2c", "query", 3, b"a,"),
-        (b"query 3", "query", 3, b""),
-    ] {
+    for (line, name, number, spelled) in &BYTES {
         let said = says_bytes(rt.alloc(), line, spelled);
-        assert!(rt; said == Some((name, number, true)), "{name} {number}");
+        assert!(rt; said == Some((*name, *number, true)), "{name} {number}");
     }
 }
 
@@ -115,45 +118,47 @@ fn lies(rt: HostRuntime) {
     assert!(rt; said == Some(("ack", (4, 5), true)));
 }
 
+/// Lines that are no step.
+const NO_STEPS: [&[u8]; 34] = [
+    b"execute 00",
+    b"execute +1",
+    b"execute -1",
+    b"execute 4294967296",
+    b"execute",
+    b"execute 1 2",
+    b"execute 0 ",
+    b" execute 0",
+    b"execute\t0",
+    b"Execute 0",
+    b"executes 0",
+    b"frames 1",
+    b"query 0 \\61",
+    b"query 0 \\5C",
+    b"query 0 \\5",
+    b"submit 0  a",
+    b"submit 0 ",
+    b"submit 0 a b",
+    b"submit 0 a,b",
+    b"submit",
+    b"submit 0 \xff",
+    b"inject 1 0A",
+    b"inject 1 0",
+    b"inject 1 0g",
+    b"pass 0 1",
+    b"silent 0",
+    b"silent ",
+    b"lie-ack 2 1 1 [x] all",
+    b"lie-ack 1 0 1 [x] all",
+    b"lie-ack 1 1 0 [x] all",
+    b"lie-ack 1 1 1 [,] all",
+    b"lie-ack 1 1 1 [x all",
+    b"lie-ack 1 1 1 [x] any",
+    b"config 4 1 1",
+];
+
 #[test]
 fn lines_that_are_no_step(rt: HostRuntime) {
-    let lines: [&[u8]; 34] = [
-        b"execute 00",
-        b"execute +1",
-        b"execute -1",
-        b"execute 4294967296",
-        b"execute",
-        b"execute 1 2",
-        b"execute 0 ",
-        b" execute 0",
-        b"execute\t0",
-        b"Execute 0",
-        b"executes 0",
-        b"frames 1",
-        b"query 0 \\61",
-        b"query 0 \\5C",
-        b"query 0 \\5",
-        b"submit 0  a",
-        b"submit 0 ",
-        b"submit 0 a b",
-        b"submit 0 a,b",
-        b"submit",
-        b"submit 0 \xff",
-        b"inject 1 0A",
-        b"inject 1 0",
-        b"inject 1 0g",
-        b"pass 0 1",
-        b"silent 0",
-        b"silent ",
-        b"lie-ack 2 1 1 [x] all",
-        b"lie-ack 1 0 1 [x] all",
-        b"lie-ack 1 1 0 [x] all",
-        b"lie-ack 1 1 1 [,] all",
-        b"lie-ack 1 1 1 [x all",
-        b"lie-ack 1 1 1 [x] any",
-        b"config 4 1 1",
-    ];
-    for (index, line) in lines.iter().enumerate() {
+    for (index, line) in NO_STEPS.iter().enumerate() {
         assert!(rt;
             line_outcome(rt.alloc(), line) == Outcome::BadLine(3),
             "line {index}"

@@ -3,26 +3,28 @@ use crate::texts::{Outcome, line_outcome, outcome_of};
 use scenario_texts::TextFault;
 use std::alloc::{AllocError, Global};
 
+/// Texts, and what comes of each.
+const TEXTS: [(&[u8], Outcome); 9] = [
+    (b"", Outcome::BadLine(1)),
+    (b"\n", Outcome::BadLine(2)),
+    (b"# none\n# at all\n", Outcome::BadLine(3)),
+    (b"config 4 1 1\nsubmit 0 a=1", Outcome::BadLine(2)),
+    (b"config 4 1 1", Outcome::BadLine(1)),
+    (
+        b"# a cluster\n\nconfig 4 1 1\n# \xff\nexecute 00\n",
+        Outcome::BadLine(5),
+    ),
+    (
+        b"# a cluster\n\nconfig 4 1 1\n# \xff\nexecute 0\n",
+        Outcome::Read,
+    ),
+    (b"config 4 1 1\n#", Outcome::BadLine(2)),
+    (b"config 4 1 1\n", Outcome::Read),
+];
+
 #[test]
 fn ends_and_lines_that_are_passed_over(rt: HostRuntime) {
-    let texts: [(&[u8], Outcome); 9] = [
-        (b"", Outcome::BadLine(1)),
-        (b"\n", Outcome::BadLine(2)),
-        (b"# none\n# at all\n", Outcome::BadLine(3)),
-        (b"config 4 1 1\nsubmit 0 a=1", Outcome::BadLine(2)),
-        (b"config 4 1 1", Outcome::BadLine(1)),
-        (
-            b"# a cluster\n\nconfig 4 1 1\n# \xff\nexecute 00\n",
-            Outcome::BadLine(5),
-        ),
-        (
-            b"# a cluster\n\nconfig 4 1 1\n# \xff\nexecute 0\n",
-            Outcome::Read,
-        ),
-        (b"config 4 1 1\n#", Outcome::BadLine(2)),
-        (b"config 4 1 1\n", Outcome::Read),
-    ];
-    for (index, (text, wanted)) in texts.iter().enumerate() {
+    for (index, (text, wanted)) in TEXTS.iter().enumerate() {
         assert!(rt; outcome_of(rt.alloc(), text) == *wanted, "text {index}");
     }
 }
@@ -83,18 +85,32 @@ fn with_transactions(alloc: Global, count: usize) -> Result<Vec<u8>, AllocError>
     Ok(line)
 }
 
+/// What comes of a line with a key or a transaction of this many bytes.
+fn bytes_outcome(
+    alloc: Global,
+    head: &[u8],
+    count: usize,
+    tail: &[u8],
+) -> Result<Outcome, AllocError> {
+    let line = with_bytes(alloc, head, count, tail)?;
+    Ok(line_outcome(alloc, &line))
+}
+
+/// What comes of a lie with this many transactions.
+fn transactions_outcome(alloc: Global, count: usize) -> Result<Outcome, AllocError> {
+    let line = with_transactions(alloc, count)?;
+    Ok(line_outcome(alloc, &line))
+}
+
 #[test]
 fn limits_of_keys_transactions_and_batches(rt: HostRuntime) {
     let alloc = rt.alloc();
     for (count, wanted) in [(64, Outcome::Read), (65, Outcome::BadLine(3))] {
-        let key = with_bytes(alloc, b"query 0 ", count, b"").expect(&rt, "memory");
-        assert!(rt; line_outcome(alloc, &key) == wanted);
-        let lie = with_bytes(alloc, b"lie-lock 1 1 1 [", count, b"] all").expect(&rt, "memory");
-        assert!(rt; line_outcome(alloc, &lie) == wanted);
+        assert!(rt; bytes_outcome(alloc, b"query 0 ", count, b"") == Ok(wanted));
+        assert!(rt; bytes_outcome(alloc, b"lie-lock 1 1 1 [", count, b"] all") == Ok(wanted));
     }
     for (count, wanted) in [(16, Outcome::Read), (17, Outcome::BadLine(3))] {
-        let lie = with_transactions(alloc, count).expect(&rt, "memory");
-        assert!(rt; line_outcome(alloc, &lie) == wanted);
+        assert!(rt; transactions_outcome(alloc, count) == Ok(wanted));
     }
 }
 

@@ -58,28 +58,30 @@ fn clusters_and_keys(rt: HostRuntime) {
     assert!(rt; Width::W8.bits() == 8);
 }
 
+/// Texts, and which line of each is bad.
+const BAD_TEXTS: [(&[u8], u32); 17] = [
+    (b"config 12 4 1\n", 1),
+    (b"config 14 4 1\n", 1),
+    (b"config 4 0 1\n", 1),
+    (b"config 4 1 0\n", 1),
+    (b"config 4 1 4\n", 1),
+    (b"config 260 1 1\n", 1),
+    (b"silent\n", 1),
+    (b"keys 4 5\nconfig 4 1 1\n", 1),
+    (b"config 4 1 1\nkeys 4 6\n", 2),
+    (b"config 4 1 1\nkeys 5 5\n", 2),
+    (b"config 4 1 1\nkeys 4 5\nkeys 4 5\n", 3),
+    (b"config 4 1 1\nliar 1\nkeys 4 5\n", 3),
+    (b"config 4 1 1\nliar 1\nliar 1\n", 3),
+    (b"config 4 1 1\nliar 1\nliar 2\n", 3),
+    (b"config 4 1 1\nliar 4\n", 2),
+    (b"config 7 2 1\nliar 1\nliar 1\n", 3),
+    (b"config 4 1 1\nsilent\nliar 1\n", 3),
+];
+
 #[test]
 fn lines_that_set_nothing(rt: HostRuntime) {
-    let texts: [(&[u8], u32); 17] = [
-        (b"config 12 4 1\n", 1),
-        (b"config 14 4 1\n", 1),
-        (b"config 4 0 1\n", 1),
-        (b"config 4 1 0\n", 1),
-        (b"config 4 1 4\n", 1),
-        (b"config 260 1 1\n", 1),
-        (b"silent\n", 1),
-        (b"keys 4 5\nconfig 4 1 1\n", 1),
-        (b"config 4 1 1\nkeys 4 6\n", 2),
-        (b"config 4 1 1\nkeys 5 5\n", 2),
-        (b"config 4 1 1\nkeys 4 5\nkeys 4 5\n", 3),
-        (b"config 4 1 1\nliar 1\nkeys 4 5\n", 3),
-        (b"config 4 1 1\nliar 1\nliar 1\n", 3),
-        (b"config 4 1 1\nliar 1\nliar 2\n", 3),
-        (b"config 4 1 1\nliar 4\n", 2),
-        (b"config 7 2 1\nliar 1\nliar 1\n", 3),
-        (b"config 4 1 1\nsilent\nliar 1\n", 3),
-    ];
-    for (index, (text, number)) in texts.iter().enumerate() {
+    for (index, (text, number)) in BAD_TEXTS.iter().enumerate() {
         assert!(rt;
             outcome_of(rt.alloc(), text) == Outcome::BadLine(*number),
             "text {index}"

@@ -4,3 +4,6 @@ use Rattle.adversary_net.proofs.creation.ring_of_signers.Goals as goal
 
 pub loop-signer-preserved : goal.loop-signer-preserved
 loop-signer-preserved c = grind (arith, common_steps)
+
+pub returns : goal.returns
+returns c = grind (arith, common_steps)

@@ -15,7 +15,7 @@ returns-clause-follows c = λ yes log matches clock.
     subst (λ s. MayBeSent row log round (Some s)) c.statement.ensures.statement (c.may_make.ensures.may c.args.ring.now log matches clock allowed) in
     let verified : c.is_signed.result ≡ true = search rules in
     let signed : is_signed c.args.ring.now c.args.frame ≡ true = sym c.is_signed.ensures ∙ verified in
-    subst (λ f. Matches c.args.ring.now c.close.new.self (opened_by row log round (made.Sent f))) c.in_ok-own.ensures
+    subst (λ f. Matches c.args.ring.now c.close.new.self (opened_by row log round (made.Sent f))) c.in_ok-new.ensures
     (c.close.ensures.matches c.args.ring.now log matches clock
-    (subst (λ f. MayClose row log round (made.Sent f)) (sym c.in_ok-own.ensures) may)
-    (subst (λ f. is_signed c.args.ring.now f ≡ true) (sym c.in_ok-own.ensures) signed))
+    (subst (λ f. MayClose row log round (made.Sent f)) (sym c.in_ok-new.ensures) may)
+    (subst (λ f. is_signed c.args.ring.now f ≡ true) (sym c.in_ok-new.ensures) signed))

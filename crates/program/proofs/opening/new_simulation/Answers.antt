@@ -1,4 +1,5 @@
-use Rattle.std.proofs.Common.{ap, sym, subst, rules}
+use Rattle.std.proofs.Common.{ap, sym, subst, rules, arith}
+use Rattle.std.proofs.lemmas.Grind.{common_steps}
 use Rattle.std.specs.Prelude.{Err}
 use Rattle.adversary_net.specs.Openings.{MayLie}
 use Rattle.program.proofs.OpeningLemmas.{may_lie, not_too_many}
@@ -12,3 +13,6 @@ unreachable-requires g c =
 
 pub returns-in-Ok : goal.returns-in-Ok
 returns-in-Ok g c = search rules
+
+pub unreachable-requires-in-Err-NoSuchReplica : goal.unreachable-requires-in-Err-NoSuchReplica
+unreachable-requires-in-Err-NoSuchReplica g c = grind (arith, common_steps)

@@ -1,4 +1,5 @@
 use Rattle.std.proofs.Common.{◌+◌, ◌<◌, length, take, drop, arith}
+use Rattle.std.proofs.lemmas.Grind.{common_steps}
 use Rattle.std.specs.Prelude.{slice_get}
 use Rattle.ledger_model.specs.Worlds.{frames_sent}
 use Rattle.simulation.specs.Lies.{frames_of}
@@ -24,3 +25,6 @@ loop-index-preserved g c =
     let below : i < length entries = omega (arith, c.loop-index-test.true, c.len-index-end.ensures.len) in
     none_here c.args.lie.now c.args.replica (frames_sent (take i entries)) (frames_of (slice_get entries i)) (frames_sent (take (i + 1) entries))
     c.in_ok-found.found (next_sent entries i below) c.loop-index.invariant c.in_ok-found.ensures.found cc
+
+pub returns-clause-found : goal.returns-clause-found
+returns-clause-found g c = grind (arith, common_steps)

@@ -1,4 +1,5 @@
-use Rattle.std.proofs.Common.{◌++◌, ◌∷◌, [], take, sym, ap, ◌∙◌}
+use Rattle.std.proofs.Common.{◌++◌, ◌∷◌, [], take, sym, ap, ◌∙◌, arith}
+use Rattle.std.proofs.lemmas.Grind.{common_steps}
 use Rattle.adversary_net.proofs.Members.{histories, histories_more, take_next}
 use Rattle.adversary_net.proofs.world.World.histories.Goals as goal
 
@@ -8,3 +9,6 @@ loop-party-preserved g c =
     ∙ ap (λ hs. hs ++ histories (c.party-item.result ∷ [])) c.loop-party.invariant
     ∙ sym (histories_more (take c.loop-party.party-index c.deref-party-items.result.now) c.party-item.result)
     ∙ ap histories (sym (take_next c.deref-party-items.result.now c.loop-party.party-index c.party-item.result c.loop-party-test.true c.party-item.is))
+
+pub returns : goal.returns
+returns g c = grind (arith, common_steps)

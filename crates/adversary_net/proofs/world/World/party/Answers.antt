@@ -1,6 +1,10 @@
-use Rattle.std.proofs.Common.{subst}
+use Rattle.std.proofs.Common.{subst, arith}
+use Rattle.std.proofs.lemmas.Grind.{elements}
 use Rattle.adversary_net.specs.Clusters.{IsCluster}
 use Rattle.adversary_net.proofs.world.World.party.Goals as goal
 
 pub returns-clause-cluster : goal.returns-clause-cluster
 returns-clause-cluster g c = subst IsCluster c.self.view_is c.self.invariant
+
+pub returns-clause-party : goal.returns-clause-party
+returns-clause-party g c = grind (arith, elements)

@@ -1,4 +1,5 @@
-use Rattle.std.proofs.Common.{refl, ◌∙◌}
+use Rattle.std.proofs.Common.{refl, ◌∙◌, arith}
+use Rattle.std.proofs.lemmas.Grind.{common_steps}
 use Rattle.simulation.proofs.StepLemmas.{stays, goes_on, ended_none}
 use Rattle.simulation.proofs.PlayLemmas.{ended_next}
 use Rattle.simulation.proofs.simulation.Simulation.end_each.Goals as goal
@@ -18,3 +19,6 @@ pub returns-in_err-end-clause-goes_on : goal.returns-in_err-end-clause-goes_on
 returns-in_err-end-clause-goes_on g c =
     let (so_far, lies, goes) = c.loop-replica.invariant in
     goes_on _ _ _ goes c.in_err-end.ensures.goes_on
+
+pub returns-clause-done : goal.returns-clause-done
+returns-clause-done g c = grind (arith, common_steps)

@@ -1,4 +1,5 @@
-use Rattle.std.proofs.Common.{refl, ◌∙◌}
+use Rattle.std.proofs.Common.{refl, ◌∙◌, arith}
+use Rattle.std.proofs.lemmas.Grind.{common_steps}
 use Rattle.ledger_model.specs.Spelling.{frame_bytes}
 use Rattle.reply_lines.specs.Lines.{step_text}
 use Rattle.simulation.proofs.StepLemmas.{stays, goes_on, stepped_none}
@@ -20,3 +21,6 @@ pub returns-in_err-step-clause-goes_on : goal.returns-in_err-step-clause-goes_on
 returns-in_err-step-clause-goes_on g c =
     let (so_far, lies, goes) = c.loop-receiver.invariant in
     goes_on _ _ _ goes c.in_err-step.ensures.goes_on
+
+pub returns-clause-done : goal.returns-clause-done
+returns-clause-done g c = grind (arith, common_steps)

@@ -1,4 +1,5 @@
-use Rattle.std.proofs.Common.{refl, ◌∙◌}
+use Rattle.std.proofs.Common.{refl, ◌∙◌, arith}
+use Rattle.std.proofs.lemmas.Grind.{common_steps}
 use Rattle.simulation.specs.Playing.{pass_text}
 use Rattle.simulation.proofs.StepLemmas.{stays, goes_on, stepped_none}
 use Rattle.simulation.proofs.PlayLemmas.{stepped_next}
@@ -19,3 +20,6 @@ pub returns-in_err-pass-clause-goes_on : goal.returns-in_err-pass-clause-goes_on
 returns-in_err-pass-clause-goes_on g c =
     let (so_far, lies, goes) = c.loop-step.invariant in
     goes_on _ _ _ goes c.in_err-pass.ensures.goes_on
+
+pub returns-clause-done : goal.returns-clause-done
+returns-clause-done g c = grind (arith, common_steps)

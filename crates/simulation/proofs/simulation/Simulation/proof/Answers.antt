@@ -1,4 +1,5 @@
-use Rattle.std.proofs.Common.{◌≡◌, ◌-◌, ◌≤◌, take, sym, ap, subst, rules, ◌∙◌}
+use Rattle.std.proofs.Common.{◌≡◌, ◌-◌, ◌≤◌, take, sym, ap, subst, rules, ◌∙◌, arith}
+use Rattle.std.proofs.lemmas.Grind.{common_steps}
 use Rattle.std.specs.Prelude.{IsTrue}
 use Rattle.ledger_model.specs.Validity.{ascends_within, signers_of}
 use Rattle.simulation.specs.Playing.{proof_for}
@@ -13,3 +14,9 @@ returns-clause-ascend g c =
     c.truncate.ensures.items ∙ ap (λ n. take n c.in_ok-reports.reports.items) (c.from-count.ensures ∙ ap (λ config. config.replicas - config.faults) same)
     ∙ ap (take (c.args.self.now.cluster.config.replicas - c.args.self.now.cluster.config.faults)) c.in_ok-reports.ensures.found in
     subst (λ rs. IsTrue (ascends_within 0 256 (signers_of rs))) (sym items) (proof_ascends c.args.self.now c.args.lie.now (rw same at fits))
+
+pub returns-then-len-count-clause-none : goal.returns-then-len-count-clause-none
+returns-then-len-count-clause-none g c = grind (arith, common_steps)
+
+pub returns-clause-spelled : goal.returns-clause-spelled
+returns-clause-spelled g c = grind (arith, common_steps)

@@ -1,0 +1,55 @@
+//! One replica of four at height 1, and the round that is open there.
+
+ghost use Rattle.std.specs.Prelude.{◌≡◌};
+
+use super::frames::parsed;
+use instance::Instance;
+use key_ring::KeyRing;
+use ledger_model::{AppKind, Config, Height, Ignored, ReplicaId};
+use std::alloc::Global;
+use test_support::value;
+
+/// A replica of four at height 1, of which one may lie, and the round that is open.
+#[derive(Drop)]
+pub(crate) struct Replica {
+    pub(crate) alloc: Global,
+    pub(crate) number: u8,
+    pub(crate) instance: Instance,
+    pub(crate) clock: u32,
+    ghost own: { instance.id ≡ number },
+    ghost four: { instance.config.replicas ≡ 4 },
+}
+
+impl Replica {
+    /// Its own value is [a=1], and no round is open.
+    pub(crate) fn open(alloc: Global, number: u8) -> Option<Self> {
+        let config = Config::new(4, 1, AppKind::KvStore).ok()?;
+        if number >= 4 {
+            return None;
+        }
+        let own = value(alloc, b"a=1").ok()?;
+        let id = ReplicaId::new(number);
+        let instance = Instance::open(alloc, &config, id, Height::new(1), &own).ok()?;
+        Some(Replica {
+            alloc,
+            number,
+            instance,
+            clock: 0,
+        })
+    }
+
+    /// Why the frame of these bytes is ignored, if it is.
+    pub(crate) fn ignores(&mut self, ring: &KeyRing, bytes: &[u8]) -> Option<Option<Ignored>> {
+        let frame = parsed(self.alloc, bytes)?;
+        if self.clock > 1000
+            || frame.statement().signer().number() >= 4
+            || frame.statement().height() != self.instance.height()
+        {
+            return None;
+        }
+        match self.instance.read(self.alloc, ring, frame, self.clock) {
+            Ok(answer) => Some(answer.err()),
+            Err(_) => None,
+        }
+    }
+}
