@@ -17,7 +17,6 @@ mod cluster;
 mod gate;
 mod mail;
 mod post;
-mod replica;
 mod round_clock;
 mod running;
 mod sending;
@@ -25,7 +24,6 @@ mod worker;
 
 pub use cluster::Cluster;
 pub use gate::{NoGate, TurnGate};
-pub use replica::{new_replica, ring_of_all};
 pub use round_clock::{MachineClock, Progress, RoundClock};
 pub use running::run_all;
 pub use worker::Worker;
