@@ -6,7 +6,7 @@ ghost use Rattle.ledger_model.specs.Applications.{run};
 ghost use Rattle.key_ring.specs.Signers.{key_of};
 ghost use Rattle.cluster_keys.specs.Keys.{secret_of};
 ghost use Rattle.locked_replica.specs.Replicas.{IsMember};
-ghost use Rattle.adversary_net.specs.Openings.{different, is_liar, correct_without, unused, ring_of, new_party, IsSupply};
+ghost use Rattle.adversary_net.specs.Openings.{different, is_liar, correct_without, unused, ring_of, new_party, IsSupply, MayLie};
 
 use crate::correct::CorrectReplica;
 use crate::fault::WorldFault;
@@ -61,6 +61,22 @@ fn has_stranger(config: &Config, replicas: &[ReplicaId]) -> bool
     replicas
         .iter()
         .any(|replica| replica.number() >= config.replicas)
+}
+
+/// Why these replicas may not lie, if they may not.
+fn check_liars(config: &Config, liars: &[ReplicaId]) -> Result<(), WorldFault>
+    ensures may { OnOk result (MayLie config.now liars.now) }
+    ensures too_many { IsErrOf result WorldFault.TooManyLiars ↔ (config.now.faults < different liars.now) }
+    ensures no_such { IsErrOf result WorldFault.NoSuchReplica
+        ↔ ((different liars.now ≤ config.now.faults) × Any (λ r. config.now.replicas ≤ r) liars.now) }
+{
+    if different_of(liars) > usize::from(config.faults) {
+        return Err(WorldFault::TooManyLiars);
+    }
+    if has_stranger(config, liars) {
+        return Err(WorldFault::NoSuchReplica);
+    }
+    Ok(())
 }
 
 /// The key pairs of all replicas by number, with no leaf used.
@@ -179,7 +195,7 @@ impl<A: Application> World<A> {
     ghost use Rattle.ledger_model.specs.Timelines.{AreReplicas};
     ghost use Rattle.ledger_model.specs.Worlds.{beginning};
     ghost use Rattle.adversary_net.specs.Clusters.{world_of};
-    ghost use Rattle.adversary_net.specs.Openings.{MayLie, new_cluster};
+    ghost use Rattle.adversary_net.specs.Openings.{new_cluster};
 
     /// The world of a cluster in which these replicas lie, with an application and two random keys for each correct replica, by
     /// ascending numbers. The applications are in their opening state, of the cluster's kind.
@@ -205,12 +221,7 @@ impl<A: Application> World<A> {
         ensures no_such { IsErrOf result WorldFault.NoSuchReplica
             ↔ ((different liars.now ≤ cluster.now.config.faults) × Any (λ r. cluster.now.config.replicas ≤ r) liars.now) }
     {
-        if different_of(liars) > usize::from(cluster.config.faults) {
-            return Err(WorldFault::TooManyLiars);
-        }
-        if has_stranger(&cluster.config, liars) {
-            return Err(WorldFault::NoSuchReplica);
-        }
+        check_liars(&cluster.config, liars)?;
         let signers = signers_of(alloc, cluster)?;
         let ring = ring_of_signers(alloc, &signers)?;
         let supply = Supply {

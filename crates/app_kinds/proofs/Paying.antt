@@ -1,10 +1,10 @@
 -- What the purse keeps, said of transactions.
-use Rattle.std.proofs.Common.{◌≡◌, ◌≢◌, ℕ, ◌+◌, ◌-◌, ◌<◌, ◌⊎◌, inl, inr, true, false, cond, List, [], ◌∷◌, ◌++◌, length, map, get_or, sym, ap, ◌∙◌, arith}
+use Rattle.std.proofs.Common.{◌≡◌, ◌≢◌, ℕ, ◌+◌, ◌-◌, ◌<◌, ◌⊎◌, inl, inr, true, false, cond, List, [], ◌∷◌, ◌++◌, length, map, get_or, refl, sym, ap, ◌∙◌, arith}
 use Rattle.std.specs.Prelude.{◌==◌}
 use Rattle.std.specs.List.{range_with_len}
 use Rattle.std.proofs.lemmas.List.{ext_get_or, length-set}
 use Rattle.std.proofs.lemmas.List.FromFn.{get_or-map-range_with_len, length-map-range_with_len}
-use Rattle.std.proofs.lemmas.Bool.{cases_eq}
+use Rattle.std.proofs.lemmas.Bool.{cases_eq, eq-eqb, ne_eqb}
 use Rattle.ledger_model.specs.Applications.{state_of, code_after, accepted, sender, receiver, amount, balance_of, nonce_of}
 use Rattle.ledger_model.specs.Applications.AppState.{Accounts}
 use Rattle.ledger_model.specs.declared.config.AppKind.TheVariants.{Purse}
@@ -34,10 +34,10 @@ length-held done = length-map-range_with_len (held_by done) 0 256
 
 -- which accounts a transaction leaves as they are
 pub eqb-other : (a b : ℕ) → a ≢ b → (a == b) ≡ false
-eqb-other a b apart = grind arith
+eqb-other = ne_eqb
 
 eqb-self : (a : ℕ) → (a == a) ≡ true
-eqb-self a = grind arith
+eqb-self a = eq-eqb a a refl
 
 module _ (done : List (List ℕ)) (tx : List ℕ) (fine : Solvent done) (apart : sender tx ≢ receiver tx) where
   at-receiver : held_by (done ++ tx ∷ []) (receiver tx) ≡ (balance_of done (receiver tx) + amount tx, nonce_of done (receiver tx))
@@ -46,7 +46,7 @@ module _ (done : List (List ℕ)) (tx : List ℕ) (fine : Solvent done) (apart :
       let r = received-push done tx (receiver tx) ∙ ap (λ b. received done (receiver tx) + cond b (amount tx) 0) (eqb-self (receiver tx)) in
       let n : nonce_of (done ++ tx ∷ []) (receiver tx) ≡ nonce_of done (receiver tx) = nonce-push done tx (receiver tx) ∙ ap (λ b. nonce_of done (receiver tx) + cond b 1 0) (eqb-other _ _ apart) ∙ omega arith in
       let b : balance_of (done ++ tx ∷ []) (receiver tx) ≡ balance_of done (receiver tx) + amount tx = omega (arith, s, r, fine.covered (receiver tx)) in
-      cc
+      λ k. (b k, n k)
 
   at-sender : held_by (done ++ tx ∷ []) (sender tx) ≡ (balance_of done (sender tx) - amount tx, nonce_of done (sender tx) + 1)
   at-sender =
@@ -54,7 +54,7 @@ module _ (done : List (List ℕ)) (tx : List ℕ) (fine : Solvent done) (apart :
       let r = received-push done tx (sender tx) ∙ ap (λ b. received done (sender tx) + cond b (amount tx) 0) (eqb-other _ _ (λ e. apart (sym e))) in
       let n : nonce_of (done ++ tx ∷ []) (sender tx) ≡ nonce_of done (sender tx) + 1 = nonce-push done tx (sender tx) ∙ ap (λ b. nonce_of done (sender tx) + cond b 1 0) (eqb-self (sender tx)) in
       let b : balance_of (done ++ tx ∷ []) (sender tx) ≡ balance_of done (sender tx) - amount tx = omega (arith, s, r) in
-      cc
+      λ k. (b k, n k)
 
   at-other : (a : ℕ) → a ≢ sender tx → a ≢ receiver tx → held_by (done ++ tx ∷ []) a ≡ held_by done a
   at-other a no_sender no_receiver =
@@ -62,7 +62,7 @@ module _ (done : List (List ℕ)) (tx : List ℕ) (fine : Solvent done) (apart :
       let r = received-push done tx a ∙ ap (λ b. received done a + cond b (amount tx) 0) (eqb-other _ _ (λ e. no_receiver (sym e))) in
       let n : nonce_of (done ++ tx ∷ []) a ≡ nonce_of done a = nonce-push done tx a ∙ ap (λ b. nonce_of done a + cond b 1 0) (eqb-other _ _ (λ e. no_sender (sym e))) ∙ omega arith in
       let b : balance_of (done ++ tx ∷ []) a ≡ balance_of done a = omega (arith, s, r) in
-      cc
+      λ k. (b k, n k)
 
   -- an accepted transfer moves its amount
   pub held-push : sender tx < 256 → receiver tx < 256 → held_after (done ++ tx ∷ []) ≡ moved (held_after done) (sender tx) (receiver tx) (amount tx)

@@ -103,9 +103,9 @@ impl Instance {
         ensures matches { IfOk result (λ row. (ring : Ring) (log : List Note) → only_rounds log ≡ true
             → Matches ring row (log ++ Proposed initial.now ∷ [])) }
     {
-        let proper = Proper::new(alloc, config, initial)?;
         let locks = LockTable::new(alloc)?;
         let (reports, acks) = empty_places(alloc, config)?;
+        let proper = Proper::new(alloc, config, initial)?;
         Ok(Instance {
             config: *config,
             id,

@@ -1,9 +1,17 @@
 //! What is made as a round opens.
+ghost use Rattle.std.specs.Prelude.{◌≡◌, map, filter, take, IfOk};
+ghost use Rattle.ledger_model.specs.Locks.{finds};
+ghost use Rattle.ledger_model.specs.Spelling.{frame_bytes};
+ghost use Rattle.ledger_model.specs.Tallies.{all_read};
+ghost use Rattle.ledger_model.specs.LockTables.{as_statement};
+ghost use Rattle.lock_proofs.specs.Tables.{values_of};
+
 use crate::height::Instance;
 use crate::plan::{Ending, Plan};
 use crate::rounds::{Place, phase_of, place_of};
 use bytes::Bytes;
 use ledger_model::{Ack, Batch, Batches, Lock, LockProof, Phase, Report, SignedReport, Statement};
+use lock_proofs::LockFrame;
 use phase_core::{choose, is_acknowledged};
 use proper_sets::Proper;
 use std::alloc::{AllocError, Global};
@@ -30,26 +38,23 @@ impl Instance {
     fn held_values(&self, alloc: Global) -> Result<Vec<Batch>, AllocError>
         ensures { IfOk result (λ values. values.items ≡ values_of self.now.table) }
     {
-        let held = self.locks.held();
-        let mut values = Vec::with_capacity(alloc, held.len())?;
-        for lock in held {
-            values.push(lock.value().copy()?)?;
-        }
-        Ok(values)
+        copied_values(alloc, self.locks.held())
     }
 
     /// The own report of a phase: what is proper and what is held.
     fn own_report(&self, alloc: Global, phase: Phase) -> Result<Report, AllocError>
         ensures { IfOk result (λ report. report ≡ own_report self.now phase) }
     {
+        let locked = Batches::new(self.held_values(alloc)?);
+        let (initial, proper) = copies_of(alloc, &self.proper)?;
         Ok(Report {
             height: self.height,
             phase,
             signer: self.id,
             all: self.proper.all(),
-            initial: self.proper.own().copy()?,
-            proper: Batches::from_slice(alloc, self.proper.explicit())?,
-            locked: Batches::new(self.held_values(alloc)?),
+            initial,
+            proper,
+            locked,
         })
     }
 
@@ -59,17 +64,7 @@ impl Instance {
             ≡ take (quorum self.now.config) (filter (λ s. finds s.report value.now) (all_read self.now.reports))) }
     {
         let quorum = usize::from(self.config.quorum());
-        let mut proof = Vec::with_capacity(alloc, quorum)?;
-        let places = self.reports.places();
-        for place in places {
-            if let Some(signed) = place
-                && proof.len() < quorum
-                && signed.report.finds(value)
-            {
-                proof.push(signed.copy()?)?;
-            }
-        }
-        Ok(proof)
+        lowest_finding(alloc, self.reports.places(), value, quorum)
     }
 
     /// The own lock of a phase on a value.
@@ -196,12 +191,7 @@ impl Instance {
     fn held_frames(&self, alloc: Global) -> Result<Vec<Bytes>, AllocError>
         ensures { IfOk result (λ frames. frames.items ≡ map (λ s. frame_bytes (as_statement s)) self.now.table) }
     {
-        let held = self.locks.held();
-        let mut frames = Vec::with_capacity(alloc, held.len())?;
-        for lock in held {
-            frames.push(lock.frame().share()?)?;
-        }
-        Ok(frames)
+        shared_frames(alloc, self.locks.held())
     }
 
     /// What is to be done as the lock-release round of a phase opens: the held locks are sent on, and a value may be decided.
@@ -275,4 +265,57 @@ impl Instance {
             ending: self.prepare_end(alloc, clock)?,
         })
     }
+}
+
+/// The own initial value, and the values that are proper by name.
+fn copies_of(alloc: Global, proper: &Proper) -> Result<(Batch, Batches), AllocError>
+    ensures own { IfOk result (λ copies. copies.0 ≡ proper.now.set.own) }
+    ensures explicit { IfOk result (λ copies. copies.1 ≡ proper.now.set.explicit) }
+{
+    let own = proper.own().copy()?;
+    let explicit = Batches::from_slice(alloc, proper.explicit())?;
+    Ok((own, explicit))
+}
+
+/// The values of the locks, in order.
+fn copied_values(alloc: Global, locks: &[LockFrame]) -> Result<Vec<Batch>, AllocError>
+    ensures { IfOk result (λ values. values.items ≡ values_of locks.now) }
+{
+    let mut values = Vec::with_capacity(alloc, locks.len())?;
+    for lock in locks {
+        values.push(lock.value().copy()?)?;
+    }
+    Ok(values)
+}
+
+/// The reports of the lowest signers that find the value, at most so many.
+fn lowest_finding(
+    alloc: Global,
+    places: &[Option<SignedReport>],
+    value: &Batch,
+    count: usize,
+) -> Result<Vec<SignedReport>, AllocError>
+    ensures { IfOk result (λ found. found.items ≡ take count (filter (λ s. finds s.report value.now) (all_read places.now))) }
+{
+    let mut found = Vec::with_capacity(alloc, count)?;
+    for place in places {
+        if let Some(signed) = place
+            && found.len() < count
+            && signed.report.finds(value)
+        {
+            found.push(signed.copy()?)?;
+        }
+    }
+    Ok(found)
+}
+
+/// The frames of the locks, in order, which share their bytes.
+fn shared_frames(alloc: Global, locks: &[LockFrame]) -> Result<Vec<Bytes>, AllocError>
+    ensures { IfOk result (λ frames. frames.items ≡ map (λ s. frame_bytes (as_statement s)) locks.now) }
+{
+    let mut frames = Vec::with_capacity(alloc, locks.len())?;
+    for lock in locks {
+        frames.push(lock.frame().share()?)?;
+    }
+    Ok(frames)
 }

@@ -16,6 +16,10 @@ pub bind_some : {A B : Type 0} (o : Option A) (f : A → Option B) (y : B) → (
 bind_some (Some x) f y e = (x, refl, e)
 bind_some None f y e = absurd cc
 
+-- the same, for what is shown of that value
+pub bind_then : {A B P : Type 0} (o : Option A) (f : A → Option B) (y : B) → (o >>= f) ≡ Some y → ((x : A) → o ≡ Some x → f x ≡ Some y → P) → P
+bind_then o f y e shown = let a = bind_some o f y e in shown a.0 a.1 a.2
+
 pub only_if-some : {A : Type 0} (test : Bool) (x y : A) → only_if test x ≡ Some y → (test ≡ true) × (x ≡ y)
 only_if-some true x y e = (refl, cc)
 only_if-some false x y e = absurd cc

@@ -14,7 +14,7 @@ use Rattle.ledger_model.specs.Validity.{ascends_within, signers_of}
 use Rattle.ledger_model.specs.Spelling.{IsPlace, IsReport, IsSignature, IsSigned, IsLock, IsAck, IsStatement, list_bytes, report_bytes, signature_bytes, signed_bytes, lock_bytes, ack_bytes, statement_bytes}
 use Rattle.ledger_model.specs.GrammarLaws.{IsBytes}
 use Rattle.ledger_model.specs.Reading.{◌>>=◌, only_if, guarded, bytes_at, byte_at, number_at, signature_at, positive_at, flag_at, Place, place_at, value_at, list_at, report_at, signed_at, proof_at, lock_at, ack_at, statement_at}
-use Rattle.ledger_model.proofs.Readers.{bind_some, only_if-some, guarded-some, some_is, each_byte, IsReader, many_takes, many_again, IsBytes-tail, byte_takes, bytes_take, bytes_again, wide16, wide32, number_reader}
+use Rattle.ledger_model.proofs.Readers.{bind_some, bind_then, only_if-some, guarded-some, some_is, each_byte, IsReader, many_takes, many_again, IsBytes-tail, byte_takes, bytes_take, bytes_again, wide16, wide32, number_reader}
 use Rattle.ledger_model.proofs.ValueReading.{value_reader, list_reader}
 
 -- ---- signatures
@@ -32,7 +32,7 @@ signature_takes bytes signature rest fits e =
     let parts : bytes ≡ (to_be_bytes w16 (length signature) ++ signature) ++ rest =
     first.0 ∙ ap (λ (t : List ℕ). to_be_bytes w16 a.0.0 ++ t) text.0 ∙ ap (λ (k : ℕ). to_be_bytes w16 k ++ (signature ++ rest)) (sym len)
     ∙ sym (append_assoc (to_be_bytes w16 (length signature)) signature rest) in
-    (parts, record { short = omega arith; bytes = each_byte signature text.1 }, text.2)
+    (parts, record { short = subst (λ (k : ℕ). k ≤ 2508) (sym len) short; bytes = each_byte signature text.1 }, text.2)
 
 pub signature_again : (signature rest : List ℕ) → IsSignature signature → signature_at (signature_bytes signature ++ rest) ≡ Some (signature, rest)
 unfolding signature_at
@@ -133,23 +133,23 @@ report_regroup h p v l m rest s f = simp append_assoc
 pub report_takes : (bytes : List ℕ) (r : Report) (rest : List ℕ) → IsBytes bytes → report_at bytes ≡ Some (r, rest) → (bytes ≡ report_tail r ++ rest) × IsReport r × IsBytes rest
 unfolding report_at
 report_takes bytes r rest fits e =
-    let a = bind_some (place_at bytes) (λ place. flag_at place.1 >>= λ all. value_at all.1 >>= λ initial. list_at initial.1 >>= λ proper. guarded (leb 1 (length proper.0)) (list_at proper.1) >>= λ locked. Some (record { height = place.0.height; phase = place.0.phase; signer = place.0.signer; all = all.0; initial = initial.0; proper = proper.0; locked = locked.0 }, locked.1)) (r, rest) e in
-    let b = bind_some (flag_at a.0.1) (λ all. value_at all.1 >>= λ initial. list_at initial.1 >>= λ proper. guarded (leb 1 (length proper.0)) (list_at proper.1) >>= λ locked. Some (record { height = a.0.0.height; phase = a.0.0.phase; signer = a.0.0.signer; all = all.0; initial = initial.0; proper = proper.0; locked = locked.0 }, locked.1)) (r, rest) a.2 in
-    let c = bind_some (value_at b.0.1) (λ initial. list_at initial.1 >>= λ proper. guarded (leb 1 (length proper.0)) (list_at proper.1) >>= λ locked. Some (record { height = a.0.0.height; phase = a.0.0.phase; signer = a.0.0.signer; all = b.0.0; initial = initial.0; proper = proper.0; locked = locked.0 }, locked.1)) (r, rest) b.2 in
-    let d = bind_some (list_at c.0.1) (λ proper. guarded (leb 1 (length proper.0)) (list_at proper.1) >>= λ locked. Some (record { height = a.0.0.height; phase = a.0.0.phase; signer = a.0.0.signer; all = b.0.0; initial = c.0.0; proper = proper.0; locked = locked.0 }, locked.1)) (r, rest) c.2 in
-    let f = bind_some (guarded (leb 1 (length d.0.0)) (list_at d.0.1)) (λ locked. Some (record { height = a.0.0.height; phase = a.0.0.phase; signer = a.0.0.signer; all = b.0.0; initial = c.0.0; proper = d.0.0; locked = locked.0 }, locked.1)) (r, rest) d.2 in
-    let g = guarded-some (leb 1 (length d.0.0)) (list_at d.0.1) f.0 f.1 in
-    let place = place_reader.takes bytes a.0.0 a.0.1 fits a.1 in
-    let all = flag_reader.takes a.0.1 b.0.0 b.0.1 place.2 b.1 in
-    let initial = value_reader.takes b.0.1 c.0.0 c.0.1 all.2 c.1 in
-    let proper = list_reader.takes c.0.1 d.0.0 d.0.1 initial.2 d.1 in
-    let locked = list_reader.takes d.0.1 f.0.0 f.0.1 proper.2 g.1 in
-    let made : Report × List ℕ = (record { height = a.0.0.height; phase = a.0.0.phase; signer = a.0.0.signer; all = b.0.0; initial = c.0.0; proper = d.0.0; locked = f.0.0 }, f.0.1) in
+    bind_then (place_at bytes) (λ place. flag_at place.1 >>= λ all. value_at all.1 >>= λ initial. list_at initial.1 >>= λ proper. guarded (leb 1 (length proper.0)) (list_at proper.1) >>= λ locked. Some (record { height = place.0.height; phase = place.0.phase; signer = place.0.signer; all = all.0; initial = initial.0; proper = proper.0; locked = locked.0 }, locked.1)) (r, rest) e (λ place place_is after_place.
+    bind_then (flag_at place.1) (λ all. value_at all.1 >>= λ initial. list_at initial.1 >>= λ proper. guarded (leb 1 (length proper.0)) (list_at proper.1) >>= λ locked. Some (record { height = place.0.height; phase = place.0.phase; signer = place.0.signer; all = all.0; initial = initial.0; proper = proper.0; locked = locked.0 }, locked.1)) (r, rest) after_place (λ all all_is after_all.
+    bind_then (value_at all.1) (λ initial. list_at initial.1 >>= λ proper. guarded (leb 1 (length proper.0)) (list_at proper.1) >>= λ locked. Some (record { height = place.0.height; phase = place.0.phase; signer = place.0.signer; all = all.0; initial = initial.0; proper = proper.0; locked = locked.0 }, locked.1)) (r, rest) after_all (λ initial initial_is after_initial.
+    bind_then (list_at initial.1) (λ proper. guarded (leb 1 (length proper.0)) (list_at proper.1) >>= λ locked. Some (record { height = place.0.height; phase = place.0.phase; signer = place.0.signer; all = all.0; initial = initial.0; proper = proper.0; locked = locked.0 }, locked.1)) (r, rest) after_initial (λ proper proper_is after_proper.
+    bind_then (guarded (leb 1 (length proper.0)) (list_at proper.1)) (λ locked. Some (record { height = place.0.height; phase = place.0.phase; signer = place.0.signer; all = all.0; initial = initial.0; proper = proper.0; locked = locked.0 }, locked.1)) (r, rest) after_proper (λ locked locked_is after_locked.
+    let g = guarded-some (leb 1 (length proper.0)) (list_at proper.1) locked locked_is in
+    let a = place_reader.takes bytes place.0 place.1 fits place_is in
+    let b = flag_reader.takes place.1 all.0 all.1 a.2 all_is in
+    let c = value_reader.takes all.1 initial.0 initial.1 b.2 initial_is in
+    let d = list_reader.takes initial.1 proper.0 proper.1 c.2 proper_is in
+    let f = list_reader.takes proper.1 locked.0 locked.1 d.2 g.1 in
+    let made : Report × List ℕ = (record { height = place.0.height; phase = place.0.phase; signer = place.0.signer; all = all.0; initial = initial.0; proper = proper.0; locked = locked.0 }, locked.1) in
     let parts : bytes ≡ report_tail made.0 ++ made.1 =
-    place.0 ∙ ap (λ (t : List ℕ). place_bytes a.0.0 ++ t) (all.0 ∙ ap (λ (t : List ℕ). flag_bytes b.0.0 ++ t) (initial.0 ∙ ap (λ (t : List ℕ). value_bytes c.0.0 ++ t) (proper.0 ∙ ap (λ (t : List ℕ). list_bytes d.0.0 ++ t) locked.0)))
-    ∙ report_regroup (to_be_bytes w32 a.0.0.height) (to_be_bytes w32 a.0.0.phase) (value_bytes c.0.0) (list_bytes d.0.0) (list_bytes f.0.0) f.0.1 a.0.0.signer (cond b.0.0 1 0) in
-    subst (λ (q : Report × List ℕ). (bytes ≡ report_tail q.0 ++ q.1) × IsReport q.0 × IsBytes q.1) (some_is made (r, rest) f.2)
-    (parts, record { place = place.1; initial = initial.1; proper = proper.1; some = leb-true 1 (length d.0.0) g.0; locked = locked.1 }, locked.2)
+    a.0 ∙ ap (λ (t : List ℕ). place_bytes place.0 ++ t) (b.0 ∙ ap (λ (t : List ℕ). flag_bytes all.0 ++ t) (c.0 ∙ ap (λ (t : List ℕ). value_bytes initial.0 ++ t) (d.0 ∙ ap (λ (t : List ℕ). list_bytes proper.0 ++ t) f.0)))
+    ∙ report_regroup (to_be_bytes w32 place.0.height) (to_be_bytes w32 place.0.phase) (value_bytes initial.0) (list_bytes proper.0) (list_bytes locked.0) locked.1 place.0.signer (cond all.0 1 0) in
+    subst (λ (q : Report × List ℕ). (bytes ≡ report_tail q.0 ++ q.1) × IsReport q.0 × IsBytes q.1) (some_is made (r, rest) after_locked)
+    (parts, record { place = a.1; initial = c.1; proper = d.1; some = leb-true 1 (length proper.0) g.0; locked = f.1 }, f.2))))))
 
 pub report_again : (r : Report) (rest : List ℕ) → IsReport r → report_at (report_tail r ++ rest) ≡ Some (r, rest)
 unfolding report_at
@@ -224,27 +224,28 @@ lock_regroup h p v f rest s n = simp append_assoc
 pub lock_takes : (bytes : List ℕ) (l : Lock) (rest : List ℕ) → IsBytes bytes → lock_at bytes ≡ Some (l, rest) → (bytes ≡ lock_tail l ++ rest) × IsLock l × IsBytes rest
 unfolding lock_at
 lock_takes bytes l rest fits e =
-    let a = bind_some (place_at bytes) (λ place. value_at place.1 >>= λ v. byte_at v.1 >>= λ count. guarded (leb 3 count.0 && leb count.0 12) (proof_at count.0 count.1) >>= λ reports. only_if (ascends_within 0 256 (signers_of reports.0)) (record { height = place.0.height; phase = place.0.phase; signer = place.0.signer; value = v.0; proof = reports.0 }, reports.1)) (l, rest) e in
-    let b = bind_some (value_at a.0.1) (λ v. byte_at v.1 >>= λ count. guarded (leb 3 count.0 && leb count.0 12) (proof_at count.0 count.1) >>= λ reports. only_if (ascends_within 0 256 (signers_of reports.0)) (record { height = a.0.0.height; phase = a.0.0.phase; signer = a.0.0.signer; value = v.0; proof = reports.0 }, reports.1)) (l, rest) a.2 in
-    let c = bind_some (byte_at b.0.1) (λ count. guarded (leb 3 count.0 && leb count.0 12) (proof_at count.0 count.1) >>= λ reports. only_if (ascends_within 0 256 (signers_of reports.0)) (record { height = a.0.0.height; phase = a.0.0.phase; signer = a.0.0.signer; value = b.0.0; proof = reports.0 }, reports.1)) (l, rest) b.2 in
-    let d = bind_some (guarded (leb 3 c.0.0 && leb c.0.0 12) (proof_at c.0.0 c.0.1)) (λ reports. only_if (ascends_within 0 256 (signers_of reports.0)) (record { height = a.0.0.height; phase = a.0.0.phase; signer = a.0.0.signer; value = b.0.0; proof = reports.0 }, reports.1)) (l, rest) c.2 in
-    let g = guarded-some (leb 3 c.0.0 && leb c.0.0 12) (proof_at c.0.0 c.0.1) d.0 d.1 in
-    let ends = and_parts (leb 3 c.0.0) (leb c.0.0 12) g.0 in
-    let least : 3 ≤ c.0.0 = leb-true 3 c.0.0 ends.0 in
-    let most : c.0.0 ≤ 12 = leb-true c.0.0 12 ends.1 in
-    let made : Lock × List ℕ = (record { height = a.0.0.height; phase = a.0.0.phase; signer = a.0.0.signer; value = b.0.0; proof = d.0.0 }, d.0.1) in
-    let o = only_if-some (ascends_within 0 256 (signers_of d.0.0)) made (l, rest) d.2 in
-    let place = place_reader.takes bytes a.0.0 a.0.1 fits a.1 in
-    let value = value_reader.takes a.0.1 b.0.0 b.0.1 place.2 b.1 in
-    let count = byte_takes b.0.1 c.0.0 c.0.1 value.2 c.1 in
-    let proof = proof_takes c.0.0 c.0.1 d.0.0 d.0.1 count.2 g.1 in
-    let len : length d.0.0 ≡ c.0.0 = proof.3 in
-    let reports : b.0.1 ≡ length d.0.0 ∷ (flat_map signed_bytes d.0.0 ++ d.0.1) = count.0 ∙ ap (λ (t : List ℕ). c.0.0 ∷ t) proof.0 ∙ ap (λ (k : ℕ). k ∷ (flat_map signed_bytes d.0.0 ++ d.0.1)) (sym len) in
+    bind_then (place_at bytes) (λ place. value_at place.1 >>= λ value. byte_at value.1 >>= λ count. guarded (leb 3 count.0 && leb count.0 12) (proof_at count.0 count.1) >>= λ reports. only_if (ascends_within 0 256 (signers_of reports.0)) (record { height = place.0.height; phase = place.0.phase; signer = place.0.signer; value = value.0; proof = reports.0 }, reports.1)) (l, rest) e (λ place place_is after_place.
+    bind_then (value_at place.1) (λ value. byte_at value.1 >>= λ count. guarded (leb 3 count.0 && leb count.0 12) (proof_at count.0 count.1) >>= λ reports. only_if (ascends_within 0 256 (signers_of reports.0)) (record { height = place.0.height; phase = place.0.phase; signer = place.0.signer; value = value.0; proof = reports.0 }, reports.1)) (l, rest) after_place (λ value value_is after_value.
+    bind_then (byte_at value.1) (λ count. guarded (leb 3 count.0 && leb count.0 12) (proof_at count.0 count.1) >>= λ reports. only_if (ascends_within 0 256 (signers_of reports.0)) (record { height = place.0.height; phase = place.0.phase; signer = place.0.signer; value = value.0; proof = reports.0 }, reports.1)) (l, rest) after_value (λ count count_is after_count.
+    bind_then (guarded (leb 3 count.0 && leb count.0 12) (proof_at count.0 count.1)) (λ reports. only_if (ascends_within 0 256 (signers_of reports.0)) (record { height = place.0.height; phase = place.0.phase; signer = place.0.signer; value = value.0; proof = reports.0 }, reports.1)) (l, rest) after_count (λ reports reports_is after_reports.
+    let g = guarded-some (leb 3 count.0 && leb count.0 12) (proof_at count.0 count.1) reports reports_is in
+    let ends = and_parts (leb 3 count.0) (leb count.0 12) g.0 in
+    let least : 3 ≤ count.0 = leb-true 3 count.0 ends.0 in
+    let most : count.0 ≤ 12 = leb-true count.0 12 ends.1 in
+    let made : Lock × List ℕ = (record { height = place.0.height; phase = place.0.phase; signer = place.0.signer; value = value.0; proof = reports.0 }, reports.1) in
+    let o = only_if-some (ascends_within 0 256 (signers_of reports.0)) made (l, rest) after_reports in
+    let a = place_reader.takes bytes place.0 place.1 fits place_is in
+    let b = value_reader.takes place.1 value.0 value.1 a.2 value_is in
+    let c = byte_takes value.1 count.0 count.1 b.2 count_is in
+    let d = proof_takes count.0 count.1 reports.0 reports.1 c.2 g.1 in
+    let len : count.0 ≡ length reports.0 = sym d.3 in
+    let spelled : value.1 ≡ length reports.0 ∷ (flat_map signed_bytes reports.0 ++ reports.1) =
+    c.0 ∙ ap (λ (t : List ℕ). count.0 ∷ t) d.0 ∙ ap (λ (k : ℕ). k ∷ (flat_map signed_bytes reports.0 ++ reports.1)) len in
     let parts : bytes ≡ lock_tail made.0 ++ made.1 =
-    place.0 ∙ ap (λ (t : List ℕ). place_bytes a.0.0 ++ t) (value.0 ∙ ap (λ (t : List ℕ). value_bytes b.0.0 ++ t) reports)
-    ∙ lock_regroup (to_be_bytes w32 a.0.0.height) (to_be_bytes w32 a.0.0.phase) (value_bytes b.0.0) (flat_map signed_bytes d.0.0) d.0.1 a.0.0.signer (length d.0.0) in
+    a.0 ∙ ap (λ (t : List ℕ). place_bytes place.0 ++ t) (b.0 ∙ ap (λ (t : List ℕ). value_bytes value.0 ++ t) spelled)
+    ∙ lock_regroup (to_be_bytes w32 place.0.height) (to_be_bytes w32 place.0.phase) (value_bytes value.0) (flat_map signed_bytes reports.0) reports.1 place.0.signer (length reports.0) in
     subst (λ (q : Lock × List ℕ). (bytes ≡ lock_tail q.0 ++ q.1) × IsLock q.0 × IsBytes q.1) o.1
-    (parts, record { place = place.1; value = value.1; count = (omega arith, omega arith); each = proof.1; signers = o.0 }, proof.2)
+    (parts, record { place = a.1; value = b.1; count = (subst (λ (k : ℕ). 3 ≤ k) len least, subst (λ (k : ℕ). k ≤ 12) len most); each = d.1; signers = o.0 }, d.2)))))
 
 pub lock_again : (l : Lock) (rest : List ℕ) → IsLock l → lock_at (lock_tail l ++ rest) ≡ Some (l, rest)
 unfolding lock_at

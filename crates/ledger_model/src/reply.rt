@@ -4,8 +4,9 @@ ghost use Rattle.std.specs.Prelude.{◌≡◌, IfOk};
 use crate::{Batch, Height, ReplicaId};
 use bytes::Bytes;
 use std::alloc::{AllocError, Global};
+use std::error::Error;
+use std::fmt;
 use std::marker::Model;
-use thiserror::Error;
 
 /// Why a transaction is not taken into the pool.
 #[derive(Clone, Copy, Debug, PartialEq, Eq)]
@@ -27,42 +28,51 @@ pub enum ProposeRefusal {
 }
 
 /// Why a delivered frame changes nothing: the first cause that fits. Each shows its number and its name.
-#[derive(Clone, Copy, Debug, PartialEq, Eq, Error)]
+#[derive(Clone, Copy, Debug, PartialEq, Eq)]
 pub enum Ignored {
     /// The bytes are not exactly one frame.
-    #[error("1 Malformed")]
     Malformed,
     /// The signer is no replica of the cluster.
-    #[error("2 Signer")]
     Signer,
     /// The height is not open here.
-    #[error("3 NoRow")]
     NoRow,
     /// The statement does not belong to the open round.
-    #[error("4 WrongRound")]
     WrongRound,
     /// The statement is of another phase, or a lock sent on is of a later one.
-    #[error("5 WrongPhase")]
     WrongPhase,
     /// The lock's signer does not own its phase.
-    #[error("6 NotOwner")]
     NotOwner,
     /// One such statement was read already.
-    #[error("7 Repeated")]
     Repeated,
     /// The signature does not verify.
-    #[error("8 BadSignature")]
     BadSignature,
     /// The lock's reports do not support it.
-    #[error("9 BadProof")]
     BadProof,
     /// Locks on four other values are held.
-    #[error("10 TableFull")]
     TableFull,
     /// The acknowledgement is of a lock that this replica did not make.
-    #[error("11 NotMine")]
     NotMine,
 }
+
+impl fmt::Display for Ignored {
+    fn fmt<W: fmt::Write>(&self, f: &mut fmt::Formatter<W>) -> fmt::Result {
+        f.write_str(match self {
+            Ignored::Malformed => "1 Malformed",
+            Ignored::Signer => "2 Signer",
+            Ignored::NoRow => "3 NoRow",
+            Ignored::WrongRound => "4 WrongRound",
+            Ignored::WrongPhase => "5 WrongPhase",
+            Ignored::NotOwner => "6 NotOwner",
+            Ignored::Repeated => "7 Repeated",
+            Ignored::BadSignature => "8 BadSignature",
+            Ignored::BadProof => "9 BadProof",
+            Ignored::TableFull => "10 TableFull",
+            Ignored::NotMine => "11 NotMine",
+        })
+    }
+}
+
+impl Error for Ignored {}
 
 /// No round is left.
 #[derive(Clone, Copy, Debug, PartialEq, Eq)]

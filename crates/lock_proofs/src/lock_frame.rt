@@ -16,9 +16,16 @@ use std::marker::Model;
 
 /// The frame of a lock, and what is read off it. Contracts see the lock and its signature. Whether the lock is valid is
 /// no matter of this type: [`check_lock`] says it of those that it answers.
-#[derive(Debug, Drop)]
+#[derive(Debug)]
 pub struct LockFrame {
     frame: Frame,
+}
+
+// It is dropped by a function of its own, so that whoever owns one drops it by a single call.
+impl Drop for LockFrame {
+    fn drop(self) {
+        let LockFrame { frame: _frame } = self;
+    }
 }
 
 impl Model for LockFrame {
@@ -117,6 +124,7 @@ pub fn check_lock(config: &Config, ring: &KeyRing, frame: Frame) -> Result<LockF
     ensures only { IsSigned ring.now (lock_in frame) → ValidLock (IsBacked ring.now) config.now (lock_in frame).lock
         → IsOk result }
 {
-    examine(config, ring, &frame)?;
-    Ok(LockFrame { frame })
+    let lock = LockFrame { frame };
+    examine(config, ring, &lock.frame)?;
+    Ok(lock)
 }

@@ -1,10 +1,12 @@
 //! A replica: its history and what it keeps of it, changed by one event at a time.
+ghost use Rattle.std.specs.Prelude.{◌≡◌, ◌<◌, ◌∷◌, ◌++◌, [], vec_len, vec_capacity};
+
 use crate::entry_view::EntryView;
 use crate::fault::ApplyFault;
 use crate::snapshot::{Snapshot, copy_entries};
 use abci::{Application, Info};
 use key_ring::{KeyRing, Signer};
-use ledger_model::{Batch, Config, Entry, Event, Height, History, ReplicaId};
+use ledger_model::{Batch, Config, Entry, Event, Height, History, ReplicaId, Reply};
 use replica_core::Core;
 use std::alloc::{AllocError, Global};
 use std::hash::RandomState;
@@ -227,9 +229,18 @@ impl<A: Application> State<A> {
         let alloc = *self.entries.allocator();
         self.entries.reserve(1)?;
         let reply = self.core.step(alloc, &event)?;
-        match self.entries.push(Entry { event, reply }) {
-            Ok(()) => Ok(index),
-            Err(_) => unreachable!(),
-        }
+        store(&mut self.entries, event, reply);
+        Ok(index)
+    }
+}
+
+/// Stores an entry behind those of a history, for which there is room.
+fn store(entries: &mut Vec<Entry>, event: Event, reply: Reply)
+    requires { vec_len entries.old < vec_capacity entries.old }
+    ensures { entries.new.items ≡ entries.old.items ++ record { event = event; reply = reply } ∷ [] }
+{
+    match entries.push(Entry { event, reply }) {
+        Ok(()) => {}
+        Err(_) => unreachable!(),
     }
 }

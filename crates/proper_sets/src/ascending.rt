@@ -4,7 +4,7 @@ ghost use Rattle.std.specs.List.{list_any, position};
 ghost use Rattle.ledger_model.specs.Values.{same_value, is_below, with_value};
 ghost use Rattle.ledger_model.specs.Spelling.{are_ascending};
 
-use ledger_model::Batch;
+use ledger_model::{Batch, Batches};
 use std::alloc::{AllocError, Global};
 use std::marker::Model;
 
@@ -55,11 +55,10 @@ impl Ascending {
         ensures ok { IfOk result (λ copied. copied ≡ self.now) }
         ensures ascend { IsTrue (are_ascending self.now) }
     {
-        let mut values = Vec::with_capacity(*self.values.allocator(), self.values.len())?;
-        for value in &self.values {
-            values.push(value.copy()?)?;
-        }
-        Ok(Ascending { values })
+        let copied = Batches::from_slice(*self.values.allocator(), self.values.as_slice())?;
+        Ok(Ascending {
+            values: copied.into_vec(),
+        })
     }
 
     /// Puts a copy of the batch in its place, unless it is there.

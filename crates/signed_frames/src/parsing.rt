@@ -1,10 +1,10 @@
 //! The body of a frame.
 
-ghost use Rattle.std.specs.Prelude.{◌≡◌, ◌+◌, ◌-◌, ◌≤◌, length, take, drop, IfOk};
+ghost use Rattle.std.specs.Prelude.{◌≡◌, ◌+◌, ◌-◌, ◌≤◌, length, take, drop, IfOk, MatchResult};
 ghost use Rattle.ledger_model.specs.declared.statement.SignedStatement.{SignedStatement};
 ghost use Rattle.ledger_model.specs.Spelling.{SpellsFrame};
-ghost use Rattle.ledger_model.specs.Reading.{reading};
-ghost use Rattle.statements.specs.Reads.{Gives};
+ghost use Rattle.ledger_model.specs.Reading.{reading, body_reading};
+ghost use Rattle.statements.specs.Reads.{Faults};
 ghost use Rattle.signed_frames.specs.Parts.{GivesParts};
 
 use crate::{HEADER_LEN, MAX_BODY_LEN};
@@ -26,15 +26,25 @@ pub fn message_in(frame: &[u8], signature_len: usize) -> &[u8]
     message
 }
 
-#[tactic(auto, unfolding(ledger_model::specs::Reading::reading, ledger_model::specs::Reading::body_reading))]
-fn parts_at(alloc: Global, bytes: &[u8]) -> Result<(Statement, &[u8]), DecodeFault>
-    ensures { GivesParts result (reading bytes.now) }
+/// The body of the frame that the bytes are: what stands behind its length, and is as long.
+#[tactic(auto, unfolding(ledger_model::specs::Reading::reading))]
+fn body_at(bytes: &[u8]) -> Result<&[u8], DecodeFault>
+    ensures { MatchResult result (λ body. reading bytes.now ≡ body_reading body.now)
+        (λ fault. Faults fault (reading bytes.now)) }
 {
     let mut cursor = Cursor::new(bytes);
     let len = cursor.take_u32()? as usize;
     if cursor.len() != len || len > MAX_BODY_LEN {
         return Err(DecodeFault::Malformed);
     }
+    Ok(cursor.rest())
+}
+
+#[tactic(auto, unfolding(ledger_model::specs::Reading::body_reading))]
+fn parts_at(alloc: Global, bytes: &[u8]) -> Result<(Statement, &[u8]), DecodeFault>
+    ensures { GivesParts result (reading bytes.now) }
+{
+    let mut cursor = Cursor::new(body_at(bytes)?);
     let statement = take_statement(alloc, &mut cursor)?;
     let signature = take_signature_bytes(&mut cursor)?;
     if !cursor.is_empty() {

@@ -1,4 +1,4 @@
-use Rattle.std.proofs.Common.{◌+◌, ap}
+use Rattle.std.proofs.Common.{◌+◌, ap, rules}
 use Rattle.abci_executor.proofs.Running.{runs_block, adds_block}
 use Rattle.abci_executor.proofs.block.run_block.Goals as goal
 
@@ -9,3 +9,6 @@ returns-clause-ok g c =
     c.args.batch.now c.new-height.result c.in_ok-codes.codes c.commit-hash.result
     (rw c.new-height.ensures (ap (λ n. n + 1) c.info.ensures.0)) c.in_ok-begin_block.ensures.ok
     (rw (← c.transactions-2.ensures.transactions) c.in_ok-codes.ensures.ok) c.in_ok-end_block.ensures.ok c.commit-hash.ensures)
+
+pub returns-in_err-room-clause-err : goal.returns-in_err-room-clause-err
+returns-in_err-room-clause-err g c = search rules

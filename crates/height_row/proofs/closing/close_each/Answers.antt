@@ -1,5 +1,6 @@
 use Rattle.std.proofs.Common.{◌+◌, sym, ap, ◌∙◌, arith}
 use Rattle.std.specs.Vec.Iter.{into_iter_items}
+use Rattle.std.proofs.lemmas.Grind.{common_steps}
 use Rattle.height_row.proofs.Turns.{none_closed, turn_place, turn_of}
 use Rattle.height_row.proofs.closing.close_each.Goals as goal
 
@@ -30,3 +31,9 @@ pub close-requires-clause-own : goal.close-requires-clause-own
 close-requires-clause-own c =
     let steps = c.in-Some.ensures.steps in
     (turn_of (c.args.clock + 1) c.args.instances.now c.args.closings.items c.requires.closings c.loop-place.invariant.0 c.loop-place.invariant.1 steps.0.0 steps.1 c.index-instances-place.result).own
+
+pub offset_bounds-instances-place : goal.offset_bounds-instances-place
+offset_bounds-instances-place c = grind (arith, common_steps)
+
+pub returns : goal.returns
+returns c = grind (arith, common_steps)

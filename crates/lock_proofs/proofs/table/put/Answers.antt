@@ -1,6 +1,7 @@
-use Rattle.std.proofs.Common.{◌≡◌, ◌<◌, true, length, sym, ap, ◌∙◌}
+use Rattle.std.proofs.Common.{◌≡◌, ◌<◌, true, length, sym, ap, ◌∙◌, arith}
 use Rattle.std.specs.Prelude.{not, is_ok, vec_len, vec_capacity}
 use Rattle.std.proofs.lemmas.Bool.{true≢false}
+use Rattle.std.proofs.lemmas.Grind.{common_steps, elements}
 use Rattle.lock_proofs.proofs.TableLaws.{put_in_place, put_between, room_between}
 use Rattle.lock_proofs.proofs.table.put.Goals as goal
 
@@ -45,3 +46,9 @@ unreachable-requires c =
     })
     c.if-is_held_at.false _ _ (sym c.deref.ensures.len ∙ ap length c.deref.ensures.value) c.requires in
     true≢false (sym (c.insert.ensures.succeeds room) ∙ c.is_err.ensures.negation ∙ ap not c.if-is_err.true)
+
+pub insert-requires : goal.insert-requires
+insert-requires c = grind (arith, common_steps)
+
+pub index_mut-requires : goal.index_mut-requires
+index_mut-requires c = grind (arith, elements)

@@ -8,4 +8,4 @@ new-requires-clause-member g c = record {
 }
 
 pub returns : goal.returns
-returns g c = search rules
+returns g c = rw (c.in_ok-signer.ensures.signer, c.in_ok-signer.ensures.whole) at c.in_ok-state.ensures

@@ -1,4 +1,5 @@
-use Rattle.std.proofs.Common.{refl}
+use Rattle.std.proofs.Common.{refl, arith}
+use Rattle.std.proofs.lemmas.Grind.{common_steps}
 use Rattle.replica_core.proofs.ToldClosings.{telling_below, telling_next}
 use Rattle.replica_core.proofs.told_frames.tell_each.Goals as goal
 
@@ -20,3 +21,12 @@ loop-place-preserved c =
     rw (closing, steps.2)
     (telling_next c.args.instances.now c.args.plans.items c.args.frames.now.items c.loop-place.frames.items c.loop-place.place-iterator.count c.loop-place.closings.items
     c.requires.count c.in-Some.plan _ c.index-instances-place.result _ _ telling row_is refl refl left)
+
+pub offset_bounds-instances-place : goal.offset_bounds-instances-place
+offset_bounds-instances-place c = grind (arith, common_steps)
+
+pub returns-clause-endings : goal.returns-clause-endings
+returns-clause-endings c = grind (arith, common_steps)
+
+pub returns-clause-made : goal.returns-clause-made
+returns-clause-made c = grind (arith, common_steps)

@@ -1,12 +1,13 @@
-use Rattle.std.proofs.Common.{◌≡◌, ◌∙◌, ◌+◌, true, false, length, sym, ap, subst, inl, inr, refl, rules}
-use Rattle.std.specs.Prelude.{◌⊎◌, ◌==◌, Some, None}
-use Rattle.std.specs.Option.{option_map}
-use Rattle.scenario_texts.specs.Plans.{plan_of}
-use Rattle.scenario_texts.specs.Lines.{counts}
-use Rattle.scenario_texts.specs.Reading.{next_of}
 use Rattle.scenario_texts.proofs.Endings.{Going, IsBad, too_many, too_long, refused, started, goes_over, goes_further, bad_line, ends_well, ends_badly}
 use Rattle.scenario_texts.proofs.reading.read.Goals as goal
 use Rattle.scenario_texts.proofs.reading.read.Goals.{then-number-gt-MAX_LINES-via-then-number-gt-MAX_LINES, then-number-gt-MAX_LINES-via-else-number-gt-MAX_LINES+then-line-gt-MAX_LINE_LEN, then-counts+in_ok-scenario+in-Some-2, else-counts, in_default-so_far-via-in-Some-so_far+else-is_empty, in_default-so_far-via-in_default-so_far}
+use Rattle.scenario_texts.specs.Lines.{counts}
+use Rattle.scenario_texts.specs.Plans.{plan_of}
+use Rattle.scenario_texts.specs.Reading.{next_of}
+use Rattle.std.proofs.Common.{arith, ◌≡◌, ◌∙◌, ◌+◌, true, false, length, sym, ap, subst, inl, inr, refl, rules}
+use Rattle.std.proofs.lemmas.Grind.{common_steps}
+use Rattle.std.specs.Option.{option_map}
+use Rattle.std.specs.Prelude.{◌⊎◌, ◌==◌, Some, None}
 
 pub loop-line-init : goal.loop-line-init
 loop-line-init c = started c.args.text.now
@@ -83,3 +84,6 @@ returns-in_default-so_far-clause-bad c =
       | in_default-so_far-via-in_default-so_far w ↦ inr (ap (option_map plan_of) w.in_default-so_far.is)
     ] in
     inr (c.loop-line.number, (refl, (ends_badly c.args.text.now c.loop-line.left.now c.loop-line.number (option_map plan_of c.loop-line.so_far) c.loop-line.invariant c.in_default.ensures bad).0))
+
+pub loop-line-smaller : goal.loop-line-smaller
+loop-line-smaller c = grind (arith, common_steps)

@@ -1,7 +1,11 @@
+use Rattle.ledger_model.specs.Limits.{max_batch_len}
 use Rattle.ledger_model.specs.Reading.{value_at}
-use Rattle.std.proofs.Common.{rules}
 use Rattle.statements.proofs.values.take_batch.Goals as goal
+use Rattle.std.proofs.Common.{◌≡◌, nat_le, true, refl, rules}
+
+few : (c : goal.In_ok-new) → nat_le c.in_ok-count.count max_batch_len ≡ true
+few c = search rules
 
 pub returns : goal.returns
 unfolding value_at
-returns c = search rules
+returns c = rw (c.in_ok-count.ensures, few c, c.in_ok-txs.ensures.read, c.in_ok-new.ensures.ok) refl

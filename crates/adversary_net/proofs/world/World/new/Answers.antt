@@ -1,4 +1,4 @@
-use Rattle.std.proofs.Common.{◌≡◌, ◌≤◌, [], length, map, sym, ap, subst, ◌∙◌, arith}
+use Rattle.std.proofs.Common.{◌≡◌, [], length, map, sym, ap, subst, ◌∙◌, arith}
 use Rattle.std.specs.List.{range_with_len}
 use Rattle.std.specs.Vec.Iter.{into_iter_items}
 use Rattle.std.proofs.lemmas.List.Elements.{All-same}
@@ -6,8 +6,8 @@ use Rattle.ledger_model.specs.Applications.{run}
 use Rattle.key_ring.specs.Signers.{Keys, key_of}
 use Rattle.cluster_keys.specs.Keys.{secret_of}
 use Rattle.adversary_net.specs.Clusters.{IsCluster, world_of}
-use Rattle.adversary_net.specs.Openings.{different, ring_of, MayLie}
-use Rattle.adversary_net.proofs.Beginning.{new_is, new_is_cluster, new_world, correct_replicas, all_below, ring_is}
+use Rattle.adversary_net.specs.Openings.{ring_of}
+use Rattle.adversary_net.proofs.Beginning.{new_is, new_is_cluster, new_world, correct_replicas, ring_is}
 use Rattle.adversary_net.proofs.world.World.new.Goals as goal
 
 pub parties_of-requires-clause-ring : goal.parties_of-requires-clause-ring
@@ -18,8 +18,7 @@ parties_of-requires-clause-ring g c =
 
 pub parties_of-requires-clause-supply : goal.parties_of-requires-clause-supply
 parties_of-requires-clause-supply g c =
-    let few : different c.args.liars.now ≤ c.args.cluster.now.config.faults = omega (arith, c.if-different_of-from.false, c.different_of.ensures, c.from.ensures) in
-    let may : MayLie c.args.cluster.now.config c.args.liars.now = record { few = few; below = all_below c.args.cluster.now.config c.args.liars.now (λ any. absurd (let t = c.if-has_stranger.ensures.1 any in cc)) } in
+    let may = c.in_ok-check_liars.ensures.may in
     record {
       an_app = omega (arith, ap length c.into_iter.ensures.rest, c.args.apps.ok, c.requires.apps may);
       a_pair = omega (arith, ap length c.into_iter-2.ensures.rest, c.args.randoms.ok, c.requires.randoms may);
@@ -30,9 +29,8 @@ pub invariant_of-result : goal.invariant_of-result
 invariant_of-result g c =
     let ring : c.in_ok-ring.ring ≡ ring_of c.args.cluster.now.config (secret_of c.args.cluster.now) =
     c.in_ok-ring.ensures ∙ ap (map (λ (keys : Keys). key_of keys.secret)) (c.deref.ensures.value ∙ c.in_ok-signers.ensures) ∙ ring_is (secret_of c.args.cluster.now) (range_with_len 0 c.args.cluster.now.config.replicas) in
-    let few : different c.args.liars.now ≤ c.args.cluster.now.config.faults = omega (arith, c.if-different_of-from.false, c.different_of.ensures, c.from.ensures) in
     let is = new_is c.args.cluster.now.config (secret_of c.args.cluster.now) c.args.liars.now c.in_ok-ring.ring c.in_ok-parties_of.field-0.items c.new.result.items ring c.in_ok-parties_of.ensures c.new.ensures.items in
-    subst IsCluster (sym is) (new_is_cluster c.args.cluster.now.config (secret_of c.args.cluster.now) c.args.liars.now few)
+    subst IsCluster (sym is) (new_is_cluster c.args.cluster.now.config (secret_of c.args.cluster.now) c.args.liars.now c.in_ok-check_liars.ensures.may.few)
 
 pub returns-clause-new : goal.returns-clause-new
 returns-clause-new g c =
@@ -50,8 +48,7 @@ returns-clause-begins g c =
 
 pub returns-clause-replicas : goal.returns-clause-replicas
 returns-clause-replicas g c =
-    let few : different c.args.liars.now ≤ c.args.cluster.now.config.faults = omega (arith, c.if-different_of-from.false, c.different_of.ensures, c.from.ensures) in
-    correct_replicas c.args.cluster.now.config c.args.liars.now few
+    correct_replicas c.args.cluster.now.config c.args.liars.now c.in_ok-check_liars.ensures.may.few
 
 pub returns-clause-no_such : goal.returns-clause-no_such
-returns-clause-no_such g c = (λ is. absurd (cc), λ both. absurd (let t = c.if-has_stranger.ensures.1 both.1 in cc))
+returns-clause-no_such g c = (λ is. absurd (cc), λ both. absurd (let t = c.in_ok-check_liars.ensures.no_such.1 both in cc))

@@ -1,5 +1,6 @@
-use Rattle.std.proofs.Common.{sym, ◌∙◌, rules}
+use Rattle.std.proofs.Common.{sym, ◌∙◌, rules, arith}
 use Rattle.std.specs.Map.{values_of}
+use Rattle.std.proofs.lemmas.Grind.{common_steps}
 use Rattle.batch_pool.proofs.Entries.{take-next}
 use Rattle.batch_pool.proofs.pool.Pool.reap.Goals as goal
 
@@ -10,3 +11,6 @@ loop-index-preserved c =
 
 pub returns : goal.returns
 returns c = search rules
+
+pub index-requires : goal.index-requires
+index-requires c = grind (arith, common_steps)

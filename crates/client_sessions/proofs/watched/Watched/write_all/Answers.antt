@@ -1,4 +1,5 @@
-use Rattle.std.proofs.Common.{rules, ◌≡◌, ◌-◌, ℕ, List, ◌++◌, length, take, drop, sym, ap, ◌∙◌, append_assoc, take-append-drop}
+use Rattle.std.proofs.Common.{arith, rules, ◌≡◌, ◌-◌, ℕ, List, ◌++◌, length, take, drop, sym, ap, ◌∙◌, append_assoc, take-append-drop}
+use Rattle.std.proofs.lemmas.Grind.{common_steps}
 use Rattle.std.proofs.lemmas.List.{take_rest}
 use Rattle.std.proofs.KnownBytes.{Appends-trans}
 use Rattle.client_sessions.proofs.watched.Watched.write_all.Goals as goal
@@ -13,3 +14,6 @@ loop-preserved g c =
     let (done, kept) = c.loop.invariant.0 in
     let n = c.in_ok-count.count in
     ((done ++ take n c.loop.left.now, (moved _ done c.loop.left.now n kept.0, Appends-trans _ _ _ _ _ kept.1 c.in_ok-count.ensures.written)), search rules)
+
+pub returns-then-is_empty-clause-written : goal.returns-then-is_empty-clause-written
+returns-then-is_empty-clause-written g c = grind (arith, common_steps)

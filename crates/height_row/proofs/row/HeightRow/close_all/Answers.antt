@@ -1,4 +1,5 @@
-use Rattle.std.proofs.Common.{◌+◌, sym}
+use Rattle.std.proofs.Common.{◌+◌, sym, arith}
+use Rattle.std.proofs.lemmas.Grind.{common_steps}
 use Rattle.height_row.proofs.Finding.{own_at}
 use Rattle.height_row.proofs.Turns.{are_closings, closed_own, closed_ascend, written_back}
 use Rattle.height_row.proofs.row.HeightRow.close_all.Goals as goal
@@ -27,3 +28,6 @@ pub returns-clause-own : goal.returns-clause-own
 returns-clause-own c =
     rw (written_back c.self.inside.instances.ok.0 c.deref_mut.ensures.value c.close_each.auto.instances, c.close_each.ensures, c.deref_mut.ensures.value)
     (own_at _ _ _ (closed_own (c.args.clock + 1) c.self.inside.config c.self.inside.id c.self.inside.instances.items _ c.self.invariant.1))
+
+pub returns-clause-rows : goal.returns-clause-rows
+returns-clause-rows c = grind (arith, common_steps)

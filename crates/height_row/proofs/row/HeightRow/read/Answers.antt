@@ -1,5 +1,6 @@
 use Rattle.std.proofs.Common.{◌≡◌, ◌≤◌, sym, subst, ap, ◌∙◌, arith}
 use Rattle.std.proofs.lemmas.Result.{IfOk-weaker}
+use Rattle.std.proofs.lemmas.Grind.{common_steps}
 use Rattle.ledger_model.specs.Logs.{height_of}
 use Rattle.ledger_model.specs.Limits.{max_height}
 use Rattle.height_row.proofs.Finding.{all_there, place_within, is_held, is_put, own_put}
@@ -70,3 +71,9 @@ invariant_of-self c =
     let held = is_held c.index_mut.result.now (rw (sym c.self.view_is) at c.position-place.ensures) c.index_mut.ensures.value in
     let kept = put_keeps _ _ rows c.position-place.result c.index_mut.result.now c.read.new.self c.self.invariant.1 c.self.invariant.2 held.within c.index_mut.ensures.value held.alike c.read.ensures.same in
     (c.self.invariant.0, kept.0, kept.1)
+
+pub returns-clause-err : goal.returns-clause-err
+returns-clause-err c = grind (arith, common_steps)
+
+pub returns-clause-ignored : goal.returns-clause-ignored
+returns-clause-ignored c = grind (arith, common_steps)

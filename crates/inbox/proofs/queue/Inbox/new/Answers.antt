@@ -1,4 +1,5 @@
-use Rattle.std.proofs.Common.{rules}
+use Rattle.std.proofs.Common.{arith, rules}
+use Rattle.std.proofs.lemmas.Grind.{elements}
 use Rattle.inbox.proofs.Moves.{begins}
 use Rattle.inbox.proofs.queue.Inbox.new.Goals as goal
 
@@ -13,3 +14,6 @@ returns-clause-count c = search rules
 
 pub returns-clause-putting : goal.returns-clause-putting
 returns-clause-putting c = search rules
+
+pub loop-number-preserved : goal.loop-number-preserved
+loop-number-preserved c = grind (arith, elements)

@@ -1,6 +1,12 @@
-use Rattle.std.proofs.Common.{arith}
+use Rattle.std.proofs.Common.{arith, rules}
 use Rattle.std.proofs.lemmas.Grind.{elements}
 use Rattle.ledger_model.proofs.batch.Tx.new.Goals as goal
+
+pub returns-then-is_empty-clause-empty : goal.returns-then-is_empty-clause-empty
+returns-then-is_empty-clause-empty c = search rules
+
+pub returns-then-is_empty-clause-too_long : goal.returns-then-is_empty-clause-too_long
+returns-then-is_empty-clause-too_long c = search rules
 
 pub invariant_of-result : goal.invariant_of-result
 invariant_of-result c = grind (arith, elements)

@@ -1,4 +1,4 @@
-use Rattle.std.proofs.Common.{◌≡◌, ℕ, ◌+◌, ◌-◌, ◌*◌, subst, ap, ◌∙◌, [], get_or, arith}
+use Rattle.std.proofs.Common.{◌≡◌, ℕ, ◌+◌, ◌-◌, ◌*◌, subst, ap, ◌∙◌, [], get_or, arith, rules}
 use Rattle.std.proofs.lemmas.List.{get_or_read}
 use Rattle.ledger_model.specs.Signatures.{node_hash}
 use Rattle.lm_ots.specs.Parameters.{numbers_of}
@@ -29,3 +29,12 @@ loop-number-preserved c =
     let right = get_or_read nodes (2 * r + 1) _ (omega (arith, whole)) c.index-in-loop-number.ensures [] in
     keeps-more (numbers_of c.args.params) c.args.identifier c.args.seed r nodes c.node_hash.result (omega arith) (omega (arith, c.leaves-leaves.ensures)) (subst P on c.loop-number.invariant)
     (c.node_hash.ensures ∙ ap (λ x. node_hash c.args.identifier r x c.index-in-loop-number.result.now) left ∙ ap (λ y. node_hash c.args.identifier r (get_or nodes (2 * r) []) y) right)
+
+pub invariant_of-result : goal.invariant_of-result
+invariant_of-result c = (
+  search rules,
+  record {
+    whole = c.loop-number.invariant.whole;
+    hashes = λ n d r level low high beyond. c.loop-number.invariant.hashes n d r level low high (omega arith);
+  },
+)

@@ -1,4 +1,5 @@
-use Rattle.std.proofs.Common.{◌≡◌, ◌+◌, List, ap, subst, sym, ◌∙◌}
+use Rattle.std.proofs.Common.{◌≡◌, ◌+◌, List, ap, subst, sym, ◌∙◌, arith}
+use Rattle.std.proofs.lemmas.Grind.{elements}
 use Rattle.std.specs.Prelude.{map}
 use Rattle.std.specs.List.{flat_map}
 use Rattle.replica_core.specs.Sending.{frames_in}
@@ -15,3 +16,6 @@ returns-clause-ended g c =
     rw (sym c.self.view_is)
     (ap (λ (frames : List Sent). record { mute = c.args.mute; frames = frames })
     (c.new.ensures ∙ c.in_ok-frames.ensures ∙ ap (flat_map (frames_in c.self.inside.config)) c.deref.ensures.value ∙ sym (frames_of-closings c.self.inside.config (c.self.inside.clock + 1) c.self.inside.rows.rows c.args.closings.items endings)))
+
+pub close_all-requires-clause-own : goal.close_all-requires-clause-own
+close_all-requires-clause-own g c = grind (arith, elements)

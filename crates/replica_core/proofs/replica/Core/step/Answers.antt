@@ -1,4 +1,4 @@
-use Rattle.std.proofs.Common.{ap, sym, ◌∙◌}
+use Rattle.std.proofs.Common.{ap, rules, sym, ◌∙◌}
 use Rattle.ledger_model.specs.Replies.{query_reply}
 use Rattle.replica_core.proofs.Submits.{submits, queries}
 use Rattle.replica_core.proofs.Proposes.{proposes}
@@ -29,3 +29,12 @@ returns-in_ok-query-in-Query-clause-step g c = rw (sym c.self-in-Query.view_is, 
     (c.in_ok-query-in-Query.ensures
     ∙ ap (λ key. query_reply c.self-in-Query.inside.kept.config.kind c.self-in-Query.inside.kept.commits key c.number.result) c.as_bytes.ensures
     ∙ ap (query_reply c.self-in-Query.inside.kept.config.kind c.self-in-Query.inside.kept.commits c.in-Query.key) c.number.ensures))
+
+pub returns-in_ok-query-in-Query-clause-leaves : goal.returns-in_ok-query-in-Query-clause-leaves
+returns-in_ok-query-in-Query-clause-leaves g c = search rules
+
+pub returns-in_ok-query-in-Query-clause-most : goal.returns-in_ok-query-in-Query-clause-most
+returns-in_ok-query-in-Query-clause-most g c = search rules
+
+pub returns-in_err-query-in-Query-clause-most : goal.returns-in_err-query-in-Query-clause-most
+returns-in_err-query-in-Query-clause-most g c = search rules

@@ -1,0 +1,9 @@
+use Rattle.std.proofs.Common.{arith}
+use Rattle.std.proofs.lemmas.Grind.{common_steps}
+use Rattle.instance.proofs.making.copied_values.Goals as goal
+
+pub loop-lock-preserved : goal.loop-lock-preserved
+loop-lock-preserved c = grind (arith, common_steps)
+
+pub returns : goal.returns
+returns c = grind (arith, common_steps)

@@ -1,0 +1,6 @@
+use Rattle.scenario_texts.proofs.reading.first_line.Goals as goal
+use Rattle.std.proofs.Common.{arith}
+use Rattle.std.proofs.lemmas.Grind.{common_steps}
+
+pub returns : goal.returns
+returns c = grind (arith, common_steps)
