@@ -56,7 +56,4 @@ soak:
 # The scripts take the programs that `rt ci` has just made.
 test:
 	@rt ci 2>&1 | tee gate.log | grep -E --line-buffered '^rt: |^[0-9]+ passed, ' || { tail -n 300 gate.log | grep -Ev '^[0-9]+ passed, '; exit 1; }
-	ABFT=$(CURDIR)/crates/abft/out/abft tests/end_to_end.sh
-	ABFT=$(CURDIR)/crates/abft/out/abft tests/scenarios.sh
-	LMS_SPEED=$(CURDIR)/crates/lms_speed/out/lms_speed tests/benchmark.sh
-	tests/documents.sh
+	@tests/built.sh

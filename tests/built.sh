@@ -1,0 +1,20 @@
+#!/usr/bin/env bash
+# The scripts that try what `rt ci` has just built, and the documents, side by side: one of them mostly waits for the rounds of
+# a live cluster. What each printed comes in turn. The status is 1 if one of them failed.
+set -u
+cd "$(dirname "$0")/.." || exit 1
+export ABFT=$PWD/crates/abft/out/abft LMS_SPEED=$PWD/crates/lms_speed/out/lms_speed
+room=$(mktemp -d)
+trap 'rm -rf "$room"' EXIT
+scripts=(end_to_end scenarios benchmark documents)
+for script in "${scripts[@]}"; do
+    "tests/$script.sh" >"$room/$script" 2>&1 && : >"$room/$script.well" &
+done
+wait
+status=0
+for script in "${scripts[@]}"; do
+    echo "tests/$script.sh"
+    cat "$room/$script"
+    [ -e "$room/$script.well" ] || status=1
+done
+exit "$status"
