@@ -36,70 +36,104 @@ fn absorb(alloc: Global, proper: &mut Proper, told: &[Told<'_>]) -> Option<()> {
     proper.absorb(ReplicaId::new(0), &read).ok()
 }
 
-// Whether this is so after a phase in which these reports were read.
-fn makes_proper(
-    alloc: Global,
-    own: &[u8],
-    told: &[Told<'_>],
+// A report: its signer, whether every value is proper for it, its initial value, and what it lists.
+type Row<'a> = (u8, bool, &'a [u8], &'a [&'a [u8]]);
+
+// A phase: what was read in it, and what is proper then.
+struct PhaseCase<'a> {
+    own: &'a [u8],
+    read: &'a [Row<'a>],
     all: bool,
-    explicit: &[&[u8]],
-) -> Option<bool> {
-    let mut proper = opened(alloc, own)?;
-    absorb(alloc, &mut proper, told)?;
-    are_proper(alloc, &proper, all, explicit)
+    explicit: &'a [&'a [u8]],
+}
+
+fn told_of<'a>(alloc: Global, rows: &'a [Row<'a>]) -> Option<Vec<Told<'a>>> {
+    let mut told = Vec::with_capacity(alloc, rows.len()).ok()?;
+    for (signer, all, initial, proper) in rows {
+        let row = Told {
+            all: *all,
+            ..naming(*signer, initial, proper)
+        };
+        told.push(row).ok()?;
+    }
+    Some(told)
+}
+
+// Whether what is proper after the phase is what the case says.
+fn makes_proper(alloc: Global, case: &PhaseCase<'_>) -> Option<bool> {
+    let told = told_of(alloc, case.read)?;
+    let mut proper = opened(alloc, case.own)?;
+    absorb(alloc, &mut proper, &told)?;
+    are_proper(alloc, &proper, case.all, case.explicit)
 }
 
 const FOUR: [&[u8]; 4] = [b"a", b"b", b"c", b"d"];
 
-// A report for which every value is proper, and which lists this one.
-fn with_all<'a>(signer: u8, proper: &'a [&'a [u8]]) -> Told<'a> {
-    Told {
+const CASES: [PhaseCase<'static>; 7] = [
+    // two others name a value
+    PhaseCase {
+        own: b"x",
+        read: &[
+            (1, false, b"x", &[b"x"]),
+            (2, false, b"y", &[b"y"]),
+            (3, false, b"y", &[b"y"]),
+        ],
+        all: false,
+        explicit: &[b"x", b"y"],
+    },
+    // one other names too few
+    PhaseCase {
+        own: b"a",
+        read: &[(1, false, b"a", &[b"a"]), (2, false, b"b", &[b"b"])],
+        all: false,
+        explicit: &[b"a"],
+    },
+    // the least three others are kept
+    PhaseCase {
+        own: b"m",
+        read: &[(1, false, b"m", &FOUR), (2, false, b"m", &FOUR)],
+        all: false,
+        explicit: &[b"a", b"b", b"c", b"m"],
+    },
+    // split initial values
+    PhaseCase {
+        own: b"a",
+        read: &[(1, false, b"b", &[b"b"]), (2, false, b"c", &[b"c"])],
         all: true,
-        ..naming(signer, b"a", proper)
-    }
-}
+        explicit: &[b"a"],
+    },
+    // two others say that every value is proper
+    PhaseCase {
+        own: b"a",
+        read: &[(1, true, b"a", &[b"a"]), (2, true, b"a", &[b"a"])],
+        all: true,
+        explicit: &[b"a"],
+    },
+    // the own report alone lists c, and so it isn't proper by name
+    PhaseCase {
+        own: b"a",
+        read: &[
+            (0, false, b"a", &[b"c"]),
+            (1, true, b"a", &[b"a"]),
+            (2, true, b"a", &[b"a"]),
+        ],
+        all: true,
+        explicit: &[b"a"],
+    },
+    // another lists c, and others say that every value is proper
+    PhaseCase {
+        own: b"a",
+        read: &[(1, true, b"a", &[b"c"]), (2, true, b"a", &[b"a"])],
+        all: true,
+        explicit: &[b"a", b"c"],
+    },
+];
 
 #[test]
 fn reports_make_values_proper(rt: HostRuntime) {
-    let alloc = rt.alloc();
-    // two others name a value
-    let told = [
-        naming(1, b"x", &[b"x"]),
-        naming(2, b"y", &[b"y"]),
-        naming(3, b"y", &[b"y"]),
-    ];
-    assert!(rt; makes_proper(alloc, b"x", &told, false, &[b"x", b"y"]) == Some(true));
-    // one other names too few
-    let told = [naming(1, b"a", &[b"a"]), naming(2, b"b", &[b"b"])];
-    assert!(rt; makes_proper(alloc, b"a", &told, false, &[b"a"]) == Some(true));
-    // the least three others are kept
-    let told = [naming(1, b"m", &FOUR), naming(2, b"m", &FOUR)];
-    assert!(rt; makes_proper(alloc, b"m", &told, false, &[b"a", b"b", b"c", b"m"]) == Some(true));
-}
-
-#[test]
-fn reports_make_every_value_proper(rt: HostRuntime) {
-    let alloc = rt.alloc();
-    // split initial values
-    let told = [naming(1, b"b", &[b"b"]), naming(2, b"c", &[b"c"])];
-    assert!(rt; makes_proper(alloc, b"a", &told, true, &[b"a"]) == Some(true));
-    // two others say so
-    let told = [with_all(1, &[b"a"]), with_all(2, &[b"a"])];
-    assert!(rt; makes_proper(alloc, b"a", &told, true, &[b"a"]) == Some(true));
-}
-
-// The own report lists c, and the others say that every value is proper: c isn't proper by name.
-#[test]
-fn what_the_own_report_lists_counts_for_nothing(rt: HostRuntime) {
-    let alloc = rt.alloc();
-    let told = [
-        naming(0, b"a", &[b"c"]),
-        with_all(1, &[b"a"]),
-        with_all(2, &[b"a"]),
-    ];
-    assert!(rt; makes_proper(alloc, b"a", &told, true, &[b"a"]) == Some(true));
-    let told = [with_all(1, &[b"c"]), with_all(2, &[b"a"])];
-    assert!(rt; makes_proper(alloc, b"a", &told, true, &[b"a", b"c"]) == Some(true));
+    for case in &CASES {
+        assert!(rt; makes_proper(rt.alloc(), case) == Some(true));
+    }
 }
 
 // Whether this is the own value, and what is proper can be copied.

@@ -17,10 +17,16 @@ use std::hash::RandomState;
 use std::marker::Model;
 
 /// The transactions that wait for a block, in the order in which they came.
-#[derive(Drop)]
 pub struct Pool {
     /// Each transaction under its bytes, by which it is found without taking memory.
     waiting: IndexMap<Vec<u8>, Tx, RandomState>,
+}
+
+// It is dropped by a function of its own, so that whoever owns one drops it by a single call.
+impl Drop for Pool {
+    fn drop(self) {
+        let Pool { waiting: _waiting } = self;
+    }
 }
 
 impl Model for Pool {

@@ -97,7 +97,7 @@ impl Instance {
         ensures after { self.new ≡ with_own own self.old }
         ensures frame { IsFrame own }
     {
-        let OwnFrame { frame, kept } = own;
+        let (frame, kept) = own.into_parts();
         match kept {
             Kept::Report(signature) => self.put_report(frame, signature),
             Kept::Lock(made, taken) => self.put_lock(frame, made, taken),
@@ -137,12 +137,7 @@ impl Instance {
     {
         // What is kept is opened for the proof that it can be spelled.
         let _ = &self.height;
-        let Ending {
-            proper,
-            decided,
-            unsent,
-            ..
-        } = ending;
+        let (proper, decided, unsent) = ending.into_parts();
         if place_of(clock + 1) == Place::Reports {
             self.forget_phase();
         }

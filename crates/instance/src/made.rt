@@ -18,10 +18,20 @@ pub enum Made {
 }
 
 /// A signed statement of one's own, with room for what is kept of it. Contracts see the signed statement.
-#[derive(Debug, Drop)]
+#[derive(Debug)]
 pub struct OwnFrame {
-    pub(crate) frame: Frame,
-    pub(crate) kept: Kept,
+    frame: Frame,
+    kept: Kept,
+}
+
+// It is dropped by a function of its own, so that whoever owns one drops it by a single call.
+impl Drop for OwnFrame {
+    fn drop(self) {
+        let OwnFrame {
+            frame: _frame,
+            kept: _kept,
+        } = self;
+    }
 }
 
 /// What is kept of a statement of one's own beside its frame.
@@ -75,6 +85,9 @@ impl Kept {
 }
 
 impl OwnFrame {
+    ghost use Rattle.ledger_model.specs.Spelling.{IsFrame};
+    ghost use Rattle.instance.specs.Kept.{IsKeptOf};
+
     /// The frame of a statement of one's own. It takes the memory that keeping it needs.
     pub fn new(alloc: Global, frame: Frame) -> Result<Self, AllocError>
         ensures { IfOk result (λ own. own ≡ frame) }
@@ -88,5 +101,15 @@ impl OwnFrame {
         ensures { result.now ≡ self.now }
     {
         &self.frame
+    }
+
+    /// The frame, and what is kept of it beside.
+    pub(crate) fn into_parts(self) -> (Frame, Kept)
+        ensures frame { result.0 ≡ self }
+        ensures readable { IsFrame result.0 }
+        ensures kept { IsKeptOf result.0 result.1 }
+    {
+        let OwnFrame { frame, kept } = self;
+        (frame, kept)
     }
 }

@@ -13,12 +13,23 @@ pub struct Plan {
 }
 
 /// What a round end does at one height, whatever is sent. Contracts see an `Ended`.
-#[derive(Drop)]
 pub struct Ending {
-    pub(crate) sends_on: Vec<Bytes>,
-    pub(crate) proper: Option<Proper>,
-    pub(crate) decided: Option<Batch>,
-    pub(crate) unsent: Option<Ack>,
+    sends_on: Vec<Bytes>,
+    proper: Option<Proper>,
+    decided: Option<Batch>,
+    unsent: Option<Ack>,
+}
+
+// It is dropped by a function of its own, so that whoever owns one drops it by a single call.
+impl Drop for Ending {
+    fn drop(self) {
+        let Ending {
+            sends_on: _sends_on,
+            proper: _proper,
+            decided: _decided,
+            unsent: _unsent,
+        } = self;
+    }
 }
 
 impl Model for Ending {
@@ -99,5 +110,20 @@ impl Ending {
         ensures { option_copied result ≡ self.now.decided }
     {
         self.decided.as_ref()
+    }
+
+    /// What becomes proper, what is decided, and the acknowledgement that isn't sent.
+    pub(crate) fn into_parts(self) -> (Option<Proper>, Option<Batch>, Option<Ack>)
+        ensures proper { result.0 ≡ self.proper }
+        ensures decided { result.1 ≡ self.decided }
+        ensures unsent { result.2 ≡ self.unsent }
+    {
+        let Ending {
+            sends_on: _sends_on,
+            proper,
+            decided,
+            unsent,
+        } = self;
+        (proper, decided, unsent)
     }
 }

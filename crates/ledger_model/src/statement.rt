@@ -119,7 +119,7 @@ impl Signature {
 }
 
 /// What a replica tells of a height as a phase opens.
-#[derive(Debug, Drop)]
+#[derive(Debug)]
 pub struct Report {
     pub height: Height,
     pub phase: Phase,
@@ -129,6 +129,21 @@ pub struct Report {
     pub initial: Batch,
     pub proper: Batches,
     pub locked: Batches,
+}
+
+// It is dropped by a function of its own, so that whoever owns one drops it by a single call.
+impl Drop for Report {
+    fn drop(self) {
+        let Report {
+            height: _height,
+            phase: _phase,
+            signer: _signer,
+            all: _all,
+            initial: _initial,
+            proper: _proper,
+            locked: _locked,
+        } = self;
+    }
 }
 
 fn holds_value(values: &[Batch], value: &Batch) -> bool
@@ -178,10 +193,20 @@ impl Report {
 }
 
 /// A report and its signer's signature.
-#[derive(Debug, Drop)]
+#[derive(Debug)]
 pub struct SignedReport {
     pub report: Report,
     pub signature: Signature,
+}
+
+// It is dropped by a function of its own, so that whoever owns one drops it by a single call.
+impl Drop for SignedReport {
+    fn drop(self) {
+        let SignedReport {
+            report: _report,
+            signature: _signature,
+        } = self;
+    }
 }
 
 impl SignedReport {
@@ -251,13 +276,26 @@ fn copy_reports(alloc: Global, reports: &[SignedReport]) -> Result<Vec<SignedRep
 }
 
 /// The choice of a phase's owner.
-#[derive(Debug, Drop)]
+#[derive(Debug)]
 pub struct Lock {
     pub height: Height,
     pub phase: Phase,
     pub signer: ReplicaId,
     pub value: Batch,
     pub proof: LockProof,
+}
+
+// It is dropped by a function of its own, so that whoever owns one drops it by a single call.
+impl Drop for Lock {
+    fn drop(self) {
+        let Lock {
+            height: _height,
+            phase: _phase,
+            signer: _signer,
+            value: _value,
+            proof: _proof,
+        } = self;
+    }
 }
 
 impl Lock {

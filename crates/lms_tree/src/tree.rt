@@ -12,12 +12,23 @@ const ROW: u32 = 8;
 /// (RFC 8554, section 5.3).
 ///
 /// It holds the secret seed: it can't be copied or printed.
-#[derive(Drop)]
 pub struct Tree {
     params: Params,
     identifier: Identifier,
     seed: Seed,
     nodes: Vec<[u8; 32]>,
+}
+
+// It is dropped by a function of its own, so that whoever owns one drops it by a single call.
+impl Drop for Tree {
+    fn drop(self) {
+        let Tree {
+            params: _params,
+            identifier: _identifier,
+            seed: _seed,
+            nodes: _nodes,
+        } = self;
+    }
 }
 
 impl Model for Tree {

@@ -9,12 +9,23 @@ use tally::Tally;
 /// What is proper for a replica at one height: its own initial value, and what the reports that it read make proper.
 ///
 /// Contracts see the cluster's size and a `ProperSet`.
-#[derive(Drop)]
 pub struct Proper {
     config: Config,
     own: Batch,
     all: bool,
     explicit: Ascending,
+}
+
+// It is dropped by a function of its own, so that whoever owns one drops it by a single call.
+impl Drop for Proper {
+    fn drop(self) {
+        let Proper {
+            config: _config,
+            own: _own,
+            all: _all,
+            explicit: _explicit,
+        } = self;
+    }
 }
 
 impl Model for Proper {

@@ -9,12 +9,23 @@ use std::alloc::{AllocError, Global};
 use std::marker::Model;
 
 /// Bytes that are exactly one frame, and what they spell. Contracts see the signed statement.
-#[derive(Debug, Drop)]
+#[derive(Debug)]
 pub struct Frame {
     bytes: Bytes,
     statement: Statement,
     /// How many of the last bytes are the signature.
     signature_len: usize,
+}
+
+// It is dropped by a function of its own, so that whoever owns one drops it by a single call.
+impl Drop for Frame {
+    fn drop(self) {
+        let Frame {
+            bytes: _bytes,
+            statement: _statement,
+            signature_len: _signature_len,
+        } = self;
+    }
 }
 
 impl Model for Frame {
@@ -116,7 +127,11 @@ impl Frame {
     pub fn into_bytes(self) -> Bytes
         ensures { SpellsFrame result self }
     {
-        let Frame { bytes, .. } = self;
+        let Frame {
+            bytes,
+            statement: _statement,
+            signature_len: _signature_len,
+        } = self;
         bytes
     }
 
@@ -124,7 +139,11 @@ impl Frame {
     pub fn into_statement(self) -> Statement
         ensures { result ≡ self.statement }
     {
-        let Frame { statement, .. } = self;
+        let Frame {
+            bytes: _bytes,
+            statement,
+            signature_len: _signature_len,
+        } = self;
         statement
     }
 

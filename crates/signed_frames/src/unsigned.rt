@@ -17,11 +17,21 @@ use std::marker::Model;
 
 /// A statement and its bytes, which are to be signed, with room for the frame that is made of them. Contracts see the
 /// statement.
-#[derive(Debug, Drop)]
+#[derive(Debug)]
 pub struct UnsignedFrame {
     statement: Statement,
     /// The place of the length, and the statement's bytes.
     bytes: Vec<u8>,
+}
+
+// It is dropped by a function of its own, so that whoever owns one drops it by a single call.
+impl Drop for UnsignedFrame {
+    fn drop(self) {
+        let UnsignedFrame {
+            statement: _statement,
+            bytes: _bytes,
+        } = self;
+    }
 }
 
 impl Model for UnsignedFrame {

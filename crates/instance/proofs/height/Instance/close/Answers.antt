@@ -27,9 +27,9 @@ pub put_proper-requires-clause-spelled : goal.put_proper-requires-clause-spelled
 put_proper-requires-clause-spelled c =
     let i = c.self.invariant in
     let spelled : IsSpelled c.args.self.now = rw (sym c.self.view_is) i.4 in
-    proper_spelled c.args.self.now (c.args.clock + 1) c.in-Some.proper spelled (ap (λ (e : Ended). e.proper) (sym c.requires.ending) ∙ (rw (sym c.ending.view_is) c.in-Some.is))
+    proper_spelled c.args.self.now (c.args.clock + 1) c.in-Some.proper spelled (ap (λ (e : Ended). e.proper) (sym c.requires.ending) ∙ (sym c.into_parts-proper.ensures.proper ∙ c.in-Some.is))
 
 pub put_proper-requires-clause-config : goal.put_proper-requires-clause-config
 put_proper-requires-clause-config c =
-    let same = proper_config c.args.self.now (c.args.clock + 1) c.in-Some.proper (ap (λ (e : Ended). e.proper) (sym c.requires.ending) ∙ (rw (sym c.ending.view_is) c.in-Some.is)) in
+    let same = proper_config c.args.self.now (c.args.clock + 1) c.in-Some.proper (ap (λ (e : Ended). e.proper) (sym c.requires.ending) ∙ (sym c.into_parts-proper.ensures.proper ∙ c.in-Some.is)) in
     search (rules, same)
