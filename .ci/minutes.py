@@ -15,6 +15,8 @@ import threading
 import time
 
 PARTS = ("proof", "tests", "edits")
+# Crates that stand on no other and hardly change: what their proofs take tells how fast the machine is.
+YARDSTICK = ("octets", "plain_text", "sha_lanes")
 PAGE = """# What the gate costs
 
 One run of the gate, as `.ci/run` wrote it down: every crate proved from nothing, the tests proved and run, each must-fail
@@ -113,6 +115,18 @@ def table_of(rows):
     return "\n".join(lines)
 
 
+def speed_of(rows):
+    """What the proofs of the crates of the yardstick took, or nothing where one of them wasn't proved."""
+    if not all(rows.get(name, {}).get("proof") for name in YARDSTICK):
+        return ""
+    *others, last = (f"`{name}`" for name in YARDSTICK)
+    seconds = 60 * sum(rows[name]["proof"] for name in YARDSTICK)
+    return (
+        f"How fast the machine was: the proofs of {', '.join(others)} and {last} together took {seconds:.0f} processor "
+        f"seconds.\n\n"
+    )
+
+
 def main(words):
     to = None
     if words[:1] == ["--table"]:
@@ -127,12 +141,13 @@ def main(words):
     looking.join()
     used = resource.getrusage(resource.RUSAGE_CHILDREN)
     wall, processor = (time.monotonic() - began) / 60, (used.ru_utime + used.ru_stime) / 60
-    processors = len(os.sched_getaffinity(0))
+    processors, rows = len(os.sched_getaffinity(0)), sampler.minutes()
     said = (
         f"{wall:.0f} minutes by the clock on {processors} processors, {processor:.0f} processor minutes, and "
         f"{(stolen() - taken) / 60:.0f} more that the machine's host gave to others; at most {sampler.memory / 2**30:.1f} GiB at once "
         f"in the prover\n\n"
-        f"Processor minutes by crate:\n\n{table_of(sampler.minutes())}"
+        f"{speed_of(rows)}"
+        f"Processor minutes by crate:\n\n{table_of(rows)}"
     )
     print(f"\n{said}", flush=True)
     if to:
