@@ -97,6 +97,8 @@ refuses "error: --value has '[': write it \\5b" sign report --value "'a['"
 refuses 'error: --value has the byte c3: write it \c3' sign report --value $'h\xc3\xa9'
 refuses 'error: --value has \61: write it a' sign report --value "'\\61'"
 refuses "error: --value has '\\' without two lower-case hexadecimal digits behind it" sign report --value "'\\5C'"
+refuses "error: --value has '\\' without two lower-case hexadecimal digits behind it" sign report --value "'a\\5'"
+refuses "error: --value has '\\' without two lower-case hexadecimal digits behind it" sign report --value "'\\zz'"
 refuses "error: --value is a transaction of 1 to 64 bytes, not ''" sign report --value "''"
 refuses "error: --value is a transaction of 1 to 64 bytes, not '${ones}1'" sign report --value "${ones}1"
 refuses 'error: a word of the command line is not UTF-8' sign report --value $'\xff'
@@ -160,9 +162,12 @@ Usage: abft deliver [OPTIONS]
 For more information, try '--help'." deliver --n 4 --n 4
 refuses "error: --rounds is a number from 0 to 4000000000, not '4000000001'" cluster --rounds 4000000001
 refuses "error: --base-ms is a number from 1 to 60000, not '0'" serve --base-ms 0
+refuses "error: --base-ms is a number from 1 to 60000, not '60001'" cluster --base-ms 60001
 refuses "error: --port is a number from 0 to 65535, not '65536'" serve --port 65536
+refuses "error: --sessions is a number from 1 to 1000, not '0'" serve --sessions 0
 refuses "error: --sessions is a number from 1 to 1000, not '1001'" serve --sessions 1001
 refuses 'error: --tx has a space: write it \20' cluster --tx "'a b'"
+refuses "error: --tx is a transaction of 1 to 64 bytes, not ''" serve --tx "''"
 refuses "error: unexpected argument '--port' found
 
 Usage: abft cluster [OPTIONS]

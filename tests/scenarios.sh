@@ -21,9 +21,9 @@ prints() {
     runs "$1" 0 "$3" "'$abft' simulate <'$room/text'"
 }
 
-# bad NAME LINE TEXT: this line of the text is bad, and nothing is played
+# bad NAME LINE TEXT: this line of the text, as `printf %b` writes it, is bad, and nothing is played
 bad() {
-    printf '%s' "$3" >"$room/text"
+    printf '%b' "$3" >"$room/text"
     runs "$1" 1 "line $2 bad"$'\n' "'$abft' simulate <'$room/text'"
 }
 
@@ -44,38 +44,91 @@ done
 # What is printed, by itself.
 prints 'a text with no step' "$setup" ''
 prints 'comments and empty lines' $'\n# first\nconfig 4 1 1\n\n#\ninfo 4\n' $'refused 2\n'
+prints 'a height is opened or refused by its cause' "$setup"$'submit 0 a=1\npropose 0 4097\npropose 0 5\npropose 0 4\npropose 0 4\n' \
+    $'submit 0 ok\npropose 0 4097 refused 3\npropose 0 5 refused 1\npropose 0 4 [a=1]\npropose 0 4 refused 2\n'
 prints 'an empty value' "$setup"$'query 0 x\n' $'query 0 0 absent\n'
 
-# Bad texts.
+# Bad texts, each with the line that is bad.
 bad 'nothing' 1 ''
-bad 'no last line feed' 2 "${setup}info 0"
-bad 'comments alone' 2 $'#\n'
-bad 'too few replicas' 1 $'config 3 1 1\n'
-bad 'too many replicas' 1 $'config 14 4 1\n'
-bad 'nobody may lie' 1 $'config 4 0 1\n'
-bad 'an unknown application' 1 $'config 4 1 4\n'
-bad 'a second liar' 3 $'config 4 1 1\nliar 1\nliar 2\n'
-bad 'a liar twice' 3 $'config 7 2 1\nliar 1\nliar 1\n'
-bad 'a liar that is no replica' 2 $'config 4 1 1\nliar 4\n'
-bad 'keys of no width' 2 $'config 4 1 1\nkeys 5 5\n'
-bad 'keys behind a liar' 3 $'config 4 1 1\nliar 1\nkeys 4 5\n'
-bad 'a needless zero' 2 "$setup"$'end 00\n'
-bad 'a sign' 2 "$setup"$'end +1\n'
-bad 'a byte that stands for itself, as digits' 2 "$setup"$'submit 0 \\61\n'
-bad 'digits in capitals' 2 "$setup"$'submit 0 \\FF\n'
-bad 'hexadecimal in capitals' 2 "$setup"$'inject 0 FF\n'
-bad 'half a byte' 2 "$setup"$'inject 0 f\n'
-bad 'two spaces' 2 "$setup"$'end  0\n'
-bad 'a space at the end' 2 "$setup"$'end 0 \n'
-bad 'a number of 33 bits' 2 "$setup"$'end 4294967296\n'
-bad 'no such word' 2 "$setup"$'stop\n'
-bad 'a lie of who is no liar' 2 "$setup"$'lie-ack 0 1 1 [] 1\n'
-bad 'a lie of height 0' 3 "${setup}liar 1"$'\nlie-ack 1 0 1 [] 1\n'
-bad 'a key that is too long' 2 "${setup}query 0 $(printf 'k%.0s' {1..65})"$'\n'
+bad 'an empty line' 2 '\n'
+bad 'comments alone' 3 '# none\n# at all\n'
+bad 'no last line feed' 2 "${setup}submit 0 a=1"
+bad 'no line feed' 1 'config 4 1 1'
+bad 'a comment with no line feed' 2 "$setup#"
+bad 'a line behind comments' 5 '# a cluster\n\nconfig 4 1 1\n# \xff\nexecute 00\n'
+bad 'too few replicas' 1 'config 3 1 1\n'
+bad 'too few replicas for so many liars' 1 'config 12 4 1\n'
+bad 'too many replicas' 1 'config 14 4 1\n'
+bad 'more replicas than a byte says' 1 'config 260 1 1\n'
+bad 'nobody may lie' 1 'config 4 0 1\n'
+bad 'application 0' 1 'config 4 1 0\n'
+bad 'an unknown application' 1 'config 4 1 4\n'
+bad 'a step before the cluster' 1 'silent\n'
+bad 'keys before the cluster' 1 'keys 4 5\nconfig 4 1 1\n'
+bad 'a second cluster' 2 "$setup$setup"
+bad 'keys of no height' 2 "${setup}keys 4 6\n"
+bad 'keys of no width' 2 "${setup}keys 5 5\n"
+bad 'keys twice' 3 "${setup}keys 4 5\nkeys 4 5\n"
+bad 'keys behind a liar' 3 "${setup}liar 1\nkeys 4 5\n"
+bad 'a second liar' 3 "${setup}liar 1\nliar 2\n"
+bad 'a liar where there is one' 3 "${setup}liar 1\nliar 1\n"
+bad 'a liar twice' 3 'config 7 2 1\nliar 1\nliar 1\n'
+bad 'a liar that is no replica' 2 "${setup}liar 4\n"
+bad 'a liar behind a step' 3 "${setup}silent\nliar 1\n"
+while IFS= read -r line; do
+    bad "no step: $line" 3 "${setup}liar 1\n$line\n"
+done <<'EOF'
+execute 00
+execute +1
+execute -1
+execute 4294967296
+execute
+execute 1 2
+execute 0 
+ execute 0
+execute\t0
+Execute 0
+executes 0
+frames 1
+query 0 \\61
+query 0 \\5C
+query 0 \\5
+submit 0  a
+submit 0 
+submit 0 a b
+submit 0 a,b
+submit 0 \\FF
+submit
+submit 0 \xff
+inject 1 0A
+inject 1 0
+inject 1 0g
+pass 0 1
+silent 0
+silent 
+lie-ack 2 1 1 [x] all
+lie-ack 0 1 1 [] 1
+lie-ack 1 0 1 [x] all
+lie-ack 1 1 0 [x] all
+lie-ack 1 1 1 [,] all
+lie-ack 1 1 1 [x all
+lie-ack 1 1 1 [x] any
+EOF
+
+# Limits, each with what is next above it.
+many() {
+    head -c "$2" /dev/zero | tr '\0' "$1"
+}
+prints 'as long a key as may be' "${setup}query 0 $(many k 64)"$'\n' $'query 0 0 absent\n'
+bad 'a key that is too long' 2 "${setup}query 0 $(many k 65)\n"
+prints 'as long a transaction as may be' "${setup}liar 1"$'\n'"lie-lock 1 1 1 [$(many k 64)] all"$'\n' $'lie-lock cannot\n'
+bad 'a transaction that is too long' 3 "${setup}liar 1\nlie-lock 1 1 1 [$(many k 65)] all\n"
+prints 'as many transactions as may be' "${setup}liar 1"$'\n'"lie-lock 1 1 1 [a$(printf ',a%.0s' {1..15})] all"$'\n' $'lie-lock cannot\n'
+bad 'too many transactions' 3 "${setup}liar 1\nlie-lock 1 1 1 [a$(printf ',a%.0s' {1..16})] all\n"
+prints 'as long a line as may be' "$setup$(many '#' 400000)"$'\n' ''
+bad 'a line that is too long' 2 "$setup$(many '#' 400001)\n"
 (printf '%s' "$setup" && yes 'info 0' | head -n 10000) >"$room/long"
 runs 'too many lines' 1 $'line 10001 bad\n' "'$abft' simulate <'$room/long'"
-(printf '%sinject 0 ' "$setup" && head -c 400000 /dev/zero | tr '\0' '0' && echo) >"$room/wide"
-runs 'a line that is too long' 1 $'line 2 bad\n' "'$abft' simulate <'$room/wide'"
 (printf '%s' "$setup" && yes '#' | head -n 9999) >"$room/most"
 runs 'as many lines as there may be' 0 '' "'$abft' simulate <'$room/most'"
 

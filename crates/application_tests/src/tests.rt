@@ -1,10 +1,10 @@
-//! Blocks on the executor, and what waits for them.
+//! Blocks on the executor, and what waits for them. That each kind is chosen at run time is seen in `examples/`.
 
 use abci::{Application, Info};
 use abci_executor::Executor;
-use app_kinds::{AnyKind, Counted, Counter, KvStore, Refusing};
+use app_kinds::{Counted, Counter, KvStore, Refusing};
 use batch_pool::{Pool, SubmitFault};
-use ledger_model::{AppKind, Batch, BlockResult, Height, QueryAnswer, SubmitRefusal};
+use ledger_model::{Batch, BlockResult, Height, QueryAnswer, SubmitRefusal};
 use std::alloc::Global;
 use std::hash::RandomState;
 use std::test::Fail;
@@ -212,56 +212,4 @@ fn what_waits_is_proposed_run_and_taken_out(rt: HostRuntime) -> Result<(), Fail>
     let mut pool = Pool::new(rt.alloc(), random);
     assert!(rt; comes_into_the_next_block(rt.alloc(), &mut executor, &mut pool));
     Ok(())
-}
-
-// Whether an application accepts a transaction in its next block.
-fn accepts<A: Application>(alloc: Global, executor: &mut Executor<A>, tx: &[u8]) -> bool {
-    match runs(alloc, executor, &[tx]) {
-        Some(done) => done.codes.as_slice() == [0].as_slice(),
-        None => false,
-    }
-}
-
-// Whether an application accepts a transaction in its first block, and then holds this under a key.
-fn plays<A: Application>(
-    alloc: Global,
-    executor: &mut Executor<A>,
-    tx: &[u8],
-    (key, held): (&[u8], &[u8]),
-) -> bool {
-    executor.height() == 0
-        && accepts(alloc, executor, tx)
-        && executor.height() == 1
-        && holds(executor, key, 1, held)
-}
-
-// Whether an application of a kind does so.
-fn is_played(alloc: Global, kind: AppKind, tx: &[u8], held: (&[u8], &[u8])) -> bool {
-    match Executor::new(AnyKind::new(alloc, kind)) {
-        Ok(mut executor) => plays(alloc, &mut executor, tx, held),
-        Err(_) => false,
-    }
-}
-
-/// A kind, a transaction that it accepts, and what it then holds under a key.
-const KINDS: [(AppKind, &[u8], (&[u8], &[u8])); 3] = [
-    (AppKind::KvStore, b"a=1", (b"a", b"1")),
-    (
-        AppKind::Counter,
-        &[0],
-        (b"count", &[0, 0, 0, 0, 0, 0, 0, 1]),
-    ),
-    (
-        AppKind::Purse,
-        &[0, 1, 0, 0, 0, 5, 0, 0, 0, 0],
-        (&[0], &[0, 0, 3, 227, 0, 0, 0, 1]),
-    ),
-];
-
-// Each kind, chosen at run time, runs a block of its own: its code, its height, and what it then holds.
-#[test]
-fn a_kind_is_chosen_at_run_time(rt: HostRuntime) {
-    for &(kind, tx, held) in &KINDS {
-        assert!(rt; is_played(rt.alloc(), kind, tx, held));
-    }
 }

@@ -27,9 +27,9 @@ fn shares(frame: &Frame, bytes: &[u8]) -> bool {
     }
 }
 
-// Whether a frame has these bytes, also where they are shared, and can be copied.
+// Whether a frame has these bytes, also where they are shared.
 fn has_bytes(frame: &Frame, bytes: &[u8]) -> bool {
-    frame.as_bytes() == bytes && shares(frame, bytes) && frame.copy().is_ok()
+    frame.as_bytes() == bytes && shares(frame, bytes)
 }
 
 // Whether a frame has these bytes and those of its statement, and its signature the other ones; and this signer.

@@ -10,8 +10,6 @@ mod reader_tests;
 #[cfg(test)]
 mod record_tests;
 #[cfg(test)]
-mod reply_tests;
-#[cfg(test)]
 mod spellings;
 #[cfg(test)]
 mod statement_tests;

@@ -48,12 +48,12 @@ fn len_of_reports(statement: &Statement) -> usize
     }
 }
 
-// How many bytes a statement has, and its reports, if it can be copied and is encoded so.
+// How many bytes a statement has, and its reports, if it is encoded so.
 fn lens(alloc: Global, statement: &Statement, bytes: &[u8]) -> Option<(usize, usize)>
     requires { IsStatement statement.now }
 {
     let encoded = encode(alloc, statement).ok()?;
-    if encoded.as_slice() != bytes || statement.copy().is_err() {
+    if encoded.as_slice() != bytes {
         return None;
     }
     Some((encoded_len(statement), len_of_reports(statement)))

@@ -239,7 +239,7 @@ impl Model for LockProof {
 }
 
 impl LockProof {
-    ghost use Rattle.std.specs.Prelude.{◌≡◌, IfOk};
+    ghost use Rattle.std.specs.Prelude.{◌≡◌};
 
     /// The proof that these reports are, in order.
     pub fn new(reports: Vec<SignedReport>) -> Self
@@ -254,25 +254,6 @@ impl LockProof {
     {
         self.reports.as_slice()
     }
-
-    /// The same proof once more.
-    pub fn copy(&self) -> Result<Self, AllocError>
-        ensures { IfOk result (λ proof. proof ≡ self.now) }
-    {
-        let alloc = *self.reports.allocator();
-        let reports = copy_reports(alloc, self.reports.as_slice())?;
-        Ok(LockProof { reports })
-    }
-}
-
-fn copy_reports(alloc: Global, reports: &[SignedReport]) -> Result<Vec<SignedReport>, AllocError>
-    ensures { IfOk result (λ copied. copied.items ≡ reports.now) }
-{
-    let mut copied = Vec::with_capacity(alloc, reports.len())?;
-    for signed in reports {
-        copied.push(signed.copy()?)?;
-    }
-    Ok(copied)
 }
 
 /// The choice of a phase's owner.
@@ -298,23 +279,6 @@ impl Drop for Lock {
     }
 }
 
-impl Lock {
-    ghost use Rattle.std.specs.Prelude.{◌≡◌, IfOk};
-
-    /// The same lock once more.
-    pub fn copy(&self) -> Result<Self, AllocError>
-        ensures { IfOk result (λ lock. lock ≡ self.now) }
-    {
-        Ok(Lock {
-            height: self.height,
-            phase: self.phase,
-            signer: self.signer,
-            value: self.value.copy()?,
-            proof: self.proof.copy()?,
-        })
-    }
-}
-
 /// That a replica took the lock of a phase.
 #[derive(Debug, Drop)]
 pub struct Ack {
@@ -322,22 +286,6 @@ pub struct Ack {
     pub phase: Phase,
     pub signer: ReplicaId,
     pub value: Batch,
-}
-
-impl Ack {
-    ghost use Rattle.std.specs.Prelude.{◌≡◌, IfOk};
-
-    /// The same acknowledgement once more.
-    pub fn copy(&self) -> Result<Self, AllocError>
-        ensures { IfOk result (λ ack. ack ≡ self.now) }
-    {
-        Ok(Ack {
-            height: self.height,
-            phase: self.phase,
-            signer: self.signer,
-            value: self.value.copy()?,
-        })
-    }
 }
 
 /// What replicas sign and send.
@@ -349,7 +297,7 @@ pub enum Statement {
 }
 
 impl Statement {
-    ghost use Rattle.std.specs.Prelude.{◌≡◌, IfOk};
+    ghost use Rattle.std.specs.Prelude.{◌≡◌};
     ghost use Rattle.ledger_model.specs.Notes.{signer_of};
     ghost use Rattle.ledger_model.specs.Logs.{height_of};
     ghost use Rattle.ledger_model.specs.Rules.{phase_in};
@@ -384,17 +332,6 @@ impl Statement {
             Statement::Report(report) => report.phase,
             Statement::Lock(lock) => lock.phase,
             Statement::Ack(ack) => ack.phase,
-        }
-    }
-
-    /// The same statement once more.
-    pub fn copy(&self) -> Result<Self, AllocError>
-        ensures { IfOk result (λ statement. statement ≡ self.now) }
-    {
-        match self {
-            Statement::Report(report) => Ok(Statement::Report(report.copy()?)),
-            Statement::Lock(lock) => Ok(Statement::Lock(lock.copy()?)),
-            Statement::Ack(ack) => Ok(Statement::Ack(ack.copy()?)),
         }
     }
 }

@@ -67,30 +67,3 @@ fn words_that_cannot_be_read_are_refused(rt: HostRuntime) {
     assert!(rt; refuses(alloc, ErrorKind::InvalidData, 2, text));
     assert!(rt; refuses(alloc, ErrorKind::OutOfMemory, 3, b"error: out of memory\n"));
 }
-
-/// Whether the words of `abft cluster` are handed back as its settings.
-fn hands_back_a_cluster<S: RandomSource>(source: &S, alloc: Global, faults: &mut Sink) -> bool {
-    let words = ["abft", "cluster", "--rounds", "7", "--base-ms", "9"];
-    let Outcome::Cluster(settings) = outcome_of(source, alloc, &words, faults) else {
-        return false;
-    };
-    (settings.rounds, settings.base_ms) == (7, 9)
-}
-
-/// Whether the words of `abft serve` are handed back as its settings.
-fn hands_back_a_service<S: RandomSource>(source: &S, alloc: Global, faults: &mut Sink) -> bool {
-    let words = ["abft", "serve", "--port", "7000", "--sessions", "3"];
-    let Outcome::Serve(settings) = outcome_of(source, alloc, &words, faults) else {
-        return false;
-    };
-    (settings.port, settings.sessions) == (7000, 3)
-}
-
-#[test]
-fn settings_of_running_clusters_are_handed_back(rt: HostRuntime) {
-    let alloc = rt.alloc();
-    let mut faults = Sink::new(alloc, 99);
-    assert!(rt; hands_back_a_cluster(&rt, alloc, &mut faults));
-    assert!(rt; hands_back_a_service(&rt, alloc, &mut faults));
-    assert!(rt; faults.writes == 0);
-}

@@ -1,4 +1,4 @@
-//! Replica 0 of four, whose ring has its own key alone, applies events.
+//! Replica 0 of four, whose ring has its own key alone, applies events. How it refuses some is in `examples/refusals.txt`.
 ghost use Rattle.std.specs.Prelude.{◌≡◌, ◌∷◌, [], IfOk};
 ghost use Rattle.key_ring.specs.Signers.{key_of};
 
@@ -70,43 +70,6 @@ fn answers_submit(
     Ok(answer_at(state, index) == Some(answer))
 }
 
-// Transactions in order, and the answer to each.
-const SUBMITS: [(&[u8], Result<(), SubmitRefusal>); 4] = [
-    (b"a=1", Ok(())),
-    (b"a=1", Err(SubmitRefusal::Duplicate)),
-    (b"", Err(SubmitRefusal::Empty)),
-    (&[7; 65], Err(SubmitRefusal::TooLong)),
-];
-
-// Whether it takes the first transaction, and refuses three others by their causes.
-fn answers_each_submit(state: &mut State<AnyKind>) -> Result<bool, ApplyFault> {
-    for &(bytes, answer) in &SUBMITS {
-        if !answers_submit(state, bytes, answer)? {
-            return Ok(false);
-        }
-    }
-    Ok(true)
-}
-
-// Whether it has no history, and answers so: four entries.
-fn answers_submits(state: &mut State<AnyKind>) -> Result<bool, ApplyFault> {
-    let is_new = has_numbers(state, (0, 0, 0, true)) && entry_at(state, 0).is_none();
-    let are_right = answers_each_submit(state)?;
-    Ok(is_new && are_right && has_numbers(state, (4, 0, 0, false)))
-}
-
-fn new_one_answers_submits(alloc: Global, random: RandomState) -> Result<bool, Fault> {
-    let mut state = new_replica(alloc, random)?;
-    Ok(answers_submits(&mut state)?)
-}
-
-#[test]
-fn a_new_replica_refuses_submits_by_their_causes(rt: HostRuntime) -> Result<(), Fail> {
-    let random = RandomState::new(&rt)?;
-    assert!(rt; new_one_answers_submits(rt.alloc(), random)?);
-    Ok(())
-}
-
 fn proposal_at(state: &State<AnyKind>, index: usize) -> Option<Result<usize, ProposeRefusal>> {
     match entry_at(state, index)?.reply() {
         ReplyView::Proposed(Ok(batch)) => Some(Ok(batch.transactions().len())),
@@ -123,44 +86,6 @@ fn answers_propose(
 ) -> Result<bool, ApplyFault> {
     let index = apply(state, Event::Propose(Height::new(height)))?;
     Ok(proposal_at(state, index) == Some(answer))
-}
-
-// Heights in order, and the answer to the proposal of each.
-const PROPOSALS: [(u32, Result<usize, ProposeRefusal>); 6] = [
-    (0, Err(ProposeRefusal::Closed)),
-    (4097, Err(ProposeRefusal::Closed)),
-    (5, Err(ProposeRefusal::TooFar)),
-    (1, Ok(1)),
-    (1, Err(ProposeRefusal::AlreadyOpen)),
-    (4, Ok(1)),
-];
-
-// Whether it opens heights 1 and 4 with one transaction, and refuses others by their causes.
-fn answers_each_propose(state: &mut State<AnyKind>) -> Result<bool, ApplyFault> {
-    for &(height, answer) in &PROPOSALS {
-        if !answers_propose(state, height, answer)? {
-            return Ok(false);
-        }
-    }
-    Ok(true)
-}
-
-// Whether it takes a transaction, and answers so.
-fn answers_proposals(state: &mut State<AnyKind>) -> Result<bool, ApplyFault> {
-    let is_taken = answers_submit(state, b"a=1", Ok(()))?;
-    Ok(answers_each_propose(state)? && is_taken)
-}
-
-fn new_one_answers_proposals(alloc: Global, random: RandomState) -> Result<bool, Fault> {
-    let mut state = new_replica(alloc, random)?;
-    Ok(answers_proposals(&mut state)?)
-}
-
-#[test]
-fn a_height_is_opened_or_refused_by_its_cause(rt: HostRuntime) -> Result<(), Fail> {
-    let random = RandomState::new(&rt)?;
-    assert!(rt; new_one_answers_proposals(rt.alloc(), random)?);
-    Ok(())
 }
 
 // Whether it takes a transaction and opens height 1 with it.
@@ -266,11 +191,12 @@ fn waits_at_one(state: &State<AnyKind>) -> bool {
     is_undecided && is_loud && state.config().replicas == 4 && state.id().number() == 0
 }
 
-// Whether it opens height 1 and sends a report as the first round opens.
+// Whether it has no history, and then opens height 1 and sends a report as the first round opens.
 fn begins_alone(state: &mut State<AnyKind>) -> Result<bool, ApplyFault> {
+    let is_new = has_numbers(state, (0, 0, 0, true)) && entry_at(state, 0).is_none();
     let is_open = opens_one(state)?;
     let is_sent = reports(state)?;
-    Ok(is_open && is_sent && has_numbers(state, (3, 1, 0, false)))
+    Ok(is_new && is_open && is_sent && has_numbers(state, (3, 1, 0, false)))
 }
 
 // Whether it opens three more rounds, sends nothing, and then has no block and no value.

@@ -146,15 +146,4 @@ impl Frame {
         } = self;
         statement
     }
-
-    /// The same frame once more. Its bytes are shared.
-    pub fn copy(&self) -> Result<Self, AllocError>
-        ensures { IfOk result (λ frame. frame ≡ self.now) }
-    {
-        Ok(Frame {
-            bytes: self.bytes.clone()?,
-            statement: self.statement.copy()?,
-            signature_len: self.signature_len,
-        })
-    }
 }

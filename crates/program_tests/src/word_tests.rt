@@ -1,5 +1,5 @@
-//! What words spell.
-use plain_text::{SpellingFault, decimal, written};
+//! What words spell. Which spell no transaction, and why, is in `tests/end_to_end.sh`.
+use plain_text::{decimal, written};
 use std::alloc::Global;
 
 #[test]
@@ -27,11 +27,6 @@ fn is_written(alloc: Global, text: &str, bytes: &[u8]) -> bool {
     }
 }
 
-/// Why a text writes no bytes.
-fn fault_of(alloc: Global, text: &str) -> Option<SpellingFault> {
-    written(alloc, text).err()
-}
-
 #[test]
 fn transactions_are_written_byte_by_byte(rt: HostRuntime) {
     for &(text, bytes) in &[
@@ -41,21 +36,5 @@ fn transactions_are_written_byte_by_byte(rt: HostRuntime) {
         ("!\\20\\7f", b"! \x7f".as_slice()),
     ] {
         assert!(rt; is_written(rt.alloc(), text, bytes), "at '{text}'");
-    }
-}
-
-#[test]
-fn other_writings_are_refused(rt: HostRuntime) {
-    for &(text, fault) in &[
-        ("a b", SpellingFault::Bare(b' ')),
-        ("a,b", SpellingFault::Bare(b',')),
-        ("[a]", SpellingFault::Bare(b'[')),
-        ("h\u{e9}", SpellingFault::Bare(0xc3)),
-        ("\\61", SpellingFault::NeedlessEscape(b'a')),
-        ("\\5C", SpellingFault::BadEscape),
-        ("a\\5", SpellingFault::BadEscape),
-        ("\\zz", SpellingFault::BadEscape),
-    ] {
-        assert!(rt; fault_of(rt.alloc(), text) == Some(fault), "at '{text}'");
     }
 }

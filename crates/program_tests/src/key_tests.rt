@@ -1,16 +1,11 @@
-//! Keys and a frame of a cluster, against values of another implementation of RFC 8554 and of `docs/FORMATS.md`.
-use crate::setting_tests::set;
+//! Keys of a cluster, against values of another implementation of RFC 8554 and of `docs/FORMATS.md`. Its frames are compared in
+//! `tests/end_to_end.sh`.
 use cluster_keys::{Cluster, key_pair, signer_and_ring};
-use frame_signing::signed_frame;
 use hex::FromHex;
 use key_ring::{KeyRing, Signer};
 use ledger_model::{AppKind, Config, ReplicaId};
 use lm_ots::{Params, TreeHeight, Width};
 use lms_tree::PublicKey;
-use settings::Settings;
-use sha2::{Digest, Sha256};
-use signed_frames::Frame;
-use std::alloc::Global;
 use std::process::Abort;
 use std::test::Fail;
 
@@ -25,9 +20,6 @@ const PUBLIC_KEYS: [&str; 4] = [
 /// The public key of replica 2 under the seed of 32 bytes 11, with W8 and H5.
 const WIDE_KEY: &str =
     "000000050000000458df850afd9e2a98cc5fcec571730c3495ae9979226326196dafa0409b6154875dec60117d0e5b0e11743d66f2ffebbe";
-
-/// The SHA-256 of the frame of the acknowledgement in the test below.
-const ACK_DIGEST: &str = "b113df2cf81f4f1f9e2c836ac0c4d2dc5c8a13c24d658203c5c5b57e4aee84d6";
 
 fn cluster<R: Abort>(rt: &R, width: Width, seed: [u8; 32]) -> Cluster {
     let config = Config::new(4, 1, AppKind::KvStore).expect(rt, "4 replicas, 1 of which may lie");
@@ -82,43 +74,4 @@ fn a_key_pair_is_of_its_seed_and_width(rt: HostRuntime) -> Result<(), Fail> {
     let signer = key_pair(rt.alloc(), &cluster, ReplicaId::new(2))?;
     assert!(rt; is_spelled(&signer.public(), WIDE_KEY));
     Ok(())
-}
-
-/// The frame that `abft sign` makes of its settings.
-fn frame_of(alloc: Global, settings: &Settings) -> Option<Frame> {
-    match settings {
-        Settings::Sign(sign) => signed_frame(alloc, sign).ok(),
-        _ => None,
-    }
-}
-
-/// Whether the SHA-256 of these bytes is spelled so.
-fn has_digest(bytes: &[u8], digits: &str) -> bool {
-    let mut hasher = Sha256::new();
-    hasher.update(bytes);
-    <[u8; 32] as FromHex>::from_hex(digits) == Ok(hasher.finalize())
-}
-
-#[test]
-fn the_frame_of_an_acknowledgement_is_signed_exactly(rt: HostRuntime) {
-    let words = [
-        "abft",
-        "sign",
-        "ack",
-        "--replica",
-        "6",
-        "--n",
-        "7",
-        "--t",
-        "2",
-        "--value",
-        "k=\\00v",
-        "--height",
-        "9",
-        "--phase",
-        "3",
-    ];
-    let settings = set(rt.alloc(), &words).expect(&rt, "the words are a command line");
-    let frame = frame_of(rt.alloc(), &settings).expect(&rt, "a frame");
-    assert!(rt; has_digest(frame.as_bytes(), ACK_DIGEST));
 }

@@ -1,5 +1,5 @@
 //! Each line of a step.
-use crate::texts::{Outcome, line_outcome, seen_step};
+use crate::texts::seen_step;
 use ledger_model::Tx;
 use scenario_texts::{Command, Towards};
 use std::alloc::Global;
@@ -116,52 +116,4 @@ fn lies(rt: HostRuntime) {
     assert!(rt; said == Some(("lock", (1, 1), true)));
     let said = says_lie(alloc, b"lie-ack 1 4 5 [] 0", &[], Towards::One(0));
     assert!(rt; said == Some(("ack", (4, 5), true)));
-}
-
-/// Lines that are no step.
-const NO_STEPS: [&[u8]; 34] = [
-    b"execute 00",
-    b"execute +1",
-    b"execute -1",
-    b"execute 4294967296",
-    b"execute",
-    b"execute 1 2",
-    b"execute 0 ",
-    b" execute 0",
-    b"execute\t0",
-    b"Execute 0",
-    b"executes 0",
-    b"frames 1",
-    b"query 0 \\61",
-    b"query 0 \\5C",
-    b"query 0 \\5",
-    b"submit 0  a",
-    b"submit 0 ",
-    b"submit 0 a b",
-    b"submit 0 a,b",
-    b"submit",
-    b"submit 0 \xff",
-    b"inject 1 0A",
-    b"inject 1 0",
-    b"inject 1 0g",
-    b"pass 0 1",
-    b"silent 0",
-    b"silent ",
-    b"lie-ack 2 1 1 [x] all",
-    b"lie-ack 1 0 1 [x] all",
-    b"lie-ack 1 1 0 [x] all",
-    b"lie-ack 1 1 1 [,] all",
-    b"lie-ack 1 1 1 [x all",
-    b"lie-ack 1 1 1 [x] any",
-    b"config 4 1 1",
-];
-
-#[test]
-fn lines_that_are_no_step(rt: HostRuntime) {
-    for (index, line) in NO_STEPS.iter().enumerate() {
-        assert!(rt;
-            line_outcome(rt.alloc(), line) == Outcome::BadLine(3),
-            "line {index}"
-        );
-    }
 }

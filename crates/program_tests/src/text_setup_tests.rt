@@ -1,8 +1,8 @@
-//! The lines before the steps.
-use crate::texts::{Outcome, outcome_of, seen};
+//! The lines before the steps, and how a fault is shown.
+use crate::texts::seen;
 use ledger_model::AppKind;
 use lm_ots::{TreeHeight, Width};
-use scenario_texts::Scenario;
+use scenario_texts::{Scenario, TextFault};
 use std::alloc::Global;
 
 /// N, t, the width, the height and the number of liars of a scenario of purses.
@@ -58,33 +58,13 @@ fn clusters_and_keys(rt: HostRuntime) {
     assert!(rt; Width::W8.bits() == 8);
 }
 
-/// Texts, and which line of each is bad.
-const BAD_TEXTS: [(&[u8], u32); 17] = [
-    (b"config 12 4 1\n", 1),
-    (b"config 14 4 1\n", 1),
-    (b"config 4 0 1\n", 1),
-    (b"config 4 1 0\n", 1),
-    (b"config 4 1 4\n", 1),
-    (b"config 260 1 1\n", 1),
-    (b"silent\n", 1),
-    (b"keys 4 5\nconfig 4 1 1\n", 1),
-    (b"config 4 1 1\nkeys 4 6\n", 2),
-    (b"config 4 1 1\nkeys 5 5\n", 2),
-    (b"config 4 1 1\nkeys 4 5\nkeys 4 5\n", 3),
-    (b"config 4 1 1\nliar 1\nkeys 4 5\n", 3),
-    (b"config 4 1 1\nliar 1\nliar 1\n", 3),
-    (b"config 4 1 1\nliar 1\nliar 2\n", 3),
-    (b"config 4 1 1\nliar 4\n", 2),
-    (b"config 7 2 1\nliar 1\nliar 1\n", 3),
-    (b"config 4 1 1\nsilent\nliar 1\n", 3),
-];
-
 #[test]
-fn lines_that_set_nothing(rt: HostRuntime) {
-    for (index, (text, number)) in BAD_TEXTS.iter().enumerate() {
-        assert!(rt;
-            outcome_of(rt.alloc(), text) == Outcome::BadLine(*number),
-            "text {index}"
-        );
+fn faults_are_shown(rt: HostRuntime) {
+    for (fault, wanted) in [
+        (TextFault::BadLine(10_001), "line 10001 bad"),
+        (TextFault::NoMemory, "out of memory"),
+    ] {
+        let shown = format!(in rt.alloc(); "{fault}").expect(&rt, "memory");
+        assert!(rt; shown.as_str() == wanted);
     }
 }

@@ -1,4 +1,4 @@
-//! What the words of `abft cluster` and `abft serve` set, and what is told of words that set nothing.
+//! What the words of `abft cluster` and `abft serve` set. What is told of words that set nothing is in `tests/end_to_end.sh`.
 use cluster_keys::Cluster;
 use command_line::settings;
 use settings::{ClusterSettings, ServeSettings, Settings};
@@ -33,7 +33,7 @@ fn serving_line(alloc: Global, serve: &ServeSettings) -> Result<String, AllocErr
     format!(in alloc; "{running}, {} {}", serve.port, serve.sessions)
 }
 
-/// What the words set, as a line, or what is told of them.
+/// What the words set, as a line.
 fn told(alloc: Global, words: &[&str]) -> Result<String, AllocError> {
     match settings(alloc, words) {
         Ok(Settings::Cluster(running)) => running_line(alloc, &running),
@@ -82,76 +82,5 @@ fn the_words_of_cluster_and_serve_set_each_option(rt: HostRuntime) {
         ),
     ] {
         assert!(rt; is_told_of(rt.alloc(), words, line), "{line}");
-    }
-}
-
-#[test]
-fn a_fault_of_usage_names_its_option(rt: HostRuntime) {
-    for &(subcommand, option, word, text) in &[
-        (
-            "cluster",
-            "--rounds",
-            "4000000001",
-            "error: --rounds is a number from 0 to 4000000000, not '4000000001'",
-        ),
-        (
-            "cluster",
-            "--base-ms",
-            "0",
-            "error: --base-ms is a number from 1 to 60000, not '0'",
-        ),
-        (
-            "serve",
-            "--base-ms",
-            "60001",
-            "error: --base-ms is a number from 1 to 60000, not '60001'",
-        ),
-        (
-            "serve",
-            "--sessions",
-            "0",
-            "error: --sessions is a number from 1 to 1000, not '0'",
-        ),
-        (
-            "serve",
-            "--sessions",
-            "1001",
-            "error: --sessions is a number from 1 to 1000, not '1001'",
-        ),
-        (
-            "serve",
-            "--port",
-            "65536",
-            "error: --port is a number from 0 to 65535, not '65536'",
-        ),
-        (
-            "cluster",
-            "--tx",
-            "a b",
-            "error: --tx has a space: write it \\20",
-        ),
-        (
-            "serve",
-            "--tx",
-            "",
-            "error: --tx is a transaction of 1 to 64 bytes, not ''",
-        ),
-        (
-            "deliver",
-            "--value",
-            "a b",
-            "error: --value has a space: write it \\20",
-        ),
-        (
-            "deliver",
-            "--rounds",
-            "2",
-            "error: --rounds is 0 or 1, not '2'",
-        ),
-    ] {
-        assert!(rt;
-            is_told(rt.alloc(), &["abft", subcommand, option, word], text),
-            "{text}"
-        );
     }
 }
