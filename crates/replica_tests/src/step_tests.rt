@@ -6,9 +6,7 @@ use crate::fault::Fault;
 use app_kinds::AnyKind;
 use bytes::Bytes;
 use key_ring::{KeyRing, Signer};
-use ledger_model::{
-    Addressee, AppKind, Config, Event, Height, Key, ProposeRefusal, ReplicaId, SubmitRefusal,
-};
+use ledger_model::{Addressee, AppKind, Config, Event, Height, Key, ReplicaId};
 use lm_ots::{Identifier, Params, Seed, TreeHeight, Width};
 use locked_replica::{ApplyFault, EntryView, EventView, ReplyView, RoundEndView, State};
 use std::alloc::{AllocError, Global};
@@ -53,45 +51,36 @@ fn has_numbers(state: &State<AnyKind>, wanted: (usize, u32, u32, bool)) -> bool 
     (state.len(), state.clock(), state.height(), state.is_empty()) == wanted
 }
 
-fn answer_at(state: &State<AnyKind>, index: usize) -> Option<Result<(), SubmitRefusal>> {
-    match entry_at(state, index)?.reply() {
-        ReplyView::Submitted(given) => Some(given),
-        _ => None,
+// Whether it takes a transaction.
+fn takes_one(state: &mut State<AnyKind>) -> Result<bool, ApplyFault> {
+    let index = apply(state, Event::Submit(Bytes::from_static(b"a=1")))?;
+    match entry_at(state, index) {
+        Some(entry) => Ok(matches!(entry.reply(), ReplyView::Submitted(Ok(())))),
+        None => Ok(false),
     }
 }
 
-// Whether it answers so to a transaction.
-fn answers_submit(
-    state: &mut State<AnyKind>,
-    bytes: &'static [u8],
-    answer: Result<(), SubmitRefusal>,
-) -> Result<bool, ApplyFault> {
-    let index = apply(state, Event::Submit(Bytes::from_static(bytes)))?;
-    Ok(answer_at(state, index) == Some(answer))
-}
-
-fn proposal_at(state: &State<AnyKind>, index: usize) -> Option<Result<usize, ProposeRefusal>> {
-    match entry_at(state, index)?.reply() {
-        ReplyView::Proposed(Ok(batch)) => Some(Ok(batch.transactions().len())),
-        ReplyView::Proposed(Err(refusal)) => Some(Err(refusal)),
-        _ => None,
+// Whether the entry is a proposal of one transaction.
+fn is_one(entry: &EntryView<'_>) -> bool {
+    match entry.reply() {
+        ReplyView::Proposed(Ok(batch)) => batch.transactions().len() == 1,
+        _ => false,
     }
 }
 
-// Whether the proposal of a height has so many transactions, or there is none for this cause.
-fn answers_propose(
-    state: &mut State<AnyKind>,
-    height: u32,
-    answer: Result<usize, ProposeRefusal>,
-) -> Result<bool, ApplyFault> {
-    let index = apply(state, Event::Propose(Height::new(height)))?;
-    Ok(proposal_at(state, index) == Some(answer))
+// Whether it opens height 1 with one transaction.
+fn proposes_one(state: &mut State<AnyKind>) -> Result<bool, ApplyFault> {
+    let index = apply(state, Event::Propose(Height::new(1)))?;
+    match entry_at(state, index) {
+        Some(entry) => Ok(is_one(&entry)),
+        None => Ok(false),
+    }
 }
 
 // Whether it takes a transaction and opens height 1 with it.
 fn opens_one(state: &mut State<AnyKind>) -> Result<bool, ApplyFault> {
-    let is_taken = answers_submit(state, b"a=1", Ok(()))?;
-    Ok(answers_propose(state, 1, Ok(1))? && is_taken)
+    let is_taken = takes_one(state)?;
+    Ok(proposes_one(state)? && is_taken)
 }
 
 // Whether one frame of this length is sent to all.
