@@ -20,6 +20,8 @@ report="'$abft' sign report"
 ack="'$abft' sign ack"
 deliver="'$abft' deliver"
 ones=$(printf '1%.0s' {1..64})
+# Account 0 of a purse pays 5 to account 1.
+payment='\00\01\00\00\00\05\00\00\00\00'
 
 # What is signed.
 signs 'the frame of a report' fef5daf079e8b79d180887781eafc7d7cf0f08b4e121cde58481074a6409a561 report
@@ -48,7 +50,9 @@ runs 'no round is open' 0 $'ignored 4 WrongRound\n' "$report | $deliver --rounds
 runs 'another height is open' 0 $'ignored 3 NoRow\n' "$report | $deliver --height 2"
 runs 'the own report' 0 $'ignored 7 Repeated\n' "$report --replica 1 | $deliver"
 runs 'another phase' 0 $'ignored 5 WrongPhase\n' "$report --phase 2 | $deliver"
+runs 'the next phase' 0 $'accepted\n' "$report --phase 2 | $deliver --rounds 5"
 runs 'a signer beyond the cluster' 0 $'ignored 2 Signer\n' "$report --n 5 --replica 4 | $deliver"
+runs 'a transaction of a purse' 0 $'accepted\n' "$report --kind 3 --value '$payment' | $deliver --kind 3 --value '$payment'"
 runs 'a signature of another seed' 0 $'ignored 8 BadSignature\n' "$report --seed $ones | $deliver"
 runs 'a signature with a byte changed' 0 $'ignored 8 BadSignature\n' "($report | head -c 2376; printf X) | $deliver"
 runs 'a wide key to narrow ones' 0 $'ignored 8 BadSignature\n' "$report --w 8 | $deliver"
@@ -90,7 +94,7 @@ refuses "error: --height is a number from 1 to 4096, not ''" sign report --heigh
 refuses "error: --phase is a number from 1 to 1000000000, not '0'" sign report --phase 0
 refuses "error: --phase is a number from 1 to 1000000000, not '4294967296'" sign report --phase 4294967296
 refuses "error: --height is a number from 1 to 4, not '5'" deliver --height 5
-refuses "error: --rounds is 0 or 1, not '2'" deliver --rounds 2
+refuses "error: --rounds is a number from 0 to 4000000000, not '4000000001'" deliver --rounds 4000000001
 refuses 'error: --value has a space: write it \20' sign report --value "'a b'"
 refuses "error: --value has ',': write it \\2c" deliver --value a,b
 refuses "error: --value has '[': write it \\5b" sign report --value "'a['"
@@ -101,6 +105,12 @@ refuses "error: --value has '\\' without two lower-case hexadecimal digits behin
 refuses "error: --value has '\\' without two lower-case hexadecimal digits behind it" sign report --value "'\\zz'"
 refuses "error: --value is a transaction of 1 to 64 bytes, not ''" sign report --value "''"
 refuses "error: --value is a transaction of 1 to 64 bytes, not '${ones}1'" sign report --value "${ones}1"
+refuses "error: --value 'a=1' is refused by the application's check: code 1" deliver --kind 3
+refuses "error: --tx 'a=1' is refused by the application's check: code 1" cluster --kind 3
+refuses "error: --tx 'a=1' is refused by the application's check: code 1" serve --kind 3
+refuses "error: --tx 'a=1234567' is refused by the application's check: code 1" cluster --kind 2 --tx a=1234567
+refuses "error: --value '${payment/01/00}' is refused by the application's check: code 4" deliver --kind 3 --value "'${payment/01/00}'"
+runs 'a pool that a purse checks' 0 $'commits 0 0\ncommits 1 0\ncommits 2 0\ncommits 3 0\n' "'$abft' cluster --quiet --kind 3 --tx '$payment' --rounds 0"
 refuses 'error: a word of the command line is not UTF-8' sign report --value $'\xff'
 refuses 'error: a word of the command line is not UTF-8' $'\xff'
 refuses "error: 'abft' requires a subcommand but one was not provided
@@ -134,22 +144,25 @@ refuses "error: --seed is 64 hexadecimal digits, not '00'" simulate --seed 00
 refuses "error: --seed is 64 hexadecimal digits, not '${ones}1'" simulate --histories --seed "${ones}1"
 refuses "error: unexpected argument '--n' found
 
-Usage: abft simulate [OPTIONS]
+Usage: abft simulate [OPTIONS] <SCENARIO
 
 For more information, try '--help'." simulate --n 4
 refuses "error: unexpected argument 'scenario' found
 
-Usage: abft simulate [OPTIONS]
+Usage: abft simulate [OPTIONS] <SCENARIO
 
-For more information, try '--help'." simulate scenario
+For more information, try '--help'." simulate --histories scenario
+refuses 'error: the scenario comes on standard input: abft simulate <plain-run.txt' simulate plain-run.txt
+refuses 'error: the scenario comes on standard input: abft simulate <plain-run.txt' simulate plain-run.txt --histories
+refuses 'error: the frames come on standard input: abft deliver <frames.bin' deliver frames.bin --n 4
 refuses "error: unexpected value 'true' for '--histories' found; no more were expected
 
-Usage: abft simulate --histories
+Usage: abft simulate [OPTIONS] <SCENARIO
 
 For more information, try '--help'." simulate --histories=true
 refuses "error: the argument '--histories' cannot be used multiple times
 
-Usage: abft simulate [OPTIONS]
+Usage: abft simulate [OPTIONS] <SCENARIO
 
 For more information, try '--help'." simulate --histories --histories
 refuses "error: a value is required for '--seed <seed>' but none was supplied
@@ -157,7 +170,7 @@ refuses "error: a value is required for '--seed <seed>' but none was supplied
 For more information, try '--help'." simulate --seed
 refuses "error: the argument '--n <n>' cannot be used multiple times
 
-Usage: abft deliver [OPTIONS]
+Usage: abft deliver [OPTIONS] <FRAMES
 
 For more information, try '--help'." deliver --n 4 --n 4
 refuses "error: --rounds is a number from 0 to 4000000000, not '4000000001'" cluster --rounds 4000000001
@@ -166,6 +179,8 @@ refuses "error: --base-ms is a number from 1 to 60000, not '60001'" cluster --ba
 refuses "error: --port is a number from 0 to 65535, not '65536'" serve --port 65536
 refuses "error: --sessions is a number from 1 to 1000, not '0'" serve --sessions 0
 refuses "error: --sessions is a number from 1 to 1000, not '1001'" serve --sessions 1001
+refuses "error: --client-entries is a number from 0 to 65536, not '65537'" serve --client-entries 65537
+refuses "error: --client-entries is a number from 0 to 65536, not '-1'" serve --client-entries=-1
 refuses 'error: --tx has a space: write it \20' cluster --tx "'a b'"
 refuses "error: --tx is a transaction of 1 to 64 bytes, not ''" serve --tx "''"
 refuses "error: unexpected argument '--port' found
@@ -178,6 +193,16 @@ refuses "error: unexpected value '1' for '--quiet' found; no more were expected
 Usage: abft cluster --quiet
 
 For more information, try '--help'." cluster --quiet=1
+refuses "error: unexpected value '1' for '--stop-at-eof' found; no more were expected
+
+Usage: abft serve --stop-at-eof
+
+For more information, try '--help'." serve --stop-at-eof=1
+refuses "error: unexpected argument '--client-entries' found
+
+Usage: abft cluster [OPTIONS]
+
+For more information, try '--help'." cluster --client-entries 1
 
 # Streams that fail.
 full='error: No space left on device (os error 28)'$'\n'
@@ -247,6 +272,14 @@ EOT
       --value <value>      The one transaction of the batch [default: a=1]
   -h, --help               Print help
 
+Output: one frame, as bytes. A report has the batch of --value as its initial and only proper value,
+says no ALL and has no locks; an acknowledgement is on that batch.
+
+Exit status:
+  0  the frame was written
+  2  a fault of usage
+  3  out of memory, or a failed write
+
 Each call signs with leaf 0 of the replica's key pair, so one-time keys are used again and again.
 That is no way to use them but for trying things out: use the seed for nothing else.
 EOT
@@ -256,7 +289,7 @@ check 'help of sign' 0 "'$abft' sign --help"
     cat <<'EOT'
 Delivers the frames of standard input to a replica, and prints what it answers
 
-Usage: abft deliver [OPTIONS]
+Usage: abft deliver [OPTIONS] <FRAMES
 
 Options:
 EOT
@@ -265,7 +298,7 @@ EOT
       --replica <replica>  Which replica, below n [default: 1]
       --value <value>      The transaction that it submits [default: a=1]
       --height <height>    The height that it opens, 1 to 4 [default: 1]
-      --rounds <rounds>    How many rounds it ends, 0 or 1 [default: 1]
+      --rounds <rounds>    How many rounds it ends, 0 to 4000000000 [default: 1]
   -h, --help               Print help
 
 Lines, one for each frame:
@@ -281,14 +314,14 @@ Exit status:
   0  each frame was delivered
   1  'fault' or 'cut' was printed
   2  a fault of usage
-  3  want of memory, a full history, or a failed read or write
+  3  out of memory, a full history, or a failed read or write
 EOT
 } >"$room/wanted-out"
 check 'help of deliver' 0 "'$abft' deliver --help"
 cat >"$room/wanted-out" <<'EOT'
 Plays the scenario of standard input on a whole cluster, and prints what its replicas answer
 
-Usage: abft simulate [OPTIONS]
+Usage: abft simulate [OPTIONS] <SCENARIO
 
 Options:
       --seed <seed>  The seed of all keys, 64 hexadecimal digits [default: 0000000000000000000000000000000000000000000000000000000000000000]
@@ -303,17 +336,27 @@ Input, a scenario: the cluster (n, t and the kind of application), liars if any,
   round
   execute 0
 
-A step prints its word, its replica and the answer, or 'refused' and a number.
-A round prints its end at each correct replica, what was decided, and which frames were ignored.
-A lie prints what the replicas that it was told made of it, or 'lie-lock cannot', or 'exhausted'.
-With --histories the histories of the correct replicas are written, as bytes, in place of these.
-A text with a bad line prints 'line N bad' alone, with the number of the first one.
+Lines, of replica R at height H; docs/SCENARIOS.md has all of them:
+  submit R ok                  R's pool took the transaction; or 'submit R refused K'
+  propose R H BATCH            R opened H, with this initial value; or 'propose R H refused K'
+  end R C sent S               R ended a round, round C is open, and R sent S frames
+  decided R H BATCH            R decided when that round ended
+  deliver R accepted           R read a frame
+  deliver R ignored N CAUSE    R ignored a frame: the cause's number and name
+  execute R H BATCH codes C,D  R ran a block, with a code for each transaction; or 'execute R nothing'
+  query R H VALUE              what R holds under the key; or 'query R H absent'
+  info R H HASH                the height and the hash of R's application
+  refused K                    the step was refused, for reason K
+  lie-lock cannot, exhausted   the liar could not sign
+Of the frames that a 'round' passes, only those that are ignored have a line.
+With --histories the histories of the correct replicas are written, as bytes, in place of the lines.
+A text with a bad line prints 'line N bad' alone, with the number of the first bad line.
 
 Exit status:
   0  the scenario was played
   1  'line N bad' was printed, and nothing was played
   2  a fault of usage
-  3  want of memory, or a failed read or write
+  3  out of memory, or a failed read or write
 EOT
 check 'help of simulate' 0 "'$abft' simulate --help"
 cat >"$room/running" <<'EOT'
@@ -321,6 +364,7 @@ cat >"$room/running" <<'EOT'
       --rounds <rounds>    How many rounds each replica ends, 0 to 4000000000 [default: 40]
       --base-ms <base-ms>  Milliseconds of the first round, 1 to 60000; each later round has one more [default: 200]
       --quiet              Tells nothing of its progress
+      --stop-at-eof        Ends the rounds, and the listener, where standard input ends
 EOT
 {
     cat <<'EOT'
@@ -337,16 +381,16 @@ EOT
 Lines, one for each replica:
   commits R C  replica R committed C blocks
 
-Progress is told on standard error if that is a terminal, unless --quiet is there.
+How it stands is told on standard error, unless --quiet is there.
 
 Exit status:
   0  the rounds are over, and the lines were printed
   2  a fault of usage
-  3  want of memory, a thread that can't be made, or a failed write
+  3  out of memory, a thread that can't be made, or a failed write
 EOT
 } >"$room/wanted-out"
 check 'help of cluster' 0 "'$abft' cluster --help"
-# The longer name of --sessions moves the texts of the options by two columns.
+# The longer name of --client-entries moves the text of each option to a line of its own.
 {
     cat <<'EOT'
 Runs such a cluster beside a listener on 127.0.0.1, whose clients speak to its replicas
@@ -355,11 +399,16 @@ Usage: abft serve [OPTIONS]
 
 Options:
 EOT
-    sed -E 's/^(.{27})/\1  /' "$room/common" "$room/running"
+    sed -E 's/^(.{27})/\1\n          /; s/ +\n/\n/' "$room/common" "$room/running"
     cat <<'EOT'
-      --port <port>          The port to listen at, 0 to 65535; 0 for one that is free [default: 0]
-      --sessions <sessions>  How many connections are taken, 1 to 1000 [default: 1]
-  -h, --help                 Print help
+      --port <port>
+          The port to listen at, 0 to 65535; 0 for one that is free [default: 0]
+      --sessions <sessions>
+          How many connections are taken, 1 to 1000 [default: 1]
+      --client-entries <client-entries>
+          How many entries of each replica's history its clients may use, 0 to 65536 [default: 32768]
+  -h, --help
+          Print help
 
 The first line:
   listening PORT  clients can connect to this port
@@ -367,14 +416,15 @@ The first line:
 Then lines as of 'abft cluster', one for each replica:
   commits R C  replica R committed C blocks
 
-It ends when the rounds are over and as many connections as --sessions says have ended.
-Progress is told on standard error if that is a terminal, unless --quiet is there.
+It ends when the rounds are over and as many connections as --sessions says have ended,
+or where standard input ends if --stop-at-eof is there.
+How it stands is told on standard error, unless --quiet is there.
 docs/OPERATING.md has the rest.
 
 Exit status:
   0  the rounds are over, and the lines were printed
   2  a fault of usage
-  3  want of memory, a thread that can't be made, a port that can't be listened at, or a failed write
+  3  out of memory, a thread that can't be made, a port that can't be listened at, or a failed write
 EOT
 } >"$room/wanted-out"
 check 'help of serve' 0 "'$abft' serve --help"
@@ -395,8 +445,19 @@ execute 0 nothing
 ' "'$abft' simulate --help | sed -n '/^Input/,/^$/s/^  //p' | '$abft' simulate"
 
 # Live clusters, by the machine's clock.
-runs 'a cluster of no rounds' 0 $'commits 0 0\ncommits 1 0\ncommits 2 0\ncommits 3 0\n' "'$abft' cluster --rounds 0"
-exec 3< <("$abft" serve --rounds 100 --base-ms 150 --tree 10 --sessions 5; echo "status $?")
+none=$'commits 0 0\ncommits 1 0\ncommits 2 0\ncommits 3 0\n'
+runs 'a cluster of no rounds' 0 "$none" "'$abft' cluster --rounds 0 --quiet"
+printf '%s' "$none" >"$room/wanted-out"
+printf 'the seed is the default one, which everybody knows: anybody can forge\nthe rounds are over\n' >"$room/wanted-err"
+check 'what its operator is told' 0 "'$abft' cluster --rounds 0"
+printf 'the cluster was asked to stop\n' >"$room/wanted-err"
+check 'a cluster whose input ends' 0 "'$abft' cluster --seed $ones --rounds 4000000000 --stop-at-eof </dev/null"
+faults 'no memory for threads' 3 $'error: a thread could not be made\n' \
+    "ulimit -v 24000; timeout 60 '$abft' cluster --quiet --rounds 4000000000"
+# A server that the end of its input stops. It opens heights until its clients are done.
+mkfifo "$room/wish"
+exec 3< <("$abft" serve --rounds 4000000000 --base-ms 150 --tree 10 --sessions 100 --stop-at-eof <"$room/wish" 2>"$room/told"; echo "status $?")
+exec 4>"$room/wish"
 read -r -u 3 listening port
 runs 'the first line of a server' 0 'listening' "printf %s '$listening'"
 runs 'sessions byte by byte' 0 'no request: 000101 000101 000105
@@ -404,10 +465,23 @@ early: 000100 000102
 later: 000700 at least 3 0131
 ' "tests/live_session.py '$port'"
 runs 'a client sees its transaction run' 0 $'height N: blue\n' "examples/client.py '$port' colour blue | sed 's/[0-9][0-9]*/N/'"
+runs 'and another one of the same key' 0 $'height N: red\n' "examples/client.py '$port' colour red | sed 's/[0-9][0-9]*/N/'"
 faults 'a port that is taken' 3 "error: can't listen at 127.0.0.1:$port: Address already in use (os error 98)"$'\n' \
-    "'$abft' serve --port '$port'"
+    "'$abft' serve --quiet --port '$port'"
+runs 'what live clusters do at their limits' 0 'entries: 11 12 00 13 000000000000 00 04 04 11 0000000000 00 00 13 00 00; 4 lines, status 0
+flood: 12: 100000; 00: 32768 04: 67232; bounded; all commit; 4 lines, status 0
+one full: 04; 4 lines, status 0
+all full: 04 04 04 04; 4 lines, status 0
+descriptors: 40 answered; 4 lines, status 0
+last session: refused; 4 lines, status 0
+stop: idle client ended; 4 lines, status 0
+' "tests/live_limits.py '$abft'"
+exec 4>&-
 cat <&3 >"$room/served"
 runs 'what each replica committed' 0 $'commits 0\ncommits 1\ncommits 2\ncommits 3\nstatus 0\n' \
     "sed -E 's/^(commits [0-3]) [1-9][0-9]*$/\1/' '$room/served'"
+runs 'a line for the first block' 0 $'block 1: replica R ran it first, in round N\n' \
+    "grep '^block 1:' '$room/told' | sed -E 's/replica [0-3]/replica R/; s/round [0-9]+/round N/'"
+runs 'a line when it was asked to stop' 0 $'the cluster was asked to stop\n' "tail -n 1 '$room/told'"
 
 finish

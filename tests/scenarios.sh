@@ -131,6 +131,12 @@ bad 'a line that is too long' 2 "$setup$(many '#' 400001)\n"
 runs 'too many lines' 1 $'line 10001 bad\n' "'$abft' simulate <'$room/long'"
 (printf '%s' "$setup" && yes '#' | head -n 9999) >"$room/most"
 runs 'as many lines as there may be' 0 '' "'$abft' simulate <'$room/most'"
+# A text that is too large is bad as soon as that shows, however long it goes on.
+runs 'a line without an end' 1 $'line 1 bad\n' "ulimit -v 100000; head -c 3000000000 /dev/zero | timeout 20 '$abft' simulate"
+runs 'lines without an end' 1 $'line 10001 bad\n' "ulimit -v 100000; yes '' | timeout 20 '$abft' simulate"
+runs 'steps without an end' 1 $'line 10001 bad\n' "ulimit -v 100000; (printf '%s' '$setup'; yes 'info 0') | timeout 20 '$abft' simulate"
+runs 'an earlier bad line' 1 $'line 2 bad\n' "ulimit -v 100000; (printf '%s' '$setup'; echo config; cat /dev/zero) | timeout 20 '$abft' simulate"
+runs 'an earlier bad line among many' 1 $'line 2 bad\n' "ulimit -v 100000; (printf '%s' '$setup'; echo config; yes '#') | timeout 20 '$abft' simulate"
 
 # Histories as bytes, of correct replicas alone: who it is, how many entries, the entries.
 printf '%sliar 1\nend 3\npropose 0 1\nend 1\n' "$setup" >"$room/text"

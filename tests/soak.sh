@@ -6,6 +6,8 @@
 set -u
 cd "$(dirname "$0")/.." || exit 1
 abft=${ABFT:-$PWD/crates/abft/out/abft}
+room=$(mktemp -d)
+trap 'rm -rf "$room"' EXIT
 passed=0
 failed=0
 
@@ -27,5 +29,26 @@ tests/sessions.py "$abft" 1000 1
 notes '1000 sessions one after another' $?
 tests/sessions.py "$abft" 64 64
 notes '64 sessions at once' $?
+
+# Histories that clients fill: the process ends on time, each time.
+for run in {1..10}; do
+    tests/live_limits.py "$abft" 'one full' 'all full' 'full at 1' 'full at 2' 'full at 3' 'full at 4' >"$room/full"
+    [ "$(grep -c '4 lines, status 0$' "$room/full")" = 6 ]
+    notes "histories that are full, run $run" $?
+done
+
+# How much of a processor an idle server takes.
+for size in '4 1' '13 4'; do
+    read -r n t <<<"$size"
+    "$abft" serve --n "$n" --t "$t" --rounds 20 --base-ms 1000 --quiet >"$room/idle" &
+    server=$!
+    sleep 5
+    before=$(awk '{ print $14 + $15 }' "/proc/$server/stat")
+    sleep 10
+    after=$(awk '{ print $14 + $15 }' "/proc/$server/stat")
+    echo "an idle server of $n replicas: $((after - before)) hundredths of a second of a processor in 10 seconds"
+    kill "$server"
+    wait "$server" 2>/dev/null
+done
 echo "$passed passed, $failed failed"
 [ "$failed" = 0 ]

@@ -2,6 +2,7 @@
 #![tactic(auto)]
 
 use cluster_commands::{cluster, serve};
+use cluster_service::Watcher;
 use program::{Outcome, finish, refuse_words, run};
 use std::io::{IsTerminal, Stderr};
 use std::process::ExitCode;
@@ -13,11 +14,25 @@ fn main(rt: HostRuntime) -> ExitCode {
     let status = match run_host(&rt) {
         Ok(Outcome::Ended(status)) => status,
         Ok(Outcome::Cluster(settings)) => {
-            let done = cluster(&rt, alloc, &settings, terminal(&rt), &mut rt.stdout());
+            let done = cluster(
+                &rt,
+                alloc,
+                &settings,
+                watcher(&rt),
+                rt.stdin(),
+                &mut rt.stdout(),
+            );
             finish(alloc, done.map(|_| 0u8), &mut faults)
         }
         Ok(Outcome::Serve(settings)) => {
-            let done = serve(&rt, alloc, &settings, terminal(&rt), &mut rt.stdout());
+            let done = serve(
+                &rt,
+                alloc,
+                &settings,
+                watcher(&rt),
+                rt.stdin(),
+                &mut rt.stdout(),
+            );
             finish(alloc, done.map(|_| 0u8), &mut faults)
         }
         Err(error) => refuse_words(alloc, error, &mut faults),
@@ -25,14 +40,14 @@ fn main(rt: HostRuntime) -> ExitCode {
     ExitCode::from(status)
 }
 
-/// Standard error, where it is a terminal.
-fn terminal(rt: &HostRuntime) -> Option<Stderr> {
-    let faults = rt.stderr();
-    if faults.is_terminal() {
-        Some(faults)
+/// Standard error as who watches a running cluster there.
+fn watcher(rt: &HostRuntime) -> Option<Watcher<Stderr>> {
+    let errors = rt.stderr();
+    Some(if errors.is_terminal() {
+        Watcher::Terminal(errors)
     } else {
-        None
-    }
+        Watcher::Log(errors)
+    })
 }
 
 /// Runs the program on the words and streams of the process. An `Err` is of the words.

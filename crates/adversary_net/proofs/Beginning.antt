@@ -19,12 +19,12 @@ use Rattle.ledger_model.specs.Timelines.{AreReplicas}
 use Rattle.ledger_model.specs.Worlds.{no_entries, beginning, Runs}
 use Rattle.ledger_model.proofs.Lists.{any_has, has_any, filter_has, has_filter}
 use Rattle.lms_tree.specs.Trees.{Secret}
-use Rattle.key_ring.specs.Signers.{Keys, key_of}
+use Rattle.cluster_keys.specs.Keys.{ring_with}
 use Rattle.locked_replica.specs.Replicas.{Replica}
 use Rattle.adversary_net.specs.declared.party.Party.{Party}
 use Rattle.adversary_net.specs.Clusters.{RunningCluster, IsCluster, IsMemberAt, state_in, correct_of, history_in, world_of}
 use Rattle.adversary_net.proofs.Members.{take_all}
-use Rattle.adversary_net.specs.Openings.{different, is_liar, correct_from, correct_without, unused, ring_of, new_replica, new_party, new_cluster, IsSupply}
+use Rattle.adversary_net.specs.Openings.{different, is_liar, correct_from, correct_without, new_replica, new_party, new_cluster, IsSupply}
 
 -- ---- numbers from a on
 
@@ -51,11 +51,6 @@ get_range a (suc n) zero x at = (let e : a ≡ x = some_is at in omega (arith, e
     some_is : ◌≡◌ {A = Option ℕ} (Some a) (Some x) → a ≡ x
     some_is e = cc
 get_range a (suc n) (suc i) x at = let e = get_range (a + 1) n i x at in (omega (arith, e.0), omega (arith, e.1))
-
-pub get_range_at : (a n i : ℕ) → i < n → slice_get (range_with_len a n) i ≡ Some (a + i)
-get_range_at a zero i lt = absurd (omega arith)
-get_range_at a (suc n) zero lt = ap Some (omega arith)
-get_range_at a (suc n) (suc i) lt = get_range_at (a + 1) n i (omega arith) ∙ ap Some (omega arith)
 
 -- ---- how many lie
 
@@ -168,12 +163,12 @@ module _ (config : Config) (ring : Ring) (secrets : ℕ → Secret) (liars : Lis
       some_is e = cc
 
 pub new_world : (config : Config) (secrets : ℕ → Secret) (liars : List ℕ) → world_of (new_cluster config secrets liars) ≡ beginning (correct_without config liars)
-new_world config secrets liars = ap (λ (hs : List History). record { histories = hs; order = [] }) (begins config (ring_of config secrets) secrets liars (range_with_len 0 config.replicas))
+new_world config secrets liars = ap (λ (hs : List History). record { histories = hs; order = [] }) (begins config (ring_with config secrets) secrets liars (range_with_len 0 config.replicas))
 
 pub new_correct : (config : Config) (secrets : ℕ → Secret) (liars : List ℕ) → correct_of (new_cluster config secrets liars) ≡ correct_without config liars
-new_correct config secrets liars = numbers config (ring_of config secrets) secrets liars (range_with_len 0 config.replicas)
+new_correct config secrets liars = numbers config (ring_with config secrets) secrets liars (range_with_len 0 config.replicas)
 
-new_member : (config : Config) (secrets : ℕ → Secret) (liars : List ℕ) (r : ℕ) → IsMemberAt (new_cluster config secrets liars) r (new_replica config (ring_of config secrets) secrets r)
+new_member : (config : Config) (secrets : ℕ → Secret) (liars : List ℕ) (r : ℕ) → IsMemberAt (new_cluster config secrets liars) r (new_replica config (ring_with config secrets) secrets r)
 unfolding Replay ReplaysFrom commits_of
 new_member config secrets liars r = record { config = refl; ring = refl; id = refl; replay = tt; machine = refl }
 
@@ -191,9 +186,9 @@ some_party (Some p) s is = (p, (refl, is))
 pub new_is_cluster : (config : Config) (secrets : ℕ → Secret) (liars : List ℕ) → different liars ≤ config.faults → IsCluster (new_cluster config secrets liars)
 unfolding Runs
 new_is_cluster config secrets liars few = record {
-  size = length-map-range_with_len (new_party config (ring_of config secrets) secrets liars) 0 config.replicas;
+  size = length-map-range_with_len (new_party config (ring_with config secrets) secrets liars) 0 config.replicas;
   members = λ r s is.
-      let ring = ring_of config secrets in
+      let ring = ring_with config secrets in
       let own = some_party (slice_get (map (new_party config ring secrets liars) (range_with_len 0 config.replicas)) r) s is in
       let from = mapped (new_party config ring secrets liars) (slice_get (range_with_len 0 config.replicas) r) (own.0)
       (sym (slice_get-map (new_party config ring secrets liars) (range_with_len 0 config.replicas) r) ∙ own.1.0) in
@@ -203,12 +198,6 @@ new_is_cluster config secrets liars few = record {
   replicas = subst (AreReplicas config) (sym (new_correct config secrets liars)) (correct_replicas config liars few);
   ran = record { steps = []; answers = []; runs = new_world config secrets liars ∙ ap beginning (sym (new_correct config secrets liars)) };
 }
-
--- the key of a replica stands in the ring at its number
-pub key_in_ring : (config : Config) (secrets : ℕ → Secret) (r : ℕ) → r < config.replicas → slice_get (ring_of config secrets) r ≡ Some (key_of (secrets r))
-key_in_ring config secrets r lt =
-    slice_get-map (λ k. key_of (secrets k)) (range_with_len 0 config.replicas) r
-    ∙ ap (option_map (λ k. key_of (secrets k))) (get_range_at 0 config.replicas r lt) ∙ ap (λ k. Some (key_of (secrets k))) (omega arith)
 
 -- ---- the code that makes it
 
@@ -232,7 +221,7 @@ all_below config liars none = λ k d lt. elim (cases_Bool (nat_le config.replica
     index_any (x ∷ xs) (suc k) d lt = index_any xs k d (omega arith)
 
 -- the numbers that are left once one is taken
-pub range_left : (a n : ℕ) → a < n → range_with_len a (n - a) ≡ a ∷ range_with_len (a + 1) (n - (a + 1))
+range_left : (a n : ℕ) → a < n → range_with_len a (n - a) ≡ a ∷ range_with_len (a + 1) (n - (a + 1))
 range_left a n lt =
     let size : n - a ≡ suc (n - (a + 1)) = omega arith in
     ap (range_with_len a) size
@@ -246,11 +235,6 @@ correct_left liars a n lt =
       | inr honest ↦ ap (λ l. length (filter (λ r. not (is_liar liars r)) l)) parts ∙ rw honest (omega arith)
     ]
 
--- the public keys of the signers
-pub ring_is : (secrets : ℕ → Secret) (rs : List ℕ) → map (λ (keys : Keys). key_of keys.secret) (map (λ r. unused (secrets r)) rs) ≡ map (λ r. key_of (secrets r)) rs
-ring_is secrets [] = refl
-ring_is secrets (r ∷ rs) = ap (λ l. key_of (secrets r) ∷ l) (ring_is secrets rs)
-
 -- the first of what there is is taken
 pub first_app : {A R : Type 0} (machine : A → Machine) (config : Config) (n : ℕ) (apps left : List A) (randoms : List R) (a : A) → IsSupply machine config n apps randoms → apps ≡ a ∷ left → machine a ≡ run config.kind []
 first_app machine config n apps left randoms a supply is = All-head (λ x. machine x ≡ run config.kind []) a left (All-same (λ x. machine x ≡ run config.kind []) (a ∷ left) apps (sym is) supply.opening)
@@ -263,18 +247,14 @@ supply_left machine config n apps left randoms others a r supply is too = record
   opening = All-rest (λ x. machine x ≡ run config.kind []) a left apps is supply.opening;
 }
 
--- the first of a list, and the others
-pub first_is : {X : Type 0} (l : List X) (x y : X) (xs ys : List X) → l ≡ x ∷ xs → l ≡ y ∷ ys → (x ≡ y) × (xs ≡ ys)
-first_is l x y xs ys e d = (let both = sym e ∙ d in cc, let both = sym e ∙ d in cc)
-
 -- what was made is the new cluster
-pub new_is : (config : Config) (secrets : ℕ → Secret) (liars : List ℕ) (ring : Ring) (parties : List (Party Replica)) (order : List ℕ) → ring ≡ ring_of config secrets
+pub new_is : (config : Config) (secrets : ℕ → Secret) (liars : List ℕ) (ring : Ring) (parties : List (Party Replica)) (order : List ℕ) → ring ≡ ring_with config secrets
     → parties ≡ map (new_party config ring secrets liars) (range_with_len 0 config.replicas) → order ≡ []
     → ◌≡◌ {A = RunningCluster} (record { config = config; ring = ring; parties = parties; order = order }) (new_cluster config secrets liars)
 new_is config secrets liars ring parties order keys made none =
     ap (λ (l : Ring). record { config = config; ring = l; parties = parties; order = order }) keys
-    ∙ ap (λ (ps : List (Party Replica)). record { config = config; ring = ring_of config secrets; parties = ps; order = order }) (made ∙ ap (λ (l : Ring). map (new_party config l secrets liars) (range_with_len 0 config.replicas)) keys)
-    ∙ ap (λ (o : List ℕ). record { config = config; ring = ring_of config secrets; parties = map (new_party config (ring_of config secrets) secrets liars) (range_with_len 0 config.replicas); order = o }) none
+    ∙ ap (λ (ps : List (Party Replica)). record { config = config; ring = ring_with config secrets; parties = ps; order = order }) (made ∙ ap (λ (l : Ring). map (new_party config l secrets liars) (range_with_len 0 config.replicas)) keys)
+    ∙ ap (λ (o : List ℕ). record { config = config; ring = ring_with config secrets; parties = map (new_party config (ring_with config secrets) secrets liars) (range_with_len 0 config.replicas); order = o }) none
 
 -- the rest of a list is all of it
 pub rest_whole : (xs : List ℕ) (i : ℕ) → take (length xs - i) (drop i xs) ≡ drop i xs

@@ -5,7 +5,7 @@ use Rattle.ledger_model.specs.declared.config.Config.{Config}
 use Rattle.ledger_model.specs.Applications.{Machine, run}
 use Rattle.ledger_model.specs.Rules.{Ring}
 use Rattle.lms_tree.specs.Trees.{Secret}
-use Rattle.key_ring.specs.Signers.{Keys, key_of}
+use Rattle.cluster_keys.specs.Keys.{unused, ring_with}
 use Rattle.locked_replica.specs.Replicas.{Replica}
 use Rattle.adversary_net.specs.declared.party.Party.{Party}
 use Rattle.adversary_net.specs.declared.party.Party.TheVariants as party
@@ -33,14 +33,6 @@ pub record MayLie (config : Config) (liars : List ℕ) : Type 0 where
   pub few : different liars ≤ config.faults
   pub below : All (λ r. r < config.replicas) liars
 
--- the key pair of a secret, with no leaf used
-abbrev pub unused : Secret → Keys
-unused secret = record { secret = secret; used = 0 }
-
--- the public keys of all replicas by number
-abbrev pub ring_of : Config → (ℕ → Secret) → Ring
-ring_of config secrets = map (λ r. key_of (secrets r)) (range_with_len 0 config.replicas)
-
 -- a correct replica to which nothing happened
 abbrev pub new_replica : Config → Ring → (ℕ → Secret) → ℕ → Replica
 new_replica config ring secrets r = record {
@@ -61,8 +53,8 @@ new_party config ring secrets liars r = if is_liar liars r then party.Liar (unus
 abbrev pub new_cluster : Config → (ℕ → Secret) → List ℕ → RunningCluster
 new_cluster config secrets liars = record {
   config = config;
-  ring = ring_of config secrets;
-  parties = map (new_party config (ring_of config secrets) secrets liars) (range_with_len 0 config.replicas);
+  ring = ring_with config secrets;
+  parties = map (new_party config (ring_with config secrets) secrets liars) (range_with_len 0 config.replicas);
   order = [];
 }
 

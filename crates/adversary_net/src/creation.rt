@@ -3,17 +3,16 @@ ghost use Rattle.std.specs.Prelude.{◌≡◌, [], ◌<◌, ◌≤◌, ◌-◌, 
 ghost use Rattle.std.specs.List.{range_with_len};
 ghost use Rattle.std.specs.Vec.Iter.{into_iter_items};
 ghost use Rattle.ledger_model.specs.Applications.{run};
-ghost use Rattle.key_ring.specs.Signers.{key_of};
-ghost use Rattle.cluster_keys.specs.Keys.{secret_of};
+ghost use Rattle.cluster_keys.specs.Keys.{ring_of, secret_of, signers_of, unused};
 ghost use Rattle.locked_replica.specs.Replicas.{IsMember};
-ghost use Rattle.adversary_net.specs.Openings.{different, is_liar, correct_without, unused, ring_of, new_party, IsSupply, MayLie};
+ghost use Rattle.adversary_net.specs.Openings.{different, is_liar, correct_without, new_party, IsSupply, MayLie};
 
 use crate::correct::CorrectReplica;
 use crate::fault::WorldFault;
 use crate::party::Party;
 use crate::world::World;
 use abci::Application;
-use cluster_keys::{Cluster, key_pair};
+use cluster_keys::{Cluster, ClusterKeys, all_keys};
 use key_ring::{KeyRing, Signer};
 use ledger_model::{Config, ReplicaId};
 use std::alloc::{AllocError, Global};
@@ -79,29 +78,6 @@ fn check_liars(config: &Config, liars: &[ReplicaId]) -> Result<(), WorldFault>
     Ok(())
 }
 
-/// The key pairs of all replicas by number, with no leaf used.
-fn signers_of(alloc: Global, cluster: &Cluster) -> Result<Vec<Signer>, AllocError>
-    ensures { IfOk result (λ signers. signers.items
-        ≡ map (λ r. unused (secret_of cluster.now r)) (range_with_len 0 cluster.now.config.replicas)) }
-{
-    let mut signers = Vec::with_capacity(alloc, usize::from(cluster.config.replicas))?;
-    for replica in 0..cluster.config.replicas {
-        signers.push(key_pair(alloc, cluster, ReplicaId::new(replica))?)?;
-    }
-    Ok(signers)
-}
-
-/// Their public keys.
-fn ring_of_signers(alloc: Global, signers: &[Signer]) -> Result<KeyRing, AllocError>
-    ensures { IfOk result (λ ring. ring ≡ map (λ keys. key_of keys.secret) signers.now) }
-{
-    let mut keys = Vec::with_capacity(alloc, signers.len())?;
-    for signer in signers {
-        keys.push(signer.public())?;
-    }
-    Ok(KeyRing::new(keys))
-}
-
 /// What the correct replicas are made with, the next one's first.
 #[derive(Drop)]
 struct Supply<A: Application> {
@@ -146,7 +122,7 @@ fn party_of<A: Application>(
 ) -> Result<Party<CorrectReplica<A>>, AllocError>
     requires below { id < cluster.now.config.replicas }
     requires signer { signer ≡ unused (secret_of cluster.now id) }
-    requires ring { ring.now ≡ ring_of cluster.now.config (secret_of cluster.now) }
+    requires ring { ring.now ≡ ring_of cluster.now }
     requires some { is_liar liars.now id ≡ false → 0 < length (into_iter_items supply.old.apps) }
     requires supply { IsSupply A.machine cluster.now.config (length (into_iter_items supply.old.apps))
         (into_iter_items supply.old.apps) (into_iter_items supply.old.randoms) }
@@ -171,8 +147,8 @@ fn parties_of<A: Application>(
     ring: &KeyRing,
     mut supply: Supply<A>,
 ) -> Result<Vec<Party<CorrectReplica<A>>>, AllocError>
-    requires signers { signers.items ≡ map (λ r. unused (secret_of cluster.now r)) (range_with_len 0 cluster.now.config.replicas) }
-    requires ring { ring.now ≡ ring_of cluster.now.config (secret_of cluster.now) }
+    requires signers { signers.items ≡ signers_of cluster.now }
+    requires ring { ring.now ≡ ring_of cluster.now }
     requires supply { IsSupply A.machine cluster.now.config (length (correct_without cluster.now.config liars.now))
         (into_iter_items supply.apps) (into_iter_items supply.randoms) }
     ensures { IfOk result (λ parties. parties.items
@@ -222,8 +198,7 @@ impl<A: Application> World<A> {
             ↔ ((different liars.now ≤ cluster.now.config.faults) × Any (λ r. cluster.now.config.replicas ≤ r) liars.now) }
     {
         check_liars(&cluster.config, liars)?;
-        let signers = signers_of(alloc, cluster)?;
-        let ring = ring_of_signers(alloc, &signers)?;
+        let ClusterKeys { signers, ring } = all_keys(alloc, cluster)?;
         let supply = Supply {
             apps: apps.into_iter(),
             randoms: randoms.into_iter(),

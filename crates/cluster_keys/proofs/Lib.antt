@@ -1,1 +1,3 @@
+mod Collected
 pub mod RingLemmas
+pub mod SignersLeft

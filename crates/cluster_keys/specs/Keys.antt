@@ -2,8 +2,10 @@
 use Rattle.std.specs.Prelude.{ℕ, List, [], ◌∷◌, ◌++◌, take, map}
 use Rattle.std.specs.List.{range_with_len}
 use Rattle.sha2.specs.Sha256.{sha256}
+use Rattle.ledger_model.specs.declared.config.Config.{Config}
+use Rattle.ledger_model.specs.Rules.{Ring}
 use Rattle.lms_tree.specs.Trees.{Secret}
-use Rattle.key_ring.specs.Signers.{key_of}
+use Rattle.key_ring.specs.Signers.{Keys, key_of}
 use Rattle.cluster_keys.specs.declared.cluster.Cluster.{Cluster}
 
 -- the secret of a replica
@@ -14,6 +16,18 @@ secret_of cluster r = record {
   seed = sha256 (cluster.seed ++ r ∷ 1 ∷ []);
 }
 
+-- the key pair of a secret, with no leaf used
+abbrev pub unused : Secret → Keys
+unused secret = record { secret = secret; used = 0 }
+
+-- the key pairs of the replicas, by number, with no leaf used
+abbrev pub signers_of : Cluster → List Keys
+signers_of cluster = map (λ r. unused (secret_of cluster r)) (range_with_len 0 cluster.config.replicas)
+
+-- the public keys of replicas that have these secrets, by number
+abbrev pub ring_with : Config → (ℕ → Secret) → Ring
+ring_with config secrets = map (λ r. key_of (secrets r)) (range_with_len 0 config.replicas)
+
 -- the public keys of the replicas, by number
-abbrev pub ring_of : Cluster → List (List ℕ)
-ring_of cluster = map (λ r. key_of (secret_of cluster r)) (range_with_len 0 cluster.config.replicas)
+abbrev pub ring_of : Cluster → Ring
+ring_of cluster = ring_with cluster.config (secret_of cluster)

@@ -1,7 +1,7 @@
 //! From a cluster's seed to the key pair of a replica.
 ghost use Rattle.std.specs.Prelude.{◌≡◌, [], ◌∷◌, ◌++◌, IfOk};
 ghost use Rattle.sha2.specs.Sha256.{sha256};
-ghost use Rattle.cluster_keys.specs.Keys.{secret_of};
+ghost use Rattle.cluster_keys.specs.Keys.{secret_of, unused};
 
 use crate::cluster::Cluster;
 use key_ring::Signer;
@@ -23,7 +23,7 @@ fn derived(cluster: &Cluster, replica: u8, purpose: u8) -> [u8; 32]
 /// The key pair of a replica: its identifier is the first half of what the seed gives for purpose 0, its secret seed what
 /// it gives for purpose 1. No leaf of it is used. Its whole tree is computed.
 pub fn key_pair(alloc: Global, cluster: &Cluster, replica: ReplicaId) -> Result<Signer, AllocError>
-    ensures { IfOk result (λ signer. signer ≡ record { secret = secret_of cluster.now replica; used = 0 }) }
+    ensures { IfOk result (λ signer. signer ≡ unused (secret_of cluster.now replica)) }
 {
     let mut identifier = [0; 16];
     identifier.copy_from_slice(&derived(cluster, replica.number(), 0)[..16]);

@@ -1,7 +1,7 @@
 //! What one replica holds of the cluster's keys: its own key pair, and the public keys of all.
 ghost use Rattle.std.specs.Prelude.{◌≡◌, ◌<◌, ℕ, Some, IfOk, length, slice_get};
 ghost use Rattle.key_ring.specs.Signers.{key_of};
-ghost use Rattle.cluster_keys.specs.Keys.{ring_of, secret_of};
+ghost use Rattle.cluster_keys.specs.Keys.{ring_of, secret_of, unused};
 
 use crate::cluster::Cluster;
 use crate::derivation::key_pair;
@@ -55,7 +55,7 @@ pub fn signer_and_ring(
     cluster: &Cluster,
     own: ReplicaId,
 ) -> Result<(Signer, KeyRing), AllocError>
-    ensures signer { IfOk result (λ keys. keys.0 ≡ record { secret = secret_of cluster.now own; used = 0 }) }
+    ensures signer { IfOk result (λ keys. keys.0 ≡ unused (secret_of cluster.now own)) }
     ensures ring { IfOk result (λ keys. (r : ℕ) → r < cluster.now.config.replicas
         → slice_get keys.1 r ≡ Some (key_of (secret_of cluster.now r))) }
     ensures len { IfOk result (λ keys. length keys.1 ≡ cluster.now.config.replicas) }

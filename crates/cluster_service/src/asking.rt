@@ -1,59 +1,61 @@
-//! One question of a client to a replica.
-ghost use Rattle.std.specs.Prelude.{◌≡◌, true, IfOk, IfSome, ◌≤◌, length};
-ghost use Rattle.ledger_model.specs.Commits.{submit_reply};
+//! One question of a client to a replica, answered as a session tells it.
+ghost use Rattle.std.specs.Prelude.{◌≡◌, ◌⊎◌, ◌≤◌, ◌<◌, ◌+◌, ◌↔◌, true, Ok, length, IfOk, IfSome, IfNone, OnOk, OnErr, IsErrOf};
+ghost use Rattle.ledger_model.specs.Commits.{commits_of, submit_reply};
+ghost use Rattle.ledger_model.specs.Replies.{query_reply};
+ghost use Rattle.replica_turns.specs.Clients.{is_tx_len, submit_events};
+ghost use Rattle.replica_turns.specs.Turns.{Takes};
 ghost use Rattle.client_sessions.specs.Asking.{max_value_len};
 
 use abci::Application;
-use bytes::Bytes;
 use client_sessions::TargetFault;
-use ledger_model::{Event, Height, Key, QueryAnswer, SubmitRefusal};
-use locked_replica::{ApplyFault, ReplyView, State};
+use ledger_model::{Height, Key, QueryAnswer, SubmitRefusal};
+use locked_replica::{ApplyFault, State};
+use replica_turns::ClientEntries;
 use std::alloc::{AllocError, Global};
 
 /// The most bytes of a value in a session's reply.
 const MAX_VALUE_LEN: usize = 65_529;
 
-/// Why an event was not taken, as a session tells it.
-fn told(fault: ApplyFault) -> TargetFault {
-    match fault {
-        ApplyFault::HistoryFull => TargetFault::HistoryFull,
-        ApplyFault::NoMemory => TargetFault::NoMemory,
-    }
-}
-
 /// Submits a transaction. The inner refusal is the pool's.
 pub(crate) fn submit<A: Application>(
     alloc: Global,
     state: &mut State<A>,
+    entries: &mut ClientEntries,
     tx: &[u8],
 ) -> Result<Result<(), SubmitRefusal>, TargetFault>
-    ensures { IfOk result (λ answer. answer ≡ submit_reply state.old.config state.old.id state.old.entries tx.now) }
+    ensures answer { IfOk result (λ answer. answer ≡ submit_reply state.old.config state.old.id state.old.entries tx.now) }
+    ensures event { OnOk result (Takes state.old.entries (submit_events tx.now) state.new.entries) }
+    ensures used { length state.new.entries + entries.new ≡ length state.old.entries + entries.old }
+    ensures full { IsErrOf result TargetFault.HistoryFull
+        ↔ ((is_tx_len tx.now ≡ true) × ((entries.old ≡ 0) ⊎ (65536 ≤ length state.old.entries))) }
+    ensures same { OnErr result (state.new ≡ state.old) }
 {
-    let Ok(bytes) = Bytes::copy_from_slice(alloc, tx) else {
-        return Err(TargetFault::NoMemory);
-    };
-    let index = state.apply(Event::Submit(bytes)).map_err(told)?;
-    match state.entry(index) {
-        Some(entry) => match entry.reply() {
-            ReplyView::Submitted(answer) => Ok(answer),
-            _ => unreachable!(),
-        },
-        None => unreachable!(),
+    match replica_turns::submit(alloc, state, entries, tx) {
+        Ok(answer) => Ok(answer),
+        Err(ApplyFault::HistoryFull) => Err(TargetFault::HistoryFull),
+        Err(ApplyFault::NoMemory) => Err(TargetFault::NoMemory),
     }
 }
 
 /// The key of these bytes, none where they are too many for one.
-fn key_of(alloc: Global, bytes: &[u8]) -> Result<Option<Key>, AllocError> {
+fn key_of(alloc: Global, bytes: &[u8]) -> Result<Option<Key>, AllocError>
+    ensures some { IfOk result (λ key. IfSome key (λ k. k ≡ bytes.now)) }
+    ensures none { IfOk result (λ key. IfNone key (64 < length bytes.now)) }
+{
     Ok(Key::new(bytes.to_vec(alloc)?).ok())
 }
 
-/// Asks the application for a key, as of its last block. Keys of more than 64 bytes have no value.
+/// Asks the application for a key, as of its last block. Keys of more than 64 bytes have no value, and are no event.
 pub(crate) fn query<A: Application>(
     alloc: Global,
     state: &mut State<A>,
+    entries: &mut ClientEntries,
     key: &[u8],
 ) -> Result<QueryAnswer, TargetFault>
-    ensures { IfOk result (λ answer. IfSome answer.value (λ v. length v ≤ max_value_len)) }
+    ensures answer { length key.now ≤ 64 → IfOk result (λ answer. Ok answer ≡ query_reply state.old.config.kind
+        (commits_of state.old.config state.old.id state.old.entries) key.now 0) }
+    ensures short { IfOk result (λ answer. IfSome answer.value (λ v. length v ≤ max_value_len)) }
+    ensures used { length state.new.entries + entries.new ≡ length state.old.entries + entries.old }
 {
     let Ok(key) = key_of(alloc, key) else {
         return Err(TargetFault::NoMemory);
@@ -64,26 +66,10 @@ pub(crate) fn query<A: Application>(
             value: None,
         });
     };
-    let index = state
-        .apply(Event::Query(key, Height::new(0)))
-        .map_err(told)?;
-    answer_at(state, index)
-}
-
-/// The answer to a query, from its entry.
-fn answer_at<A: Application>(state: &State<A>, index: usize) -> Result<QueryAnswer, TargetFault>
-    ensures { IfOk result (λ answer. IfSome answer.value (λ v. length v ≤ max_value_len)) }
-{
-    let answer = match state.entry(index) {
-        Some(entry) => match entry.reply() {
-            ReplyView::Queried(Ok(answer)) => answer.copy(),
-            _ => Err(AllocError),
-        },
-        None => Err(AllocError),
-    };
-    match answer {
+    match replica_turns::query(state, entries, key) {
         Ok(answer) if is_short(&answer) => Ok(answer),
-        _ => Err(TargetFault::NoMemory),
+        Ok(_) | Err(ApplyFault::NoMemory) => Err(TargetFault::NoMemory),
+        Err(ApplyFault::HistoryFull) => Err(TargetFault::HistoryFull),
     }
 }
 

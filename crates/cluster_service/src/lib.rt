@@ -1,21 +1,26 @@
 //! Whole clusters that run in this process, and their clients.
 //!
-//! [`run_cluster`] and [`serve_cluster`] are what runs under `abft cluster` and `abft serve`: they make the replicas, run a worker for each in a
-//! thread, by the machine's clock, and tell on a terminal how far they are. [`LiveTargets`] are the replicas of a cluster for one session: a
-//! request is one event under the replica's lock, and heights are those of the commit board. [`listen`] serves connections, each in a
-//! thread of its own, so that a client that disappears, sends no request or sends nothing harms no other session.
+//! [`run_cluster`] and [`serve_cluster`] are what runs under `abft cluster` and `abft serve`: they make the replicas, run a worker for
+//! each in a thread, by the machine's clock, and tell a [`Watcher`] how the cluster stands. [`LiveTargets`] are the replicas of a
+//! cluster for one session: a request is at most one event under the replica's lock, and heights are those of the commit board. Each
+//! connection is served in a thread of its own, so that a client that disappears, sends no request or sends nothing harms no other
+//! session; and all clients together use no more of a replica's history than the settings say.
 //!
-//! That the workers run at once, that a target is the replica, and what TCP delivers, is only tested.
+//! That the workers run at once, that a target is the replica, what TCP delivers, and what is told, is only tested.
 #![tactic(auto)]
 
 mod asking;
+mod door;
 mod listening;
 mod live_targets;
-mod progress;
+mod notice;
 mod replicas;
+mod reporter;
 mod running;
+mod stopping;
 
-pub use listening::listen;
 pub use live_targets::LiveTargets;
 pub use replicas::new_replicas;
+pub use reporter::Watcher;
 pub use running::{listen_at, run_cluster, serve_cluster};
+pub use stopping::stop_at_end;

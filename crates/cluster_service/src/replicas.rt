@@ -1,22 +1,22 @@
 //! The replicas of a cluster as they begin, and what they committed at its end.
-ghost use Rattle.std.specs.Prelude.{◌≡◌, ◌<◌, Some, slice_get, vec_len, IfOk};
-ghost use Rattle.key_ring.specs.Signers.{key_of};
-ghost use Rattle.cluster_keys.specs.Keys.{secret_of};
+ghost use Rattle.std.specs.Prelude.{◌≡◌, ◌<◌, vec_len, IfOk};
+ghost use Rattle.cluster_keys.specs.Keys.{ring_of, secret_of, unused};
 
 use abci::Application;
 use app_kinds::AnyKind;
 use bytes::Bytes;
-use cluster_keys::Cluster as ClusterSeed;
+use cluster_keys::{Cluster as ClusterSeed, ClusterKeys, all_keys_in_parallel};
 use cluster_workers::Cluster;
-use key_ring::KeyRing;
+use key_ring::{KeyRing, Signer};
 use ledger_model::{Event, ReplicaId, Tx};
 use locked_replica::{ApplyFault, State};
 use program_streams::ProgramFault;
-use replica_turns::{new_replica, ring_of_all};
+use replica_turns::new_replica;
 use std::alloc::Global;
 use std::hash::RandomState;
 use std::random::RandomSource;
 use std::sync::Wait;
+use std::thread::Threads;
 
 /// Why a replica took no event.
 fn told(fault: ApplyFault) -> ProgramFault {
@@ -41,16 +41,18 @@ fn empty_state<R: RandomSource>(
     source: &R,
     alloc: Global,
     cluster: &ClusterSeed,
-    ring: &KeyRing,
     id: u8,
+    signer: Signer,
+    ring: &KeyRing,
 ) -> Result<State<AnyKind>, ProgramFault>
     requires below { id < cluster.now.config.replicas }
-    requires own_key { slice_get ring.now id ≡ Some (key_of (secret_of cluster.now id)) }
+    requires signer { signer ≡ unused (secret_of cluster.now id) }
+    requires ring { ring.now ≡ ring_of cluster.now }
 {
     let randoms = randoms(source)?;
     let app = AnyKind::new(alloc, cluster.config.kind);
-    let state = new_replica(alloc, cluster, ring, ReplicaId::new(id), app, randoms)?;
-    Ok(state)
+    let id = ReplicaId::new(id);
+    Ok(new_replica(alloc, cluster, id, signer, ring, app, randoms)?)
 }
 
 /// A replica with the transaction in its pool.
@@ -59,20 +61,22 @@ fn new_state<R: RandomSource>(
     alloc: Global,
     cluster: &ClusterSeed,
     tx: &Tx,
-    ring: &KeyRing,
     id: u8,
+    signer: Signer,
+    ring: &KeyRing,
 ) -> Result<State<AnyKind>, ProgramFault>
     requires below { id < cluster.now.config.replicas }
-    requires own_key { slice_get ring.now id ≡ Some (key_of (secret_of cluster.now id)) }
+    requires signer { signer ≡ unused (secret_of cluster.now id) }
+    requires ring { ring.now ≡ ring_of cluster.now }
 {
-    let mut state = empty_state(source, alloc, cluster, ring, id)?;
+    let mut state = empty_state(source, alloc, cluster, id, signer, ring)?;
     submit(alloc, &mut state, tx)?;
     Ok(state)
 }
 
-/// The replicas of a cluster, by number, each with the transaction in its pool. The random bytes are the keys of hashes. An `Err` is
-/// want of memory, or no random bytes.
-pub fn new_replicas<R: RandomSource>(
+/// The replicas of a cluster, by number, each with the transaction in its pool. Computes each replica's tree once, in parallel. The
+/// random bytes are the keys of hashes. An `Err` is that memory ran out, or that there were no random bytes.
+pub fn new_replicas<R: RandomSource + Threads + Sync>(
     source: &R,
     alloc: Global,
     cluster: &ClusterSeed,
@@ -80,10 +84,14 @@ pub fn new_replicas<R: RandomSource>(
 ) -> Result<Vec<State<AnyKind>>, ProgramFault>
     ensures { IfOk result (λ states. vec_len states ≡ cluster.now.config.replicas) }
 {
-    let ring = ring_of_all(alloc, cluster)?;
+    let ClusterKeys { signers, ring } = all_keys_in_parallel(source, alloc, cluster)?;
+    let mut signers = signers.into_iter();
     let mut states = Vec::new(alloc);
     for id in 0..cluster.config.replicas {
-        states.push(new_state(source, alloc, cluster, tx, &ring, id)?)?;
+        let Some(signer) = signers.next() else {
+            unreachable!();
+        };
+        states.push(new_state(source, alloc, cluster, tx, id, signer, &ring)?)?;
     }
     Ok(states)
 }

@@ -1,25 +1,31 @@
 //! Clusters that run in threads of this process, by the machine's clock, and listen at its ports.
-ghost use Rattle.std.specs.Prelude.{◌≡◌, ◌⊎◌, ◌<◌, ℕ, Some, slice_get, vec_len, IfOk, IfSome, All};
+ghost use Rattle.std.specs.Prelude.{◌≡◌, ◌⊎◌, ◌<◌, ℕ, Some, length, slice_get, vec_len, IfOk, All};
 ghost use Rattle.commit_board.specs.Seats.{new_reader};
 ghost use denote.Param.Send.{IsSend, IsSync};
 
+use crate::door::Door;
 use crate::listening::{listen, targets_of};
 use crate::live_targets::LiveTargets;
-use crate::progress::{Teller, TellingClock};
+use crate::notice::Notice;
 use crate::replicas::{heights_of, new_replicas};
+use crate::reporter::{Reporter, ReportingGate, Watcher};
 use app_kinds::AnyKind;
-use cluster_workers::{Cluster, MachineClock, NoGate, Worker, run_all};
+use cluster_workers::{Cluster, MachineClock, Stop, Worker, run_all};
 use commit_board::ReaderSeat;
 use program_streams::ProgramFault;
+use replica_turns::ClientEntries;
 use settings::{ClusterSettings, ServeSettings};
-use std::alloc::Global;
+use std::alloc::{AllocError, Global};
 use std::io::Write;
 use std::net::{Ipv4Addr, Net, TcpListener, TcpStream};
 use std::random::RandomSource;
-use std::sync::Wait;
+use std::sync::{Mutex, Wait};
 use std::thread;
 use std::thread::Threads;
-use std::time::Clock;
+use std::time::{Clock, Duration};
+
+/// How many milliseconds pass before it is looked again whether a server is to stop.
+const LOOK_MS: u64 = 50;
 
 /// Listens at a port of 127.0.0.1, at 0 at one that is free, and answers its number.
 pub fn listen_at<R: Net<Listener = TcpListener, Stream = TcpStream>>(
@@ -40,74 +46,9 @@ pub fn listen_at<R: Net<Listener = TcpListener, Stream = TcpStream>>(
     }
 }
 
-/// Runs the workers of a cluster until their rounds are over.
-fn run_workers<R, P>(
-    rt: &R,
-    alloc: Global,
-    settings: &ClusterSettings,
-    cluster: &Cluster<AnyKind>,
-    workers: Vec<Worker<AnyKind>>,
-    seat: Option<ReaderSeat>,
-    terminal: Option<P>,
-) -> Result<(), ProgramFault>
-where
-    R: Clock + Threads + Wait + Sync,
-    P: Write + Drop + Send,
-    requires seat { IfSome seat (λ s. s.board ≡ cluster.now.board) }
-    requires replicas { settings.now.cluster.config.replicas ≡ cluster.now.replicas }
-{
-    let clock = MachineClock::start(rt, settings.base_ms)?;
-    let replicas = settings.cluster.config.replicas;
-    let are_all = match (terminal, seat) {
-        (Some(terminal), Some(seat)) => {
-            let teller = Teller::new(alloc, cluster, replicas, seat, settings.rounds, terminal);
-            run_all(rt, workers, &TellingClock::new(rt, clock, teller), &NoGate)
-        }
-        _ => run_all(rt, workers, &clock, &NoGate),
-    };
-    if are_all {
-        Ok(())
-    } else {
-        Err(ProgramFault::NoThread)
-    }
-}
-
-/// Runs the workers of a cluster beside the sessions of its clients, until both have ended.
-fn run_beside<'a, R, P>(
-    rt: &R,
-    alloc: Global,
-    settings: &ClusterSettings,
-    cluster: &Cluster<AnyKind>,
-    workers: Vec<Worker<AnyKind>>,
-    seat: Option<ReaderSeat>,
-    terminal: Option<P>,
-    listener: &TcpListener,
-    targets: Vec<LiveTargets<'a, AnyKind, R>>,
-) -> Result<(), ProgramFault>
-where
-    R: Clock + Threads + Wait + Sync,
-    P: Write + Drop + Send,
-    requires seat { IfSome seat (λ s. s.board ≡ cluster.now.board) }
-    requires replicas { settings.now.cluster.config.replicas ≡ cluster.now.replicas }
-{
-    let (done, _) = thread::join(
-        rt,
-        ||
-            requires seat { IfSome seat (λ s. s.board ≡ cluster.now.board) }
-            requires replicas { settings.now.cluster.config.replicas ≡ cluster.now.replicas }
-            requires shared { IsSync R.row }
-            requires sent { IsSend P.row }
-        { run_workers(rt, alloc, settings, cluster, workers, seat, terminal) },
-        ||
-            requires shared { IsSync R.row }
-        { listen(rt, alloc, listener, targets) },
-    );
-    done
-}
-
 /// A cluster of the settings as it begins, its workers, and so many readers' seats of its board.
-fn new_cluster<S: RandomSource>(
-    source: &S,
+fn new_cluster<R: RandomSource + Threads + Sync>(
+    rt: &R,
     alloc: Global,
     settings: &ClusterSettings,
     readers: u32,
@@ -116,7 +57,7 @@ fn new_cluster<S: RandomSource>(
     ensures reader_count { IfOk result (λ r. vec_len r.2 ≡ readers) }
     ensures readers { IfOk result (λ r. (k : ℕ) → k < readers → slice_get r.2.items k ≡ Some (new_reader r.0.board)) }
 {
-    let states = new_replicas(source, alloc, &settings.cluster, &settings.tx)?;
+    let states = new_replicas(rt, alloc, &settings.cluster, &settings.tx)?;
     let made = Cluster::new(
         alloc,
         &settings.cluster.config,
@@ -127,79 +68,195 @@ fn new_cluster<S: RandomSource>(
     Ok(made)
 }
 
-/// The terminal, unless the settings ask for quiet.
-fn told_at<P: Drop>(settings: &ClusterSettings, terminal: Option<P>) -> Option<P> {
-    if settings.is_quiet { None } else { terminal }
+/// The gate that tells the watcher of a cluster how its replicas stand. It begins with what is to be known before the keys are made.
+fn new_gate<'a, R: Wait, P: Write + Drop>(
+    rt: &'a R,
+    alloc: Global,
+    settings: &ClusterSettings,
+    watcher: Option<Watcher<P>>,
+) -> Result<ReportingGate<'a, R, P>, AllocError> {
+    let watcher = if settings.is_quiet { None } else { watcher };
+    let replicas = settings.cluster.config.replicas;
+    let mut reporter = Reporter::new(alloc, watcher, replicas, settings.rounds)?;
+    if settings.cluster.seed == [0; 32] {
+        reporter.tell(Notice::DefaultSeed);
+    }
+    reporter.tell_progress(Notice::Keys(replicas));
+    Ok(ReportingGate::new(rt, reporter))
 }
 
-/// Runs a cluster until its rounds are over, and answers how many blocks each replica committed, by number. How far it is is told on
-/// the terminal, if one is given and the settings don't ask for quiet.
+/// Runs the workers of a cluster until their rounds are over, or it is asked to stop.
+fn run_workers<R, P>(
+    rt: &R,
+    settings: &ClusterSettings,
+    workers: Vec<Worker<AnyKind>>,
+    gate: &ReportingGate<'_, R, P>,
+    stop: &Stop,
+) -> Result<(), ProgramFault>
+where
+    R: Clock + Threads + Wait + Sync,
+    P: Write + Drop + Send,
+{
+    let clock = MachineClock::start(rt, settings.base_ms)?;
+    if run_all(rt, workers, &clock, gate, stop) {
+        Ok(())
+    } else {
+        Err(ProgramFault::NoThread)
+    }
+}
+
+/// Runs a cluster until its rounds are over, or it is asked to stop, and answers how many blocks each replica committed, by number.
+/// How it stands is told to the watcher, if there is one and the settings don't ask for quiet.
 pub fn run_cluster<R, P>(
     rt: &R,
     alloc: Global,
     settings: &ClusterSettings,
-    terminal: Option<P>,
+    watcher: Option<Watcher<P>>,
+    stop: &Stop,
 ) -> Result<Vec<u32>, ProgramFault>
 where
     R: Clock + RandomSource + Threads + Wait + Sync,
     P: Write + Drop + Send,
     ensures each { IfOk result (λ heights. vec_len heights ≡ settings.now.cluster.config.replicas) }
 {
-    let terminal = told_at(settings, terminal);
-    let (cluster, workers, mut seats) = new_cluster(rt, alloc, settings, 1)?;
-    run_workers(
-        rt,
-        alloc,
-        settings,
-        &cluster,
-        workers,
-        seats.pop(),
-        terminal,
-    )?;
+    let gate = new_gate(rt, alloc, settings, watcher)?;
+    let (cluster, workers, _) = new_cluster(rt, alloc, settings, 0)?;
+    run_workers(rt, settings, workers, &gate, stop)?;
+    gate.tell(end_of(stop, Notice::RoundsOver));
     heights_of(rt, alloc, &cluster, settings.cluster.config.replicas)
 }
 
-/// Runs the workers of a cluster beside as many sessions as there are seats but one, by which its progress is told.
-fn serve_beside<R, P>(
+/// What is told where the workers have ended.
+fn end_of(stop: &Stop, over: Notice) -> Notice {
+    if stop.is_asked() {
+        Notice::Stopped
+    } else {
+        over
+    }
+}
+
+/// What clients may use of the history of each of so many replicas.
+fn new_entries(
+    alloc: Global,
+    replicas: u8,
+    count: u32,
+) -> Result<Vec<Mutex<ClientEntries>>, AllocError>
+    ensures { IfOk result (λ entries. vec_len entries ≡ replicas) }
+{
+    let mut entries = Vec::with_capacity(alloc, usize::from(replicas))?;
+    for _replica in 0..replicas {
+        entries.push(Mutex::new(ClientEntries::new(count)))?;
+    }
+    Ok(entries)
+}
+
+/// Waits until the sessions have ended, if the cluster may be asked to stop, or is. Where it is, the sessions are ended, and a
+/// connection to the listener wakes it.
+fn end_sessions<R: Clock + Net<Listener = TcpListener, Stream = TcpStream> + Wait>(
+    rt: &R,
+    port: u16,
+    may_stop: bool,
+    stop: &Stop,
+    door: &Door,
+) {
+    for _ in rt.forever() {
+        if door.is_closed() || !(may_stop || stop.is_asked()) {
+            break;
+        }
+        if stop.is_asked() {
+            door.end_sessions(rt);
+            let _ = TcpStream::connect(rt, (Ipv4Addr::LOCALHOST, port));
+        }
+        let _ = thread::sleep(rt, Duration::from_millis(LOOK_MS));
+    }
+}
+
+/// Runs the workers of a cluster beside the sessions of its clients, until both have ended.
+fn run_beside<'a, R, P>(
     rt: &R,
     alloc: Global,
     settings: &ClusterSettings,
-    cluster: &Cluster<AnyKind>,
     workers: Vec<Worker<AnyKind>>,
-    mut seats: Vec<ReaderSeat>,
-    listener: &TcpListener,
-    terminal: Option<P>,
+    gate: &ReportingGate<'_, R, P>,
+    listener: TcpListener,
+    port: u16,
+    targets: Vec<LiveTargets<'a, AnyKind, R>>,
+    stop: &Stop,
+    door: &Door,
 ) -> Result<(), ProgramFault>
 where
-    R: Clock + Threads + Wait + Sync,
+    R: Clock + Net<Listener = TcpListener, Stream = TcpStream> + Threads + Wait + Sync,
+    P: Write + Drop + Send,
+{
+    thread::scope(thread::scope_env(), rt, move |scope| {
+        if scope
+            .spawn(move || listen(rt, alloc, listener, targets, stop, door))
+            .is_err()
+        {
+            return Err(ProgramFault::NoThread);
+        }
+        let done = run_workers(rt, settings, workers, gate, stop);
+        gate.tell(end_of(stop, Notice::ServesOn));
+        end_sessions(rt, port, settings.stops_at_eof, stop, door);
+        done
+    })
+}
+
+/// Runs the workers of a cluster beside as many sessions as there are seats, which share so many entries of each history.
+fn serve_beside<R, P>(
+    rt: &R,
+    alloc: Global,
+    settings: &ServeSettings,
+    cluster: &Cluster<AnyKind>,
+    workers: Vec<Worker<AnyKind>>,
+    seats: Vec<ReaderSeat>,
+    gate: &ReportingGate<'_, R, P>,
+    listener: TcpListener,
+    port: u16,
+    stop: &Stop,
+) -> Result<(), ProgramFault>
+where
+    R: Clock + Net<Listener = TcpListener, Stream = TcpStream> + Threads + Wait + Sync,
     P: Write + Drop + Send,
     requires readers { (k : ℕ) → k < vec_len seats → slice_get seats.items k ≡ Some (new_reader cluster.now.board) }
-    requires replicas { settings.now.cluster.config.replicas ≡ cluster.now.replicas }
+    requires replicas { settings.now.cluster.cluster.config.replicas ≡ cluster.now.replicas }
 {
-    let seat = seats.pop();
-    let targets = targets_of(rt, alloc, cluster, seats)?;
+    let run = &settings.cluster;
+    let entries = new_entries(alloc, run.cluster.config.replicas, settings.client_entries)?;
+    let door = Door::new(alloc, seats.len())?;
+    let targets = targets_of(rt, alloc, cluster, &entries, seats)?;
     run_beside(
-        rt, alloc, settings, cluster, workers, seat, terminal, listener, targets,
+        rt, alloc, run, workers, gate, listener, port, targets, stop, &door,
     )
 }
 
-/// The same beside the clients of a listener: it returns when the rounds are over and as many connections as the settings say
-/// have ended.
+/// The same beside the clients of a listener: it returns when the rounds are over and as many connections as the settings say have
+/// ended, or it was asked to stop. The listener is closed after the last connection.
 pub fn serve_cluster<R, P>(
     rt: &R,
     alloc: Global,
     settings: &ServeSettings,
-    listener: &TcpListener,
-    terminal: Option<P>,
+    listener: TcpListener,
+    port: u16,
+    watcher: Option<Watcher<P>>,
+    stop: &Stop,
 ) -> Result<Vec<u32>, ProgramFault>
 where
-    R: Clock + RandomSource + Threads + Wait + Sync,
+    R: Clock
+        + Net<Listener = TcpListener, Stream = TcpStream>
+        + RandomSource
+        + Threads
+        + Wait
+        + Sync,
     P: Write + Drop + Send,
     ensures each { IfOk result (λ heights. vec_len heights ≡ settings.now.cluster.cluster.config.replicas) }
 {
     let run = &settings.cluster;
-    let terminal = told_at(run, terminal);
-    let (cluster, workers, seats) = new_cluster(rt, alloc, run, settings.sessions + 1)?;
-    serve_beside(rt, alloc, run, &cluster, workers, seats, listener, terminal)?;
-    heights_of(rt, alloc, &cluster, run.cluster.config.replicas)
+    let replicas = run.cluster.config.replicas;
+    let gate = new_gate(rt, alloc, run, watcher)?;
+    let (cluster, workers, seats) = new_cluster(rt, alloc, run, settings.sessions)?;
+    serve_beside(
+        rt, alloc, settings, &cluster, workers, seats, &gate, listener, port, stop,
+    )?;
+    heights_of(rt, alloc, &cluster, replicas)
 }

@@ -6,7 +6,7 @@ use crate::meeting_gate::MeetingGate;
 use crate::quiet_clock::QuietClock;
 use crate::replicas::{four, replicas};
 use app_kinds::AnyKind;
-use cluster_workers::{Cluster, run_all};
+use cluster_workers::{Cluster, Stop, run_all};
 use commit_board::ReaderSeat;
 use ledger_model::{Height, ReplicaId};
 use locked_replica::State;
@@ -86,7 +86,7 @@ fn four_replicas_commit_and_two_workers_meet(rt: HostRuntime) -> Result<(), Fail
     let reader = reader_of(&cluster, reading)?;
     let clock = QuietClock::new(&rt, alloc, 4)?;
     let gate = MeetingGate::new();
-    assert!(rt; run_all(&rt, workers, &clock, &gate));
+    assert!(rt; run_all(&rt, workers, &clock, &gate, &Stop::new()));
     assert!(rt; !clock.has_note() && !gate.has_note() && gate.have_met());
     assert!(rt; are_done(&rt, &cluster, reader, keys.config.replicas));
     Ok(())

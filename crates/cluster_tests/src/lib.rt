@@ -4,6 +4,8 @@
 #[cfg(test)]
 mod cluster_tests;
 #[cfg(test)]
+mod key_tests;
+#[cfg(test)]
 mod lock_tests;
 #[cfg(test)]
 mod meeting_gate;
@@ -15,3 +17,5 @@ mod replicas;
 mod seated;
 #[cfg(test)]
 mod turn_tests;
+#[cfg(test)]
+mod waiting_tests;

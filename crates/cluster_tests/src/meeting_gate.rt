@@ -1,6 +1,7 @@
 //! A gate at which the workers of replicas 0 and 1 wait for each other.
 use cluster_workers::TurnGate;
 use ledger_model::ReplicaId;
+use replica_turns::ReplicaStatus;
 use std::sync::atomic::{AtomicBool, Ordering};
 use std::thread;
 
@@ -59,5 +60,5 @@ impl TurnGate for MeetingGate {
         }
     }
 
-    fn after(&self, _replica: ReplicaId) {}
+    fn after(&self, _replica: ReplicaId, _status: ReplicaStatus) {}
 }

@@ -4,7 +4,7 @@ use cluster_workers::{Progress, RoundClock};
 use ledger_model::ReplicaId;
 use std::alloc::{AllocError, Global};
 use std::sync::{Mutex, Wait};
-use std::thread;
+use std::time::Duration;
 
 /// What the workers told.
 #[derive(Drop)]
@@ -92,7 +92,7 @@ impl<R: Wait> RoundClock for QuietClock<'_, R> {
             .ask(usize::from(replica.number()), ended, progress)
     }
 
-    fn rest(&self) {
-        thread::yield_now();
+    fn pause(&self, _ended: u32) -> Duration {
+        Duration::from_millis(1)
     }
 }

@@ -1,16 +1,15 @@
 //! Four replicas, each with `a=1` in its pool.
-ghost use Rattle.std.specs.Prelude.{◌≡◌, ◌<◌, Some, slice_get, vec_len, IfOk};
-ghost use Rattle.key_ring.specs.Signers.{key_of};
-ghost use Rattle.cluster_keys.specs.Keys.{secret_of};
+ghost use Rattle.std.specs.Prelude.{◌≡◌, ◌<◌, vec_len, IfOk};
+ghost use Rattle.cluster_keys.specs.Keys.{ring_of, secret_of, unused};
 
 use app_kinds::AnyKind;
 use bytes::Bytes;
-use cluster_keys::Cluster;
-use key_ring::KeyRing;
+use cluster_keys::{Cluster, ClusterKeys, all_keys};
+use key_ring::{KeyRing, Signer};
 use ledger_model::{AppKind, Config, Event, ReplicaId};
 use lm_ots::{Params, TreeHeight, Width};
 use locked_replica::State;
-use replica_turns::{new_replica, ring_of_all};
+use replica_turns::new_replica;
 use std::alloc::Global;
 use std::hash::RandomState;
 use std::random::RandomSource;
@@ -39,15 +38,18 @@ fn new_state<R: RandomSource>(
     rt: &R,
     alloc: Global,
     cluster: &Cluster,
-    ring: &KeyRing,
     id: u8,
+    signer: Signer,
+    ring: &KeyRing,
 ) -> Result<State<AnyKind>, Fail>
     requires below { id < cluster.now.config.replicas }
-    requires own_key { slice_get ring.now id ≡ Some (key_of (secret_of cluster.now id)) }
+    requires signer { signer ≡ unused (secret_of cluster.now id) }
+    requires ring { ring.now ≡ ring_of cluster.now }
 {
+    let randoms = randoms(rt)?;
     let app = AnyKind::new(alloc, cluster.config.kind);
-    let state = new_replica(alloc, cluster, ring, ReplicaId::new(id), app, randoms(rt)?)?;
-    Ok(state)
+    let id = ReplicaId::new(id);
+    Ok(new_replica(alloc, cluster, id, signer, ring, app, randoms)?)
 }
 
 fn submit(state: &mut State<AnyKind>) -> Result<(), Fail> {
@@ -60,13 +62,15 @@ fn replica<R: RandomSource>(
     rt: &R,
     alloc: Global,
     cluster: &Cluster,
-    ring: &KeyRing,
     id: u8,
+    signer: Signer,
+    ring: &KeyRing,
 ) -> Result<State<AnyKind>, Fail>
     requires below { id < cluster.now.config.replicas }
-    requires own_key { slice_get ring.now id ≡ Some (key_of (secret_of cluster.now id)) }
+    requires signer { signer ≡ unused (secret_of cluster.now id) }
+    requires ring { ring.now ≡ ring_of cluster.now }
 {
-    let mut state = new_state(rt, alloc, cluster, ring, id)?;
+    let mut state = new_state(rt, alloc, cluster, id, signer, ring)?;
     submit(&mut state)?;
     Ok(state)
 }
@@ -79,10 +83,14 @@ pub(crate) fn replicas<R: RandomSource>(
 ) -> Result<Vec<State<AnyKind>>, Fail>
     ensures { IfOk result (λ states. vec_len states ≡ cluster.now.config.replicas) }
 {
-    let ring = ring_of_all(alloc, cluster)?;
+    let ClusterKeys { signers, ring } = all_keys(alloc, cluster)?;
+    let mut signers = signers.into_iter();
     let mut states = Vec::new(alloc);
     for id in 0..cluster.config.replicas {
-        states.push(replica(rt, alloc, cluster, &ring, id)?)?;
+        let Some(signer) = signers.next() else {
+            unreachable!();
+        };
+        states.push(replica(rt, alloc, cluster, id, signer, &ring)?)?;
     }
     Ok(states)
 }

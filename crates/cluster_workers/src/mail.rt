@@ -2,16 +2,19 @@
 ghost use Rattle.std.specs.Prelude.{◌≡◌};
 ghost use Rattle.std.specs.Arc.{arc_value};
 
+use crate::bell::Bell;
 use bytes::Bytes;
 use inbox::{Inbox, Item, PuttingPass, TakingPass};
 use ledger_model::ReplicaId;
 use std::alloc::{AllocError, Global};
 use std::sync::{Arc, Wait};
+use std::time::Duration;
 
-/// An inbox with the right to take from it.
+/// An inbox with the right to take from it, and the bell that is rung for each frame that is put into it.
 #[derive(Drop)]
 pub(crate) struct Inlet {
     inbox: Arc<Inbox>,
+    bell: Arc<Bell>,
     pass: TakingPass,
     ghost tied: { pass.inbox ≡ arc_value inbox },
 }
@@ -21,6 +24,7 @@ pub(crate) struct Inlet {
 pub(crate) struct Outlet {
     to: ReplicaId,
     inbox: Arc<Inbox>,
+    bell: Arc<Bell>,
     pass: PuttingPass,
     ghost tied: { pass.inbox ≡ arc_value inbox },
 }
@@ -30,6 +34,16 @@ impl Inlet {
     pub(crate) fn take<R: Wait>(&mut self, rt: &R) -> Option<Bytes> {
         let item = self.inbox.take(rt, &mut self.pass)?;
         Some(item.into_bytes())
+    }
+
+    /// How many frames were put in, modulo 2^32.
+    pub(crate) fn rings(&self) -> u32 {
+        self.bell.rings()
+    }
+
+    /// Sleeps until more frames than so many were put in, at most so long. It may return earlier.
+    pub(crate) fn sleep<R: Wait>(&self, rt: &R, rings: u32, most: Duration) {
+        self.bell.sleep(rt, rings, most);
     }
 }
 
@@ -41,13 +55,18 @@ impl Outlet {
         self.to
     }
 
-    /// Puts a frame in, which copies no byte. False where it is lost: the inbox was full, or there was no memory.
+    /// Puts a frame in, which copies no byte, and wakes the taker. False where it is lost: the inbox was full, or there was no
+    /// memory.
     pub(crate) fn send<R: Wait>(&mut self, rt: &R, frame: &Bytes) -> bool {
         let Ok(bytes) = frame.clone() else {
             return false;
         };
         let item = Item::new(self.pass.number(), bytes);
-        self.inbox.put(rt, &mut self.pass, item).is_ok()
+        let is_put = self.inbox.put(rt, &mut self.pass, item).is_ok();
+        if is_put {
+            self.bell.ring();
+        }
+        is_put
     }
 }
 
@@ -59,17 +78,20 @@ fn new_inbox(
 ) -> Result<(Inlet, Vec<Outlet>), AllocError> {
     let (inbox, taking, putting) = Inbox::new(alloc, u32::from(senders))?;
     let inbox = Arc::new(alloc, inbox)?;
+    let bell = Arc::new(alloc, Bell::new())?;
     let mut outlets = Vec::with_capacity(alloc, usize::from(senders))?;
     for pass in putting {
         outlets.push(Outlet {
             to,
             inbox: Arc::try_clone(&inbox)?,
+            bell: Arc::try_clone(&bell)?,
             pass,
         })?;
     }
     Ok((
         Inlet {
             inbox,
+            bell,
             pass: taking,
         },
         outlets,

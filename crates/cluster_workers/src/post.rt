@@ -5,8 +5,8 @@ ghost use Rattle.std.specs.Arc.{arc_value};
 use abci::Application;
 use commit_board::{Board, WriterSeat};
 use ledger_model::{Event, ReplicaId};
-use locked_replica::State;
-use replica_turns::turn;
+use locked_replica::{ApplyFault, State};
+use replica_turns::{ReplicaStatus, turn};
 use std::alloc::{AllocError, Global};
 use std::sync::Arc;
 
@@ -18,13 +18,17 @@ pub(crate) struct Post {
     ghost tied: { seat.board ≡ arc_value board },
 }
 
-/// What a turn did.
+/// What became of a turn.
 #[derive(Clone, Copy, Drop)]
-pub(crate) struct Turned {
+pub(crate) struct TurnOutcome {
     /// The length of the history before it, where the first new entry stands.
     pub(crate) first: usize,
     /// How many of its events were taken: all, or those before the one that was refused.
     pub(crate) taken: usize,
+    /// Why one was refused, if one was.
+    pub(crate) fault: Option<ApplyFault>,
+    /// How the replica stands then.
+    pub(crate) status: ReplicaStatus,
     ghost few: { taken ≤ 65536 },
 }
 
@@ -45,18 +49,20 @@ impl Post {
         &mut self,
         state: &mut State<A>,
         events: Vec<Event>,
-    ) -> Turned
+    ) -> TurnOutcome
         ensures first { result.first ≡ length state.old.entries }
         ensures taken { length state.old.entries + result.taken ≡ length state.new.entries }
     {
         let first = state.len();
-        if state.id() != self.seat.replica() {
-            return Turned { first, taken: 0 };
+        let mut fault = None;
+        if state.id() == self.seat.replica() {
+            fault = turn(state, events, &self.board, &mut self.seat).err();
         }
-        let _ = turn(state, events, &self.board, &mut self.seat);
-        Turned {
+        TurnOutcome {
             first,
             taken: state.len() - first,
+            fault,
+            status: ReplicaStatus::of(state),
         }
     }
 }

@@ -1,17 +1,17 @@
 //! When the rounds of a running replica end.
 use ledger_model::ReplicaId;
-use round_pacer::due;
+use round_pacer::{due, until_due};
+use std::io;
 use std::time::{Clock, Duration, Instant};
-use std::{io, thread};
 
 /// What a worker did since it last asked whether a round is due.
 #[derive(Clone, Copy, Debug, PartialEq, Eq)]
 pub struct Progress {
-    /// How many frames it took from its inbox and offered to its replica.
+    /// How many frames it took from its inbox.
     pub taken: usize,
     /// How many frames it put into other inboxes.
     pub sent: usize,
-    /// How many other events it handed to its replica.
+    /// How many events its replica took, the deliveries of frames among them.
     pub events: usize,
 }
 
@@ -27,9 +27,12 @@ pub trait RoundClock {
     /// Whether the next round of this replica is to end, of which so many ended before.
     fn is_due(&self, replica: ReplicaId, ended: u32, progress: Progress) -> bool;
 
-    /// Called by a worker that has nothing to do for now.
-    fn rest(&self);
+    /// How long a worker that has nothing to do may sleep where no frame comes; so many of its rounds have ended.
+    fn pause(&self, ended: u32) -> Duration;
 }
+
+/// The most milliseconds for which a worker sleeps: then it looks whether it is to stop.
+const LONGEST_PAUSE_MS: u64 = 100;
 
 /// The machine's clock: each round lasts a base time, and a millisecond more than the one before it (`round_pacer`).
 #[derive(Drop)]
@@ -63,7 +66,8 @@ impl<R: Clock> RoundClock for MachineClock<'_, R> {
         due(0, self.now_ms(), self.base_ms, ended) > 0
     }
 
-    fn rest(&self) {
-        let _ = thread::sleep(self.rt, Duration::from_millis(1));
+    fn pause(&self, ended: u32) -> Duration {
+        let left_ms = until_due(0, self.now_ms(), self.base_ms, ended);
+        Duration::from_millis(left_ms.min(LONGEST_PAUSE_MS))
     }
 }

@@ -1,15 +1,22 @@
 //! The threads of a cluster's workers.
 use crate::gate::TurnGate;
 use crate::round_clock::RoundClock;
+use crate::stop::Stop;
 use crate::worker::Worker;
 use abci::Application;
 use std::sync::Wait;
 use std::thread;
 use std::thread::Threads;
 
-/// Runs each worker in a thread of its own, and returns when all have ended. False where a thread could not be made: its worker did
-/// nothing.
-pub fn run_all<A, R, C, G>(rt: &R, workers: Vec<Worker<A>>, clock: &C, gate: &G) -> bool
+/// Runs each worker in a thread of its own, and returns when all have ended. Where a thread can't be made the cluster is asked to
+/// stop, and the answer is false: neither that worker nor those behind it did anything.
+pub fn run_all<A, R, C, G>(
+    rt: &R,
+    workers: Vec<Worker<A>>,
+    clock: &C,
+    gate: &G,
+    stop: &Stop,
+) -> bool
 where
     A: Application + Send,
     R: Threads + Wait + Sync,
@@ -17,10 +24,15 @@ where
     G: TurnGate + Sync,
 {
     thread::scope(thread::scope_env(), rt, move |scope| {
-        let mut are_all = true;
         for worker in workers {
-            are_all &= scope.spawn(move || worker.run(rt, clock, gate)).is_ok();
+            if scope
+                .spawn(move || worker.run(rt, clock, gate, stop))
+                .is_err()
+            {
+                stop.ask();
+                return false;
+            }
         }
-        are_all
+        true
     })
 }

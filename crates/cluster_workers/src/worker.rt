@@ -1,22 +1,20 @@
 //! The worker of one replica: what it does in one pass of its loop, and the loop.
+ghost use Rattle.std.specs.Prelude.{◌≤◌, vec_len};
+
 use crate::gate::TurnGate;
 use crate::mail::{Inlet, Outlet};
-use crate::post::{Post, Turned};
+use crate::post::{Post, TurnOutcome};
 use crate::round_clock::{Progress, RoundClock};
 use crate::sending::send;
+use crate::stop::Stop;
 use abci::Application;
 use bytes::Bytes;
 use ledger_model::{Event, ReplicaId, Sent};
-use replica_turns::{LockedReplica, Own, early_of, events_of, offered, own_of, sent_at};
+use locked_replica::ApplyFault;
+use replica_turns::{LockedReplica, Own, WaitingFrames, events_of, offered, own_of, sent_at};
 use std::alloc::{AllocError, Global};
 use std::mem;
 use std::sync::{Arc, Wait};
-
-/// The most frames that are taken from the inbox at once.
-const MAX_FRAMES: usize = 64;
-
-/// The most frames that are kept for the next round.
-const MAX_EARLY: usize = 1024;
 
 /// The worker of one replica. A thread of its own runs it.
 pub struct Worker<A: Application> {
@@ -30,12 +28,14 @@ pub struct Worker<A: Application> {
     ended: u32,
     /// The greatest height that was proposed.
     proposed: u32,
-    /// Frames that came a round early: they are offered again after the next round end.
-    early: Vec<Bytes>,
-    /// Frames that are offered in the next turn.
-    waiting: Vec<Bytes>,
+    /// The frames of the next turn, and of the next round.
+    frames: WaitingFrames,
     /// How many frames were put into inboxes since the clock was asked.
     sent: usize,
+    /// Whether the history has no room any more: the replica takes nothing then.
+    is_full: bool,
+    /// Whether memory was refused in the last turn.
+    is_short: bool,
 }
 
 // It is dropped by a function of its own, so that whoever owns one drops it by a single call.
@@ -50,25 +50,35 @@ impl<A: Application> Drop for Worker<A> {
             rounds: _rounds,
             ended: _ended,
             proposed: _proposed,
-            early: _early,
-            waiting: _waiting,
+            frames: _frames,
             sent: _sent,
+            is_full: _is_full,
+            is_short: _is_short,
         } = self;
     }
 }
 
 /// What one pass of a worker's loop did.
 #[derive(Clone, Copy, Drop)]
-struct Passed {
+struct Pass {
     is_idle: bool,
     has_run: bool,
 }
 
-/// What a turn was to take: how many events, and whether a block was run.
-#[derive(Clone, Copy, Drop)]
-struct HandedOver {
-    events: usize,
-    has_run: bool,
+/// Takes frames from an inbox, at most so many.
+fn take_frames<R: Wait>(rt: &R, alloc: Global, inlet: &mut Inlet, most: usize) -> Vec<Bytes>
+    ensures { vec_len result ≤ most }
+{
+    let mut frames = Vec::new(alloc);
+    for _taken in 0..most {
+        let Some(frame) = inlet.take(rt) else {
+            break;
+        };
+        if frames.push(frame).is_err() {
+            break;
+        }
+    }
+    frames
 }
 
 impl<A: Application> Worker<A> {
@@ -89,9 +99,10 @@ impl<A: Application> Worker<A> {
             rounds,
             ended: 0,
             proposed: 0,
-            early: Vec::new(alloc),
-            waiting: Vec::new(alloc),
+            frames: WaitingFrames::new(alloc),
             sent: 0,
+            is_full: false,
+            is_short: false,
         }
     }
 
@@ -100,84 +111,70 @@ impl<A: Application> Worker<A> {
         self.post.replica()
     }
 
-    /// Takes some frames from the inbox, and answers how many.
-    fn take_frames<R: Wait>(&mut self, rt: &R) -> usize {
-        let mut taken = 0usize;
-        for _ in 0..MAX_FRAMES {
-            let Some(frame) = self.inlet.take(rt) else {
-                break;
-            };
-            taken = taken.saturating_add(1);
-            let _ = self.waiting.push(frame);
-        }
-        taken
-    }
-
     /// The replica's round, and what it does by itself next.
     fn look<R: Wait>(&self, rt: &R) -> (u32, Own) {
         let state = self.replica.lock(rt);
         (state.clock(), own_of(&*state, self.proposed))
     }
 
-    /// A turn of the replica, under its lock.
-    fn turn<R: Wait, G: TurnGate>(&mut self, rt: &R, gate: &G, events: Vec<Event>) -> Turned {
-        let id = self.post.replica();
-        gate.before(id);
-        let turned = self.turn_locked(rt, events);
-        gate.after(id);
-        turned
+    /// Takes in as many frames from the inbox as there is room for, while this round is open, and answers how many came.
+    fn take_in<R: Wait>(&mut self, rt: &R, clock: u32) -> usize {
+        let frames = take_frames(rt, self.alloc, &mut self.inlet, self.frames.room());
+        let taken = frames.len();
+        let _ = self.frames.take_in(self.alloc, clock, frames);
+        taken
     }
 
-    fn turn_locked<R: Wait>(&mut self, rt: &R, events: Vec<Event>) -> Turned {
+    /// A turn of the replica, under its lock.
+    fn turn<R: Wait, G: TurnGate>(&mut self, rt: &R, gate: &G, events: Vec<Event>) -> TurnOutcome {
+        let id = self.post.replica();
+        gate.before(id);
+        let outcome = self.turn_locked(rt, events);
+        gate.after(id, outcome.status);
+        outcome
+    }
+
+    fn turn_locked<R: Wait>(&mut self, rt: &R, events: Vec<Event>) -> TurnOutcome {
         let mut state = self.replica.lock(rt);
         self.post.turn(&mut *state, events)
     }
 
-    /// Keeps those of the waiting frames that come a round early.
-    fn keep_early(&mut self, clock: u32) {
-        if self.early.len() >= MAX_EARLY {
-            return;
-        }
-        if let Ok(mut early) = early_of(self.alloc, clock, self.waiting.as_slice()) {
-            let _ = self.early.append(&mut early);
+    /// Notes why an event was refused, if one was; `offered` frames were handed over until then. Where the history is full, or
+    /// memory is refused once more, all frames that wait are given up.
+    fn note_fault(&mut self, fault: Option<ApplyFault>, offered: usize) {
+        match fault {
+            Some(ApplyFault::HistoryFull) => {
+                self.is_full = true;
+                self.frames.give_up_all();
+            }
+            Some(ApplyFault::NoMemory) if self.is_short => self.frames.give_up_all(),
+            Some(ApplyFault::NoMemory) => {
+                self.is_short = true;
+                self.frames.give_up(offered);
+            }
+            None => {
+                self.is_short = false;
+                self.frames.give_up(offered);
+            }
         }
     }
 
-    /// Hands over what the replica does by itself, and the waiting frames. What is refused is given up, and the frames behind it
-    /// wait for the next turn.
-    fn hand_over<R: Wait, G: TurnGate>(&mut self, rt: &R, gate: &G) -> HandedOver {
-        let (clock, own) = self.look(rt);
-        self.keep_early(clock);
-        let frames = mem::replace(&mut self.waiting, Vec::new(self.alloc));
-        let Ok(events) = events_of(self.alloc, &own, frames.as_slice()) else {
-            return HandedOver {
-                events: frames.len(),
-                has_run: false,
-            };
+    /// Hands over what the replica does by itself, and the frames that wait. An event that is refused is given up, and the frames
+    /// behind it wait for the next turn. Answers how many events were taken.
+    fn hand_over<R: Wait, G: TurnGate>(&mut self, rt: &R, gate: &G, own: &Own) -> usize {
+        let Ok(events) = events_of(self.alloc, own, self.frames.due()) else {
+            self.note_fault(Some(ApplyFault::NoMemory), 0);
+            return 0;
         };
-        let count = events.len();
-        if count == 0 {
-            return HandedOver {
-                events: 0,
-                has_run: false,
-            };
+        if events.is_empty() {
+            return 0;
         }
-        let turned = self.turn(rt, gate, events);
-        self.take_note(&own, frames, turned);
-        HandedOver {
-            events: count,
-            has_run: own.is_decided && turned.taken > 0,
-        }
-    }
-
-    /// Notes what a turn took of what was handed over.
-    fn take_note(&mut self, own: &Own, mut frames: Vec<Bytes>, turned: Turned) {
-        if own.len() <= turned.taken {
+        let outcome = self.turn(rt, gate, events);
+        if own.len() <= outcome.taken {
             self.proposed = own.proposed_after(self.proposed);
         }
-        let done = offered(own, turned.taken).min(frames.len());
-        frames.drain(..done);
-        self.waiting = frames;
+        self.note_fault(outcome.fault, offered(own, outcome.taken));
+        outcome.taken
     }
 
     /// The frames of an entry, none where memory ran out.
@@ -192,51 +189,90 @@ impl<A: Application> Worker<A> {
     /// Ends the round of the replica, and puts the frames of the next one into the inboxes of their addressees.
     fn end_round<R: Wait, G: TurnGate>(&mut self, rt: &R, gate: &G) {
         self.ended = self.ended.saturating_add(1);
-        let _ = self.waiting.append(&mut self.early);
+        let _ = self.frames.open_round();
         let Ok(events) = vec![in self.alloc; Event::RoundEnd] else {
             return;
         };
-        let turned = self.turn(rt, gate, events);
-        if turned.taken == 0 {
-            return;
+        let outcome = self.turn(rt, gate, events);
+        self.note_fault(outcome.fault, 0);
+        if outcome.taken > 0 {
+            self.send_all(rt, outcome.first);
         }
+    }
+
+    /// Puts the frames of an entry into the inboxes of their addressees.
+    fn send_all<R: Wait>(&mut self, rt: &R, index: usize) {
         let from = self.post.replica();
-        for sent in self.sent_at(rt, turned.first) {
+        for sent in self.sent_at(rt, index) {
             let count = send(rt, &mut self.outlets, from, &sent);
             self.sent = self.sent.saturating_add(count);
         }
     }
 
-    /// One pass of the loop.
-    fn pass<R: Wait, C: RoundClock, G: TurnGate>(&mut self, rt: &R, clock: &C, gate: &G) -> Passed {
-        let taken = self.take_frames(rt);
-        let handed = self.hand_over(rt, gate);
+    /// One pass of the loop, which ends a round if one is due and may end.
+    fn pass<R: Wait, C: RoundClock, G: TurnGate>(
+        &mut self,
+        rt: &R,
+        clock: &C,
+        gate: &G,
+        may_end: bool,
+    ) -> Pass {
+        let (round, own) = self.look(rt);
+        let taken = self.take_in(rt, round);
+        let events = self.hand_over(rt, gate, &own);
         let progress = Progress {
             taken,
             sent: mem::replace(&mut self.sent, 0),
-            events: handed.events,
+            events,
         };
-        let is_due = self.ended < self.rounds
-            && clock.is_due(self.post.replica(), self.ended, progress);
+        let is_due = may_end && clock.is_due(self.post.replica(), self.ended, progress);
         if is_due {
             self.end_round(rt, gate);
         }
-        Passed {
+        Pass {
             is_idle: !is_due && progress.is_idle(),
-            has_run: handed.has_run,
+            has_run: own.is_decided && events > 0,
         }
     }
 
-    /// Runs until its rounds are over and all that was decided then is run.
-    pub fn run<R: Wait, C: RoundClock, G: TurnGate>(mut self, rt: &R, clock: &C, gate: &G) {
+    /// One pass where the history is full: the replica takes nothing any more, and its rounds are counted.
+    fn pass_full<C: RoundClock>(&mut self, clock: &C, may_end: bool) -> Pass {
+        let progress = Progress {
+            taken: 0,
+            sent: mem::replace(&mut self.sent, 0),
+            events: 0,
+        };
+        let is_due = may_end && clock.is_due(self.post.replica(), self.ended, progress);
+        if is_due {
+            self.ended = self.ended.saturating_add(1);
+        }
+        Pass {
+            is_idle: !is_due,
+            has_run: false,
+        }
+    }
+
+    /// Runs until its rounds are over, or the cluster is asked to stop, and all that was decided then is run.
+    pub fn run<R: Wait, C: RoundClock, G: TurnGate>(
+        mut self,
+        rt: &R,
+        clock: &C,
+        gate: &G,
+        stop: &Stop,
+    ) {
         for _ in rt.forever() {
-            let is_over = self.ended >= self.rounds;
-            let passed = self.pass(rt, clock, gate);
-            if is_over && !passed.has_run {
+            let rings = self.inlet.rings();
+            let may_end = self.ended < self.rounds && !stop.is_asked();
+            let pass = if self.is_full {
+                self.pass_full(clock, may_end)
+            } else {
+                self.pass(rt, clock, gate, may_end)
+            };
+            if !may_end && !pass.has_run {
                 break;
             }
-            if passed.is_idle {
-                clock.rest();
+            if pass.is_idle {
+                self.inlet.sleep(rt, rings, clock.pause(self.ended));
             }
         }
     }

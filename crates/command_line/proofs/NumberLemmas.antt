@@ -1,13 +1,27 @@
--- Numbers as they are written.
-use Rattle.std.proofs.Common.{◌≡◌, ◌∙◌, ℕ, ◌<◌, ◌≤◌, false, List, refl, IsTrue, arith, sym, subst}
-use Rattle.std.specs.Prelude.{Result, Ok, Err, Some, None, IfErr, OnErr, IsErrOf, is_ok, ◌↔◌}
+-- Numbers and transactions as they are written.
+use Rattle.std.proofs.Common.{◌≡◌, ◌∙◌, ℕ, ◌<◌, ◌≤◌, false, List, [], refl, IsTrue, arith, ap, codes, sym, subst}
+use Rattle.std.specs.Prelude.{Result, Ok, Err, Some, None, IfOk, IfErr, OnErr, IsErrOf, is_ok, ◌↔◌}
+use Rattle.std.specs.Result.{result_ok}
 use Rattle.std.specs.Str.Parse.{digits_value}
 use Rattle.std.proofs.lemmas.Option.{same_Some}
 use Rattle.clap.specs.Words.{Row, Text, first_of}
 use Rattle.ledger_model.specs.declared.batch.TxFault.{TxFault}
 use Rattle.ledger_model.specs.declared.batch.TxFault.TheVariants as fault
-use Rattle.command_line.specs.Options.{IsNumber}
+use Rattle.ledger_model.specs.Applications.{Machine, run, transactions_of}
+use Rattle.ledger_model.specs.Replies.{check_reply}
+use Rattle.ledger_model.specs.declared.config.AppKind.{AppKind}
+use Rattle.ledger_model.specs.declared.config.AppKind.TheVariants.{KvStore, Counter, Purse}
+use Rattle.lm_ots.specs.Parameters.{bits_of, levels_of}
+use Rattle.lm_ots.specs.declared.params.Width.{Width}
+use Rattle.lm_ots.specs.declared.params.Width.TheVariants.{W4, W8}
+use Rattle.lm_ots.specs.declared.params.TreeHeight.{TreeHeight}
+use Rattle.lm_ots.specs.declared.params.TreeHeight.TheVariants.{H5, H10}
+use Rattle.cluster_keys.specs.declared.cluster.Cluster.{Cluster}
+use Rattle.abci.specs.Meaning.{ChecksTo, state_after}
+use Rattle.command_line.specs.Options.{IsNumber, IsWritten, SetsCluster, number_of}
 use Rattle.plain_text.specs.Numbers.{is_decimal}
+use Rattle.plain_text.specs.Transactions.{StandsFor}
+use Rattle.plain_text.proofs.TransactionLemmas.{stands_once}
 
 -- what is said of every error holds of the one that comes
 pub if_err : {A E : Type 0} {P : E → Type 0} (r : Result A E) → ((e : E) → P e) → IfErr r P
@@ -51,8 +65,58 @@ pub on_err : {A E X : Type 0} (r : Result A E) → X → OnErr r X
 on_err (Ok x) h = tt
 on_err (Err e) h = h
 
+-- no value is no number
+pub none_some : (n : ℕ) → None ≡ Some n → ⊥
+none_some n bad = absurd cc
+
+-- an option that has another number, or none, has not this one
+pub not_this : {E : Type 0} (rows : List Row) (name : Text) (low high n : ℕ) (r : Result ℕ E) → IfOk r (λ m. IsNumber rows name low high m)
+    → OnErr r ((m : ℕ) → IsNumber rows name low high m → ⊥) → (result_ok r ≡ Some n → ⊥) → IsNumber rows name low high n → ⊥
+not_this rows name low high n (Ok m) has none other i = other (ap (λ k. Some k) (one_number rows name low high low high m n has i))
+not_this rows name low high n (Err e) has none other i = none n i
+
+-- and no width, or no tree's height, where it is neither of the two
+pub no_width : {E : Type 0} (rows : List Row) (r : Result ℕ E) → IfOk r (λ m. IsNumber rows (codes "w") 4 8 m) → OnErr r ((m : ℕ) → IsNumber rows (codes "w") 4 8 m → ⊥)
+    → (result_ok r ≡ Some 4 → ⊥) → (result_ok r ≡ Some 8 → ⊥) → (w : Width) → IsNumber rows (codes "w") 4 8 (bits_of w) → ⊥
+no_width rows r has none four eight W4 i = not_this rows (codes "w") 4 8 4 r has none four i
+no_width rows r has none four eight W8 i = not_this rows (codes "w") 4 8 8 r has none eight i
+
+pub no_tree_height : {E : Type 0} (rows : List Row) (r : Result ℕ E) → IfOk r (λ m. IsNumber rows (codes "tree") 5 10 m) → OnErr r ((m : ℕ) → IsNumber rows (codes "tree") 5 10 m → ⊥)
+    → (result_ok r ≡ Some 5 → ⊥) → (result_ok r ≡ Some 10 → ⊥) → (h : TreeHeight) → IsNumber rows (codes "tree") 5 10 (levels_of h) → ⊥
+no_tree_height rows r has none five ten H5 i = not_this rows (codes "tree") 5 10 5 r has none five i
+no_tree_height rows r has none five ten H10 i = not_this rows (codes "tree") 5 10 10 r has none ten i
+
 -- bytes of a transaction's length make one
 pub is_transaction : (r : Result (List ℕ) TxFault) (n : ℕ) → (IsErrOf r fault.Empty ↔ (n ≡ 0)) → (IsErrOf r fault.TooLong ↔ (64 < n)) → is_ok r ≡ false → 1 ≤ n → n ≤ 64 → ⊥
 is_transaction (Ok tx) n none long bad some few = absurd cc
 is_transaction (Err fault.Empty) n none long bad some few = let zero_is : n ≡ 0 = none.0 refl in absurd (omega (arith, zero_is, some))
 is_transaction (Err fault.TooLong) n none long bad some few = let over : 64 < n = long.0 refl in absurd (omega (arith, over, few))
+
+-- the same option has one transaction
+pub one_transaction : (rows : List Row) (name : Text) (tx tx2 : List ℕ) → IsWritten rows name tx → IsWritten rows name tx2 → tx ≡ tx2
+one_transaction rows name tx tx2 i j =
+    let same : i.text ≡ j.text = same_Some i.text j.text (sym i.has ∙ j.has) in
+    stands_once j.text tx tx2 (subst (λ t. StandsFor t tx) same i.bytes) j.bytes
+
+-- a number names one application
+pub one_kind : (a b : AppKind) → number_of a ≡ number_of b → a ≡ b
+one_kind KvStore KvStore same = refl
+one_kind Counter Counter same = refl
+one_kind Purse Purse same = refl
+one_kind KvStore Counter same = absurd (omega (arith, same))
+one_kind KvStore Purse same = absurd (omega (arith, same))
+one_kind Counter KvStore same = absurd (omega (arith, same))
+one_kind Counter Purse same = absurd (omega (arith, same))
+one_kind Purse KvStore same = absurd (omega (arith, same))
+one_kind Purse Counter same = absurd (omega (arith, same))
+
+-- the same options name one application
+pub same_kind : (rows : List Row) (a b : Cluster) → SetsCluster rows a → SetsCluster rows b → a.config.kind ≡ b.config.kind
+same_kind rows a b i j = one_kind a.config.kind b.config.kind (one_number rows (codes "kind") 1 3 1 3 _ _ i.kind j.kind)
+
+-- a check in the opening state answers as the application run on no block
+pub checked_at_opening : (m : Machine) (kind : AppKind) (tx : List ℕ) (code : ℕ) → ChecksTo m tx code → m ≡ run kind [] → code ≡ check_reply kind [] tx
+unfolding run check_reply
+checked_at_opening m kind tx code checked is =
+    checked (transactions_of []) (ap (λ (n : Machine). n.committed) is ∙ ap (λ k. state_after k (transactions_of [])) (sym (ap (λ (n : Machine). n.kind) is)))
+    ∙ ap (λ k. check_reply k [] tx) (ap (λ (n : Machine). n.kind) is)

@@ -101,7 +101,7 @@ with_run a =
 
 -- the options of a running cluster, which `abft cluster` and `abft serve` have
 abbrev pub with_running : App → App
-with_running a = with_rule (with_run (with_cluster a)) (flag_rule (codes "quiet"))
+with_running a = with_rule (with_rule (with_run (with_cluster a)) (flag_rule (codes "quiet"))) (flag_rule (codes "stop-at-eof"))
 
 -- `abft cluster`: its options
 abbrev pub cluster_app : App
@@ -110,9 +110,10 @@ cluster_app = with_running (new_app (codes "cluster"))
 -- the options of `abft serve` alone
 abbrev pub with_serve : App → App
 with_serve a =
-    with_rule (with_rule a
+    with_rule (with_rule (with_rule a
     (option_rule (codes "port") (codes "0")))
-    (option_rule (codes "sessions") (codes "1"))
+    (option_rule (codes "sessions") (codes "1")))
+    (option_rule (codes "client-entries") (codes "32768"))
 
 -- `abft serve`: its options
 abbrev pub serve_app : App

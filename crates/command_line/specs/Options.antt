@@ -1,5 +1,5 @@
 -- What the words of a command line set: each option by the value that its matches hold, which is its default where the words name none.
-use Rattle.std.specs.Prelude.{◌≡◌, ℕ, true, ◌≤◌, ◌+◌, ◌-◌, ◌*◌, IsTrue, List, length, codes, Option, Some, None, Ok, ◌⊎◌, ◌↔◌, find, option_and_then}
+use Rattle.std.specs.Prelude.{◌≡◌, ℕ, true, ◌≤◌, ◌+◌, ◌-◌, ◌*◌, IsTrue, List, [], length, codes, Option, Some, None, Ok, ◌⊎◌, ◌↔◌, find, option_and_then}
 use Rattle.std.specs.Str.{bytes_eq}
 use Rattle.std.specs.Str.Parse.{digits_value}
 use Rattle.hex.specs.Hex.{decode_sized}
@@ -7,6 +7,7 @@ use Rattle.clap.specs.Words.{Row, Text, first_of, kind_of, subcommand_of, takes}
 use Rattle.clap.specs.declared.error.ErrorKind.TheVariants as kind
 use Rattle.clap.specs.declared.parser.matches.ValueSource.TheVariants.{CommandLine}
 use Rattle.ledger_model.specs.declared.config.AppKind.{AppKind}
+use Rattle.ledger_model.specs.Replies.{check_reply}
 use Rattle.ledger_model.specs.declared.config.AppKind.TheVariants.{KvStore, Counter, Purse}
 use Rattle.lm_ots.specs.Parameters.{bits_of, levels_of}
 use Rattle.command_line.specs.Grammar.{abft_app}
@@ -48,6 +49,11 @@ pub record IsWritten (rows : List Row) (name : Text) (tx : List ℕ) : Type 0 wh
   pub some : 1 ≤ length tx
   pub short : length tx ≤ 64
 
+-- the option's value is written as this transaction, which an application of this kind accepts in its opening state
+pub record IsAccepted (rows : List Row) (name : Text) (kind : AppKind) (tx : List ℕ) : Type 0 where
+  pub written : IsWritten rows name tx
+  pub checked : check_reply kind [] tx ≡ 0
+
 -- the words name the option: its value is not its default
 abbrev pub IsNamed : List Row → Text → Type 0
 IsNamed rows name = option_and_then (λ r. r.source) (find (λ r. bytes_eq r.id name) rows) ≡ Some CommandLine
@@ -88,28 +94,30 @@ pub record SetsSign (rows : List Row) (s : SignSettings) : Type 0 where
 pub record SetsDeliver (rows : List Row) (s : DeliverSettings) : Type 0 where
   pub cluster : SetsCluster rows s.cluster
   pub replica : IsNumber rows (codes "replica") 0 (s.cluster.config.replicas - 1) s.replica
-  pub value : IsWritten rows (codes "value") s.value
+  pub value : IsAccepted rows (codes "value") s.cluster.config.kind s.value
   pub height : IsNumber rows (codes "height") 1 4 s.height
-  pub rounds : IsNumber rows (codes "rounds") 0 1 s.rounds
+  pub rounds : IsNumber rows (codes "rounds") 0 4000000000 s.rounds
 
 -- the options of `abft simulate` set these settings: histories are asked for where the words name that option
 pub record SetsSimulate (rows : List Row) (s : SimulateSettings) : Type 0 where
   pub seed : IsSeed rows s.seed
   pub histories : IsTrue s.histories ↔ IsNamed rows (codes "histories")
 
--- the options of `abft cluster` set these settings: it is to be quiet where the words name that option
+-- the options of `abft cluster` set these settings: it is to be quiet, and to end with standard input, where the words name these options
 pub record SetsRunning (rows : List Row) (s : ClusterSettings) : Type 0 where
   pub cluster : SetsCluster rows s.cluster
-  pub tx : IsWritten rows (codes "tx") s.tx
+  pub tx : IsAccepted rows (codes "tx") s.cluster.config.kind s.tx
   pub rounds : IsNumber rows (codes "rounds") 0 4000000000 s.rounds
   pub base : IsNumber rows (codes "base-ms") 1 60000 s.base_ms
   pub quiet : IsTrue s.is_quiet ↔ IsNamed rows (codes "quiet")
+  pub stops : IsTrue s.stops_at_eof ↔ IsNamed rows (codes "stop-at-eof")
 
 -- the options of `abft serve` set these settings
 pub record SetsServe (rows : List Row) (s : ServeSettings) : Type 0 where
   pub cluster : SetsRunning rows s.cluster
   pub port : IsNumber rows (codes "port") 0 65535 s.port
   pub sessions : IsNumber rows (codes "sessions") 1 1000 s.sessions
+  pub entries : IsNumber rows (codes "client-entries") 0 65536 s.client_entries
 
 -- the subcommand that the words name, and its options
 abbrev pub Sets : Option (Text × List Row) → Settings → Type 0
@@ -132,10 +140,14 @@ IsRefused words = takes abft_app words ≡ true → (s : Settings) → IsSet wor
 abbrev pub WantsMemory : UsageFault → Type 0
 WantsMemory (fault.CommandLine error) = kind_of error ≡ kind.OutOfMemory
 WantsMemory (fault.Number option least most word) = ⊥
+WantsMemory (fault.Neither option one other word) = ⊥
 WantsMemory (fault.Seed word) = ⊥
 WantsMemory (fault.TooFew replicas faults) = ⊥
 WantsMemory (fault.Spelling option why) = ⊥
 WantsMemory (fault.NoTransaction option word) = ⊥
+WantsMemory (fault.Rejected option code word) = ⊥
+WantsMemory (fault.NamedFrames word) = ⊥
+WantsMemory (fault.NamedScenario word) = ⊥
 WantsMemory (fault.What word) = ⊥
 WantsMemory (fault.Missing option) = ⊥
 WantsMemory fault.NoSubcommand = ⊥
@@ -145,10 +157,14 @@ WantsMemory fault.NoMemory = Unit {0}
 abbrev pub AsksForText : UsageFault → Type 0
 AsksForText (fault.CommandLine error) = (kind_of error ≡ kind.DisplayHelp) ⊎ (kind_of error ≡ kind.DisplayVersion)
 AsksForText (fault.Number option least most word) = ⊥
+AsksForText (fault.Neither option one other word) = ⊥
 AsksForText (fault.Seed word) = ⊥
 AsksForText (fault.TooFew replicas faults) = ⊥
 AsksForText (fault.Spelling option why) = ⊥
 AsksForText (fault.NoTransaction option word) = ⊥
+AsksForText (fault.Rejected option code word) = ⊥
+AsksForText (fault.NamedFrames word) = ⊥
+AsksForText (fault.NamedScenario word) = ⊥
 AsksForText (fault.What word) = ⊥
 AsksForText (fault.Missing option) = ⊥
 AsksForText fault.NoSubcommand = ⊥

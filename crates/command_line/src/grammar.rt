@@ -17,7 +17,15 @@ const EXAMPLE: &str = "Example:
   abft sign report --replica 2 --value b=7 | abft deliver --replica 1";
 
 /// The end of `abft sign --help`.
-const REUSE: &str = "\
+const SIGNED: &str = "\
+Output: one frame, as bytes. A report has the batch of --value as its initial and only proper value,
+says no ALL and has no locks; an acknowledgement is on that batch.
+
+Exit status:
+  0  the frame was written
+  2  a fault of usage
+  3  out of memory, or a failed write
+
 Each call signs with leaf 0 of the replica's key pair, so one-time keys are used again and again.
 That is no way to use them but for trying things out: use the seed for nothing else.";
 
@@ -36,7 +44,7 @@ Exit status:
   0  each frame was delivered
   1  'fault' or 'cut' was printed
   2  a fault of usage
-  3  want of memory, a full history, or a failed read or write";
+  3  out of memory, a full history, or a failed read or write";
 
 /// The end of `abft simulate --help`.
 const SCENARIO: &str = "\
@@ -48,22 +56,33 @@ Input, a scenario: the cluster (n, t and the kind of application), liars if any,
   round
   execute 0
 
-A step prints its word, its replica and the answer, or 'refused' and a number.
-A round prints its end at each correct replica, what was decided, and which frames were ignored.
-A lie prints what the replicas that it was told made of it, or 'lie-lock cannot', or 'exhausted'.
-With --histories the histories of the correct replicas are written, as bytes, in place of these.
-A text with a bad line prints 'line N bad' alone, with the number of the first one.
+Lines, of replica R at height H; docs/SCENARIOS.md has all of them:
+  submit R ok                  R's pool took the transaction; or 'submit R refused K'
+  propose R H BATCH            R opened H, with this initial value; or 'propose R H refused K'
+  end R C sent S               R ended a round, round C is open, and R sent S frames
+  decided R H BATCH            R decided when that round ended
+  deliver R accepted           R read a frame
+  deliver R ignored N CAUSE    R ignored a frame: the cause's number and name
+  execute R H BATCH codes C,D  R ran a block, with a code for each transaction; or 'execute R nothing'
+  query R H VALUE              what R holds under the key; or 'query R H absent'
+  info R H HASH                the height and the hash of R's application
+  refused K                    the step was refused, for reason K
+  lie-lock cannot, exhausted   the liar could not sign
+Of the frames that a 'round' passes, only those that are ignored have a line.
+With --histories the histories of the correct replicas are written, as bytes, in place of the lines.
+A text with a bad line prints 'line N bad' alone, with the number of the first bad line.
 
 Exit status:
   0  the scenario was played
   1  'line N bad' was printed, and nothing was played
   2  a fault of usage
-  3  want of memory, or a failed read or write";
+  3  out of memory, or a failed read or write";
 
 /// `abft sign WHAT`.
 const SIGN: Subcommand = Subcommand {
     name: "sign",
     about: "Signs a report or an acknowledgement, and writes its frame to standard output",
+    usage: None,
     arguments: &[
         REPLICAS,
         FAULTS,
@@ -97,13 +116,14 @@ const SIGN: Subcommand = Subcommand {
             help: "The one transaction of the batch",
         },
     ],
-    after_help: REUSE,
+    after_help: SIGNED,
 };
 
 /// `abft deliver`.
 const DELIVER: Subcommand = Subcommand {
     name: "deliver",
     about: "Delivers the frames of standard input to a replica, and prints what it answers",
+    usage: Some("abft deliver [OPTIONS] <FRAMES"),
     arguments: &[
         REPLICAS,
         FAULTS,
@@ -129,7 +149,7 @@ const DELIVER: Subcommand = Subcommand {
         Argument {
             name: "rounds",
             kind: Kind::Value("1"),
-            help: "How many rounds it ends, 0 or 1",
+            help: "How many rounds it ends, 0 to 4000000000",
         },
     ],
     after_help: LINES,
@@ -139,6 +159,7 @@ const DELIVER: Subcommand = Subcommand {
 const SIMULATE: Subcommand = Subcommand {
     name: "simulate",
     about: "Plays the scenario of standard input on a whole cluster, and prints what its replicas answer",
+    usage: Some("abft simulate [OPTIONS] <SCENARIO"),
     arguments: &[
         SEED,
         Argument {

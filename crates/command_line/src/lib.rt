@@ -3,6 +3,7 @@
 
 mod grammar;
 mod options;
+mod refused_words;
 mod running_grammar;
 mod settings_of_words;
 mod shared_arguments;

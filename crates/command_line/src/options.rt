@@ -1,9 +1,10 @@
 //! The options of a command line, read from its matches.
-ghost use Rattle.std.specs.Prelude.{◌≡◌, ◌↔◌, IsTrue, ℕ, List, ◌≤◌, ◌-◌, IfOk, IfErr, OnErr, Some, None, codes};
+ghost use Rattle.std.specs.Prelude.{◌≡◌, ◌↔◌, IsTrue, ℕ, List, [], ◌≤◌, ◌-◌, IfOk, IfErr, OnErr, Some, None, codes};
 ghost use Rattle.clap.specs.Words.{found_of, rows_of, first_of};
 ghost use Rattle.lm_ots.specs.Parameters.{bits_of, levels_of};
-ghost use Rattle.command_line.specs.Options.{IsNamed, IsNumber, IsSeed, IsWritten, SetsCluster, WantsMemory, number_of, word_of};
+ghost use Rattle.command_line.specs.Options.{IsAccepted, IsNamed, IsNumber, IsSeed, IsWritten, SetsCluster, WantsMemory, number_of, word_of};
 ghost use Rattle.plain_text.specs.Transactions.{StandsFor};
+ghost use Rattle.ledger_model.specs.Replies.{check_reply};
 ghost use Rattle.ledger_model.specs.declared.config.AppKind.{AppKind};
 ghost use Rattle.cluster_keys.specs.declared.cluster.Cluster.{Cluster};
 ghost use Rattle.settings.specs.declared.sign.What.{What};
@@ -11,6 +12,8 @@ ghost use Rattle.lm_ots.specs.declared.params.Width.{Width};
 ghost use Rattle.lm_ots.specs.declared.params.TreeHeight.{TreeHeight};
 
 use crate::usage_fault::UsageFault;
+use abci::{Application, CheckKind};
+use app_kinds::AnyKind;
 use clap::ArgMatches;
 use clap::parser::ValueSource;
 use cluster_keys::Cluster;
@@ -43,6 +46,21 @@ fn no_number<'a>(
         option,
         least,
         most,
+        word: matches.get_str(option).unwrap_or(""),
+    }
+}
+
+/// The fault of an option whose text is neither of its two numbers.
+fn neither<'a>(
+    matches: &ArgMatches<'a>,
+    option: &'static str,
+    one: u32,
+    other: u32,
+) -> UsageFault<'a> {
+    UsageFault::Neither {
+        option,
+        one,
+        other,
         word: matches.get_str(option).unwrap_or(""),
     }
 }
@@ -110,6 +128,35 @@ pub(crate) fn transaction<'a>(
     Ok(tx)
 }
 
+/// The code that an application in its opening state answers to a transaction.
+fn check_code(alloc: Global, kind: AppKind, tx: &Tx) -> u32
+    ensures { result ≡ check_reply kind [] tx.now }
+{
+    AnyKind::new(alloc, kind).check_tx(tx, CheckKind::New)
+}
+
+/// An option that is one transaction, which an application in its opening state accepts.
+pub(crate) fn accepted_transaction<'a>(
+    alloc: Global,
+    matches: &ArgMatches<'a>,
+    name: &'static str,
+    kind: AppKind,
+) -> Result<Tx, UsageFault<'a>>
+    ensures some { IfOk result (λ tx. IsAccepted (rows_of (found_of matches.now)) name.now kind tx) }
+    ensures none { IfErr result (λ e. (tx : List ℕ) → IsAccepted (rows_of (found_of matches.now)) name.now kind tx → WantsMemory e) }
+{
+    let tx = transaction(alloc, matches, name)?;
+    let code = check_code(alloc, kind, &tx);
+    if code != 0 {
+        return Err(UsageFault::Rejected {
+            option: name,
+            code,
+            word: matches.get_str(name).unwrap_or(""),
+        });
+    }
+    Ok(tx)
+}
+
 /// The word that says what is to be signed.
 pub(crate) fn what<'a>(matches: &ArgMatches<'a>) -> Result<What, UsageFault<'a>>
     ensures some { IfOk result (λ w. first_of (codes "what") (rows_of (found_of matches.now)) ≡ Some (word_of w)) }
@@ -147,10 +194,10 @@ fn width<'a>(matches: &ArgMatches<'a>) -> Result<Width, UsageFault<'a>>
     ensures some { IfOk result (λ w. IsNumber (rows_of (found_of matches.now)) (codes "w") 4 8 (bits_of w)) }
     ensures none { OnErr result ((w : Width) → IsNumber (rows_of (found_of matches.now)) (codes "w") 4 8 (bits_of w) → ⊥) }
 {
-    match number(matches, "w", 4, 8)? {
-        4 => Ok(Width::W4),
-        8 => Ok(Width::W8),
-        _ => Err(no_number(matches, "w", 4, 8)),
+    match number(matches, "w", 4, 8).ok() {
+        Some(4) => Ok(Width::W4),
+        Some(8) => Ok(Width::W8),
+        _ => Err(neither(matches, "w", 4, 8)),
     }
 }
 
@@ -159,10 +206,10 @@ fn tree_height<'a>(matches: &ArgMatches<'a>) -> Result<TreeHeight, UsageFault<'a
     ensures some { IfOk result (λ h. IsNumber (rows_of (found_of matches.now)) (codes "tree") 5 10 (levels_of h)) }
     ensures none { OnErr result ((h : TreeHeight) → IsNumber (rows_of (found_of matches.now)) (codes "tree") 5 10 (levels_of h) → ⊥) }
 {
-    match number(matches, "tree", 5, 10)? {
-        5 => Ok(TreeHeight::H5),
-        10 => Ok(TreeHeight::H10),
-        _ => Err(no_number(matches, "tree", 5, 10)),
+    match number(matches, "tree", 5, 10).ok() {
+        Some(5) => Ok(TreeHeight::H5),
+        Some(10) => Ok(TreeHeight::H10),
+        _ => Err(neither(matches, "tree", 5, 10)),
     }
 }
 

@@ -1,6 +1,7 @@
 //! The grammar of `abft cluster` and `abft serve`, the subcommands that run a whole cluster.
 use crate::shared_arguments::{
-    APPLICATION, FAULTS, FIRST_ROUND, QUIET, REPLICAS, ROUNDS, SEED, TRANSACTION, TREE, WIDTH,
+    APPLICATION, FAULTS, FIRST_ROUND, QUIET, REPLICAS, ROUNDS, SEED, STOP_AT_EOF, TRANSACTION,
+    TREE, WIDTH,
 };
 use crate::subcommand::{Argument, Kind, Subcommand};
 
@@ -9,12 +10,12 @@ const COMMITS: &str = "\
 Lines, one for each replica:
   commits R C  replica R committed C blocks
 
-Progress is told on standard error if that is a terminal, unless --quiet is there.
+How it stands is told on standard error, unless --quiet is there.
 
 Exit status:
   0  the rounds are over, and the lines were printed
   2  a fault of usage
-  3  want of memory, a thread that can't be made, or a failed write";
+  3  out of memory, a thread that can't be made, or a failed write";
 
 /// The end of `abft serve --help`.
 const LISTENING: &str = "\
@@ -24,19 +25,21 @@ The first line:
 Then lines as of 'abft cluster', one for each replica:
   commits R C  replica R committed C blocks
 
-It ends when the rounds are over and as many connections as --sessions says have ended.
-Progress is told on standard error if that is a terminal, unless --quiet is there.
+It ends when the rounds are over and as many connections as --sessions says have ended,
+or where standard input ends if --stop-at-eof is there.
+How it stands is told on standard error, unless --quiet is there.
 docs/OPERATING.md has the rest.
 
 Exit status:
   0  the rounds are over, and the lines were printed
   2  a fault of usage
-  3  want of memory, a thread that can't be made, a port that can't be listened at, or a failed write";
+  3  out of memory, a thread that can't be made, a port that can't be listened at, or a failed write";
 
 /// `abft cluster`.
 pub(crate) const RUN_CLUSTER: Subcommand = Subcommand {
     name: "cluster",
     about: "Runs a whole cluster in one process, a thread for each replica, and prints what each committed",
+    usage: None,
     arguments: &[
         REPLICAS,
         FAULTS,
@@ -48,6 +51,7 @@ pub(crate) const RUN_CLUSTER: Subcommand = Subcommand {
         ROUNDS,
         FIRST_ROUND,
         QUIET,
+        STOP_AT_EOF,
     ],
     after_help: COMMITS,
 };
@@ -56,6 +60,7 @@ pub(crate) const RUN_CLUSTER: Subcommand = Subcommand {
 pub(crate) const SERVE: Subcommand = Subcommand {
     name: "serve",
     about: "Runs such a cluster beside a listener on 127.0.0.1, whose clients speak to its replicas",
+    usage: None,
     arguments: &[
         REPLICAS,
         FAULTS,
@@ -67,6 +72,7 @@ pub(crate) const SERVE: Subcommand = Subcommand {
         ROUNDS,
         FIRST_ROUND,
         QUIET,
+        STOP_AT_EOF,
         Argument {
             name: "port",
             kind: Kind::Value("0"),
@@ -76,6 +82,11 @@ pub(crate) const SERVE: Subcommand = Subcommand {
             name: "sessions",
             kind: Kind::Value("1"),
             help: "How many connections are taken, 1 to 1000",
+        },
+        Argument {
+            name: "client-entries",
+            kind: Kind::Value("32768"),
+            help: "How many entries of each replica's history its clients may use, 0 to 65536",
         },
     ],
     after_help: LISTENING,

@@ -11,7 +11,10 @@ ghost use Rattle.settings.specs.declared.cluster.ServeSettings.{ServeSettings};
 ghost use Rattle.settings.specs.declared.Settings.{Settings};
 
 use crate::grammar::abft_command;
-use crate::options::{cluster, is_named, number, seed, small_number, transaction, what};
+use crate::options::{
+    accepted_transaction, cluster, is_named, number, seed, small_number, transaction, what,
+};
+use crate::refused_words::fault_of;
 use crate::usage_fault::UsageFault;
 use clap::ArgMatches;
 use ledger_model::{Height, Phase, ReplicaId};
@@ -54,9 +57,9 @@ fn deliver_settings<'a>(
 {
     let cluster = cluster(matches)?;
     let replica = small_number(matches, "replica", 0, cluster.config.replicas - 1)?;
-    let value = transaction(alloc, matches, "value")?;
+    let value = accepted_transaction(alloc, matches, "value", cluster.config.kind)?;
     let height = number(matches, "height", 1, 4)?;
-    let rounds = number(matches, "rounds", 0, 1)?;
+    let rounds = number(matches, "rounds", 0, 4_000_000_000)?;
     Ok(DeliverSettings {
         cluster,
         replica: ReplicaId::new(replica),
@@ -87,7 +90,7 @@ fn cluster_settings<'a>(
     ensures none { IfErr result (λ e. (s : ClusterSettings) → SetsRunning (rows_of (found_of matches.now)) s → WantsMemory e) }
 {
     let cluster = cluster(matches)?;
-    let tx = transaction(alloc, matches, "tx")?;
+    let tx = accepted_transaction(alloc, matches, "tx", cluster.config.kind)?;
     let rounds = number(matches, "rounds", 0, 4_000_000_000)?;
     let base_ms = number(matches, "base-ms", 1, 60_000)?;
     Ok(ClusterSettings {
@@ -96,6 +99,7 @@ fn cluster_settings<'a>(
         rounds,
         base_ms,
         is_quiet: is_named(matches, "quiet"),
+        stops_at_eof: is_named(matches, "stop-at-eof"),
     })
 }
 
@@ -110,10 +114,12 @@ fn serve_settings<'a>(
     let cluster = cluster_settings(alloc, matches)?;
     let port = number(matches, "port", 0, 65_535)?;
     let sessions = number(matches, "sessions", 1, 1000)?;
+    let client_entries = number(matches, "client-entries", 0, 65_536)?;
     Ok(ServeSettings {
         cluster,
         port: port as u16,
         sessions,
+        client_entries,
     })
 }
 
@@ -125,7 +131,7 @@ fn matches_of<'a>(alloc: Global, words: &'a [&'a str]) -> Result<ArgMatches<'a>,
     let command = abft_command(alloc)?;
     match command.try_get_matches_from(words) {
         Ok(matches) => Ok(matches),
-        Err(error) => Err(UsageFault::CommandLine(error)),
+        Err(error) => Err(fault_of(error, words)),
     }
 }
 

@@ -70,3 +70,10 @@ pub(crate) const QUIET: Argument = Argument {
     kind: Kind::Flag,
     help: "Tells nothing of its progress",
 };
+
+/// Whether a run ends where standard input does.
+pub(crate) const STOP_AT_EOF: Argument = Argument {
+    name: "stop-at-eof",
+    kind: Kind::Flag,
+    help: "Ends the rounds, and the listener, where standard input ends",
+};

@@ -25,10 +25,11 @@ pub(crate) struct Argument {
     pub(crate) help: &'static str,
 }
 
-/// A subcommand: what it does, its arguments in turn, and the end of its help.
+/// A subcommand: what it does, its usage line where clap's own lacks something, its arguments in turn, and the end of its help.
 pub(crate) struct Subcommand {
     pub(crate) name: &'static str,
     pub(crate) about: &'static str,
+    pub(crate) usage: Option<&'static str>,
     pub(crate) arguments: &'static [Argument],
     pub(crate) after_help: &'static str,
 }
@@ -60,6 +61,17 @@ fn clap_args<'a>(alloc: Global, arguments: &[Argument]) -> Result<Vec<Arg<'a>>, 
     Ok(args)
 }
 
+/// The command with this usage line, if there is one.
+fn with_usage<'a>(command: Command<'a>, usage: Option<&'static str>) -> Command<'a>
+    ensures app { app_of result ≡ app_of command.entry }
+    ensures local { (fields_of result).has_globals ≡ (fields_of command.entry).has_globals }
+{
+    match usage {
+        Some(usage) => command.override_usage(usage),
+        None => command,
+    }
+}
+
 impl Subcommand {
     /// The subcommand as clap is told it.
     fn clap_command<'a>(&self, alloc: Global) -> Result<Command<'a>, AllocError>
@@ -67,10 +79,10 @@ impl Subcommand {
         ensures local { IfOk result (λ c. (fields_of c).has_globals ≡ false) }
     {
         let args = clap_args(alloc, self.arguments)?;
-        Command::new(alloc, self.name)
+        let command = Command::new(alloc, self.name)
             .about(self.about)
-            .after_help(self.after_help)
-            .args(args)
+            .after_help(self.after_help);
+        with_usage(command, self.usage).args(args)
     }
 }
 

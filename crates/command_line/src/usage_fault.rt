@@ -21,6 +21,13 @@ pub enum UsageFault<'a> {
         most: u32,
         word: &'a str,
     },
+    /// The word at this option is neither of its two numbers.
+    Neither {
+        option: &'static str,
+        one: u32,
+        other: u32,
+        word: &'a str,
+    },
     /// The word at `--seed` is not 64 hexadecimal digits.
     Seed(&'a str),
     /// Fewer replicas than three times those that may lie, and one more.
@@ -38,6 +45,16 @@ pub enum UsageFault<'a> {
         option: &'static str,
         word: &'a str,
     },
+    /// The application's check answers this code to the transaction at this option.
+    Rejected {
+        option: &'static str,
+        code: u32,
+        word: &'a str,
+    },
+    /// `abft deliver` reads its frames from standard input, and not from what this word names.
+    NamedFrames(&'a str),
+    /// `abft simulate` reads its scenario from standard input, and not from what this word names.
+    NamedScenario(&'a str),
     /// What is to be signed is neither a report nor an acknowledgement.
     What(&'a str),
     /// An option without a default is not there.
@@ -74,12 +91,7 @@ impl UsageFault<'_> {
     }
 }
 
-/// Whether the option takes the two ends of its limits, and nothing between them.
-fn takes_its_ends_alone(option: &str, least: u32, most: u32) -> bool {
-    matches!(option, "w" | "tree") || least.checked_add(1) == Some(most)
-}
-
-/// Writes which numbers an option takes, and what stands there.
+/// Writes which numbers an option takes, and what it was given.
 fn show_number<W: fmt::Write>(
     f: &mut fmt::Formatter<W>,
     option: &str,
@@ -87,16 +99,47 @@ fn show_number<W: fmt::Write>(
     most: u32,
     word: &str,
 ) -> fmt::Result {
-    if least == most {
-        write!(f, "error: --{option} is {least}, not '{word}'")
-    } else if takes_its_ends_alone(option, least, most) {
-        write!(f, "error: --{option} is {least} or {most}, not '{word}'")
-    } else {
-        write!(
-            f,
-            "error: --{option} is a number from {least} to {most}, not '{word}'"
-        )
-    }
+    write!(
+        f,
+        "error: --{option} is a number from {least} to {most}, not '{word}'"
+    )
+}
+
+/// Writes which two numbers an option takes, and what it was given.
+fn show_neither<W: fmt::Write>(
+    f: &mut fmt::Formatter<W>,
+    option: &str,
+    one: u32,
+    other: u32,
+    word: &str,
+) -> fmt::Result {
+    write!(f, "error: --{option} is {one} or {other}, not '{word}'")
+}
+
+/// Writes with which code the application's check refuses the transaction at an option.
+fn show_rejected<W: fmt::Write>(
+    f: &mut fmt::Formatter<W>,
+    option: &str,
+    code: u32,
+    word: &str,
+) -> fmt::Result {
+    write!(
+        f,
+        "error: --{option} '{word}' is refused by the application's check: code {code}"
+    )
+}
+
+/// Writes how a subcommand is given its input, which the words named.
+fn show_named<W: fmt::Write>(
+    f: &mut fmt::Formatter<W>,
+    input: &str,
+    subcommand: &str,
+    word: &str,
+) -> fmt::Result {
+    write!(
+        f,
+        "error: {input} on standard input: abft {subcommand} <{word}"
+    )
 }
 
 /// Writes what is wanted, and what stands there.
@@ -144,10 +187,21 @@ impl fmt::Display for UsageFault<'_> {
                 most,
                 word,
             } => show_number(f, option, *least, *most, word),
+            UsageFault::Neither {
+                option,
+                one,
+                other,
+                word,
+            } => show_neither(f, option, *one, *other, word),
             UsageFault::Seed(word) => show_wanted(f, "--seed is 64 hexadecimal digits", word),
             UsageFault::TooFew { replicas, faults } => show_too_few(f, *replicas, *faults),
             UsageFault::Spelling { option, fault } => show_option(f, option, fault),
             UsageFault::NoTransaction { option, word } => show_no_transaction(f, option, word),
+            UsageFault::Rejected { option, code, word } => show_rejected(f, option, *code, word),
+            UsageFault::NamedFrames(word) => show_named(f, "the frames come", "deliver", word),
+            UsageFault::NamedScenario(word) => {
+                show_named(f, "the scenario comes", "simulate", word)
+            }
             UsageFault::What(word) => show_wanted(f, "what to sign is 'report' or 'ack'", word),
             UsageFault::Missing(option) => show_option(f, option, &"is missing"),
             UsageFault::NoSubcommand => f.write_str("error: a subcommand is missing"),

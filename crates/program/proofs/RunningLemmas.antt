@@ -57,7 +57,7 @@ played_halted x s unread left before after is some = subst (λ y. Halted (settin
 pub done_halted : (x : Piped) (status : ℕ) (unread left before mid after : Option (List ℕ)) → Done (settings_of x) status unread left before mid → Keeps mid after → Halted (settings_of x) unread left before after
 done_halted (piped.Sign s) status unread left before mid after (is, done) keeps = responds_some _ _ unread left before mid after (λ input text does. does) done keeps
 done_halted (piped.Deliver s) status unread left before mid after (end, (is, (to_end, done))) keeps = responds_some _ _ unread left before mid after (λ input text does. inr (end, does)) done keeps
-done_halted (piped.Simulate s) status unread left before mid after (end, (is, (to_end, done))) keeps = responds_some _ _ unread left before mid after (λ input text does. inr (end, does)) done keeps
+done_halted (piped.Simulate s) status unread left before mid after (end, (is, done)) keeps = responds_some _ _ unread left before mid after (λ input text does. inr (end, does.1)) done keeps
 
 -- a status of what was done is 0 or 1
 stream_small : (end : StreamEnd) → status_of_stream end ≤ 1
@@ -120,10 +120,14 @@ asks_no_memory : (f : UsageFault) → AsksForText f → WantsMemory f → ⊥
 asks_no_memory (fault.CommandLine error) (inl help) wants = let bad = sym help ∙ wants in absurd cc
 asks_no_memory (fault.CommandLine error) (inr version) wants = let bad = sym version ∙ wants in absurd cc
 asks_no_memory (fault.Number option least most word) asks wants = asks
+asks_no_memory (fault.Neither option one other word) asks wants = asks
 asks_no_memory (fault.Seed word) asks wants = asks
 asks_no_memory (fault.TooFew replicas faults) asks wants = asks
 asks_no_memory (fault.Spelling option why) asks wants = asks
 asks_no_memory (fault.NoTransaction option word) asks wants = asks
+asks_no_memory (fault.Rejected option code word) asks wants = asks
+asks_no_memory (fault.NamedFrames word) asks wants = asks
+asks_no_memory (fault.NamedScenario word) asks wants = asks
 asks_no_memory (fault.What word) asks wants = asks
 asks_no_memory (fault.Missing option) asks wants = asks
 asks_no_memory fault.NoSubcommand asks wants = asks

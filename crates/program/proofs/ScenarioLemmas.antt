@@ -1,20 +1,24 @@
 -- From the commands that are played to what `abft simulate` prints.
-use Rattle.std.proofs.Common.{◌≡◌, ℕ, Bool, true, false, not, List, [], refl, sym, subst, ◌∙◌, inl, inr, append-nil}
+use Rattle.std.proofs.Common.{◌≡◌, ℕ, Bool, true, false, not, List, [], ◌++◌, take, refl, sym, subst, ◌∙◌, inl, inr, append-nil}
 use Rattle.std.specs.Prelude.{◌⊎◌, Option, if◌then◌else◌}
 use Rattle.std.specs.Io.KnownBytes.{Appends, Consumes, IsAtEnd}
-use Rattle.std.proofs.KnownBytes.{Appends-trans}
+use Rattle.std.proofs.KnownBytes.{Appends-trans, Consumes-trans}
 use Rattle.ledger_model.specs.declared.config.Config.{Config}
 use Rattle.adversary_net.specs.Clusters.{HasRun}
 use Rattle.adversary_net.specs.Headline.{IsUnforged, IsOneLedger}
 use Rattle.scenario_texts.specs.declared.fault.TextFault.{TextFault}
 use Rattle.scenario_texts.specs.declared.fault.TextFault.TheVariants as fault
-use Rattle.scenario_texts.specs.Lines.{Spells, IsBadAt}
+use Rattle.scenario_texts.specs.declared.scenario.Scenario.{Scenario}
+use Rattle.scenario_texts.specs.Lines.{Spells, IsBadAt, IsTooLarge}
 use Rattle.scenario_texts.specs.Plans.{Plan}
+use Rattle.scenario_texts.proofs.Sizes.{bad_anyway, large_spells_none}
 use Rattle.simulation.specs.Playing.{Simulated, PlaysAll}
 use Rattle.settings.specs.declared.simulate.SimulateSettings.{SimulateSettings}
 use Rattle.program_streams.specs.Writing.{AppendsSome}
+use Rattle.program.specs.declared.scenario_input.ScenarioInput.{ScenarioInput}
+use Rattle.program.specs.declared.scenario_input.ScenarioInput.TheVariants as input
 use Rattle.program.specs.declared.text_end.TextEnd.TheVariants.{Whole, BadLine}
-use Rattle.program.specs.Simulating.{IsConfigOf, Played, PlayedSome, PlaysText, PlaysTextSome, PlaysWritten, PlaysWrittenSome, bad_line, histories_of, if_wanted, opening}
+use Rattle.program.specs.Simulating.{IsBadAnyway, IsConfigOf, IsRead, Played, PlayedSome, PlaysText, PlaysTextSome, PlaysWritten, PlaysWrittenSome, bad_line, histories_of, if_wanted, opening}
 use Rattle.program_streams.proofs.WritingLemmas.{nothing_some, then_some}
 use Rattle.program.proofs.SimulatingLemmas.{written_nothing}
 
@@ -82,7 +86,7 @@ module _ (s : SimulateSettings) (p : Plan) (config : Config) (sized : IsConfigOf
 module _ (s : SimulateSettings) (input : List ℕ) (unread left before after : Option (List ℕ)) (read : Consumes unread left input) where
   -- the plan of the text was played
   pub simulated : (p : Plan) → Spells input p → IsAtEnd left → PlayedWritten s p before after → PlaysText s Whole unread left before after
-  simulated p spells to_end (text, (played, written)) = (to_end, record { input = input; text = text; goes_with = (p, (spells, played)); read = read; written = written })
+  simulated p spells to_end (text, (played, written)) = record { input = input; text = text; goes_with = (to_end, (p, (spells, played))); read = read; written = written }
 
   -- or begun
   pub simulated_part : (p : Plan) → Spells input p → PlayedBegun s p before after → PlaysTextSome s unread left before after
@@ -90,11 +94,32 @@ module _ (s : SimulateSettings) (input : List ℕ) (unread left before after : O
   simulated_part p spells (text, (inr played, written)) = record { input = input; text = text; goes_with = inr (Whole, (p, (spells, played))); read = read; written = written }
 
   -- its first bad line was told
-  pub told_bad : (n : ℕ) → IsBadAt input n → IsAtEnd left → Appends before after (bad_line n) → PlaysText s (BadLine n) unread left before after
-  told_bad n bad to_end written = (to_end, record { input = input; text = bad_line n; goes_with = (bad, refl); read = read; written = written })
+  pub told_bad : (n : ℕ) → IsBadAt input n → IsAtEnd left ⊎ IsBadAnyway input n → Appends before after (bad_line n) → PlaysText s (BadLine n) unread left before after
+  told_bad n bad shown written = record { input = input; text = bad_line n; goes_with = (shown, (bad, refl)); read = read; written = written }
 
   pub told_part : (n : ℕ) → IsBadAt input n → AppendsSome before after (bad_line n) → PlaysTextSome s unread left before after
   told_part n bad written = record { input = input; text = bad_line n; goes_with = inr (BadLine n, (bad, refl)); read = read; written = written }
+
+-- a text is read on
+pub read_on : (unread now left : Option (List ℕ)) (text piece : List ℕ) (n : ℕ) → Consumes unread now text → Consumes now left (take n piece) → Consumes unread left (text ++ take n piece)
+read_on unread now left text piece n so_far read = Consumes-trans unread now left text (take n piece) so_far read
+
+-- a text that was read to its end, or is too large, has its first bad line there or anyway
+pub bad_shown : (text : List ℕ) (left : Option (List ℕ)) (n : ℕ) → IsAtEnd left ⊎ IsTooLarge text → IsBadAt text n → IsAtEnd left ⊎ IsBadAnyway text n
+bad_shown text left n (inl to_end) bad = inl to_end
+bad_shown text left n (inr large) bad = inr (λ more. bad_anyway text more n large bad)
+
+-- one that spells a plan was read to its end
+pub spelled_whole : (text : List ℕ) (left : Option (List ℕ)) (p : Plan) → IsAtEnd left ⊎ IsTooLarge text → Spells text p → IsAtEnd left
+spelled_whole text left p (inl to_end) spells = to_end
+spelled_whole text left p (inr large) spells = absurd (large_spells_none text p large spells)
+
+-- what was read, where it is a scenario, and where it isn't
+pub scenario_read : (found : ScenarioInput) (scenario : Scenario) (unread left : Option (List ℕ)) → found ≡ input.Scenario scenario → IsRead found unread left → IsRead (input.Scenario scenario) unread left
+scenario_read found scenario unread left is read = subst (λ f. IsRead f unread left) is read
+
+pub bad_read : (found : ScenarioInput) (n : ℕ) (unread left : Option (List ℕ)) → found ≡ input.BadLine n → IsRead found unread left → IsRead (input.BadLine n) unread left
+bad_read found n unread left is read = subst (λ f. IsRead f unread left) is read
 
 -- nothing was written
 pub read_only : (s : SimulateSettings) (input : List ℕ) (unread left before : Option (List ℕ)) → Consumes unread left input → PlaysTextSome s unread left before before

@@ -33,7 +33,8 @@ abbrev pub Signs : SignSettings → List ℕ → List ℕ → Type 0
 Signs s input text = (input ≡ []) × (text ≡ frame_bytes (signed s))
 
 -- these settings were done over streams alone, with this status: `abft sign` wrote its frame, `abft deliver` read to the end of the
--- stream and wrote a line for each frame, `abft simulate` read to the end of the text and wrote what its scenario comes to
+-- stream and wrote a line for each frame, `abft simulate` read to the end of the text and wrote what its scenario comes to, or as far as the
+-- first bad line is the same one however the text goes on
 abbrev pub Done : Settings → ℕ → Option (List ℕ) → Option (List ℕ) → Option (List ℕ) → Option (List ℕ) → Type 0
 Done (settings.Sign s) status unread left before after = (status ≡ 0) × Responds (Signs s) unread left before after
 Done (settings.Deliver s) status unread left before after = (end : StreamEnd) × ((status ≡ status_of_stream end) × DeliversStream s end unread left before after)

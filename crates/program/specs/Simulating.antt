@@ -1,7 +1,7 @@
 -- What `abft simulate` writes of a scenario.
 use Rattle.std.specs.Prelude.{◌≡◌, ◌⊎◌, ℕ, Bool, not, List, [], ◌∷◌, ◌++◌, codes, decimal, Option, Result, MatchResult, unwrap_or, if◌then◌else◌}
 use Rattle.std.specs.List.{flat_map}
-use Rattle.std.specs.Io.KnownBytes.{Appends, IsAtEnd}
+use Rattle.std.specs.Io.KnownBytes.{Appends, Consumes, IsAtEnd}
 use Rattle.ledger_model.specs.declared.config.Config.{Config}
 use Rattle.cluster_keys.specs.declared.cluster.Cluster.{Cluster}
 use Rattle.cluster_keys.specs.Keys.{secret_of}
@@ -10,12 +10,15 @@ use Rattle.adversary_net.specs.Headline.{IsUnforged, IsOneLedger}
 use Rattle.adversary_net.specs.Openings.{new_cluster}
 use Rattle.history_bytes.specs.Histories.{history_bytes}
 use Rattle.scenario_texts.specs.declared.command.Command.{Command}
-use Rattle.scenario_texts.specs.Plans.{Plan, small_keys}
+use Rattle.scenario_texts.specs.Lawful.{IsPlan}
+use Rattle.scenario_texts.specs.Plans.{Plan, plan_of, small_keys}
 use Rattle.scenario_texts.specs.Lines.{Spells, IsBadAt}
 use Rattle.simulation.specs.Playing.{Simulated, PlaysAll}
 use Rattle.settings.specs.declared.simulate.SimulateSettings.{SimulateSettings}
 use Rattle.program_streams.specs.Writing.{AppendsSome}
 use Rattle.program_streams.specs.Responding.{Responds, RespondsSome}
+use Rattle.program.specs.declared.scenario_input.ScenarioInput.{ScenarioInput}
+use Rattle.program.specs.declared.scenario_input.ScenarioInput.TheVariants as input
 use Rattle.program.specs.declared.text_end.TextEnd.{TextEnd}
 use Rattle.program.specs.declared.text_end.TextEnd.TheVariants.{Whole, BadLine}
 
@@ -78,9 +81,18 @@ Simulates s input (BadLine n) text = IsBadAt input n × (text ≡ bad_line n)
 abbrev pub SimulatesSome : SimulateSettings → List ℕ → List ℕ → Type 0
 SimulatesSome s input text = (text ≡ []) ⊎ ((p : Plan) × (Spells input p × PlayedSome s p text))
 
--- a text was read to its end, and what is printed of it was written
+-- line n is the first bad one however the text goes on
+abbrev pub IsBadAnyway : List ℕ → ℕ → Type 0
+IsBadAnyway input n = (more : List ℕ) → IsBadAt (input ++ more) n
+
+-- to find a scenario all that there is was read; where a line is bad anyway some may be left
+abbrev pub IsReadFor : TextEnd → List ℕ → Option (List ℕ) → Type 0
+IsReadFor Whole input left = IsAtEnd left
+IsReadFor (BadLine n) input left = IsAtEnd left ⊎ IsBadAnyway input n
+
+-- a text was read as far as its end shows, and what is printed of it was written
 abbrev pub PlaysText : SimulateSettings → TextEnd → Option (List ℕ) → Option (List ℕ) → Option (List ℕ) → Option (List ℕ) → Type 0
-PlaysText s end unread left before after = IsAtEnd left × Responds (λ input text. Simulates s input end text) unread left before after
+PlaysText s end unread left before after = Responds (λ input text. IsReadFor end input left × Simulates s input end text) unread left before after
 
 -- some of it was read, and a beginning of what is printed of that was written
 abbrev pub PlaysTextSome : SimulateSettings → Option (List ℕ) → Option (List ℕ) → Option (List ℕ) → Option (List ℕ) → Type 0
@@ -88,6 +100,12 @@ PlaysTextSome s unread left before after =
     RespondsSome (λ input text. SimulatesSome s input text ⊎ ((end : TextEnd) × Simulates s input end text)) unread left before after
 
 -- ---- what calls say
+
+-- what was read of a stream is a scenario, or its first bad line has this number
+abbrev pub IsRead : ScenarioInput → Option (List ℕ) → Option (List ℕ) → Type 0
+IsRead (input.Scenario scenario) unread left =
+    (text : List ℕ) × (Consumes unread left text × (IsAtEnd left × (Spells text (plan_of scenario) × IsPlan (plan_of scenario))))
+IsRead (input.BadLine n) unread left = (text : List ℕ) × (Consumes unread left text × ((IsAtEnd left ⊎ IsBadAnyway text n) × IsBadAt text n))
 
 -- commands were played, and their lines written, if they are wanted
 abbrev pub PlaysWritten : Bool → Simulated → List Command → Simulated → Option (List ℕ) → Option (List ℕ) → Type 0

@@ -12,6 +12,7 @@ mod playing;
 mod printing;
 mod replica;
 mod running;
+mod scenario_input;
 mod simulating;
 mod stream_end;
 mod text_end;

@@ -22,15 +22,18 @@ fn running_line(alloc: Global, running: &ClusterSettings) -> Result<String, Allo
     let cluster = cluster_line(alloc, &running.cluster)?;
     let tx = running.tx.as_bytes();
     format!(in alloc;
-        "{cluster} {tx:?} {} {} {}",
-        running.rounds, running.base_ms, running.is_quiet
+        "{cluster} {tx:?} {} {} {} {}",
+        running.rounds, running.base_ms, running.is_quiet, running.stops_at_eof
     )
 }
 
 /// The settings of `abft serve`, as a line.
 fn serving_line(alloc: Global, serve: &ServeSettings) -> Result<String, AllocError> {
     let running = running_line(alloc, &serve.cluster)?;
-    format!(in alloc; "{running}, {} {}", serve.port, serve.sessions)
+    format!(in alloc;
+        "{running}, {} {} {}",
+        serve.port, serve.sessions, serve.client_entries
+    )
 }
 
 /// What the words set, as a line.
@@ -65,20 +68,20 @@ fn the_words_of_cluster_and_serve_set_each_option(rt: HostRuntime) {
     for &(words, line) in &[
         (
             "abft cluster",
-            "4 1 KvStore W4 32 0 [97, 61, 49] 40 200 false",
+            "4 1 KvStore W4 32 0 [97, 61, 49] 40 200 false false",
         ),
         (
-            "abft cluster --n 7 --t=2 --kind 3 --w 8 --tree 10 --seed 0000000000000000000000000000000000000000000000000000000000000011 \
+            "abft cluster --n 7 --t=2 --kind 2 --w 8 --tree 10 --seed 0000000000000000000000000000000000000000000000000000000000000011 \
              --tx \\00 --rounds 4000000000 --base-ms 60000 --quiet",
-            "7 2 Purse W8 1024 17 [0] 4000000000 60000 true",
+            "7 2 Counter W8 1024 17 [0] 4000000000 60000 true false",
         ),
         (
             "abft serve",
-            "4 1 KvStore W4 32 0 [97, 61, 49] 40 200 false, 0 1",
+            "4 1 KvStore W4 32 0 [97, 61, 49] 40 200 false false, 0 1 32768",
         ),
         (
-            "abft serve --n 13 --tx b=2 --rounds 0 --base-ms 1 --quiet --port 65535 --sessions 1000",
-            "13 1 KvStore W4 32 0 [98, 61, 50] 0 1 true, 65535 1000",
+            "abft serve --n 13 --tx b=2 --rounds 0 --base-ms 1 --stop-at-eof --port 65535 --sessions 1000 --client-entries 65536",
+            "13 1 KvStore W4 32 0 [98, 61, 50] 0 1 false true, 65535 1000 65536",
         ),
     ] {
         assert!(rt; is_told_of(rt.alloc(), words, line), "{line}");

@@ -9,17 +9,17 @@ fn set(alloc: Global, words: &[&str]) -> Option<Settings> {
     settings(alloc, words).ok()
 }
 
-/// The application of the cluster of `abft deliver`.
+/// The application of the cluster of `abft sign`.
 fn kind_in(settings: &Settings) -> Option<AppKind> {
     match settings {
-        Settings::Deliver(deliver) => Some(deliver.cluster.config.kind),
+        Settings::Sign(sign) => Some(sign.cluster.config.kind),
         _ => None,
     }
 }
 
 /// The application of this number, if it is one's.
 fn kind_of(alloc: Global, word: &str) -> Option<AppKind> {
-    let settings = set(alloc, &["abft", "deliver", "--kind", word])?;
+    let settings = set(alloc, &["abft", "sign", "ack", "--kind", word])?;
     kind_in(&settings)
 }
 

@@ -1,3 +1,5 @@
 pub mod Turns
 pub mod Rounds
 pub mod Own
+pub mod Clients
+pub mod Waiting

@@ -1,9 +1,10 @@
 //! When rounds end: each lasts a base time, and a millisecond more than the one before it.
 //!
-//! Round end r is due `r * base + r * (r + 1) / 2` milliseconds after the start. [`due`] tells how many ends are due by now.
+//! Round end r is due `r * base + r * (r + 1) / 2` milliseconds after the start. [`due`] tells how many ends are due by now,
+//! [`until_due`] how long it is to the next.
 #![tactic(auto)]
 
-ghost use Rattle.std.specs.Prelude.{◌≡◌, ◌≤◌, ◌<◌, ◌+◌, ◌^◌, ℕ, nat_le};
+ghost use Rattle.std.specs.Prelude.{◌≡◌, ◌≤◌, ◌<◌, ◌+◌, ◌-◌, ◌^◌, ℕ, min, nat_le};
 ghost use Rattle.round_pacer.specs.Pacing.{due_at, max_due};
 
 /// The most round ends that [`due`] answers at once.
@@ -33,12 +34,27 @@ pub fn due(start: u64, now: u64, base_ms: u32, ended: u32) -> u32
     low
 }
 
+/// Milliseconds from `now` until the end of round `ended + 1` is due: 0 if it is due already, and at most 2^64 - 1.
+pub fn until_due(start: u64, now: u64, base_ms: u32, ended: u32) -> u64
+    ensures { result ≡ min (due_at start base_ms (ended + 1) - now) (2 ^ 64 - 1) }
+{
+    let due_at = due_at(start, base_ms, u64::from(ended) + 1);
+    u64::try_from(due_at.saturating_sub(u128::from(now))).unwrap_or(u64::MAX)
+}
+
+/// When the end of this round is due.
+fn due_at(start: u64, base_ms: u32, round: u64) -> u128
+    requires { round < 2 ^ 33 }
+    ensures { result ≡ due_at start base_ms round }
+{
+    let round = u128::from(round);
+    u128::from(start) + round * u128::from(base_ms) + round * (round + 1) / 2
+}
+
 /// Whether the end of this round is due.
 fn is_due(start: u64, now: u64, base_ms: u32, round: u64) -> bool
     requires { round < 2 ^ 33 }
     ensures { result ≡ nat_le (due_at start base_ms round) now }
 {
-    let round = u128::from(round);
-    let due_at = u128::from(start) + round * u128::from(base_ms) + round * (round + 1) / 2;
-    due_at <= u128::from(now)
+    due_at(start, base_ms, round) <= u128::from(now)
 }

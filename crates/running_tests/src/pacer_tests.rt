@@ -1,8 +1,8 @@
 //! When rounds end, by the millisecond.
-use round_pacer::due;
+use round_pacer::{due, until_due};
 
 /// A start, the time, the base time, the ends that were, and how many more are due.
-const CASES: [(u64, u64, u32, u32, u32); 12] = [
+const CASES: [(u64, u64, u32, u32, u32); 16] = [
     // With a base of 200 the ends are due 201, 403, 606 and 810 milliseconds after the start.
     (1000, 1200, 200, 0, 0),
     (1000, 1201, 200, 0, 1),
@@ -16,6 +16,11 @@ const CASES: [(u64, u64, u32, u32, u32); 12] = [
     // The fortieth end.
     (0, 8819, 200, 0, 39),
     (0, 8820, 200, 0, 40),
+    // With a base of 100 the third end is due after 306 milliseconds.
+    (0, 305, 100, 0, 2),
+    (0, 306, 100, 0, 3),
+    (0, 526_850, 1, 0, 1024),
+    (0, 526_850, 1, 1000, 25),
     // After a long pause as many as can be answered.
     (0, u64::MAX, 60_000, 5, 1024),
     (0, 525_823, 1, 0, 1023),
@@ -25,5 +30,23 @@ const CASES: [(u64, u64, u32, u32, u32); 12] = [
 fn ends_are_due_by_the_millisecond(rt: HostRuntime) {
     for &(start, now, base, ended, wanted) in &CASES {
         assert_eq!(rt; due(start, now, base, ended), wanted, "{now} {ended}");
+    }
+}
+
+/// A start, the time, the base time, the ends that were, and how long it is to the next.
+const PAUSES: [(u64, u64, u32, u32, u64); 6] = [
+    (1000, 1000, 200, 0, 201),
+    (1000, 1200, 200, 0, 1),
+    (1000, 1201, 200, 0, 0),
+    (1000, 1201, 200, 1, 202),
+    // A clock that was set back, and an end that no number of milliseconds reaches.
+    (1000, 500, 200, 0, 701),
+    (u64::MAX, 0, 1, 0, u64::MAX),
+];
+
+#[test]
+fn the_next_end_is_awaited_by_the_millisecond(rt: HostRuntime) {
+    for &(start, now, base, ended, wanted) in &PAUSES {
+        assert_eq!(rt; until_due(start, now, base, ended), wanted, "{now} {ended}");
     }
 }

@@ -31,12 +31,12 @@ unfolding run
 started text = record { lines = []; whole = refl; unbroken = tt; numbered = omega arith; few = omega arith; short = tt; read = refl; shows = refl }
 
 -- one of which each holds more
-each_more : (P : List ℕ → Type 0) (xs : List (List ℕ)) (x : List ℕ) → AllByRecursion P xs → P x → AllByRecursion P (xs ++ x ∷ [])
+pub each_more : (P : List ℕ → Type 0) (xs : List (List ℕ)) (x : List ℕ) → AllByRecursion P xs → P x → AllByRecursion P (xs ++ x ∷ [])
 each_more P [] x all one = (one, tt)
 each_more P (y ∷ xs) x (first, all) one = (first, each_more P xs x all one)
 
 -- the text with a line more
-whole_more : (text : List ℕ) (lines : List (List ℕ)) (left line rest : List ℕ) → text ≡ flat_map ended lines ++ left → left ≡ line ++ 10 ∷ rest → text ≡ flat_map ended (lines ++ line ∷ []) ++ rest
+pub whole_more : (text : List ℕ) (lines : List (List ℕ)) (left line rest : List ℕ) → text ≡ flat_map ended lines ++ left → left ≡ line ++ 10 ∷ rest → text ≡ flat_map ended (lines ++ line ∷ []) ++ rest
 whole_more text lines left line rest whole cut =
     whole ∙ ap (λ l. flat_map ended lines ++ l) (cut ∙ sym (append_assoc line (10 ∷ []) rest))
     ∙ sym (append_assoc (flat_map ended lines) (ended line) rest)
@@ -88,7 +88,7 @@ going_on text left number None going = record { short = going.short; begun = inl
 going_on text left number (Some p) going = record { short = going.short; begun = inr (p, going.shows) }
 
 -- a text has one first line
-first_same : (a b x y : List ℕ) → IsUnbroken a → IsUnbroken b → a ++ 10 ∷ x ≡ b ++ 10 ∷ y → (a ≡ b) × (x ≡ y)
+pub first_same : (a b x y : List ℕ) → IsUnbroken a → IsUnbroken b → a ++ 10 ∷ x ≡ b ++ 10 ∷ y → (a ≡ b) × (x ≡ y)
 first_same [] [] x y p q e = (refl, cc)
 first_same [] (c ∷ b) x y p q e = let bad : c ≡ 10 = cc in absurd (All-head (λ d. d ≢ 10) c b q bad)
 first_same (c ∷ a) [] x y p q e = let bad : c ≡ 10 = cc in absurd (All-head (λ d. d ≢ 10) c a p bad)
@@ -119,7 +119,7 @@ rest_of_lines (l ∷ lines) (o ∷ others) left (p, u) (q, v) e =
     (more, (cc (same, tails), ends))
 
 -- the second part, of which each holds
-each_second : (P : List ℕ → Type 0) (xs ys : List (List ℕ)) → AllByRecursion P (xs ++ ys) → AllByRecursion P ys
+pub each_second : (P : List ℕ → Type 0) (xs ys : List (List ℕ)) → AllByRecursion P (xs ++ ys) → AllByRecursion P ys
 each_second P [] ys all = all
 each_second P (x ∷ xs) ys (first, all) = each_second P xs ys all
 
@@ -207,7 +207,7 @@ bad_line text left number s line rest going cut unbroken bad = (
 )
 
 -- an unbroken text is no ended line
-not_ended : (line after : List ℕ) → IsUnbroken (ended line ++ after) → ⊥
+pub not_ended : (line after : List ℕ) → IsUnbroken (ended line ++ after) → ⊥
 not_ended [] after u = All-head (λ d. d ≢ 10) 10 after u refl
 not_ended (c ∷ line) after u = not_ended line after (All-tail (λ d. d ≢ 10) c (ended line ++ after) u)
 

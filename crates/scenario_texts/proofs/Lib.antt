@@ -13,3 +13,4 @@ mod CommandAgain
 mod LineReading
 mod Runs
 mod Endings
+pub mod Sizes

@@ -1,6 +1,7 @@
 -- The lines of a text, and what text spells a plan.
-use Rattle.std.specs.Prelude.{◌≡◌, ◌≢◌, ◌⊎◌, ℕ, ◌+◌, ◌≤◌, ◌==◌, not, Bool, false, List, [], ◌∷◌, ◌++◌, length, filter}
+use Rattle.std.specs.Prelude.{◌≡◌, ◌≢◌, ◌⊎◌, ℕ, ◌+◌, ◌<◌, ◌≤◌, ◌==◌, not, Bool, true, false, List, [], ◌∷◌, ◌++◌, length, filter}
 use Rattle.std.specs.List.{flat_map, All, AllByRecursion}
+use Rattle.scenario_texts.specs.declared.line_count.LineCount.{LineCount}
 use Rattle.scenario_texts.specs.Plans.{Plan}
 use Rattle.scenario_texts.specs.Texts.{plan_lines}
 use Rattle.scenario_texts.specs.Lawful.{IsPlan}
@@ -43,6 +44,31 @@ pub record Spells (text : List ℕ) (p : Plan) : Type 0 where
   pub short : AllByRecursion IsShort lines
   pub those : counted lines ≡ plan_lines p
   pub lawful : IsPlan p
+
+-- the text has so many lines that are ended, and so many bytes behind the last line feed
+pub record HasLines (text : List ℕ) (count : LineCount) : Type 0 where
+  pub lines : List (List ℕ)
+  pub rest : List ℕ
+  pub whole : text ≡ flat_map ended lines ++ rest
+  pub unbroken : AllByRecursion IsUnbroken lines
+  pub under_way : IsUnbroken rest
+  pub ended : length lines ≡ count.ended
+  pub long : length rest ≡ count.under_way
+
+-- a line of the text has too many bytes, or something stands behind the last line that a text may have
+pub record IsTooLarge (text : List ℕ) : Type 0 where
+  pub lines : List (List ℕ)
+  pub line : List ℕ
+  pub after : List ℕ
+  pub whole : text ≡ flat_map ended lines ++ (line ++ after)
+  pub unbroken : AllByRecursion IsUnbroken lines
+  pub begun : IsUnbroken line
+  pub bad : (max_line_len < length line) ⊎ ((max_lines ≤ length lines) × (1 ≤ length (line ++ after)))
+
+-- the text is not too large, and these are its lines; or it is
+abbrev pub IsCounted : Bool → List ℕ → LineCount → Type 0
+IsCounted true text count = HasLines text count
+IsCounted false text count = IsTooLarge text
 
 -- so far nothing is wrong: none of these lines counts, or some plan has those that do
 pub record GoesOn (lines : List (List ℕ)) : Type 0 where

@@ -7,6 +7,7 @@ mod command_reading;
 mod fault;
 mod fields;
 mod keyword;
+mod line_count;
 mod line_reading;
 mod reading;
 mod scenario;
@@ -14,5 +15,6 @@ mod setup_reading;
 
 pub use command::{Command, Lie, Towards};
 pub use fault::TextFault;
+pub use line_count::LineCount;
 pub use reading::read;
 pub use scenario::{Scenario, Setup};

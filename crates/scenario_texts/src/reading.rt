@@ -11,10 +11,10 @@ use crate::scenario::Scenario;
 use std::alloc::Global;
 
 /// The most lines of a text.
-const MAX_LINES: u32 = 10_000;
+pub(crate) const MAX_LINES: u32 = 10_000;
 
 /// The most bytes of a line, but for its line feed.
-const MAX_LINE_LEN: usize = 400_000;
+pub(crate) const MAX_LINE_LEN: usize = 400_000;
 
 /// The first line, without its line feed, and what follows it, if a line feed is there.
 fn first_line(text: &[u8]) -> Option<(&[u8], &[u8])>

@@ -16,6 +16,8 @@ pub struct ClusterSettings {
     pub base_ms: u32,
     /// Whether nothing of its progress is told on a terminal.
     pub is_quiet: bool,
+    /// Whether the end of standard input ends the rounds.
+    pub stops_at_eof: bool,
     ghost of_base: { (1 ≤ base_ms) × (base_ms ≤ 60000) },
 }
 
@@ -27,5 +29,8 @@ pub struct ServeSettings {
     pub port: u16,
     /// How many connections are taken.
     pub sessions: u32,
+    /// How many entries of each replica's history its clients may use.
+    pub client_entries: u32,
     ghost of_sessions: { (1 ≤ sessions) × (sessions ≤ 1000) },
+    ghost of_client_entries: { client_entries ≤ 65536 },
 }

@@ -1,6 +1,11 @@
--- as many as replicas that were made
+-- one replica for each number so far, and the key pairs of the others are left
 use Rattle.std.proofs.Common.{◌≡◌, vec_len}
+use Rattle.std.specs.Vec.Iter.{into_iter_items}
+use Rattle.cluster_keys.proofs.SignersLeft.{signers_from}
 use Rattle.cluster_service.proofs.replicas.new_replicas.Given as goal
 
 abbrev pub invariant-loop-id : goal.invariant-loop-id
-invariant-loop-id g l = vec_len l.states ≡ l.id
+invariant-loop-id g l = record {
+  states : vec_len l.states ≡ l.id;
+  signers : into_iter_items l.signers ≡ signers_from l.cluster l.id;
+}

@@ -1,11 +1,18 @@
-use Rattle.std.proofs.Common.{codes}
+use Rattle.std.proofs.Common.{◌≡◌, ◌∙◌, Some, rules, sym}
+use Rattle.std.proofs.lemmas.Option.{same_Some}
 use Rattle.clap.specs.Words.{found_of, rows_of}
-use Rattle.lm_ots.specs.Parameters.{levels_of}
-use Rattle.lm_ots.specs.declared.params.TreeHeight.{TreeHeight}
-use Rattle.command_line.specs.Options.{IsNumber}
-use Rattle.command_line.proofs.NumberLemmas.{on_err}
+use Rattle.command_line.proofs.NumberLemmas.{none_some, no_tree_height}
 use Rattle.command_line.proofs.options.tree_height.Goals as goal
+use Rattle.command_line.proofs.options.tree_height.Goals.{in_default-via-in-Some+in_default, in_default-via-in_default}
 
-pub returns-in_err-number-clause-none : goal.returns-in_err-number-clause-none
-returns-in_err-number-clause-none c =
-    on_err {X = (h : TreeHeight) → IsNumber (rows_of (found_of c.args.matches.now)) (codes "tree") 5 10 (levels_of h) → ⊥} _ (λ h i. c.in_err-number.ensures.none (levels_of h) i)
+pub returns-in_default-clause-none : goal.returns-in_default-clause-none
+returns-in_default-clause-none c =
+    let not_one : c.ok.result ≡ Some 5 → ⊥ = elim c.in_default.branch [
+      | in_default-via-in-Some+in_default w ↦ λ e. let n : w.in_default.field-0 ≡ 5 = same_Some w.in_default.field-0 5 (sym w.in_default.is ∙ e) in search (rules, n)
+      | in_default-via-in_default w ↦ λ e. none_some 5 (sym w.in_default.is ∙ e)
+    ] in
+    let not_other : c.ok.result ≡ Some 10 → ⊥ = elim c.in_default.branch [
+      | in_default-via-in-Some+in_default w ↦ λ e. let n : w.in_default.field-0 ≡ 10 = same_Some w.in_default.field-0 10 (sym w.in_default.is ∙ e) in search (rules, n)
+      | in_default-via-in_default w ↦ λ e. none_some 10 (sym w.in_default.is ∙ e)
+    ] in
+    no_tree_height (rows_of (found_of c.args.matches.now)) c.number.result c.number.ensures.some c.number.ensures.none (λ e. not_one (c.ok.ensures.value ∙ e)) (λ e. not_other (c.ok.ensures.value ∙ e))

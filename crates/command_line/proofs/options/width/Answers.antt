@@ -1,11 +1,18 @@
-use Rattle.std.proofs.Common.{codes}
+use Rattle.std.proofs.Common.{◌≡◌, ◌∙◌, Some, rules, sym}
+use Rattle.std.proofs.lemmas.Option.{same_Some}
 use Rattle.clap.specs.Words.{found_of, rows_of}
-use Rattle.lm_ots.specs.Parameters.{bits_of}
-use Rattle.lm_ots.specs.declared.params.Width.{Width}
-use Rattle.command_line.specs.Options.{IsNumber}
-use Rattle.command_line.proofs.NumberLemmas.{on_err}
+use Rattle.command_line.proofs.NumberLemmas.{none_some, no_width}
 use Rattle.command_line.proofs.options.width.Goals as goal
+use Rattle.command_line.proofs.options.width.Goals.{in_default-via-in-Some+in_default, in_default-via-in_default}
 
-pub returns-in_err-number-clause-none : goal.returns-in_err-number-clause-none
-returns-in_err-number-clause-none c =
-    on_err {X = (w : Width) → IsNumber (rows_of (found_of c.args.matches.now)) (codes "w") 4 8 (bits_of w) → ⊥} _ (λ w i. c.in_err-number.ensures.none (bits_of w) i)
+pub returns-in_default-clause-none : goal.returns-in_default-clause-none
+returns-in_default-clause-none c =
+    let not_one : c.ok.result ≡ Some 4 → ⊥ = elim c.in_default.branch [
+      | in_default-via-in-Some+in_default w ↦ λ e. let n : w.in_default.field-0 ≡ 4 = same_Some w.in_default.field-0 4 (sym w.in_default.is ∙ e) in search (rules, n)
+      | in_default-via-in_default w ↦ λ e. none_some 4 (sym w.in_default.is ∙ e)
+    ] in
+    let not_other : c.ok.result ≡ Some 8 → ⊥ = elim c.in_default.branch [
+      | in_default-via-in-Some+in_default w ↦ λ e. let n : w.in_default.field-0 ≡ 8 = same_Some w.in_default.field-0 8 (sym w.in_default.is ∙ e) in search (rules, n)
+      | in_default-via-in_default w ↦ λ e. none_some 8 (sym w.in_default.is ∙ e)
+    ] in
+    no_width (rows_of (found_of c.args.matches.now)) c.number.result c.number.ensures.some c.number.ensures.none (λ e. not_one (c.ok.ensures.value ∙ e)) (λ e. not_other (c.ok.ensures.value ∙ e))

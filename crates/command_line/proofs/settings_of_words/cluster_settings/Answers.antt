@@ -1,7 +1,8 @@
+use Rattle.std.proofs.Common.{codes, subst}
 use Rattle.clap.specs.Words.{found_of, rows_of}
-use Rattle.command_line.specs.Options.{SetsRunning, WantsMemory}
+use Rattle.command_line.specs.Options.{IsAccepted, SetsRunning, WantsMemory}
 use Rattle.settings.specs.declared.cluster.ClusterSettings.{ClusterSettings}
-use Rattle.command_line.proofs.NumberLemmas.{if_err}
+use Rattle.command_line.proofs.NumberLemmas.{if_err, same_kind}
 use Rattle.clap.proofs.TakesLemmas.{passed_up}
 use Rattle.command_line.proofs.settings_of_words.cluster_settings.Goals as goal
 
@@ -13,4 +14,16 @@ returns-in_err-base_ms-clause-none c = if_err {P = λ e. (s : ClusterSettings) �
 
 pub returns-in_err-tx-clause-none : goal.returns-in_err-tx-clause-none
 returns-in_err-tx-clause-none c =
-    passed_up _ c.in_err-tx.field-0.0 (λ e. (s : ClusterSettings) → SetsRunning (rows_of (found_of c.args.matches.now)) s → WantsMemory e) c.from_residual-in_err-tx.ensures.1 (λ s i. c.in_err-tx.ensures.none s.tx i.tx)
+    passed_up _ c.in_err-tx.field-0.0 (λ e. (s : ClusterSettings) → SetsRunning (rows_of (found_of c.args.matches.now)) s → WantsMemory e) c.from_residual-in_err-tx.ensures.1 (λ s i.
+    c.in_err-tx.ensures.none s.tx
+    (subst (λ k. IsAccepted (rows_of (found_of c.args.matches.now)) (codes "tx") k s.tx) (same_kind _ s.cluster c.in_ok-cluster.cluster i.cluster c.in_ok-cluster.ensures.some) i.tx))
+
+pub returns-clause-some : goal.returns-clause-some
+returns-clause-some c = record {
+  cluster = c.in_ok-cluster.ensures.some;
+  tx = c.in_ok-tx.ensures.some;
+  rounds = c.in_ok-rounds.ensures.some;
+  base = c.in_ok-base_ms.ensures.some;
+  quiet = c.is_named.ensures;
+  stops = c.is_named-2.ensures;
+}

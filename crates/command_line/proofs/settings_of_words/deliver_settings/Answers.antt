@@ -1,8 +1,8 @@
 use Rattle.std.proofs.Common.{◌≡◌, ◌-◌, codes, subst}
 use Rattle.clap.specs.Words.{found_of, rows_of}
-use Rattle.command_line.specs.Options.{IsNumber, SetsDeliver, WantsMemory}
+use Rattle.command_line.specs.Options.{IsAccepted, IsNumber, SetsDeliver, WantsMemory}
 use Rattle.settings.specs.declared.deliver.DeliverSettings.{DeliverSettings}
-use Rattle.command_line.proofs.NumberLemmas.{if_err, one_number}
+use Rattle.command_line.proofs.NumberLemmas.{if_err, one_number, same_kind}
 use Rattle.clap.proofs.TakesLemmas.{passed_up}
 use Rattle.command_line.proofs.settings_of_words.deliver_settings.Goals as goal
 
@@ -20,4 +20,6 @@ returns-in_err-rounds-clause-none c = if_err {P = λ e. (s : DeliverSettings) �
 
 pub returns-in_err-value-clause-none : goal.returns-in_err-value-clause-none
 returns-in_err-value-clause-none c =
-    passed_up _ c.in_err-value.field-0.0 (λ e. (s : DeliverSettings) → SetsDeliver (rows_of (found_of c.args.matches.now)) s → WantsMemory e) c.from_residual-in_err-value.ensures.1 (λ s i. c.in_err-value.ensures.none s.value i.value)
+    passed_up _ c.in_err-value.field-0.0 (λ e. (s : DeliverSettings) → SetsDeliver (rows_of (found_of c.args.matches.now)) s → WantsMemory e) c.from_residual-in_err-value.ensures.1 (λ s i.
+    c.in_err-value.ensures.none s.value
+    (subst (λ k. IsAccepted (rows_of (found_of c.args.matches.now)) (codes "value") k s.value) (same_kind _ s.cluster c.in_ok-cluster.cluster i.cluster c.in_ok-cluster.ensures.some) i.value))

@@ -8,4 +8,4 @@ returns-in-Ok-clause-found c = rows_are c.in-Ok.matches (app_of c.in_ok-command.
 
 pub returns-in-Err-clause-refused : goal.returns-in-Err-clause-refused
 returns-in-Err-clause-refused c = λ taken.
-    c.in-Err.ensures.passes (ap (λ a. takes a (map (λ w. w.now) c.args.words.now)) c.in_ok-command.ensures ∙ taken)
+    c.fault_of.ensures.memory (c.in-Err.ensures.passes (ap (λ a. takes a (map (λ w. w.now) c.args.words.now)) c.in_ok-command.ensures ∙ taken))

@@ -14,3 +14,7 @@ returns-in_err-port-clause-none c = if_err {P = λ e. (s : ServeSettings) → Se
 
 pub returns-in_err-sessions-clause-none : goal.returns-in_err-sessions-clause-none
 returns-in_err-sessions-clause-none c = if_err {P = λ e. (s : ServeSettings) → SetsServe (rows_of (found_of c.args.matches.now)) s → WantsMemory e} _ (λ e s i. absurd (c.in_err-sessions.ensures.none s.sessions i.sessions))
+
+pub returns-in_err-client_entries-clause-none : goal.returns-in_err-client_entries-clause-none
+returns-in_err-client_entries-clause-none c =
+    if_err {P = λ e. (s : ServeSettings) → SetsServe (rows_of (found_of c.args.matches.now)) s → WantsMemory e} _ (λ e s i. absurd (c.in_err-client_entries.ensures.none s.client_entries i.entries))

@@ -1,20 +1,11 @@
-use Rattle.std.proofs.Common.{◌≡◌, [], length, map, sym, ap, subst, ◌∙◌, arith}
-use Rattle.std.specs.List.{range_with_len}
+use Rattle.std.proofs.Common.{◌≡◌, [], length, sym, ap, subst, ◌∙◌, arith}
 use Rattle.std.specs.Vec.Iter.{into_iter_items}
 use Rattle.std.proofs.lemmas.List.Elements.{All-same}
 use Rattle.ledger_model.specs.Applications.{run}
-use Rattle.key_ring.specs.Signers.{Keys, key_of}
 use Rattle.cluster_keys.specs.Keys.{secret_of}
 use Rattle.adversary_net.specs.Clusters.{IsCluster, world_of}
-use Rattle.adversary_net.specs.Openings.{ring_of}
-use Rattle.adversary_net.proofs.Beginning.{new_is, new_is_cluster, new_world, correct_replicas, ring_is}
+use Rattle.adversary_net.proofs.Beginning.{new_is, new_is_cluster, new_world, correct_replicas}
 use Rattle.adversary_net.proofs.world.World.new.Goals as goal
-
-pub parties_of-requires-clause-ring : goal.parties_of-requires-clause-ring
-parties_of-requires-clause-ring g c =
-    let ring : c.in_ok-ring.ring ≡ ring_of c.args.cluster.now.config (secret_of c.args.cluster.now) =
-    c.in_ok-ring.ensures ∙ ap (map (λ (keys : Keys). key_of keys.secret)) (c.deref.ensures.value ∙ c.in_ok-signers.ensures) ∙ ring_is (secret_of c.args.cluster.now) (range_with_len 0 c.args.cluster.now.config.replicas) in
-    ring
 
 pub parties_of-requires-clause-supply : goal.parties_of-requires-clause-supply
 parties_of-requires-clause-supply g c =
@@ -27,23 +18,17 @@ parties_of-requires-clause-supply g c =
 
 pub invariant_of-result : goal.invariant_of-result
 invariant_of-result g c =
-    let ring : c.in_ok-ring.ring ≡ ring_of c.args.cluster.now.config (secret_of c.args.cluster.now) =
-    c.in_ok-ring.ensures ∙ ap (map (λ (keys : Keys). key_of keys.secret)) (c.deref.ensures.value ∙ c.in_ok-signers.ensures) ∙ ring_is (secret_of c.args.cluster.now) (range_with_len 0 c.args.cluster.now.config.replicas) in
-    let is = new_is c.args.cluster.now.config (secret_of c.args.cluster.now) c.args.liars.now c.in_ok-ring.ring c.in_ok-parties_of.field-0.items c.new.result.items ring c.in_ok-parties_of.ensures c.new.ensures.items in
+    let is = new_is c.args.cluster.now.config (secret_of c.args.cluster.now) c.args.liars.now c.in_ok-signers.field-0.ring c.in_ok-parties_of.field-0.items c.new.result.items c.in_ok-signers.ensures.ring c.in_ok-parties_of.ensures c.new.ensures.items in
     subst IsCluster (sym is) (new_is_cluster c.args.cluster.now.config (secret_of c.args.cluster.now) c.args.liars.now c.in_ok-check_liars.ensures.may.few)
 
 pub returns-clause-new : goal.returns-clause-new
 returns-clause-new g c =
-    let ring : c.in_ok-ring.ring ≡ ring_of c.args.cluster.now.config (secret_of c.args.cluster.now) =
-    c.in_ok-ring.ensures ∙ ap (map (λ (keys : Keys). key_of keys.secret)) (c.deref.ensures.value ∙ c.in_ok-signers.ensures) ∙ ring_is (secret_of c.args.cluster.now) (range_with_len 0 c.args.cluster.now.config.replicas) in
-    let is = new_is c.args.cluster.now.config (secret_of c.args.cluster.now) c.args.liars.now c.in_ok-ring.ring c.in_ok-parties_of.field-0.items c.new.result.items ring c.in_ok-parties_of.ensures c.new.ensures.items in
+    let is = new_is c.args.cluster.now.config (secret_of c.args.cluster.now) c.args.liars.now c.in_ok-signers.field-0.ring c.in_ok-parties_of.field-0.items c.new.result.items c.in_ok-signers.ensures.ring c.in_ok-parties_of.ensures c.new.ensures.items in
     is
 
 pub returns-clause-begins : goal.returns-clause-begins
 returns-clause-begins g c =
-    let ring : c.in_ok-ring.ring ≡ ring_of c.args.cluster.now.config (secret_of c.args.cluster.now) =
-    c.in_ok-ring.ensures ∙ ap (map (λ (keys : Keys). key_of keys.secret)) (c.deref.ensures.value ∙ c.in_ok-signers.ensures) ∙ ring_is (secret_of c.args.cluster.now) (range_with_len 0 c.args.cluster.now.config.replicas) in
-    let is = new_is c.args.cluster.now.config (secret_of c.args.cluster.now) c.args.liars.now c.in_ok-ring.ring c.in_ok-parties_of.field-0.items c.new.result.items ring c.in_ok-parties_of.ensures c.new.ensures.items in
+    let is = new_is c.args.cluster.now.config (secret_of c.args.cluster.now) c.args.liars.now c.in_ok-signers.field-0.ring c.in_ok-parties_of.field-0.items c.new.result.items c.in_ok-signers.ensures.ring c.in_ok-parties_of.ensures c.new.ensures.items in
     ap world_of is ∙ new_world c.args.cluster.now.config (secret_of c.args.cluster.now) c.args.liars.now
 
 pub returns-clause-replicas : goal.returns-clause-replicas

@@ -1,6 +1,7 @@
 use Rattle.std.proofs.Crossing.{crosses}
 use denote.Param.Send.{IsSend, IsSync, sendable}
 use Rattle.cluster_workers.proofs.worker.Worker.TheSendSync as worker
+use Rattle.cluster_workers.proofs.stop.Stop.TheSendSync as stop
 use Rattle.cluster_workers.proofs.running.fn.run_all.scope.Goals as goal
 
 -- a worker may go to another thread where its application may, and the others may be shared
@@ -10,4 +11,4 @@ spawn-requires-send-F g c =
     let runtime : IsSync g.row.R = search sendable in
     let clock : IsSync g.row.C = search sendable in
     let gate : IsSync g.row.G = search sendable in
-    λ κs lasting. search (worker.the_send, sendable, crosses) depth 12
+    λ κs lasting. search (worker.the_send, stop.the_sync, sendable, crosses) depth 12

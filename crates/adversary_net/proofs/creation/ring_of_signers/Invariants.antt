@@ -1,7 +1,0 @@
-use Rattle.std.proofs.Common.{◌≡◌, map, take}
-use Rattle.key_ring.specs.Signers.{Keys, key_of}
-use Rattle.adversary_net.proofs.creation.ring_of_signers.Given as goal
-
--- the keys of the signers so far
-abbrev pub invariant-loop-signer : goal.invariant-loop-signer
-invariant-loop-signer l = l.keys.items ≡ map (λ (keys : Keys). key_of keys.secret) (take l.signer-index l.signers)

@@ -1,9 +1,0 @@
-use Rattle.std.proofs.Common.{◌≡◌, map}
-use Rattle.std.specs.List.{range_with_len}
-use Rattle.cluster_keys.specs.Keys.{secret_of}
-use Rattle.adversary_net.specs.Openings.{unused}
-use Rattle.adversary_net.proofs.creation.signers_of.Given as goal
-
--- the key pairs of the replicas so far
-abbrev pub invariant-loop-replica : goal.invariant-loop-replica
-invariant-loop-replica l = l.signers.items ≡ map (λ r. unused (secret_of l.cluster r)) (range_with_len 0 l.replica)

@@ -1,0 +1,100 @@
+//! What an operator is told of a running cluster, a line each.
+use ledger_model::ReplicaId;
+use std::fmt;
+
+/// What an operator is told.
+#[derive(Clone, Copy, Debug, PartialEq, Eq)]
+pub(crate) enum Notice {
+    /// The seed is the default one.
+    DefaultSeed,
+    /// The keys of so many replicas are being made.
+    Keys(u8),
+    /// A block was run, first by this replica.
+    Block {
+        height: u32,
+        replica: ReplicaId,
+        round: u32,
+    },
+    /// A replica is mute from now on.
+    Mute {
+        replica: ReplicaId,
+        round: u32,
+        signatures: u32,
+    },
+    /// Nine tenths of a replica's history are full.
+    NearlyFull {
+        replica: ReplicaId,
+        entries: usize,
+    },
+    /// The rounds are over.
+    RoundsOver,
+    /// They are, and clients are still served.
+    ServesOn,
+    /// The cluster was asked to stop.
+    Stopped,
+}
+
+impl fmt::Display for Notice {
+    fn fmt<W: fmt::Write>(&self, f: &mut fmt::Formatter<W>) -> fmt::Result {
+        match self {
+            Notice::DefaultSeed => f.write_str(
+                "the seed is the default one, which everybody knows: anybody can forge",
+            ),
+            Notice::Keys(replicas) => write!(f, "making the keys of {replicas} replicas"),
+            Notice::Block {
+                height,
+                replica,
+                round,
+            } => show_block(f, *height, *replica, *round),
+            Notice::Mute {
+                replica,
+                round,
+                signatures,
+            } => show_mute(f, *replica, *round, *signatures),
+            Notice::NearlyFull { replica, entries } => show_nearly_full(f, *replica, *entries),
+            Notice::RoundsOver => f.write_str("the rounds are over"),
+            Notice::ServesOn => f.write_str(
+                "the rounds are over: clients are answered, and what they submit is never run",
+            ),
+            Notice::Stopped => f.write_str("the cluster was asked to stop"),
+        }
+    }
+}
+
+fn show_block<W: fmt::Write>(
+    f: &mut fmt::Formatter<W>,
+    height: u32,
+    replica: ReplicaId,
+    round: u32,
+) -> fmt::Result {
+    let replica = replica.number();
+    write!(
+        f,
+        "block {height}: replica {replica} ran it first, in round {round}"
+    )
+}
+
+fn show_mute<W: fmt::Write>(
+    f: &mut fmt::Formatter<W>,
+    replica: ReplicaId,
+    round: u32,
+    signatures: u32,
+) -> fmt::Result {
+    let replica = replica.number();
+    write!(
+        f,
+        "replica {replica} is mute from round {round} on: its keys have {signatures} signatures left, too few"
+    )
+}
+
+fn show_nearly_full<W: fmt::Write>(
+    f: &mut fmt::Formatter<W>,
+    replica: ReplicaId,
+    entries: usize,
+) -> fmt::Result {
+    let replica = replica.number();
+    write!(
+        f,
+        "replica {replica}: nine tenths of its history are full, {entries} of 65536 entries"
+    )
+}

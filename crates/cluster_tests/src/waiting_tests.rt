@@ -1,0 +1,41 @@
+//! The frames that wait for a replica.
+use bytes::Bytes;
+use replica_turns::WaitingFrames;
+use std::alloc::{AllocError, Global};
+use std::test::Fail;
+
+/// A report of height 1 and phase 1 on the batch `[a=1]`, without a signature.
+const REPORT: &[u8; 29] = b"\0\0\0\x19\x01\0\0\0\x01\0\0\0\x01\0\0\x01\x03a=1\x01\x01\x03a=1\0\0\0";
+
+/// Takes in a frame of the round after this one, and one that is none.
+fn take_in_two(alloc: Global, waiting: &mut WaitingFrames, clock: u32) -> Result<(), AllocError> {
+    let mut frames = Vec::with_capacity(alloc, 2)?;
+    frames.push(Bytes::from_static(REPORT))?;
+    frames.push(Bytes::from_static(b"x"))?;
+    if waiting.room() < 2 {
+        return Err(AllocError);
+    }
+    waiting.take_in(alloc, clock, frames)
+}
+
+/// How many frames are due, and how many more there is room for.
+fn counts(waiting: &WaitingFrames) -> (usize, usize) {
+    (waiting.due().len(), waiting.room())
+}
+
+#[test]
+fn an_early_frame_is_due_in_its_round_too(rt: HostRuntime) -> Result<(), Fail> {
+    let mut waiting = WaitingFrames::new(rt.alloc());
+    assert_eq!(rt; counts(&waiting), (0, 64));
+    take_in_two(rt.alloc(), &mut waiting, 0)?;
+    assert_eq!(rt; counts(&waiting), (2, 62));
+    waiting.give_up(2);
+    waiting.open_round()?;
+    assert_eq!(rt; counts(&waiting), (1, 63));
+    take_in_two(rt.alloc(), &mut waiting, 1)?;
+    waiting.open_round()?;
+    assert_eq!(rt; counts(&waiting), (3, 61));
+    waiting.give_up_all();
+    assert_eq!(rt; counts(&waiting), (0, 64));
+    Ok(())
+}

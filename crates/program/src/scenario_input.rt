@@ -1,0 +1,61 @@
+//! The scenario of a stream, which is read no further than it can be one.
+ghost use Rattle.std.specs.Prelude.{◌⊎◌, ℕ, List, MatchResult};
+ghost use Rattle.std.specs.Io.KnownBytes.{Consumes, IsAtEnd};
+ghost use Rattle.scenario_texts.specs.Lines.{IsTooLarge};
+ghost use Rattle.program.specs.Simulating.{IsRead};
+
+use program_streams::ProgramFault;
+use scenario_texts::{LineCount, Scenario, TextFault, read};
+use std::alloc::Global;
+use std::io::{self, ErrorKind, Read};
+
+/// The most bytes of standard input that are read at once.
+const PIECE_LEN: usize = 8192;
+
+/// What a stream turned out to hold.
+#[derive(Drop)]
+pub(crate) enum ScenarioInput {
+    /// A scenario.
+    Scenario(Scenario),
+    /// A text whose first bad line has this number.
+    BadLine(u32),
+}
+
+/// The text of a stream, to its end, or until it is too large for a scenario.
+fn read_text<R: Read>(alloc: Global, reader: &mut R) -> Result<Vec<u8>, ProgramFault>
+    ensures { MatchResult result
+        (λ text. Consumes (R.remaining reader.old) (R.remaining reader.new) text.items × (IsAtEnd (R.remaining reader.new) ⊎ IsTooLarge text.items))
+        (λ _. (input : List ℕ) × Consumes (R.remaining reader.old) (R.remaining reader.new) input) }
+{
+    let mut text = Vec::new(alloc);
+    let mut lines = LineCount::new();
+    let mut piece = [0; PIECE_LEN];
+    for _ in 0..u64::MAX {
+        let count = reader.read(&mut piece)?;
+        if count == 0 {
+            return Ok(text);
+        }
+        text.extend_from_slice(&piece[..count])?;
+        if !lines.take_all(&piece[..count]) {
+            return Ok(text);
+        }
+    }
+    Err(ProgramFault::Stream(io::Error::from(ErrorKind::TimedOut)))
+}
+
+/// The scenario of a stream, or its first bad line. The text is gone when the scenario is there.
+pub(crate) fn read_scenario<R: Read>(
+    alloc: Global,
+    reader: &mut R,
+) -> Result<ScenarioInput, ProgramFault>
+    ensures { MatchResult result
+        (λ found. IsRead found (R.remaining reader.old) (R.remaining reader.new))
+        (λ _. (input : List ℕ) × Consumes (R.remaining reader.old) (R.remaining reader.new) input) }
+{
+    let text = read_text(alloc, reader)?;
+    match read(alloc, &text) {
+        Ok(scenario) => Ok(ScenarioInput::Scenario(scenario)),
+        Err(TextFault::BadLine(number)) => Ok(ScenarioInput::BadLine(number)),
+        Err(TextFault::NoMemory) => Err(ProgramFault::NoMemory),
+    }
+}

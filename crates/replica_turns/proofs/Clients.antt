@@ -1,0 +1,50 @@
+-- What a replica answers to its clients.
+use Rattle.std.proofs.Common.{◌≡◌, ℕ, ◌<◌, List, [], ◌∷◌, ◌++◌, length, Some, Ok, refl, ap, ◌∙◌, sym, subst, arith, slice_get, length-append}
+use Rattle.std.proofs.Math.Seq.{get_or-append_seam}
+use Rattle.std.proofs.lemmas.Option.{slice_get_read}
+use Rattle.ledger_model.specs.declared.config.Config.{Config}
+use Rattle.ledger_model.specs.declared.event.Event.TheVariants as event
+use Rattle.ledger_model.specs.declared.history.Entry.{Entry}
+use Rattle.ledger_model.specs.declared.reply.Reply.{Reply}
+use Rattle.ledger_model.specs.declared.reply.Reply.TheVariants as reply
+use Rattle.ledger_model.specs.Applications.{done_by, held_at}
+use Rattle.ledger_model.specs.Commits.{commits_of}
+use Rattle.ledger_model.specs.Rules.{Ring}
+use Rattle.ledger_model.specs.Lawful.{Lawful}
+use Rattle.ledger_model.specs.Replies.{query_reply}
+use Rattle.ledger_model.specs.Values.{Value}
+use Rattle.ledger_model.specs.declared.config.AppKind.{AppKind}
+use Rattle.replica_turns.specs.Clients.{query_reply_in, query_reply_at}
+
+-- as of the last block a key is always answered
+pub last_answer : (kind : AppKind) (batches : List Value) (key : List ℕ)
+    → query_reply kind batches key 0 ≡ Ok (record { height = length batches; value = held_at kind (done_by kind batches) key })
+unfolding query_reply
+last_answer kind batches key = refl
+
+-- what a lawful reply to a query answers
+pub lawful_query : (config : Config) (ring : Ring) (id : ℕ) (entries : List Entry) (key : List ℕ) (h : ℕ) (r : Reply)
+    → Lawful config ring id entries (event.Query key h) r → query_reply_in r ≡ Some (query_reply config.kind (commits_of config id entries) key h)
+lawful_query config ring id entries key h (reply.Queried answer) law = ap Some law
+lawful_query config ring id entries key h (reply.Submitted r) law = absurd law
+lawful_query config ring id entries key h (reply.Proposed r) law = absurd law
+lawful_query config ring id entries key h (reply.Delivered r) law = absurd law
+lawful_query config ring id entries key h (reply.RoundEnded r) law = absurd law
+lawful_query config ring id entries key h (reply.Executed r) law = absurd law
+
+-- the last entry
+get_last : (entries : List Entry) (e : Entry) → slice_get (entries ++ e ∷ []) (length entries) ≡ Some e
+get_last entries e =
+    let within : length entries < length (entries ++ e ∷ []) = omega (arith, length-append entries (e ∷ [])) in
+    slice_get_read (entries ++ e ∷ []) _ (length entries) e refl within (sym (get_or-append_seam entries e [] e))
+
+-- what an entry that was just added answers to a query as of the last block
+pub query_added : (config : Config) (ring : Ring) (id : ℕ) (old new : List Entry) (key : List ℕ) (h : ℕ) (r : Reply) (i : ℕ)
+    → i ≡ length old → h ≡ 0 → new ≡ old ++ record { event = event.Query key h; reply = r } ∷ []
+    → Lawful config ring id old (event.Query key h) r
+    → query_reply_at (slice_get new i) ≡ Some (query_reply config.kind (commits_of config id old) key 0)
+query_added config ring id old new key h r i at last_one grown law =
+    let e : Entry = record { event = event.Query key h; reply = r } in
+    let last : slice_get new i ≡ Some e = rw (at, grown) (get_last old e) in
+    subst (λ (n : ℕ). query_reply_at (slice_get new i) ≡ Some (query_reply config.kind (commits_of config id old) key n)) last_one
+    (ap query_reply_at last ∙ lawful_query config ring id old key h r law)

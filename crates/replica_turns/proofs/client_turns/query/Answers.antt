@@ -1,0 +1,27 @@
+-- the new entry answers what the application answers as of its last block
+use Rattle.std.proofs.Common.{◌≡◌, ◌∙◌, ap, Some, slice_get}
+use Rattle.ledger_model.specs.Commits.{commits_of}
+use Rattle.ledger_model.specs.Replies.{query_reply}
+use Rattle.replica_turns.specs.Clients.{query_reply_at}
+use Rattle.replica_turns.proofs.Clients.{last_answer, query_added}
+use Rattle.replica_turns.proofs.client_turns.query.Goals as goal
+
+pub answer_at-requires : goal.answer_at-requires
+answer_at-requires g c =
+    let old = c.args.state.now in
+    let added = c.in_ok-index.ensures.added in
+    let batches = commits_of old.config old.id old.entries in (
+      _,
+      query_added old.config old.ring old.id old.entries c.apply.new.self.entries c.args.key c.new.result added.0 c.in_ok-index.index
+          c.in_ok-index.ensures.index c.new.ensures added.1.0 added.1.1
+          ∙ ap Some (last_answer old.config.kind batches c.args.key),
+    )
+
+pub returns-clause-answer : goal.returns-clause-answer
+returns-clause-answer g c =
+    let old = c.args.state.now in
+    let added = c.in_ok-index.ensures.added in
+    let told : query_reply_at (slice_get c.apply.new.self.entries c.in_ok-index.index) ≡ Some (query_reply old.config.kind (commits_of old.config old.id old.entries) c.args.key 0) =
+    query_added old.config old.ring old.id old.entries c.apply.new.self.entries c.args.key c.new.result added.0 c.in_ok-index.index
+    c.in_ok-index.ensures.index c.new.ensures added.1.0 added.1.1 in
+    cc (told, c.in_ok-answer_at.ensures)

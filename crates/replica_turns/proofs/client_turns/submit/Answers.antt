@@ -1,0 +1,12 @@
+use Rattle.std.proofs.Common.{arith}
+use Rattle.std.proofs.lemmas.Grind.{common_steps}
+use Rattle.ledger_model.specs.Commits.{submit_reply}
+use Rattle.replica_turns.proofs.client_turns.submit.Goals as goal
+
+pub returns-then-is_empty-clause-answer : goal.returns-then-is_empty-clause-answer
+unfolding submit_reply
+returns-then-is_empty-clause-answer g c = grind (arith, common_steps)
+
+pub returns-then-tx-gt-MAX_LEN-clause-answer : goal.returns-then-tx-gt-MAX_LEN-clause-answer
+unfolding submit_reply
+returns-then-tx-gt-MAX_LEN-clause-answer g c = grind (arith, common_steps)

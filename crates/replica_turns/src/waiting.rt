@@ -1,0 +1,126 @@
+//! The frames that wait for a replica's turn: a bounded number, of which some are kept for the next round.
+ghost use Rattle.std.specs.Prelude.{◌≡◌, ◌≤◌, ◌+◌, ◌-◌, ◌++◌, [], length, take, drop, filter, vec_len, OnOk, OnErr};
+ghost use Rattle.ledger_model.specs.Reading.{reading};
+ghost use Rattle.replica_turns.specs.Rounds.{is_early};
+ghost use Rattle.replica_turns.specs.Waiting.{Waiting, max_at_once, max_due, max_early, max_waiting};
+
+use crate::early::early_of;
+use bytes::Bytes;
+use std::alloc::{AllocError, Global};
+use std::marker::Model;
+
+/// The most frames that are taken in for one turn.
+const MAX_AT_ONCE: usize = 64;
+
+/// The most frames that are kept for the next round.
+const MAX_EARLY: usize = 1024;
+
+/// The most frames of one turn: those that are taken in, and those that were kept from the round before.
+const MAX_DUE: usize = MAX_AT_ONCE + MAX_EARLY;
+
+/// The frames that wait for a replica: those of its next turn, and those that came a round early. There are at most 2,112 of
+/// them.
+pub struct WaitingFrames {
+    due: Vec<Bytes>,
+    early: Vec<Bytes>,
+}
+
+// It is dropped by a function of its own, so that whoever owns one drops it by a single call.
+impl Drop for WaitingFrames {
+    fn drop(self) {
+        let WaitingFrames {
+            due: _due,
+            early: _early,
+        } = self;
+    }
+}
+
+impl Model for WaitingFrames {
+    ghost use Rattle.std.specs.Prelude.{◌≤◌, length};
+    ghost use Rattle.replica_turns.specs.Waiting.{Waiting, max_early, max_due};
+
+    ghost Value = { Waiting };
+
+    ghost view = { λ w. record { due = w.due.items; early = w.early.items } };
+
+    ghost invariant = { λ w. (length w.due.items ≤ max_due) × (length w.early.items ≤ max_early) };
+}
+
+impl WaitingFrames {
+    /// None.
+    pub fn new(alloc: Global) -> Self
+        ensures { result ≡ record { due = []; early = [] } }
+    {
+        WaitingFrames {
+            due: Vec::new(alloc),
+            early: Vec::new(alloc),
+        }
+    }
+
+    /// Those of the next turn, in order.
+    pub fn due(&self) -> &[Bytes]
+        ensures { result.now ≡ self.now.due }
+    {
+        self.due.as_slice()
+    }
+
+    /// How many more may be taken in before the next turn.
+    pub fn room(&self) -> usize
+        ensures room { result ≡ max_at_once - length self.now.due }
+        ensures bounded { length self.now.due + length self.now.early ≤ max_waiting }
+    {
+        MAX_AT_ONCE.saturating_sub(self.due.len())
+    }
+
+    /// Takes in frames that came while the round `clock` was open. Frames of the next round are kept for it, too, up to 1,024 of
+    /// them. If memory runs out, all of `frames` are dropped.
+    pub fn take_in(
+        &mut self,
+        alloc: Global,
+        clock: u32,
+        mut frames: Vec<Bytes>,
+    ) -> Result<(), AllocError>
+        requires { vec_len frames ≤ max_at_once - length self.old.due }
+        ensures due { OnOk result (self.new.due ≡ self.old.due ++ frames.items) }
+        ensures early { OnOk result (self.new.early
+            ≡ take max_early (self.old.early ++ filter (λ bytes. is_early clock (reading bytes)) frames.items)) }
+        ensures same { OnErr result (self.new ≡ self.old) }
+    {
+        let mut early = early_of(alloc, clock, frames.as_slice())?;
+        early.truncate(MAX_EARLY - self.early.len());
+        self.early.reserve(early.len())?;
+        self.due.append(&mut frames)?;
+        let _ = self.early.append(&mut early);
+        Ok(())
+    }
+
+    /// The next round is open: the frames that were kept for it are due, up to 1,088 frames in all. If memory runs out, those that
+    /// were kept are dropped.
+    pub fn open_round(&mut self) -> Result<(), AllocError>
+        ensures due { OnOk result (self.new.due ≡ take max_due (self.old.due ++ self.old.early)) }
+        ensures lost { OnErr result (self.new.due ≡ self.old.due) }
+        ensures early { self.new.early ≡ [] }
+    {
+        self.early.truncate(MAX_DUE - self.due.len());
+        let done = self.due.append(&mut self.early);
+        self.early.truncate(0);
+        done
+    }
+
+    /// Gives up the first of those that are due.
+    pub fn give_up(&mut self, count: usize)
+        ensures due { self.new.due ≡ drop count self.old.due }
+        ensures early { self.new.early ≡ self.old.early }
+    {
+        let count = count.min(self.due.len());
+        self.due.drain(..count);
+    }
+
+    /// Gives up all.
+    pub fn give_up_all(&mut self)
+        ensures { self.new ≡ record { due = []; early = [] } }
+    {
+        self.due.truncate(0);
+        self.early.truncate(0);
+    }
+}

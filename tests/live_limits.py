@@ -1,0 +1,202 @@
+#!/usr/bin/env python3
+"""What a live cluster does at its limits: tests/live_limits.py ABFT [NAME..]. Each scenario starts a server of its own, and prints a line:
+its name, and what came. Three are run at once; without names those that the gate runs."""
+import concurrent.futures
+import resource
+import socket
+import struct
+import subprocess
+import sys
+import time
+
+ABFT = sys.argv[1]
+
+
+class Server:
+    """A running `abft serve`, whose standard input stays open."""
+
+    def __init__(self, *words, files=None):
+        def limit():
+            if files is not None:
+                resource.setrlimit(resource.RLIMIT_NOFILE, (files, files))
+
+        self.process = subprocess.Popen([ABFT, "serve", *words], stdin=subprocess.PIPE, stdout=subprocess.PIPE, stderr=subprocess.DEVNULL,
+                                        preexec_fn=limit)
+        self.port = int(self.process.stdout.readline().split()[1])
+
+    def connect(self):
+        return Session(socket.create_connection(("127.0.0.1", self.port), timeout=60))
+
+    def peak_memory(self):
+        """The most memory that it has had, in MB."""
+        with open(f"/proc/{self.process.pid}/status") as status:
+            return next(int(line.split()[1]) for line in status if line.startswith("VmHWM")) // 1024
+
+    def ends(self, seconds):
+        """How many replicas committed a block, and the status, once it ends in time."""
+        try:
+            self.process.wait(seconds)
+        except subprocess.TimeoutExpired:
+            self.process.kill()
+            return "doesn't end"
+        heights = [int(line.split()[2]) for line in self.process.stdout.read().decode().splitlines()]
+        return f"{len(heights)} lines, status {self.process.returncode}", heights
+
+
+class Session:
+    """A session with a server."""
+
+    def __init__(self, stream):
+        self.stream = stream
+
+    def exact(self, count):
+        data = b""
+        while len(data) < count:
+            piece = self.stream.recv(count - len(data))
+            if not piece:
+                raise ConnectionError("the server ended the connection")
+            data += piece
+        return data
+
+    def ask(self, body):
+        """The reply to a request, as hexadecimal digits."""
+        return self.ask_all([body])[0]
+
+    def ask_all(self, bodies):
+        """The replies to requests that are sent at once."""
+        self.stream.sendall(b"".join(struct.pack(">H", len(body)) + body for body in bodies))
+        return [self.exact(struct.unpack(">H", self.exact(2))[0]).hex() for _ in bodies]
+
+    def ask_often(self, body, count):
+        """How often each status came, of so many equal requests, a thousand at once."""
+        counts = {}
+        for _ in range(count // 1000):
+            for reply in self.ask_all([body] * 1000):
+                counts[reply[:2]] = counts.get(reply[:2], 0) + 1
+        return " ".join(f"{status}: {number}" for status, number in sorted(counts.items()))
+
+
+QUERY = b"\x02\0\0\0\0a"
+HEIGHT = b"\x03"
+
+
+def entries():
+    """Clients use four entries of each history, and what the pool refuses by its bytes alone is none."""
+    server = Server("--rounds", "0", "--client-entries", "4")
+    session = server.connect()
+    asked = [b"\x01", b"\x01" + 65 * b"x", b"\x01b=2", b"\x01b=2", QUERY, b"\x01c=3", QUERY, b"\x01d=4", b"\x01", HEIGHT]
+    others = [b"\x05\x01", b"\x01b=2", b"\x01b=2", b"\x05\x02", b"\x01b=2"]
+    told = " ".join(session.ask(body) for body in asked + others)
+    session.stream.close()
+    return told + "; " + server.ends(30)[0]
+
+
+def flood():
+    """A client asks 200,000 times: its replica takes what is allowed, its memory is bounded, and the cluster goes on."""
+    server = Server("--rounds", "24", "--base-ms", "300")
+    session = server.connect()
+    told = [session.ask_often(b"\x01" + 65 * b"x", 100_000), session.ask_often(QUERY, 100_000)]
+    told.append("bounded" if server.peak_memory() < 200 else f"{server.peak_memory()} MB")
+    session.stream.close()
+    end, heights = server.ends(60)
+    told.append("all commit" if all(heights) else f"committed {heights}")
+    return "; ".join(told + [end])
+
+
+def full(replicas):
+    """Clients fill the histories of these replicas: the process ends when the rounds are over."""
+    server = Server("--rounds", "16", "--base-ms", "150", "--client-entries", "65536", "--sessions", str(len(replicas)))
+
+    def fill(replica):
+        session = server.connect()
+        session.ask(bytes([5, replica]))
+        session.ask_often(QUERY, 66_000)
+        last = session.ask(QUERY)
+        session.stream.close()
+        return last
+
+    with concurrent.futures.ThreadPoolExecutor(len(replicas)) as pool:
+        told = " ".join(pool.map(fill, replicas))
+    return told + "; " + server.ends(30)[0]
+
+
+def full_at(place):
+    """A client fills the histories of all replicas at this place of the third phase: the process ends when the rounds are over."""
+    base = 300
+    server = Server("--rounds", "16", "--base-ms", str(base), "--client-entries", "65536")
+    session = server.connect()
+    session.ask(HEIGHT)
+    began = time.monotonic()
+    for replica in range(4):
+        session.ask(bytes([5, replica]))
+        session.ask_often(QUERY, 64_000)
+    ended = 7 + place  # rounds before that place
+    time.sleep(max(0, began + (ended * base + ended * (ended + 1) // 2 + base // 2) / 1000 - time.monotonic()))
+    told = []
+    for replica in range(4):
+        session.ask(bytes([5, replica]))
+        session.ask_often(QUERY, 2_000)
+        told.append(session.ask(QUERY))
+    session.stream.close()
+    return " ".join(told) + "; " + server.ends(30)[0]
+
+
+def descriptors():
+    """Connections that find no descriptor wait, and use up no session."""
+    server = Server("--rounds", "0", "--sessions", "40", files=20)
+    sessions = [server.connect() for _ in range(40)]
+    answered = 0
+    for session in sessions:
+        answered += session.ask(HEIGHT) == "0000000000"
+        session.stream.close()
+    return f"{answered} answered; " + server.ends(30)[0]
+
+
+def last_session():
+    """After the last session the listener is closed."""
+    server = Server("--rounds", "0")
+    session = server.connect()
+    session.ask(HEIGHT)
+    time.sleep(0.5)
+    try:
+        server.connect()
+        told = "connects"
+    except ConnectionRefusedError:
+        told = "refused"
+    session.stream.close()
+    return told + "; " + server.ends(30)[0]
+
+
+def stop():
+    """The end of standard input ends the rounds, the listener and the sessions."""
+    server = Server("--rounds", "4000000000", "--sessions", "1000", "--stop-at-eof")
+    session = server.connect()
+    session.ask(HEIGHT)
+    server.process.stdin.close()
+    told = server.ends(30)[0]
+    return "idle client ended; " + told if session.stream.recv(1) == b"" else told
+
+
+SCENARIOS = {
+    "entries": entries,
+    "flood": flood,
+    "one full": lambda: full([0]),
+    "all full": lambda: full([0, 1, 2, 3]),
+    "full at 1": lambda: full_at(1),
+    "full at 2": lambda: full_at(2),
+    "full at 3": lambda: full_at(3),
+    "full at 4": lambda: full_at(4),
+    "descriptors": descriptors,
+    "last session": last_session,
+    "stop": stop,
+}
+
+
+def main(names):
+    names = names or ["entries", "flood", "one full", "all full", "descriptors", "last session", "stop"]
+    with concurrent.futures.ThreadPoolExecutor(3) as pool:
+        for name, told in zip(names, pool.map(lambda name: SCENARIOS[name](), names)):
+            print(f"{name}: {told}")
+
+
+main(sys.argv[2:])
