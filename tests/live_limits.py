@@ -93,7 +93,7 @@ def entries():
 
 def flood():
     """A client asks 200,000 times: its replica takes what is allowed, its memory is bounded, and the cluster goes on."""
-    server = Server("--rounds", "24", "--base-ms", "300")
+    server = Server("--rounds", "24", "--base-ms", "400")
     session = server.connect()
     told = [session.ask_often(b"\x01" + 65 * b"x", 100_000), session.ask_often(QUERY, 100_000)]
     told.append("bounded" if server.peak_memory() < 200 else f"{server.peak_memory()} MB")
