@@ -14,7 +14,7 @@ pub(crate) struct Door {
 }
 
 impl Door {
-    /// A door for so many sessions, of which none is open.
+    /// A door for `sessions` sessions, of which none is open.
     pub(crate) fn new(alloc: Global, sessions: usize) -> Result<Self, AllocError> {
         let mut streams = Vec::with_capacity(alloc, sessions)?;
         for _ in 0..sessions {

@@ -1,13 +1,13 @@
-//! What an operator is told of a running cluster, a line each.
+//! The notices of a running cluster to its operator, a line each.
 use ledger_model::ReplicaId;
 use std::fmt;
 
-/// What an operator is told.
+/// A notice to the operator.
 #[derive(Clone, Copy, Debug, PartialEq, Eq)]
 pub(crate) enum Notice {
     /// The seed is the default one.
     DefaultSeed,
-    /// The keys of so many replicas are being made.
+    /// The keys of this many replicas are being made.
     Keys(u8),
     /// A block was run, first by this replica.
     Block {

@@ -44,7 +44,7 @@ const UNTOLD: ReplicaStatus = ReplicaStatus {
 };
 
 impl<P: Write + Drop> Reporter<P> {
-    /// Nothing was told of a cluster of so many replicas, which end so many rounds. Without a watcher nothing ever is.
+    /// A reporter that has written nothing yet of a cluster of `replicas` replicas. Without a watcher it never writes.
     pub(crate) fn new(
         alloc: Global,
         watcher: Option<Watcher<P>>,

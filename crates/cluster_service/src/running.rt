@@ -46,7 +46,7 @@ pub fn listen_at<R: Net<Listener = TcpListener, Stream = TcpStream>>(
     }
 }
 
-/// A cluster of the settings as it begins, its workers, and so many readers' seats of its board.
+/// A cluster of the settings as it begins, its workers, and `readers` readers' seats of its board.
 fn new_cluster<R: RandomSource + Threads + Sync>(
     rt: &R,
     alloc: Global,
@@ -126,7 +126,7 @@ where
     heights_of(rt, alloc, &cluster, settings.cluster.config.replicas)
 }
 
-/// What is told where the workers have ended.
+/// The notice that the workers have ended.
 fn end_of(stop: &Stop, over: Notice) -> Notice {
     if stop.is_asked() {
         Notice::Stopped
@@ -135,7 +135,7 @@ fn end_of(stop: &Stop, over: Notice) -> Notice {
     }
 }
 
-/// What clients may use of the history of each of so many replicas.
+/// For each of `replicas` replicas, `count` entries that its clients may use.
 fn new_entries(
     alloc: Global,
     replicas: u8,

@@ -41,7 +41,7 @@ impl Inlet {
         self.bell.rings()
     }
 
-    /// Sleeps until more frames than so many were put in, at most so long. It may return earlier.
+    /// Sleeps until the bell's count differs from `rings`, at most for `most`. It may return earlier.
     pub(crate) fn sleep<R: Wait>(&self, rt: &R, rings: u32, most: Duration) {
         self.bell.sleep(rt, rings, most);
     }

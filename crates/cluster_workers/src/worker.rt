@@ -65,7 +65,7 @@ struct Pass {
     has_run: bool,
 }
 
-/// Takes frames from an inbox, at most so many.
+/// Takes at most `most` frames from an inbox.
 fn take_frames<R: Wait>(rt: &R, alloc: Global, inlet: &mut Inlet, most: usize) -> Vec<Bytes>
     ensures { vec_len result ≤ most }
 {
