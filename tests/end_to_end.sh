@@ -452,6 +452,9 @@ printf 'the seed is the default one, which everybody knows: anybody can forge\nt
 check 'what its operator is told' 0 "'$abft' cluster --rounds 0"
 printf 'the cluster was asked to stop\n' >"$room/wanted-err"
 check 'a cluster whose input ends' 0 "'$abft' cluster --seed $ones --rounds 4000000000 --stop-at-eof </dev/null"
+faults 'an input that is a directory' 3 $'error: Is a directory (os error 21)\n' "'$abft' cluster --rounds 0 --stop-at-eof </"
+faults 'an input that is closed' 3 $'error: Bad file descriptor (os error 9)\n' "'$abft' cluster --rounds 0 --stop-at-eof <&-"
+faults 'a standard error that is closed' 3 '' "'$abft' serve --quiet --rounds 0 2>&-"
 faults 'no memory for threads' 3 $'error: a thread could not be made\n' \
     "ulimit -v 24000; timeout 60 '$abft' cluster --quiet --rounds 4000000000"
 # A server that the end of its input stops. It opens heights until its clients are done.
@@ -475,6 +478,7 @@ all full: 04 04 04 04; 4 lines, status 0
 descriptors: 40 answered; 4 lines, status 0
 last session: refused; 4 lines, status 0
 stop: idle client ended; 4 lines, status 0
+unread: commits; 4 lines, status 0
 ' "tests/live_limits.py '$abft'"
 exec 4>&-
 cat <&3 >"$room/served"

@@ -2,6 +2,8 @@
 """What a live cluster does at its limits: tests/live_limits.py ABFT [NAME..]. Each scenario starts a server of its own, and prints a line:
 its name, and what came. Three are run at once; without names those that the gate runs."""
 import concurrent.futures
+import fcntl
+import os
 import resource
 import socket
 import struct
@@ -15,12 +17,12 @@ ABFT = sys.argv[1]
 class Server:
     """A running `abft serve`, whose standard input stays open."""
 
-    def __init__(self, *words, files=None):
+    def __init__(self, *words, files=None, errors=subprocess.DEVNULL):
         def limit():
             if files is not None:
                 resource.setrlimit(resource.RLIMIT_NOFILE, (files, files))
 
-        self.process = subprocess.Popen([ABFT, "serve", *words], stdin=subprocess.PIPE, stdout=subprocess.PIPE, stderr=subprocess.DEVNULL,
+        self.process = subprocess.Popen([ABFT, "serve", *words], stdin=subprocess.PIPE, stdout=subprocess.PIPE, stderr=errors,
                                         preexec_fn=limit)
         self.port = int(self.process.stdout.readline().split()[1])
 
@@ -177,6 +179,23 @@ def stop():
     return "idle client ended; " + told if session.stream.recv(1) == b"" else told
 
 
+def unread():
+    """Standard error is a full pipe that nobody reads: the cluster goes on, and ends when it is asked to."""
+    reader, writer = os.pipe()
+    os.write(writer, b"x" * fcntl.fcntl(writer, fcntl.F_SETPIPE_SZ, 4096))
+    server = Server("--rounds", "4000000000", "--base-ms", "100", "--stop-at-eof", errors=writer)
+    os.close(writer)
+    session = server.connect()
+    end = time.monotonic() + 60
+    while session.ask(HEIGHT) == "0000000000" and time.monotonic() < end:
+        time.sleep(0.1)
+    told = "commits" if session.ask(HEIGHT) != "0000000000" else "doesn't commit"
+    server.process.stdin.close()
+    told += "; " + server.ends(30)[0]
+    os.close(reader)
+    return told
+
+
 SCENARIOS = {
     "entries": entries,
     "flood": flood,
@@ -189,11 +208,12 @@ SCENARIOS = {
     "descriptors": descriptors,
     "last session": last_session,
     "stop": stop,
+    "unread": unread,
 }
 
 
 def main(names):
-    names = names or ["entries", "flood", "one full", "all full", "descriptors", "last session", "stop"]
+    names = names or ["entries", "flood", "one full", "all full", "descriptors", "last session", "stop", "unread"]
     with concurrent.futures.ThreadPoolExecutor(3) as pool:
         for name, told in zip(names, pool.map(lambda name: SCENARIOS[name](), names)):
             print(f"{name}: {told}")

@@ -143,6 +143,8 @@ printf '%sliar 1\nend 3\npropose 0 1\nend 1\n' "$setup" >"$room/text"
 runs 'histories' 0 '00000000010200000001020000''02000000000300000001040400000000' \
     "'$abft' simulate --histories <'$room/text' | od -An -v -tx1 | tr -d ' \\n'"
 printf 'config 4\n' >"$room/text"
+cp tests/histories.out "$room/wanted-out" && : >"$room/wanted-err"
+check 'each history of the examples, to its last byte' 0 "tests/histories.py '$abft'"
 runs 'histories of a bad text' 1 $'line 1 bad\n' "'$abft' simulate --histories <'$room/text'"
 runs 'other keys' 0 $'deliver 0 ignored 8 BadSignature\n' "'$abft' sign ack --replica 1 --seed $(printf '1%.0s' {1..64}) \
     | od -An -v -tx1 | tr -d ' \\n' | (printf '%sliar 1\npropose 0 1\nend 0\nend 0\nend 0\ninject 0 ' '$setup'; cat; echo) \

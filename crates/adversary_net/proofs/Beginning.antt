@@ -19,10 +19,13 @@ use Rattle.ledger_model.specs.Timelines.{AreReplicas}
 use Rattle.ledger_model.specs.Worlds.{no_entries, beginning, Runs}
 use Rattle.ledger_model.proofs.Lists.{any_has, has_any, filter_has, has_filter}
 use Rattle.lms_tree.specs.Trees.{Secret}
+use Rattle.key_ring.specs.Signers.{leaves_of}
 use Rattle.cluster_keys.specs.Keys.{ring_with}
+use Rattle.replica_core.specs.Leaves.{signed_after, signed_by}
+use Rattle.replica_core.proofs.SpentLeaves.{account_none}
 use Rattle.locked_replica.specs.Replicas.{Replica}
 use Rattle.adversary_net.specs.declared.party.Party.{Party}
-use Rattle.adversary_net.specs.Clusters.{RunningCluster, IsCluster, IsMemberAt, state_in, correct_of, history_in, world_of}
+use Rattle.adversary_net.specs.Clusters.{RunningCluster, IsCluster, IsMemberAt, state_in, state_at, correct_of, history_in, world_of}
 use Rattle.adversary_net.proofs.Members.{take_all}
 use Rattle.adversary_net.specs.Openings.{different, is_liar, correct_from, correct_without, new_replica, new_party, new_cluster, IsSupply}
 
@@ -170,7 +173,7 @@ new_correct config secrets liars = numbers config (ring_with config secrets) sec
 
 new_member : (config : Config) (secrets : ℕ → Secret) (liars : List ℕ) (r : ℕ) → IsMemberAt (new_cluster config secrets liars) r (new_replica config (ring_with config secrets) secrets r)
 unfolding Replay ReplaysFrom commits_of
-new_member config secrets liars r = record { config = refl; ring = refl; id = refl; replay = tt; machine = refl }
+new_member config secrets liars r = record { config = refl; ring = refl; id = refl; replay = tt; machine = refl; account = account_none config r (leaves_of (secrets r)) 0 }
 
 mapped : {X Y : Type 0} (f : X → Y) (o : Option X) (y : Y) → option_map f o ≡ Some y → (x : X) × ((o ≡ Some x) × (f x ≡ y))
 mapped f None y is = cc
@@ -183,20 +186,35 @@ some_party : (o : Option (Party Replica)) (s : Replica) → option_and_then stat
 some_party None s is = cc
 some_party (Some p) s is = (p, (refl, is))
 
+-- each correct replica is a new one
+new_at : (config : Config) (secrets : ℕ → Secret) (liars : List ℕ) (r : ℕ) (s : Replica) → state_at (new_cluster config secrets liars) r ≡ Some s
+    → s ≡ new_replica config (ring_with config secrets) secrets r
+new_at config secrets liars r s is =
+    let ring = ring_with config secrets in
+    let own = some_party (slice_get (map (new_party config ring secrets liars) (range_with_len 0 config.replicas)) r) s is in
+    let from = mapped (new_party config ring secrets liars) (slice_get (range_with_len 0 config.replicas) r) (own.0)
+    (sym (slice_get-map (new_party config ring secrets liars) (range_with_len 0 config.replicas) r) ∙ own.1.0) in
+    let number : from.0 ≡ r = let e = (get_range 0 config.replicas r (from.0) (from.1.0)).0 in omega (arith, e) in
+    new_state config ring secrets liars r s (subst (λ k. state_in (new_party config ring secrets liars k) ≡ Some s) number (ap state_in (from.1.1) ∙ own.1.1))
+
+-- and signed nothing
+none_signed : (config : Config) (ring : Ring) (secrets : ℕ → Secret) (r : ℕ) → (new_replica config ring secrets r).used ≡ signed_by (new_replica config ring secrets r).entries
+unfolding signed_after
+none_signed config ring secrets r = refl
+
 pub new_is_cluster : (config : Config) (secrets : ℕ → Secret) (liars : List ℕ) → different liars ≤ config.faults → IsCluster (new_cluster config secrets liars)
 unfolding Runs
 new_is_cluster config secrets liars few = record {
   size = length-map-range_with_len (new_party config (ring_with config secrets) secrets liars) 0 config.replicas;
-  members = λ r s is.
-      let ring = ring_with config secrets in
-      let own = some_party (slice_get (map (new_party config ring secrets liars) (range_with_len 0 config.replicas)) r) s is in
-      let from = mapped (new_party config ring secrets liars) (slice_get (range_with_len 0 config.replicas) r) (own.0)
-      (sym (slice_get-map (new_party config ring secrets liars) (range_with_len 0 config.replicas) r) ∙ own.1.0) in
-      let number : from.0 ≡ r = let e = (get_range 0 config.replicas r (from.0) (from.1.0)).0 in omega (arith, e) in
-      let state = new_state config ring secrets liars r s (subst (λ k. state_in (new_party config ring secrets liars k) ≡ Some s) number (ap state_in (from.1.1) ∙ own.1.1)) in
-      subst (IsMemberAt (new_cluster config secrets liars) r) (sym state) (new_member config secrets liars r);
+  members = λ r s is. subst (IsMemberAt (new_cluster config secrets liars) r) (sym (new_at config secrets liars r s is)) (new_member config secrets liars r);
   replicas = subst (AreReplicas config) (sym (new_correct config secrets liars)) (correct_replicas config liars few);
-  ran = record { steps = []; answers = []; runs = new_world config secrets liars ∙ ap beginning (sym (new_correct config secrets liars)) };
+  ran = record {
+    steps = [];
+    answers = [];
+    runs = new_world config secrets liars ∙ ap beginning (sym (new_correct config secrets liars));
+    leaves = λ none r s is.
+        subst (λ (t : Replica). t.used ≡ signed_by t.entries) (sym (new_at config secrets liars r s is)) (none_signed config (ring_with config secrets) secrets r);
+  };
 }
 
 -- ---- the code that makes it

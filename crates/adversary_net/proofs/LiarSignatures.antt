@@ -12,7 +12,7 @@ use Rattle.key_ring.specs.declared.fault.SignFault.{SignFault}
 use Rattle.locked_replica.specs.Replicas.{Replica}
 use Rattle.adversary_net.specs.declared.party.Party.{Party}
 use Rattle.adversary_net.specs.declared.party.Party.TheVariants as party
-use Rattle.adversary_net.specs.Clusters.{RunningCluster, IsCluster, state_in, liar_in, liar_at, history_in, correct_of, world_of, LiarSigns, SignsFor}
+use Rattle.adversary_net.specs.Clusters.{RunningCluster, IsCluster, state_in, state_at, liar_in, liar_at, history_in, correct_of, world_of, LiarSigns, SignsFor}
 use Rattle.adversary_net.proofs.Members.{set_cases}
 use Rattle.adversary_net.proofs.Running.{member_still}
 
@@ -41,17 +41,22 @@ signed_cluster c r old new cluster at =
     let world : world_of d ≡ world_of c = ap (λ (l : List Replica). record { histories = map history_in l; order = c.order }) states in
     record {
       size = length-set c.parties r (party.Liar new) ∙ cluster.size;
-      members = λ q s is. elim (set_cases c.parties r q (party.Liar new) (party.Correct s) (is_state (slice_get (slice_set c.parties r (party.Liar new)) q) s is)) [
-        | inl here ↦ absurd (let no = here.1 in cc)
-        | inr there ↦ member_still c d q s refl refl (cluster.members q s (ap (option_and_then state_in) there))
-      ];
+      members = λ q s is. member_still c d q s refl refl (cluster.members q s (was_there q s is));
       replicas = subst (AreReplicas c.config) (sym correct) cluster.replicas;
       ran = record {
         steps = cluster.ran.steps;
         answers = cluster.ran.answers;
         runs = subst (λ rs. Runs c.config c.ring (beginning rs) cluster.ran.steps cluster.ran.answers (world_of d)) (sym correct) (subst (Runs c.config c.ring (beginning (correct_of c)) cluster.ran.steps cluster.ran.answers) (sym world) cluster.ran.runs);
+        leaves = λ none q s is. cluster.ran.leaves none q s (was_there q s is);
       };
     }
+  where
+    -- each correct replica was there before
+    was_there : (q : ℕ) (s : Replica) → state_at (with_keys c r new) q ≡ Some s → state_at c q ≡ Some s
+    was_there q s is = elim (set_cases c.parties r q (party.Liar new) (party.Correct s) (is_state (slice_get (slice_set c.parties r (party.Liar new)) q) s is)) [
+      | inl here ↦ absurd (let no = here.1 in cc)
+      | inr there ↦ ap (option_and_then state_in) there
+    ]
 
 liar_is : (o : Option (Party Replica)) (keys : Keys) → option_and_then liar_in o ≡ Some keys → o ≡ Some (party.Liar keys)
 liar_is None keys is = cc

@@ -7,3 +7,4 @@ mod Running
 mod SentPlaces
 mod Staying
 mod Telling
+mod UsedLeaves

@@ -21,12 +21,15 @@ use Rattle.ledger_model.specs.Rules.{Ring}
 use Rattle.ledger_model.specs.Timelines.{AreReplicas}
 use Rattle.ledger_model.specs.Worlds.{World, beginning, entries_in, with_entry, event_of, StepsBy, Adds, Refuses, Runs}
 use Rattle.ledger_laws.proofs.WorldRuns.{names_correct, runs_append}
-use Rattle.locked_replica.specs.Replicas.{Replica, RunsAlone}
+use Rattle.key_ring.specs.Signers.{leaves_of}
+use Rattle.replica_core.proofs.SpentLeaves.{account_still}
+use Rattle.locked_replica.specs.Replicas.{Replica, RunsAlone, AccountsForLeaves, UsesAsSigned}
 use Rattle.adversary_net.specs.declared.party.Party.{Party}
 use Rattle.adversary_net.specs.declared.party.Party.TheVariants as party
-use Rattle.adversary_net.specs.Clusters.{RunningCluster, IsCluster, IsMemberAt, IsSameCluster, state_in, state_at, correct_of, history_in, world_of}
-use Rattle.adversary_net.specs.Steps.{Applies, AppliesTo, StaysAs, Asks, IsReady, Went}
+use Rattle.adversary_net.specs.Clusters.{RunningCluster, IsCluster, IsMemberAt, IsSameCluster, is_out_of_memory, state_in, state_at, correct_of, history_in, world_of}
+use Rattle.adversary_net.specs.Steps.{Applies, AppliesTo, Stays, StaysAs, Asks, IsReady, Went}
 use Rattle.adversary_net.proofs.Members.{histories, histories_added, histories_same, roles_same, set_cases, added_numbers, numbers_of_histories}
+use Rattle.adversary_net.proofs.UsedLeaves.{uses_set, used_still, uses_none, none_out, one_out}
 use Rattle.adversary_net.proofs.Asking.{its_history, its_entries, no_memory}
 
 -- one step more
@@ -80,6 +83,7 @@ member_still c d r s config ring member = record {
   id = member.id;
   replay = subst (λ (k : Config). Replay k d.ring r s.entries) (sym config) (subst (λ (l : Ring). Replay c.config l r s.entries) (sym ring) member.replay);
   machine = subst (λ (k : Config). s.machine ≡ run k.kind (commits_of k r s.entries)) (sym config) member.machine;
+  account = member.account;
 }
 
 members_set : (c : RunningCluster) (r : ℕ) (new : Replica) (order : List ℕ) → IsCluster c → IsMemberAt c r new
@@ -100,9 +104,10 @@ members_set c r new order cluster member q s is =
 -- with a member in the place of one, of the same number and secret
 went : (c : RunningCluster) (r : ℕ) (new : Replica) (order : List ℕ) (s : WorldStep) (a : WorldReply) → IsCluster c → (at : Found c r) → IsMemberAt c r new → new.secret ≡ at.state.secret
     → map (λ (m : History). m.replica) (histories (slice_set c.parties r (party.Correct new))) ≡ map (λ (m : History). m.replica) (histories c.parties)
+    → (is_out_of_memory a ≡ false → UsesAsSigned at.state new)
     → StepsBy c.config c.ring (world_of c) (event_of c.config (world_of c) s) a (world_of (with_party c r (party.Correct new) order))
     → Went c (with_party c r (party.Correct new) order) s a
-went c r new order s a cluster at member secret numbers by =
+went c r new order s a cluster at member secret numbers uses by =
     let d = with_party c r (party.Correct new) order in
     let correct : correct_of d ≡ correct_of c =
     sym (numbers_of_histories (filter_map state_in (slice_set c.parties r (party.Correct new)))) ∙ numbers ∙ numbers_of_histories (filter_map state_in c.parties) in
@@ -116,10 +121,14 @@ went c r new order s a cluster at member secret numbers by =
           answers = cluster.ran.answers ++ a ∷ [];
           runs = subst (λ (rs : List ℕ). Runs c.config c.ring (beginning rs) (cluster.ran.steps ++ s ∷ []) (cluster.ran.answers ++ a ∷ []) (world_of d)) (sym correct)
               (runs_one c.config c.ring (beginning (correct_of c)) (world_of c) (world_of d) cluster.ran.steps cluster.ran.answers s a cluster.ran.runs by);
+          leaves = λ none.
+              let parts = none_out cluster.ran.answers a none in
+              used_still c.parties r at.state new at.there (uses (one_out a parts.1)) (cluster.ran.leaves parts.0);
         };
       };
       steps = by;
       same = record { config = refl; ring = refl; roles = roles_same c.parties r at.state new at.there secret };
+      leaves = λ none. uses_set c.parties r at.state new at.there (uses (one_out a none));
     }
 
 -- ---- an event was applied
@@ -142,6 +151,7 @@ added_member c r index e new at applied =
       id = id;
       replay = rw (sym config, sym ring, sym id) applied.replay;
       machine = rw (sym config, sym id) applied.machine;
+      account = applied.account;
     }
 
 -- with one entry more
@@ -160,13 +170,14 @@ went_on c r index new s e cluster ready at applied =
     (subst (λ b. MatchBool b (Refuses (world_of c) refused.HistoryFull (answer.Done r index) (world_of d)) (Adds c.config c.ring (world_of c) r e (answer.Done r index) (world_of d))) (sym (room_is c r at))
     (inl (applied.reply, lawful, done, world))) in
     went c r new (c.order ++ r ∷ []) s (answer.Done r index) cluster at (added_member c r index e new at applied) (ap (λ (s : Replica). s.secret) applied.rest)
-    (ap (map (λ (m : History). m.replica)) grown ∙ added_numbers r entry (histories c.parties)) by
+    (ap (map (λ (m : History). m.replica)) grown ∙ added_numbers r entry (histories c.parties)) (λ none. applied.signed) by
 
 -- without memory
 pub stayed : (c : RunningCluster) (r : ℕ) (new : Replica) (s : WorldStep) (e : Event) → IsCluster c → IsReady c (event_of c.config (world_of c) s) r e → (at : Found c r)
-    → new ≡ record at.state { used = new.used } → Went c (with_party c r (party.Correct new) c.order) s (answer.Refused refused.NoMemory)
-stayed c r new s e cluster ready at is =
+    → Stays at.state new → Went c (with_party c r (party.Correct new) c.order) s (answer.Refused refused.NoMemory)
+stayed c r new s e cluster ready at stays =
     let d = with_party c r (party.Correct new) c.order in
+    let is = stays.same in
     let id : new.id ≡ at.state.id = ap (λ (s : Replica). s.id) is in
     let entries : new.entries ≡ at.state.entries = ap (λ (s : Replica). s.entries) is in
     let same = histories_same c.parties r at.state new at.there id entries in
@@ -177,19 +188,21 @@ stayed c r new s e cluster ready at is =
       id = id ∙ at.member.id;
       replay = subst (Replay c.config c.ring r) (sym entries) at.member.replay;
       machine = ap (λ (s : Replica). s.machine) is ∙ at.member.machine ∙ ap (λ es. run c.config.kind (commits_of c.config r es)) (sym entries);
+      account = subst (λ (t : Replica). AccountsForLeaves t) (sym is)
+          (account_still at.state.config at.state.id (leaves_of at.state.secret) at.state.used new.used at.state.entries stays.least at.member.account);
     } in
     let by : StepsBy c.config c.ring (world_of c) (event_of c.config (world_of c) s) (answer.Refused refused.NoMemory) (world_of d) =
     subst (λ o. StepsBy c.config c.ring (world_of c) o (answer.Refused refused.NoMemory) (world_of d)) (sym ready.is)
     (subst (λ b. MatchBool b (Refuses (world_of c) refused.HistoryFull (answer.Refused refused.NoMemory) (world_of d)) (Adds c.config c.ring (world_of c) r e (answer.Refused refused.NoMemory) (world_of d))) (sym (room_is c r at))
     (inr (refl, world))) in
-    went c r new c.order s (answer.Refused refused.NoMemory) cluster at member (ap (λ (s : Replica). s.secret) is) (ap (map (λ (m : History). m.replica)) same) by
+    went c r new c.order s (answer.Refused refused.NoMemory) cluster at member (ap (λ (s : Replica). s.secret) is) (ap (map (λ (m : History). m.replica)) same) (λ none. cc) by
 
 pub same_as : (c : RunningCluster) → IsSameCluster c c
 same_as c = record { config = refl; ring = refl; roles = refl }
 
 -- the step was refused before
 pub refused_step : (c : RunningCluster) (s : WorldStep) (f : WorldRefusal) → IsCluster c → Asks c s (Err f) → Went c c s (answer.Refused f)
-refused_step c s f cluster asked = record { cluster = cluster; steps = asked; same = same_as c }
+refused_step c s f cluster asked = record { cluster = cluster; steps = asked; same = same_as c; leaves = uses_none c (answer.Refused f ∷ []) }
 
 -- ---- what the code did
 

@@ -1,10 +1,12 @@
 -- A running cluster as contracts see it: by number, what each replica is, and the order in which entries were added.
-use Rattle.std.specs.Prelude.{◌≡◌, ℕ, List, [], map, take, length, Option, Some, None, Result, slice_get, slice_set, option_and_then}
-use Rattle.std.specs.List.{filter_map}
+use Rattle.std.specs.Prelude.{◌≡◌, ℕ, Bool, true, false, List, [], map, take, length, Option, Some, None, Result, slice_get, slice_set, option_and_then}
+use Rattle.std.specs.List.{list_any, filter_map}
 use Rattle.ledger_model.specs.declared.config.Config.{Config}
 use Rattle.ledger_model.specs.declared.history.Entry.{Entry}
 use Rattle.ledger_model.specs.declared.history.History.{History}
+use Rattle.ledger_model.specs.declared.world.WorldRefusal.TheVariants as refused
 use Rattle.ledger_model.specs.declared.world.WorldReply.{WorldReply}
+use Rattle.ledger_model.specs.declared.world.WorldReply.TheVariants as answer
 use Rattle.ledger_model.specs.declared.world.WorldStep.{WorldStep}
 use Rattle.ledger_model.specs.Applications.{Machine, run}
 use Rattle.ledger_model.specs.Commits.{commits_of}
@@ -16,7 +18,8 @@ use Rattle.ledger_model.specs.Worlds.{World, beginning, Runs, IsReplyOn}
 use Rattle.lms_tree.specs.Trees.{Secret}
 use Rattle.key_ring.specs.Signers.{Keys, SignsAs}
 use Rattle.key_ring.specs.declared.fault.SignFault.{SignFault}
-use Rattle.locked_replica.specs.Replicas.{Replica}
+use Rattle.replica_core.specs.Leaves.{signed_by}
+use Rattle.locked_replica.specs.Replicas.{Replica, AccountsForLeaves, UsesAsSigned}
 use Rattle.adversary_net.specs.declared.party.Party.{Party}
 use Rattle.adversary_net.specs.declared.party.Party.TheVariants as party
 
@@ -75,20 +78,32 @@ world_of c = record { histories = map history_in (states_of c); order = c.order 
 
 -- ---- what holds of each running cluster
 
--- the correct replica of the number is that of the cluster: its history is a replay, and its machine is the application run
--- alone on what it committed
+-- the correct replica of the number is that of the cluster: its history is a replay, its machine is the application run
+-- alone on what it committed, and it is mute only because too few leaves were left
 pub record IsMemberAt (c : RunningCluster) (r : ℕ) (s : Replica) : Type 0 where
   pub config : s.config ≡ c.config
   pub ring : s.ring ≡ c.ring
   pub id : s.id ≡ r
   pub replay : Replay c.config c.ring r s.entries
   pub machine : s.machine ≡ run c.config.kind (commits_of c.config r s.entries)
+  pub account : AccountsForLeaves s
 
--- some steps and answers lead to it from the beginning
+-- the answer is that memory ran out
+abbrev pub is_out_of_memory : WorldReply → Bool
+is_out_of_memory (answer.Refused refused.NoMemory) = true
+is_out_of_memory _ = false
+
+-- each correct replica used one leaf for each statement of its own that its history sends, and no other
+abbrev pub UsesOnlySigned : RunningCluster → Type 0
+UsesOnlySigned c = (r : ℕ) (s : Replica) → state_at c r ≡ Some s → s.used ≡ signed_by s.entries
+
+-- some steps and answers lead to it from the beginning; if memory never ran out, each leaf that was used signed a statement of a
+-- history
 pub record HasRun (c : RunningCluster) : Type 0 where
   pub steps : List WorldStep
   pub answers : List WorldReply
   pub runs : Runs c.config c.ring (beginning (correct_of c)) steps answers (world_of c)
+  pub leaves : list_any is_out_of_memory answers ≡ false → UsesOnlySigned c
 
 -- each number below N has its party, no more than t of them lie, and what happened is a run
 pub record IsCluster (c : RunningCluster) : Type 0 where
@@ -114,6 +129,21 @@ pub record IsSameCluster (old new : RunningCluster) : Type 0 where
   pub config : new.config ≡ old.config
   pub ring : new.ring ≡ old.ring
   pub roles : map role_of new.parties ≡ map role_of old.parties
+
+-- ---- leaves
+
+-- each leaf of each correct replica is accounted for: it is mute only because too few were left
+abbrev pub AllAccountForLeaves : RunningCluster → Type 0
+AllAccountForLeaves c = (r : ℕ) (s : Replica) → state_at c r ≡ Some s → AccountsForLeaves s
+
+-- each correct replica is still there; each statement of its own that was added to its history used one leaf, and nothing else
+-- used one
+abbrev pub EachUsesAsSigned : RunningCluster → RunningCluster → Type 0
+EachUsesAsSigned old new = (r : ℕ) (s : Replica) → state_at old r ≡ Some s → (t : Replica) × ((state_at new r ≡ Some t) × UsesAsSigned s t)
+
+-- the same, if no answer is that memory ran out
+abbrev pub UsesAsAnswered : RunningCluster → List WorldReply → RunningCluster → Type 0
+UsesAsAnswered old answers new = list_any is_out_of_memory answers ≡ false → EachUsesAsSigned old new
 
 -- ---- replies of the applications
 

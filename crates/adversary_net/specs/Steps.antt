@@ -1,5 +1,5 @@
 -- One step of a running cluster: what it asks, and what it does to a replica.
-use Rattle.std.specs.Prelude.{◌≡◌, ℕ, ◌<◌, [], ◌∷◌, ◌++◌, length, Option, Some, None, Result, Ok, Err}
+use Rattle.std.specs.Prelude.{◌≡◌, ℕ, ◌<◌, ◌≤◌, [], ◌∷◌, ◌++◌, length, Option, Some, None, Result, Ok, Err}
 use Rattle.ledger_model.specs.Limits.{max_history_len}
 use Rattle.ledger_model.specs.declared.event.Event.{Event}
 use Rattle.ledger_model.specs.declared.reply.Reply.{Reply}
@@ -10,10 +10,10 @@ use Rattle.ledger_model.specs.declared.world.WorldRefusal.{WorldRefusal}
 use Rattle.ledger_model.specs.declared.world.WorldRefusal.TheVariants as refused
 use Rattle.ledger_model.specs.Lawful.{Lawful, Replay}
 use Rattle.ledger_model.specs.Worlds.{entries_in, event_of, StepsBy}
-use Rattle.locked_replica.specs.Replicas.{Replica, RunsAlone}
+use Rattle.locked_replica.specs.Replicas.{Replica, RunsAlone, AccountsForLeaves, UsesAsSigned}
 use Rattle.adversary_net.specs.declared.party.Party.{Party}
 use Rattle.adversary_net.specs.declared.party.Party.TheVariants as party
-use Rattle.adversary_net.specs.Clusters.{RunningCluster, IsCluster, IsSameCluster, world_of}
+use Rattle.adversary_net.specs.Clusters.{RunningCluster, IsCluster, IsSameCluster, UsesAsAnswered, world_of}
 
 -- why a step may not name the party
 abbrev pub fault_in : Option (Party Replica) → Option WorldRefusal
@@ -49,17 +49,25 @@ pub record Applies (old : Replica) (event : Event) (index : ℕ) (new : Replica)
   pub rest : new ≡ record old { used = new.used; entries = new.entries; machine = new.machine }
   pub replay : Replay new.config new.ring new.id new.entries
   pub machine : RunsAlone new
+  pub signed : UsesAsSigned old new
+  pub account : AccountsForLeaves new
 
 -- the party is the correct replica, with one lawful entry more
 abbrev pub AppliesTo : Replica → Event → ℕ → Party Replica → Type 0
 AppliesTo s event index p = (new : Replica) × ((p ≡ party.Correct new) × Applies s event index new)
 
+-- it is as it was, but leaves may be used
+pub record Stays (old new : Replica) : Type 0 where
+  pub same : new ≡ record old { used = new.used }
+  pub least : old.used ≤ new.used
+
 -- the party is the correct replica, but leaves may be used
 abbrev pub StaysAs : Replica → Party Replica → Type 0
-StaysAs s p = (new : Replica) × ((p ≡ party.Correct new) × (new ≡ record s { used = new.used }))
+StaysAs s p = (new : Replica) × ((p ≡ party.Correct new) × Stays s new)
 
 -- the cluster went on: what the step answered is right, and what holds of each cluster still does
 pub record Went (old new : RunningCluster) (s : WorldStep) (a : WorldReply) : Type 0 where
   pub cluster : IsCluster new
   pub steps : StepsBy old.config old.ring (world_of old) (event_of old.config (world_of old) s) a (world_of new)
   pub same : IsSameCluster old new
+  pub leaves : UsesAsAnswered old (a ∷ []) new

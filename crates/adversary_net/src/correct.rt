@@ -72,7 +72,7 @@ fn frame_at<A: Application>(state: &State<A>, index: usize, frame: usize) -> Opt
 impl<A: Application> CorrectReplica<A> {
     ghost use Rattle.ledger_model.specs.Applications.{run};
     ghost use Rattle.locked_replica.specs.Replicas.{IsMember};
-    ghost use Rattle.adversary_net.specs.Steps.{Applies};
+    ghost use Rattle.adversary_net.specs.Steps.{Applies, Stays};
 
     /// A replica with no history. The only error is want of memory.
     pub(crate) fn new(
@@ -124,7 +124,7 @@ impl<A: Application> CorrectReplica<A> {
     pub(crate) fn apply(&mut self, event: Event) -> Result<usize, AllocError>
         requires room { length self.old.entries < 65536 }
         ensures applied { IfOk result (λ index. Applies self.old event index self.new) }
-        ensures err { OnErr result (self.new ≡ record self.old { used = self.new.used }) }
+        ensures err { OnErr result (Stays self.old self.new) }
     {
         self.sent.reserve()?;
         match self.state.apply(event) {

@@ -42,7 +42,7 @@ impl<A: Application> World<A> {
     ghost use Rattle.ledger_model.specs.declared.event.Event.{Event};
     ghost use Rattle.ledger_model.specs.Timelines.{AreReplicas};
     ghost use Rattle.ledger_model.specs.Worlds.{entries_in, asks, passes, fault_of_two, Runs, OwnMachines};
-    ghost use Rattle.adversary_net.specs.Clusters.{world_of, correct_of, machine_in, HasRun, IsCluster, IsSameCluster, OwnReplies};
+    ghost use Rattle.adversary_net.specs.Clusters.{world_of, correct_of, machine_in, AllAccountForLeaves, HasRun, IsCluster, IsSameCluster, OwnReplies, UsesAsAnswered};
     ghost use Rattle.adversary_net.specs.Headline.{IsUnforged, IsOneLedger};
     ghost use Rattle.adversary_net.specs.Steps.{Refused, IsReady, Asks, Went};
 
@@ -158,9 +158,11 @@ impl<A: Application> World<A> {
         ensures runs { Runs self.old.config self.old.ring (world_of self.old) steps.now answers.new.items (world_of self.new) }
         ensures same { IsSameCluster self.old self.new }
         ensures cluster { IsCluster self.new }
+        ensures leaves { UsesAsAnswered self.old answers.new.items self.new }
     {
         for step in steps {
-            let answer = reply_of(self.step(step));
+            let outcome = self.step(step);
+            let answer = reply_of(outcome);
             match answers.push(answer) {
                 Ok(()) => {}
                 Err(_) => unreachable!(),
@@ -188,6 +190,10 @@ impl<A: Application> World<A> {
         ensures machines { OwnMachines self.new.config (world_of self.new).histories (machine_in self.new) }
         ensures replies { OwnReplies self.new.config (world_of self.new).histories }
         ensures same { IsSameCluster self.old self.new }
+        // Each correct replica is mute only because too few leaves were left.
+        ensures account { AllAccountForLeaves self.new }
+        // If memory didn't run out, each used one leaf for each statement of its own that it sent, and no other.
+        ensures leaves { IfOk result (λ answers. UsesAsAnswered self.old answers.items self.new) }
     {
         let alloc = *self.order.allocator();
         let mut answers = Vec::with_capacity(alloc, steps.len())?;

@@ -15,8 +15,8 @@ use std::marker::Model;
 /// A whole cluster, of which some replicas lie.
 ///
 /// It has the states of the correct replicas and the key pairs of the liars. Its type keeps that what happened is a run of the
-/// definitions, that each correct replica's application is what it is run alone on the replica's blocks, and that no more
-/// replicas lie than may.
+/// definitions, that each correct replica's application is what it is run alone on the replica's blocks, that each is mute only
+/// because too few leaves were left, and that no more replicas lie than may.
 pub struct World<A: Application> {
     pub(crate) config: Config,
     pub(crate) ring: KeyRing,
@@ -71,7 +71,7 @@ impl<A: Application> World<A> {
     ghost use Rattle.ledger_model.specs.Groups.{is_correct};
     ghost use Rattle.ledger_model.specs.Worlds.{entries_in, fault_at, frames_sent};
     ghost use Rattle.replica_core.specs.Telling.{info_reply};
-    ghost use Rattle.adversary_net.specs.Clusters.{world_of, state_at, HasRun, IsMemberAt, IsCluster};
+    ghost use Rattle.adversary_net.specs.Clusters.{world_of, state_at, AllAccountForLeaves, HasRun, IsMemberAt, IsCluster};
     ghost use Rattle.adversary_net.specs.Headline.{IsUnforged, IsOneLedger};
 
     /// The cluster that it is of.
@@ -88,6 +88,8 @@ impl<A: Application> World<A> {
         ensures since { HasRun self.now }
         // Where nothing that was accepted was forged, it is a run of one sequential ledger.
         ensures one_ledger { IsUnforged self.now → IsOneLedger self.now }
+        // Each correct replica is mute only because too few leaves were left.
+        ensures account { AllAccountForLeaves self.now }
     {
         &self.order
     }

@@ -1,24 +1,14 @@
 -- What is said of an error holds where it comes.
-use Rattle.std.specs.Prelude.{◌≡◌, Bool, true, false, ◌||◌, Result, Ok, Err, IfErr, MatchResult}
+use Rattle.std.specs.Prelude.{◌≡◌, Result, Ok, Err, IfErr, MatchResult}
 use Rattle.std.specs.Result.{IsErr, IsErrAnd}
-use Rattle.std.proofs.Common.{refl, subst, sym}
+use Rattle.std.proofs.Common.{subst, sym}
 
 -- what a result means, where it is an error
 pub on_error : {T E Q : Type 0} (P : T → Type 0) (r : Result T E) → IsErr r → Q → MatchResult r P (λ _. Q)
 on_error P (Ok x) bad so = absurd cc
 on_error P (Err e) bad so = so
 
--- where it is this error
-pub on_this : {T E : Type 0} (P : T → Type 0) (Q : E → Type 0) (r : Result T E) (e : E) → IsErrAnd r (λ f. f ≡ e) → Q e → MatchResult r P Q
-on_this P Q (Ok x) e is so = absurd is
-on_this P Q (Err f) e is so = subst Q (sym is) so
-
 -- what is said of the error
 pub if_this : {T E : Type 0} (Q : E → Type 0) (r : Result T E) (e : E) → IsErrAnd r (λ f. f ≡ e) → Q e → IfErr r Q
 if_this Q (Ok x) e is so = absurd is
 if_this Q (Err f) e is so = subst Q (sym is) so
-
--- nothing failed more
-pub or_false : (b : Bool) → (b || false) ≡ b
-or_false true = refl
-or_false false = refl

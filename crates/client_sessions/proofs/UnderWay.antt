@@ -1,15 +1,13 @@
 -- A session that is under way: what was read are whole requests, each of which was served.
 use Rattle.std.proofs.Common.{◌≡◌, ℕ, ◌+◌, ◌-◌, ◌^◌, List, [], ◌∷◌, ◌++◌, refl, sym, ap, subst, ◌∙◌, length, append_assoc, append-nil, arith, length-append}
-use Rattle.std.specs.Prelude.{Option, Err}
+use Rattle.std.specs.Prelude.{Option}
 use Rattle.std.specs.List.{AllByRecursion, FoldsTo, flat_map}
 use Rattle.std.specs.Io.KnownBytes.{Appends, Consumes}
 use Rattle.std.proofs.KnownBytes.{Appends-nil, Appends-trans, Consumes-nil, Consumes-trans}
 use Rattle.std.proofs.lemmas.Grind.{flat_map-append}
 use Rattle.ledger_model.specs.Sessions.{Exchange, Serves, Session, Session_of, framed, request_of}
 use Rattle.client_sessions.specs.declared.session_end.SessionEnd.{SessionEnd}
-use Rattle.client_sessions.specs.declared.session_end.SessionFault.{SessionFault}
 use Rattle.client_sessions.specs.declared.session_end.SessionFault.TheVariants as fault
-use Rattle.client_sessions.specs.Faults.{FailsToRead, FailsToWrite}
 use Rattle.client_sessions.specs.Heights.{Rises}
 use Rattle.client_sessions.specs.Serving.{Ended, Replies, Served, Stopped}
 use Rattle.client_sessions.specs.Streams.{EndsBehind, IsBody, ReadsPart}
@@ -135,13 +133,6 @@ module _ {T : Type 0} (asks : T → Exchange → T → Type 0) (count : ℕ) (be
       written = so_far.written;
     }
 
-    -- by any fault that comes of a read
-    pub breaks_off : (last : Option (List ℕ)) (fault : SessionFault) → FailsToRead {T = Unit {0}} (Err fault) → ReadsPart left last → Stopped asks count before now old session unread last had has fault
-    breaks_off last (fault.Read error) is read = read_fails last error read
-    breaks_off last (fault.Write error) is read = absurd is
-    breaks_off last fault.NoMemory is read = absurd is
-    breaks_off last fault.TooMany is read = absurd is
-
     -- no more requests are served
     pub too_many : number ≡ 2 ^ 64 - 1 → Stopped asks count before now old session unread left had has fault.TooMany
     too_many all = record {
@@ -197,11 +188,3 @@ module _ {T : Type 0} (asks : T → Exchange → T → Type 0) (count : ℕ) (be
           written = Appends-trans had has holds (flat_map framed so_far.replies) sent.done so_far.written sent.written;
         };
       }
-
-      -- by any fault that comes of a write
-      pub fails : (holds : Option (List ℕ)) (fault : SessionFault) → FailsToWrite {T = Unit {0}} (Err fault) → AppendsSome has holds (framed one.reply)
-          → Stopped asks count before after old new unread last had holds fault
-      fails holds (fault.Write error) is sent = write_fails holds error sent
-      fails holds (fault.Read error) is sent = absurd is
-      fails holds fault.NoMemory is sent = absurd is
-      fails holds fault.TooMany is sent = absurd is

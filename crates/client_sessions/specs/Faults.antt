@@ -1,32 +1,25 @@
--- Faults of a session by their cause.
-use Rattle.std.specs.Prelude.{Bool, true, false, Result, Ok, Err}
+-- Failures of a session's streams, and the faults that they become.
+use Rattle.std.specs.Prelude.{ℕ, Result, Ok, Err}
 use Rattle.client_sessions.specs.declared.session_end.SessionFault.{SessionFault}
 use Rattle.client_sessions.specs.declared.session_end.SessionFault.TheVariants as fault
 
--- a read failed
-abbrev pub failed_to_read : {T : Type 0} → Result T SessionFault → Bool
-failed_to_read (Ok x) = false
-failed_to_read (Err (fault.Read error)) = true
-failed_to_read (Err (fault.Write error)) = false
-failed_to_read (Err fault.NoMemory) = false
-failed_to_read (Err fault.TooMany) = false
+-- how many calls failed where one call had this result
+abbrev pub failures_in : {T E : Type 0} → Result T E → ℕ
+failures_in (Ok x) = 0
+failures_in (Err error) = 1
 
--- a write failed
-abbrev pub failed_to_write : {T : Type 0} → Result T SessionFault → Bool
-failed_to_write (Ok x) = false
-failed_to_write (Err (fault.Read error)) = false
-failed_to_write (Err (fault.Write error)) = true
-failed_to_write (Err fault.NoMemory) = false
-failed_to_write (Err fault.TooMany) = false
+-- how many reads failed in a session that ended so
+abbrev pub read_failures_in : {T : Type 0} → Result T SessionFault → ℕ
+read_failures_in (Ok x) = 0
+read_failures_in (Err (fault.Read error)) = 1
+read_failures_in (Err (fault.Write error)) = 0
+read_failures_in (Err fault.NoMemory) = 0
+read_failures_in (Err fault.TooMany) = 0
 
--- the only error is that a read failed
-abbrev pub FailsToRead : {T : Type 0} → Result T SessionFault → Type 0
-FailsToRead (Ok x) = Unit {0}
-FailsToRead (Err (fault.Read error)) = Unit {0}
-FailsToRead (Err _) = ⊥
-
--- the only error is that a write failed
-abbrev pub FailsToWrite : {T : Type 0} → Result T SessionFault → Type 0
-FailsToWrite (Ok x) = Unit {0}
-FailsToWrite (Err (fault.Write error)) = Unit {0}
-FailsToWrite (Err _) = ⊥
+-- how many writes failed in it
+abbrev pub write_failures_in : {T : Type 0} → Result T SessionFault → ℕ
+write_failures_in (Ok x) = 0
+write_failures_in (Err (fault.Read error)) = 0
+write_failures_in (Err (fault.Write error)) = 1
+write_failures_in (Err fault.NoMemory) = 0
+write_failures_in (Err fault.TooMany) = 0

@@ -8,11 +8,12 @@ mod request;
 mod serving;
 mod session;
 mod session_end;
+mod streams;
 mod targets;
-mod watched;
+mod transfers;
 
 pub use serving::serve;
 pub use session::Session;
 pub use session_end::{SessionEnd, SessionFault};
+pub use streams::{SessionReader, SessionWriter};
 pub use targets::{TargetFault, Targets};
-pub use watched::Watched;

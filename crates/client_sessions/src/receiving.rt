@@ -1,13 +1,13 @@
 //! One request from a reader, and no byte behind it.
-ghost use Rattle.std.specs.Prelude.{◌≡◌, ◌<◌, ◌≤◌, ◌^◌, ◌||◌, is_err, length, take, MatchResult, OnErr};
+ghost use Rattle.std.specs.Prelude.{◌≡◌, ◌<◌, ◌≤◌, ◌+◌, ◌^◌, length, MatchResult};
 ghost use Rattle.std.specs.Int.{w16, to_be_bytes, from_be_bytes};
-ghost use Rattle.client_sessions.specs.Faults.{FailsToRead};
+ghost use Rattle.client_sessions.specs.Faults.{failures_in};
 ghost use Rattle.client_sessions.specs.Streams.{Receives, ReadsPart, Stands};
-ghost use Rattle.client_sessions.specs.Watching.{stream_of, has_failed};
 
-use crate::session_end::{SessionEnd, SessionFault};
-use crate::watched::Watched;
-use std::io::Read;
+use crate::session_end::SessionEnd;
+use crate::streams::SessionReader;
+use crate::transfers::fill;
+use std::io;
 
 /// What comes next of the input.
 pub(crate) enum Received {
@@ -39,24 +39,20 @@ fn length_of(prefix: &[u8; 2]) -> usize
 }
 
 /// Reads the next request, its body into the buffer. It reads no further, so that a client can wait for the reply.
-pub(crate) fn receive<R: Read>(
-    input: &mut Watched<R>,
-    buffer: &mut [u8],
-) -> Result<Received, SessionFault>
+pub(crate) fn receive<R: SessionReader>(input: &mut R, buffer: &mut [u8]) -> io::Result<Received>
     requires { 65535 ≤ length buffer.old }
     ensures received { MatchResult result
-        (λ received. Receives (R.remaining (stream_of input.old)) (R.remaining (stream_of input.new)) buffer.new received)
-        (λ _. ReadsPart (R.remaining (stream_of input.old)) (R.remaining (stream_of input.new))) }
-    ensures fault { FailsToRead result }
-    ensures failed { has_failed input.new ≡ (has_failed input.old || is_err result) }
+        (λ received. Receives (R.remaining input.old) (R.remaining input.new) buffer.new received)
+        (λ _. ReadsPart (R.remaining input.old) (R.remaining input.new)) }
+    ensures counted { R.failures input.new ≡ R.failures input.old + failures_in result }
 {
     let mut prefix = [0; 2];
-    let count = input.fill(&mut prefix)?;
+    let count = fill(input, &mut prefix)?;
     if count < prefix.len() {
         return Ok(Received::End(end_behind(&prefix[..count])));
     }
     let len = length_of(&prefix);
-    let count = input.fill(&mut buffer[..len])?;
+    let count = fill(input, &mut buffer[..len])?;
     if count < len {
         return Ok(Received::End(SessionEnd::Cut));
     }

@@ -3,12 +3,12 @@ ghost use Rattle.std.specs.Prelude.{◌≡◌, ◌<◌, ◌≤◌, ◌^◌, ◌+
 ghost use Rattle.ledger_model.specs.Sessions.{framed};
 
 use crate::answer::Answer;
-use crate::session_end::SessionFault;
+use crate::streams::SessionWriter;
 use crate::targets::TargetFault;
-use crate::watched::Watched;
+use crate::transfers;
 use ledger_model::{Batch, Height, QueryAnswer, SubmitRefusal, Tx};
 use std::alloc::{AllocError, Global};
-use std::io::Write;
+use std::io;
 use std::marker::Model;
 
 /// The most bytes of a request's or a reply's body: two bytes tell how many there are.
@@ -61,14 +61,13 @@ impl Model for Reply {
 }
 
 impl Reply {
-    ghost use Rattle.std.specs.Prelude.{◌≡◌, ◌<◌, ◌≤◌, ◌+◌, ◌*◌, ◌||◌, is_err, [], ◌∷◌, ◌++◌, length, IfOk, IfSome};
+    ghost use Rattle.std.specs.Prelude.{◌≡◌, ◌<◌, ◌≤◌, ◌+◌, ◌*◌, [], ◌∷◌, ◌++◌, length, IfOk, IfSome};
     ghost use Rattle.std.specs.Int.{w32, to_be_bytes};
     ghost use Rattle.std.specs.List.{flat_map};
     ghost use Rattle.ledger_model.specs.Values.{IsTx, IsValue, value_bytes};
     ghost use Rattle.ledger_model.specs.Sessions.{refused, faulty, present, framed};
-    ghost use Rattle.client_sessions.specs.Faults.{FailsToWrite};
+    ghost use Rattle.client_sessions.specs.Faults.{failures_in};
     ghost use Rattle.client_sessions.specs.Streams.{IsBody};
-    ghost use Rattle.client_sessions.specs.Watching.{stream_of, has_failed};
     ghost use Rattle.client_sessions.specs.Writing.{Writes};
     ghost use Rattle.client_sessions.specs.Asking.{fault_of, max_value_len};
     ghost use Rattle.client_sessions.specs.Answers.{answer_bytes, IsShort};
@@ -217,14 +216,13 @@ impl Reply {
         }
     }
 
-    /// Sends it, with its length in front. After a fault a beginning of that was written.
-    pub(crate) fn send<W: Write>(&mut self, output: &mut Watched<W>) -> Result<(), SessionFault>
-        ensures written { Writes result (W.contents (stream_of output.old)) (W.contents (stream_of output.new)) (framed self.old) }
+    /// Sends it, with its length in front. After an error a beginning of that was written.
+    pub(crate) fn send<W: SessionWriter>(&mut self, output: &mut W) -> io::Result<()>
+        ensures written { Writes result (W.contents output.old) (W.contents output.new) (framed self.old) }
         ensures short { IsBody self.old }
-        ensures fault { FailsToWrite result }
-        ensures failed { has_failed output.new ≡ (has_failed output.old || is_err result) }
+        ensures counted { W.failures output.new ≡ W.failures output.old + failures_in result }
     {
         put_length(self.bytes.as_mut_slice());
-        output.send(self.bytes.as_slice())
+        transfers::send(output, self.bytes.as_slice())
     }
 }

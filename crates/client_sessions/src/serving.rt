@@ -1,8 +1,7 @@
 //! A session from its first request to its end.
-ghost use Rattle.std.specs.Prelude.{◌≡◌, ◌<◌, ◌≤◌, ◌^◌, ◌||◌, is_err, length, vec_len, IfOk, IfErr, MatchResult};
-ghost use Rattle.client_sessions.specs.Faults.{FailsToWrite, failed_to_read, failed_to_write};
+ghost use Rattle.std.specs.Prelude.{◌≡◌, ◌<◌, ◌≤◌, ◌+◌, ◌^◌, length, vec_len, IfOk, IfErr, MatchResult};
+ghost use Rattle.client_sessions.specs.Faults.{failures_in, read_failures_in, write_failures_in};
 ghost use Rattle.client_sessions.specs.Serving.{Ended, Replies, Stopped};
-ghost use Rattle.client_sessions.specs.Watching.{stream_of, has_failed};
 ghost use Rattle.client_sessions.specs.Writing.{Writes};
 
 use crate::receiving::{Received, receive};
@@ -10,10 +9,10 @@ use crate::reply::{MAX_BODY_LEN, Reply};
 use crate::request::Request;
 use crate::session::Session;
 use crate::session_end::{SessionEnd, SessionFault};
+use crate::streams::{SessionReader, SessionWriter};
 use crate::targets::Targets;
-use crate::watched::Watched;
 use std::alloc::{AllocError, Global};
-use std::io::{Read, Write};
+use std::io;
 
 /// Room for the body of a request, and for a reply.
 fn buffers(alloc: Global) -> Result<(Vec<u8>, Reply), AllocError>
@@ -25,18 +24,17 @@ fn buffers(alloc: Global) -> Result<(Vec<u8>, Reply), AllocError>
 }
 
 /// Serves the request of a body, and sends its reply.
-fn reply_to<W: Write, T: Targets>(
+fn reply_to<W: SessionWriter, T: Targets>(
     body: &[u8],
-    output: &mut Watched<W>,
+    output: &mut W,
     session: &mut Session,
     targets: &mut T,
     reply: &mut Reply,
-) -> Result<(), SessionFault>
+) -> io::Result<()>
     requires { session.old.replica < T.replicas targets.old }
     ensures replies { Replies T.asks (T.replicas targets.old) targets.old targets.new session.old body.now session.new
-        (Writes result (W.contents (stream_of output.old)) (W.contents (stream_of output.new))) }
-    ensures fault { FailsToWrite result }
-    ensures failed { has_failed output.new ≡ (has_failed output.old || is_err result) }
+        (Writes result (W.contents output.old) (W.contents output.new)) }
+    ensures counted { W.failures output.new ≡ W.failures output.old + failures_in result }
     ensures never_falls { session.old.greatest ≤ session.new.greatest }
     ensures known { session.new.replica < T.replicas targets.new }
     ensures count { T.replicas targets.new ≡ T.replicas targets.old }
@@ -47,9 +45,9 @@ fn reply_to<W: Write, T: Targets>(
 }
 
 /// Serves one request after the other.
-fn serve_all<R: Read, W: Write, T: Targets>(
-    input: &mut Watched<R>,
-    output: &mut Watched<W>,
+fn serve_all<R: SessionReader, W: SessionWriter, T: Targets>(
+    input: &mut R,
+    output: &mut W,
     session: &mut Session,
     targets: &mut T,
     buffer: &mut [u8],
@@ -59,47 +57,53 @@ fn serve_all<R: Read, W: Write, T: Targets>(
     requires room { 65535 ≤ length buffer.old }
     ensures served { MatchResult result
         (λ end. Ended T.asks (T.replicas targets.old) targets.old targets.new session.old session.new
-        (R.remaining (stream_of input.old)) (R.remaining (stream_of input.new)) (W.contents (stream_of output.old)) (W.contents (stream_of output.new)) end)
+        (R.remaining input.old) (R.remaining input.new) (W.contents output.old) (W.contents output.new) end)
         (λ fault. Stopped T.asks (T.replicas targets.old) targets.old targets.new session.old session.new
-        (R.remaining (stream_of input.old)) (R.remaining (stream_of input.new)) (W.contents (stream_of output.old)) (W.contents (stream_of output.new)) fault) }
+        (R.remaining input.old) (R.remaining input.new) (W.contents output.old) (W.contents output.new) fault) }
     ensures never_falls { session.old.greatest ≤ session.new.greatest }
     ensures known { session.new.replica < T.replicas targets.new }
     ensures count { T.replicas targets.new ≡ T.replicas targets.old }
-    ensures reader { has_failed input.new ≡ (has_failed input.old || failed_to_read result) }
-    ensures writer { has_failed output.new ≡ (has_failed output.old || failed_to_write result) }
+    ensures reader { R.failures input.new ≡ R.failures input.old + read_failures_in result }
+    ensures writer { W.failures output.new ≡ W.failures output.old + write_failures_in result }
 {
     for _served in 0..u64::MAX {
-        match receive(input, buffer)? {
-            Received::End(end) => return Ok(end),
-            Received::Body(len) => reply_to(&buffer[..len], output, session, targets, reply)?,
+        match receive(input, buffer) {
+            Ok(Received::End(end)) => return Ok(end),
+            Ok(Received::Body(len)) => {
+                match reply_to(&buffer[..len], output, session, targets, reply) {
+                    Ok(()) => {}
+                    Err(error) => return Err(SessionFault::Write(error)),
+                }
+            }
+            Err(error) => return Err(SessionFault::Read(error)),
         }
     }
     Err(SessionFault::TooMany)
 }
 
 /// Serves a session over a reader and a writer: to each request one reply, as soon as the request was read in whole. Nothing
-/// is read beyond the request that is served next.
-pub fn serve<R: Read, W: Write, T: Targets>(
+/// is read beyond the request that is served next. The first failure of a stream ends the session.
+pub fn serve<R: SessionReader, W: SessionWriter, T: Targets>(
     alloc: Global,
-    input: &mut Watched<R>,
-    output: &mut Watched<W>,
+    input: &mut R,
+    output: &mut W,
     session: &mut Session,
     targets: &mut T,
 ) -> Result<SessionEnd, SessionFault>
     requires { session.old.replica < T.replicas targets.old }
     // All requests were served, and the input has no more: whole requests and, where it is cut, a part of one.
     ensures ends { IfOk result (λ end. Ended T.asks (T.replicas targets.old) targets.old targets.new session.old session.new
-        (R.remaining (stream_of input.old)) (R.remaining (stream_of input.new)) (W.contents (stream_of output.old)) (W.contents (stream_of output.new)) end) }
+        (R.remaining input.old) (R.remaining input.new) (W.contents output.old) (W.contents output.new) end) }
     // The first requests were served, as far as it came; for want of memory none were.
     ensures stops { IfErr result (λ fault. Stopped T.asks (T.replicas targets.old) targets.old targets.new session.old session.new
-        (R.remaining (stream_of input.old)) (R.remaining (stream_of input.new)) (W.contents (stream_of output.old)) (W.contents (stream_of output.new)) fault) }
+        (R.remaining input.old) (R.remaining input.new) (W.contents output.old) (W.contents output.new) fault) }
     // The heights that this client was told don't fall.
     ensures never_falls { session.old.greatest ≤ session.new.greatest }
     ensures known { session.new.replica < T.replicas targets.new }
     ensures count { T.replicas targets.new ≡ T.replicas targets.old }
-    // A fault of a stream comes exactly where that stream failed.
-    ensures reader { has_failed input.new ≡ (has_failed input.old || failed_to_read result) }
-    ensures writer { has_failed output.new ≡ (has_failed output.old || failed_to_write result) }
+    // The reader failed once in this call if a read's fault ended the session, and else never; so the writer.
+    ensures reader { R.failures input.new ≡ R.failures input.old + read_failures_in result }
+    ensures writer { W.failures output.new ≡ W.failures output.old + write_failures_in result }
 {
     let (mut buffer, mut reply) = buffers(alloc)?;
     serve_all(input, output, session, targets, &mut buffer, &mut reply)

@@ -15,12 +15,16 @@ use std::thread::Threads;
 use std::time::Clock;
 
 /// What asks a cluster to stop: nothing, or the end of the input, if the settings ask for that.
-fn new_stop<R: Threads, I: Read + Drop + Send + 'static>(
+fn new_stop<R, I>(
     rt: &R,
     alloc: Global,
     settings: &ClusterSettings,
     input: I,
-) -> Result<Arc<Stop>, ProgramFault> {
+) -> Result<Arc<Stop>, ProgramFault>
+where
+    R: Clock + Copy + Send + Threads + 'static,
+    I: Read + Drop + Send + 'static,
+{
     let stop = Arc::new(alloc, Stop::new())?;
     if settings.stops_at_eof {
         stop_at_end(rt, input, Arc::try_clone(&stop)?)?;
@@ -28,21 +32,30 @@ fn new_stop<R: Threads, I: Read + Drop + Send + 'static>(
     Ok(stop)
 }
 
+/// Refuses a watcher that can't be written to, before a socket may take its descriptor.
+fn try_watcher<P: Write + Drop>(watcher: &mut Option<Watcher<P>>) -> Result<(), ProgramFault> {
+    if let Some(watcher) = watcher {
+        watcher.try_write()?;
+    }
+    Ok(())
+}
+
 /// `abft cluster`: runs a cluster, and writes a line for each replica: how many blocks it committed.
 pub fn cluster<R, P, I, W: Write>(
     rt: &R,
     alloc: Global,
     settings: &ClusterSettings,
-    watcher: Option<Watcher<P>>,
+    mut watcher: Option<Watcher<P>>,
     input: I,
     writer: &mut W,
 ) -> Result<(), ProgramFault>
 where
-    R: Clock + RandomSource + Threads + Wait + Sync,
-    P: Write + Drop + Send,
+    R: Clock + Copy + RandomSource + Send + Sync + Threads + Wait + 'static,
+    P: Write + Drop + Send + 'static,
     I: Read + Drop + Send + 'static,
     ensures { WritesSuch result (Reports settings.now) (W.contents writer.old) (W.contents writer.new) }
 {
+    try_watcher(&mut watcher)?;
     let stop = new_stop(rt, alloc, settings, input)?;
     let heights = run_cluster(rt, alloc, settings, watcher, &stop)?;
     write_commits(alloc, &heights, writer)
@@ -53,21 +66,25 @@ pub fn serve<R, P, I, W: Write>(
     rt: &R,
     alloc: Global,
     settings: &ServeSettings,
-    watcher: Option<Watcher<P>>,
+    mut watcher: Option<Watcher<P>>,
     input: I,
     writer: &mut W,
 ) -> Result<(), ProgramFault>
 where
     R: Clock
+        + Copy
         + Net<Listener = TcpListener, Stream = TcpStream>
         + RandomSource
+        + Send
+        + Sync
         + Threads
         + Wait
-        + Sync,
-    P: Write + Drop + Send,
+        + 'static,
+    P: Write + Drop + Send + 'static,
     I: Read + Drop + Send + 'static,
     ensures { WritesSuch result (ReportsServed settings.now) (W.contents writer.old) (W.contents writer.new) }
 {
+    try_watcher(&mut watcher)?;
     let stop = new_stop(rt, alloc, &settings.cluster, input)?;
     let (listener, port) = listen_at(rt, settings.port)?;
     write_port(alloc, port, writer)?;

@@ -1,7 +1,8 @@
 //! One question of a client to a replica, answered as a session tells it.
-ghost use Rattle.std.specs.Prelude.{◌≡◌, ◌⊎◌, ◌≤◌, ◌<◌, ◌+◌, ◌↔◌, true, Ok, length, IfOk, IfSome, IfNone, OnOk, OnErr, IsErrOf};
+ghost use Rattle.std.specs.Prelude.{◌≡◌, ◌⊎◌, ◌≤◌, ◌<◌, ◌+◌, ◌↔◌, ◌∷◌, [], true, None, Ok, length, IfOk, IfSome, IfNone, OnOk, OnErr, IsErrOf};
 ghost use Rattle.ledger_model.specs.Commits.{commits_of, submit_reply};
 ghost use Rattle.ledger_model.specs.Replies.{query_reply};
+ghost use Rattle.ledger_model.specs.declared.event.Event.TheVariants as events;
 ghost use Rattle.replica_turns.specs.Clients.{is_tx_len, submit_events};
 ghost use Rattle.replica_turns.specs.Turns.{Takes};
 ghost use Rattle.client_sessions.specs.Asking.{max_value_len};
@@ -46,6 +47,9 @@ fn key_of(alloc: Global, bytes: &[u8]) -> Result<Option<Key>, AllocError>
 }
 
 /// Asks the application for a key, as of its last block. Keys of more than 64 bytes have no value, and are no event.
+///
+/// After `HistoryFull` nothing has changed. After `NoMemory` the query may be in the history although its answer could not be
+/// handed out.
 pub(crate) fn query<A: Application>(
     alloc: Global,
     state: &mut State<A>,
@@ -54,6 +58,13 @@ pub(crate) fn query<A: Application>(
 ) -> Result<QueryAnswer, TargetFault>
     ensures answer { length key.now ≤ 64 → IfOk result (λ answer. Ok answer ≡ query_reply state.old.config.kind
         (commits_of state.old.config state.old.id state.old.entries) key.now 0) }
+    ensures event { length key.now ≤ 64 → OnOk result (Takes state.old.entries (events.Query key.now 0 ∷ []) state.new.entries) }
+    ensures fault { OnErr result ((state.new ≡ state.old) ⊎ Takes state.old.entries (events.Query key.now 0 ∷ []) state.new.entries) }
+    ensures full { IsErrOf result TargetFault.HistoryFull → (length key.now ≤ 64) × ((entries.old ≡ 0) ⊎ (65536 ≤ length state.old.entries)) }
+    ensures same { IsErrOf result TargetFault.HistoryFull → state.new ≡ state.old }
+    ensures long { 64 < length key.now → IfOk result (λ answer. answer
+        ≡ record { height = length (commits_of state.old.config state.old.id state.old.entries); value = None }) }
+    ensures long_same { 64 < length key.now → state.new ≡ state.old }
     ensures short { IfOk result (λ answer. IfSome answer.value (λ v. length v ≤ max_value_len)) }
     ensures used { length state.new.entries + entries.new ≡ length state.old.entries + entries.old }
 {

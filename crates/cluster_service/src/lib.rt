@@ -10,12 +10,14 @@
 #![tactic(auto)]
 
 mod asking;
+mod cluster_status;
 mod door;
 mod listening;
 mod live_targets;
 mod notice;
 mod replicas;
 mod reporter;
+mod reporting;
 mod running;
 mod stopping;
 

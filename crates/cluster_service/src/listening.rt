@@ -4,9 +4,10 @@ ghost use Rattle.std.specs.Prelude.{◌≡◌, All, length};
 use crate::door::Door;
 use crate::live_targets::LiveTargets;
 use abci::Application;
-use client_sessions::{Session, Watched, serve};
+use client_sessions::{Session, serve};
 use cluster_workers::{Cluster, Stop};
 use commit_board::ReaderSeat;
+use counted_streams::CountedStream;
 use replica_turns::ClientEntries;
 use std::alloc::{AllocError, Global};
 use std::net::{TcpListener, TcpStream};
@@ -25,8 +26,8 @@ fn serve_session<A: Application, R: Wait>(
     mut targets: LiveTargets<'_, A, R>,
 ) {
     let _ = stream.set_nodelay(true);
-    let mut input = Watched::new(stream);
-    let mut output = Watched::new(stream);
+    let mut input = CountedStream::new(stream);
+    let mut output = CountedStream::new(stream);
     let mut session = Session::new();
     let _ = serve(alloc, &mut input, &mut output, &mut session, &mut targets);
 }

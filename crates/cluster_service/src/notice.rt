@@ -34,6 +34,13 @@ pub(crate) enum Notice {
     Stopped,
 }
 
+impl Notice {
+    /// Whether a terminal's line of progress shows it, and a log doesn't.
+    pub(crate) fn is_progress(&self) -> bool {
+        matches!(self, Notice::Keys(_))
+    }
+}
+
 impl fmt::Display for Notice {
     fn fmt<W: fmt::Write>(&self, f: &mut fmt::Formatter<W>) -> fmt::Result {
         match self {

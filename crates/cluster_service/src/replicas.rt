@@ -1,6 +1,7 @@
 //! The replicas of a cluster as they begin, and what they committed at its end.
-ghost use Rattle.std.specs.Prelude.{◌≡◌, ◌<◌, vec_len, IfOk};
+ghost use Rattle.std.specs.Prelude.{◌≡◌, ◌<◌, [], vec_len, IfOk, OnOk};
 ghost use Rattle.cluster_keys.specs.Keys.{ring_of, secret_of, unused};
+ghost use Rattle.cluster_service.specs.Replicas.{all_begun, begun, submitted};
 
 use abci::Application;
 use app_kinds::AnyKind;
@@ -19,7 +20,7 @@ use std::sync::Wait;
 use std::thread::Threads;
 
 /// Why a replica took no event.
-fn told(fault: ApplyFault) -> ProgramFault {
+fn fault_of(fault: ApplyFault) -> ProgramFault {
     match fault {
         ApplyFault::HistoryFull => ProgramFault::HistoryFull,
         ApplyFault::NoMemory => ProgramFault::NoMemory,
@@ -30,10 +31,21 @@ fn randoms<R: RandomSource>(source: &R) -> Result<[RandomState; 2], ProgramFault
     Ok([RandomState::new(source)?, RandomState::new(source)?])
 }
 
-fn submit(alloc: Global, state: &mut State<AnyKind>, tx: &Tx) -> Result<(), ProgramFault> {
+/// Submits the transaction to a replica to which nothing happened.
+fn submit(
+    alloc: Global,
+    cluster: &ClusterSeed,
+    state: &mut State<AnyKind>,
+    tx: &Tx,
+) -> Result<(), ProgramFault>
+    requires fresh { state.old ≡ begun cluster.now [] state.old.id }
+    ensures { OnOk result (state.new ≡ begun cluster.now (submitted cluster.now tx.now state.old.id) state.old.id) }
+{
     let tx = Bytes::copy_from_slice(alloc, tx.as_bytes())?;
-    let _ = state.apply(Event::Submit(tx)).map_err(told)?;
-    Ok(())
+    match state.apply(Event::Submit(tx)) {
+        Ok(_) => Ok(()),
+        Err(fault) => Err(fault_of(fault)),
+    }
 }
 
 /// A replica with nothing in its pool.
@@ -48,6 +60,7 @@ fn empty_state<R: RandomSource>(
     requires below { id < cluster.now.config.replicas }
     requires signer { signer ≡ unused (secret_of cluster.now id) }
     requires ring { ring.now ≡ ring_of cluster.now }
+    ensures { IfOk result (λ state. state ≡ begun cluster.now [] id) }
 {
     let randoms = randoms(source)?;
     let app = AnyKind::new(alloc, cluster.config.kind);
@@ -68,21 +81,23 @@ fn new_state<R: RandomSource>(
     requires below { id < cluster.now.config.replicas }
     requires signer { signer ≡ unused (secret_of cluster.now id) }
     requires ring { ring.now ≡ ring_of cluster.now }
+    ensures { IfOk result (λ state. state ≡ begun cluster.now (submitted cluster.now tx.now id) id) }
 {
     let mut state = empty_state(source, alloc, cluster, id, signer, ring)?;
-    submit(alloc, &mut state, tx)?;
+    submit(alloc, cluster, &mut state, tx)?;
     Ok(state)
 }
 
-/// The replicas of a cluster, by number, each with the transaction in its pool. Computes each replica's tree once, in parallel. The
-/// random bytes are the keys of hashes. An `Err` is that memory ran out, or that there were no random bytes.
+/// The replicas of a cluster, by number, to each of which the transaction was submitted. Computes each replica's tree once, in
+/// parallel. The random bytes are the keys of hashes. An `Err` is that memory ran out, or that there were no random bytes.
 pub fn new_replicas<R: RandomSource + Threads + Sync>(
     source: &R,
     alloc: Global,
     cluster: &ClusterSeed,
     tx: &Tx,
 ) -> Result<Vec<State<AnyKind>>, ProgramFault>
-    ensures { IfOk result (λ states. vec_len states ≡ cluster.now.config.replicas) }
+    ensures count { IfOk result (λ states. vec_len states ≡ cluster.now.config.replicas) }
+    ensures replicas { IfOk result (λ states. states.items ≡ all_begun cluster.now tx.now) }
 {
     let ClusterKeys { signers, ring } = all_keys_in_parallel(source, alloc, cluster)?;
     let mut signers = signers.into_iter();

@@ -8,7 +8,8 @@ use crate::listening::{listen, targets_of};
 use crate::live_targets::LiveTargets;
 use crate::notice::Notice;
 use crate::replicas::{heights_of, new_replicas};
-use crate::reporter::{Reporter, ReportingGate, Watcher};
+use crate::reporter::{Watcher, start_reporter};
+use crate::reporting::ReportingGate;
 use app_kinds::AnyKind;
 use cluster_workers::{Cluster, MachineClock, Stop, Worker, run_all};
 use commit_board::ReaderSeat;
@@ -68,41 +69,59 @@ fn new_cluster<R: RandomSource + Threads + Sync>(
     Ok(made)
 }
 
-/// The gate that tells the watcher of a cluster how its replicas stand. It begins with what is to be known before the keys are made.
-fn new_gate<'a, R: Wait, P: Write + Drop>(
+/// The gate of a cluster's workers, which has its watcher told how the replicas stand. It begins with what is to be known before the
+/// keys are made.
+fn new_gate<'a, R, P>(
     rt: &'a R,
     alloc: Global,
     settings: &ClusterSettings,
     watcher: Option<Watcher<P>>,
-) -> Result<ReportingGate<'a, R, P>, AllocError> {
+) -> Result<ReportingGate<'a, R>, ProgramFault>
+where
+    R: Copy + Send + Threads + Wait + 'static,
+    P: Write + Drop + Send + 'static,
+{
     let watcher = if settings.is_quiet { None } else { watcher };
     let replicas = settings.cluster.config.replicas;
-    let mut reporter = Reporter::new(alloc, watcher, replicas, settings.rounds)?;
+    let shared = start_reporter(rt, alloc, watcher, replicas, settings.rounds)?;
+    let gate = ReportingGate::new(rt, shared);
     if settings.cluster.seed == [0; 32] {
-        reporter.tell(Notice::DefaultSeed);
+        gate.tell(Notice::DefaultSeed);
     }
-    reporter.tell_progress(Notice::Keys(replicas));
-    Ok(ReportingGate::new(rt, reporter))
+    gate.tell(Notice::Keys(replicas));
+    Ok(gate)
 }
 
 /// Runs the workers of a cluster until their rounds are over, or it is asked to stop.
-fn run_workers<R, P>(
+fn run_workers<R: Clock + Threads + Wait + Sync>(
     rt: &R,
     settings: &ClusterSettings,
     workers: Vec<Worker<AnyKind>>,
-    gate: &ReportingGate<'_, R, P>,
+    gate: &ReportingGate<'_, R>,
     stop: &Stop,
-) -> Result<(), ProgramFault>
-where
-    R: Clock + Threads + Wait + Sync,
-    P: Write + Drop + Send,
-{
+) -> Result<(), ProgramFault> {
     let clock = MachineClock::start(rt, settings.base_ms)?;
     if run_all(rt, workers, &clock, gate, stop) {
         Ok(())
     } else {
         Err(ProgramFault::NoThread)
     }
+}
+
+/// Makes a cluster and runs it, and answers how many blocks each replica committed.
+fn run_through<R: Clock + RandomSource + Threads + Wait + Sync>(
+    rt: &R,
+    alloc: Global,
+    settings: &ClusterSettings,
+    gate: &ReportingGate<'_, R>,
+    stop: &Stop,
+) -> Result<Vec<u32>, ProgramFault>
+    ensures each { IfOk result (λ heights. vec_len heights ≡ settings.now.cluster.config.replicas) }
+{
+    let (cluster, workers, _) = new_cluster(rt, alloc, settings, 0)?;
+    run_workers(rt, settings, workers, gate, stop)?;
+    gate.tell(end_of(stop, Notice::RoundsOver));
+    heights_of(rt, alloc, &cluster, settings.cluster.config.replicas)
 }
 
 /// Runs a cluster until its rounds are over, or it is asked to stop, and answers how many blocks each replica committed, by number.
@@ -115,15 +134,14 @@ pub fn run_cluster<R, P>(
     stop: &Stop,
 ) -> Result<Vec<u32>, ProgramFault>
 where
-    R: Clock + RandomSource + Threads + Wait + Sync,
-    P: Write + Drop + Send,
+    R: Clock + Copy + RandomSource + Send + Sync + Threads + Wait + 'static,
+    P: Write + Drop + Send + 'static,
     ensures each { IfOk result (λ heights. vec_len heights ≡ settings.now.cluster.config.replicas) }
 {
     let gate = new_gate(rt, alloc, settings, watcher)?;
-    let (cluster, workers, _) = new_cluster(rt, alloc, settings, 0)?;
-    run_workers(rt, settings, workers, &gate, stop)?;
-    gate.tell(end_of(stop, Notice::RoundsOver));
-    heights_of(rt, alloc, &cluster, settings.cluster.config.replicas)
+    let done = run_through(rt, alloc, settings, &gate, stop);
+    gate.close();
+    done
 }
 
 /// The notice that the workers have ended.
@@ -172,12 +190,12 @@ fn end_sessions<R: Clock + Net<Listener = TcpListener, Stream = TcpStream> + Wai
 }
 
 /// Runs the workers of a cluster beside the sessions of its clients, until both have ended.
-fn run_beside<'a, R, P>(
+fn run_beside<'a, R>(
     rt: &R,
     alloc: Global,
     settings: &ClusterSettings,
     workers: Vec<Worker<AnyKind>>,
-    gate: &ReportingGate<'_, R, P>,
+    gate: &ReportingGate<'_, R>,
     listener: TcpListener,
     port: u16,
     targets: Vec<LiveTargets<'a, AnyKind, R>>,
@@ -186,7 +204,6 @@ fn run_beside<'a, R, P>(
 ) -> Result<(), ProgramFault>
 where
     R: Clock + Net<Listener = TcpListener, Stream = TcpStream> + Threads + Wait + Sync,
-    P: Write + Drop + Send,
 {
     thread::scope(thread::scope_env(), rt, move |scope| {
         if scope
@@ -203,21 +220,20 @@ where
 }
 
 /// Runs the workers of a cluster beside as many sessions as there are seats, which share so many entries of each history.
-fn serve_beside<R, P>(
+fn serve_beside<R>(
     rt: &R,
     alloc: Global,
     settings: &ServeSettings,
     cluster: &Cluster<AnyKind>,
     workers: Vec<Worker<AnyKind>>,
     seats: Vec<ReaderSeat>,
-    gate: &ReportingGate<'_, R, P>,
+    gate: &ReportingGate<'_, R>,
     listener: TcpListener,
     port: u16,
     stop: &Stop,
 ) -> Result<(), ProgramFault>
 where
     R: Clock + Net<Listener = TcpListener, Stream = TcpStream> + Threads + Wait + Sync,
-    P: Write + Drop + Send,
     requires readers { (k : ℕ) → k < vec_len seats → slice_get seats.items k ≡ Some (new_reader cluster.now.board) }
     requires replicas { settings.now.cluster.cluster.config.replicas ≡ cluster.now.replicas }
 {
@@ -227,6 +243,37 @@ where
     let targets = targets_of(rt, alloc, cluster, &entries, seats)?;
     run_beside(
         rt, alloc, run, workers, gate, listener, port, targets, stop, &door,
+    )
+}
+
+/// Makes a cluster, runs it and serves its clients, and answers how many blocks each replica committed.
+fn serve_through<R>(
+    rt: &R,
+    alloc: Global,
+    settings: &ServeSettings,
+    gate: &ReportingGate<'_, R>,
+    listener: TcpListener,
+    port: u16,
+    stop: &Stop,
+) -> Result<Vec<u32>, ProgramFault>
+where
+    R: Clock
+        + Net<Listener = TcpListener, Stream = TcpStream>
+        + RandomSource
+        + Threads
+        + Wait
+        + Sync,
+    ensures each { IfOk result (λ heights. vec_len heights ≡ settings.now.cluster.cluster.config.replicas) }
+{
+    let (cluster, workers, seats) = new_cluster(rt, alloc, &settings.cluster, settings.sessions)?;
+    serve_beside(
+        rt, alloc, settings, &cluster, workers, seats, gate, listener, port, stop,
+    )?;
+    heights_of(
+        rt,
+        alloc,
+        &cluster,
+        settings.cluster.cluster.config.replicas,
     )
 }
 
@@ -243,20 +290,19 @@ pub fn serve_cluster<R, P>(
 ) -> Result<Vec<u32>, ProgramFault>
 where
     R: Clock
+        + Copy
         + Net<Listener = TcpListener, Stream = TcpStream>
         + RandomSource
+        + Send
+        + Sync
         + Threads
         + Wait
-        + Sync,
-    P: Write + Drop + Send,
+        + 'static,
+    P: Write + Drop + Send + 'static,
     ensures each { IfOk result (λ heights. vec_len heights ≡ settings.now.cluster.cluster.config.replicas) }
 {
-    let run = &settings.cluster;
-    let replicas = run.cluster.config.replicas;
-    let gate = new_gate(rt, alloc, run, watcher)?;
-    let (cluster, workers, seats) = new_cluster(rt, alloc, run, settings.sessions)?;
-    serve_beside(
-        rt, alloc, settings, &cluster, workers, seats, &gate, listener, port, stop,
-    )?;
-    heights_of(rt, alloc, &cluster, replicas)
+    let gate = new_gate(rt, alloc, &settings.cluster, watcher)?;
+    let done = serve_through(rt, alloc, settings, &gate, listener, port, stop);
+    gate.close();
+    done
 }

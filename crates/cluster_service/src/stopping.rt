@@ -5,35 +5,44 @@ use std::io::{ErrorKind, Read};
 use std::sync::Arc;
 use std::thread;
 use std::thread::Threads;
+use std::time::{Clock, Duration};
 
 /// The most bytes that are read at once.
 const PIECE_LEN: usize = 4096;
 
-/// Reads an input until it ends or can't be read any more.
-fn read_to_end<I: Read>(input: &mut I) {
+/// How many milliseconds pass before an input is read again that had nothing to read.
+const RETRY_MS: u64 = 50;
+
+/// Reads an input until it ends or can't be read any more. One that has nothing to read, and would not wait, is read again.
+fn read_to_end<R: Clock, I: Read>(rt: &R, input: &mut I) {
     let mut piece = [0; PIECE_LEN];
     for _ in 0..u64::MAX {
         match input.read(&mut piece) {
             Ok(0) => break,
             Ok(_) => {}
             Err(error) if error.kind() == ErrorKind::Interrupted => {}
+            Err(error) if error.kind() == ErrorKind::WouldBlock => {
+                let _ = thread::sleep(rt, Duration::from_millis(RETRY_MS));
+            }
             Err(_) => break,
         }
     }
 }
 
-/// Asks a cluster to stop where the input ends, in a thread of its own, which nobody waits for. The only error is that there is no
-/// thread.
-pub fn stop_at_end<R: Threads, I: Read + Drop + Send + 'static>(
-    rt: &R,
-    mut input: I,
-    stop: Arc<Stop>,
-) -> Result<(), ProgramFault> {
+/// Asks a cluster to stop where the input ends, in a thread of its own, which nobody waits for. The errors are an input that can't be
+/// read, and that there is no thread.
+pub fn stop_at_end<R, I>(rt: &R, mut input: I, stop: Arc<Stop>) -> Result<(), ProgramFault>
+where
+    R: Clock + Copy + Send + Threads + 'static,
+    I: Read + Drop + Send + 'static,
+{
+    input.read(&mut [])?;
+    let rt = *rt;
     let reading = move || {
-        read_to_end(&mut input);
+        read_to_end(&rt, &mut input);
         stop.ask();
     };
-    match thread::spawn(rt, reading) {
+    match thread::spawn(&rt, reading) {
         Ok(_) => Ok(()),
         Err(_) => Err(ProgramFault::NoThread),
     }

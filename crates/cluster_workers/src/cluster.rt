@@ -1,9 +1,10 @@
 //! A running cluster: what its workers share.
-ghost use Rattle.std.specs.Prelude.{◌≡◌, vec_len, IfOk, All};
+ghost use Rattle.std.specs.Prelude.{◌≡◌, length, vec_len, IfOk};
 ghost use Rattle.std.specs.Arc.{arc_value};
+ghost use Rattle.cluster_workers.specs.Running.{AreDealt, all_workers};
 
-use crate::mail::{Inlet, Mail, Outlet, mail_of};
-use crate::post::{Post, posts_of};
+use crate::mail::{Mail, mail_of};
+use crate::post::Post;
 use crate::worker::Worker;
 use abci::Application;
 use commit_board::{Board, ReaderSeat, WriterSeat};
@@ -57,37 +58,7 @@ fn lock_all<A: Application>(
     Ok(replicas)
 }
 
-/// The worker of a replica.
-fn hire<A: Application>(
-    alloc: Global,
-    replica: &Arc<LockedReplica<A>>,
-    post: Post,
-    inlet: Inlet,
-    outlets: Vec<Outlet>,
-    rounds: u32,
-) -> Result<Worker<A>, AllocError> {
-    let replica = Arc::try_clone(replica)?;
-    Ok(Worker::new(alloc, replica, post, inlet, outlets, rounds))
-}
-
-/// A worker for each replica, in order, with its post and its ends of the inboxes.
-fn staff<A: Application>(
-    alloc: Global,
-    replicas: &[Arc<LockedReplica<A>>],
-    posts: Vec<Post>,
-    mail: Mail,
-    rounds: u32,
-) -> Result<Vec<Worker<A>>, AllocError> {
-    let mut workers = Vec::with_capacity(alloc, replicas.len())?;
-    let Mail { inlets, outlets } = mail;
-    let ends = inlets.into_iter().zip(outlets);
-    for (replica, (post, (inlet, outlets))) in replicas.iter().zip(posts.into_iter().zip(ends)) {
-        workers.push(hire(alloc, replica, post, inlet, outlets, rounds)?)?;
-    }
-    Ok(workers)
-}
-
-/// The workers of these replicas, whose seats of the board are given in the same order.
+/// The workers of these replicas, by number, whose seats of the board are given in the same order. Each ends so many rounds.
 fn workers_of<A: Application>(
     alloc: Global,
     board: &Arc<Board>,
@@ -96,11 +67,30 @@ fn workers_of<A: Application>(
     count: u8,
     rounds: u32,
 ) -> Result<Vec<Worker<A>>, AllocError>
-    requires { All (λ seat. seat.board ≡ arc_value board.now) seats.items }
+    requires seats { AreDealt (arc_value board.now) 0 count seats.items }
+    requires replicas { length replicas.now ≡ count }
+    ensures { IfOk result (λ workers. workers.items ≡ all_workers count rounds) }
 {
-    let posts = posts_of(alloc, board, seats)?;
-    let mail = mail_of(alloc, count)?;
-    staff(alloc, replicas, posts, mail, rounds)
+    let Mail { inlets, outlets } = mail_of(alloc, count)?;
+    let mut seats = seats.into_iter();
+    let mut inlets = inlets.into_iter();
+    let mut outlets = outlets.into_iter();
+    let mut workers = Vec::with_capacity(alloc, usize::from(count))?;
+    for number in 0..count {
+        let Some(seat) = seats.next() else {
+            unreachable!();
+        };
+        let Some(inlet) = inlets.next() else {
+            unreachable!();
+        };
+        let Some(outlets) = outlets.next() else {
+            unreachable!();
+        };
+        let replica = Arc::try_clone(&replicas[usize::from(number)])?;
+        let post = Post::new(Arc::try_clone(board)?, seat);
+        workers.push(Worker::new(alloc, replica, post, inlet, outlets, rounds))?;
+    }
+    Ok(workers)
 }
 
 impl<A: Application> Cluster<A> {
@@ -119,6 +109,8 @@ impl<A: Application> Cluster<A> {
     ) -> Result<(Cluster<A>, Vec<Worker<A>>, Vec<ReaderSeat>), AllocError>
         requires { vec_len states ≡ config.now.replicas }
         ensures replicas { IfOk result (λ r. r.0.replicas ≡ config.now.replicas) }
+        // The worker of each replica, by number.
+        ensures workers { IfOk result (λ r. r.1.items ≡ all_workers config.now.replicas rounds) }
         ensures reader_count { IfOk result (λ r. vec_len r.2 ≡ readers) }
         ensures readers { IfOk result (λ r. (k : ℕ) → k < readers → slice_get r.2.items k ≡ Some (new_reader r.0.board)) }
     {

@@ -27,6 +27,7 @@ mod sending;
 mod stop;
 mod worker;
 
+pub use bell::Bell;
 pub use cluster::Cluster;
 pub use gate::{NoGate, TurnGate};
 pub use round_clock::{MachineClock, Progress, RoundClock};

@@ -1,5 +1,5 @@
 //! The ends of inboxes that a worker holds: its own inbox, from which it takes, and those of all, into which it puts.
-ghost use Rattle.std.specs.Prelude.{◌≡◌};
+ghost use Rattle.std.specs.Prelude.{◌≡◌, length, vec_len, IfOk};
 ghost use Rattle.std.specs.Arc.{arc_value};
 
 use crate::bell::Bell;
@@ -99,7 +99,9 @@ fn new_inbox(
 }
 
 /// Gives each sender the next outlet, in order.
-fn add_row(senders: &mut Vec<Vec<Outlet>>, row: Vec<Outlet>) -> Result<(), AllocError> {
+fn add_row(senders: &mut [Vec<Outlet>], row: Vec<Outlet>) -> Result<(), AllocError>
+    ensures { length senders.new ≡ length senders.old }
+{
     for (outlets, outlet) in senders.iter_mut().zip(row) {
         outlets.push(outlet)?;
     }
@@ -114,16 +116,21 @@ pub(crate) struct Mail {
 }
 
 /// So many senders with no outlet.
-fn no_outlets(alloc: Global, senders: u8) -> Result<Vec<Vec<Outlet>>, AllocError> {
+fn no_outlets(alloc: Global, senders: u8) -> Result<Vec<Vec<Outlet>>, AllocError>
+    ensures { IfOk result (λ outlets. vec_len outlets ≡ senders) }
+{
     let mut outlets = Vec::with_capacity(alloc, usize::from(senders))?;
-    for _ in 0..senders {
+    for _sender in 0..senders {
         outlets.push(Vec::new(alloc))?;
     }
     Ok(outlets)
 }
 
 /// The inboxes of so many replicas.
-pub(crate) fn mail_of(alloc: Global, replicas: u8) -> Result<Mail, AllocError> {
+pub(crate) fn mail_of(alloc: Global, replicas: u8) -> Result<Mail, AllocError>
+    ensures inlets { IfOk result (λ mail. vec_len mail.inlets ≡ replicas) }
+    ensures outlets { IfOk result (λ mail. vec_len mail.outlets ≡ replicas) }
+{
     let mut inlets = Vec::with_capacity(alloc, usize::from(replicas))?;
     let mut outlets = no_outlets(alloc, replicas)?;
     for to in 0..replicas {

@@ -1,5 +1,5 @@
 //! Where a worker publishes its replica's height, and the turns that it takes.
-ghost use Rattle.std.specs.Prelude.{◌≡◌, ◌≤◌, ◌+◌, length, All};
+ghost use Rattle.std.specs.Prelude.{◌≡◌, ◌≤◌, ◌+◌, length};
 ghost use Rattle.std.specs.Arc.{arc_value};
 
 use abci::Application;
@@ -7,7 +7,6 @@ use commit_board::{Board, WriterSeat};
 use ledger_model::{Event, ReplicaId};
 use locked_replica::{ApplyFault, State};
 use replica_turns::{ReplicaStatus, turn};
-use std::alloc::{AllocError, Global};
 use std::sync::Arc;
 
 /// A board with the right to raise the word of one replica.
@@ -35,12 +34,15 @@ pub(crate) struct TurnOutcome {
 impl Post {
     pub(crate) fn new(board: Arc<Board>, seat: WriterSeat) -> Self
         requires { seat.board ≡ arc_value board }
+        ensures { result.seat ≡ seat }
     {
         Post { board, seat }
     }
 
     /// The replica whose word it raises.
-    pub(crate) fn replica(&self) -> ReplicaId {
+    pub(crate) fn replica(&self) -> ReplicaId
+        ensures { result ≡ self.now.seat.replica }
+    {
         self.seat.replica()
     }
 
@@ -65,19 +67,4 @@ impl Post {
             status: ReplicaStatus::of(state),
         }
     }
-}
-
-/// The posts of these seats, in order.
-pub(crate) fn posts_of(
-    alloc: Global,
-    board: &Arc<Board>,
-    seats: Vec<WriterSeat>,
-) -> Result<Vec<Post>, AllocError>
-    requires { All (λ seat. seat.board ≡ arc_value board.now) seats.items }
-{
-    let mut posts = Vec::with_capacity(alloc, seats.len())?;
-    for seat in seats {
-        posts.push(Post::new(Arc::try_clone(board)?, seat))?;
-    }
-    Ok(posts)
 }

@@ -1,5 +1,5 @@
 //! The worker of one replica: what it does in one pass of its loop, and the loop.
-ghost use Rattle.std.specs.Prelude.{◌≤◌, vec_len};
+ghost use Rattle.std.specs.Prelude.{◌≡◌, ◌≤◌, vec_len};
 
 use crate::gate::TurnGate;
 use crate::mail::{Inlet, Outlet};
@@ -13,6 +13,7 @@ use ledger_model::{Event, ReplicaId, Sent};
 use locked_replica::ApplyFault;
 use replica_turns::{LockedReplica, Own, WaitingFrames, events_of, offered, own_of, sent_at};
 use std::alloc::{AllocError, Global};
+use std::marker::Model;
 use std::mem;
 use std::sync::{Arc, Wait};
 
@@ -36,6 +37,14 @@ pub struct Worker<A: Application> {
     is_full: bool,
     /// Whether memory was refused in the last turn.
     is_short: bool,
+}
+
+impl<A: Application> Model for Worker<A> {
+    ghost use Rattle.cluster_workers.specs.Running.{WorkerView};
+
+    ghost Value = { WorkerView };
+
+    ghost view = { λ w. record { replica = w.post.seat.replica; rounds = w.rounds } };
 }
 
 // It is dropped by a function of its own, so that whoever owns one drops it by a single call.
@@ -89,7 +98,9 @@ impl<A: Application> Worker<A> {
         inlet: Inlet,
         outlets: Vec<Outlet>,
         rounds: u32,
-    ) -> Self {
+    ) -> Self
+        ensures { result ≡ record { replica = post.seat.replica; rounds = rounds } }
+    {
         Worker {
             alloc,
             replica,
@@ -107,7 +118,9 @@ impl<A: Application> Worker<A> {
     }
 
     /// The number of its replica.
-    pub fn replica(&self) -> ReplicaId {
+    pub fn replica(&self) -> ReplicaId
+        ensures { result ≡ self.now.replica }
+    {
         self.post.replica()
     }
 

@@ -1,3 +1,4 @@
 pub mod Chains
+pub mod FaultLemmas
 pub mod MatchesLemmas
 pub mod NumberLemmas

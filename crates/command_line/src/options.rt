@@ -1,7 +1,8 @@
 //! The options of a command line, read from its matches.
 ghost use Rattle.std.specs.Prelude.{◌≡◌, ◌↔◌, IsTrue, ℕ, List, [], ◌≤◌, ◌-◌, IfOk, IfErr, OnErr, Some, None, codes};
-ghost use Rattle.clap.specs.Words.{found_of, rows_of, first_of};
+ghost use Rattle.clap.specs.Words.{Row, found_of, rows_of, first_of};
 ghost use Rattle.lm_ots.specs.Parameters.{bits_of, levels_of};
+ghost use Rattle.command_line.specs.Faults.{IsRightOf};
 ghost use Rattle.command_line.specs.Options.{IsAccepted, IsNamed, IsNumber, IsSeed, IsWritten, SetsCluster, WantsMemory, number_of, word_of};
 ghost use Rattle.plain_text.specs.Transactions.{StandsFor};
 ghost use Rattle.ledger_model.specs.Replies.{check_reply};
@@ -28,40 +29,11 @@ use std::alloc::Global;
 fn text<'a>(matches: &ArgMatches<'a>, name: &'static str) -> Result<&'a str, UsageFault<'a>>
     ensures some { IfOk result (λ t. first_of name.now (rows_of (found_of matches.now)) ≡ Some t.now) }
     ensures none { OnErr result (first_of name.now (rows_of (found_of matches.now)) ≡ None) }
+    ensures right { IfErr result (IsRightOf (rows_of (found_of matches.now))) }
 {
     match matches.get_str(name) {
         Some(text) => Ok(text),
         None => Err(UsageFault::Missing(name)),
-    }
-}
-
-/// The fault of an option whose text is none of its numbers.
-fn no_number<'a>(
-    matches: &ArgMatches<'a>,
-    option: &'static str,
-    least: u32,
-    most: u32,
-) -> UsageFault<'a> {
-    UsageFault::Number {
-        option,
-        least,
-        most,
-        word: matches.get_str(option).unwrap_or(""),
-    }
-}
-
-/// The fault of an option whose text is neither of its two numbers.
-fn neither<'a>(
-    matches: &ArgMatches<'a>,
-    option: &'static str,
-    one: u32,
-    other: u32,
-) -> UsageFault<'a> {
-    UsageFault::Neither {
-        option,
-        one,
-        other,
-        word: matches.get_str(option).unwrap_or(""),
     }
 }
 
@@ -74,11 +46,17 @@ pub(crate) fn number<'a>(
 ) -> Result<u32, UsageFault<'a>>
     ensures some { IfOk result (λ n. IsNumber (rows_of (found_of matches.now)) name.now least most n) }
     ensures none { OnErr result ((n : ℕ) → IsNumber (rows_of (found_of matches.now)) name.now least most n → ⊥) }
+    ensures right { IfErr result (IsRightOf (rows_of (found_of matches.now))) }
 {
     let text = text(matches, name)?;
     match decimal(text) {
         Some(number) if least <= number && number <= most => Ok(number),
-        _ => Err(no_number(matches, name, least, most)),
+        _ => Err(UsageFault::Number {
+            option: name,
+            least,
+            most,
+            word: text,
+        }),
     }
 }
 
@@ -91,6 +69,7 @@ pub(crate) fn small_number<'a>(
 ) -> Result<u8, UsageFault<'a>>
     ensures some { IfOk result (λ n. IsNumber (rows_of (found_of matches.now)) name.now least most n) }
     ensures none { OnErr result ((n : ℕ) → IsNumber (rows_of (found_of matches.now)) name.now least most n → ⊥) }
+    ensures right { IfErr result (IsRightOf (rows_of (found_of matches.now))) }
 {
     let number = number(matches, name, u32::from(least), u32::from(most))?;
     Ok(number as u8)
@@ -100,6 +79,7 @@ pub(crate) fn small_number<'a>(
 fn bytes<'a>(alloc: Global, option: &'static str, text: &'a str) -> Result<Vec<u8>, UsageFault<'a>>
     ensures some { IfOk result (λ v. StandsFor text.now v.items) }
     ensures none { IfErr result (λ e. (v : List ℕ) → StandsFor text.now v → WantsMemory e) }
+    ensures right { (rows : List Row) → first_of option.now rows ≡ Some text.now → IfErr result (IsRightOf rows) }
 {
     match written(alloc, text) {
         Ok(bytes) => Ok(bytes),
@@ -116,6 +96,7 @@ pub(crate) fn transaction<'a>(
 ) -> Result<Tx, UsageFault<'a>>
     ensures some { IfOk result (λ tx. IsWritten (rows_of (found_of matches.now)) name.now tx) }
     ensures none { IfErr result (λ e. (tx : List ℕ) → IsWritten (rows_of (found_of matches.now)) name.now tx → WantsMemory e) }
+    ensures right { IfErr result (IsRightOf (rows_of (found_of matches.now))) }
 {
     let text = text(matches, name)?;
     let bytes = bytes(alloc, name, text)?;
@@ -144,14 +125,16 @@ pub(crate) fn accepted_transaction<'a>(
 ) -> Result<Tx, UsageFault<'a>>
     ensures some { IfOk result (λ tx. IsAccepted (rows_of (found_of matches.now)) name.now kind tx) }
     ensures none { IfErr result (λ e. (tx : List ℕ) → IsAccepted (rows_of (found_of matches.now)) name.now kind tx → WantsMemory e) }
+    ensures right { IsNumber (rows_of (found_of matches.now)) (codes "kind") 1 3 (number_of kind) → IfErr result (IsRightOf (rows_of (found_of matches.now))) }
 {
+    let word = text(matches, name)?;
     let tx = transaction(alloc, matches, name)?;
     let code = check_code(alloc, kind, &tx);
     if code != 0 {
         return Err(UsageFault::Rejected {
             option: name,
             code,
-            word: matches.get_str(name).unwrap_or(""),
+            word,
         });
     }
     Ok(tx)
@@ -161,6 +144,7 @@ pub(crate) fn accepted_transaction<'a>(
 pub(crate) fn what<'a>(matches: &ArgMatches<'a>) -> Result<What, UsageFault<'a>>
     ensures some { IfOk result (λ w. first_of (codes "what") (rows_of (found_of matches.now)) ≡ Some (word_of w)) }
     ensures none { OnErr result ((w : What) → first_of (codes "what") (rows_of (found_of matches.now)) ≡ Some (word_of w) → ⊥) }
+    ensures right { IfErr result (IsRightOf (rows_of (found_of matches.now))) }
 {
     let word = text(matches, "what")?;
     match word {
@@ -181,6 +165,7 @@ pub(crate) fn is_named(matches: &ArgMatches<'_>, name: &str) -> bool
 pub(crate) fn seed<'a>(matches: &ArgMatches<'a>) -> Result<[u8; 32], UsageFault<'a>>
     ensures some { IfOk result (λ s. IsSeed (rows_of (found_of matches.now)) s) }
     ensures none { OnErr result ((s : List ℕ) → IsSeed (rows_of (found_of matches.now)) s → ⊥) }
+    ensures right { IfErr result (IsRightOf (rows_of (found_of matches.now))) }
 {
     let text = text(matches, "seed")?;
     match <[u8; 32] as FromHex>::from_hex(text) {
@@ -193,11 +178,18 @@ pub(crate) fn seed<'a>(matches: &ArgMatches<'a>) -> Result<[u8; 32], UsageFault<
 fn width<'a>(matches: &ArgMatches<'a>) -> Result<Width, UsageFault<'a>>
     ensures some { IfOk result (λ w. IsNumber (rows_of (found_of matches.now)) (codes "w") 4 8 (bits_of w)) }
     ensures none { OnErr result ((w : Width) → IsNumber (rows_of (found_of matches.now)) (codes "w") 4 8 (bits_of w) → ⊥) }
+    ensures right { IfErr result (IsRightOf (rows_of (found_of matches.now))) }
 {
+    let word = text(matches, "w")?;
     match number(matches, "w", 4, 8).ok() {
         Some(4) => Ok(Width::W4),
         Some(8) => Ok(Width::W8),
-        _ => Err(neither(matches, "w", 4, 8)),
+        _ => Err(UsageFault::Neither {
+            option: "w",
+            one: 4,
+            other: 8,
+            word,
+        }),
     }
 }
 
@@ -205,11 +197,18 @@ fn width<'a>(matches: &ArgMatches<'a>) -> Result<Width, UsageFault<'a>>
 fn tree_height<'a>(matches: &ArgMatches<'a>) -> Result<TreeHeight, UsageFault<'a>>
     ensures some { IfOk result (λ h. IsNumber (rows_of (found_of matches.now)) (codes "tree") 5 10 (levels_of h)) }
     ensures none { OnErr result ((h : TreeHeight) → IsNumber (rows_of (found_of matches.now)) (codes "tree") 5 10 (levels_of h) → ⊥) }
+    ensures right { IfErr result (IsRightOf (rows_of (found_of matches.now))) }
 {
+    let word = text(matches, "tree")?;
     match number(matches, "tree", 5, 10).ok() {
         Some(5) => Ok(TreeHeight::H5),
         Some(10) => Ok(TreeHeight::H10),
-        _ => Err(neither(matches, "tree", 5, 10)),
+        _ => Err(UsageFault::Neither {
+            option: "tree",
+            one: 5,
+            other: 10,
+            word,
+        }),
     }
 }
 
@@ -217,12 +216,12 @@ fn tree_height<'a>(matches: &ArgMatches<'a>) -> Result<TreeHeight, UsageFault<'a
 fn kind<'a>(matches: &ArgMatches<'a>) -> Result<AppKind, UsageFault<'a>>
     ensures some { IfOk result (λ k. IsNumber (rows_of (found_of matches.now)) (codes "kind") 1 3 (number_of k)) }
     ensures none { OnErr result ((k : AppKind) → IsNumber (rows_of (found_of matches.now)) (codes "kind") 1 3 (number_of k) → ⊥) }
+    ensures right { IfErr result (IsRightOf (rows_of (found_of matches.now))) }
 {
     match number(matches, "kind", 1, 3)? {
         1 => Ok(AppKind::KvStore),
         2 => Ok(AppKind::Counter),
-        3 => Ok(AppKind::Purse),
-        _ => Err(no_number(matches, "kind", 1, 3)),
+        _ => Ok(AppKind::Purse),
     }
 }
 
@@ -230,6 +229,7 @@ fn kind<'a>(matches: &ArgMatches<'a>) -> Result<AppKind, UsageFault<'a>>
 pub(crate) fn cluster<'a>(matches: &ArgMatches<'a>) -> Result<Cluster, UsageFault<'a>>
     ensures some { IfOk result (λ c. SetsCluster (rows_of (found_of matches.now)) c) }
     ensures none { OnErr result ((c : Cluster) → SetsCluster (rows_of (found_of matches.now)) c → ⊥) }
+    ensures right { IfErr result (IsRightOf (rows_of (found_of matches.now))) }
 {
     let replicas = small_number(matches, "n", 4, Config::MAX_REPLICAS)?;
     let faults = small_number(matches, "t", 1, 4)?;

@@ -1,14 +1,18 @@
 //! Words that clap refuses: what is told of them.
-ghost use Rattle.std.specs.Prelude.{◌≡◌};
+ghost use Rattle.std.specs.Prelude.{◌≡◌, ◌≢◌, ◌⊎◌, IfSome, Some, map, slice_get, slice_index};
 ghost use Rattle.clap.specs.Words.{kind_of};
 ghost use Rattle.clap.specs.declared.error.ErrorKind.TheVariants as kind;
-ghost use Rattle.command_line.specs.Options.{WantsMemory};
+ghost use Rattle.command_line.specs.Faults.{NamesInput};
+ghost use Rattle.command_line.specs.declared.usage_fault.UsageFault.TheVariants as fault;
 
 use crate::usage_fault::UsageFault;
 use clap::error::ErrorKind;
 
 /// The word behind the subcommand, if it is no option.
-fn operand<'a>(words: &'a [&'a str]) -> Option<&'a str> {
+fn operand<'a>(words: &'a [&'a str]) -> Option<&'a str>
+    ensures third { IfSome result (λ word. slice_get (map (λ w. w.now) words.entry.now) 2 ≡ Some word.now) }
+    ensures plain { IfSome result (λ word. slice_index word.now 0 ≢ 0x2d) }
+{
     let word = *words.get(2)?;
     if word.starts_with('-') {
         None
@@ -18,7 +22,9 @@ fn operand<'a>(words: &'a [&'a str]) -> Option<&'a str> {
 }
 
 /// The fault of a subcommand whose input comes on standard input, where a word names a file.
-fn named_input<'a>(words: &'a [&'a str]) -> Option<UsageFault<'a>> {
+fn named_input<'a>(words: &'a [&'a str]) -> Option<UsageFault<'a>>
+    ensures { IfSome result (NamesInput (map (λ w. w.now) words.entry.now)) }
+{
     let word = operand(words)?;
     match *words.get(1)? {
         "deliver" => Some(UsageFault::NamedFrames(word)),
@@ -29,7 +35,9 @@ fn named_input<'a>(words: &'a [&'a str]) -> Option<UsageFault<'a>> {
 
 /// The fault of words that clap refuses with this error.
 pub(crate) fn fault_of<'a>(error: clap::Error, words: &'a [&'a str]) -> UsageFault<'a>
-    ensures memory { kind_of error ≡ kind.OutOfMemory → WantsMemory result }
+    ensures kept { (kind_of error ≡ kind.UnknownArgument → ⊥) → result ≡ fault.CommandLine error }
+    ensures named { (result ≡ fault.CommandLine error)
+        ⊎ ((kind_of error ≡ kind.UnknownArgument) × NamesInput (map (λ w. w.now) words.entry.now) result) }
 {
     if error.kind() == ErrorKind::UnknownArgument
         && let Some(fault) = named_input(words)

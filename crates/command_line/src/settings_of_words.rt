@@ -1,6 +1,7 @@
 //! What the words of a command line set.
-ghost use Rattle.std.specs.Prelude.{◌≡◌, map, true, IfOk, IfErr, OnErr};
+ghost use Rattle.std.specs.Prelude.{◌≡◌, [], map, true, IfOk, IfErr, OnErr};
 ghost use Rattle.clap.specs.Words.{found_of, rows_of, subcommand_of, subcommand_rows_of, takes};
+ghost use Rattle.command_line.specs.Faults.{IsRightFault, IsRightIn, IsRightOf, kinds_of};
 ghost use Rattle.command_line.specs.Grammar.{abft_app};
 ghost use Rattle.command_line.specs.Options.{IsSet, Sets, SetsDeliver, SetsRunning, SetsServe, SetsSign, SetsSimulate, WantsMemory};
 ghost use Rattle.settings.specs.declared.sign.SignSettings.{SignSettings};
@@ -30,6 +31,7 @@ fn sign_settings<'a>(
 ) -> Result<SignSettings, UsageFault<'a>>
     ensures some { IfOk result (λ s. SetsSign (rows_of (found_of matches.now)) s) }
     ensures none { IfErr result (λ e. (s : SignSettings) → SetsSign (rows_of (found_of matches.now)) s → WantsMemory e) }
+    ensures right { IfErr result (IsRightOf (rows_of (found_of matches.now))) }
 {
     let cluster = cluster(matches)?;
     let what = what(matches)?;
@@ -54,6 +56,7 @@ fn deliver_settings<'a>(
 ) -> Result<DeliverSettings, UsageFault<'a>>
     ensures some { IfOk result (λ s. SetsDeliver (rows_of (found_of matches.now)) s) }
     ensures none { IfErr result (λ e. (s : DeliverSettings) → SetsDeliver (rows_of (found_of matches.now)) s → WantsMemory e) }
+    ensures right { IfErr result (IsRightOf (rows_of (found_of matches.now))) }
 {
     let cluster = cluster(matches)?;
     let replica = small_number(matches, "replica", 0, cluster.config.replicas - 1)?;
@@ -73,6 +76,7 @@ fn deliver_settings<'a>(
 fn simulate_settings<'a>(matches: &ArgMatches<'a>) -> Result<SimulateSettings, UsageFault<'a>>
     ensures some { IfOk result (λ s. SetsSimulate (rows_of (found_of matches.now)) s) }
     ensures none { OnErr result ((s : SimulateSettings) → SetsSimulate (rows_of (found_of matches.now)) s → ⊥) }
+    ensures right { IfErr result (IsRightOf (rows_of (found_of matches.now))) }
 {
     let seed = seed(matches)?;
     Ok(SimulateSettings {
@@ -88,6 +92,7 @@ fn cluster_settings<'a>(
 ) -> Result<ClusterSettings, UsageFault<'a>>
     ensures some { IfOk result (λ s. SetsRunning (rows_of (found_of matches.now)) s) }
     ensures none { IfErr result (λ e. (s : ClusterSettings) → SetsRunning (rows_of (found_of matches.now)) s → WantsMemory e) }
+    ensures right { IfErr result (IsRightOf (rows_of (found_of matches.now))) }
 {
     let cluster = cluster(matches)?;
     let tx = accepted_transaction(alloc, matches, "tx", cluster.config.kind)?;
@@ -110,6 +115,7 @@ fn serve_settings<'a>(
 ) -> Result<ServeSettings, UsageFault<'a>>
     ensures some { IfOk result (λ s. SetsServe (rows_of (found_of matches.now)) s) }
     ensures none { IfErr result (λ e. (s : ServeSettings) → SetsServe (rows_of (found_of matches.now)) s → WantsMemory e) }
+    ensures right { IfErr result (IsRightOf (rows_of (found_of matches.now))) }
 {
     let cluster = cluster_settings(alloc, matches)?;
     let port = number(matches, "port", 0, 65_535)?;
@@ -127,6 +133,8 @@ fn serve_settings<'a>(
 fn matches_of<'a>(alloc: Global, words: &'a [&'a str]) -> Result<ArgMatches<'a>, UsageFault<'a>>
     ensures found { IfOk result (λ m. subcommand_rows_of m ≡ subcommand_of abft_app (map (λ w. w.now) words.entry.now)) }
     ensures refused { IfErr result (λ e. takes abft_app (map (λ w. w.now) words.entry.now) ≡ true → WantsMemory e) }
+    ensures taken { IfOk result (λ _. kinds_of (map (λ w. w.now) words.entry.now) ≡ []) }
+    ensures right { IfErr result (IsRightFault (map (λ w. w.now) words.entry.now)) }
 {
     let command = abft_command(alloc)?;
     match command.try_get_matches_from(words) {
@@ -139,6 +147,7 @@ fn matches_of<'a>(alloc: Global, words: &'a [&'a str]) -> Result<ArgMatches<'a>,
 fn settings_of<'a>(alloc: Global, matches: &ArgMatches<'a>) -> Result<Settings, UsageFault<'a>>
     ensures set { IfOk result (λ s. Sets (subcommand_rows_of matches.now) s) }
     ensures refused { IfErr result (λ e. (s : Settings) → Sets (subcommand_rows_of matches.now) s → WantsMemory e) }
+    ensures right { IfErr result (IsRightIn (subcommand_rows_of matches.now)) }
 {
     let Some((name, options)) = matches.subcommand() else {
         return Err(UsageFault::NoSubcommand);
@@ -162,6 +171,8 @@ pub fn settings<'a>(alloc: Global, words: &'a [&'a str]) -> Result<Settings, Usa
     // Words that set something are refused for want of memory alone.
     ensures refused { IfErr result (λ e. takes abft_app (map (λ w. w.now) words.entry.now) ≡ true
         → (s : Settings) → IsSet (map (λ w. w.now) words.entry.now) s → WantsMemory e) }
+    // What the fault says of the words is so.
+    ensures right { IfErr result (IsRightFault (map (λ w. w.now) words.entry.now)) }
 {
     let matches = matches_of(alloc, words)?;
     settings_of(alloc, &matches)

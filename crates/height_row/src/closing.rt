@@ -3,6 +3,7 @@ ghost use Rattle.std.specs.Prelude.{◌≡◌, ◌<◌, ◌≤◌, ◌+◌, map,
 ghost use Rattle.std.specs.List.{AllByRecursion};
 ghost use Rattle.ledger_model.specs.Limits.{last_round};
 ghost use Rattle.ledger_model.specs.Spelling.{IsStatement};
+ghost use Rattle.instance.specs.Plans.{ended};
 ghost use Rattle.height_row.specs.Closings.{AreClosings};
 ghost use Rattle.height_row.specs.Heights.{plan_of, closed_each};
 
@@ -31,6 +32,22 @@ pub(crate) fn plan_each(
         plans.push(instance.plan_end(alloc, clock)?)?;
     }
     Ok(plans)
+}
+
+/// Prepares the end of round `clock` at each height, in order, whatever is sent.
+pub(crate) fn prepare_each(
+    alloc: Global,
+    instances: &[Instance],
+    clock: u32,
+) -> Result<Vec<Ending>, AllocError>
+    requires clock { clock < last_round }
+    ensures { IfOk result (λ endings. endings.items ≡ map (λ row. ended row (clock + 1)) instances.now) }
+{
+    let mut endings = Vec::with_capacity(alloc, instances.len())?;
+    for instance in instances {
+        endings.push(instance.prepare_end(alloc, clock)?)?;
+    }
+    Ok(endings)
 }
 
 /// Opens the next round at each height, in order. It takes no memory.

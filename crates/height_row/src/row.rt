@@ -4,7 +4,7 @@ ghost use Rattle.std.specs.List.{find, position};
 ghost use Rattle.std.specs.Option.{option_copied};
 ghost use Rattle.height_row.specs.Heights.{place_for, AreAscending};
 
-use crate::closing::{Closing, close_each, plan_each};
+use crate::closing::{Closing, close_each, plan_each, prepare_each};
 use instance::{Ending, Instance, Made, Plan};
 use key_ring::KeyRing;
 use ledger_model::{Batch, Config, Height, Ignored, ProposeRefusal, ReplicaId};
@@ -224,6 +224,17 @@ impl HeightRow {
         ensures own { AreOwn self.now }
     {
         plan_each(alloc, &self.instances, clock)
+    }
+
+    /// Prepares the end of round `clock` at each open height, by ascending height, whatever is sent. It chooses no statement and
+    /// changes nothing. The only error is allocation failure.
+    pub fn prepare_ends(&self, alloc: Global, clock: u32) -> Result<Vec<Ending>, AllocError>
+        requires clock { clock < last_round }
+        ensures endings { IfOk result (λ endings. endings.items ≡ map (λ row. ended row (clock + 1)) self.now.rows) }
+        ensures ascend { AreAscending self.now.rows }
+        ensures own { AreOwn self.now }
+    {
+        prepare_each(alloc, &self.instances, clock)
     }
 
     /// Opens the next round at an open height: puts in place what was prepared for its end, and what of its own the replica

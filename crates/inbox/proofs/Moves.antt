@@ -72,7 +72,7 @@ puts n id v x full may not of items views room h at =
               ended = λ k end a. let d = o.ended k end a in (d.0, still end.0 end.1 (λ same. some-ne-none id (sym here ∙ ap h.seat (sym same) ∙ d.0)) d.1);
             });
       },
-      (refl, record { old = h.inbox; new = b; was = h.is; had = mine.1; puts = record { before = v.items; had = had; room = held; is = refl }; is = is; has = has }),
+      refl,
     )
 
 pub takes : (id : ℕ) (v : Log) → v.takes ≡ true → v.puts ≡ false → Pops Kept id v (Taking v)
@@ -98,12 +98,11 @@ takes id v may not x items views h at =
       (
         refl,
         lt_of_not-le (λ le. of_none x.pass taken x items (ap (λ (l : List Put). of_pass x.pass (taken ++ l)) (sym h.queue) ∙ h.strangers x.pass (let e = mine.passes in omega arith)) refl),
-        record { old = h.inbox; new = b; was = h.is; had = mine.taken; takes = record { rest = items; first = h.queue; is = refl }; is = is; has = has },
       ),
     )
 
-pub beside : (id : ℕ) (v : Log) → v.puts ≡ true → Learns Kept id v (Beside v)
-beside id v may items views h at = record { inbox = h.inbox; is = h.is; had = (h.putters id v at may).1; many = ap length h.queue }
+pub beside : (id : ℕ) (v : Log) → Learns Kept id v (Beside v)
+beside id v items views h at = tt
 
 pub behind : (id : ℕ) (v : Log) → v.takes ≡ true → Learns Kept id v (Behind v)
 behind id v may items views h at =

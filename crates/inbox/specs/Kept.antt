@@ -4,7 +4,7 @@ use mathlib.Core.Option.{Option, none, some}
 use lib.ListN.{get_elem?}
 use Rattle.crossbeam_queue.specs.Passes.{Pass, view}
 use Rattle.ledger_model.specs.Inboxes.{Put, Inbox, of_pass, IsInbox}
-use Rattle.inbox.specs.Passes.{PutAtOnce, TakenAtOnce, HeldBeside, AllTaken}
+use Rattle.inbox.specs.Passes.{AllTaken}
 use Rattle.inbox.specs.declared.log.Log.{Log}
 
 -- what a seat at the queue did
@@ -51,15 +51,15 @@ pub record Kept (held : List Put) (views : List Log) : Type 0 where
 
 -- the item was put
 abbrev pub Putting : Log → Put → Log → Type 0
-Putting v item w = (w ≡ with_item v item) × PutAtOnce v.number v.items item w.items
+Putting v item w = w ≡ with_item v item
 
 -- the item was taken, and is of one of the passes
 abbrev pub Taking : Log → Put → Log → Type 0
-Taking v item w = (w ≡ with_item v item) × (item.pass < v.passes) × TakenAtOnce v.items item w.items
+Taking v item w = (w ≡ with_item v item) × (item.pass < v.passes)
 
--- what a putting pass knows of a queue that holds these
+-- a putting pass learns nothing of a queue that holds these: what others put in it doesn't know
 abbrev pub Beside : Log → List Put → Type 0
-Beside v held = HeldBeside (length held) v.number v.items
+Beside v held = Unit {0}
 
 -- what the taking pass knows of a queue that holds these
 pub record Behind (v : Log) (held : List Put) : Type 0 where

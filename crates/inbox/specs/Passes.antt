@@ -1,7 +1,7 @@
 -- What contracts see of an inbox and of its passes, and what its calls tell.
 use Rattle.std.specs.Prelude.{◌≡◌, ℕ, ◌≤◌, List, [], ◌++◌, length, Some, slice_get}
 use Rattle.atomic_table.specs.Seated.{TableId}
-use Rattle.ledger_model.specs.Inboxes.{Put, Inbox, of_pass, IsInbox, Puts, Takes}
+use Rattle.ledger_model.specs.Inboxes.{Put, of_pass}
 
 -- which inbox it is
 abbrev pub InboxId : Type 0
@@ -27,40 +27,6 @@ new_putter inbox number = record { inbox = inbox; number = number; put = [] }
 -- the taking pass of an inbox with so many putting passes, of which nothing was taken yet
 abbrev pub new_taker : InboxId → ℕ → Taker
 new_taker inbox passes = record { inbox = inbox; passes = passes; taken = []; ended = [] }
-
--- at one step the item was put by the pass of this number, which had put the ones before
-pub record PutAtOnce (number : ℕ) (before : List Put) (item : Put) (after : List Put) : Type 0 where
-  pub old : Inbox
-  pub new : Inbox
-  pub was : IsInbox old
-  pub had : slice_get old.put number ≡ Some before
-  pub puts : Puts old item new
-  pub is : IsInbox new
-  pub has : slice_get new.put number ≡ Some after
-
--- at one step the item was taken, after the ones before
-pub record TakenAtOnce (before : List Put) (item : Put) (after : List Put) : Type 0 where
-  pub old : Inbox
-  pub new : Inbox
-  pub was : IsInbox old
-  pub had : old.taken ≡ before
-  pub takes : Takes old item new
-  pub is : IsInbox new
-  pub has : new.taken ≡ after
-
--- at one moment the inbox held so many items, and the pass of this number had put these
-pub record HeldBeside (count number : ℕ) (put : List Put) : Type 0 where
-  pub inbox : Inbox
-  pub is : IsInbox inbox
-  pub had : slice_get inbox.put number ≡ Some put
-  pub many : length inbox.held ≡ count
-
--- at one moment the inbox held nothing, and these had been taken
-pub record EmptyAfter (taken : List Put) : Type 0 where
-  pub inbox : Inbox
-  pub is : IsInbox inbox
-  pub had : inbox.taken ≡ taken
-  pub none : inbox.held ≡ []
 
 -- what each pass that was handed back had put, in order, is what was taken of it
 abbrev pub AllTaken : List Put → List (ℕ × List Put) → Type 0

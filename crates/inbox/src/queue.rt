@@ -28,7 +28,7 @@ impl Model for Inbox {
 impl Inbox {
     ghost use Rattle.std.specs.Prelude.{◌≡◌, ℕ, List, ◌+◌, ◌<◌, [], ◌∷◌, ◌++◌, Some, slice_get, vec_len, IfOk, OnOk, IfErr, IfSome, IfNone};
     ghost use Rattle.ledger_model.specs.Inboxes.{Put};
-    ghost use Rattle.inbox.specs.Passes.{new_putter, new_taker, PutAtOnce, TakenAtOnce, HeldBeside, EmptyAfter, AllTaken, IsShared};
+    ghost use Rattle.inbox.specs.Passes.{new_putter, new_taker, AllTaken, IsShared};
 
     /// The most items that it holds.
     pub const CAPACITY: usize = 1024;
@@ -64,15 +64,13 @@ impl Inbox {
         PuttingPass { number, seat }
     }
 
-    /// Appends the item to what this pass put. It comes back only if the inbox was full at one moment of the call.
+    /// Appends the item to what this pass put, or gives it back: where the inbox is full, which is only tested.
     pub fn put<R: Wait>(&self, rt: &R, pass: &mut PuttingPass, item: Item) -> Result<(), Item>
         requires inbox { pass.old.inbox ≡ self.now }
         requires number { item.pass ≡ pass.old.number }
         ensures put { OnOk result (pass.new ≡ record pass.old { put = pass.old.put ++ item ∷ [] }) }
-        ensures step { OnOk result (PutAtOnce pass.old.number pass.old.put item pass.new.put) }
         ensures back { IfErr result (λ given. given ≡ item) }
         ensures same { IfErr result (λ given. pass.new ≡ pass.old) }
-        ensures full { IfErr result (λ given. HeldBeside 1024 pass.old.number pass.old.put) }
     {
         self.queue.push_as::<ByPutting, R>(rt, &mut pass.seat, item)
     }
@@ -81,25 +79,21 @@ impl Inbox {
     fn pop<R: Wait>(&self, rt: &R, pass: &mut TakingPass) -> Option<Item>
         requires { pass.old.inbox ≡ self.now }
         ensures taken { IfSome result (λ item. pass.new ≡ record pass.old { taken = pass.old.taken ++ item ∷ [] }) }
-        ensures step { IfSome result (λ item. TakenAtOnce pass.old.taken item pass.new.taken) }
         ensures pass { IfSome result (λ item. item.pass < pass.old.passes) }
         ensures same { IfNone result (pass.new ≡ pass.old) }
         ensures all { IfNone result (AllTaken pass.old.taken pass.old.ended) }
-        ensures empty { IfNone result (EmptyAfter pass.old.taken) }
     {
         self.queue.pop_as::<ByTaking, R>(rt, &mut pass.seat)
     }
 
-    /// Takes the oldest item. `None` only if the inbox was empty at one moment of the call: then of each pass that was
-    /// handed back all is taken.
+    /// Takes the oldest item. `None` only where of each pass that was handed back all is taken; that no other pass has an item in the
+    /// inbox either is only tested.
     pub fn take<R: Wait>(&self, rt: &R, pass: &mut TakingPass) -> Option<Item>
         requires { pass.old.inbox ≡ self.now }
         ensures taken { IfSome result (λ item. pass.new ≡ record pass.old { taken = pass.old.taken ++ item ∷ [] }) }
-        ensures step { IfSome result (λ item. TakenAtOnce pass.old.taken item pass.new.taken) }
         ensures pass { IfSome result (λ item. item.pass < pass.old.passes) }
         ensures same { IfNone result (pass.new ≡ pass.old) }
         ensures all { IfNone result (AllTaken pass.old.taken pass.old.ended) }
-        ensures empty { IfNone result (EmptyAfter pass.old.taken) }
     {
         self.pop(rt, pass)
     }

@@ -24,7 +24,8 @@ use Rattle.ledger_model.specs.Validity.{is_quorate, is_supporting}
 use Rattle.ledger_model.specs.Logs.{height_of, if_some, made_notes, statements_made, notes_of, log_after, log_of}
 use Rattle.ledger_model.specs.Reading.{reading}
 use Rattle.ledger_model.specs.Rules.{Ring, report_of, acks_of, causes, answer_to, is_signed, is_proved, with_signature}
-use Rattle.ledger_model.specs.Lawful.{Lawful, answer, FollowsFrom, Follows}
+use Rattle.ledger_model.specs.declared.reply.RoundEnded.{RoundEnded}
+use Rattle.ledger_model.specs.Lawful.{Lawful, LawfulRoundEnd, answer, FollowsFrom, Follows}
 use Rattle.ledger_model.specs.Groups.{history_of, is_correct, log_if, log_in, Backed, BackedWhole, AreCorrect, ReadsBacked}
 use Rattle.ledger_model.specs.Timelines.{Added, entries_at, histories_at, AcceptsUnforged, RunsFrom, UnforgedFrom, AreReplicas}
 use Rattle.ledger_model.proofs.Lists.{all_has, has_cases, has_left, has_right}
@@ -167,29 +168,19 @@ module _ (config : Config) (ring : Ring) (correct : List ℕ) where
   no_read true v d s (inr none) = none
   no_read false v d s none = none
 
-  -- what an entry reads is backed after it
-  pub new_read : (front : List Added) (a : Added) (h : ℕ) → ReadsBacked config (histories_at correct front) h → is_correct (histories_at correct front) a.replica ≡ true
-      → (e : Event) (r : Reply) → e ≡ a.entry.event → r ≡ a.entry.reply → Lawful config ring a.replica (entries_at front a.replica) e r → AcceptsUnforged config ring (histories_at correct front) e r
-      → (d : ℕ) (s : SignedStatement) → Has (notes_of config a.replica h (log_of config a.replica h (entries_at front a.replica)) e r) (Read d s) → BackedWhole config (histories_at correct (front ++ a ∷ [])) s.statement
+  -- what is made as a round opens is backed once its entry stands
+  pub made_whole : (front : List Added) (a : Added) (h : ℕ) → ReadsBacked config (histories_at correct front) h → is_correct (histories_at correct front) a.replica ≡ true
+      → (ended : RoundEnded) → event.RoundEnd ≡ a.entry.event → reply.RoundEnded (Ok ended) ≡ a.entry.reply → LawfulRoundEnd config a.replica (entries_at front a.replica) ended
+      → (s : SignedStatement)
+      → Has (statements_made config a.replica h (log_of config a.replica h (entries_at front a.replica)) (clock_of (log_of config a.replica h (entries_at front a.replica)) + 1) ended) s
+      → BackedWhole config (histories_at correct (front ++ a ∷ [])) s.statement
   unfolding notes_of
-  new_read front a h backed is (event.Deliver bytes) (reply.Delivered (Ok u)) same_e same_r lawful unforged d s has =
-      let told = delivered_only (reading bytes) (clock_of (log_of config a.replica h (entries_at front a.replica))) h d s has in
-      let ok : answer_to config ring (log_of config a.replica (height_of s.statement) (entries_at front a.replica)) s ≡ Ok u =
-      subst (λ o. answer config ring a.replica (entries_at front a.replica) o ≡ Ok u) (told.0) (sym lawful) in
-      let fine = unforged s (told.0) in
-      whole_later front a (s.statement) (record {
-        own = fine.own (accepted_signed config ring (log_of config a.replica (height_of s.statement) (entries_at front a.replica)) s u ok);
-        reports = λ l p lock in_proof. fine.reports l p lock in_proof (proof_signed config ring (log_of config a.replica (height_of s.statement) (entries_at front a.replica)) s u ok l p lock in_proof);
-      })
-  new_read front a h backed is (event.Propose n) (reply.Proposed (Ok v)) same_e same_r lawful unforged d s has = absurd (no_read (nat_eq n h) v d s has)
-  new_read front a h backed is event.RoundEnd (reply.RoundEnded (Ok ended)) same_e same_r lawful unforged d s has =
+  made_whole front a h backed is ended same_e same_r lawful s its =
       let log : List Note = log_of config a.replica h (entries_at front a.replica) in
-      let c : ℕ = clock_of (log_of config a.replica h (entries_at front a.replica)) + 1 in
       let ss : List SignedStatement = statements_made config a.replica h log (clock_of log + 1) ended in
       let made : List Statement = map (λ x. x.statement) ss in
-      let its : Has ss s = elim has [ inl e ↦ absurd (cc) | inr y ↦ (note_read (clock_of log + 1) ss d s (made_note log (clock_of log + 1) ss (Read d s) y)).1 ] in
       let in_made : Has made (s.statement) = map_has (λ (x : SignedStatement). x.statement) ss s its in
-      let by = made_cases config a.replica h log (clock_of log + 1) ended.mute made ((lawful.1).makes h) in
+      let by = made_cases config a.replica h log (clock_of log + 1) ended.mute made (lawful.makes h) in
       let of_height : height_of s.statement ≡ h = height_made config a.replica h log (clock_of log + 1) made (s.statement) by in_made in
       let signer : signer_of s.statement ≡ a.replica = signer_made config a.replica h log (clock_of log + 1) made (s.statement) by in_made in
       let note : Has (notes_of config a.replica h log event.RoundEnd (reply.RoundEnded (Ok ended))) (Made (clock_of log + 1) s.statement) = inr (has_made_note log (clock_of log + 1) ss s its) in
@@ -210,6 +201,27 @@ module _ (config : Config) (ring : Ring) (correct : List ℕ) where
             subst (λ x. Has x (Read (round_at 1 l.phase) (with_signature p))) (sym (log_at front h (a.replica) is)) read in
             backed_later front a (statement.Report p.report) ((backed (a.replica) (round_at 1 (l.phase)) (with_signature p) is in_log).own);
       }
+
+  -- what an entry reads is backed after it
+  pub new_read : (front : List Added) (a : Added) (h : ℕ) → ReadsBacked config (histories_at correct front) h → is_correct (histories_at correct front) a.replica ≡ true
+      → (e : Event) (r : Reply) → e ≡ a.entry.event → r ≡ a.entry.reply → Lawful config ring a.replica (entries_at front a.replica) e r → AcceptsUnforged config ring (histories_at correct front) e r
+      → (d : ℕ) (s : SignedStatement) → Has (notes_of config a.replica h (log_of config a.replica h (entries_at front a.replica)) e r) (Read d s) → BackedWhole config (histories_at correct (front ++ a ∷ [])) s.statement
+  unfolding notes_of
+  new_read front a h backed is (event.Deliver bytes) (reply.Delivered (Ok u)) same_e same_r lawful unforged d s has =
+      let told = delivered_only (reading bytes) (clock_of (log_of config a.replica h (entries_at front a.replica))) h d s has in
+      let ok : answer_to config ring (log_of config a.replica (height_of s.statement) (entries_at front a.replica)) s ≡ Ok u =
+      subst (λ o. answer config ring a.replica (entries_at front a.replica) o ≡ Ok u) (told.0) (sym lawful) in
+      let fine = unforged s (told.0) in
+      whole_later front a (s.statement) (record {
+        own = fine.own (accepted_signed config ring (log_of config a.replica (height_of s.statement) (entries_at front a.replica)) s u ok);
+        reports = λ l p lock in_proof. fine.reports l p lock in_proof (proof_signed config ring (log_of config a.replica (height_of s.statement) (entries_at front a.replica)) s u ok l p lock in_proof);
+      })
+  new_read front a h backed is (event.Propose n) (reply.Proposed (Ok v)) same_e same_r lawful unforged d s has = absurd (no_read (nat_eq n h) v d s has)
+  new_read front a h backed is event.RoundEnd (reply.RoundEnded (Ok ended)) same_e same_r lawful unforged d s has =
+      let log : List Note = log_of config a.replica h (entries_at front a.replica) in
+      let ss : List SignedStatement = statements_made config a.replica h log (clock_of log + 1) ended in
+      let its : Has ss s = elim has [ inl e ↦ absurd (cc) | inr y ↦ (note_read (clock_of log + 1) ss d s (made_note log (clock_of log + 1) ss (Read d s) y)).1 ] in
+      made_whole front a h backed is ended same_e same_r (lawful.1) s its
   new_read front a h backed is e r same_e same_r lawful unforged d s has = absurd has
 
   -- all that is read stays backed as the run goes on

@@ -5,3 +5,5 @@ pub mod Ledgers
 pub mod Backing
 pub mod WorldRuns
 pub mod Computed
+mod Refuted
+mod Unforged

@@ -19,6 +19,7 @@ use Rattle.ledger_model.specs.declared.world.WorldReply.{WorldReply}
 use Rattle.ledger_model.specs.declared.world.WorldRefusal.{WorldRefusal}
 use Rattle.ledger_model.specs.declared.world.WorldRefusal.TheVariants as refused
 use Rattle.ledger_model.specs.Values.{Value}
+use Rattle.ledger_model.specs.Notes.{Has}
 use Rattle.ledger_model.specs.Rules.{Ring}
 use Rattle.ledger_model.specs.Lawful.{Lawful}
 use Rattle.ledger_model.specs.Groups.{is_correct}
@@ -128,7 +129,7 @@ asked config w x r d e ok =
       ]
     ]
 
-abbrev frame_to : ℕ → Option (List ℕ) → Result (ℕ × Event) WorldRefusal
+abbrev pub frame_to : ℕ → Option (List ℕ) → Result (ℕ × Event) WorldRefusal
 frame_to to None = Err refused.NoSuchFrame
 frame_to to (Some bytes) = Ok (to, event.Deliver bytes)
 
@@ -166,13 +167,13 @@ entries_at-own front a more =
     ∙ ap (λ b. entries_at front a.replica ++ (cond b (a.entry ∷ []) [] ++ entries_at more a.replica)) (eq-eqb a.replica a.replica refl)
 
 -- the n-th that was added
-record Next (n : ℕ) (timeline : List Added) : Type 0 where
-  here : Added
-  rest : List Added
-  is : timeline ≡ take n timeline ++ here ∷ rest
-  longer : take (suc n) timeline ≡ take n timeline ++ here ∷ []
+pub record Next (n : ℕ) (timeline : List Added) : Type 0 where
+  pub here : Added
+  pub rest : List Added
+  pub is : timeline ≡ take n timeline ++ here ∷ rest
+  pub longer : take (suc n) timeline ≡ take n timeline ++ here ∷ []
 
-next_at : (n : ℕ) (timeline : List Added) → n < length timeline → Next n timeline
+pub next_at : (n : ℕ) (timeline : List Added) → n < length timeline → Next n timeline
 next_at n [] lt = absurd (omega arith)
 next_at zero (x ∷ xs) lt = record { here = x; rest = xs; is = refl; longer = refl }
 next_at (suc n) (x ∷ xs) lt =
@@ -180,14 +181,15 @@ next_at (suc n) (x ∷ xs) lt =
     record { here = e.here; rest = e.rest; is = ap (λ l. x ∷ l) (e.is); longer = ap (λ l. x ∷ l) (e.longer) }
 
 module _ (config : Config) (ring : Ring) (correct : List ℕ) where
-  -- a step leaves the world, or adds one lawful entry at a correct replica
-  data Stepped (timeline : List Added) (new : World) : Type 0 where
-    Left : new ≡ world_of correct timeline → Stepped timeline new
-    Grown : (a : Added) → is_correct (histories_at correct timeline) a.replica ≡ true → Lawful config ring a.replica (entries_at timeline a.replica) a.entry.event a.entry.reply
-        → new ≡ world_of correct (timeline ++ a ∷ []) → Stepped timeline new
+  -- a step leaves the world, or adds its event as one lawful entry at a correct replica
+  data Stepped (timeline : List Added) (s : WorldStep) (new : World) : Type 0 where
+    Left : new ≡ world_of correct timeline → Stepped timeline s new
+    Grown : (a : Added) → event_of config (world_of correct timeline) s ≡ Ok (a.replica, a.entry.event)
+        → is_correct (histories_at correct timeline) a.replica ≡ true → Lawful config ring a.replica (entries_at timeline a.replica) a.entry.event a.entry.reply
+        → new ≡ world_of correct (timeline ++ a ∷ []) → Stepped timeline s new
 
   stepped : (timeline : List Added) (s : WorldStep) (o : Result (ℕ × Event) WorldRefusal) (answered : WorldReply) (new : World) → event_of config (world_of correct timeline) s ≡ o
-      → StepsBy config ring (world_of correct timeline) o answered new → Stepped timeline new
+      → StepsBy config ring (world_of correct timeline) o answered new → Stepped timeline s new
   stepped timeline s (Err f) answered new is by = Left (by.1)
   stepped timeline s (Ok (r, e)) answered new is by =
       elim (match_cases (nat_le 65536 (length (entries_in (world_of correct timeline) r))) _ _ by) [
@@ -197,45 +199,76 @@ module _ (config : Config) (ring : Ring) (correct : List ℕ) where
           | inl added ↦
               let a : Added = record { replica = r; entry = record { event = e; reply = added.0 } } in
               let here = names_correct config (world_of correct timeline) s r e is in
-              Grown a here (subst (λ es. Lawful config ring r es e (added.0)) (entries_told correct timeline r here) (added.1)) (added.3 ∙ world_more correct timeline a)
+              Grown a is here (subst (λ es. Lawful config ring r es e (added.0)) (entries_told correct timeline r here) (added.1)) (added.3 ∙ world_more correct timeline a)
         ]
       ]
 
-  -- what a run adds
-  record Told (front : List Added) (new : World) : Type 0 where
-    more : List Added
-    runs : RunsFrom config ring correct front more
-    is : new ≡ world_of correct (front ++ more)
+  -- one of the steps is the entry's event at its replica
+  abbrev pub IsCaused : List WorldStep → List Added → Added → Type 0
+  IsCaused steps front a = (s : WorldStep) × (Has steps s × (event_of config (world_of correct front) s ≡ Ok (a.replica, a.entry.event)))
 
-  told : (front : List Added) (steps : List WorldStep) (answers : List WorldReply) (new : World) → Runs config ring (world_of correct front) steps answers new → Told front new
-  unfolding Runs RunsFrom
-  told front [] [] new runs = record { more = []; runs = tt; is = runs ∙ ap (world_of correct) (sym (append-nil front)) }
-  told front [] (a ∷ answers) new runs = absurd runs
-  told front (s ∷ steps) [] new runs = absurd runs
-  told front (s ∷ steps) (x ∷ answers) new runs =
+  -- this holds of each entry
+  unfoldable pub AreCaused : List WorldStep → List Added → List Added → Type 0
+  AreCaused steps front [] = Unit {0}
+  AreCaused steps front (a ∷ more) = IsCaused steps front a × AreCaused steps (front ++ a ∷ []) more
+
+  -- what a run adds
+  pub record Told (steps : List WorldStep) (front : List Added) (new : World) : Type 0 where
+    pub more : List Added
+    pub runs : RunsFrom config ring correct front more
+    pub caused : AreCaused steps front more
+    pub is : new ≡ world_of correct (front ++ more)
+
+  told_from : (all : List WorldStep) (front : List Added) (steps : List WorldStep) (answers : List WorldReply) (new : World) → ((s : WorldStep) → Has steps s → Has all s)
+      → Runs config ring (world_of correct front) steps answers new → Told all front new
+  unfolding Runs RunsFrom AreCaused
+  told_from all front [] [] new among runs = record { more = []; runs = tt; caused = tt; is = runs ∙ ap (world_of correct) (sym (append-nil front)) }
+  told_from all front [] (a ∷ answers) new among runs = absurd runs
+  told_from all front (s ∷ steps) [] new among runs = absurd runs
+  told_from all front (s ∷ steps) (x ∷ answers) new among runs =
       elim (stepped front s (event_of config (world_of correct front) s) x (runs.0) refl (runs.1)) [
-        | Left same ↦ told front steps answers new (subst (λ w. Runs config ring w steps answers new) same (runs.2))
-        | Grown a is lawful grown ↦
-            let rest = told (front ++ a ∷ []) steps answers new (subst (λ w. Runs config ring w steps answers new) grown (runs.2)) in
-            record { more = a ∷ rest.more; runs = (is, lawful, rest.runs); is = rest.is ∙ ap (world_of correct) (append_assoc front (a ∷ []) (rest.more)) }
+        | Left same ↦ told_from all front steps answers new (λ t has. among t (inr has)) (subst (λ w. Runs config ring w steps answers new) same (runs.2))
+        | Grown a asks is lawful grown ↦
+            let rest = told_from all (front ++ a ∷ []) steps answers new (λ t has. among t (inr has)) (subst (λ w. Runs config ring w steps answers new) grown (runs.2)) in
+            record {
+              more = a ∷ rest.more;
+              runs = (is, lawful, rest.runs);
+              caused = ((s, (among s (inl refl), asks)), rest.caused);
+              is = rest.is ∙ ap (world_of correct) (append_assoc front (a ∷ []) (rest.more));
+            }
       ]
+
+  pub told : (steps : List WorldStep) (answers : List WorldReply) (new : World) → Runs config ring (beginning correct) steps answers new → Told steps [] new
+  told steps answers new runs = told_from steps [] steps answers new (λ s has. has) runs
+
+  -- where an entry is in the world of its timeline, and that world as it was before the entry
+  pub record EntryPlace (front more : List Added) (a : Added) : Type 0 where
+    pub then : world_at (world_of correct (front ++ a ∷ more)) (length front) ≡ world_of correct front
+    pub order : slice_get (replicas_of (front ++ a ∷ more)) (length front) ≡ Some a.replica
+    pub entry : slice_get (entries_in (world_of correct (front ++ a ∷ more)) a.replica) (length (entries_in (world_at (world_of correct (front ++ a ∷ more)) (length front)) a.replica)) ≡ Some a.entry
+
+  pub entry_place : (front more : List Added) (a : Added) → is_correct (histories_at correct front) a.replica ≡ true → EntryPlace front more a
+  entry_place front more a is =
+      let n : ℕ = length front in
+      let then : world_at (world_of correct (front ++ a ∷ more)) n ≡ world_of correct front = world_then correct (front ++ a ∷ more) n ∙ ap (world_of correct) (take-append_seam front (a ∷ more)) in
+      let now : entries_in (world_of correct (front ++ a ∷ more)) a.replica ≡ entries_at front a.replica ++ a.entry ∷ entries_at more a.replica =
+      entries_told correct (front ++ a ∷ more) a.replica (same_correct config ring correct (front ++ a ∷ more) front a.replica ∙ is) ∙ entries_at-own front a more in
+      let before : entries_in (world_at (world_of correct (front ++ a ∷ more)) n) a.replica ≡ entries_at front a.replica = ap (λ w. entries_in w a.replica) then ∙ entries_told correct front a.replica is in
+      record {
+        then = then;
+        order = slice_get-map (λ (y : Added). y.replica) (front ++ a ∷ more) n ∙ ap (option_map (λ (y : Added). y.replica)) (get_seam front a more);
+        entry =
+            ap (λ l. slice_get (entries_in (world_of correct (front ++ a ∷ more)) a.replica) (length l)) before
+            ∙ ap (λ l. slice_get l (length (entries_at front a.replica))) now
+            ∙ get_seam (entries_at front a.replica) a.entry (entries_at more a.replica);
+      }
 
   -- what was accepted in the world was unforged then
   accepted : (front more : List Added) (a : Added) → is_correct (histories_at correct front) a.replica ≡ true → NoForgery config ring (world_of correct (front ++ a ∷ more))
       → (e : Event) (r : Reply) → a.entry ≡ record { event = e; reply = r } → AcceptsUnforged config ring (histories_at correct front) e r
   accepted front more a is none (event.Deliver bytes) (reply.Delivered (Ok u)) same = λ s spelled.
-      let n : ℕ = length front in
-      let then : world_at (world_of correct (front ++ a ∷ more)) n ≡ world_of correct front = world_then correct (front ++ a ∷ more) n ∙ ap (world_of correct) (take-append_seam front (a ∷ more)) in
-      let order : slice_get (replicas_of (front ++ a ∷ more)) n ≡ Some a.replica = slice_get-map (λ (y : Added). y.replica) (front ++ a ∷ more) n ∙ ap (option_map (λ (y : Added). y.replica)) (get_seam front a more) in
-      let now : entries_in (world_of correct (front ++ a ∷ more)) a.replica ≡ entries_at front a.replica ++ a.entry ∷ entries_at more a.replica =
-      entries_told correct (front ++ a ∷ more) a.replica (same_correct config ring correct (front ++ a ∷ more) front a.replica ∙ is) ∙ entries_at-own front a more in
-      let before : entries_in (world_at (world_of correct (front ++ a ∷ more)) n) a.replica ≡ entries_at front a.replica = ap (λ w. entries_in w a.replica) then ∙ entries_told correct front a.replica is in
-      let entry : slice_get (entries_in (world_of correct (front ++ a ∷ more)) a.replica) (length (entries_in (world_at (world_of correct (front ++ a ∷ more)) n) a.replica)) ≡ Some (record { event = event.Deliver bytes; reply = reply.Delivered (Ok u) }) =
-      ap (λ l. slice_get (entries_in (world_of correct (front ++ a ∷ more)) a.replica) (length l)) before
-      ∙ ap (λ l. slice_get l (length (entries_at front a.replica))) now
-      ∙ get_seam (entries_at front a.replica) a.entry (entries_at more a.replica)
-      ∙ ap Some same in
-      subst (λ w. IsUnforged config ring (w.histories) s) then (none n a.replica bytes u s order entry spelled)
+      let at = entry_place front more a is in
+      subst (λ w. IsUnforged config ring (w.histories) s) at.then (none (length front) a.replica bytes u s at.order (at.entry ∙ ap Some same) spelled)
   accepted front more a is none e r same = tt
 
   unforged : (front more : List Added) → RunsFrom config ring correct front more → NoForgery config ring (world_of correct (front ++ more)) → UnforgedFrom config ring correct front more
@@ -264,7 +297,7 @@ module _ (config : Config) (ring : Ring) (correct : List ℕ) where
 pub runs_refine : (config : Config) (ring : Ring) (correct : List ℕ) (steps : List WorldStep) (answers : List WorldReply) (w : World)
     → AreReplicas config correct → Runs config ring (beginning correct) steps answers w → NoForgery config ring w → Refines config w
 runs_refine config ring correct steps answers w replicas runs none =
-    let t = told config ring correct [] steps answers w runs in
+    let t = told config ring correct steps answers w runs in
     subst (Refines config) (sym (t.is))
     (refined config ring correct (t.more)
     (refines config ring correct replicas (t.more) (t.runs) (unforged config ring correct [] (t.more) (t.runs) (subst (NoForgery config ring) (t.is) none))))
@@ -282,7 +315,7 @@ runs_append config ring w mid new (s ∷ steps) more (a ∷ answers) others firs
 pub world_now : (config : Config) (ring : Ring) (correct : List ℕ) (steps : List WorldStep) (answers : List WorldReply) (w : World)
     → Runs config ring (beginning correct) steps answers w → world_at w (length w.order) ≡ w
 world_now config ring correct steps answers w runs =
-    let t = told config ring correct [] steps answers w runs in
+    let t = told config ring correct steps answers w runs in
     subst (λ (v : World). world_at v (length v.order) ≡ v) (sym (t.is))
     (world_then correct (t.more) (length (replicas_of (t.more)))
     ∙ ap (world_of correct) (ap (λ n. take n (t.more)) (length-map (t.more) (λ (a : Added). a.replica)) ∙ take-length (t.more)))

@@ -1,17 +1,22 @@
 -- A step keeps what a replica's type says.
-use Rattle.std.proofs.Common.{◌≡◌, ◌+◌, ◌<◌, ◌≤◌, List, [], ◌∷◌, ◌++◌, length, refl, sym, subst, length-append, arith}
-use Rattle.std.specs.Prelude.{Result, Ok, Err, OnErr}
+use Rattle.std.proofs.Common.{◌≡◌, ◌+◌, ◌<◌, ◌≤◌, Bool, true, false, ◌&&◌, ◌||◌, cond, List, [], ◌∷◌, ◌++◌, length, refl, sym, ap, subst, ◌∙◌, length-append, arith}
+use Rattle.std.specs.Prelude.{nat_lt}
+use Rattle.std.proofs.Math.Bool.{or-false}
+use Rattle.std.proofs.lemmas.Bool.{and_parts, ltb-true}
+use Rattle.ledger_model.specs.Limits.{last_round}
 use Rattle.ledger_model.specs.declared.event.Event.{Event}
 use Rattle.ledger_model.specs.declared.event.Event.TheVariants as event
 use Rattle.ledger_model.specs.declared.history.Entry.{Entry}
-use Rattle.ledger_model.specs.Lawful.{Replay}
+use Rattle.ledger_model.specs.Logs.{is_mute}
+use Rattle.ledger_model.specs.Lawful.{Replay, clock_at}
 use Rattle.ledger_model.proofs.Steps.{replays_snoc}
-use Rattle.key_ring.specs.Signers.{Keys}
+use Rattle.key_ring.specs.Signers.{leaves_of}
 use Rattle.replica_core.specs.Holding.{Held, Matches}
-use Rattle.replica_core.specs.Replicas.{leaves_due}
-use Rattle.replica_core.specs.RoundEnds.{due}
-use Rattle.replica_core.specs.Steps.{IsStep}
-use Rattle.locked_replica.specs.Replicas.{Replica, SpendsWithin, replica_of}
+use Rattle.replica_core.specs.Leaves.{signed_at, signed_by, due_by, LeafAccount}
+use Rattle.replica_core.specs.Replicas.{Replica as Core, IsSameReplica, due_then, is_mute_then}
+use Rattle.replica_core.specs.Steps.{IsStep, UsesLeaves}
+use Rattle.replica_core.proofs.SpentLeaves.{signed_more, uses_signed, account_more, account_still}
+use Rattle.locked_replica.specs.Replicas.{Replica, IsReplica, replica_of, due_next, lacks_leaves, is_mute_after, UsesAsSigned}
 
 -- the history with the entry is a replay
 pub replay_on : (old new : Held) (before after : List Entry) (e : Entry) → Replay old.config old.ring old.id before → Matches old before → IsStep old e.event e.reply new
@@ -33,21 +38,85 @@ few_on before after e few is = subst (λ (es : List Entry). length es ≤ 65536)
 pub replay_still : (old new : Held) (entries : List Entry) → new.config ≡ old.config → new.ring ≡ old.ring → new.id ≡ old.id → Replay old.config old.ring old.id entries → Replay new.config new.ring new.id entries
 replay_still old new entries config ring id replay = rw (config, ring, id) replay
 
--- where nothing is refused, nothing is asked
-pub on_fault : {T E : Type 0} (r : Result T E) (old new : Replica) → SpendsWithin old new → OnErr r (SpendsWithin old new)
-on_fault (Ok x) old new so = tt
-on_fault (Err e) old new so = so
+-- ---- leaves
 
--- only a round end uses leaves
-pub leaves_few : (held : Held) (keys : Keys) (e : Event) → leaves_due (record { held = held; keys = keys }) e ≤ due (held.clock + 1) held.rows
-leaves_few held keys event.RoundEnd = omega arith
-leaves_few held keys (event.Submit bytes) = omega arith
-leaves_few held keys (event.Propose h) = omega arith
-leaves_few held keys (event.Deliver bytes) = omega arith
-leaves_few held keys event.Execute = omega arith
-leaves_few held keys (event.Query key height) = omega arith
+-- by what is kept and by the history as many statements are due
+abbrev pub IsDueBy : Core → List Entry → Type 0
+IsDueBy core entries = due_then core ≡ due_by core.held.config core.held.id entries
 
--- what is spent, by what the history makes the replica keep
-pub spends_within : (held : Held) (keys : Keys) (entries : List Entry) (new : Replica) → Matches held entries → new.used ≤ keys.used + due (held.clock + 1) held.rows
-    → SpendsWithin (replica_of held keys entries) new
-spends_within held keys entries new matches most = record { held = held; config = refl; id = refl; matches = matches; most = most }
+mute_or : (now was lacks : Bool) → cond now (was || lacks) was ≡ (was || now && lacks)
+mute_or true was lacks = refl
+mute_or false was lacks = sym (or-false was)
+
+-- muteness by what is kept is that by the history
+mute_by : (core : Core) (entries : List Entry) (e : Event) → Matches core.held entries → IsDueBy core entries
+    → is_mute_then core e ≡ is_mute_after (replica_of core.held core.keys entries) e
+mute_by core entries event.RoundEnd matches due =
+    ap (λ n. cond (nat_lt core.held.clock last_round) (core.held.mute || nat_lt (leaves_of core.keys.secret) (core.keys.used + n)) core.held.mute) due
+    ∙ mute_or (nat_lt core.held.clock last_round) core.held.mute (nat_lt (leaves_of core.keys.secret) (core.keys.used + due_by core.held.config core.held.id entries))
+    ∙ ap (λ b. b || nat_lt core.held.clock last_round && nat_lt (leaves_of core.keys.secret) (core.keys.used + due_by core.held.config core.held.id entries)) (sym matches.mute)
+    ∙ ap (λ n. is_mute entries || nat_lt n last_round && nat_lt (leaves_of core.keys.secret) (core.keys.used + due_by core.held.config core.held.id entries)) (sym matches.clock)
+mute_by core entries (event.Submit bytes) matches due = sym matches.mute ∙ sym (or-false (is_mute entries))
+mute_by core entries (event.Propose h) matches due = sym matches.mute ∙ sym (or-false (is_mute entries))
+mute_by core entries (event.Deliver bytes) matches due = sym matches.mute ∙ sym (or-false (is_mute entries))
+mute_by core entries event.Execute matches due = sym matches.mute ∙ sym (or-false (is_mute entries))
+mute_by core entries (event.Query key height) matches due = sym matches.mute ∙ sym (or-false (is_mute entries))
+
+-- where too few leaves are left, they are fewer than are due
+lacks_few : (r : Replica) (e : Event) → lacks_leaves r e ≡ true → leaves_of r.secret < r.used + due_next r
+lacks_few r event.RoundEnd lacks = ltb-true (leaves_of r.secret) (r.used + due_next r) (and_parts (nat_lt (clock_at r.entries) last_round) (nat_lt (leaves_of r.secret) (r.used + due_next r)) lacks).1
+lacks_few r (event.Submit bytes) lacks = cc
+lacks_few r (event.Propose h) lacks = cc
+lacks_few r (event.Deliver bytes) lacks = cc
+lacks_few r event.Execute lacks = cc
+lacks_few r (event.Query key height) lacks = cc
+
+-- what a step does
+pub record IsTaken (old new : Core) (before after : List Entry) (e : Entry) : Type 0 where
+  pub matches : Matches old.held before
+  pub due : IsDueBy old before
+  pub step : IsStep old.held e.event e.reply new.held
+  pub leaves : UsesLeaves old.keys old.held.clock e.reply new.keys
+  pub mute : new.held.mute ≡ is_mute_then old e.event
+  pub same : IsSameReplica old new
+  pub grown : after ≡ before ++ e ∷ []
+
+pub taken_by : (old new : Core) (before after : List Entry) (e : Entry) → Matches old.held before → ((entries : List Entry) → Matches old.held entries → IsDueBy old entries)
+    → IsStep old.held e.event e.reply new.held → UsesLeaves old.keys old.held.clock e.reply new.keys → new.held.mute ≡ is_mute_then old e.event → IsSameReplica old new
+    → after ≡ before ++ e ∷ [] → IsTaken old new before after e
+taken_by old new before after e matches due step leaves mute same grown =
+    record { matches = matches; due = due before matches; step = step; leaves = leaves; mute = mute; same = same; grown = grown }
+
+module _ (old new : Core) (before after : List Entry) (e : Entry) (taken : IsTaken old new before after e) where
+  -- it is mute where it was, or where too few leaves were left
+  pub mute_on : is_mute after ≡ is_mute_after (replica_of old.held old.keys before) e.event
+  mute_on = (matches_on old.held new.held before after e taken.matches taken.step taken.grown).mute ∙ taken.mute ∙ mute_by old before e.event taken.matches taken.due
+
+  -- each statement that is sent uses a leaf
+  used_on : new.keys.used ≡ old.keys.used + signed_at (clock_at before + 1) e.reply
+  used_on = uses_signed old.keys new.keys old.held.clock e.reply taken.leaves ∙ ap (λ n. old.keys.used + signed_at (n + 1) e.reply) (sym taken.matches.clock)
+
+  pub signed_on : UsesAsSigned (replica_of old.held old.keys before) (replica_of new.held new.keys after)
+  signed_on =
+      let used = used_on in
+      let signed = ap signed_by taken.grown ∙ signed_more before e in
+      omega (arith, used, signed)
+
+  -- and the leaves are accounted for
+  pub account_on : LeafAccount old.held.config old.held.id (leaves_of old.keys.secret) old.keys.used before → LeafAccount new.held.config new.held.id (leaves_of new.keys.secret) new.keys.used after
+  account_on was =
+      rw (taken.same.config, taken.same.id, taken.same.secret)
+      (subst (LeafAccount old.held.config old.held.id (leaves_of old.keys.secret) new.keys.used) (sym taken.grown)
+      (account_more old.held.config old.held.id (leaves_of old.keys.secret) (lacks_leaves (replica_of old.held old.keys before) e.event) old.keys.used new.keys.used before e was
+      used_on (sym (ap is_mute taken.grown) ∙ mute_on) (lacks_few (replica_of old.held old.keys before) e.event)))
+
+-- after a fault all is as before, but leaves may be used
+pub left_replica : (old new : Core) (entries : List Entry) → IsReplica old.held old.keys entries → new.held ≡ old.held → IsSameReplica old new → old.keys.used ≤ new.keys.used
+    → IsReplica new.held new.keys entries
+left_replica old new entries was held same least = record {
+  few = was.few;
+  replay = subst (λ (h : Held). Replay h.config h.ring h.id entries) (sym held) was.replay;
+  matches = subst (λ (h : Held). Matches h entries) (sym held) was.matches;
+  account =
+      rw (same.config, same.id, same.secret) (account_still old.held.config old.held.id (leaves_of old.keys.secret) old.keys.used new.keys.used entries least was.account);
+}

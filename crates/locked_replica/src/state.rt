@@ -18,7 +18,7 @@ pub const MAX_ENTRIES: usize = 65_536;
 /// A replica: its history, and what it keeps of it.
 ///
 /// Its type keeps that the history is a replay, each entry lawful after those before it and each signature in a reply
-/// verified, and that what is kept is what the history makes of it.
+/// verified, that what is kept is what the history makes of it, and that it is mute only because too few leaves were left.
 pub struct State<A: Application> {
     core: Core<A>,
     entries: Vec<Entry>,
@@ -41,7 +41,7 @@ impl<A: Application> Model for State<A> {
 
     ghost view = { λ s. replica_of s.core.held s.core.keys s.entries.items };
 
-    ghost invariant = { λ s. IsReplica s.core.held s.entries.items };
+    ghost invariant = { λ s. IsReplica s.core.held s.core.keys s.entries.items };
 }
 
 impl<A: Application> State<A> {
@@ -57,7 +57,7 @@ impl<A: Application> State<A> {
     ghost use Rattle.key_ring.specs.Signers.{key_of, leaves_of};
     ghost use Rattle.replica_core.specs.Steps.{UsesLeaves};
     ghost use Rattle.replica_core.specs.Telling.{block_at, info_reply};
-    ghost use Rattle.locked_replica.specs.Replicas.{Replica, IsMember, RunsAlone, SpendsWithin, keys_in};
+    ghost use Rattle.locked_replica.specs.Replicas.{Replica, IsMember, AccountsForLeaves, RunsAlone, UsesAsSigned, due_next, is_mute_after, keys_in};
 
     /// A replica with no history. The application is in its opening state, of the configured kind; the ring has the public keys
     /// of the replicas by number. The first random keys are those of the pool's hashes; the second are for what a replica finds
@@ -153,7 +153,9 @@ impl<A: Application> State<A> {
 
     /// Whether it is mute: it signs nothing, ever again.
     pub fn is_mute(&self) -> bool
-        ensures { result ≡ is_mute self.now.entries }
+        ensures mute { result ≡ is_mute self.now.entries }
+        // It is so only because too few leaves were left.
+        ensures account { AccountsForLeaves self.now }
     {
         self.core.is_mute()
     }
@@ -216,8 +218,13 @@ impl<A: Application> State<A> {
         ensures refused { IsErrOf result ApplyFault.HistoryFull → self.new ≡ self.old }
         // A fault spends leaves at a round end alone.
         ensures spared { OnErr result (event ≢ events.RoundEnd → self.new ≡ self.old) }
-        // And then no more of them than the round end would have used.
-        ensures within { OnErr result (SpendsWithin self.old self.new) }
+        // And then no more of them than the round end had statements to sign.
+        ensures within { OnErr result (self.new.used ≤ self.old.used + due_next self.old) }
+        // It is mute exactly where it was, or where the event opened a round for whose statements too few leaves were left.
+        ensures mute { OnOk result (is_mute self.new.entries ≡ is_mute_after self.old event) }
+        // Each statement of its own that the reply sends used one leaf, and nothing else did.
+        ensures signed { OnOk result (UsesAsSigned self.old self.new) }
+        ensures account { AccountsForLeaves self.new }
         ensures replay { Replay self.new.config self.new.ring self.new.id self.new.entries }
         // The application is what it is run alone on the committed blocks.
         ensures machine { RunsAlone self.new }
@@ -226,6 +233,8 @@ impl<A: Application> State<A> {
         if index >= MAX_ENTRIES {
             return Err(ApplyFault::HistoryFull);
         }
+        // What is due by what is kept is due by the history: this is read for the proof.
+        let _ = self.core.is_mute();
         let alloc = *self.entries.allocator();
         self.entries.reserve(1)?;
         let reply = self.core.step(alloc, &event)?;

@@ -1,5 +1,6 @@
 -- A replica that takes events one after the other.
-use Rattle.std.proofs.Common.{◌≡◌, ℕ, List, [], ◌∷◌, ◌++◌, map, refl, sym, ap, ◌∙◌, append_assoc, append-nil}
+use Rattle.std.proofs.Common.{◌≡◌, ℕ, List, [], ◌∷◌, ◌++◌, map, refl, sym, ap, ◌∙◌, append_assoc, append-nil, arith}
+use Rattle.std.specs.Prelude.{IsTrue, MatchResult, OnErr, OnOk, Result, Ok, Err, is_ok}
 use Rattle.std.proofs.lemmas.List.{map-append}
 use Rattle.std.proofs.lemmas.List.Concat.{flat_map-append}
 use Rattle.ledger_model.specs.declared.event.Event.{Event}
@@ -7,10 +8,11 @@ use Rattle.ledger_model.specs.declared.event.Event.TheVariants as event
 use Rattle.ledger_model.specs.declared.reply.Reply.{Reply}
 use Rattle.ledger_model.specs.declared.reply.Reply.TheVariants as reply
 use Rattle.ledger_model.specs.declared.history.Entry.{Entry}
-use Rattle.ledger_model.specs.Lawful.{Lawful, Replay}
-use Rattle.locked_replica.specs.Replicas.{Replica}
+use Rattle.ledger_model.specs.Lawful.{Lawful, Replay, clock_at, is_signed_reply}
+use Rattle.replica_core.specs.Steps.{UsesLeaves}
+use Rattle.locked_replica.specs.Replicas.{Replica, AccountsForLeaves, UsesAsSigned, keys_in}
 use Rattle.program.specs.Lines.{lines_of, reply_text}
-use Rattle.program.specs.Answering.{Answers, AnswersSome}
+use Rattle.program.specs.Answering.{Answers, AnswersSome, Refuses}
 
 -- the replica is the same but for what events change
 abbrev pub IsSame : Replica → Replica → Type 0
@@ -20,26 +22,21 @@ IsSame old new = new ≡ record old { used = new.used; entries = new.entries; ma
 pub answers_none : (a : Replica) → Answers a [] [] a
 answers_none a = record {
   added = [];
-  grown = record { entries = sym (append-nil a.entries); same = refl; replay = λ x. x };
+  grown = record { entries = sym (append-nil a.entries); same = refl; replay = λ x. x; signed = refl; account = λ x. x };
   these = refl;
   lines = refl;
 }
 
 -- an event that is not taken
-pub answers_refused : (old new : Replica) → new.entries ≡ old.entries → IsSame old new → Replay new.config new.ring new.id new.entries → Answers old [] [] new
-answers_refused old new stays same replay = record {
-  added = [];
-  grown = record { entries = stays ∙ sym (append-nil old.entries); same = same; replay = λ _. replay };
-  these = refl;
-  lines = refl;
-}
+pub refuses : (old new : Replica) → new.entries ≡ old.entries → IsSame old new → Refuses old new
+refuses old new stays same = record { same = same ∙ ap (λ (es : List Entry). record old { used = new.used; entries = es; machine = new.machine }) stays }
 
 -- one event
 pub answers_one : (old new : Replica) (e : Event) (r : Reply) (text : List ℕ) → new.entries ≡ old.entries ++ record { event = e; reply = r } ∷ []
-    → IsSame old new → Replay new.config new.ring new.id new.entries → reply_text r ≡ text → Answers old (e ∷ []) text new
-answers_one old new e r text grown same replay line = record {
+    → IsSame old new → Replay new.config new.ring new.id new.entries → UsesAsSigned old new → AccountsForLeaves new → reply_text r ≡ text → Answers old (e ∷ []) text new
+answers_one old new e r text grown same replay signed account line = record {
   added = record { event = e; reply = r } ∷ [];
-  grown = record { entries = grown; same = same; replay = λ _. replay };
+  grown = record { entries = grown; same = same; replay = λ _. replay; signed = signed; account = λ _. account };
   these = refl;
   lines = append-nil (reply_text r) ∙ line;
 }
@@ -52,6 +49,8 @@ answers_both a b c xs ys s t first second = record {
     entries = second.grown.entries ∙ ap (λ l. l ++ second.added) first.grown.entries ∙ append_assoc a.entries first.added second.added;
     same = second.grown.same ∙ ap (λ (r : Replica). record r { used = c.used; entries = c.entries; machine = c.machine }) first.grown.same;
     replay = λ x. second.grown.replay (first.grown.replay x);
+    signed = (let one = first.grown.signed in let two = second.grown.signed in omega (arith, one, two));
+    account = λ x. second.grown.account (first.grown.account x);
   };
   these = map-append _ first.added second.added ∙ ap (λ l. l ++ map (λ (e : Entry). e.event) second.added) first.these ∙ ap (λ l. xs ++ l) second.these;
   lines = flat_map-append _ first.added second.added ∙ ap (λ l. l ++ lines_of second.added) first.lines ∙ ap (λ l. s ++ l) second.lines;
@@ -59,11 +58,11 @@ answers_both a b c xs ys s t first second = record {
 
 -- all of the events are the first of them
 pub some_all : (a b : Replica) (xs : List Event) (s : List ℕ) → Answers a xs s b → AnswersSome a xs s b
-some_all a b xs s all = record { taken = xs; later = []; split = append-nil xs; answers = all }
+some_all a b xs s all = record { taken = xs; later = []; split = append-nil xs; last = b; answers = all; refused = record { same = refl } }
 
 -- none is, of any events
-pub some_none : (a b : Replica) (xs : List Event) → Answers a [] [] b → AnswersSome a xs [] b
-some_none a b xs none = record { taken = []; later = xs; split = refl; answers = none }
+pub some_none : (a b : Replica) (xs : List Event) → Refuses a b → AnswersSome a xs [] b
+some_none a b xs none = record { taken = []; later = xs; split = refl; last = a; answers = answers_none a; refused = none }
 
 -- events, and then the first of others
 pub some_after : (a b c : Replica) (xs ys : List Event) (s t : List ℕ) → Answers a xs s b → AnswersSome b ys t c → AnswersSome a (xs ++ ys) (s ++ t) c
@@ -71,7 +70,9 @@ some_after a b c xs ys s t first second = record {
   taken = xs ++ second.taken;
   later = second.later;
   split = append_assoc xs second.taken second.later ∙ ap (λ l. xs ++ l) second.split;
-  answers = answers_both a b c xs second.taken s t first second.answers;
+  last = second.last;
+  answers = answers_both a b second.last xs second.taken s t first second.answers;
+  refused = second.refused;
 }
 
 -- the first of some events are the first of more
@@ -80,7 +81,9 @@ some_longer a b xs ys s some = record {
   taken = some.taken;
   later = some.later ++ ys;
   split = sym (append_assoc some.taken some.later ys) ∙ ap (λ l. l ++ ys) some.split;
+  last = some.last;
   answers = some.answers;
+  refused = some.refused;
 }
 
 -- what is answered to other events than deliveries prints nothing
@@ -107,3 +110,16 @@ round_end_silent a (reply.Delivered r) lawful = absurd lawful
 round_end_silent a (reply.RoundEnded r) lawful = refl
 round_end_silent a (reply.Executed r) lawful = refl
 round_end_silent a (reply.Queried r) lawful = refl
+
+-- an event that prints nothing, taken or not
+pub taken_silently : {E F : Type 0} (old new : Replica) (e : Event) (outcome : Result ℕ E) (result : Result (Unit {0}) F) → is_ok result ≡ is_ok outcome
+    → OnOk outcome ((r : Reply) × ((new.entries ≡ old.entries ++ record { event = e; reply = r } ∷ []) × Lawful old.config old.ring old.id old.entries e r
+    × IsTrue (is_signed_reply old.ring r) × UsesLeaves (keys_in old) (clock_at old.entries) r (keys_in new)))
+    → OnErr outcome (new.entries ≡ old.entries) → IsSame old new → Replay new.config new.ring new.id new.entries → OnOk outcome (UsesAsSigned old new) → AccountsForLeaves new
+    → ((r : Reply) → Lawful old.config old.ring old.id old.entries e r → reply_text r ≡ [])
+    → MatchResult result (λ _. Answers old (e ∷ []) [] new) (λ _. Refuses old new)
+taken_silently old new e (Ok index) (Ok u) alike added stays same replay signed account silent =
+    answers_one old new e added.0 [] added.1.0 same replay signed account (silent added.0 added.1.1)
+taken_silently old new e (Err fault) (Err stop) alike added stays same replay signed account silent = refuses old new stays same
+taken_silently old new e (Ok index) (Err stop) alike added stays same replay signed account silent = absurd cc
+taken_silently old new e (Err fault) (Ok u) alike added stays same replay signed account silent = absurd cc

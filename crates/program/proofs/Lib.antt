@@ -1,4 +1,5 @@
 mod AnsweringLemmas
+mod CauseLemmas
 mod PrintingLemmas
 mod StreamLemmas
 mod PieceLemmas

@@ -2,7 +2,7 @@
 use Rattle.std.proofs.Common.{◌≡◌, ℕ, ◌≤◌, List, [], refl, sym, subst, ◌∙◌, inl, inr, arith}
 use Rattle.std.specs.Prelude.{◌⊎◌, Option, Result, Ok, Err, MatchResult}
 use Rattle.std.specs.Io.KnownBytes.{Appends, Keeps}
-use Rattle.std.proofs.KnownBytes.{Consumes-nil}
+use Rattle.std.proofs.KnownBytes.{Appends-kept, Consumes-nil}
 use Rattle.ledger_model.specs.Spelling.{frame_bytes}
 use Rattle.settings.specs.declared.Settings.{Settings}
 use Rattle.settings.specs.declared.Settings.TheVariants.{Sign, Deliver, Simulate, Cluster, Serve}
@@ -12,7 +12,10 @@ use Rattle.settings.specs.declared.simulate.SimulateSettings.{SimulateSettings}
 use Rattle.frame_signing.specs.Statements.{signed}
 use Rattle.command_line.specs.declared.usage_fault.UsageFault.{UsageFault}
 use Rattle.command_line.specs.declared.usage_fault.UsageFault.TheVariants as fault
+use Rattle.command_line.specs.Faults.{AskForHelp, AskForHelpAlone, IsRightFault}
+use Rattle.command_line.proofs.FaultLemmas.{asked, not_alone}
 use Rattle.command_line.specs.Options.{AsksForText, IsRefused, IsSet, WantsMemory}
+use Rattle.program_streams.specs.Responding.{Responds}
 use Rattle.program_streams.specs.Writing.{AppendsSome}
 use Rattle.program_streams.proofs.RespondingLemmas.{responds_some}
 use Rattle.program.specs.declared.stream_end.StreamEnd.{StreamEnd}
@@ -53,11 +56,26 @@ played_done x s end status unread left before after is answered done = subst (λ
 pub played_halted : (x : Piped) (s : SimulateSettings) (unread left before after : Option (List ℕ)) → x ≡ piped.Simulate s → PlaysTextSome s unread left before after → Halted (settings_of x) unread left before after
 played_halted x s unread left before after is some = subst (λ y. Halted (settings_of y) unread left before after) (sym is) some
 
+-- all was written, and then flushed
+responds_kept : (P : List ℕ → List ℕ → Type 0) (unread left before mid after : Option (List ℕ)) → Responds P unread left before mid → Keeps mid after → Responds P unread left before after
+responds_kept P unread left before mid after done keeps = record {
+  input = done.input;
+  text = done.text;
+  goes_with = done.goes_with;
+  read = done.read;
+  written = Appends-kept before mid after done.text done.written keeps;
+}
+
+pub done_flushed : (x : Piped) (status : ℕ) (unread left before mid after : Option (List ℕ)) → Done (settings_of x) status unread left before mid → Keeps mid after → Done (settings_of x) status unread left before after
+done_flushed (piped.Sign s) status unread left before mid after (is, done) keeps = (is, responds_kept _ unread left before mid after done keeps)
+done_flushed (piped.Deliver s) status unread left before mid after (end, (is, (to_end, done))) keeps = (end, (is, (to_end, responds_kept _ unread left before mid after done keeps)))
+done_flushed (piped.Simulate s) status unread left before mid after (end, (is, done)) keeps = (end, (is, responds_kept _ unread left before mid after done keeps))
+
 -- all was written, and then a flush failed
 pub done_halted : (x : Piped) (status : ℕ) (unread left before mid after : Option (List ℕ)) → Done (settings_of x) status unread left before mid → Keeps mid after → Halted (settings_of x) unread left before after
 done_halted (piped.Sign s) status unread left before mid after (is, done) keeps = responds_some _ _ unread left before mid after (λ input text does. does) done keeps
 done_halted (piped.Deliver s) status unread left before mid after (end, (is, (to_end, done))) keeps = responds_some _ _ unread left before mid after (λ input text does. inr (end, does)) done keeps
-done_halted (piped.Simulate s) status unread left before mid after (end, (is, done)) keeps = responds_some _ _ unread left before mid after (λ input text does. inr (end, does.1)) done keeps
+done_halted (piped.Simulate s) status unread left before mid after (end, (is, done)) keeps = responds_some _ _ unread left before mid after (λ input text does. (does.1.0, inr (end, does.1.1))) done keeps
 
 -- a status of what was done is 0 or 1
 stream_small : (end : StreamEnd) → status_of_stream end ≤ 1
@@ -113,7 +131,7 @@ module _ (words : List (List ℕ)) (s : Settings) (set : IsSet words s) (status 
 
 -- what was told of words that set nothing: the help or the version, or what is wrong with them
 abbrev pub Told : UsageFault → ℕ → Type 0 → Type 0 → Type 0
-Told f status Quiet Kept = (AsksForText f × (((status ≡ 0) × Quiet) ⊎ (status ≡ 3))) ⊎ (Kept × (((status ≡ 2) × (WantsMemory f → ⊥)) ⊎ (status ≡ 3)))
+Told f status Quiet Kept = (AsksForText f × (((status ≡ 0) × Quiet) ⊎ (status ≡ 3))) ⊎ (((AsksForText f → ⊥) × Kept) × (((status ≡ 2) × (WantsMemory f → ⊥)) ⊎ (status ≡ 3)))
 
 -- who asks for the help or the version doesn't want memory
 asks_no_memory : (f : UsageFault) → AsksForText f → WantsMemory f → ⊥
@@ -133,9 +151,9 @@ asks_no_memory (fault.Missing option) asks wants = asks
 asks_no_memory fault.NoSubcommand asks wants = asks
 asks_no_memory fault.NoMemory asks wants = asks
 
-module _ (words : List (List ℕ)) (f : UsageFault) (status : ℕ) (Q K : Type 0) (refused : (WantsMemory f → ⊥) → IsRefused words) where
-  pub told_finishes : Told f status Q K → (status ≡ 0) ⊎ (status ≡ 1) → IsRefused words × (status ≡ 0)
-  told_finishes (inl (asks, inl (zero, quiet))) small = (refused (asks_no_memory f asks), zero)
+module _ (words : List (List ℕ)) (f : UsageFault) (status : ℕ) (Q K : Type 0) (right : IsRightFault words f) (refused : (WantsMemory f → ⊥) → IsRefused words) where
+  pub told_finishes : Told f status Q K → (status ≡ 0) ⊎ (status ≡ 1) → IsRefused words × (AskForHelp words × (status ≡ 0))
+  told_finishes (inl (asks, inl (zero, quiet))) small = (refused (asks_no_memory f asks), (asked words f right asks, zero))
   told_finishes (inl (asks, inr three)) (inl zero) = absurd (omega (arith, zero, three))
   told_finishes (inl (asks, inr three)) (inr one) = absurd (omega (arith, one, three))
   told_finishes (inr (kept, inl (two, enough))) (inl zero) = absurd (omega (arith, zero, two))
@@ -152,15 +170,15 @@ module _ (words : List (List ℕ)) (f : UsageFault) (status : ℕ) (Q K : Type 0
   told_quiet (inr (kept, inr three)) (inl zero) = absurd (omega (arith, zero, three))
   told_quiet (inr (kept, inr three)) (inr one) = absurd (omega (arith, one, three))
 
-  pub told_refuses : Told f status Q K → status ≡ 2 → IsRefused words × K
+  pub told_refuses : Told f status Q K → status ≡ 2 → IsRefused words × ((AskForHelpAlone words → ⊥) × K)
   told_refuses (inl (asks, inl (zero, quiet))) is = absurd (omega (arith, is, zero))
   told_refuses (inl (asks, inr three)) is = absurd (omega (arith, is, three))
-  told_refuses (inr (kept, inl (two, enough))) is = (refused enough, kept)
+  told_refuses (inr ((other, kept), inl (two, enough))) is = (refused enough, (not_alone words f right other enough, kept))
   told_refuses (inr (kept, inr three)) is = absurd (omega (arith, is, three))
 
-  pub told_stops : Told f status Q K → status ≡ 3 → K ⊎ IsRefused words
-  told_stops (inl (asks, told)) is = inr (refused (asks_no_memory f asks))
-  told_stops (inr (kept, told)) is = inl kept
+  pub told_stops : Told f status Q K → status ≡ 3 → K ⊎ (IsRefused words × AskForHelp words)
+  told_stops (inl (asks, told)) is = inr (refused (asks_no_memory f asks), asked words f right asks)
+  told_stops (inr ((other, kept), told)) is = inl kept
 
   pub told_known : Told f status Q K → status ≤ 3
   told_known (inl (asks, inl (zero, quiet))) = omega (arith, zero)

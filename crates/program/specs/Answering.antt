@@ -8,17 +8,24 @@ use Rattle.ledger_model.specs.Spelling.{frame_bytes}
 use Rattle.ledger_model.specs.Applications.{run}
 use Rattle.ledger_model.specs.Lawful.{Replay}
 use Rattle.cluster_keys.specs.Keys.{ring_of, secret_of}
-use Rattle.locked_replica.specs.Replicas.{Replica}
+use Rattle.locked_replica.specs.Replicas.{Replica, AccountsForLeaves, UsesAsSigned}
 use Rattle.settings.specs.declared.deliver.DeliverSettings.{DeliverSettings}
 use Rattle.program.specs.Lines.{lines_of}
 use Rattle.program_streams.specs.Writing.{AppendsSome}
 use Rattle.std.specs.Io.KnownBytes.{Appends}
 
--- these entries were added to the replica's history, which stays a replay, and it is the same replica
+-- these entries were added to the replica's history, which stays a replay, and it is the same replica; each statement of its own
+-- that they send took one leaf, and it is mute only because too few leaves were left
 pub record Grows (old : Replica) (added : List Entry) (new : Replica) : Type 0 where
   pub entries : new.entries ≡ old.entries ++ added
   pub same : new ≡ record old { used = new.used; entries = new.entries; machine = new.machine }
   pub replay : Replay old.config old.ring old.id old.entries → Replay new.config new.ring new.id new.entries
+  pub signed : UsesAsSigned old new
+  pub account : AccountsForLeaves old → AccountsForLeaves new
+
+-- the replica took no event, but leaves may be used
+pub record Refuses (old new : Replica) : Type 0 where
+  pub same : new ≡ record old { used = new.used; machine = new.machine }
 
 -- the replica took these events, in order; the text is the lines of its replies
 pub record Answers (old : Replica) (events : List Event) (text : List ℕ) (new : Replica) : Type 0 where
@@ -27,12 +34,14 @@ pub record Answers (old : Replica) (events : List Event) (text : List ℕ) (new 
   pub these : map (λ e. e.event) added ≡ events
   pub lines : lines_of added ≡ text
 
--- the replica took the first of these events; the text is the lines of its replies
+-- the replica took the first of these events, and may have refused the next one; the text is the lines of its replies
 pub record AnswersSome (old : Replica) (events : List Event) (text : List ℕ) (new : Replica) : Type 0 where
   pub taken : List Event
   pub later : List Event
   pub split : taken ++ later ≡ events
-  pub answers : Answers old taken text new
+  pub last : Replica
+  pub answers : Answers old taken text last
+  pub refused : Refuses last new
 
 -- the replica took these events, and the lines of its replies were written
 abbrev pub Printed : Replica → List Event → Replica → Option (List ℕ) → Option (List ℕ) → Type 0

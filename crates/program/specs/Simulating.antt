@@ -1,18 +1,18 @@
 -- What `abft simulate` writes of a scenario.
-use Rattle.std.specs.Prelude.{◌≡◌, ◌⊎◌, ℕ, Bool, not, List, [], ◌∷◌, ◌++◌, codes, decimal, Option, Result, MatchResult, unwrap_or, if◌then◌else◌}
+use Rattle.std.specs.Prelude.{◌≡◌, ◌⊎◌, ℕ, ◌≤◌, Bool, not, List, [], ◌∷◌, ◌++◌, length, codes, decimal, Option, Result, MatchResult, unwrap_or, if◌then◌else◌}
 use Rattle.std.specs.List.{flat_map}
 use Rattle.std.specs.Io.KnownBytes.{Appends, Consumes, IsAtEnd}
 use Rattle.ledger_model.specs.declared.config.Config.{Config}
 use Rattle.cluster_keys.specs.declared.cluster.Cluster.{Cluster}
 use Rattle.cluster_keys.specs.Keys.{secret_of}
-use Rattle.adversary_net.specs.Clusters.{RunningCluster, HasRun, world_of}
+use Rattle.adversary_net.specs.Clusters.{RunningCluster, AllAccountForLeaves, HasRun, world_of}
 use Rattle.adversary_net.specs.Headline.{IsUnforged, IsOneLedger}
 use Rattle.adversary_net.specs.Openings.{new_cluster}
 use Rattle.history_bytes.specs.Histories.{history_bytes}
 use Rattle.scenario_texts.specs.declared.command.Command.{Command}
 use Rattle.scenario_texts.specs.Lawful.{IsPlan}
 use Rattle.scenario_texts.specs.Plans.{Plan, plan_of, small_keys}
-use Rattle.scenario_texts.specs.Lines.{Spells, IsBadAt}
+use Rattle.scenario_texts.specs.Lines.{Spells, IsBadAt, IsTooLarge}
 use Rattle.simulation.specs.Playing.{Simulated, PlaysAll}
 use Rattle.settings.specs.declared.simulate.SimulateSettings.{SimulateSettings}
 use Rattle.program_streams.specs.Writing.{AppendsSome}
@@ -44,8 +44,8 @@ histories_of c = flat_map history_bytes (world_of c).histories
 abbrev pub if_wanted : Bool → List ℕ → List ℕ
 if_wanted wanted lines = if wanted then lines else []
 
--- the commands of a plan were played: it was a run from the beginning, one sequential ledger where nothing was forged; and the
--- text is its lines, or the histories of its end
+-- the commands of a plan were played: it was a run from the beginning, one sequential ledger where nothing was forged, in which
+-- each correct replica is mute only because too few leaves were left; and the text is its lines, or the histories of its end
 pub record Played (s : SimulateSettings) (p : Plan) (text : List ℕ) : Type 0 where
   pub config : Config
   pub sized : IsConfigOf p config
@@ -54,6 +54,7 @@ pub record Played (s : SimulateSettings) (p : Plan) (text : List ℕ) : Type 0 w
   pub plays : PlaysAll (opening s.seed config p) p.commands lines final
   pub since : HasRun final.cluster
   pub one_ledger : IsUnforged final.cluster → IsOneLedger final.cluster
+  pub account : AllAccountForLeaves final.cluster
   pub written : text ≡ if s.histories then histories_of final.cluster else lines
 
 -- the first commands of a list were played, with these lines
@@ -85,6 +86,14 @@ SimulatesSome s input text = (text ≡ []) ⊎ ((p : Plan) × (Spells input p ×
 abbrev pub IsBadAnyway : List ℕ → ℕ → Type 0
 IsBadAnyway input n = (more : List ℕ) → IsBadAt (input ++ more) n
 
+-- no more than one piece of 8,192 bytes was read after the text had become too large for a scenario
+pub record IsReadInTime (text : List ℕ) : Type 0 where
+  pub before : List ℕ
+  pub piece : List ℕ
+  pub split : text ≡ before ++ piece
+  pub fits : IsTooLarge before → ⊥
+  pub short : length piece ≤ 8192
+
 -- to find a scenario all that there is was read; where a line is bad anyway some may be left
 abbrev pub IsReadFor : TextEnd → List ℕ → Option (List ℕ) → Type 0
 IsReadFor Whole input left = IsAtEnd left
@@ -92,20 +101,20 @@ IsReadFor (BadLine n) input left = IsAtEnd left ⊎ IsBadAnyway input n
 
 -- a text was read as far as its end shows, and what is printed of it was written
 abbrev pub PlaysText : SimulateSettings → TextEnd → Option (List ℕ) → Option (List ℕ) → Option (List ℕ) → Option (List ℕ) → Type 0
-PlaysText s end unread left before after = Responds (λ input text. IsReadFor end input left × Simulates s input end text) unread left before after
+PlaysText s end unread left before after = Responds (λ input text. IsReadFor end input left × (IsReadInTime input × Simulates s input end text)) unread left before after
 
 -- some of it was read, and a beginning of what is printed of that was written
 abbrev pub PlaysTextSome : SimulateSettings → Option (List ℕ) → Option (List ℕ) → Option (List ℕ) → Option (List ℕ) → Type 0
 PlaysTextSome s unread left before after =
-    RespondsSome (λ input text. SimulatesSome s input text ⊎ ((end : TextEnd) × Simulates s input end text)) unread left before after
+    RespondsSome (λ input text. IsReadInTime input × (SimulatesSome s input text ⊎ ((end : TextEnd) × Simulates s input end text))) unread left before after
 
 -- ---- what calls say
 
 -- what was read of a stream is a scenario, or its first bad line has this number
 abbrev pub IsRead : ScenarioInput → Option (List ℕ) → Option (List ℕ) → Type 0
 IsRead (input.Scenario scenario) unread left =
-    (text : List ℕ) × (Consumes unread left text × (IsAtEnd left × (Spells text (plan_of scenario) × IsPlan (plan_of scenario))))
-IsRead (input.BadLine n) unread left = (text : List ℕ) × (Consumes unread left text × ((IsAtEnd left ⊎ IsBadAnyway text n) × IsBadAt text n))
+    (text : List ℕ) × (Consumes unread left text × (IsReadInTime text × (IsAtEnd left × (Spells text (plan_of scenario) × IsPlan (plan_of scenario)))))
+IsRead (input.BadLine n) unread left = (text : List ℕ) × (Consumes unread left text × (IsReadInTime text × ((IsAtEnd left ⊎ IsBadAnyway text n) × IsBadAt text n)))
 
 -- commands were played, and their lines written, if they are wanted
 abbrev pub PlaysWritten : Bool → Simulated → List Command → Simulated → Option (List ℕ) → Option (List ℕ) → Type 0

@@ -1,5 +1,5 @@
 -- A stream of frames that are delivered: where it ends, and what is printed.
-use Rattle.std.specs.Prelude.{◌≡◌, ◌⊎◌, ℕ, ◌≤◌, List, [], ◌++◌, length, map, Option, Some, None}
+use Rattle.std.specs.Prelude.{◌≡◌, ◌⊎◌, ℕ, ◌≤◌, List, [], ◌++◌, length, map, Option, Some, None, ⊤}
 use Rattle.std.specs.Io.KnownBytes.{Appends, Consumes, IsAtEnd}
 use Rattle.ledger_model.specs.declared.event.Event.{Event}
 use Rattle.ledger_model.specs.declared.history.Entry.{Entry}
@@ -10,7 +10,9 @@ use Rattle.ledger_model.specs.Streams.{BeginsTooLong, BeginsMalformed, SplitsTo,
 use Rattle.signed_frames.specs.declared.fault.FrameFault.{FrameFault}
 use Rattle.signed_frames.specs.declared.fault.FrameFault.TheVariants as told
 use Rattle.signed_frames.specs.Reader.{Reader, Reading, Leaves}
-use Rattle.cluster_keys.specs.Keys.{ring_of}
+use Rattle.key_ring.specs.Signers.{leaves_of}
+use Rattle.cluster_keys.specs.Keys.{ring_of, secret_of}
+use Rattle.replica_core.specs.Leaves.{IsMuteForWant}
 use Rattle.locked_replica.specs.Replicas.{Replica}
 use Rattle.settings.specs.declared.deliver.DeliverSettings.{DeliverSettings}
 use Rattle.program.specs.declared.stream_end.StreamFault.{StreamFault}
@@ -18,6 +20,8 @@ use Rattle.program.specs.declared.stream_end.StreamFault.TheVariants.{TooLong, M
 use Rattle.program.specs.declared.stream_end.StreamEnd.{StreamEnd}
 use Rattle.program.specs.declared.stream_end.StreamEnd.TheVariants.{Whole, Cut, Fault}
 use Rattle.program.specs.Lines.{lines_of, last_line}
+use Rattle.program_streams.specs.declared.program_fault.ProgramFault.{ProgramFault}
+use Rattle.program_streams.specs.declared.program_fault.ProgramFault.TheVariants as fault
 use Rattle.program_streams.specs.Writing.{AppendsSome}
 use Rattle.program_streams.specs.Responding.{Responds, RespondsSome}
 use Rattle.program.specs.Answering.{Answers, AnswersSome, deliveries, starting}
@@ -98,6 +102,11 @@ abbrev pub GoesOn : Replica → Option (List ℕ) → Option (List ℕ) → Opti
 GoesOn start unread left before after now reader None = UnderWay start unread left before after now reader
 GoesOn start unread left before after now reader (Some fault) = Ended start unread left before after now (Fault fault)
 
+-- the replica of the settings is mute after these entries only where the leaves of its key pair were too few for the statements
+-- of its own that it had sent and those that were due
+abbrev pub IsMuteOnlySpent : DeliverSettings → List Entry → Type 0
+IsMuteOnlySpent s entries = IsMuteForWant s.cluster.config s.replica (leaves_of (secret_of s.cluster s.replica)) 0 entries
+
 -- what `abft deliver` prints of these bytes: the replica of the settings, with the keys of its cluster, had these events, and
 -- its lawful replies to them have these lines; the last line says what is wrong with the stream
 pub record Delivers (s : DeliverSettings) (input : List ℕ) (end : StreamEnd) (text : List ℕ) : Type 0 where
@@ -106,6 +115,7 @@ pub record Delivers (s : DeliverSettings) (input : List ℕ) (end : StreamEnd) (
   pub entries : List Entry
   pub events : map (λ e. e.event) entries ≡ starting s ++ deliveries frames
   pub replay : Replay s.cluster.config (ring_of s.cluster) s.replica entries
+  pub mute : IsMuteOnlySpent s entries
   pub lines : lines_of entries ++ last_line end ≡ text
 
 -- the same as far as it came: the first of these events, of the first frames of these bytes
@@ -117,6 +127,7 @@ pub record DeliversSome (s : DeliverSettings) (input : List ℕ) (text : List �
   pub later : List Event
   pub events : map (λ e. e.event) entries ++ later ≡ starting s ++ deliveries frames
   pub replay : Replay s.cluster.config (ring_of s.cluster) s.replica entries
+  pub mute : IsMuteOnlySpent s entries
   pub lines : lines_of entries ≡ text
 
 -- a stream was read as far as its end shows, and what is printed of it was written
@@ -127,3 +138,15 @@ DeliversStream s end unread left before after = IsReadTo end left × Responds (�
 abbrev pub DeliversStreamSome : DeliverSettings → Option (List ℕ) → Option (List ℕ) → Option (List ℕ) → Option (List ℕ) → Type 0
 DeliversStreamSome s unread left before after =
     RespondsSome (λ input text. DeliversSome s input text ⊎ ((end : StreamEnd) × Delivers s input end text)) unread left before after
+
+-- the same, and the replica's history had all the entries that a history takes
+abbrev pub FillsHistory : DeliverSettings → Option (List ℕ) → Option (List ℕ) → Option (List ℕ) → Option (List ℕ) → Type 0
+FillsHistory s unread left before after = RespondsSome (λ input text. (some : DeliversSome s input text) × (65536 ≤ length some.entries)) unread left before after
+
+-- `abft deliver` stopped since memory ran out, a stream failed, or the history was full
+abbrev pub StopsDelivery : DeliverSettings → Option (List ℕ) → Option (List ℕ) → Option (List ℕ) → Option (List ℕ) → ProgramFault → Type 0
+StopsDelivery s unread left before after fault.NoMemory = ⊤
+StopsDelivery s unread left before after (fault.Stream error) = ⊤
+StopsDelivery s unread left before after fault.HistoryFull = FillsHistory s unread left before after
+StopsDelivery s unread left before after (fault.NoListener port error) = ⊥
+StopsDelivery s unread left before after fault.NoThread = ⊥

@@ -1,7 +1,7 @@
 //! `abft deliver`: a replica, and the frames of a stream that are delivered to it.
-ghost use Rattle.std.specs.Prelude.{◌≡◌, MatchResult};
+ghost use Rattle.std.specs.Prelude.{◌≡◌, IfErr, MatchResult};
 ghost use Rattle.program.specs.Answering.{fresh};
-ghost use Rattle.program.specs.Streams.{DeliversStream, DeliversStreamSome};
+ghost use Rattle.program.specs.Streams.{DeliversStream, DeliversStreamSome, StopsDelivery};
 
 use crate::frame_stream::deliver_pieces;
 use crate::line_printing::print_end;
@@ -25,9 +25,10 @@ fn deliver_to<R: Read, W: Write>(
     writer: &mut W,
 ) -> Result<StreamEnd, ProgramFault>
     requires { state.old ≡ fresh settings.now }
-    ensures { MatchResult result
+    ensures delivers { MatchResult result
         (λ end. DeliversStream settings.now end (R.remaining reader.old) (R.remaining reader.new) (W.contents writer.old) (W.contents writer.new))
         (λ _. DeliversStreamSome settings.now (R.remaining reader.old) (R.remaining reader.new) (W.contents writer.old) (W.contents writer.new)) }
+    ensures cause { IfErr result (StopsDelivery settings.now (R.remaining reader.old) (R.remaining reader.new) (W.contents writer.old) (W.contents writer.new)) }
 {
     start(alloc, settings, state)?;
     let mut frames = FrameReader::new(alloc);
@@ -45,9 +46,10 @@ pub fn deliver<S: RandomSource, R: Read, W: Write>(
     reader: &mut R,
     writer: &mut W,
 ) -> Result<StreamEnd, ProgramFault>
-    ensures { MatchResult result
+    ensures delivers { MatchResult result
         (λ end. DeliversStream settings.now end (R.remaining reader.old) (R.remaining reader.new) (W.contents writer.old) (W.contents writer.new))
         (λ _. DeliversStreamSome settings.now (R.remaining reader.old) (R.remaining reader.new) (W.contents writer.old) (W.contents writer.new)) }
+    ensures cause { IfErr result (StopsDelivery settings.now (R.remaining reader.old) (R.remaining reader.new) (W.contents writer.old) (W.contents writer.new)) }
 {
     let mut state = new_replica(source, alloc, settings)?;
     deliver_to(alloc, settings, &mut state, reader, writer)

@@ -1,5 +1,5 @@
 //! `abft deliver`: the frames of a stream at one replica.
-ghost use Rattle.std.specs.Prelude.{◌≡◌, ◌≢◌, ◌∷◌, ℕ, List, [], IfOk, MatchResult, Option};
+ghost use Rattle.std.specs.Prelude.{◌≡◌, ◌≢◌, ◌∷◌, ℕ, List, [], IfErr, IfOk, MatchResult, Option};
 ghost use Rattle.std.specs.Io.KnownBytes.{Consumes, IsAtEnd};
 ghost use Rattle.ledger_model.specs.Streams.{SplitsTo};
 ghost use Rattle.ledger_model.specs.declared.statement.SignedStatement.{SignedStatement};
@@ -7,10 +7,12 @@ ghost use Rattle.signed_frames.specs.declared.fault.FrameFault.TheVariants as fa
 ghost use Rattle.signed_frames.specs.Reader.{Leaves, Reading};
 ghost use Rattle.locked_replica.specs.Replicas.{Replica};
 ghost use Rattle.program.specs.Answering.{Prints, deliveries};
+ghost use Rattle.program.specs.Faults.{IsMemoryOrStream, StopsAt};
 ghost use Rattle.program.specs.Streams.{Ended, GoesBehind, GoesOn, IsFed, IsReadTo, IsReading, IsTold, Stands, Stopped, UnderWay};
 
 use crate::line::Line;
 use crate::line_printing::print_line;
+use crate::reading::{PIECE_LEN, read_piece};
 use crate::replica::answer;
 use crate::stream_end::{StreamEnd, StreamFault};
 use app_kinds::AnyKind;
@@ -20,9 +22,6 @@ use signed_frames::{Frame, FrameFault, FrameReader};
 use std::alloc::Global;
 use std::io::{self, ErrorKind, Read, Write};
 
-/// The most bytes of standard input that are read at once.
-const PIECE_LEN: usize = 8192;
-
 /// Delivers a frame, and writes the line of the answer.
 fn deliver_frame<W: Write>(
     alloc: Global,
@@ -30,7 +29,8 @@ fn deliver_frame<W: Write>(
     frame: Frame,
     writer: &mut W,
 ) -> Result<(), ProgramFault>
-    ensures { Prints result state.old (deliveries (frame ∷ [])) state.new (W.contents writer.old) (W.contents writer.new) }
+    ensures prints { Prints result state.old (deliveries (frame ∷ [])) state.new (W.contents writer.old) (W.contents writer.new) }
+    ensures cause { IfErr result (StopsAt state.new.entries) }
 {
     let line = answer(state, frame.into_bytes())?;
     print_line(alloc, writer, line)
@@ -43,7 +43,8 @@ fn deliver_all<W: Write>(
     frames: Vec<Frame>,
     writer: &mut W,
 ) -> Result<(), ProgramFault>
-    ensures { Prints result state.old (deliveries frames.items) state.new (W.contents writer.old) (W.contents writer.new) }
+    ensures prints { Prints result state.old (deliveries frames.items) state.new (W.contents writer.old) (W.contents writer.new) }
+    ensures cause { IfErr result (StopsAt state.new.entries) }
 {
     for frame in frames {
         deliver_frame(alloc, state, frame, writer)?;
@@ -54,7 +55,8 @@ fn deliver_all<W: Write>(
 /// The fault of the stream that a reader tells. The only error is want of memory.
 fn fault_of(fault: FrameFault) -> Result<StreamFault, ProgramFault>
     requires { fault ≢ faults.Failed }
-    ensures { IfOk result (λ found. IsTold fault found) }
+    ensures told { IfOk result (λ found. IsTold fault found) }
+    ensures memory { IfErr result IsMemoryOrStream }
 {
     match fault {
         FrameFault::TooLong => Ok(StreamFault::TooLong),
@@ -67,8 +69,9 @@ fn fault_of(fault: FrameFault) -> Result<StreamFault, ProgramFault>
 /// The fault behind the frames that were handed out, if one stands there. The only error is want of memory.
 fn fault_behind(frames: &mut FrameReader) -> Result<Option<StreamFault>, ProgramFault>
     requires { IsFed frames.old }
-    ensures { (bytes : List ℕ) (given : List SignedStatement) → Leaves bytes given frames.old
+    ensures behind { (bytes : List ℕ) (given : List SignedStatement) → Leaves bytes given frames.old
         → IfOk result (λ found. GoesBehind bytes given frames.new found) }
+    ensures memory { IfErr result IsMemoryOrStream }
 {
     match frames.feed(&[]) {
         Ok(_) => Ok(None),
@@ -85,11 +88,12 @@ fn deliver_piece<W: Write>(
     writer: &mut W,
 ) -> Result<Option<StreamFault>, ProgramFault>
     requires { IsReading frames.old }
-    ensures { (start : Replica) (unread now left before : Option (List ℕ))
+    ensures goes { (start : Replica) (unread now left before : Option (List ℕ))
         → UnderWay start unread now before (W.contents writer.old) state.old frames.old → Consumes now left piece.now
         → MatchResult result
         (λ found. GoesOn start unread left before (W.contents writer.new) state.new frames.new found)
         (λ _. Stopped start unread left before (W.contents writer.new) state.new) }
+    ensures cause { IfErr result (StopsAt state.new.entries) }
 {
     match frames.feed(piece) {
         Ok(found) => {
@@ -123,13 +127,14 @@ pub(crate) fn deliver_pieces<R: Read, W: Write>(
     writer: &mut W,
 ) -> Result<StreamEnd, ProgramFault>
     requires { frames.old ≡ Reading [] }
-    ensures { MatchResult result
+    ensures ends { MatchResult result
         (λ end. Ended state.old (R.remaining reader.old) (R.remaining reader.new) (W.contents writer.old) (W.contents writer.new) state.new end)
         (λ _. Stopped state.old (R.remaining reader.old) (R.remaining reader.new) (W.contents writer.old) (W.contents writer.new) state.new) }
+    ensures cause { IfErr result (StopsAt state.new.entries) }
 {
     let mut piece = [0; PIECE_LEN];
     for _ in 0..u64::MAX {
-        let count = reader.read(&mut piece)?;
+        let count = read_piece(reader, &mut piece)?;
         if count == 0 {
             return Ok(end_of(frames));
         }

@@ -10,6 +10,7 @@ mod opening;
 mod outcome;
 mod playing;
 mod printing;
+mod reading;
 mod replica;
 mod running;
 mod scenario_input;

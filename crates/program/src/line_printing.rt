@@ -1,4 +1,6 @@
 //! The lines of `abft deliver`, each printed by one write if the writer takes it whole.
+ghost use Rattle.std.specs.Prelude.{IfErr};
+ghost use Rattle.program.specs.Faults.{IsMemoryOrStream};
 ghost use Rattle.program.specs.Lines.{ended, last_line};
 ghost use Rattle.program_streams.specs.Writing.{Writes};
 
@@ -15,9 +17,12 @@ pub(crate) fn print_line<W: Write>(
     writer: &mut W,
     line: Line,
 ) -> Result<(), ProgramFault>
-    ensures { Writes result (W.contents writer.old) (W.contents writer.new) (ended line) }
+    ensures written { Writes result (W.contents writer.old) (W.contents writer.new) (ended line) }
+    ensures fault { IfErr result IsMemoryOrStream }
 {
-    let text = format!(in alloc; "{line}\n")?;
+    let Ok(text) = format!(in alloc; "{line}\n") else {
+        return Err(ProgramFault::NoMemory);
+    };
     write_bytes(writer, text.as_bytes())
 }
 
@@ -27,7 +32,8 @@ pub(crate) fn print_end<W: Write>(
     writer: &mut W,
     end: StreamEnd,
 ) -> Result<(), ProgramFault>
-    ensures { Writes result (W.contents writer.old) (W.contents writer.new) (last_line end) }
+    ensures written { Writes result (W.contents writer.old) (W.contents writer.new) (last_line end) }
+    ensures fault { IfErr result IsMemoryOrStream }
 {
     match end {
         StreamEnd::Whole => Ok(()),

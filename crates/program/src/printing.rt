@@ -1,5 +1,7 @@
 //! Texts of help and of faults, each printed by one write if the writer takes it whole.
+ghost use Rattle.std.specs.Prelude.{IfErr};
 ghost use Rattle.program_streams.specs.Writing.{Writes};
+ghost use Rattle.program.specs.Faults.{IsMemoryOrStream};
 
 use program_streams::{ProgramFault, write_whole};
 use std::alloc::Global;
@@ -8,10 +10,13 @@ use std::io::Write;
 
 /// Writes all of the bytes.
 pub(crate) fn write_bytes<W: Write>(writer: &mut W, bytes: &[u8]) -> Result<(), ProgramFault>
-    ensures { Writes result (W.contents writer.old) (W.contents writer.new) bytes.now }
+    ensures written { Writes result (W.contents writer.old) (W.contents writer.new) bytes.now }
+    ensures fault { IfErr result IsMemoryOrStream }
 {
-    write_whole(writer, bytes)?;
-    Ok(())
+    match write_whole(writer, bytes) {
+        Ok(()) => Ok(()),
+        Err(error) => Err(ProgramFault::Stream(error)),
+    }
 }
 
 /// Writes the text and the end of its last line.

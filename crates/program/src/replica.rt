@@ -1,8 +1,10 @@
 //! The replica of `abft deliver`: how it is made, and what happens to it.
-ghost use Rattle.std.specs.Prelude.{◌≡◌, [], ◌∷◌, replicate, IfOk, MatchResult};
+ghost use Rattle.std.specs.Prelude.{◌≡◌, ◌≤◌, List, [], ◌∷◌, length, replicate, is_ok, IfOk, IfErr, IsErrOf, MatchResult};
+ghost use Rattle.ledger_model.specs.declared.history.Entry.{Entry};
 ghost use Rattle.ledger_model.specs.declared.event.Event.TheVariants as event;
 ghost use Rattle.program.specs.Lines.{ended};
-ghost use Rattle.program.specs.Answering.{Answers, AnswersSome, fresh, starting};
+ghost use Rattle.program.specs.Answering.{Answers, AnswersSome, Refuses, fresh, starting};
+ghost use Rattle.program.specs.Faults.{IsMemoryOrStream, StopsAt};
 
 use crate::line::Line;
 use app_kinds::AnyKind;
@@ -16,9 +18,21 @@ use std::alloc::Global;
 use std::hash::RandomState;
 use std::random::RandomSource;
 
+/// Random keys of hashes.
+fn new_key<S: RandomSource>(source: &S) -> Result<RandomState, ProgramFault>
+    ensures { IfErr result IsMemoryOrStream }
+{
+    match RandomState::new(source) {
+        Ok(key) => Ok(key),
+        Err(error) => Err(ProgramFault::Stream(error)),
+    }
+}
+
 /// The random keys of a replica's hashes.
-pub(crate) fn new_keys<S: RandomSource>(source: &S) -> Result<[RandomState; 2], ProgramFault> {
-    Ok([RandomState::new(source)?, RandomState::new(source)?])
+pub(crate) fn new_keys<S: RandomSource>(source: &S) -> Result<[RandomState; 2], ProgramFault>
+    ensures { IfErr result IsMemoryOrStream }
+{
+    Ok([new_key(source)?, new_key(source)?])
 }
 
 /// The replica of the settings, to which nothing happened. The random bytes are the keys of its hashes.
@@ -27,65 +41,81 @@ pub(crate) fn new_replica<S: RandomSource>(
     alloc: Global,
     settings: &DeliverSettings,
 ) -> Result<State<AnyKind>, ProgramFault>
-    ensures { IfOk result (λ state. state ≡ fresh settings.now) }
+    ensures fresh { IfOk result (λ state. state ≡ fresh settings.now) }
+    ensures fault { IfErr result IsMemoryOrStream }
 {
     let randoms = new_keys(source)?;
     let config = settings.cluster.config;
-    let (signer, ring) = signer_and_ring(alloc, &settings.cluster, settings.replica)?;
+    let Ok((signer, ring)) = signer_and_ring(alloc, &settings.cluster, settings.replica) else {
+        return Err(ProgramFault::NoMemory);
+    };
     let app = AnyKind::new(alloc, config.kind);
-    let state = State::new(alloc, config, settings.replica, signer, ring, app, randoms)?;
-    Ok(state)
+    match State::new(alloc, config, settings.replica, signer, ring, app, randoms) {
+        Ok(state) => Ok(state),
+        Err(_) => Err(ProgramFault::NoMemory),
+    }
 }
 
 /// What stops the program where the replica took no event.
-fn stopped_by(fault: ApplyFault) -> ProgramFault {
+fn stopped_by(fault: ApplyFault) -> ProgramFault
+    ensures { (entries : List Entry) → (fault ≡ ApplyFault.HistoryFull → 65536 ≤ length entries) → StopsAt entries result }
+{
     match fault {
         ApplyFault::HistoryFull => ProgramFault::HistoryFull,
         ApplyFault::NoMemory => ProgramFault::NoMemory,
     }
 }
 
-/// Lets the replica submit bytes.
-fn submit(state: &mut State<AnyKind>, bytes: Bytes) -> Result<(), ProgramFault>
-    ensures { MatchResult result
-        (λ _. Answers state.old (event.Submit bytes ∷ []) [] state.new)
-        (λ _. Answers state.old [] [] state.new) }
+/// Whether an event was taken, or what stops the program.
+fn taken(outcome: Result<usize, ApplyFault>) -> Result<(), ProgramFault>
+    ensures same { is_ok result ≡ is_ok outcome }
+    ensures cause { (entries : List Entry) → (IsErrOf outcome ApplyFault.HistoryFull → 65536 ≤ length entries) → IfErr result (StopsAt entries) }
 {
-    match state.apply(Event::Submit(bytes)) {
+    match outcome {
         Ok(_) => Ok(()),
         Err(fault) => Err(stopped_by(fault)),
     }
+}
+
+/// Lets the replica submit bytes.
+fn submit(state: &mut State<AnyKind>, bytes: Bytes) -> Result<(), ProgramFault>
+    ensures answers { MatchResult result
+        (λ _. Answers state.old (event.Submit bytes ∷ []) [] state.new)
+        (λ _. Refuses state.old state.new) }
+    ensures cause { IfErr result (StopsAt state.new.entries) }
+{
+    let outcome = state.apply(Event::Submit(bytes));
+    taken(outcome)
 }
 
 /// Lets it propose a height.
 fn propose(state: &mut State<AnyKind>, height: Height) -> Result<(), ProgramFault>
-    ensures { MatchResult result
+    ensures answers { MatchResult result
         (λ _. Answers state.old (event.Propose height ∷ []) [] state.new)
-        (λ _. Answers state.old [] [] state.new) }
+        (λ _. Refuses state.old state.new) }
+    ensures cause { IfErr result (StopsAt state.new.entries) }
 {
-    match state.apply(Event::Propose(height)) {
-        Ok(_) => Ok(()),
-        Err(fault) => Err(stopped_by(fault)),
-    }
+    let outcome = state.apply(Event::Propose(height));
+    taken(outcome)
 }
 
 /// Ends a round.
 fn end_round(state: &mut State<AnyKind>) -> Result<(), ProgramFault>
-    ensures { MatchResult result
+    ensures answers { MatchResult result
         (λ _. Answers state.old (event.RoundEnd ∷ []) [] state.new)
-        (λ _. Answers state.old [] [] state.new) }
+        (λ _. Refuses state.old state.new) }
+    ensures cause { IfErr result (StopsAt state.new.entries) }
 {
-    match state.apply(Event::RoundEnd) {
-        Ok(_) => Ok(()),
-        Err(fault) => Err(stopped_by(fault)),
-    }
+    let outcome = state.apply(Event::RoundEnd);
+    taken(outcome)
 }
 
 /// Ends so many rounds.
 fn end_rounds(state: &mut State<AnyKind>, rounds: u32) -> Result<(), ProgramFault>
-    ensures { MatchResult result
+    ensures answers { MatchResult result
         (λ _. Answers state.old (replicate rounds event.RoundEnd) [] state.new)
         (λ _. AnswersSome state.old (replicate rounds event.RoundEnd) [] state.new) }
+    ensures cause { IfErr result (StopsAt state.new.entries) }
 {
     for _ in 0..rounds {
         end_round(state)?;
@@ -99,23 +129,25 @@ pub(crate) fn start(
     settings: &DeliverSettings,
     state: &mut State<AnyKind>,
 ) -> Result<(), ProgramFault>
-    ensures { MatchResult result
+    ensures answers { MatchResult result
         (λ _. Answers state.old (starting settings.now) [] state.new)
         (λ _. AnswersSome state.old (starting settings.now) [] state.new) }
+    ensures cause { IfErr result (StopsAt state.new.entries) }
 {
-    submit(
-        state,
-        Bytes::copy_from_slice(alloc, settings.value.as_bytes())?,
-    )?;
+    let Ok(value) = Bytes::copy_from_slice(alloc, settings.value.as_bytes()) else {
+        return Err(ProgramFault::NoMemory);
+    };
+    submit(state, value)?;
     propose(state, settings.height)?;
     end_rounds(state, settings.rounds)
 }
 
 /// Delivers bytes to the replica, and gives the line of its answer.
 pub(crate) fn answer(state: &mut State<AnyKind>, bytes: Bytes) -> Result<Line, ProgramFault>
-    ensures { MatchResult result
+    ensures answers { MatchResult result
         (λ line. Answers state.old (event.Deliver bytes ∷ []) (ended line) state.new)
-        (λ _. Answers state.old [] [] state.new) }
+        (λ _. Refuses state.old state.new) }
+    ensures cause { IfErr result (StopsAt state.new.entries) }
 {
     let index = match state.apply(Event::Deliver(bytes)) {
         Ok(index) => index,

@@ -3,6 +3,7 @@ ghost use Rattle.std.specs.Prelude.{◌≡◌, ◌⊎◌, ◌≤◌, map, IfOk, 
 ghost use Rattle.std.specs.IoError.{error_kind};
 ghost use Rattle.std.specs.Io.KnownBytes.{Keeps};
 ghost use Rattle.ledger_model.specs.Spelling.{frame_bytes};
+ghost use Rattle.command_line.specs.Faults.{AskForHelp, AskForHelpAlone};
 ghost use Rattle.command_line.specs.Options.{AsksForText, IsRefused, IsSet, WantsMemory};
 ghost use Rattle.frame_signing.specs.Statements.{signed};
 ghost use Rattle.program_streams.specs.Writing.{Writes};
@@ -44,19 +45,22 @@ pub fn run<S: RandomSource, R: Read, W: Write, F: Write>(
     writer: &mut W,
     faults: &mut F,
 ) -> Outcome
-    // What the words set was done, or they ask for the help or the version.
+    // What the words set was done, or they set nothing and ask for the help or the version.
     ensures finishes { IfEnded result (λ status. (status ≡ 0) ⊎ (status ≡ 1)
         → Performs (map (λ w. w.now) words.entry.now) status (R.remaining reader.old) (R.remaining reader.new) (W.contents writer.old) (W.contents writer.new)
-        ⊎ (IsRefused (map (λ w. w.now) words.entry.now) × (status ≡ 0) × Keeps (R.remaining reader.old) (R.remaining reader.new))) }
+        ⊎ (IsRefused (map (λ w. w.now) words.entry.now) × AskForHelp (map (λ w. w.now) words.entry.now)
+        × (status ≡ 0) × Keeps (R.remaining reader.old) (R.remaining reader.new))) }
     ensures quiet { IfEnded result (λ status. (status ≡ 0) ⊎ (status ≡ 1) → Keeps (F.contents faults.old) (F.contents faults.new)) }
-    // The words are no command line, or set nothing.
+    // The words are no command line, or set nothing, and not because they ask for the help or the version.
     ensures refuses { IfEnded result (λ status. status ≡ 2 → IsRefused (map (λ w. w.now) words.entry.now)
+        × (AskForHelpAlone (map (λ w. w.now) words.entry.now) → ⊥)
         × Keeps (R.remaining reader.old) (R.remaining reader.new) × Keeps (W.contents writer.old) (W.contents writer.new)) }
     // What the words set was begun, or nothing was, or the help or the version could not be written.
     ensures stops { IfEnded result (λ status. status ≡ 3
         → Begins (map (λ w. w.now) words.entry.now) (R.remaining reader.old) (R.remaining reader.new) (W.contents writer.old) (W.contents writer.new)
         ⊎ (Keeps (R.remaining reader.old) (R.remaining reader.new)
-        × (Keeps (W.contents writer.old) (W.contents writer.new) ⊎ IsRefused (map (λ w. w.now) words.entry.now)))) }
+        × (Keeps (W.contents writer.old) (W.contents writer.new)
+        ⊎ (IsRefused (map (λ w. w.now) words.entry.now) × AskForHelp (map (λ w. w.now) words.entry.now))))) }
     ensures known { IfEnded result (λ status. status ≤ 3) }
     // They are those that the words set, and no stream was touched.
     ensures hands_back { IfHanded result (λ settings. IsSet (map (λ w. w.now) words.entry.now) settings
@@ -102,7 +106,7 @@ fn tell<W: Write, F: Write>(
     faults: &mut F,
 ) -> u8
     ensures { (AsksForText fault.now × (((result ≡ 0) × Keeps (F.contents faults.old) (F.contents faults.new)) ⊎ (result ≡ 3)))
-        ⊎ (Keeps (W.contents writer.old) (W.contents writer.new) × (((result ≡ 2) × (WantsMemory fault.now → ⊥)) ⊎ (result ≡ 3))) }
+        ⊎ (((AsksForText fault.now → ⊥) × Keeps (W.contents writer.old) (W.contents writer.new)) × (((result ≡ 2) × (WantsMemory fault.now → ⊥)) ⊎ (result ≡ 3))) }
 {
     if fault.is_asked_for() {
         let done = show(alloc, fault, writer);

@@ -2,15 +2,13 @@
 ghost use Rattle.std.specs.Prelude.{◌⊎◌, ℕ, List, MatchResult};
 ghost use Rattle.std.specs.Io.KnownBytes.{Consumes, IsAtEnd};
 ghost use Rattle.scenario_texts.specs.Lines.{IsTooLarge};
-ghost use Rattle.program.specs.Simulating.{IsRead};
+ghost use Rattle.program.specs.Simulating.{IsRead, IsReadInTime};
 
+use crate::reading::{PIECE_LEN, read_piece};
 use program_streams::ProgramFault;
 use scenario_texts::{LineCount, Scenario, TextFault, read};
 use std::alloc::Global;
 use std::io::{self, ErrorKind, Read};
-
-/// The most bytes of standard input that are read at once.
-const PIECE_LEN: usize = 8192;
 
 /// What a stream turned out to hold.
 #[derive(Drop)]
@@ -24,14 +22,15 @@ pub(crate) enum ScenarioInput {
 /// The text of a stream, to its end, or until it is too large for a scenario.
 fn read_text<R: Read>(alloc: Global, reader: &mut R) -> Result<Vec<u8>, ProgramFault>
     ensures { MatchResult result
-        (λ text. Consumes (R.remaining reader.old) (R.remaining reader.new) text.items × (IsAtEnd (R.remaining reader.new) ⊎ IsTooLarge text.items))
-        (λ _. (input : List ℕ) × Consumes (R.remaining reader.old) (R.remaining reader.new) input) }
+        (λ text. Consumes (R.remaining reader.old) (R.remaining reader.new) text.items
+        × (IsReadInTime text.items × (IsAtEnd (R.remaining reader.new) ⊎ IsTooLarge text.items)))
+        (λ _. (input : List ℕ) × (Consumes (R.remaining reader.old) (R.remaining reader.new) input × IsReadInTime input)) }
 {
     let mut text = Vec::new(alloc);
     let mut lines = LineCount::new();
     let mut piece = [0; PIECE_LEN];
     for _ in 0..u64::MAX {
-        let count = reader.read(&mut piece)?;
+        let count = read_piece(reader, &mut piece)?;
         if count == 0 {
             return Ok(text);
         }
@@ -50,7 +49,7 @@ pub(crate) fn read_scenario<R: Read>(
 ) -> Result<ScenarioInput, ProgramFault>
     ensures { MatchResult result
         (λ found. IsRead found (R.remaining reader.old) (R.remaining reader.new))
-        (λ _. (input : List ℕ) × Consumes (R.remaining reader.old) (R.remaining reader.new) input) }
+        (λ _. (input : List ℕ) × (Consumes (R.remaining reader.old) (R.remaining reader.new) input × IsReadInTime input)) }
 {
     let text = read_text(alloc, reader)?;
     match read(alloc, &text) {

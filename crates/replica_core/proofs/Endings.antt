@@ -159,15 +159,13 @@ module _ (old : Replica) (held : Held) (keys : Keys) (plans : List Plan) (closin
       (all_images (IsVerifiedMade (key_of keys.secret)) (λ (x : Closing). x.made) closings verified))
 
 -- the end of a mute replica is a step, and uses no leaf
-pub mute_step : (old : Replica) (held : Held) (keys : Keys) (plans : List Plan) (closings : List Closing) → record { held = held; keys = keys } ≡ old
-    → IsHeld old.held → plans ≡ map (plan_of (old.held.clock + 1)) old.held.rows → old.held.clock < last_round
-    → map (λ (x : Closing). x.ending) closings ≡ map (λ (p : Plan). p.ending) plans → AllByRecursion (λ (x : Closing). x.made ≡ made.Mute) closings
+pub mute_step : (held : Held) (keys : Keys) (closings : List Closing) → IsHeld held → held.clock < last_round
+    → map (λ (x : Closing). x.ending) closings ≡ map (λ row. ended row (held.clock + 1)) held.rows → AllByRecursion (λ (x : Closing). x.made ≡ made.Mute) closings
     → IsStep held event.RoundEnd (end_reply held true (map (λ (x : Closing). x.made) closings)) (after_end held true (map (λ (x : Closing). x.made) closings))
     × UsesLeaves keys held.clock (end_reply held true (map (λ (x : Closing). x.made) closings)) keys
-mute_step old held keys plans closings is is_held planned early endings mute =
-    let made = mades_mute (held.clock + 1) held.rows closings
-    (endings ∙ ap (map (λ (p : Plan). p.ending)) (planned_by old held keys plans is planned) ∙ planned_ends (held.clock + 1) held.rows) mute in
-    let ends = mute_ends held (subst (λ (x : Replica). IsHeld x.held) (sym is) is_held) (subst (λ (x : Replica). x.held.clock < last_round) (sym is) early) in (
+mute_step held keys closings is_held early endings mute =
+    let made = mades_mute (held.clock + 1) held.rows closings endings mute in
+    let ends = mute_ends held is_held early in (
       subst (λ (ms : List Made). IsStep held event.RoundEnd (end_reply held true ms) (after_end held true ms)) (sym made) ends.0,
       subst (λ (ms : List Made). UsesLeaves keys held.clock (end_reply held true ms) keys) (sym made) (ends.1 keys),
     )

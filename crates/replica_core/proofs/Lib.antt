@@ -33,3 +33,5 @@ pub mod JudgedMades
 pub mod Followed
 pub mod EventsFollowed
 pub mod ToldRounds
+pub mod DueLeaves
+pub mod SpentLeaves

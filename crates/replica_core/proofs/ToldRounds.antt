@@ -19,11 +19,9 @@ use Rattle.ledger_model.specs.Spelling.{IsFrame}
 use Rattle.ledger_model.proofs.Lists.{any_mapped}
 use Rattle.instance.specs.declared.made.Made.{Made}
 use Rattle.instance.specs.declared.made.Made.TheVariants as made
-use Rattle.instance.specs.declared.plan.Plan.{Plan}
 use Rattle.instance.specs.Rows.{Row}
-use Rattle.instance.specs.Plans.{MaySend, ended, IsOwnMade}
+use Rattle.instance.specs.Plans.{Ended, MaySend, ended, IsOwnMade}
 use Rattle.height_row.specs.declared.closing.Closing.{Closing}
-use Rattle.height_row.specs.Heights.{plan_of}
 use Rattle.replica_core.specs.Holding.{Held, IsHeld, Matches}
 use Rattle.replica_core.specs.RoundEnds.{AreMade, round_ended, after_end}
 use Rattle.replica_core.specs.ChosenEnds.{all_mute}
@@ -31,7 +29,7 @@ use Rattle.replica_core.specs.Following.{KeepsReplay, IsFollowed}
 use Rattle.replica_core.specs.ToldEnds.{statements_told, made_each, all_unsent, is_some_there, releases, made_told, AreSpelled, AreToldAlike, KeepsEnd, TellsFrames, IsTold, KeepsNone}
 use Rattle.replica_core.proofs.Elements.{each_weaker}
 use Rattle.replica_core.proofs.ChosenEnds.{none_made}
-use Rattle.replica_core.proofs.Endings.{planned_ends, over}
+use Rattle.replica_core.proofs.Endings.{over}
 use Rattle.replica_core.proofs.RoundsEnd.{rounds_end}
 use Rattle.replica_core.proofs.ToldEnds.{ends_tell}
 use Rattle.replica_core.proofs.ToldMades.{none_before}
@@ -48,16 +46,11 @@ told_count c rows xs endings =
 pub closing_count : (c : ℕ) (rows : List Row) (xs : List Closing) → map (λ x. x.ending) xs ≡ map (λ row. ended row c) rows → length xs ≡ length rows
 closing_count c rows xs endings = sym (length-map xs (λ (x : Closing). x.ending)) ∙ ap length endings ∙ length-map rows (λ row. ended row c)
 
--- each height ends as it is planned
-pub closing_ends : (c : ℕ) (rows : List Row) (plans : List Plan) (xs : List Closing) → map (λ x. x.ending) xs ≡ map (λ p. p.ending) plans → plans ≡ map (plan_of c) rows
-    → map (λ x. x.ending) xs ≡ map (λ row. ended row c) rows
-closing_ends c rows plans xs endings planned = endings ∙ ap (map (λ (p : Plan). p.ending)) planned ∙ planned_ends c rows
-
--- the plans send locks on where the heights do
-pub plans_release : (c : ℕ) (rows : List Row) (plans xs : List Plan) (b : Bool) → b ≡ list_any (λ p. is_some_there p.ending.sends_on) xs → xs ≡ plans → plans ≡ map (plan_of c) rows
+-- the endings send locks on where the heights do
+pub endings_release : (c : ℕ) (rows : List Row) (endings : List Ended) (b : Bool) → b ≡ list_any (λ e. is_some_there e.sends_on) endings → endings ≡ map (λ row. ended row c) rows
     → b ≡ releases c rows
-plans_release c rows plans xs b is same planned =
-    is ∙ ap (list_any (λ (p : Plan). is_some_there p.ending.sends_on)) (same ∙ planned) ∙ any_mapped (λ (p : Plan). is_some_there p.ending.sends_on) (plan_of c) rows
+endings_release c rows endings b is prepared =
+    is ∙ ap (list_any (λ (e : Ended). is_some_there e.sends_on)) prepared ∙ any_mapped (λ (e : Ended). is_some_there e.sends_on) (λ row. ended row c) rows
 
 -- ---- one that makes nothing
 

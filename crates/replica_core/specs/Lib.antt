@@ -8,3 +8,4 @@ pub mod Sending
 pub mod Telling
 pub mod Following
 pub mod ToldEnds
+pub mod Leaves

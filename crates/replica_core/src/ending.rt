@@ -6,7 +6,7 @@ use crate::sending::frames_to_send;
 use crate::signing::{count_due, make_all};
 use abci::Application;
 use height_row::Closing;
-use instance::Plan;
+use instance::{Ending, Plan};
 use ledger_model::{LastRound, RoundEnded, SentFrames};
 use std::alloc::{AllocError, Global};
 
@@ -20,7 +20,16 @@ impl<A: Application> Kept<A> {
     ghost use Rattle.replica_core.specs.Holding.{IsHeld};
     ghost use Rattle.replica_core.specs.RoundEnds.{round_ended, after_end};
 
-    /// What is to be done at each open height as the next round opens.
+    /// Prepares the end of the open round at each open height, and chooses no statement.
+    pub(crate) fn prepare_ends(&self, alloc: Global) -> Result<Vec<Ending>, AllocError>
+        requires clock { self.now.clock < last_round }
+        ensures endings { IfOk result (λ endings. endings.items ≡ map (λ row. ended row (self.now.clock + 1)) self.now.rows) }
+        ensures held { IsHeld self.now }
+    {
+        self.rows.prepare_ends(alloc, self.clock)
+    }
+
+    /// Plans the end of the open round at each open height: chooses what to send, and prepares all else.
     pub(crate) fn plan_ends(&self, alloc: Global) -> Result<Vec<Plan>, AllocError>
         requires clock { self.now.clock < last_round }
         ensures plans { IfOk result (λ plans. plans.items ≡ map (plan_of (self.now.clock + 1)) self.now.rows) }
@@ -32,8 +41,11 @@ impl<A: Application> Kept<A> {
 
     /// Whether the replica is mute.
     pub(crate) fn is_mute(&self) -> bool
-        ensures { result ≡ self.now.mute }
+        ensures mute { result ≡ self.now.mute }
+        ensures held { IsHeld self.now }
     {
+        // The open heights are read for the proof: they ascend, within their limits.
+        let _ = self.rows.instances();
         self.mute
     }
 
@@ -72,7 +84,7 @@ impl<A: Application> Kept<A> {
 }
 
 impl<A: Application> Core<A> {
-    ghost use Rattle.std.specs.Prelude.{◌≡◌, ◌<◌, ◌≤◌, ◌+◌, map, false, true, IfOk, IfSome, OnErr, Ok};
+    ghost use Rattle.std.specs.Prelude.{◌≡◌, ◌<◌, ◌≤◌, ◌+◌, nat_lt, map, false, true, IfOk, IfSome, OnErr, Ok};
     ghost use Rattle.std.specs.List.{AllByRecursion};
     ghost use Rattle.ledger_model.specs.declared.event.Event.TheVariants as event;
     ghost use Rattle.ledger_model.specs.declared.reply.Reply.TheVariants as reply;
@@ -84,11 +96,9 @@ impl<A: Application> Core<A> {
     ghost use Rattle.replica_core.specs.Steps.{IsStep, UsesLeaves};
     ghost use Rattle.replica_core.specs.Replicas.{IsSameReplica, due_then, is_mute_next, is_mute_then};
 
-    /// A round ends at which the replica is mute: it signs nothing.
-    fn end_mute(&mut self, alloc: Global, plans: Vec<Plan>) -> Result<RoundEnded, AllocError>
+    /// A round ends that is not the last one, and leaves the replica mute: it signs nothing, and so chooses no statement.
+    fn end_mute(&mut self, alloc: Global) -> Result<RoundEnded, AllocError>
         requires clock { self.old.held.clock < last_round }
-        requires held { IsHeld self.old.held }
-        requires plans { plans.items ≡ map (plan_of (self.old.held.clock + 1)) self.old.held.rows }
         ensures step { IfOk result (λ r. IsStep self.old.held event.RoundEnd (reply.RoundEnded (Ok r)) self.new.held) }
         ensures leaves { IfOk result (λ r. UsesLeaves self.old.keys self.old.held.clock (reply.RoundEnded (Ok r)) self.new.keys) }
         ensures mute { IfOk result (λ _. self.new.held.mute ≡ true) }
@@ -96,7 +106,8 @@ impl<A: Application> Core<A> {
         ensures err { OnErr result (self.new ≡ self.old) }
         ensures same { IsSameReplica self.old self.new }
     {
-        let closings = make_nothing(alloc, plans, true)?;
+        let endings = self.kept.prepare_ends(alloc)?;
+        let closings = make_nothing(alloc, endings, true)?;
         self.kept.open_round(alloc, closings, true)
     }
 
@@ -130,15 +141,14 @@ impl<A: Application> Core<A> {
         self.kept.plan_ends(alloc)
     }
 
-    /// Whether the replica is mute after the next round end.
-    fn is_mute_next(&self, plans: &[Plan]) -> bool
+    /// Whether fewer leaves are left than the plans have statements.
+    fn lacks_leaves(&self, plans: &[Plan]) -> bool
         requires plans { plans.now ≡ map (plan_of (self.now.held.clock + 1)) self.now.held.rows }
-        ensures mute { result ≡ is_mute_next self.now }
-        ensures loud { result ≡ false → self.now.held.mute ≡ false }
+        ensures lacks { result ≡ nat_lt (leaves_of self.now.keys.secret) (self.now.keys.used + due_then self.now) }
         ensures leaves { result ≡ false → self.now.keys.used + due_then self.now ≤ leaves_of self.now.keys.secret }
     {
         let left = self.signer.leaves_left() as usize;
-        self.kept.is_mute() || left < count_due(plans)
+        left < count_due(plans)
     }
 
     /// Whether no round is left.
@@ -149,12 +159,10 @@ impl<A: Application> Core<A> {
         self.kept.is_over()
     }
 
-    /// A round ends that is not the last one: what is due is signed, or the replica becomes mute.
-    fn end_planned(&mut self, alloc: Global, plans: Vec<Plan>) -> Result<RoundEnded, AllocError>
+    /// A round ends that is not the last one, at a replica that is not mute: it signs what is due, or becomes mute.
+    fn end_loud(&mut self, alloc: Global) -> Result<RoundEnded, AllocError>
         requires clock { self.old.held.clock < last_round }
-        requires held { IsHeld self.old.held }
-        requires plans { plans.items ≡ map (plan_of (self.old.held.clock + 1)) self.old.held.rows }
-        requires spelled { AllByRecursion (λ plan. IfSome plan.statement IsStatement) plans.items }
+        requires loud { self.old.held.mute ≡ false }
         ensures step { IfOk result (λ r. IsStep self.old.held event.RoundEnd (reply.RoundEnded (Ok r)) self.new.held) }
         ensures leaves { IfOk result (λ r. UsesLeaves self.old.keys self.old.held.clock (reply.RoundEnded (Ok r)) self.new.keys) }
         ensures mute { IfOk result (λ _. self.new.held.mute ≡ is_mute_next self.old) }
@@ -163,10 +171,29 @@ impl<A: Application> Core<A> {
         ensures most { self.new.keys.used ≤ self.old.keys.used + due_then self.old }
         ensures same { IsSameReplica self.old self.new }
     {
-        if self.is_mute_next(&plans) {
-            self.end_mute(alloc, plans)
+        let plans = self.plan_ends(alloc)?;
+        if self.lacks_leaves(&plans) {
+            self.end_mute(alloc)
         } else {
             self.end_signed(alloc, plans)
+        }
+    }
+
+    /// A round ends that is not the last one: the replica signs what is due, or is mute from then on.
+    fn end_open(&mut self, alloc: Global) -> Result<RoundEnded, AllocError>
+        requires clock { self.old.held.clock < last_round }
+        ensures step { IfOk result (λ r. IsStep self.old.held event.RoundEnd (reply.RoundEnded (Ok r)) self.new.held) }
+        ensures leaves { IfOk result (λ r. UsesLeaves self.old.keys self.old.held.clock (reply.RoundEnded (Ok r)) self.new.keys) }
+        ensures mute { IfOk result (λ _. self.new.held.mute ≡ is_mute_next self.old) }
+        ensures err { OnErr result (self.new ≡ record self.old { keys = self.new.keys }) }
+        ensures least { self.old.keys.used ≤ self.new.keys.used }
+        ensures most { self.new.keys.used ≤ self.old.keys.used + due_then self.old }
+        ensures same { IsSameReplica self.old self.new }
+    {
+        if self.is_mute() {
+            self.end_mute(alloc)
+        } else {
+            self.end_loud(alloc)
         }
     }
 
@@ -186,7 +213,6 @@ impl<A: Application> Core<A> {
         if self.is_over() {
             return Ok(Err(LastRound));
         }
-        let plans = self.plan_ends(alloc)?;
-        Ok(Ok(self.end_planned(alloc, plans)?))
+        Ok(Ok(self.end_open(alloc)?))
     }
 }

@@ -8,7 +8,7 @@ use crate::kept::Kept;
 use crate::told_frames::{make_told, read_frames, send_locks};
 use abci::Application;
 use height_row::Closing;
-use instance::Plan;
+use instance::Ending;
 use ledger_model::{Event, LastRound, Reply, RoundEnded, Sent};
 use std::alloc::{AllocError, Global};
 
@@ -19,7 +19,6 @@ impl<A: Application> Kept<A> {
     ghost use Rattle.ledger_model.specs.declared.reply.Reply.TheVariants as reply;
     ghost use Rattle.ledger_model.specs.Limits.{last_round};
     ghost use Rattle.instance.specs.Plans.{ended};
-    ghost use Rattle.height_row.specs.Heights.{plan_of};
     ghost use Rattle.replica_core.specs.Holding.{IsHeld};
     ghost use Rattle.replica_core.specs.Following.{IsFollowed, IsSameHeld};
     ghost use Rattle.replica_core.specs.ToldEnds.{releases, IsTold, KeepsNone};
@@ -29,12 +28,12 @@ impl<A: Application> Kept<A> {
     fn read_end(
         &self,
         alloc: Global,
-        plans: Vec<Plan>,
+        endings: Vec<Ending>,
         end: &RoundEnded,
     ) -> Result<Option<Vec<Closing>>, AllocError>
         requires clock { self.now.clock < last_round }
         requires held { IsHeld self.now }
-        requires plans { plans.items ≡ map (plan_of (self.now.clock + 1)) self.now.rows }
+        requires endings { endings.items ≡ map (λ row. ended row (self.now.clock + 1)) self.now.rows }
         requires loud { end.now.mute ≡ false }
         requires none_on { releases (self.now.clock + 1) self.now.rows ≡ false }
         ensures told { IfOk result (λ o. MatchOption o (KeepsNone self.now end.now) (λ closings. IsTold self.now end.now (map (λ c. c.made) closings.items))) }
@@ -43,7 +42,7 @@ impl<A: Application> Kept<A> {
         let Some(frames) = read_frames(alloc, end.frames.as_slice())? else {
             return Ok(None);
         };
-        let closings = make_told(alloc, self.rows.instances(), plans, frames)?;
+        let closings = make_told(alloc, self.rows.instances(), endings, frames)?;
         if self.may_make_all(&closings) {
             Ok(Some(closings))
         } else {
@@ -55,21 +54,21 @@ impl<A: Application> Kept<A> {
     fn told_end(
         &self,
         alloc: Global,
-        plans: Vec<Plan>,
+        endings: Vec<Ending>,
         end: &RoundEnded,
     ) -> Result<Option<Vec<Closing>>, AllocError>
         requires clock { self.now.clock < last_round }
         requires held { IsHeld self.now }
-        requires plans { plans.items ≡ map (plan_of (self.now.clock + 1)) self.now.rows }
+        requires endings { endings.items ≡ map (λ row. ended row (self.now.clock + 1)) self.now.rows }
         ensures told { IfOk result (λ o. MatchOption o (KeepsNone self.now end.now) (λ closings. IsTold self.now end.now (map (λ c. c.made) closings.items))) }
         ensures endings { IfOk result (λ o. IfSome o (λ closings. map (λ c. c.ending) closings.items ≡ map (λ row. ended row (self.now.clock + 1)) self.now.rows)) }
     {
         if end.mute {
-            Ok(Some(make_nothing(alloc, plans, true)?))
-        } else if send_locks(&plans) {
-            Ok(Some(make_nothing(alloc, plans, false)?))
+            Ok(Some(make_nothing(alloc, endings, true)?))
+        } else if send_locks(&endings) {
+            Ok(Some(make_nothing(alloc, endings, false)?))
         } else {
-            self.read_end(alloc, plans, end)
+            self.read_end(alloc, endings, end)
         }
     }
 
@@ -92,8 +91,8 @@ impl<A: Application> Kept<A> {
         if !self.stays_mute(ended) {
             return Ok(false);
         }
-        let plans = self.plan_ends(alloc)?;
-        let Some(closings) = self.told_end(alloc, plans, ended)? else {
+        let endings = self.prepare_ends(alloc)?;
+        let Some(closings) = self.told_end(alloc, endings, ended)? else {
             return Ok(false);
         };
         let due = self.open_round(alloc, closings, ended.mute)?;

@@ -72,6 +72,8 @@ impl<A: Application> Core<A> {
     ghost use Rattle.key_ring.specs.Signers.{key_of, leaves_of};
     ghost use Rattle.height_row.specs.Heights.{row_at, decided_in};
     ghost use Rattle.replica_core.specs.Holding.{Matches};
+    ghost use Rattle.replica_core.specs.Leaves.{due_by};
+    ghost use Rattle.replica_core.specs.Replicas.{due_then};
     ghost use Rattle.replica_core.specs.Telling.{block_at, info_reply};
 
     /// The number of the replica.
@@ -108,9 +110,12 @@ impl<A: Application> Core<A> {
 
     /// Whether it is mute: it signs nothing, ever again.
     pub fn is_mute(&self) -> bool
-        ensures { result ≡ self.now.held.mute }
+        ensures mute { result ≡ self.now.held.mute }
+        // The next round end has as many statements to sign as each history says that is matched.
+        ensures due { (entries : List Entry) → Matches self.now.held entries
+            → due_then self.now ≡ due_by self.now.held.config self.now.held.id entries }
     {
-        self.kept.mute
+        self.kept.is_mute()
     }
 
     /// How many more statements it can sign.

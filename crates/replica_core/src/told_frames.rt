@@ -5,9 +5,8 @@ ghost use Rattle.ledger_model.specs.Spelling.{IsFrame};
 ghost use Rattle.instance.specs.Laws.{IsFrameMade};
 ghost use Rattle.replica_core.specs.ToldEnds.{statements_told, next_told, left_next, made_of, made_each, is_some_there, AreSpelled};
 
-use crate::closings::push_closing;
 use height_row::Closing;
-use instance::{Instance, Made, OwnFrame, Plan};
+use instance::{Ending, Instance, Made, OwnFrame};
 use ledger_model::{Height, Sent};
 use signed_frames::Frame;
 use statements::DecodeFault;
@@ -15,10 +14,10 @@ use std::alloc::{AllocError, Global};
 use std::collections::VecDeque;
 
 /// Whether locks are sent on at some height.
-pub(crate) fn send_locks(plans: &[Plan]) -> bool
-    ensures { result ≡ list_any (λ plan. is_some_there plan.ending.sends_on) plans.now }
+pub(crate) fn send_locks(endings: &[Ending]) -> bool
+    ensures { result ≡ list_any (λ ending. is_some_there ending.sends_on) endings.now }
 {
-    plans.iter().any(|plan| !plan.ending.sends_on().is_empty())
+    endings.iter().any(|ending| !ending.sends_on().is_empty())
 }
 
 /// The frames that these are, in order: none where one of them spells no statement.
@@ -80,34 +79,35 @@ fn push_told(
     alloc: Global,
     closings: &mut Vec<Closing>,
     height: Height,
-    plan: Plan,
+    ending: Ending,
     frames: &mut VecDeque<Frame>,
 ) -> Result<(), AllocError>
-    ensures closing { OnOk result (closings.new.items ≡ closings.old.items ++ record { ending = plan.ending; made = made_of (next_told height frames.old.items) } ∷ []) }
+    ensures closing { OnOk result (closings.new.items ≡ closings.old.items ++ record { ending = ending; made = made_of (next_told height frames.old.items) } ∷ []) }
     ensures left { frames.new.items ≡ left_next height frames.old.items }
 {
     let made = make_next(alloc, frames, height)?;
-    push_closing(closings, plan, made)
+    closings.push(Closing { ending, made })?;
+    Ok(())
 }
 
 /// What is done at each height, in order: each makes the next of the frames that are left, if it is of the height.
 fn tell_each(
     alloc: Global,
     instances: &[Instance],
-    plans: Vec<Plan>,
+    endings: Vec<Ending>,
     frames: &mut VecDeque<Frame>,
 ) -> Result<Vec<Closing>, AllocError>
-    requires count { length plans.items ≡ length instances.now }
-    ensures endings { IfOk result (λ closings. map (λ c. c.ending) closings.items ≡ map (λ plan. plan.ending) plans.items) }
+    requires count { length endings.items ≡ length instances.now }
+    ensures endings { IfOk result (λ closings. map (λ c. c.ending) closings.items ≡ endings.items) }
     ensures made { IfOk result (λ closings. map (λ c. c.made) closings.items ≡ made_each (map (λ row. row.height) instances.now) frames.old.items) }
 {
-    let mut closings = Vec::with_capacity(alloc, plans.len())?;
-    for (place, plan) in plans.into_iter().enumerate() {
+    let mut closings = Vec::with_capacity(alloc, endings.len())?;
+    for (place, ending) in endings.into_iter().enumerate() {
         push_told(
             alloc,
             &mut closings,
             instances[place].height(),
-            plan,
+            ending,
             frames,
         )?;
     }
@@ -118,12 +118,12 @@ fn tell_each(
 pub(crate) fn make_told(
     alloc: Global,
     instances: &[Instance],
-    plans: Vec<Plan>,
+    endings: Vec<Ending>,
     mut frames: VecDeque<Frame>,
 ) -> Result<Vec<Closing>, AllocError>
-    requires count { length plans.items ≡ length instances.now }
-    ensures endings { IfOk result (λ closings. map (λ c. c.ending) closings.items ≡ map (λ plan. plan.ending) plans.items) }
+    requires count { length endings.items ≡ length instances.now }
+    ensures endings { IfOk result (λ closings. map (λ c. c.ending) closings.items ≡ endings.items) }
     ensures made { IfOk result (λ closings. map (λ c. c.made) closings.items ≡ made_each (map (λ row. row.height) instances.now) frames.items) }
 {
-    tell_each(alloc, instances, plans, &mut frames)
+    tell_each(alloc, instances, endings, &mut frames)
 }

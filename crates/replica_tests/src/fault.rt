@@ -27,6 +27,8 @@ pub(crate) enum Fault {
     Unsigned(SignFault),
     /// The replica took no event.
     Event(ApplyFault),
+    /// The bytes are no key.
+    NoKey,
 }
 
 impl From<AllocError> for Fault {

@@ -30,3 +30,5 @@ mod scripts;
 mod silence_tests;
 #[cfg(test)]
 mod step_tests;
+#[cfg(test)]
+mod world_tests;

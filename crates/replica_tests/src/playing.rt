@@ -18,7 +18,7 @@ use std::alloc::{AllocError, Global};
 use std::hash::RandomState;
 
 /// So many applications of a kind, each in its opening state.
-fn new_apps(alloc: Global, kind: AppKind, count: usize) -> Result<Vec<AnyKind>, AllocError>
+pub(crate) fn new_apps(alloc: Global, kind: AppKind, count: usize) -> Result<Vec<AnyKind>, AllocError>
     ensures count { IfOk result (λ apps. vec_len apps ≡ count) }
     ensures opening { IfOk result (λ apps. All (λ app. machine_of app ≡ run kind []) apps.items) }
 {
@@ -30,7 +30,7 @@ fn new_apps(alloc: Global, kind: AppKind, count: usize) -> Result<Vec<AnyKind>, 
 }
 
 /// The keys of the hashes of so many replicas.
-fn new_randoms(
+pub(crate) fn new_randoms(
     alloc: Global,
     random: RandomState,
     count: usize,

@@ -40,7 +40,7 @@ fn heights(board: &Board, reader: &mut ReaderSeat, mut writer: WriterSeat) -> [(
     [before, behind_seven, behind_five, by_reader]
 }
 
-/// Whether there are four writers' seats and one reader's, and what is published through the last of the four is read.
+/// Whether there are four writers' seats and one reader's, and what is published through that of replica 2 is read.
 fn is_read(board: &Board, writing: &mut Vec<WriterSeat>, reading: &mut Vec<ReaderSeat>) -> bool
     requires four { vec_len writing.old ≡ 4 }
     requires writers { (k : ℕ) → k < 4 → slice_get writing.old.items k ≡ Some (new_writer board.now k) }
@@ -49,10 +49,11 @@ fn is_read(board: &Board, writing: &mut Vec<WriterSeat>, reading: &mut Vec<Reade
     requires board { replicas_of board.now ≡ 4 }
 {
     let are_so_many = writing.len() == 4 && reading.len() == 1;
+    let _last = writing.pop();
     let writer = writing.pop().unwrap();
-    let is_last = writer.replica().number() == 3;
+    let is_third = writer.replica().number() == 2;
     let found = heights(board, &mut reading[0], writer);
-    are_so_many && is_last && found == [(0, 0), (7, 7), (7, 7), (7, 0)]
+    are_so_many && is_third && found == [(0, 0), (7, 7), (7, 7), (7, 0)]
 }
 
 #[test]

@@ -2,7 +2,7 @@
 use std::alloc::Global;
 use std::io::{self, ErrorKind, Read, Write};
 
-/// A reader that gives one byte a call, every other call being interrupted, and fails behind so many bytes.
+/// A reader that gives one byte a call, every other call being interrupted, and fails once, behind so many bytes.
 #[derive(Drop)]
 pub(crate) struct FailingReader<'a> {
     left: &'a [u8],
@@ -27,6 +27,7 @@ impl Read for FailingReader<'_> {
             return Err(io::Error::from(ErrorKind::Interrupted));
         }
         if self.until == 0 {
+            self.until = usize::MAX;
             return Err(io::Error::from(ErrorKind::ConnectionReset));
         }
         match self.left {

@@ -15,6 +15,8 @@ pub(crate) struct Fake {
     submitted: Submitted,
     fault: Option<TargetFault>,
     asked: u32,
+    /// Behind so many calls they are at other heights, if at all.
+    rise: Option<(u32, [u32; 4])>,
 }
 
 impl Fake {
@@ -25,7 +27,13 @@ impl Fake {
             submitted: Ok(Ok(())),
             fault: None,
             asked: 0,
+            rise: None,
         }
+    }
+
+    /// Has the replicas stand at these heights behind the first so many calls.
+    pub(crate) fn rise_behind(&mut self, calls: u32, heights: [u32; 4]) {
+        self.rise = Some((calls, heights));
     }
 
     /// Answers each submit so from now on.
@@ -53,7 +61,11 @@ impl Fake {
     }
 
     fn height_of(&self, replica: ReplicaId) -> u32 {
-        self.heights
+        let heights = match &self.rise {
+            Some((calls, heights)) if self.asked > *calls => heights,
+            _ => &self.heights,
+        };
+        heights
             .get(usize::from(replica.number()))
             .copied()
             .unwrap_or(0)

@@ -1,7 +1,13 @@
 //! Client sessions over streams in memory, byte by byte, cut and failing.
+ghost use Rattle.std.specs.Prelude.{◌≡◌, ◌+◌};
+ghost use Rattle.client_sessions.specs.Faults.{read_failures_in, write_failures_in};
+
 use crate::session_streams::{FailingReader, FailingWriter};
 use crate::session_targets::{Fake, Submitted};
-use client_sessions::{Session, SessionEnd, SessionFault, TargetFault, Watched, serve};
+use client_sessions::{
+    Session, SessionEnd, SessionFault, SessionReader, SessionWriter, TargetFault, serve,
+};
+use counted_streams::CountedStream;
 use ledger_model::SubmitRefusal;
 use std::alloc::Global;
 use std::io::{Read, Write};
@@ -102,9 +108,37 @@ fn ends<R: Read, W: Write>(
     targets: &mut Fake,
 ) -> Ended {
     let mut session = Session::new();
-    let (mut input, mut output) = (Watched::new(input), Watched::new(output));
+    let (mut input, mut output) = (CountedStream::new(input), CountedStream::new(output));
     let served = serve(alloc, &mut input, &mut output, &mut session, targets);
     end_of(&served)
+}
+
+/// Serves a session from its start, and once more over the same streams. The failures of both calls add up.
+fn serve_twice<R: SessionReader, W: SessionWriter>(
+    alloc: Global,
+    input: &mut R,
+    output: &mut W,
+    targets: &mut Fake,
+) -> (
+    Result<SessionEnd, SessionFault>,
+    Result<SessionEnd, SessionFault>,
+)
+    ensures reader { R.failures input.new ≡ R.failures input.old + read_failures_in result.0 + read_failures_in result.1 }
+    ensures writer { W.failures output.new ≡ W.failures output.old + write_failures_in result.0 + write_failures_in result.1 }
+{
+    let mut session = Session::new();
+    let first = serve(alloc, input, output, &mut session, targets);
+    let second = serve(alloc, input, output, &mut session, targets);
+    (first, second)
+}
+
+/// Whether the first of two sessions over one reader ends as a failed read, and the second one serves what is left.
+fn is_served_on(alloc: Global, targets: &mut Fake, input: FailingReader<'_>) -> bool {
+    let mut written = Vec::new(alloc);
+    let (mut input, mut output) = (CountedStream::new(input), CountedStream::new(&mut written));
+    let (first, second) = serve_twice(alloc, &mut input, &mut output, targets);
+    let found = (end_of(&first), end_of(&second));
+    found == (Ended::Read, Ended::Clean) && written.as_slice() == REPLIES
 }
 
 /// Whether a session over this input ends so, when it has written these bytes and no more.
@@ -152,6 +186,22 @@ fn end_behind(len: usize) -> Ended {
     } else {
         Ended::Cut
     }
+}
+
+/// A client is told height 3 by replica 0, goes to replica 2, and asks twice for a key, at height 3 at least.
+const ASKS_AGAIN: &[u8] =
+    b"\x00\x01\x03\x00\x02\x05\x02\x00\x06\x02\x00\x00\x00\x03a\x00\x06\x02\x00\x00\x00\x03a";
+
+/// Replica 2 comes to height 3 between the two.
+const TOLD_AGAIN: &[u8] =
+    b"\x00\x05\x00\x00\x00\x00\x03\x00\x01\x00\x00\x01\x02\x00\x07\x00\x00\x00\x00\x03\x011";
+
+#[test]
+fn a_replica_that_was_behind_answers_once_it_is_not(rt: HostRuntime) {
+    let alloc = rt.alloc();
+    let mut targets = Fake::new(alloc, [3, 3, 1, 3]);
+    targets.rise_behind(2, [3, 3, 3, 3]);
+    assert!(rt; gets(alloc, &mut targets, ASKS_AGAIN, TOLD_AGAIN));
 }
 
 #[test]
@@ -233,6 +283,16 @@ fn a_read_that_fails_ends_the_session(rt: HostRuntime) {
     }
     let mut input = FailingReader::new(REQUESTS, usize::MAX);
     assert!(rt; ends_with(alloc, &mut targets, &mut input, Ended::Clean, REPLIES));
+}
+
+#[test]
+fn a_session_goes_on_over_a_stream_that_failed_once(rt: HostRuntime) {
+    let alloc = rt.alloc();
+    let mut targets = Fake::new(alloc, [3, 3, 1, 3]);
+    for bytes in [0, 6, 9, 13, 16] {
+        let input = FailingReader::new(REQUESTS, bytes);
+        assert!(rt; is_served_on(alloc, &mut targets, input), "{bytes}");
+    }
 }
 
 #[test]

@@ -5,6 +5,7 @@ use Rattle.std.specs.List.{flat_map, AllByRecursion}
 use Rattle.std.proofs.lemmas.Bool.{eqb-true}
 use Rattle.std.proofs.Math.Seq.{take-suc}
 use Rattle.std.proofs.lemmas.List.{length-append, take-append-drop}
+use Rattle.std.proofs.lemmas.List.Concat.{flat_map-append}
 use Rattle.std.proofs.lemmas.List.Elements.{All-append, All-cons, All-head, All-nil, All-push, All-tail}
 use Rattle.scenario_texts.specs.declared.line_count.LineCount.{LineCount}
 use Rattle.scenario_texts.specs.Lines.{max_lines, max_line_len, ended, IsUnbroken, IsShort, Spells, GoesOn, FollowsBad, EndsBadly, IsBadAt, HasLines, IsTooLarge, IsCounted}
@@ -100,6 +101,12 @@ all_larger text bytes i d within large = subst IsTooLarge whole (larger (text ++
     whole =
         ap (λ t. t ++ drop (suc i) bytes) (append_assoc text (take i bytes) (get_or bytes i d ∷ []) ∙ ap (λ t. text ++ t) (sym (take-suc bytes i d within)))
         ∙ append_assoc text (take (suc i) bytes) (drop (suc i) bytes) ∙ ap (λ t. text ++ t) (take-append-drop (suc i) bytes)
+
+-- one byte more
+pub one_more : (text bytes : List ℕ) (i d : ℕ) → i < length bytes → (text ++ take i bytes) ++ get_or bytes i d ∷ [] ≡ text ++ take (i + 1) bytes
+one_more text bytes i d within =
+    let next : suc i ≡ i + 1 = omega arith in
+    append_assoc text (take i bytes) (get_or bytes i d ∷ []) ∙ ap (λ t. text ++ t) (sym (take-suc bytes i d within) ∙ ap (λ k. take k bytes) next)
 
 -- bytes without a line feed are part of the line that they begin
 part_of_line : (line after rest z : List ℕ) → IsUnbroken line → line ++ after ≡ rest ++ 10 ∷ z → length line ≤ length rest
@@ -228,3 +235,77 @@ bad_anyway text more n large at = record {
       bad = bad.bad;
     })
     goes (inr bad) = by_split bad.unended (large_under_way text at.before at.rest large at.whole at.unbroken bad.unended at.few at.goes_on.short) (split more)
+
+-- ---- texts that are not too large
+
+-- a number that isn't more than the limit
+at_most : (n limit : ℕ) → (limit < n → ⊥) → n ≤ limit
+at_most n limit none = omega (arith, none)
+
+-- the ended lines of a text that is not too large are short
+each_short : (before lines : List (List ℕ)) (rest : List ℕ) → AllByRecursion IsUnbroken before → AllByRecursion IsUnbroken lines
+    → (IsTooLarge (flat_map ended before ++ (flat_map ended lines ++ rest)) → ⊥) → AllByRecursion IsShort lines
+each_short before [] rest u v small = tt
+each_short before (l ∷ lines) rest u (p, v) small = (
+  at_most (length l) max_line_len (λ long. small (record {
+    lines = before;
+    line = l;
+    after = 10 ∷ (flat_map ended lines ++ rest);
+    whole = ap (λ t. flat_map ended before ++ t) (append_assoc (ended l) (flat_map ended lines) rest ∙ ended_then l (flat_map ended lines ++ rest));
+    unbroken = u;
+    begun = p;
+    bad = inl long;
+  })),
+  each_short (before ++ l ∷ []) lines rest (each_more IsUnbroken before l u p) v (λ large. small (subst IsTooLarge same large)),
+)
+  where
+    same : flat_map ended (before ++ l ∷ []) ++ (flat_map ended lines ++ rest) ≡ flat_map ended before ++ (flat_map ended (l ∷ lines) ++ rest)
+    same =
+        ap (λ t. t ++ (flat_map ended lines ++ rest)) (flat_map-append ended before (l ∷ []) ∙ ap (λ m. flat_map ended before ++ m) (append-nil (ended l)))
+        ∙ append_assoc (flat_map ended before) (ended l) (flat_map ended lines ++ rest)
+        ∙ ap (λ t. flat_map ended before ++ t) (sym (append_assoc (ended l) (flat_map ended lines) rest))
+
+module _ (text : List ℕ) (old : LineCount) (has : HasLines text old) (small : IsTooLarge text → ⊥) where
+  lines_short : AllByRecursion IsShort has.lines
+  lines_short = each_short [] has.lines has.rest tt has.unbroken (λ large. small (subst IsTooLarge (sym has.whole) large))
+
+  rest_short : IsShort has.rest
+  rest_short = at_most (length has.rest) max_line_len (λ long. small (record {
+    lines = has.lines;
+    line = has.rest;
+    after = [];
+    whole = has.whole ∙ ap (λ r. flat_map ended has.lines ++ r) (sym (append-nil has.rest));
+    unbroken = has.unbroken;
+    begun = has.under_way;
+    bad = inl long;
+  }))
+
+  -- nor is it too large with the end of its line
+  pub fits_ended : (b : ℕ) → b ≡ 10 → old.ended < max_lines → IsTooLarge (text ++ b ∷ []) → ⊥
+  fits_ended b feed few large =
+      none (large_under_way (text ++ b ∷ []) (has.lines ++ has.rest ∷ []) [] large
+      (whole_more (text ++ b ∷ []) has.lines (has.rest ++ b ∷ []) has.rest [] (behind has.lines text has.rest (b ∷ []) has.whole) (ap (λ c. has.rest ++ c ∷ []) feed))
+      (each_more IsUnbroken has.lines has.rest has.unbroken has.under_way) none_unbroken (omega (arith, few, has.ended, length-append has.lines (has.rest ∷ [])))
+      (each_more IsShort has.lines has.rest lines_short rest_short))
+    where
+      none : (max_line_len < 0) ⊎ ((max_lines ≤ length (has.lines ++ has.rest ∷ [])) × (1 ≤ 0)) → ⊥
+      none (inl long) = omega (arith, long)
+      none (inr (many, some)) = omega (arith, some)
+
+  -- nor with a byte more in its line
+  pub fits_longer : (b : ℕ) → b ≢ 10 → old.ended < max_lines → old.under_way < max_line_len → IsTooLarge (text ++ b ∷ []) → ⊥
+  fits_longer b other few room large =
+      none (large_under_way (text ++ b ∷ []) has.lines (has.rest ++ b ∷ []) large (behind has.lines text has.rest (b ∷ []) has.whole)
+      has.unbroken (All-push (λ c. c ≢ 10) has.rest b has.under_way other) (omega (arith, few, has.ended)) lines_short)
+    where
+      none : (max_line_len < length (has.rest ++ b ∷ [])) ⊎ ((max_lines ≤ length has.lines) × (1 ≤ length (has.rest ++ b ∷ []))) → ⊥
+      none (inl long) = omega (arith, long, room, has.long, length-append has.rest (b ∷ []))
+      none (inr (many, some)) = omega (arith, many, few, has.ended)
+
+-- no byte is too large
+pub nothing_fits : IsTooLarge [] → ⊥
+nothing_fits large = none (large_under_way [] [] [] large refl tt none_unbroken (omega arith) tt)
+  where
+    none : (max_line_len < 0) ⊎ ((max_lines ≤ 0) × (1 ≤ 0)) → ⊥
+    none (inl long) = omega (arith, long)
+    none (inr (many, some)) = omega (arith, some)

@@ -55,6 +55,10 @@ pub record HasLines (text : List ℕ) (count : LineCount) : Type 0 where
   pub ended : length lines ≡ count.ended
   pub long : length rest ≡ count.under_way
 
+-- no more lines than a text may have, and no more bytes behind the last line feed than a line may have
+abbrev pub IsWithinLimits : LineCount → Type 0
+IsWithinLimits count = (count.ended ≤ max_lines) × (count.under_way ≤ max_line_len)
+
 -- a line of the text has too many bytes, or something stands behind the last line that a text may have
 pub record IsTooLarge (text : List ℕ) : Type 0 where
   pub lines : List (List ℕ)

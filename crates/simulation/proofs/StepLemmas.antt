@@ -10,7 +10,7 @@ use Rattle.ledger_model.specs.declared.world.WorldReply.{WorldReply}
 use Rattle.ledger_model.specs.Worlds.{World, event_of, entries_in, frames_sent, StepsBy, Runs}
 use Rattle.ledger_laws.proofs.WorldRuns.{runs_append}
 use Rattle.scenario_texts.specs.declared.command.Command.{Command}
-use Rattle.adversary_net.specs.Clusters.{RunningCluster, IsSameCluster, SignsFor, world_of}
+use Rattle.adversary_net.specs.Clusters.{RunningCluster, IsSameCluster, SignsFor, world_of, UsesAsAnswered}
 use Rattle.reply_lines.specs.Lines.{step_text}
 use Rattle.simulation.specs.Playing.{Simulated, IsAnswered, Steps, StepsEach, EndsEach, Ends, Answers, GoesOn, Plays, PlaysAll, PlaysOther, PlaysStep, passes_of, step_of}
 
@@ -59,10 +59,14 @@ signs_or_not view c r message None d signs none = subst (GoesOn c) (sym none) (s
 
 -- what a run of one step is: its answer, which is the only one
 pub only_answer : (c : RunningCluster) (s : WorldStep) (given : WorldReply) (others : List WorldReply) (d : RunningCluster)
-    → Runs c.config c.ring (world_of c) (s ∷ []) (given ∷ others) (world_of d) → IsSameCluster c d → IsAnswered c s given d
+    → Runs c.config c.ring (world_of c) (s ∷ []) (given ∷ others) (world_of d) → IsSameCluster c d → UsesAsAnswered c (given ∷ others) d → IsAnswered c s given d
 unfolding Runs
-only_answer c s given [] d (mid, steps, last) same = record { steps = subst (λ w. StepsBy c.config c.ring (world_of c) (event_of c.config (world_of c) s) given w) (sym last) steps; same = same }
-only_answer c s given (a ∷ others) d (mid, steps, last) same = absurd last
+only_answer c s given [] d (mid, steps, last) same leaves = record {
+  steps = subst (λ w. StepsBy c.config c.ring (world_of c) (event_of c.config (world_of c) s) given w) (sym last) steps;
+  same = same;
+  leaves = leaves;
+}
+only_answer c s given (a ∷ others) d (mid, steps, last) same leaves = absurd last
 
 -- it has an answer
 pub some_answer : (c : RunningCluster) (s : WorldStep) (answers : List WorldReply) (d : RunningCluster)
@@ -73,12 +77,12 @@ some_answer c s (a ∷ others) d runs none = absurd cc
 
 -- the first is its answer
 pub the_answer : (c : RunningCluster) (s : WorldStep) (answers : List WorldReply) (given : WorldReply) (d : RunningCluster)
-    → Runs c.config c.ring (world_of c) (s ∷ []) answers (world_of d) → slice_get answers 0 ≡ Some given → IsSameCluster c d → IsAnswered c s given d
+    → Runs c.config c.ring (world_of c) (s ∷ []) answers (world_of d) → slice_get answers 0 ≡ Some given → IsSameCluster c d → UsesAsAnswered c answers d → IsAnswered c s given d
 unfolding Runs
-the_answer c s [] given d runs is same = absurd runs
-the_answer c s (a ∷ others) given d runs is same =
+the_answer c s [] given d runs is same leaves = absurd runs
+the_answer c s (a ∷ others) given d runs is same leaves =
     let first : a ≡ given = cc in
-    subst (λ x. IsAnswered c s x d) first (only_answer c s a others d runs same)
+    subst (λ x. IsAnswered c s x d) first (only_answer c s a others d runs same leaves)
 
 -- ---- more steps
 

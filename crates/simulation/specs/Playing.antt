@@ -23,7 +23,7 @@ use Rattle.ledger_model.specs.Worlds.{World, entries_in, frames_sent, event_of, 
 use Rattle.key_ring.specs.declared.fault.SignFault.{SignFault}
 use Rattle.key_ring.specs.declared.fault.SignFault.TheVariants as sign
 use Rattle.replica_core.specs.Telling.{info_reply}
-use Rattle.adversary_net.specs.Clusters.{RunningCluster, IsSameCluster, SignsFor, liar_at, world_of}
+use Rattle.adversary_net.specs.Clusters.{RunningCluster, IsSameCluster, SignsFor, UsesAsAnswered, liar_at, world_of}
 use Rattle.scenario_texts.specs.declared.command.Command.{Command}
 use Rattle.scenario_texts.specs.declared.command.Command.TheVariants as command
 use Rattle.scenario_texts.specs.declared.command.Lie.{Lie}
@@ -45,6 +45,8 @@ pub record Simulated : Type 0 where
 pub record IsAnswered (c : RunningCluster) (s : WorldStep) (given : WorldReply) (d : RunningCluster) : Type 0 where
   pub steps : StepsBy c.config c.ring (world_of c) (event_of c.config (world_of c) s) given (world_of d)
   pub same : IsSameCluster c d
+  -- if memory didn't run out, each correct replica used one leaf for each statement of its own that it sent, and no other
+  pub leaves : UsesAsAnswered c (given ∷ []) d
 
 -- the step is answered, and this is printed of it
 pub record Steps (print : Config → World → WorldReply → World → List ℕ) (c : RunningCluster) (s : WorldStep) (text : List ℕ) (d : RunningCluster) : Type 0 where

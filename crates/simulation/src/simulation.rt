@@ -36,7 +36,7 @@ impl<A: Application> Simulation<A> {
     ghost use Rattle.std.specs.Prelude.{◌≡◌, ◌<◌, ◌≤◌, ◌↔◌, [], vec_len, length, All, Any, IfOk, IsErrOf};
     ghost use Rattle.ledger_model.specs.Applications.{run};
     ghost use Rattle.cluster_keys.specs.Keys.{secret_of};
-    ghost use Rattle.adversary_net.specs.Clusters.{HasRun};
+    ghost use Rattle.adversary_net.specs.Clusters.{AllAccountForLeaves, HasRun};
     ghost use Rattle.adversary_net.specs.Headline.{IsUnforged, IsOneLedger};
     ghost use Rattle.adversary_net.specs.Openings.{MayLie, new_cluster, correct_without, different};
     ghost use Rattle.simulation.specs.Playing.{correct_in};
@@ -72,6 +72,8 @@ impl<A: Application> Simulation<A> {
         ensures world { result.now ≡ self.now.cluster }
         ensures since { HasRun self.now.cluster }
         ensures one_ledger { IsUnforged self.now.cluster → IsOneLedger self.now.cluster }
+        // Each correct replica is mute only because too few leaves were left.
+        ensures account { AllAccountForLeaves self.now.cluster }
     {
         // What a world keeps of its run is said where it gives out the order of its entries.
         let _ = self.world.order();

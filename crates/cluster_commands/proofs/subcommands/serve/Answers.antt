@@ -6,8 +6,11 @@ use Rattle.program_streams.proofs.WritingLemmas.{all_some}
 use Rattle.cluster_commands.proofs.ReportingLemmas.{nothing_served, port_begun, port_and_lines}
 use Rattle.cluster_commands.proofs.subcommands.serve.Goals as goal
 
+pub returns-in_err-try_watcher : goal.returns-in_err-try_watcher
+returns-in_err-try_watcher g c = on_error _ _ c.from_residual.ensures.0 (nothing_served c.args.settings.now (g.W.Write.contents c.args.writer.now))
+
 pub returns-in_err-stop : goal.returns-in_err-stop
-returns-in_err-stop g c = on_error _ _ c.from_residual.ensures.0 (nothing_served c.args.settings.now (g.W.Write.contents c.args.writer.now))
+returns-in_err-stop g c = on_error _ _ c.from_residual-in_err-stop.ensures.0 (nothing_served c.args.settings.now (g.W.Write.contents c.args.writer.now))
 
 pub returns-in_err-listener : goal.returns-in_err-listener
 returns-in_err-listener g c = on_error _ _ c.from_residual-in_err-listener.ensures.0 (nothing_served c.args.settings.now (g.W.Write.contents c.args.writer.now))

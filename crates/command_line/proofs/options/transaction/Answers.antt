@@ -16,3 +16,6 @@ returns-in_default-clause-none c = λ tx i.
     let bad : is_ok c.new.result ≡ false = search (rules, c.in_default.not-Ok, c.in_default.is) in
     is_transaction c.new.result (vec_len c.in_ok-bytes.bytes) c.new.ensures.empty c.new.ensures.too_long bad
     (subst (λ n. 1 ≤ n) len i.some) (subst (λ n. n ≤ 64) len i.short)
+
+pub returns-in_default-clause-right : goal.returns-in_default-clause-right
+returns-in_default-clause-right c = (c.in_ok-text.ensures.some, returns-in_default-clause-none c)

@@ -1,6 +1,7 @@
 use Rattle.std.proofs.Common.{◌≡◌, ◌∙◌, Some, rules, sym}
 use Rattle.std.proofs.lemmas.Option.{same_Some}
 use Rattle.clap.specs.Words.{found_of, rows_of}
+use Rattle.lm_ots.specs.declared.params.Width.TheVariants.{W4, W8}
 use Rattle.command_line.proofs.NumberLemmas.{none_some, no_width}
 use Rattle.command_line.proofs.options.width.Goals as goal
 use Rattle.command_line.proofs.options.width.Goals.{in_default-via-in-Some+in_default, in_default-via-in_default}
@@ -16,3 +17,6 @@ returns-in_default-clause-none c =
       | in_default-via-in_default w ↦ λ e. none_some 8 (sym w.in_default.is ∙ e)
     ] in
     no_width (rows_of (found_of c.args.matches.now)) c.number.result c.number.ensures.some c.number.ensures.none (λ e. not_one (c.ok.ensures.value ∙ e)) (λ e. not_other (c.ok.ensures.value ∙ e))
+
+pub returns-in_default-clause-right : goal.returns-in_default-clause-right
+returns-in_default-clause-right c = (c.in_ok-word.ensures.some, (returns-in_default-clause-none c W4, returns-in_default-clause-none c W8))

@@ -3,6 +3,8 @@ use Rattle.std.proofs.lemmas.Option.{same_Some}
 use Rattle.clap.specs.Words.{Row, found_of, rows_of}
 use Rattle.command_line.specs.Options.{Sets, SetsSign, SetsDeliver, SetsSimulate, SetsRunning, SetsServe, WantsMemory}
 use Rattle.settings.specs.declared.Settings.TheVariants as settings
+use Rattle.command_line.specs.Faults.{IsNoSubcommand}
+use Rattle.command_line.proofs.FaultLemmas.{right_alike}
 use Rattle.command_line.proofs.MatchesLemmas.{found_is, names_one, refused_alike, set_alike, refused_anyway, sets_sign, sets_deliver, sets_simulate, sets_cluster, sets_serve}
 use Rattle.command_line.proofs.settings_of_words.settings_of.Goals as goal
 
@@ -75,3 +77,40 @@ returns-in_default-name-clause-refused c = λ s sets.
       | inr (inr (inr (inl h))) ↦ c.in_default-name.not-cluster (same_Some c.in-Some.name.now (codes "cluster") (c.in-Some.ensures.name ∙ h))
       | inr (inr (inr (inr h))) ↦ c.in_default-name.not-serve (same_Some c.in-Some.name.now (codes "serve") (c.in-Some.ensures.name ∙ h))
     ]
+
+pub returns-in-sign-clause-right : goal.returns-in-sign-clause-right
+returns-in-sign-clause-right c =
+    let rows : List Row = rows_of (found_of c.in-Some.options.now) in
+    let found = found_is c.args.matches.now (codes "sign") rows (search (rules, c.in-sign.is, c.in-Some.ensures.name)) c.in-Some.ensures.rows in
+    right_alike _ _ _ c.sign_settings.result c.map.result found c.sign_settings.ensures.right c.map.ensures.cases
+
+pub returns-in-deliver-clause-right : goal.returns-in-deliver-clause-right
+returns-in-deliver-clause-right c =
+    let rows : List Row = rows_of (found_of c.in-Some.options.now) in
+    let found = found_is c.args.matches.now (codes "deliver") rows (search (rules, c.in-deliver.is, c.in-Some.ensures.name)) c.in-Some.ensures.rows in
+    right_alike _ _ _ c.deliver_settings.result c.map-in-deliver.result found c.deliver_settings.ensures.right c.map-in-deliver.ensures.cases
+
+pub returns-in-simulate-clause-right : goal.returns-in-simulate-clause-right
+returns-in-simulate-clause-right c =
+    let rows : List Row = rows_of (found_of c.in-Some.options.now) in
+    let found = found_is c.args.matches.now (codes "simulate") rows (search (rules, c.in-simulate.is, c.in-Some.ensures.name)) c.in-Some.ensures.rows in
+    right_alike _ _ _ c.simulate_settings.result c.map-in-simulate.result found c.simulate_settings.ensures.right c.map-in-simulate.ensures.cases
+
+pub returns-in-cluster-clause-right : goal.returns-in-cluster-clause-right
+returns-in-cluster-clause-right c =
+    let rows : List Row = rows_of (found_of c.in-Some.options.now) in
+    let found = found_is c.args.matches.now (codes "cluster") rows (search (rules, c.in-cluster.is, c.in-Some.ensures.name)) c.in-Some.ensures.rows in
+    right_alike _ _ _ c.cluster_settings.result c.map-in-cluster.result found c.cluster_settings.ensures.right c.map-in-cluster.ensures.cases
+
+pub returns-in-serve-clause-right : goal.returns-in-serve-clause-right
+returns-in-serve-clause-right c =
+    let rows : List Row = rows_of (found_of c.in-Some.options.now) in
+    let found = found_is c.args.matches.now (codes "serve") rows (search (rules, c.in-serve.is, c.in-Some.ensures.name)) c.in-Some.ensures.rows in
+    right_alike _ _ _ c.serve_settings.result c.map-in-serve.result found c.serve_settings.ensures.right c.map-in-serve.ensures.cases
+
+pub returns-in_default-name-clause-right : goal.returns-in_default-name-clause-right
+returns-in_default-name-clause-right c =
+    let rows : List Row = rows_of (found_of c.in-Some.options.now) in
+    let found = found_is c.args.matches.now c.in-Some.name.now rows c.in-Some.ensures.name c.in-Some.ensures.rows in
+    subst IsNoSubcommand (sym found)
+    (c.in_default-name.not-sign, (c.in_default-name.not-deliver, (c.in_default-name.not-simulate, (c.in_default-name.not-cluster, c.in_default-name.not-serve))))

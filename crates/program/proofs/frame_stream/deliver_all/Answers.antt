@@ -23,19 +23,19 @@ loop-frame-preserved g c =
       (
         kept.0 ∙ ap (λ l. done ++ l) c.in-Some.ensures.steps.0 ∙ sym (append_assoc done one (into_iter_items c.next.new.self)),
         subst (λ l. Printed c.args.state.now l c.deliver_frame.new.state (g.W.Write.contents c.args.writer.now) (g.W.Write.contents c.deliver_frame.new.writer)) (deliveries-append done one)
-            (printed_both _ _ _ (deliveries done) (deliveries one) _ _ _ kept.1 c.in_ok-deliver_frame.ensures),
+            (printed_both _ _ _ (deliveries done) (deliveries one) _ _ _ kept.1 c.in_ok-deliver_frame.ensures.prints),
       ),
     )
 
-pub returns : goal.returns
-returns g c =
+pub returns-clause-prints : goal.returns-clause-prints
+returns-clause-prints g c =
     let (done, kept) = c.loop-frame.invariant in
     let none : into_iter_items c.loop-frame.frame-iterator ≡ [] = none_of _ (sym c.loop-frame.frame-iterator.rest.ok.0 ∙ c.in-None.ensures.steps.0) in
     let all : c.args.frames.items ≡ done = kept.0 ∙ ap (λ l. done ++ l) none ∙ append-nil done in
     subst (λ l. Printed c.args.state.now (deliveries l) c.loop-frame.state (g.W.Write.contents c.args.writer.now) (g.W.Write.contents c.loop-frame.writer)) (sym all) kept.1
 
-pub returns-in_err-deliver_frame : goal.returns-in_err-deliver_frame
-returns-in_err-deliver_frame g c =
+pub returns-in_err-deliver_frame-clause-prints : goal.returns-in_err-deliver_frame-clause-prints
+returns-in_err-deliver_frame-clause-prints g c =
     let (done, kept) = c.loop-frame.invariant in
     let one : List SignedStatement = c.in-Some.frame ∷ [] in
     let rest : List SignedStatement = into_iter_items c.next.new.self in
@@ -45,4 +45,4 @@ returns-in_err-deliver_frame g c =
     on_error _ _ c.from_residual.ensures.0
     (subst (λ l. PrintedSome c.args.state.now l c.deliver_frame.new.state (g.W.Write.contents c.args.writer.now) (g.W.Write.contents c.deliver_frame.new.writer)) all
     (printed_longer _ _ (deliveries done ++ deliveries one) (deliveries rest) _ _
-    (printed_after _ _ _ (deliveries done) (deliveries one) _ _ _ kept.1 c.in_err-deliver_frame.ensures)))
+    (printed_after _ _ _ (deliveries done) (deliveries one) _ _ _ kept.1 c.in_err-deliver_frame.ensures.prints)))

@@ -8,9 +8,9 @@ fault_of-requires c =
     let (bytes, fed) = c.requires in
     fed_unfailed c.args.frames.now bytes [] fed.0 c.in-Err.fault c.feed.new.self fed.1 c.in-Err.ensures.fault
 
-pub returns : goal.returns
-returns c = λ bytes given leaves.
+pub returns-clause-behind : goal.returns-clause-behind
+returns-clause-behind c = λ bytes given leaves.
     elim c.match-feed.branch [
       | in-Ok w ↦ rw w.result-is (behind_none _ _ bytes given _ leaves w.in-Ok.ensures.frames w.in-Ok.ensures.whole)
-      | in-Err+in_ok-fault_of-in-Err w ↦ rw w.result-is (behind_some _ _ bytes given _ _ leaves w.in-Err.ensures.fault w.in_ok-fault_of-in-Err.ensures)
+      | in-Err+in_ok-fault_of-in-Err w ↦ rw w.result-is (behind_some _ _ bytes given _ _ leaves w.in-Err.ensures.fault w.in_ok-fault_of-in-Err.ensures.told)
     ]

@@ -1,11 +1,17 @@
-use Rattle.std.proofs.Common.{[]}
-use Rattle.program.proofs.AnsweringLemmas.{answers_one, answers_refused, submit_silent}
+use Rattle.std.proofs.Common.{◌≤◌, length, subst, sym}
+use Rattle.ledger_model.specs.declared.event.Event.TheVariants as event
+use Rattle.locked_replica.specs.Replicas.{Replica}
+use Rattle.program.proofs.AnsweringLemmas.{taken_silently, submit_silent}
 use Rattle.program.proofs.replica.submit.Goals as goal
 
-pub returns-in-Ok : goal.returns-in-Ok
-returns-in-Ok c =
-    let (reply, told) = c.in-Ok.ensures.added in
-    answers_one _ _ _ reply [] told.0 c.in-Ok.ensures.rest_stays c.in-Ok.ensures.replay (submit_silent c.args.state.now c.args.bytes reply told.1)
+pub returns-clause-answers : goal.returns-clause-answers
+returns-clause-answers c =
+    let told = c.apply-outcome.ensures in
+    taken_silently c.args.state.now c.apply-outcome.new.self (event.Submit c.args.bytes) c.apply-outcome.result c.taken.result c.taken.ensures.same told.added told.history_stays told.rest_stays
+    told.replay told.signed told.account (submit_silent c.args.state.now c.args.bytes)
 
-pub returns-in-Err : goal.returns-in-Err
-returns-in-Err c = answers_refused _ _ c.in-Err.ensures.history_stays c.in-Err.ensures.rest_stays c.in-Err.ensures.replay
+pub returns-clause-cause : goal.returns-clause-cause
+returns-clause-cause c =
+    let told = c.apply-outcome.ensures in
+    c.taken.ensures.cause c.apply-outcome.new.self.entries
+    (λ full. subst (λ (s : Replica). 65536 ≤ length s.entries) (sym (told.refused full)) (told.full.0 full))

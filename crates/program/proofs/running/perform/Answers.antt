@@ -10,11 +10,11 @@ returns-in_ok-sign-in-Sign g c = signed_done c.args.settings.now c.in-Sign.setti
 
 pub returns-in_err-end-in-Deliver : goal.returns-in_err-end-in-Deliver
 returns-in_err-end-in-Deliver g c =
-    on_error _ _ c.from_residual-in_err-end-in-Deliver.ensures.0 (delivered_halted c.args.settings.now c.in-Deliver.settings _ _ _ _ c.in-Deliver.is c.in_err-end-in-Deliver.ensures)
+    on_error _ _ c.from_residual-in_err-end-in-Deliver.ensures.0 (delivered_halted c.args.settings.now c.in-Deliver.settings _ _ _ _ c.in-Deliver.is c.in_err-end-in-Deliver.ensures.delivers)
 
 pub returns-in_ok-end-in-Deliver : goal.returns-in_ok-end-in-Deliver
 returns-in_ok-end-in-Deliver g c =
-    delivered_done c.args.settings.now c.in-Deliver.settings c.in_ok-end-in-Deliver.end _ _ _ _ _ c.in-Deliver.is c.stream_status.ensures c.in_ok-end-in-Deliver.ensures
+    delivered_done c.args.settings.now c.in-Deliver.settings c.in_ok-end-in-Deliver.end _ _ _ _ _ c.in-Deliver.is c.stream_status.ensures c.in_ok-end-in-Deliver.ensures.delivers
 
 pub returns-in_err-end-in-Simulate : goal.returns-in_err-end-in-Simulate
 returns-in_err-end-in-Simulate g c =

@@ -24,19 +24,19 @@ returns-in-Ok-clause-hands_back g c = if_handed c.run_settings.result _ _ (λ ha
 
 pub returns-in-Err-clause-finishes : goal.returns-in-Err-clause-finishes
 returns-in-Err-clause-finishes g c = λ small.
-    let told = told_finishes (map (λ w. w.now) c.args.words.now) c.in-Err.fault c.tell.result _ _ (λ enough taken s set. enough (c.in-Err.ensures.refused taken s set)) c.tell.ensures small in
-    inr (told.0, told.1, Keeps-refl _)
+    let told = told_finishes (map (λ w. w.now) c.args.words.now) c.in-Err.fault c.tell.result _ _ c.in-Err.ensures.right (λ enough taken s set. enough (c.in-Err.ensures.refused taken s set)) c.tell.ensures small in
+    inr (told.0, told.1.0, told.1.1, Keeps-refl _)
 
 pub returns-in-Err-clause-quiet : goal.returns-in-Err-clause-quiet
-returns-in-Err-clause-quiet g c = λ small. told_quiet (map (λ w. w.now) c.args.words.now) c.in-Err.fault c.tell.result _ _ (λ enough taken s set. enough (c.in-Err.ensures.refused taken s set)) c.tell.ensures small
+returns-in-Err-clause-quiet g c = λ small. told_quiet (map (λ w. w.now) c.args.words.now) c.in-Err.fault c.tell.result _ _ c.in-Err.ensures.right (λ enough taken s set. enough (c.in-Err.ensures.refused taken s set)) c.tell.ensures small
 
 pub returns-in-Err-clause-refuses : goal.returns-in-Err-clause-refuses
 returns-in-Err-clause-refuses g c = λ two.
-    let told = told_refuses (map (λ w. w.now) c.args.words.now) c.in-Err.fault c.tell.result _ _ (λ enough taken s set. enough (c.in-Err.ensures.refused taken s set)) c.tell.ensures two in
-    (told.0, Keeps-refl _, told.1)
+    let told = told_refuses (map (λ w. w.now) c.args.words.now) c.in-Err.fault c.tell.result _ _ c.in-Err.ensures.right (λ enough taken s set. enough (c.in-Err.ensures.refused taken s set)) c.tell.ensures two in
+    (told.0, told.1.0, Keeps-refl _, told.1.1)
 
 pub returns-in-Err-clause-stops : goal.returns-in-Err-clause-stops
-returns-in-Err-clause-stops g c = λ three. inr (Keeps-refl _, told_stops (map (λ w. w.now) c.args.words.now) c.in-Err.fault c.tell.result _ _ (λ enough taken s set. enough (c.in-Err.ensures.refused taken s set)) c.tell.ensures three)
+returns-in-Err-clause-stops g c = λ three. inr (Keeps-refl _, told_stops (map (λ w. w.now) c.args.words.now) c.in-Err.fault c.tell.result _ _ c.in-Err.ensures.right (λ enough taken s set. enough (c.in-Err.ensures.refused taken s set)) c.tell.ensures three)
 
 pub returns-in-Err-clause-known : goal.returns-in-Err-clause-known
-returns-in-Err-clause-known g c = told_known (map (λ w. w.now) c.args.words.now) c.in-Err.fault c.tell.result _ _ (λ enough taken s set. enough (c.in-Err.ensures.refused taken s set)) c.tell.ensures
+returns-in-Err-clause-known g c = told_known (map (λ w. w.now) c.args.words.now) c.in-Err.fault c.tell.result _ _ c.in-Err.ensures.right (λ enough taken s set. enough (c.in-Err.ensures.refused taken s set)) c.tell.ensures

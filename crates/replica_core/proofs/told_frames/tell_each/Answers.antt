@@ -8,8 +8,8 @@ bounds-instances-place c =
     let steps = c.in-Some.ensures.steps in
     let telling = rw steps.0.0 at c.loop-place.invariant in
     rw steps.1
-    (telling_below c.args.instances.now c.args.plans.items c.args.frames.now.items c.loop-place.frames.items c.loop-place.place-iterator.count c.loop-place.closings.items
-    c.requires.count c.in-Some.plan _ telling)
+    (telling_below c.args.instances.now c.args.endings.items c.args.frames.now.items c.loop-place.frames.items c.loop-place.place-iterator.count c.loop-place.closings.items
+    c.requires.count c.in-Some.ending _ telling)
 
 pub loop-place-preserved : goal.loop-place-preserved
 loop-place-preserved c =
@@ -19,8 +19,8 @@ loop-place-preserved c =
     let closing = rw c.height.ensures at c.in_ok-push_told.ensures.closing in
     let left = rw c.height.ensures at c.in_ok-push_told.ensures.left in
     rw (closing, steps.2)
-    (telling_next c.args.instances.now c.args.plans.items c.args.frames.now.items c.loop-place.frames.items c.loop-place.place-iterator.count c.loop-place.closings.items
-    c.requires.count c.in-Some.plan _ c.index-instances-place.result _ _ telling row_is refl refl left)
+    (telling_next c.args.instances.now c.args.endings.items c.args.frames.now.items c.loop-place.frames.items c.loop-place.place-iterator.count c.loop-place.closings.items
+    c.requires.count c.in-Some.ending _ c.index-instances-place.result _ _ telling row_is refl refl left)
 
 pub offset_bounds-instances-place : goal.offset_bounds-instances-place
 offset_bounds-instances-place c = grind (arith, common_steps)

@@ -26,4 +26,4 @@ invariant_of-self-in-Ok g c =
 
 pub returns-in-Err-clause-err : goal.returns-in-Err-clause-err
 returns-in-Err-clause-err g c =
-    rw (sym c.self.view_is) (stays c.self.inside.state c.apply.new.self c.self.invariant.machine c.in-Err.ensures.machine c.in-Err.ensures.history_stays c.in-Err.ensures.rest_stays)
+    rw (sym c.self.view_is) (stays c.self.inside.state c.apply.new.self c.self.invariant.machine c.in-Err.ensures.machine c.in-Err.ensures.history_stays c.in-Err.ensures.rest_stays c.in-Err.ensures.leaves)

@@ -1,6 +1,7 @@
-use Rattle.std.proofs.Common.{subst, rules}
+use Rattle.std.proofs.Common.{sym, subst, rules}
 use Rattle.adversary_net.specs.Clusters.{IsCluster}
 use Rattle.adversary_net.proofs.Headline.{one_ledger}
+use Rattle.adversary_net.proofs.UsedLeaves.{accounts}
 use Rattle.adversary_net.proofs.Telling.{own_machines, own_replies}
 use Rattle.adversary_net.proofs.world.World.run.Goals as goal
 
@@ -33,3 +34,15 @@ returns-clause-one_ledger g c = one_ledger c.run_each.new.self c.run_each.ensure
 
 pub returns-clause-runs : goal.returns-clause-runs
 returns-clause-runs g c = search rules
+
+pub returns-in_err-answers-clause-account : goal.returns-in_err-answers-clause-account
+returns-in_err-answers-clause-account g c = accounts c.args.self.now (subst IsCluster c.self.view_is c.self.invariant)
+
+pub returns-in_err-reserve-clause-account : goal.returns-in_err-reserve-clause-account
+returns-in_err-reserve-clause-account g c = accounts _ c.self.invariant
+
+pub returns-clause-account : goal.returns-clause-account
+returns-clause-account g c = accounts c.run_each.new.self c.run_each.ensures.cluster
+
+pub returns-clause-leaves : goal.returns-clause-leaves
+returns-clause-leaves g c = rw (sym c.self.view_is) c.run_each.ensures.leaves

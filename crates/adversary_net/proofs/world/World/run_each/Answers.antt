@@ -3,6 +3,7 @@ use Rattle.ledger_model.specs.Worlds.{Runs}
 use Rattle.adversary_net.specs.Clusters.{world_of}
 use Rattle.adversary_net.specs.Steps.{Went}
 use Rattle.adversary_net.proofs.Members.{take_next, take_all}
+use Rattle.adversary_net.proofs.UsedLeaves.{uses_none, uses_more}
 use Rattle.adversary_net.proofs.Running.{run_more, no_steps, same_still, same_as}
 use Rattle.adversary_net.proofs.world.World.run_each.Goals as goal
 
@@ -11,6 +12,7 @@ loop-step-init g c = record {
   runs = subst (λ answers. Runs c.args.self.now.config c.args.self.now.ring (world_of c.args.self.now) [] answers (world_of c.args.self.now)) (sym c.requires.none) (no_steps c.args.self.now);
   same = same_as c.args.self.now;
   cluster = c.requires.cluster;
+  leaves = uses_none c.args.self.now c.args.answers.now.items;
   count = search rules;
   room = omega (arith, c.requires.room);
 }
@@ -19,13 +21,14 @@ pub loop-step-preserved : goal.loop-step-preserved
 loop-step-preserved g c =
     let was = c.loop-step.invariant in
     let next = take_next c.args.steps.now c.loop-step.step-index c.step-item.result c.loop-step-test.true c.step-item.is in
-    let went : Went c.loop-step.self c.step.new.self c.step-item.result c.reply_of-answer.result =
-    subst (λ a. Went c.loop-step.self c.step.new.self c.step-item.result a) (sym c.reply_of-answer.ensures) c.step.ensures in
-    let runs = run_more c.args.self.now c.loop-step.self c.step.new.self (take c.loop-step.step-index c.args.steps.now) c.loop-step.answers.items c.step-item.result c.reply_of-answer.result was.runs was.same went in
+    let went : Went c.loop-step.self c.step-outcome.new.self c.step-item.result c.reply_of-answer.result =
+    subst (λ a. Went c.loop-step.self c.step-outcome.new.self c.step-item.result a) (sym c.reply_of-answer.ensures) c.step-outcome.ensures in
+    let runs = run_more c.args.self.now c.loop-step.self c.step-outcome.new.self (take c.loop-step.step-index c.args.steps.now) c.loop-step.answers.items c.step-item.result c.reply_of-answer.result was.runs was.same went in
     record {
       runs = rw (next, c.in-Ok.ensures.items) runs;
-      same = same_still c.args.self.now c.loop-step.self was.same c.step.new.self went.same;
+      same = same_still c.args.self.now c.loop-step.self was.same c.step-outcome.new.self went.same;
       cluster = went.cluster;
+      leaves = rw c.in-Ok.ensures.items (uses_more c.args.self.now c.loop-step.self c.step-outcome.new.self c.loop-step.answers.items c.reply_of-answer.result was.leaves went.leaves);
       count = omega (arith, was.count, c.in-Ok.ensures.len);
       room = omega (arith, was.room, c.in-Ok.ensures.capacity);
     }

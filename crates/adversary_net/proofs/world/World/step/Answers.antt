@@ -1,4 +1,7 @@
-use Rattle.std.proofs.Common.{◌≡◌, sym, subst, rules, arith}
+use Rattle.std.proofs.Common.{◌≡◌, ◌+◌, ◌≤◌, false, sym, subst, ◌∙◌, rules, arith}
+use Rattle.std.specs.Prelude.{Result, Ok, Err, OnOk, vec_len}
+use Rattle.std.specs.Result.{is_err}
+use Rattle.std.specs.Vec.{vec_capacity}
 use Rattle.std.proofs.lemmas.Result.{err_from_is_err_and}
 use Rattle.ledger_model.specs.Worlds.{event_of}
 use Rattle.adversary_net.specs.Clusters.{RunningCluster, IsCluster, world_of}
@@ -72,3 +75,16 @@ returns g c =
     let place : c.from.result ≡ c.in_ok-replica.replica = search rules in
     rw (sym c.self.view_is) (stepped w c.from.result c.in_ok-replica.replica c.in-Ok.index c.index_mut-party.result.now c.apply_to.new.party c.push.new.self.items c.args.step.now c.in_ok-replica.event
     c.self.invariant ready place c.index_mut-party.ensures.value c.in-Ok.ensures.applied (search rules))
+
+-- what holds where a result is no error
+where_ok : {T E : Type 0} (r : Result T E) (P : Type 0) → is_err r ≡ false → OnOk r P → P
+where_ok (Ok x) P ok holds = holds
+where_ok (Err e) P ok holds = absurd cc
+
+-- room was made for the replica's number
+pub unreachable-requires : goal.unreachable-requires
+unreachable-requires g c =
+    let order = c.reserve.new.self in
+    let room : vec_len order + 1 ≤ vec_capacity order =
+    where_ok c.reserve.result (vec_len order + 1 ≤ vec_capacity order) (sym c.is_err.ensures.value ∙ c.if-is_err.false) c.reserve.ensures.ok in
+    omega (arith, room, c.in-Err.ensures.full)

@@ -4,14 +4,8 @@ use Rattle.inbox.proofs.queue.Inbox.take.Goals as goal
 pub returns-clause-taken : goal.returns-clause-taken
 returns-clause-taken g c = search rules
 
-pub returns-clause-step : goal.returns-clause-step
-returns-clause-step g c = search rules
-
 pub returns-clause-same : goal.returns-clause-same
 returns-clause-same g c = search rules
 
 pub returns-clause-all : goal.returns-clause-all
 returns-clause-all g c = search rules
-
-pub returns-clause-empty : goal.returns-clause-empty
-returns-clause-empty g c = search rules

@@ -35,7 +35,7 @@ pub returns-clause-followed : goal.returns-clause-followed
 returns-clause-followed g c =
     let held : Held = c.args.self.now in
     let told = rw c.in-Some.is at c.in_ok-closings.ensures.told in
-    compared_end held c.args.ended.now c.in_ok-plans.ensures.held c.requires.clock c.open_round.new.self (mades c.in-Some.closings.items) c.in_ok-due.due c.is_same_frames.result (c.stays_mute.ensures.stays c.if-not-stays_mute.false) told
+    compared_end held c.args.ended.now c.in_ok-endings.ensures.held c.requires.clock c.open_round.new.self (mades c.in-Some.closings.items) c.in_ok-due.due c.is_same_frames.result (c.stays_mute.ensures.stays c.if-not-stays_mute.false) told
     c.in_ok-due.ensures.ended c.in_ok-due.ensures.after
     (λ same. sym c.as_slice.ensures ∙ c.is_same_frames.ensures.same same ∙ c.as_slice-2.ensures)
     (λ alike. c.is_same_frames.ensures.only

@@ -3,14 +3,13 @@ use Rattle.std.specs.List.{AllByRecursion}
 use Rattle.std.proofs.lemmas.List.{length-map}
 use Rattle.ledger_model.specs.Spelling.{IsFrame}
 use Rattle.instance.specs.Rows.{Row}
-use Rattle.instance.specs.Plans.{IsOwnMade}
+use Rattle.instance.specs.Plans.{ended, IsOwnMade}
 use Rattle.height_row.specs.declared.closing.Closing.{Closing}
-use Rattle.height_row.specs.Heights.{plan_of}
 use Rattle.replica_core.specs.Holding.{Held}
 use Rattle.replica_core.specs.RoundEnds.{AreMade}
 use Rattle.replica_core.specs.ToldEnds.{statements_told, made_each, AreSpelled}
 use Rattle.replica_core.proofs.Endings.{all_images}
-use Rattle.replica_core.proofs.ToldRounds.{mades, told_count, closing_count, closing_ends, are_spelled, told_each, none_each}
+use Rattle.replica_core.proofs.ToldRounds.{mades, told_count, closing_count, are_spelled, told_each, none_each}
 use Rattle.replica_core.proofs.kept.Kept.read_end.Goals as goal
 
 -- a frame spells no statement
@@ -23,13 +22,13 @@ pub make_told-requires : goal.make_told-requires
 make_told-requires g c =
     let held : Held = c.args.self.now in
     record {
-      count = ap length c.requires.plans ∙ length-map held.rows (plan_of (held.clock + 1)) ∙ ap length (sym (c.instances.ensures.rows ∙ ap (λ (x : Held). x.rows) c.self.view_is));
+      count = ap length c.requires.endings ∙ length-map held.rows (λ row. ended row (held.clock + 1)) ∙ ap length (sym (c.instances.ensures.rows ∙ ap (λ (x : Held). x.rows) c.self.view_is));
     }
 
 pub may_make_all-requires-clause-count : goal.may_make_all-requires-clause-count
 may_make_all-requires-clause-count g c =
     let held : Held = c.args.self.now in
-    let ends = closing_ends (held.clock + 1) held.rows c.args.plans.items c.in_ok-closings.closings.items c.in_ok-closings.ensures.endings c.requires.plans in
+    let ends = c.in_ok-closings.ensures.endings ∙ c.requires.endings in
     ap length c.deref.ensures.value ∙ closing_count (held.clock + 1) held.rows c.in_ok-closings.closings.items ends
 
 -- what is told may be made
@@ -37,7 +36,7 @@ pub returns-then-may_make_all-clause-told : goal.returns-then-may_make_all-claus
 returns-then-may_make_all-clause-told g c =
     let held : Held = c.args.self.now in
     let xs : List Closing = c.in_ok-closings.closings.items in
-    let ends = closing_ends (held.clock + 1) held.rows c.args.plans.items xs c.in_ok-closings.ensures.endings c.requires.plans in
+    let ends = c.in_ok-closings.ensures.endings ∙ c.requires.endings in
     let rows = c.instances.ensures.rows ∙ ap (λ (x : Held). x.rows) c.self.view_is in
     let told : statements_told c.args.end.now.frames ≡ c.in-Some.frames.items = ap statements_told (sym c.as_slice.ensures) ∙ (rw c.in-Some.is at c.in_ok-frames.ensures.told) in
     let frames : AllByRecursion IsFrame (statements_told c.args.end.now.frames) = subst (AllByRecursion IsFrame) (sym told) (rw c.in-Some.is at c.in_ok-frames.ensures.frames) in
@@ -49,9 +48,7 @@ returns-then-may_make_all-clause-told g c =
     (λ entries matches. subst (λ (ys : List Closing). AreMade held.ring false (held.clock + 1) held.rows (mades ys)) c.deref.ensures.value (c.may_make_all.ensures.may entries matches c.if-may_make_all.true))
 
 pub returns-then-may_make_all-clause-endings : goal.returns-then-may_make_all-clause-endings
-returns-then-may_make_all-clause-endings g c =
-    let held : Held = c.args.self.now in
-    closing_ends (held.clock + 1) held.rows c.args.plans.items c.in_ok-closings.closings.items c.in_ok-closings.ensures.endings c.requires.plans
+returns-then-may_make_all-clause-endings g c = c.in_ok-closings.ensures.endings ∙ c.requires.endings
 
 -- it may not
 pub returns-else-may_make_all-clause-told : goal.returns-else-may_make_all-clause-told

@@ -2,40 +2,36 @@ use Rattle.std.proofs.Common.{◌+◌, List, sym, ◌∙◌}
 use Rattle.instance.specs.declared.made.Made.TheVariants as made
 use Rattle.height_row.specs.declared.closing.Closing.{Closing}
 use Rattle.replica_core.specs.Holding.{Held}
-use Rattle.replica_core.proofs.ToldRounds.{mades, closing_ends, plans_release, all_of_it, told_mute, told_release}
+use Rattle.replica_core.proofs.ToldRounds.{mades, endings_release, all_of_it, told_mute, told_release}
 use Rattle.replica_core.proofs.kept.Kept.told_end.Goals as goal
 
 pub read_end-requires-clause-none_on : goal.read_end-requires-clause-none_on
 read_end-requires-clause-none_on g c =
     let held : Held = c.args.self.now in
-    sym (plans_release (held.clock + 1) held.rows c.args.plans.items c.deref.result.now c.send_locks.result c.send_locks.ensures c.deref.ensures.value c.requires.plans) ∙ c.if-send_locks.false
+    sym (endings_release (held.clock + 1) held.rows c.deref.result.now c.send_locks.result c.send_locks.ensures (c.deref.ensures.value ∙ c.requires.endings)) ∙ c.if-send_locks.false
 
 -- a mute replica
 pub returns-in_ok-make_nothing-clause-told : goal.returns-in_ok-make_nothing-clause-told
 returns-in_ok-make_nothing-clause-told g c =
     let held : Held = c.args.self.now in
     let xs : List Closing = c.in_ok-make_nothing.field-0.items in
-    let ends = closing_ends (held.clock + 1) held.rows c.args.plans.items xs c.in_ok-make_nothing.ensures.endings c.requires.plans in
+    let ends = c.in_ok-make_nothing.ensures.endings ∙ c.requires.endings in
     told_mute held c.args.end.now c.requires.held c.requires.clock (mades xs) c.if-end.true (all_of_it made.Mute (held.clock + 1) held.rows xs ends c.in_ok-make_nothing.ensures.nothing)
 
 pub returns-in_ok-make_nothing-clause-endings : goal.returns-in_ok-make_nothing-clause-endings
-returns-in_ok-make_nothing-clause-endings g c =
-    let held : Held = c.args.self.now in
-    closing_ends (held.clock + 1) held.rows c.args.plans.items c.in_ok-make_nothing.field-0.items c.in_ok-make_nothing.ensures.endings c.requires.plans
+returns-in_ok-make_nothing-clause-endings g c = c.in_ok-make_nothing.ensures.endings ∙ c.requires.endings
 
 -- one that sends locks on
 pub returns-in_ok-make_nothing-2-clause-told : goal.returns-in_ok-make_nothing-2-clause-told
 returns-in_ok-make_nothing-2-clause-told g c =
     let held : Held = c.args.self.now in
     let xs : List Closing = c.in_ok-make_nothing-2.field-0.items in
-    let ends = closing_ends (held.clock + 1) held.rows c.args.plans.items xs c.in_ok-make_nothing-2.ensures.endings c.requires.plans in
-    let some = sym (plans_release (held.clock + 1) held.rows c.args.plans.items c.deref.result.now c.send_locks.result c.send_locks.ensures c.deref.ensures.value c.requires.plans) ∙ c.if-send_locks.true in
+    let ends = c.in_ok-make_nothing-2.ensures.endings ∙ c.requires.endings in
+    let some = sym (endings_release (held.clock + 1) held.rows c.deref.result.now c.send_locks.result c.send_locks.ensures (c.deref.ensures.value ∙ c.requires.endings)) ∙ c.if-send_locks.true in
     told_release held c.args.end.now c.requires.held c.requires.clock c.if-end.false (mades xs) some (all_of_it made.Unsent (held.clock + 1) held.rows xs ends c.in_ok-make_nothing-2.ensures.nothing)
 
 pub returns-in_ok-make_nothing-2-clause-endings : goal.returns-in_ok-make_nothing-2-clause-endings
-returns-in_ok-make_nothing-2-clause-endings g c =
-    let held : Held = c.args.self.now in
-    closing_ends (held.clock + 1) held.rows c.args.plans.items c.in_ok-make_nothing-2.field-0.items c.in_ok-make_nothing-2.ensures.endings c.requires.plans
+returns-in_ok-make_nothing-2-clause-endings g c = c.in_ok-make_nothing-2.ensures.endings ∙ c.requires.endings
 
 -- one that tells more
 pub returns-else-send_locks-clause-told : goal.returns-else-send_locks-clause-told

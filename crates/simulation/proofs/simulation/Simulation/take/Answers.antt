@@ -18,4 +18,4 @@ pub returns-clause-taken : goal.returns-clause-taken
 returns-clause-taken g c =
     subst (λ s. IsAnswered s.cluster c.args.step.now c.in-Some.answer.now c.run.new.self) c.self.view_is
     (the_answer c.self.inside.world c.args.step.now c.in_ok-run.field-0.items c.in-Some.answer.now c.run.new.self (let one : c.from_ref.result.now ≡ c.args.step.now ∷ [] = c.from_ref.ensures.value in rw one at c.in_ok-run.ensures.runs)
-    (ap (λ l. slice_get l 0) (sym c.deref.ensures.value) ∙ sym c.first.ensures.value ∙ ap option_copied c.in-Some.is) c.in_ok-run.ensures.same)
+    (ap (λ l. slice_get l 0) (sym c.deref.ensures.value) ∙ sym c.first.ensures.value ∙ ap option_copied c.in-Some.is) c.in_ok-run.ensures.same c.in_ok-run.ensures.leaves)

@@ -1,0 +1,116 @@
+//! How the replicas of a running cluster stand, and what of that is still to be told.
+use crate::notice::Notice;
+use ledger_model::ReplicaId;
+use replica_turns::ReplicaStatus;
+use std::alloc::{AllocError, Global};
+use std::mem;
+
+/// A replica of which nothing is known.
+const UNKNOWN: ReplicaStatus = ReplicaStatus {
+    rounds: 0,
+    height: 0,
+    entries: 0,
+    signatures: 0,
+    is_mute: false,
+};
+
+/// Each of so many replicas, of which nothing is known.
+pub(crate) fn unknown(alloc: Global, replicas: u8) -> Result<Vec<ReplicaStatus>, AllocError> {
+    Vec::from_elem(alloc, UNKNOWN, usize::from(replicas))
+}
+
+/// How the replicas of a running cluster stand, and what of that is still to be told.
+#[derive(Drop)]
+pub(crate) struct ClusterStatus {
+    /// By number.
+    replicas: Vec<ReplicaStatus>,
+    /// What is not told, the oldest first: no more than a few for each block and each replica.
+    notices: Vec<Notice>,
+    /// The greatest height whose block has had its notice.
+    height: u32,
+    /// Whether blocks, mute replicas and histories that are nearly full have notices. If not, each round of replica 0 is told.
+    has_log: bool,
+    /// Whether no more will come.
+    is_over: bool,
+}
+
+impl ClusterStatus {
+    /// A cluster of so many replicas that hasn't begun.
+    pub(crate) fn new(alloc: Global, replicas: u8, has_log: bool) -> Result<Self, AllocError> {
+        Ok(ClusterStatus {
+            replicas: unknown(alloc, replicas)?,
+            notices: Vec::new(alloc),
+            height: 0,
+            has_log,
+            is_over: false,
+        })
+    }
+
+    /// Adds a notice to what is to be told, where there is memory for it.
+    pub(crate) fn add(&mut self, notice: Notice) {
+        let _ = self.notices.push(notice);
+    }
+
+    /// Nothing comes behind what was added.
+    pub(crate) fn close(&mut self) {
+        self.is_over = true;
+    }
+
+    /// Adds a notice for each block that was run for the first time.
+    fn add_blocks(&mut self, replica: ReplicaId, status: &ReplicaStatus) {
+        for height in self.height..status.height {
+            self.add(Notice::Block {
+                height: height.saturating_add(1),
+                replica,
+                round: status.rounds,
+            });
+        }
+        self.height = self.height.max(status.height);
+    }
+
+    /// Adds the notices of what happened to a replica, which stood so before.
+    fn add_changes(&mut self, replica: ReplicaId, before: &ReplicaStatus, after: &ReplicaStatus) {
+        self.add_blocks(replica, after);
+        if after.is_mute && !before.is_mute {
+            self.add(Notice::Mute {
+                replica,
+                round: after.rounds,
+                signatures: after.signatures,
+            });
+        }
+        if after.is_nearly_full() && !before.is_nearly_full() {
+            self.add(Notice::NearlyFull {
+                replica,
+                entries: after.entries,
+            });
+        }
+    }
+
+    /// Notes how a replica stands. True where something is to be told.
+    pub(crate) fn note(&mut self, replica: ReplicaId, status: ReplicaStatus) -> bool {
+        let Some(known) = self.replicas.get_mut(usize::from(replica.number())) else {
+            return false;
+        };
+        let before = mem::replace(known, status);
+        if !self.has_log {
+            return replica.number() == 0 && status.rounds > before.rounds;
+        }
+        self.add_changes(replica, &before, &status);
+        !self.notices.is_empty()
+    }
+
+    /// Hands over the notices that are not told, in place of these, and how each replica stands. True where nothing comes
+    /// behind them.
+    pub(crate) fn hand_over(
+        &mut self,
+        notices: &mut Vec<Notice>,
+        replicas: &mut [ReplicaStatus],
+    ) -> bool {
+        notices.clear();
+        mem::swap(&mut self.notices, notices);
+        for (copy, status) in replicas.iter_mut().zip(&self.replicas) {
+            *copy = *status;
+        }
+        self.is_over
+    }
+}

@@ -1,0 +1,167 @@
+-- What is told of words that clap refuses, and of options that set nothing.
+use Rattle.std.proofs.Common.{◌≡◌, ◌∙◌, true, List, [], ◌∷◌, refl, sym, subst, inl, inr}
+use Rattle.std.specs.Prelude.{◌⊎◌, Option, Some, Result, Ok, Err, IfErr, IsOkAnd, MatchResult}
+use Rattle.clap.specs.Words.{HasKind, IsAmong, Kinds, Row, Text, is_simple_and_free, kind_of, subcommand_of}
+use Rattle.clap.specs.declared.error.Error.{Error}
+use Rattle.clap.specs.declared.error.ErrorKind.TheVariants as kind
+use Rattle.clap.proofs.OnLiterals.{clap_on_literals}
+use Rattle.command_line.specs.Grammar.{abft_app}
+use Rattle.settings.specs.declared.Settings.{Settings}
+use Rattle.command_line.specs.Options.{AsksForText, WantsMemory}
+use Rattle.command_line.specs.Faults.{AskForHelp, AskForHelpAlone, IsRightFault, IsRightIn, IsRightOf, IsRightOption, NamesInput, kinds_of, rows_in}
+use Rattle.command_line.specs.declared.usage_fault.UsageFault.{UsageFault}
+use Rattle.command_line.specs.declared.usage_fault.UsageFault.TheVariants as fault
+
+-- no argument of the program's command has a rule on another one
+pub abft_is_free : is_simple_and_free abft_app ≡ true
+unfolding clap_on_literals
+abft_is_free = refl
+
+-- the error is about an unknown argument, and so are the words
+unknown_among : (words : List Text) (error : Error) → HasKind (kinds_of words) error → kind_of error ≡ kind.UnknownArgument → IsAmong kind.UnknownArgument (kinds_of words)
+unknown_among words error (inl memory) is = let bad = sym memory ∙ is in absurd cc
+unknown_among words error (inr among) is = subst (λ k. IsAmong k (kinds_of words)) is among
+
+-- an input that is named
+named_right : (words : List Text) (f : UsageFault) → IsAmong kind.UnknownArgument (kinds_of words) → NamesInput words f → IsRightFault words f
+named_right words (fault.NamedFrames word) among names = (among, names)
+named_right words (fault.NamedScenario word) among names = (among, names)
+named_right words (fault.CommandLine error) among names = absurd names
+named_right words (fault.Number option least most word) among names = absurd names
+named_right words (fault.Neither option one other word) among names = absurd names
+named_right words (fault.Seed word) among names = absurd names
+named_right words (fault.TooFew replicas faults) among names = absurd names
+named_right words (fault.Spelling option why) among names = absurd names
+named_right words (fault.NoTransaction option word) among names = absurd names
+named_right words (fault.Rejected option code word) among names = absurd names
+named_right words (fault.What word) among names = absurd names
+named_right words (fault.Missing option) among names = absurd names
+named_right words fault.NoSubcommand among names = absurd names
+named_right words fault.NoMemory among names = absurd names
+
+-- the fault of words that clap refuses
+pub refused_right : (words : List Text) (error : Error) (f : UsageFault) → HasKind (kinds_of words) error
+    → (f ≡ fault.CommandLine error) ⊎ ((kind_of error ≡ kind.UnknownArgument) × NamesInput words f) → IsRightFault words f
+refused_right words error f has (inl same) = subst (IsRightFault words) (sym same) has
+refused_right words error f has (inr (unknown, names)) = named_right words f (unknown_among words error has unknown) names
+
+-- the fault of an option is one of the subcommand that has it
+of_found : (o : Option (Text × List Row)) (f : UsageFault) → IsRightOf (rows_in o) f → IsRightIn o f
+of_found o (fault.CommandLine error) right = right
+of_found o (fault.Number option least most word) right = right
+of_found o (fault.Neither option one other word) right = right
+of_found o (fault.Seed word) right = right
+of_found o (fault.TooFew replicas faults) right = right
+of_found o (fault.Spelling option why) right = right
+of_found o (fault.NoTransaction option word) right = right
+of_found o (fault.Rejected option code word) right = right
+of_found o (fault.NamedFrames word) right = right
+of_found o (fault.NamedScenario word) right = right
+of_found o (fault.What word) right = right
+of_found o (fault.Missing option) right = right
+of_found o fault.NoSubcommand right = absurd right
+of_found o fault.NoMemory right = right
+
+pub right_alike : {T : Type 0} (Q : T → Settings → Type 0) (o : Option (Text × List Row)) (p : Text × List Row) (r : Result T UsageFault) (told : Result Settings UsageFault) → o ≡ Some p
+    → IfErr r (IsRightOf p.1) → MatchResult r (λ t. IsOkAnd told (Q t)) (λ e. told ≡ Err e) → IfErr told (IsRightIn o)
+right_alike Q o p (Ok t) (Ok s) found right cases = tt
+right_alike Q o p (Ok t) (Err e) found right cases = absurd cases
+right_alike Q o p (Err e) told found right cases =
+    subst (λ (x : Result Settings UsageFault). IfErr x (IsRightIn o)) (sym cases) (of_found o e (subst (λ q. IsRightOf (rows_in q) e) (sym found) right))
+
+-- the fault of an option of words that clap takes
+option_right : (words : List Text) (f : UsageFault) → IsRightOption words f → IsRightFault words f
+option_right words (fault.CommandLine error) right = absurd right.1
+option_right words (fault.NamedFrames word) right = absurd right.1
+option_right words (fault.NamedScenario word) right = absurd right.1
+option_right words (fault.Number option least most word) right = right
+option_right words (fault.Neither option one other word) right = right
+option_right words (fault.Seed word) right = right
+option_right words (fault.TooFew replicas faults) right = right
+option_right words (fault.Spelling option why) right = right
+option_right words (fault.NoTransaction option word) right = right
+option_right words (fault.Rejected option code word) right = right
+option_right words (fault.What word) right = right
+option_right words (fault.Missing option) right = right
+option_right words fault.NoSubcommand right = right
+option_right words fault.NoMemory right = tt
+
+pub options_right : {T : Type 0} (words : List Text) (o : Option (Text × List Row)) (r : Result T UsageFault) → kinds_of words ≡ [] → o ≡ subcommand_of abft_app words
+    → IfErr r (IsRightIn o) → IfErr r (IsRightFault words)
+options_right words o (Ok x) taken found right = tt
+options_right words o (Err f) taken found right = option_right words f (taken, subst (λ p. IsRightIn p f) found right)
+
+-- a fault that is the help or the version is what the words ask for
+pub asked : (words : List Text) (f : UsageFault) → IsRightFault words f → AsksForText f → AskForHelp words
+asked words (fault.CommandLine error) (inl memory) (inl help) = let bad = sym memory ∙ help in absurd cc
+asked words (fault.CommandLine error) (inl memory) (inr version) = let bad = sym memory ∙ version in absurd cc
+asked words (fault.CommandLine error) (inr among) (inl help) = inl (subst (λ k. IsAmong k (kinds_of words)) help among)
+asked words (fault.CommandLine error) (inr among) (inr version) = inr (subst (λ k. IsAmong k (kinds_of words)) version among)
+asked words (fault.Number option least most word) right asks = absurd asks
+asked words (fault.Neither option one other word) right asks = absurd asks
+asked words (fault.Seed word) right asks = absurd asks
+asked words (fault.TooFew replicas faults) right asks = absurd asks
+asked words (fault.Spelling option why) right asks = absurd asks
+asked words (fault.NoTransaction option word) right asks = absurd asks
+asked words (fault.Rejected option code word) right asks = absurd asks
+asked words (fault.NamedFrames word) right asks = absurd asks
+asked words (fault.NamedScenario word) right asks = absurd asks
+asked words (fault.What word) right asks = absurd asks
+asked words (fault.Missing option) right asks = absurd asks
+asked words fault.NoSubcommand right asks = absurd asks
+asked words fault.NoMemory right asks = absurd asks
+
+module _ (ks : Kinds) where
+  some_kind : ks ≡ [] → (ks ≡ kind.DisplayHelp ∷ []) ⊎ (ks ≡ kind.DisplayVersion ∷ []) → ⊥
+  some_kind none (inl help) = let bad = sym none ∙ help in absurd cc
+  some_kind none (inr version) = let bad = sym none ∙ version in absurd cc
+
+  none_unknown : IsAmong kind.UnknownArgument ks → (ks ≡ kind.DisplayHelp ∷ []) ⊎ (ks ≡ kind.DisplayVersion ∷ []) → ⊥
+  none_unknown among (inl help) = one (subst (IsAmong kind.UnknownArgument) help among)
+    where
+      one : IsAmong kind.UnknownArgument (kind.DisplayHelp ∷ []) → ⊥
+      one (inl same) = absurd cc
+      one (inr none) = none
+  none_unknown among (inr version) = one (subst (IsAmong kind.UnknownArgument) version among)
+    where
+      one : IsAmong kind.UnknownArgument (kind.DisplayVersion ∷ []) → ⊥
+      one (inl same) = absurd cc
+      one (inr none) = none
+
+  shown : (error : Error) → HasKind ks error → (ks ≡ kind.DisplayHelp ∷ []) ⊎ (ks ≡ kind.DisplayVersion ∷ [])
+      → AsksForText (fault.CommandLine error) ⊎ WantsMemory (fault.CommandLine error)
+  shown error (inl memory) alone = inr memory
+  shown error (inr among) (inl help) = one (subst (IsAmong (kind_of error)) help among)
+    where
+      one : IsAmong (kind_of error) (kind.DisplayHelp ∷ []) → AsksForText (fault.CommandLine error) ⊎ WantsMemory (fault.CommandLine error)
+      one (inl same) = inl (inl same)
+      one (inr none) = absurd none
+  shown error (inr among) (inr version) = one (subst (IsAmong (kind_of error)) version among)
+    where
+      one : IsAmong (kind_of error) (kind.DisplayVersion ∷ []) → AsksForText (fault.CommandLine error) ⊎ WantsMemory (fault.CommandLine error)
+      one (inl same) = inl (inr same)
+      one (inr none) = absurd none
+
+answered : (words : List Text) (f : UsageFault) → IsRightFault words f → AskForHelpAlone words → AsksForText f ⊎ WantsMemory f
+answered words (fault.CommandLine error) right alone = shown (kinds_of words) error right alone
+answered words (fault.NamedFrames word) right alone = absurd (none_unknown (kinds_of words) right.0 alone)
+answered words (fault.NamedScenario word) right alone = absurd (none_unknown (kinds_of words) right.0 alone)
+answered words (fault.Number option least most word) right alone = absurd (some_kind (kinds_of words) right.0 alone)
+answered words (fault.Neither option one other word) right alone = absurd (some_kind (kinds_of words) right.0 alone)
+answered words (fault.Seed word) right alone = absurd (some_kind (kinds_of words) right.0 alone)
+answered words (fault.TooFew replicas faults) right alone = absurd (some_kind (kinds_of words) right.0 alone)
+answered words (fault.Spelling option why) right alone = absurd (some_kind (kinds_of words) right.0 alone)
+answered words (fault.NoTransaction option word) right alone = absurd (some_kind (kinds_of words) right.0 alone)
+answered words (fault.Rejected option code word) right alone = absurd (some_kind (kinds_of words) right.0 alone)
+answered words (fault.What word) right alone = absurd (some_kind (kinds_of words) right.0 alone)
+answered words (fault.Missing option) right alone = absurd (some_kind (kinds_of words) right.0 alone)
+answered words fault.NoSubcommand right alone = absurd (some_kind (kinds_of words) right.0 alone)
+answered words fault.NoMemory right alone = inr tt
+
+-- whatever else is told is not told of words that ask for them alone
+pub not_alone : (words : List Text) (f : UsageFault) → IsRightFault words f → (AsksForText f → ⊥) → (WantsMemory f → ⊥) → AskForHelpAlone words → ⊥
+not_alone words f right other enough alone = neither (answered words f right alone)
+  where
+    neither : AsksForText f ⊎ WantsMemory f → ⊥
+    neither (inl asks) = other asks
+    neither (inr wants) = enough wants

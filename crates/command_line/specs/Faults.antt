@@ -1,0 +1,139 @@
+-- What is said of words that set nothing: each fault names what is wrong with them.
+use Rattle.std.specs.Prelude.{◌≡◌, ◌≢◌, ◌⊎◌, ℕ, ◌<◌, ◌+◌, ◌*◌, ⊤, List, [], ◌∷◌, codes, slice_get, slice_index, Option, Some, None}
+use Rattle.clap.specs.Words.{HasKind, IsAmong, Kinds, Row, Text, fault_of, first_of, subcommand_of}
+use Rattle.clap.specs.declared.error.ErrorKind.TheVariants as kind
+use Rattle.ledger_model.specs.declared.config.AppKind.{AppKind}
+use Rattle.ledger_model.specs.Replies.{check_reply}
+use Rattle.plain_text.specs.Transactions.{Misspells}
+use Rattle.plain_text.specs.declared.spelling_fault.SpellingFault.{SpellingFault}
+use Rattle.settings.specs.declared.sign.What.{What}
+use Rattle.command_line.specs.Grammar.{abft_app}
+use Rattle.command_line.specs.Options.{IsNumber, IsSeed, IsWritten, number_of, word_of}
+use Rattle.command_line.specs.declared.usage_fault.UsageFault.{UsageFault}
+use Rattle.command_line.specs.declared.usage_fault.UsageFault.TheVariants as fault
+
+-- ---- words that are no command line
+
+-- the kinds of error that clap may answer to these words: those of the first thing that it refuses or shows, and none where they are a command line of
+-- the program
+unfoldable pub kinds_of : List Text → Kinds
+kinds_of words = fault_of abft_app words
+
+-- the words ask for the help or the version. At `abft help WORD` clap has two kinds, since WORD may be no subcommand
+abbrev pub AskForHelp : List Text → Type 0
+AskForHelp words = IsAmong kind.DisplayHelp (kinds_of words) ⊎ IsAmong kind.DisplayVersion (kinds_of words)
+
+-- they ask for nothing else
+abbrev pub AskForHelpAlone : List Text → Type 0
+AskForHelpAlone words = (kinds_of words ≡ kind.DisplayHelp ∷ []) ⊎ (kinds_of words ≡ kind.DisplayVersion ∷ [])
+
+-- the word follows this subcommand, and is no option
+pub record IsOperand (words : List Text) (subcommand word : Text) : Type 0 where
+  pub second : slice_get words 1 ≡ Some subcommand
+  pub third : slice_get words 2 ≡ Some word
+  pub plain : slice_index word 0 ≢ 0x2d
+
+-- the fault names the word behind a subcommand that takes its input from standard input
+abbrev pub NamesInput : List Text → UsageFault → Type 0
+NamesInput words (fault.NamedFrames word) = IsOperand words (codes "deliver") word.now
+NamesInput words (fault.NamedScenario word) = IsOperand words (codes "simulate") word.now
+NamesInput words other = ⊥
+
+-- ---- options that set nothing
+
+-- the word is the option's value, which is none of its numbers
+abbrev pub IsNoNumber : List Row → Text → ℕ → ℕ → Text → Type 0
+IsNoNumber rows option least most word = (first_of option rows ≡ Some word) × ((n : ℕ) → IsNumber rows option least most n → ⊥)
+
+-- it is neither of its two numbers
+abbrev pub IsNeither : List Row → Text → ℕ → ℕ → Text → Type 0
+IsNeither rows option one other word =
+    (first_of option rows ≡ Some word) × ((IsNumber rows option one other one → ⊥) × (IsNumber rows option one other other → ⊥))
+
+-- it isn't 64 hexadecimal digits
+abbrev pub IsNoSeed : List Row → Text → Type 0
+IsNoSeed rows word = (first_of (codes "seed") rows ≡ Some word) × ((seed : List ℕ) → IsSeed rows seed → ⊥)
+
+-- the options name so many replicas and faults, and the replicas are too few
+pub record AreTooFew (rows : List Row) (replicas faults : ℕ) : Type 0 where
+  pub n : IsNumber rows (codes "n") 4 13 replicas
+  pub t : IsNumber rows (codes "t") 1 4 faults
+  pub few : replicas < 3 * faults + 1
+
+-- the option's value spells no bytes, by this fault
+pub record IsMisspelled (rows : List Row) (option : Text) (why : SpellingFault) : Type 0 where
+  pub word : Text
+  pub has : first_of option rows ≡ Some word
+  pub misspells : Misspells word why
+
+-- the word is the option's value, which is no transaction
+abbrev pub IsNoTransaction : List Row → Text → Text → Type 0
+IsNoTransaction rows option word = (first_of option rows ≡ Some word) × ((tx : List ℕ) → IsWritten rows option tx → ⊥)
+
+-- the word is the option's value, a transaction to which an application of the cluster's kind answers this code in its opening state
+pub record IsRejected (rows : List Row) (option : Text) (code : ℕ) (word : Text) : Type 0 where
+  pub has : first_of option rows ≡ Some word
+  pub tx : List ℕ
+  pub written : IsWritten rows option tx
+  pub kind : AppKind
+  pub chosen : IsNumber rows (codes "kind") 1 3 (number_of kind)
+  pub answer : check_reply kind [] tx ≡ code
+  pub refused : code ≢ 0
+
+-- the word is neither `report` nor `ack`
+abbrev pub IsNoStatement : List Row → Text → Type 0
+IsNoStatement rows word = (first_of (codes "what") rows ≡ Some word) × ((what : What) → word ≡ word_of what → ⊥)
+
+-- the fault names an option of these, and what is wrong with it
+abbrev pub IsRightOf : List Row → UsageFault → Type 0
+IsRightOf rows (fault.CommandLine error) = ⊥
+IsRightOf rows (fault.Number option least most word) = IsNoNumber rows option.now least most word.now
+IsRightOf rows (fault.Neither option one other word) = IsNeither rows option.now one other word.now
+IsRightOf rows (fault.Seed word) = IsNoSeed rows word.now
+IsRightOf rows (fault.TooFew replicas faults) = AreTooFew rows replicas faults
+IsRightOf rows (fault.Spelling option why) = IsMisspelled rows option.now why
+IsRightOf rows (fault.NoTransaction option word) = IsNoTransaction rows option.now word.now
+IsRightOf rows (fault.Rejected option code word) = IsRejected rows option.now code word.now
+IsRightOf rows (fault.NamedFrames word) = ⊥
+IsRightOf rows (fault.NamedScenario word) = ⊥
+IsRightOf rows (fault.What word) = IsNoStatement rows word.now
+IsRightOf rows (fault.Missing option) = first_of option.now rows ≡ None
+IsRightOf rows fault.NoSubcommand = ⊥
+IsRightOf rows fault.NoMemory = ⊤
+
+-- none was found of the subcommands that the program has
+abbrev pub IsNoSubcommand : Option (Text × List Row) → Type 0
+IsNoSubcommand None = ⊤
+IsNoSubcommand (Some found) =
+    (found.0 ≢ codes "sign") × ((found.0 ≢ codes "deliver") × ((found.0 ≢ codes "simulate") × ((found.0 ≢ codes "cluster") × (found.0 ≢ codes "serve"))))
+
+-- the options of the subcommand that was found
+abbrev pub rows_in : Option (Text × List Row) → List Row
+rows_in None = []
+rows_in (Some found) = found.1
+
+-- the fault names an option of the subcommand that was found, or says that none was
+abbrev pub IsRightIn : Option (Text × List Row) → UsageFault → Type 0
+IsRightIn found fault.NoSubcommand = IsNoSubcommand found
+IsRightIn found e = IsRightOf (rows_in found) e
+
+-- the words are a command line of the program, and the fault is one of its subcommand's
+abbrev pub IsRightOption : List Text → UsageFault → Type 0
+IsRightOption words e = (kinds_of words ≡ []) × IsRightIn (subcommand_of abft_app words) e
+
+-- the fault is true of the words: clap answers an error of this kind to them, or they are a command line, and an option has this fault
+abbrev pub IsRightFault : List Text → UsageFault → Type 0
+IsRightFault words (fault.CommandLine error) = HasKind (kinds_of words) error
+IsRightFault words (fault.NamedFrames word) = IsAmong kind.UnknownArgument (kinds_of words) × IsOperand words (codes "deliver") word.now
+IsRightFault words (fault.NamedScenario word) = IsAmong kind.UnknownArgument (kinds_of words) × IsOperand words (codes "simulate") word.now
+IsRightFault words (fault.Number option least most word) = IsRightOption words (fault.Number option least most word)
+IsRightFault words (fault.Neither option one other word) = IsRightOption words (fault.Neither option one other word)
+IsRightFault words (fault.Seed word) = IsRightOption words (fault.Seed word)
+IsRightFault words (fault.TooFew replicas faults) = IsRightOption words (fault.TooFew replicas faults)
+IsRightFault words (fault.Spelling option why) = IsRightOption words (fault.Spelling option why)
+IsRightFault words (fault.NoTransaction option word) = IsRightOption words (fault.NoTransaction option word)
+IsRightFault words (fault.Rejected option code word) = IsRightOption words (fault.Rejected option code word)
+IsRightFault words (fault.What word) = IsRightOption words (fault.What word)
+IsRightFault words (fault.Missing option) = IsRightOption words (fault.Missing option)
+IsRightFault words fault.NoSubcommand = IsRightOption words fault.NoSubcommand
+IsRightFault words fault.NoMemory = ⊤
