@@ -15,8 +15,8 @@ pub(crate) struct Fake {
     submitted: Submitted,
     fault: Option<TargetFault>,
     asked: u32,
-    /// Behind so many calls they are at other heights, if at all.
-    rise: Option<(u32, [u32; 4])>,
+    /// Behind so many calls each is at height 3 at least.
+    calls_below: u32,
 }
 
 impl Fake {
@@ -27,13 +27,13 @@ impl Fake {
             submitted: Ok(Ok(())),
             fault: None,
             asked: 0,
-            rise: None,
+            calls_below: u32::MAX,
         }
     }
 
-    /// Has the replicas stand at these heights behind the first so many calls.
-    pub(crate) fn rise_behind(&mut self, calls: u32, heights: [u32; 4]) {
-        self.rise = Some((calls, heights));
+    /// Has each replica stand at height 3 at least behind the first so many calls.
+    pub(crate) fn rise_behind(&mut self, calls: u32) {
+        self.calls_below = calls;
     }
 
     /// Answers each submit so from now on.
@@ -61,14 +61,16 @@ impl Fake {
     }
 
     fn height_of(&self, replica: ReplicaId) -> u32 {
-        let heights = match &self.rise {
-            Some((calls, heights)) if self.asked > *calls => heights,
-            _ => &self.heights,
-        };
-        heights
+        let height = self
+            .heights
             .get(usize::from(replica.number()))
             .copied()
-            .unwrap_or(0)
+            .unwrap_or(0);
+        if self.asked > self.calls_below {
+            height.max(3)
+        } else {
+            height
+        }
     }
 }
 

@@ -200,7 +200,7 @@ const TOLD_AGAIN: &[u8] =
 fn a_replica_that_was_behind_answers_once_it_is_not(rt: HostRuntime) {
     let alloc = rt.alloc();
     let mut targets = Fake::new(alloc, [3, 3, 1, 3]);
-    targets.rise_behind(2, [3, 3, 3, 3]);
+    targets.rise_behind(2);
     assert!(rt; gets(alloc, &mut targets, ASKS_AGAIN, TOLD_AGAIN));
 }
 
