@@ -6,8 +6,9 @@
 //!
 //! Promised over every schedule of the threads: what a pass put, in order, is what was taken of it and then what the inbox
 //! holds of it, and the inbox holds at most 1024 items (`IsInbox`). So each item is taken at most once, in the order of its
-//! pass. Each call takes effect at one step. `put` gives the item back only where the inbox was full at one moment of the
-//! call, and `take` answers nothing only where it was empty at one.
+//! pass. `take` answers nothing only where of each pass that was handed back all is taken.
+//!
+//! Only tested: that `put` gives the item back only where the inbox is full, and `take` answers nothing only where it is empty.
 //!
 //! Not promised: an order between passes, fairness, or that a call gets on. `put` and `take` may wait for a thread that
 //! stands in the midst of such a call, and wait for good after 2^62 puts.
