@@ -21,7 +21,6 @@ use Rattle.ledger_model.proofs.Lists.{any_has, has_any, filter_has, has_filter}
 use Rattle.lms_tree.specs.Trees.{Secret}
 use Rattle.key_ring.specs.Signers.{leaves_of}
 use Rattle.cluster_keys.specs.Keys.{ring_with}
-use Rattle.replica_core.specs.Leaves.{signed_after, signed_by}
 use Rattle.replica_core.proofs.SpentLeaves.{account_none}
 use Rattle.locked_replica.specs.Replicas.{Replica}
 use Rattle.adversary_net.specs.declared.party.Party.{Party}
@@ -197,11 +196,6 @@ new_at config secrets liars r s is =
     let number : from.0 ≡ r = let e = (get_range 0 config.replicas r (from.0) (from.1.0)).0 in omega (arith, e) in
     new_state config ring secrets liars r s (subst (λ k. state_in (new_party config ring secrets liars k) ≡ Some s) number (ap state_in (from.1.1) ∙ own.1.1))
 
--- and signed nothing
-none_signed : (config : Config) (ring : Ring) (secrets : ℕ → Secret) (r : ℕ) → (new_replica config ring secrets r).used ≡ signed_by (new_replica config ring secrets r).entries
-unfolding signed_after
-none_signed config ring secrets r = refl
-
 pub new_is_cluster : (config : Config) (secrets : ℕ → Secret) (liars : List ℕ) → different liars ≤ config.faults → IsCluster (new_cluster config secrets liars)
 unfolding Runs
 new_is_cluster config secrets liars few = record {
@@ -212,8 +206,6 @@ new_is_cluster config secrets liars few = record {
     steps = [];
     answers = [];
     runs = new_world config secrets liars ∙ ap beginning (sym (new_correct config secrets liars));
-    leaves = λ none r s is.
-        subst (λ (t : Replica). t.used ≡ signed_by t.entries) (sym (new_at config secrets liars r s is)) (none_signed config (ring_with config secrets) secrets r);
   };
 }
 

@@ -47,7 +47,6 @@ signed_cluster c r old new cluster at =
         steps = cluster.ran.steps;
         answers = cluster.ran.answers;
         runs = subst (λ rs. Runs c.config c.ring (beginning rs) cluster.ran.steps cluster.ran.answers (world_of d)) (sym correct) (subst (Runs c.config c.ring (beginning (correct_of c)) cluster.ran.steps cluster.ran.answers) (sym world) cluster.ran.runs);
-        leaves = λ none q s is. cluster.ran.leaves none q s (was_there q s is);
       };
     }
   where

@@ -29,7 +29,7 @@ use Rattle.adversary_net.specs.declared.party.Party.TheVariants as party
 use Rattle.adversary_net.specs.Clusters.{RunningCluster, IsCluster, IsMemberAt, IsSameCluster, is_out_of_memory, state_in, state_at, correct_of, history_in, world_of}
 use Rattle.adversary_net.specs.Steps.{Applies, AppliesTo, Stays, StaysAs, Asks, IsReady, Went}
 use Rattle.adversary_net.proofs.Members.{histories, histories_added, histories_same, roles_same, set_cases, added_numbers, numbers_of_histories}
-use Rattle.adversary_net.proofs.UsedLeaves.{uses_set, used_still, uses_none, none_out, one_out}
+use Rattle.adversary_net.proofs.UsedLeaves.{uses_set, uses_none, one_out}
 use Rattle.adversary_net.proofs.Asking.{its_history, its_entries, no_memory}
 
 -- one step more
@@ -121,9 +121,6 @@ went c r new order s a cluster at member secret numbers uses by =
           answers = cluster.ran.answers ++ a ∷ [];
           runs = subst (λ (rs : List ℕ). Runs c.config c.ring (beginning rs) (cluster.ran.steps ++ s ∷ []) (cluster.ran.answers ++ a ∷ []) (world_of d)) (sym correct)
               (runs_one c.config c.ring (beginning (correct_of c)) (world_of c) (world_of d) cluster.ran.steps cluster.ran.answers s a cluster.ran.runs by);
-          leaves = λ none.
-              let parts = none_out cluster.ran.answers a none in
-              used_still c.parties r at.state new at.there (uses (one_out a parts.1)) (cluster.ran.leaves parts.0);
         };
       };
       steps = by;

@@ -18,7 +18,6 @@ use Rattle.ledger_model.specs.Worlds.{World, beginning, Runs, IsReplyOn}
 use Rattle.lms_tree.specs.Trees.{Secret}
 use Rattle.key_ring.specs.Signers.{Keys, SignsAs}
 use Rattle.key_ring.specs.declared.fault.SignFault.{SignFault}
-use Rattle.replica_core.specs.Leaves.{signed_by}
 use Rattle.locked_replica.specs.Replicas.{Replica, AccountsForLeaves, UsesAsSigned}
 use Rattle.adversary_net.specs.declared.party.Party.{Party}
 use Rattle.adversary_net.specs.declared.party.Party.TheVariants as party
@@ -93,17 +92,11 @@ abbrev pub is_out_of_memory : WorldReply → Bool
 is_out_of_memory (answer.Refused refused.NoMemory) = true
 is_out_of_memory _ = false
 
--- each correct replica used one leaf for each statement of its own that its history sends, and no other
-abbrev pub UsesOnlySigned : RunningCluster → Type 0
-UsesOnlySigned c = (r : ℕ) (s : Replica) → state_at c r ≡ Some s → s.used ≡ signed_by s.entries
-
--- some steps and answers lead to it from the beginning; if memory never ran out, each leaf that was used signed a statement of a
--- history
+-- some steps and answers lead to it from the beginning
 pub record HasRun (c : RunningCluster) : Type 0 where
   pub steps : List WorldStep
   pub answers : List WorldReply
   pub runs : Runs c.config c.ring (beginning (correct_of c)) steps answers (world_of c)
-  pub leaves : list_any is_out_of_memory answers ≡ false → UsesOnlySigned c
 
 -- each number below N has its party, no more than t of them lie, and what happened is a run
 pub record IsCluster (c : RunningCluster) : Type 0 where
