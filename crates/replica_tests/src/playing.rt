@@ -18,7 +18,11 @@ use std::alloc::{AllocError, Global};
 use std::hash::RandomState;
 
 /// So many applications of a kind, each in its opening state.
-pub(crate) fn new_apps(alloc: Global, kind: AppKind, count: usize) -> Result<Vec<AnyKind>, AllocError>
+pub(crate) fn new_apps(
+    alloc: Global,
+    kind: AppKind,
+    count: usize,
+) -> Result<Vec<AnyKind>, AllocError>
     ensures count { IfOk result (λ apps. vec_len apps ≡ count) }
     ensures opening { IfOk result (λ apps. All (λ app. machine_of app ≡ run kind []) apps.items) }
 {

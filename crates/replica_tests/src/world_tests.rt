@@ -6,9 +6,7 @@ use app_kinds::AnyKind;
 use bytes::Bytes;
 use cluster_keys::Cluster;
 use history_bytes::history_bytes;
-use ledger_model::{
-    AppKind, Config, Height, Key, ReplicaId, WorldRefusal, WorldReply, WorldStep,
-};
+use ledger_model::{AppKind, Config, Height, Key, ReplicaId, WorldRefusal, WorldReply, WorldStep};
 use lm_ots::{Params, TreeHeight, Width};
 use std::alloc::{AllocError, Global};
 use std::hash::RandomState;
@@ -71,13 +69,26 @@ fn key_a(alloc: Global) -> Result<Key, Fault> {
 fn steps(alloc: Global) -> Result<Vec<WorldStep>, Fault> {
     let key = key_a(alloc)?;
     let steps = vec![in alloc;
-        submit(0, b"a=1"), propose(0), propose(1), propose(2),
-        round_end(0), round_end(1), round_end(2),
-        pass(0, 0, 1), pass(0, 0, 1), pass(0, 1, 1), pass(3, 0, 1), pass(0, 0, 3), pass(0, 0, 4),
-        submit(3, b"b=1"), round_end(9),
+        submit(0, b"a=1"),
+        propose(0),
+        propose(1),
+        propose(2),
+        round_end(0),
+        round_end(1),
+        round_end(2),
+        pass(0, 0, 1),
+        pass(0, 0, 1),
+        pass(0, 1, 1),
+        pass(3, 0, 1),
+        pass(0, 0, 3),
+        pass(0, 0, 4),
+        submit(3, b"b=1"),
+        round_end(9),
         WorldStep::Execute(ReplicaId::new(0)),
         WorldStep::Query(ReplicaId::new(0), key, Height::new(0)),
-        inject(2), inject(3), submit(0, b"")
+        inject(2),
+        inject(3),
+        submit(0, b""),
     ];
     match steps {
         Ok(steps) => Ok(steps),
@@ -90,7 +101,9 @@ fn done(replica: u8, entry: usize) -> WorldReply {
 }
 
 const NO_FRAME: WorldReply = WorldReply::Refused(WorldRefusal::NoSuchFrame);
+
 const NO_REPLICA: WorldReply = WorldReply::Refused(WorldRefusal::NoSuchReplica);
+
 const LIAR: WorldReply = WorldReply::Refused(WorldRefusal::Liar);
 
 /// What the steps are answered, in their order.
@@ -138,7 +151,11 @@ fn run_one_by_one(
 }
 
 fn order_numbers(alloc: Global, world: &World<AnyKind>) -> Result<Vec<u8>, AllocError> {
-    world.order().iter().map(|replica| replica.number()).collect(alloc)
+    world
+        .order()
+        .iter()
+        .map(|replica| replica.number())
+        .collect(alloc)
 }
 
 /// The histories as bytes, one after the other.
@@ -162,8 +179,14 @@ fn a_list_is_run_as_its_steps_one_by_one(rt: HostRuntime) -> Result<(), Fail> {
     let found_one_by_one = run_one_by_one(alloc, &mut one_by_one, &steps)?;
     assert_eq!(rt; found.as_slice(), wanted.as_slice());
     assert_eq!(rt; found_one_by_one.as_slice(), wanted.as_slice());
-    assert_eq!(rt; order_numbers(alloc, &at_once)?.as_slice(), ORDER.as_slice());
-    assert_eq!(rt; order_numbers(alloc, &one_by_one)?.as_slice(), ORDER.as_slice());
+    assert_eq!(rt;
+        order_numbers(alloc, &at_once)?.as_slice(),
+        ORDER.as_slice()
+    );
+    assert_eq!(rt;
+        order_numbers(alloc, &one_by_one)?.as_slice(),
+        ORDER.as_slice()
+    );
     let spelled = histories(alloc, &at_once)?;
     assert_eq!(rt; spelled.len(), 3);
     assert_eq!(rt; spelled, histories(alloc, &one_by_one)?);
