@@ -33,7 +33,7 @@ class Reader:
 
 
 def read_frame(reader):
-    """A frame: u32 length, and so many bytes."""
+    """A frame: its length as u32, and its bytes."""
     return reader.take(reader.number(4))
 
 
@@ -79,7 +79,7 @@ def read_round_end(reader, reports):
 
 
 def read_reply(reader, kind, reports):
-    """What is told of a reply: its number, and of those that happened what they have."""
+    """The number of a reply, and of an event that happened what its reply contains."""
     assert reader.number(1) == kind, "the reply is to another event"
     why = reader.number(1)
     if why != 0:

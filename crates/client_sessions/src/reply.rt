@@ -216,7 +216,7 @@ impl Reply {
         }
     }
 
-    /// Sends it, with its length in front. After an error a beginning of that was written.
+    /// Sends it, with its length in front. After an error a prefix of that was written.
     pub(crate) fn send<W: SessionWriter>(&mut self, output: &mut W) -> io::Result<()>
         ensures written { Writes result (W.contents output.old) (W.contents output.new) (framed self.old) }
         ensures short { IsBody self.old }

@@ -25,7 +25,7 @@ pub(crate) fn fill<R: SessionReader>(input: &mut R, buffer: &mut [u8]) -> io::Re
     Ok(count)
 }
 
-/// Writes all of the bytes. After an error a beginning of them was written.
+/// Writes all of the bytes. After an error a prefix of them was written.
 fn write_all<W: SessionWriter>(output: &mut W, bytes: &[u8]) -> io::Result<()>
     ensures written { Writes result (W.contents output.old) (W.contents output.new) bytes.now }
     ensures counted { W.failures output.new ≡ W.failures output.old + failures_in result }
@@ -38,7 +38,7 @@ fn write_all<W: SessionWriter>(output: &mut W, bytes: &[u8]) -> io::Result<()>
     Ok(())
 }
 
-/// Writes all of the bytes, and hands them on. After an error a beginning of them was written.
+/// Writes all of the bytes, and hands them on. After an error a prefix of them was written.
 pub(crate) fn send<W: SessionWriter>(output: &mut W, bytes: &[u8]) -> io::Result<()>
     ensures written { Writes result (W.contents output.old) (W.contents output.new) bytes.now }
     ensures counted { W.failures output.new ≡ W.failures output.old + failures_in result }

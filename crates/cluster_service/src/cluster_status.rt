@@ -1,4 +1,4 @@
-//! How the replicas of a running cluster stand, and what of that is still to be told.
+//! How the replicas of a running cluster stand, and the notices that the operator hasn't got yet.
 use crate::notice::Notice;
 use ledger_model::ReplicaId;
 use replica_turns::ReplicaStatus;
@@ -14,28 +14,28 @@ const UNKNOWN: ReplicaStatus = ReplicaStatus {
     is_mute: false,
 };
 
-/// Each of so many replicas, of which nothing is known.
+/// The statuses of `replicas` replicas of which nothing is known.
 pub(crate) fn unknown(alloc: Global, replicas: u8) -> Result<Vec<ReplicaStatus>, AllocError> {
     Vec::from_elem(alloc, UNKNOWN, usize::from(replicas))
 }
 
-/// How the replicas of a running cluster stand, and what of that is still to be told.
+/// How the replicas of a running cluster stand, and the notices that the operator hasn't got yet.
 #[derive(Drop)]
 pub(crate) struct ClusterStatus {
     /// By number.
     replicas: Vec<ReplicaStatus>,
-    /// What is not told, the oldest first: no more than a few for each block and each replica.
+    /// The notices that the reporter hasn't taken, the oldest first: a few for each block and each replica.
     notices: Vec<Notice>,
     /// The greatest height whose block has had its notice.
     height: u32,
-    /// Whether blocks, mute replicas and histories that are nearly full have notices. If not, each round of replica 0 is told.
+    /// Whether blocks, mute replicas and nearly full histories get notices. If not, each round of replica 0 is news.
     has_log: bool,
-    /// Whether no more will come.
+    /// Whether no more notices will come.
     is_over: bool,
 }
 
 impl ClusterStatus {
-    /// A cluster of so many replicas that hasn't begun.
+    /// A cluster of `replicas` replicas that hasn't begun.
     pub(crate) fn new(alloc: Global, replicas: u8, has_log: bool) -> Result<Self, AllocError> {
         Ok(ClusterStatus {
             replicas: unknown(alloc, replicas)?,
@@ -46,17 +46,17 @@ impl ClusterStatus {
         })
     }
 
-    /// Adds a notice to what is to be told, where there is memory for it.
+    /// Adds a notice, if there is memory for it.
     pub(crate) fn add(&mut self, notice: Notice) {
         let _ = self.notices.push(notice);
     }
 
-    /// Nothing comes behind what was added.
+    /// No notice will be added any more.
     pub(crate) fn close(&mut self) {
         self.is_over = true;
     }
 
-    /// Adds a notice for each block that was run for the first time.
+    /// Adds a notice for each block that this replica is the first to run.
     fn add_blocks(&mut self, replica: ReplicaId, status: &ReplicaStatus) {
         for height in self.height..status.height {
             self.add(Notice::Block {
@@ -68,7 +68,7 @@ impl ClusterStatus {
         self.height = self.height.max(status.height);
     }
 
-    /// Adds the notices of what happened to a replica, which stood so before.
+    /// Adds the notices of what changed for a replica since `before`.
     fn add_changes(&mut self, replica: ReplicaId, before: &ReplicaStatus, after: &ReplicaStatus) {
         self.add_blocks(replica, after);
         if after.is_mute && !before.is_mute {
@@ -86,7 +86,7 @@ impl ClusterStatus {
         }
     }
 
-    /// Notes how a replica stands. True where something is to be told.
+    /// Stores how a replica stands. Returns whether there is news for the operator.
     pub(crate) fn note(&mut self, replica: ReplicaId, status: ReplicaStatus) -> bool {
         let Some(known) = self.replicas.get_mut(usize::from(replica.number())) else {
             return false;
@@ -99,8 +99,8 @@ impl ClusterStatus {
         !self.notices.is_empty()
     }
 
-    /// Hands over the notices that are not told, in place of these, and how each replica stands. True where nothing comes
-    /// behind them.
+    /// Moves the waiting notices into `notices`, and copies the status of each replica. Returns whether no more notices will
+    /// come.
     pub(crate) fn hand_over(
         &mut self,
         notices: &mut Vec<Notice>,

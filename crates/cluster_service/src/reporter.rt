@@ -196,8 +196,8 @@ impl<P: Write + Drop> Reporter<P> {
     }
 }
 
-/// What is shared with the reporter of a cluster of `replicas` replicas, which tells its watcher from now on, in a thread that
-/// nobody waits for. Without a watcher nothing is told.
+/// Starts the reporter of a cluster of `replicas` replicas in a detached thread, and returns what it shares with the cluster. Without a
+/// watcher there is no reporter.
 pub(crate) fn start_reporter<R, P>(
     rt: &R,
     alloc: Global,

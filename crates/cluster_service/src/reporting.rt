@@ -1,4 +1,4 @@
-//! What the workers of a cluster, and who runs it, share with the thread that tells how it stands.
+//! What the workers of a cluster, and whoever runs it, share with the thread that writes to the operator.
 use crate::cluster_status::ClusterStatus;
 use crate::notice::Notice;
 use cluster_workers::{Bell, TurnGate};
@@ -8,24 +8,24 @@ use std::alloc::{AllocError, Global};
 use std::sync::{Arc, Mutex, Wait};
 use std::time::Duration;
 
-/// The most milliseconds for which the end of a cluster waits until all is told.
+/// The most milliseconds that the end of a cluster waits until the reporter has written everything.
 const LAST_MS: u64 = 1000;
 
-/// How a cluster stands, and the bells of those who wait for news of it. No lock is held while something is written, so that an
-/// operator who reads nothing holds up nobody.
+/// How a cluster stands, and the bells that wake the reporter and the end of the cluster. Nobody holds the lock during a write, so an
+/// operator who reads nothing blocks no worker.
 #[derive(Drop)]
 pub(crate) struct SharedStatus {
     status: Mutex<ClusterStatus>,
-    /// Whether anybody is told.
+    /// Whether there is a reporter.
     has_reader: bool,
-    /// Rung where something is to be told.
+    /// Rung when there is news.
     news: Bell,
-    /// Rung when all is told.
+    /// Rung when the reporter has written everything.
     end: Bell,
 }
 
 impl SharedStatus {
-    /// Of a cluster of so many replicas that hasn't begun.
+    /// The status of a cluster of `replicas` replicas that hasn't begun.
     pub(crate) fn new(
         alloc: Global,
         replicas: u8,
@@ -40,7 +40,7 @@ impl SharedStatus {
         })
     }
 
-    /// Has a notice told, if anybody is told.
+    /// Passes a notice to the reporter, if there is one.
     pub(crate) fn tell<R: Wait>(&self, rt: &R, notice: Notice) {
         if self.has_reader {
             self.status.lock(rt).add(notice);
@@ -48,14 +48,14 @@ impl SharedStatus {
         }
     }
 
-    /// Notes how a replica stands.
+    /// Stores how a replica stands.
     fn note<R: Wait>(&self, rt: &R, replica: ReplicaId, status: ReplicaStatus) {
         if self.has_reader && self.status.lock(rt).note(replica, status) {
             self.news.ring();
         }
     }
 
-    /// Nothing more will be told. Waits until all is, at most for a second.
+    /// Ends the reporter. Waits until it has written everything, at most for a second.
     pub(crate) fn close<R: Wait>(&self, rt: &R) {
         if self.has_reader {
             self.status.lock(rt).close();
@@ -64,22 +64,22 @@ impl SharedStatus {
         }
     }
 
-    /// All is told.
+    /// The reporter has written everything.
     pub(crate) fn end(&self) {
         self.end.ring();
     }
 
-    /// How often there was news, modulo 2^32.
+    /// How many times there was news, modulo 2^32.
     pub(crate) fn news(&self) -> u32 {
         self.news.rings()
     }
 
-    /// Sleeps until there is more news than so often, at most so long.
+    /// Sleeps until the count of news differs from `news`, at most for `most`.
     pub(crate) fn sleep<R: Wait>(&self, rt: &R, news: u32, most: Duration) {
         self.news.sleep(rt, news, most);
     }
 
-    /// Hands over what is not told yet ([`ClusterStatus::hand_over`]).
+    /// Moves out the waiting notices ([`ClusterStatus::hand_over`]).
     pub(crate) fn hand_over<R: Wait>(
         &self,
         rt: &R,
@@ -90,7 +90,7 @@ impl SharedStatus {
     }
 }
 
-/// What notes after each turn of a replica how it stands.
+/// The gate that stores how a replica stands after each of its turns.
 #[derive(Drop)]
 pub(crate) struct ReportingGate<'a, R: Wait> {
     rt: &'a R,
@@ -102,12 +102,12 @@ impl<'a, R: Wait> ReportingGate<'a, R> {
         ReportingGate { rt, shared }
     }
 
-    /// Has a notice told.
+    /// Passes a notice to the reporter.
     pub(crate) fn tell(&self, notice: Notice) {
         self.shared.tell(self.rt, notice);
     }
 
-    /// Nothing more will be told. Waits until all is, at most for a second.
+    /// Ends the reporter. Waits until it has written everything, at most for a second.
     pub(crate) fn close(&self) {
         self.shared.close(self.rt);
     }

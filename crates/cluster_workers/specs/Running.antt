@@ -8,7 +8,7 @@ pub record Running : Type 0 where
   pub replicas : ℕ
   pub board : BoardId
 
--- the seats of the replicas from this one on, so many, by number: nothing was published through them
+-- the seats of `count` replicas from `first` on, by number: nothing was published through them
 abbrev pub AreDealt : BoardId → ℕ → ℕ → List Writer → Type 0
 AreDealt board first count seats = seats ≡ map (λ r. new_writer board r) (range_with_len first count)
 
@@ -17,6 +17,6 @@ pub record WorkerView : Type 0 where
   pub replica : ℕ
   pub rounds : ℕ
 
--- a worker for each of so many replicas, by number
+-- a worker for each of n replicas, by number
 abbrev pub all_workers : ℕ → ℕ → List WorkerView
 all_workers replicas rounds = map (λ r. record { replica = r; rounds = rounds }) (range_with_len 0 replicas)

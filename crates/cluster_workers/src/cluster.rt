@@ -58,7 +58,7 @@ fn lock_all<A: Application>(
     Ok(replicas)
 }
 
-/// The workers of these replicas, by number, whose seats of the board are given in the same order. Each ends so many rounds.
+/// The workers of these replicas, by number. The seats of the board are in the same order. Each worker ends `rounds` rounds.
 fn workers_of<A: Application>(
     alloc: Global,
     board: &Arc<Board>,

@@ -15,7 +15,7 @@ pub(crate) struct Fake {
     submitted: Submitted,
     fault: Option<TargetFault>,
     asked: u32,
-    /// Behind so many calls each is at height 3 at least.
+    /// After this number of calls each replica is at height 3 at least.
     calls_below: u32,
 }
 
@@ -31,7 +31,7 @@ impl Fake {
         }
     }
 
-    /// Has each replica stand at height 3 at least behind the first so many calls.
+    /// Lets each replica be at height 3 at least after the first `calls` calls.
     pub(crate) fn rise_behind(&mut self, calls: u32) {
         self.calls_below = calls;
     }
