@@ -205,9 +205,11 @@ Usage: abft cluster [OPTIONS]
 For more information, try '--help'." cluster --client-entries 1
 
 # Streams that fail.
-full='error: No space left on device (os error 28)'$'\n'
-closed='error: Bad file descriptor (os error 9)'$'\n'
-gone='error: Broken pipe (os error 32)'$'\n'
+full='error: standard output: No space left on device (os error 28)'$'\n'
+closed='error: standard output: Bad file descriptor (os error 9)'$'\n'
+no_input='error: standard input: Bad file descriptor (os error 9)'$'\n'
+folder='error: standard input: Is a directory (os error 21)'$'\n'
+gone='error: standard output: Broken pipe (os error 32)'$'\n'
 faults 'a frame to a full disk' 3 "$full" "$report >/dev/full"
 faults 'a line to a full disk' 3 "$full" "$report | $deliver >/dev/full"
 faults 'help to a full disk' 3 "$full" "'$abft' --help >/dev/full"
@@ -215,8 +217,8 @@ faults 'the version to a full disk' 3 "$full" "'$abft' --version >/dev/full"
 faults 'a frame to a closed output' 3 "$closed" "$report >&-"
 faults 'a line to a closed output' 3 "$closed" "$report | $deliver >&-"
 faults 'help to a closed output' 3 "$closed" "'$abft' sign --help >&-"
-faults 'a closed input' 3 "$closed" "$deliver <&-"
-faults 'an input that is a folder' 3 'error: Is a directory (os error 21)'$'\n' "$deliver <."
+faults 'a closed input' 3 "$no_input" "$deliver <&-"
+faults 'an input that is a folder' 3 "$folder" "$deliver <."
 faults 'a reader that is gone' 3 "$gone" "(sleep 0.3; $report) | true"
 faults 'a reader of help that is gone' 3 "$gone" "(sleep 0.3; '$abft' --help) | true"
 runs 'a fault to a closed error stream' 2 '' "$report --n 3 2>&-"
@@ -452,9 +454,12 @@ printf 'the seed is the default one, which everybody knows: anybody can forge\nt
 check 'what its operator is told' 0 "'$abft' cluster --rounds 0"
 printf 'the cluster was asked to stop\n' >"$room/wanted-err"
 check 'a cluster whose input ends' 0 "'$abft' cluster --seed $ones --rounds 4000000000 --stop-at-eof </dev/null"
-faults 'an input that is a directory' 3 $'error: Is a directory (os error 21)\n' "'$abft' cluster --rounds 0 --stop-at-eof </"
-faults 'an input that is closed' 3 $'error: Bad file descriptor (os error 9)\n' "'$abft' cluster --rounds 0 --stop-at-eof <&-"
-faults 'a standard error that is closed' 3 '' "'$abft' serve --quiet --rounds 0 2>&-"
+faults 'an input of a cluster that is a folder' 3 "$folder" "'$abft' cluster --rounds 0 --stop-at-eof </"
+faults 'an input of a cluster that is closed' 3 "$no_input" "'$abft' cluster --rounds 0 --stop-at-eof <&-"
+faults 'an output of a cluster that is closed' 3 "$closed" "timeout 60 '$abft' cluster --rounds 4000000000 >&-"
+faults 'an output of a server that is closed' 3 "$closed" "timeout 60 '$abft' serve --quiet >&-"
+faults 'an error stream that is closed' 3 '' "'$abft' serve --quiet --rounds 0 2>&-"
+runs 'an error stream to a full disk' 0 "$none" "'$abft' cluster --rounds 0 2>/dev/full"
 faults 'no memory for threads' 3 $'error: a thread could not be made\n' \
     "ulimit -v 24000; timeout 60 '$abft' cluster --quiet --rounds 4000000000"
 # A server that the end of its input stops. It opens heights until its clients are done.
@@ -479,6 +484,12 @@ descriptors: 40 answered; 4 lines, status 0
 last session: refused; 4 lines, status 0
 stop: idle client ended; 4 lines, status 0
 unread: commits; 4 lines, status 0
+unread fault: status 3
+unread datagrams: status 0
+stopped terminal: status 0
+terminal kinds: xterm erased, dumb lines, none lines
+background: status 0
+zeros: rests
 ' "tests/live_limits.py '$abft'"
 exec 4>&-
 cat <&3 >"$room/served"

@@ -4,11 +4,13 @@ its name, and what came. Three are run at once; without names those that the gat
 import concurrent.futures
 import fcntl
 import os
+import pty
 import resource
 import socket
 import struct
 import subprocess
 import sys
+import termios
 import time
 
 ABFT = sys.argv[1]
@@ -17,12 +19,12 @@ ABFT = sys.argv[1]
 class Server:
     """A running `abft serve`, whose standard input stays open."""
 
-    def __init__(self, *words, files=None, errors=subprocess.DEVNULL):
+    def __init__(self, *words, files=None, errors=subprocess.DEVNULL, input=subprocess.PIPE):
         def limit():
             if files is not None:
                 resource.setrlimit(resource.RLIMIT_NOFILE, (files, files))
 
-        self.process = subprocess.Popen([ABFT, "serve", *words], stdin=subprocess.PIPE, stdout=subprocess.PIPE, stderr=errors,
+        self.process = subprocess.Popen([ABFT, "serve", *words], stdin=input, stdout=subprocess.PIPE, stderr=errors,
                                         preexec_fn=limit)
         self.port = int(self.process.stdout.readline().split()[1])
 
@@ -179,10 +181,26 @@ def stop():
     return "idle client ended; " + told if session.stream.recv(1) == b"" else told
 
 
-def unread():
-    """Standard error is a full pipe that nobody reads: the cluster goes on, and ends when it is asked to."""
+def full_pipe():
+    """The ends of a pipe that takes no byte more."""
     reader, writer = os.pipe()
     os.write(writer, b"x" * fcntl.fcntl(writer, fcntl.F_SETPIPE_SZ, 4096))
+    return reader, writer
+
+
+def quiet_status(errors, output=subprocess.DEVNULL):
+    """How a quiet cluster of no rounds ends beside this standard error."""
+    process = subprocess.Popen([ABFT, "cluster", "--quiet", "--rounds", "0"], stdin=subprocess.DEVNULL, stdout=output, stderr=errors)
+    try:
+        return f"status {process.wait(20)}"
+    except subprocess.TimeoutExpired:
+        process.kill()
+        return "doesn't end"
+
+
+def unread():
+    """Standard error is a full pipe that nobody reads: the cluster goes on, and ends when it is asked to."""
+    reader, writer = full_pipe()
     server = Server("--rounds", "4000000000", "--base-ms", "100", "--stop-at-eof", errors=writer)
     os.close(writer)
     session = server.connect()
@@ -194,6 +212,87 @@ def unread():
     told += "; " + server.ends(30)[0]
     os.close(reader)
     return told
+
+
+def unread_fault():
+    """The text of the last fault meets a full pipe: the process ends with its status."""
+    reader, writer = full_pipe()
+    with open("/dev/full", "wb") as full:
+        told = quiet_status(writer, full)
+    os.close(writer)
+    os.close(reader)
+    return told
+
+
+def unread_datagrams():
+    """Standard error is a socket that takes no datagram more, which holds up even a write of no byte."""
+    reader, writer = socket.socketpair(socket.AF_UNIX, socket.SOCK_DGRAM)
+    writer.setblocking(False)
+    try:
+        while True:
+            writer.send(b"x")
+    except BlockingIOError:
+        writer.setblocking(True)
+    told = quiet_status(writer)
+    reader.close()
+    return told
+
+
+def stopped_terminal():
+    """Standard error is a stopped terminal, which another process waits to write to."""
+    master, terminal = pty.openpty()
+    termios.tcflow(terminal, termios.TCOOFF)
+    other = subprocess.Popen(["echo", "waits"], stdout=terminal)
+    time.sleep(0.3)
+    told = quiet_status(terminal)
+    other.kill()
+    other.wait()
+    os.close(terminal)
+    os.close(master)
+    return told
+
+
+def terminal_kinds():
+    """Which kinds of terminals get a line of progress that is erased, and which get lines."""
+    told = []
+    for kind in ["xterm", "dumb", ""]:
+        master, terminal = pty.openpty()
+        subprocess.run([ABFT, "cluster", "--rounds", "0"], stdin=subprocess.DEVNULL, stdout=subprocess.DEVNULL, stderr=terminal,
+                       env={"TERM": kind} if kind else {}, timeout=20)
+        is_erased = b"\x1b[K" in os.read(master, 4096)
+        told.append(f"{kind or 'none'} {'erased' if is_erased else 'lines'}")
+        os.close(terminal)
+        os.close(master)
+    return ", ".join(told)
+
+
+def background():
+    """A job in the background of a terminal that stops such jobs where they write: a quiet one isn't stopped."""
+    child, terminal = pty.fork()
+    if child == 0:
+        line = 'stty tostop; "$0" cluster --quiet --rounds 0 </dev/null >/dev/null & wait $!; echo "status $?"; kill -9 $! 2>/dev/null'
+        os.execvp("bash", ["bash", "-mc", line, ABFT])
+    told = b""
+    try:
+        while piece := os.read(terminal, 1000):
+            told += piece
+    except OSError:  # the terminal has no other end any more
+        pass
+    os.waitpid(child, 0)
+    os.close(terminal)
+    return told.decode().splitlines()[-1]
+
+
+def zeros():
+    """Standard input has no end: it is read now and then."""
+    with open("/dev/zero", "rb") as endless:
+        server = Server("--rounds", "4000000000", "--stop-at-eof", input=endless)
+    time.sleep(1)
+    with open(f"/proc/{server.process.pid}/io") as counts:
+        count = int(counts.readline().split()[1])
+    server.process.kill()
+    server.process.wait()
+    return "rests" if count < 1 << 20 else f"read {count} bytes in a second"
 
 
 SCENARIOS = {
@@ -209,11 +308,17 @@ SCENARIOS = {
     "last session": last_session,
     "stop": stop,
     "unread": unread,
+    "unread fault": unread_fault,
+    "unread datagrams": unread_datagrams,
+    "stopped terminal": stopped_terminal,
+    "terminal kinds": terminal_kinds,
+    "background": background,
+    "zeros": zeros,
 }
 
 
 def main(names):
-    names = names or ["entries", "flood", "one full", "all full", "descriptors", "last session", "stop", "unread"]
+    names = names or [name for name in SCENARIOS if not name.startswith("full at")]
     with concurrent.futures.ThreadPoolExecutor(3) as pool:
         for name, told in zip(names, pool.map(lambda name: SCENARIOS[name](), names)):
             print(f"{name}: {told}")

@@ -1,10 +1,10 @@
-//! What the calls of an application are given and answer, beside its transactions.
+//! The arguments and results of an application's calls, apart from transactions.
 use thiserror::Error;
 
-/// What an application tells of itself (ABCI's `ResponseInfo`).
+/// What an application returns about itself (ABCI's `ResponseInfo`).
 #[derive(Clone, Copy, Debug, PartialEq, Eq)]
 pub struct Info {
-    /// How many blocks it committed (`last_block_height`).
+    /// The number of blocks that it committed (`last_block_height`).
     pub height: u32,
     /// The SHA-256 of the committed state's encoding (`last_block_app_hash`).
     pub hash: [u8; 32],
@@ -13,13 +13,13 @@ pub struct Info {
 /// Why a transaction is checked (ABCI's `CheckTxType`).
 #[derive(Clone, Copy, Debug, PartialEq, Eq)]
 pub enum CheckKind {
-    /// It is offered for the first time.
+    /// The transaction is new.
     New,
-    /// It is in the pool, and a block was committed since.
+    /// The transaction is in the pool, and a block was committed since.
     Recheck,
 }
 
-/// Why a query is not answered.
+/// Why a query gets no answer.
 #[derive(Clone, Copy, Debug, PartialEq, Eq, Error)]
 pub enum QueryFault {
     /// The height is neither 0 nor that of the last block.

@@ -1,3 +1,3 @@
 pub mod Behind
 pub mod Replying
-pub mod Running
+pub mod Blocks

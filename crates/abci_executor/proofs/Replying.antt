@@ -1,4 +1,4 @@
--- The reply to a query, by what an application answers to it.
+-- The reply to a query, from the application's answer.
 use Rattle.std.proofs.Common.{◌≡◌, ◌≢◌, ℕ, Bool, true, false, List, refl, ap}
 use Rattle.std.specs.Prelude.{◌==◌, not, ◌&&◌, Option, Ok, Err, IfSome}
 use Rattle.std.proofs.lemmas.Bool.{eqb-false, ne_eqb}
@@ -22,7 +22,8 @@ is_another : (h n : ℕ) → (h ≢ 0) × (h ≢ n) → (not (h == 0) && not (h 
 is_another h n other = rw (ne_eqb h 0 (other.0), ne_eqb h n (other.1)) refl
 
 -- a value that is held
-pub replies_held : (m : Machine) (key : List ℕ) (height told : ℕ) (value : Option (List ℕ)) → AnswersTo m key value → ((height ≢ 0) × (height ≢ m.height) → ⊥) → told ≡ m.height
+pub replies_held : (m : Machine) (key : List ℕ) (height told : ℕ) (value : Option (List ℕ)) → AnswersTo m key value
+    → ((height ≢ 0) × (height ≢ m.height) → ⊥) → told ≡ m.height
     → Replies (without_work m) key height (Ok (record { height = told; value = value }))
 unfolding run query_reply
 replies_held m key height told value answers held last =

@@ -1,4 +1,4 @@
--- What the calls on an application answer and leave, by the blocks that led to its committed state.
+-- The results of calls on an application, given the blocks that led to its committed state.
 use Rattle.std.specs.Prelude.{◌≡◌, ℕ, List, [], ◌∷◌, ◌++◌, length, Option, Some, None, Result, Ok, Err}
 use Rattle.ledger_model.specs.declared.reply.BlockResult.{BlockResult}
 use Rattle.ledger_model.specs.declared.reply.QueryAnswer.{QueryAnswer}
@@ -15,19 +15,19 @@ use Rattle.abci.specs.Meaning.{state_after}
 abbrev pub IsReached : Machine → Type 0
 IsReached m = (batches : List Value) × (m ≡ run m.kind batches)
 
--- the answer is that to one block more than led to the machine, and so is the machine that is left
+-- the result and the new machine are those of running one more block after the blocks that led to the old machine
 abbrev pub AddsBlock : Machine → Value → BlockResult → Machine → Type 0
 AddsBlock old batch block new =
     (batches : List Value) → old ≡ run old.kind batches
     → (block ≡ block_reply old.kind batches batch) × (new ≡ run old.kind (batches ++ batch ∷ []))
 
--- what is replied to a key at a height where these blocks led to the machine
+-- the reply to a query, given the blocks that led to the machine
 abbrev pub Replies : Machine → List ℕ → ℕ → Result QueryAnswer NotHeld → Type 0
 Replies m key height reply = (batches : List Value) → m ≡ run m.kind batches → reply ≡ query_reply m.kind batches key height
 
--- what is told of the blocks that led to the machine: how many they are, and the hash of what they led to
-abbrev pub TellsOfBlocks : Machine → Info → Type 0
-TellsOfBlocks m info =
+-- the number of the blocks that led to the machine, and the hash of the state that they led to
+abbrev pub ShowsBlocks : Machine → Info → Type 0
+ShowsBlocks m info =
     (batches : List Value) → m ≡ run m.kind batches → (info.height ≡ length batches) × (info.hash ≡ hash_of m.kind batches)
 
 -- the reply to a query, unless memory ran out
@@ -36,7 +36,7 @@ reply_of (Ok answer) = Some (Ok answer)
 reply_of (Err fault.NotHeld) = Some (Err (record {}))
 reply_of (Err fault.NoMemory) = None
 
--- the codes of transactions in the block that began, and the machine behind them, by the transactions before
+-- the codes of the block's transactions and the machine after them, given the transactions before
 abbrev pub DeliversAll : Machine → List (List ℕ) → List ℕ → Machine → Type 0
 DeliversAll old batch answered new =
     (txs : List (List ℕ)) → old.committed ≡ state_after old.kind txs

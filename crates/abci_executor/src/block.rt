@@ -8,10 +8,11 @@ use abci::Application;
 use ledger_model::{Batch, BlockResult, Codes, Height, Tx};
 use std::alloc::{AllocError, Global};
 
-/// Runs the next block: the calls of ABCI 0.17.0 in the order that it prescribes, and what they gave.
+/// Runs the next block: makes the calls of ABCI 0.17.0 in the order that it prescribes, and returns their results.
 ///
-/// Blocks led to the application's committed state, fewer than [`Height::MAX`]. An unfinished block is dropped. The only error is want
-/// of memory. It leaves the committed state and the height as they were, so that this block or another can be run.
+/// The application's committed state must be one that fewer than [`Height::MAX`] blocks led to. An unfinished block is
+/// dropped. The only error is allocation failure. It leaves the committed state and the height as they were, so that
+/// the caller can run this block or another.
 pub fn run_block<A: Application>(
     alloc: Global,
     app: &mut A,
@@ -34,7 +35,7 @@ pub fn run_block<A: Application>(
     })
 }
 
-/// DeliverTx for each transaction, in order. The codes go into `room`.
+/// DeliverTx for each transaction, in order. Pushes the codes to `room`.
 fn deliver_all<A: Application>(
     app: &mut A,
     transactions: &[Tx],

@@ -3,7 +3,7 @@ ghost use Rattle.std.specs.Prelude.{◌≡◌, ◌≢◌, ◌<◌, ◌↔◌, []
 ghost use Rattle.ledger_model.specs.Applications.{run};
 ghost use Rattle.ledger_model.specs.Limits.{max_height};
 ghost use Rattle.abci.specs.Meaning.{without_work};
-ghost use Rattle.abci_executor.specs.Blocks.{IsReached, AddsBlock, Replies, TellsOfBlocks, reply_of};
+ghost use Rattle.abci_executor.specs.Blocks.{IsReached, AddsBlock, Replies, ShowsBlocks, reply_of};
 
 use crate::run_block;
 use abci::{Application, Info, QueryFault};
@@ -12,10 +12,10 @@ use ledger_model::{Batch, BlockResult, Height, QueryAnswer};
 use std::alloc::{AllocError, Global};
 use std::marker::Model;
 
-/// An application, and the blocks that are run on it one after another.
+/// An application that runs one block after another.
 ///
-/// It is seen as the application's machine between blocks. Some blocks always led to that machine, and what each call answers
-/// and leaves is said by them.
+/// Contracts see the application's machine between blocks. Some blocks always led to that machine, and the contract of
+/// each call is in terms of those blocks.
 #[derive(Drop)]
 pub struct Executor<A: Application> {
     app: A,
@@ -34,7 +34,7 @@ impl<A: Application> Model for Executor<A> {
 }
 
 impl<A: Application> Executor<A> {
-    /// Starts an application that ran no block, by InitChain. The only error is want of memory.
+    /// Starts an application that has run no block, with InitChain. The only error is allocation failure.
     pub fn new(app: A) -> Result<Self, AllocError>
         requires { A.machine app ≡ run (A.machine app).kind [] }
         ensures { IfOk result (λ e. e ≡ run (A.machine app).kind []) }
@@ -44,9 +44,9 @@ impl<A: Application> Executor<A> {
         Ok(Executor { app })
     }
 
-    /// Runs the next block, of which there are at most [`Height::MAX`]; `height` tells how many were run.
+    /// Runs the next block. At most [`Height::MAX`] blocks can be run; `height` returns how many were.
     ///
-    /// The only error is want of memory. It leaves the executor as it was.
+    /// The only error is allocation failure. It leaves the executor as it was.
     pub fn execute(&mut self, alloc: Global, batch: &Batch) -> Result<BlockResult, AllocError>
         requires { self.old.height < max_height }
         ensures ok { IfOk result (λ block. AddsBlock self.old batch.now block self.new) }
@@ -55,9 +55,9 @@ impl<A: Application> Executor<A> {
         run_block(alloc, &mut self.app, batch)
     }
 
-    /// What the committed state holds under a key, at height 0 or the last block's, with the last block's height.
+    /// The value under a key in the committed state, with the last block's height. The height must be 0 or the last block's.
     ///
-    /// `NotHeld` comes exactly where the height is neither, and `NoMemory` where memory runs out.
+    /// `NotHeld` comes exactly if the height is neither; `NoMemory` comes if memory runs out.
     pub fn query(&self, key: &[u8], height: u32) -> Result<QueryAnswer, QueryFault>
         ensures reply { IfSome (reply_of result) (Replies self.now key.now height) }
         ensures not_held { IsErrOf result QueryFault.NotHeld ↔ (height ≢ 0) × (height ≢ self.now.height) }
@@ -69,19 +69,19 @@ impl<A: Application> Executor<A> {
         })
     }
 
-    /// How many blocks were run: the committed height.
+    /// The number of blocks that were run: the committed height.
     pub fn height(&self) -> u32
         ensures height { result ≡ self.now.height }
-        // Some blocks led to each executor.
+        // Some blocks led to the machine.
         ensures reached { IsReached self.now }
     {
         let info = self.app.info();
         info.height
     }
 
-    /// How many blocks were run, and the hash of the state.
+    /// The number of blocks that were run, and the hash of the state.
     pub fn info(&self) -> Info
-        ensures { TellsOfBlocks self.now result }
+        ensures { ShowsBlocks self.now result }
     {
         self.app.info()
     }
@@ -94,7 +94,7 @@ impl<A: Application> Executor<A> {
     }
 }
 
-/// What is held, as bytes that can be shared. The only fault is want of memory.
+/// The value as bytes that can be shared. The only fault is allocation failure.
 fn shared(held: Option<Vec<u8>>) -> Result<Option<Bytes>, QueryFault>
     ensures bytes { IfOk result (λ shared. shared ≡ option_map (λ v. v.items) held) }
     ensures fault { IfErr result (λ fault. fault ≡ QueryFault.NoMemory) }

@@ -1,7 +1,7 @@
 //! Runs blocks on an application, by ABCI's calls.
 //!
-//! [`run_block`] makes the calls of one block, and an [`Executor`] runs one block after another. What they answer and leave
-//! is said by the blocks that led to the application's committed state.
+//! [`run_block`] makes the calls of one block, and an [`Executor`] runs one block after another. Their contracts are in
+//! terms of the blocks that led to the application's committed state.
 #![tactic(auto)]
 
 mod block;

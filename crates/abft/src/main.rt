@@ -1,11 +1,18 @@
 //! The program `abft`: a Byzantine fault tolerant replicated ledger.
 #![tactic(auto)]
 
-use cluster_commands::{cluster, serve};
-use cluster_service::Watcher;
+use cluster_service::{SharedStatus, Watcher, cluster, serve, start_reporter};
 use program::{Outcome, finish, refuse_words, run};
-use std::io::{IsTerminal, Stderr};
+use program_streams::{ProgramFault, Resource, require_open};
+use settings::{ClusterSettings, ServeSettings};
+use std::alloc::Global;
+use std::io::{IsTerminal, Stderr, Stdin, Stdout};
+use std::net::{Net, TcpListener, TcpStream};
 use std::process::ExitCode;
+use std::random::RandomSource;
+use std::sync::{Arc, Wait};
+use std::thread::Threads;
+use std::time::Clock;
 use std::{env, io};
 
 fn main(rt: HostRuntime) -> ExitCode {
@@ -13,44 +20,95 @@ fn main(rt: HostRuntime) -> ExitCode {
     let mut faults = rt.stderr();
     let status = match run_host(&rt) {
         Ok(Outcome::Ended(status)) => status,
-        Ok(Outcome::Cluster(settings)) => {
-            let done = cluster(
-                &rt,
-                alloc,
-                &settings,
-                watcher(&rt),
-                rt.stdin(),
-                &mut rt.stdout(),
-            );
-            finish(alloc, done.map(|_| 0u8), &mut faults)
-        }
-        Ok(Outcome::Serve(settings)) => {
-            let done = serve(
-                &rt,
-                alloc,
-                &settings,
-                watcher(&rt),
-                rt.stdin(),
-                &mut rt.stdout(),
-            );
-            finish(alloc, done.map(|_| 0u8), &mut faults)
-        }
+        Ok(Outcome::Cluster(settings)) => match report(&rt, alloc, watcher(&rt), &settings) {
+            Ok(status) => {
+                let done = run_cluster(&rt, alloc, &settings, &status, rt.stdin(), rt.stdout());
+                status.close(&rt, done)
+            }
+            Err(fault) => finish(alloc, Err(fault), &mut faults),
+        },
+        Ok(Outcome::Serve(settings)) => match report(&rt, alloc, watcher(&rt), &settings.cluster) {
+            Ok(status) => {
+                let done = run_server(&rt, alloc, &settings, &status, rt.stdin(), rt.stdout());
+                status.close(&rt, done)
+            }
+            Err(fault) => finish(alloc, Err(fault), &mut faults),
+        },
         Err(error) => refuse_words(alloc, error, &mut faults),
     };
     ExitCode::from(status)
 }
 
-/// Standard error as who watches a running cluster there.
-fn watcher(rt: &HostRuntime) -> Option<Watcher<Stderr>> {
+/// Whether the terminal of the process erases a line that is written again. A terminal without a kind, or of the kind `dumb`, doesn't.
+fn erases_lines(rt: &HostRuntime) -> bool {
+    match env::var(rt, "TERM") {
+        Ok(kind) => !kind.is_empty() && kind.as_str() != "dumb",
+        Err(_) => false,
+    }
+}
+
+/// Standard error, as the watcher of a running cluster.
+fn watcher(rt: &HostRuntime) -> Watcher<Stderr> {
     let errors = rt.stderr();
-    Some(if errors.is_terminal() {
+    if errors.is_terminal() && erases_lines(rt) {
         Watcher::Terminal(errors)
     } else {
         Watcher::Log(errors)
-    })
+    }
 }
 
-/// Runs the program on the words and streams of the process. An `Err` is of the words.
+/// Starts the reporter of a cluster, if standard error is open.
+fn report<R: Copy + Send + Threads + Wait + 'static>(
+    rt: &R,
+    alloc: Global,
+    mut watcher: Watcher<Stderr>,
+    settings: &ClusterSettings,
+) -> Result<Arc<SharedStatus>, ProgramFault> {
+    require_open(watcher.writer(), Resource::Errors)?;
+    start_reporter(rt, alloc, watcher, settings)
+}
+
+/// `abft cluster`, if standard output is open.
+fn run_cluster<R>(
+    rt: &R,
+    alloc: Global,
+    settings: &ClusterSettings,
+    status: &SharedStatus,
+    input: Stdin,
+    mut output: Stdout,
+) -> Result<(), ProgramFault>
+where
+    R: Clock + Copy + RandomSource + Send + Sync + Threads + Wait + 'static,
+{
+    require_open(&output, Resource::Output)?;
+    cluster(rt, alloc, settings, status, input, &mut output)
+}
+
+/// `abft serve`, if standard output is open.
+fn run_server<R>(
+    rt: &R,
+    alloc: Global,
+    settings: &ServeSettings,
+    status: &SharedStatus,
+    input: Stdin,
+    mut output: Stdout,
+) -> Result<(), ProgramFault>
+where
+    R: Clock
+        + Copy
+        + Net<Listener = TcpListener, Stream = TcpStream>
+        + RandomSource
+        + Send
+        + Sync
+        + Threads
+        + Wait
+        + 'static,
+{
+    require_open(&output, Resource::Output)?;
+    serve(rt, alloc, settings, status, input, &mut output)
+}
+
+/// Runs the program on the words and streams of the process. An `Err` means that the words could not be read.
 fn run_host(rt: &HostRuntime) -> io::Result<Outcome> {
     let alloc = rt.alloc();
     let words: Vec<String> = env::args(rt)?.collect(alloc)?;

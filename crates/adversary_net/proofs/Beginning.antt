@@ -1,5 +1,6 @@
--- A cluster as it begins is one of which what is told of each running cluster holds.
-use Rattle.std.proofs.Common.{◌≡◌, ℕ, zero, suc, ◌+◌, ◌-◌, ◌<◌, ◌≤◌, inl, inr, Bool, true, false, not, ◌||◌, cond, List, [], ◌∷◌, length, map, take, drop, refl, sym, ap, subst, ◌∙◌, arith, length-drop}
+-- A cluster at its start satisfies the invariants of a running cluster.
+use Rattle.std.proofs.Common.{◌≡◌, ℕ, zero, suc, ◌+◌, ◌-◌, ◌<◌, ◌≤◌, inl, inr, Bool, true, false, not, ◌||◌, cond, List, [], ◌∷◌, length}
+use Rattle.std.proofs.Common.{map, take, drop, refl, sym, ap, subst, ◌∙◌, arith, length-drop}
 use Rattle.std.specs.Prelude.{nat_eq, nat_le, filter, All, Any, Option, Some, None, slice_get, slice_index_or, option_map, option_and_then}
 use Rattle.std.specs.List.{filter_map, list_any, range_with_len}
 use Rattle.std.proofs.Math.Seq.{drop-cons}
@@ -17,14 +18,14 @@ use Rattle.ledger_model.specs.Rounds.{count_from}
 use Rattle.ledger_model.specs.Rules.{Ring}
 use Rattle.ledger_model.specs.Timelines.{AreReplicas}
 use Rattle.ledger_model.specs.Worlds.{no_entries, beginning, Runs}
-use Rattle.ledger_model.proofs.Lists.{any_has, has_any, filter_has, has_filter}
+use Rattle.ledger_model.proofs.Lists.{any_has, has_any, filter_has, has_filter, same_some}
 use Rattle.lms_tree.specs.Trees.{Secret}
 use Rattle.key_ring.specs.Signers.{leaves_of}
 use Rattle.cluster_keys.specs.Keys.{ring_with}
 use Rattle.replica_core.proofs.SpentLeaves.{account_none}
-use Rattle.locked_replica.specs.Replicas.{Replica}
+use Rattle.locked_replica.specs.States.{StateView}
 use Rattle.adversary_net.specs.declared.party.Party.{Party}
-use Rattle.adversary_net.specs.Clusters.{RunningCluster, IsCluster, IsMemberAt, state_in, state_at, correct_of, history_in, world_of}
+use Rattle.adversary_net.specs.WorldViews.{WorldView, IsCluster, IsMemberAt, state_in, state_at, correct_of, history_in, world_of}
 use Rattle.adversary_net.proofs.Members.{take_all}
 use Rattle.adversary_net.specs.Openings.{different, is_liar, correct_from, correct_without, new_replica, new_party, new_cluster, IsSupply}
 
@@ -48,10 +49,7 @@ range_has a (suc n) r low high =
 
 pub get_range : (a n i x : ℕ) → slice_get (range_with_len a n) i ≡ Some x → (x ≡ a + i) × (i < n)
 get_range a zero i x at = cc
-get_range a (suc n) zero x at = (let e : a ≡ x = some_is at in omega (arith, e), omega arith)
-  where
-    some_is : ◌≡◌ {A = Option ℕ} (Some a) (Some x) → a ≡ x
-    some_is e = cc
+get_range a (suc n) zero x at = (let e : a ≡ x = same_some a x at in omega (arith, e), omega arith)
 get_range a (suc n) (suc i) x at = let e = get_range (a + 1) n i x at in (omega (arith, e.0), omega (arith, e.1))
 
 -- ---- how many lie
@@ -73,7 +71,8 @@ count_or : (p q : ℕ → Bool) (a n : ℕ) → count_from a n (λ r. p r || q r
 count_or p q a zero = omega arith
 count_or p q a (suc n) =
     let rest = count_or p q (a + 1) n in
-    elim (p a) as (λ b. cond (b || q a) 1 0 + count_from (a + 1) n (λ r. p r || q r) ≤ (cond b 1 0 + count_from (a + 1) n p) + (cond (q a) 1 0 + count_from (a + 1) n q)) [
+    elim (p a) as (λ b. cond (b || q a) 1 0 + count_from (a + 1) n (λ r. p r || q r) ≤ (cond b 1 0 + count_from (a + 1) n p) +
+    (cond (q a) 1 0 + count_from (a + 1) n q)) [
       | true ↦ omega (arith, rest)
       | false ↦ omega (arith, rest)
     ]
@@ -111,7 +110,8 @@ liars_counted n (x ∷ xs) =
     ]
 
 -- the correct ones are those that don't lie
-pub correct_replicas : (config : Config) (liars : List ℕ) → different liars ≤ config.faults → AreReplicas config (correct_without config liars)
+pub correct_replicas : (config : Config) (liars : List ℕ) → different liars ≤ config.faults
+    → AreReplicas config (correct_without config liars)
 correct_replicas config liars few = record {
   below = λ r is.
       let found = any_has (λ x. nat_eq x r) (correct_without config liars) is in
@@ -119,16 +119,19 @@ correct_replicas config liars few = record {
       let range = has_range 0 config.replicas (found.0) (kept.0) in
       omega (arith, eqb-true (found.0) r (found.1.1), range.1);
   enough =
-      let le = count_within (λ r. not (list_any (λ x. nat_eq x r) (correct_without config liars))) (is_liar liars) 0 config.replicas is_lying in
+      let le = count_within (λ r. not (list_any (λ x. nat_eq x r) (correct_without config liars))) (is_liar liars) 0 config.replicas
+      is_lying in
       omega (arith, le, liars_counted config.replicas liars);
 }
   where
-    is_lying : (r : ℕ) → 0 ≤ r → r < 0 + config.replicas → not (list_any (λ x. nat_eq x r) (correct_without config liars)) ≡ true → is_liar liars r ≡ true
+    is_lying : (r : ℕ) → 0 ≤ r → r < 0 + config.replicas → not (list_any (λ x. nat_eq x r) (correct_without config liars)) ≡ true
+        → is_liar liars r ≡ true
     is_lying r low high is =
         elim (cases_Bool (is_liar liars r)) [
           | inl lie ↦ lie
           | inr honest ↦
-              let has = has_filter (λ r. not (is_liar liars r)) (range_with_len 0 config.replicas) r (range_has 0 config.replicas r low high) (ap not honest) in
+              let has = has_filter (λ r. not (is_liar liars r)) (range_with_len 0 config.replicas) r
+              (range_has 0 config.replicas r low high) (ap not honest) in
               let among = has_any (λ x. nat_eq x r) (correct_without config liars) r has (eq-eqb r r refl) in
               absurd (let no = ap not among in cc)
         ]
@@ -136,7 +139,8 @@ correct_replicas config liars few = record {
 -- ---- the world as it begins
 
 module _ (config : Config) (ring : Ring) (secrets : ℕ → Secret) (liars : List ℕ) where
-  begins : (rs : List ℕ) → map history_in (filter_map state_in (map (new_party config ring secrets liars) rs)) ≡ map no_entries (filter (λ r. not (is_liar liars r)) rs)
+  begins : (rs : List ℕ) → map history_in (filter_map state_in (map (new_party config ring secrets liars) rs))
+      ≡ map no_entries (filter (λ r. not (is_liar liars r)) rs)
   begins [] = refl
   begins (r ∷ rs) =
       let rest = begins rs in
@@ -145,7 +149,8 @@ module _ (config : Config) (ring : Ring) (secrets : ℕ → Secret) (liars : Lis
         | inr honest ↦ rw honest (ap (λ hs. no_entries r ∷ hs) rest)
       ]
 
-  numbers : (rs : List ℕ) → map (λ (s : Replica). s.id) (filter_map state_in (map (new_party config ring secrets liars) rs)) ≡ filter (λ r. not (is_liar liars r)) rs
+  numbers : (rs : List ℕ) → map (λ (s : StateView). s.id) (filter_map state_in (map (new_party config ring secrets liars) rs))
+      ≡ filter (λ r. not (is_liar liars r)) rs
   numbers [] = refl
   numbers (r ∷ rs) =
       let rest = numbers rs in
@@ -154,39 +159,41 @@ module _ (config : Config) (ring : Ring) (secrets : ℕ → Secret) (liars : Lis
         | inr honest ↦ rw honest (ap (λ ns. r ∷ ns) rest)
       ]
 
-  new_state : (r : ℕ) (s : Replica) → state_in (new_party config ring secrets liars r) ≡ Some s → s ≡ new_replica config ring secrets r
+  new_state : (r : ℕ) (s : StateView) → state_in (new_party config ring secrets liars r) ≡ Some s → s ≡ new_replica config ring secrets r
   new_state r s is =
       elim (cases_Bool (is_liar liars r)) [
         | inl lies ↦ absurd (let no = rw lies at is in cc)
-        | inr honest ↦ some_is (rw honest at is)
+        | inr honest ↦ sym (same_some (new_replica config ring secrets r) s (rw honest at is))
       ]
-    where
-      some_is : ◌≡◌ {A = Option Replica} (Some (new_replica config ring secrets r)) (Some s) → s ≡ new_replica config ring secrets r
-      some_is e = cc
 
-pub new_world : (config : Config) (secrets : ℕ → Secret) (liars : List ℕ) → world_of (new_cluster config secrets liars) ≡ beginning (correct_without config liars)
-new_world config secrets liars = ap (λ (hs : List History). record { histories = hs; order = [] }) (begins config (ring_with config secrets) secrets liars (range_with_len 0 config.replicas))
+pub new_world : (config : Config) (secrets : ℕ → Secret) (liars : List ℕ)
+    → world_of (new_cluster config secrets liars) ≡ beginning (correct_without config liars)
+new_world config secrets liars =
+    ap (λ (hs : List History). record { histories = hs; order = [] })
+    (begins config (ring_with config secrets) secrets liars (range_with_len 0 config.replicas))
 
-pub new_correct : (config : Config) (secrets : ℕ → Secret) (liars : List ℕ) → correct_of (new_cluster config secrets liars) ≡ correct_without config liars
+pub new_correct : (config : Config) (secrets : ℕ → Secret) (liars : List ℕ)
+    → correct_of (new_cluster config secrets liars) ≡ correct_without config liars
 new_correct config secrets liars = numbers config (ring_with config secrets) secrets liars (range_with_len 0 config.replicas)
 
-new_member : (config : Config) (secrets : ℕ → Secret) (liars : List ℕ) (r : ℕ) → IsMemberAt (new_cluster config secrets liars) r (new_replica config (ring_with config secrets) secrets r)
+new_member : (config : Config) (secrets : ℕ → Secret) (liars : List ℕ) (r : ℕ)
+    → IsMemberAt (new_cluster config secrets liars) r (new_replica config (ring_with config secrets) secrets r)
 unfolding Replay ReplaysFrom commits_of
-new_member config secrets liars r = record { config = refl; ring = refl; id = refl; replay = tt; machine = refl; account = account_none config r (leaves_of (secrets r)) 0 }
+new_member config secrets liars r =
+    record { config = refl; ring = refl; id = refl; replay = tt; machine = refl; account = account_none config r (leaves_of (secrets r)) 0 }
 
 mapped : {X Y : Type 0} (f : X → Y) (o : Option X) (y : Y) → option_map f o ≡ Some y → (x : X) × ((o ≡ Some x) × (f x ≡ y))
 mapped f None y is = cc
-mapped f (Some x) y is = (x, (refl, some_is (f x) y is))
-  where
-    some_is : {Z : Type 0} (a b : Z) → Some a ≡ Some b → a ≡ b
-    some_is a b e = cc
+mapped f (Some x) y is = (x, (refl, same_some (f x) y is))
 
-some_party : (o : Option (Party Replica)) (s : Replica) → option_and_then state_in o ≡ Some s → (p : Party Replica) × ((o ≡ Some p) × (state_in p ≡ Some s))
+some_party : (o : Option (Party StateView)) (s : StateView) → option_and_then state_in o ≡ Some s
+    → (p : Party StateView) × ((o ≡ Some p) × (state_in p ≡ Some s))
 some_party None s is = cc
 some_party (Some p) s is = (p, (refl, is))
 
 -- each correct replica is a new one
-new_at : (config : Config) (secrets : ℕ → Secret) (liars : List ℕ) (r : ℕ) (s : Replica) → state_at (new_cluster config secrets liars) r ≡ Some s
+new_at : (config : Config) (secrets : ℕ → Secret) (liars : List ℕ) (r : ℕ) (s : StateView)
+    → state_at (new_cluster config secrets liars) r ≡ Some s
     → s ≡ new_replica config (ring_with config secrets) secrets r
 new_at config secrets liars r s is =
     let ring = ring_with config secrets in
@@ -194,13 +201,16 @@ new_at config secrets liars r s is =
     let from = mapped (new_party config ring secrets liars) (slice_get (range_with_len 0 config.replicas) r) (own.0)
     (sym (slice_get-map (new_party config ring secrets liars) (range_with_len 0 config.replicas) r) ∙ own.1.0) in
     let number : from.0 ≡ r = let e = (get_range 0 config.replicas r (from.0) (from.1.0)).0 in omega (arith, e) in
-    new_state config ring secrets liars r s (subst (λ k. state_in (new_party config ring secrets liars k) ≡ Some s) number (ap state_in (from.1.1) ∙ own.1.1))
+    new_state config ring secrets liars r s
+    (subst (λ k. state_in (new_party config ring secrets liars k) ≡ Some s) number (ap state_in (from.1.1) ∙ own.1.1))
 
-pub new_is_cluster : (config : Config) (secrets : ℕ → Secret) (liars : List ℕ) → different liars ≤ config.faults → IsCluster (new_cluster config secrets liars)
+pub new_is_cluster : (config : Config) (secrets : ℕ → Secret) (liars : List ℕ) → different liars ≤ config.faults
+    → IsCluster (new_cluster config secrets liars)
 unfolding Runs
 new_is_cluster config secrets liars few = record {
   size = length-map-range_with_len (new_party config (ring_with config secrets) secrets liars) 0 config.replicas;
-  members = λ r s is. subst (IsMemberAt (new_cluster config secrets liars) r) (sym (new_at config secrets liars r s is)) (new_member config secrets liars r);
+  members = λ r s is. subst (IsMemberAt (new_cluster config secrets liars) r) (sym (new_at config secrets liars r s is))
+      (new_member config secrets liars r);
   replicas = subst (AreReplicas config) (sym (new_correct config secrets liars)) (correct_replicas config liars few);
   ran = record {
     steps = [];
@@ -212,16 +222,25 @@ new_is_cluster config secrets liars few = record {
 -- ---- the code that makes it
 
 -- the different ones from a place on
-pub different_from : (xs : List ℕ) (i x : ℕ) → i < length xs → x ≡ slice_index_or xs i x → different (drop i xs) ≡ cond (list_any (λ y. nat_eq y x) (drop (i + 1) xs)) 0 1 + different (drop (i + 1) xs)
+pub different_from : (xs : List ℕ) (i x : ℕ) → i < length xs → x ≡ slice_index_or xs i x
+    → different (drop i xs) ≡ cond (list_any (λ y. nat_eq y x) (drop (i + 1) xs)) 0 1 + different (drop (i + 1) xs)
 different_from xs i x lt is =
     let next : suc i ≡ i + 1 = omega arith in
-    let parts : drop i xs ≡ x ∷ drop (i + 1) xs = drop-cons xs i x lt ∙ ap (λ y. y ∷ drop (suc i) xs) (sym is) ∙ ap (λ k. x ∷ drop k xs) next in
+    let parts : drop i xs ≡ x ∷ drop (i + 1) xs =
+    drop-cons xs i x lt ∙ ap (λ y. y ∷ drop (suc i) xs) (sym is) ∙ ap (λ k. x ∷ drop k xs) next in
     ap different parts
 
 -- none is a stranger
 pub all_below : (config : Config) (liars : List ℕ) → (Any (λ r. config.replicas ≤ r) liars → ⊥) → All (λ r. r < config.replicas) liars
 all_below config liars none = λ k d lt. elim (cases_Bool (nat_le config.replicas (slice_index_or liars k d))) [
-  | inl far ↦ absurd (none (k, slice_index_or liars k d, lt, index_any liars k d lt, leb-true config.replicas (slice_index_or liars k d) far))
+  | inl far ↦ absurd (none (
+    k,
+    slice_index_or liars k d,
+    lt,
+    index_any liars k d lt,
+    leb-true config.replicas (slice_index_or liars k d)
+        far,
+  ))
   | inr near ↦ leb-false config.replicas (slice_index_or liars k d) near
 ]
   where
@@ -237,7 +256,8 @@ range_left a n lt =
     ap (range_with_len a) size
 
 -- how many correct ones are left then
-pub correct_left : (liars : List ℕ) (a n : ℕ) → a < n → length (correct_from liars a (n - a)) ≡ cond (is_liar liars a) 0 1 + length (correct_from liars (a + 1) (n - (a + 1)))
+pub correct_left : (liars : List ℕ) (a n : ℕ) → a < n
+    → length (correct_from liars a (n - a)) ≡ cond (is_liar liars a) 0 1 + length (correct_from liars (a + 1) (n - (a + 1)))
 correct_left liars a n lt =
     let parts = range_left a n lt in
     elim (cases_Bool (is_liar liars a)) [
@@ -246,10 +266,14 @@ correct_left liars a n lt =
     ]
 
 -- the first of what there is is taken
-pub first_app : {A R : Type 0} (machine : A → Machine) (config : Config) (n : ℕ) (apps left : List A) (randoms : List R) (a : A) → IsSupply machine config n apps randoms → apps ≡ a ∷ left → machine a ≡ run config.kind []
-first_app machine config n apps left randoms a supply is = All-head (λ x. machine x ≡ run config.kind []) a left (All-same (λ x. machine x ≡ run config.kind []) (a ∷ left) apps (sym is) supply.opening)
+pub first_app : {A R : Type 0} (machine : A → Machine) (config : Config) (n : ℕ) (apps left : List A) (randoms : List R) (a : A)
+    → IsSupply machine config n apps randoms → apps ≡ a ∷ left → machine a ≡ run config.kind []
+first_app machine config n apps left randoms a supply is =
+    All-head (λ x. machine x ≡ run config.kind []) a left
+    (All-same (λ x. machine x ≡ run config.kind []) (a ∷ left) apps (sym is) supply.opening)
 
-pub supply_left : {A R : Type 0} (machine : A → Machine) (config : Config) (n : ℕ) (apps left : List A) (randoms others : List R) (a : A) (r : R) → IsSupply machine config n apps randoms
+pub supply_left : {A R : Type 0} (machine : A → Machine) (config : Config) (n : ℕ) (apps left : List A) (randoms others : List R) (a : A)
+    (r : R) → IsSupply machine config n apps randoms
     → apps ≡ a ∷ left → randoms ≡ r ∷ others → IsSupply machine config (n - 1) left others
 supply_left machine config n apps left randoms others a r supply is too = record {
   an_app = omega (arith, supply.an_app, ap length is);
@@ -258,20 +282,29 @@ supply_left machine config n apps left randoms others a r supply is too = record
 }
 
 -- what was made is the new cluster
-pub new_is : (config : Config) (secrets : ℕ → Secret) (liars : List ℕ) (ring : Ring) (parties : List (Party Replica)) (order : List ℕ) → ring ≡ ring_with config secrets
+pub new_is : (config : Config) (secrets : ℕ → Secret) (liars : List ℕ) (ring : Ring) (parties : List (Party StateView)) (order : List ℕ)
+    → ring ≡ ring_with config secrets
     → parties ≡ map (new_party config ring secrets liars) (range_with_len 0 config.replicas) → order ≡ []
-    → ◌≡◌ {A = RunningCluster} (record { config = config; ring = ring; parties = parties; order = order }) (new_cluster config secrets liars)
+    → ◌≡◌ {A = WorldView} (record { config = config; ring = ring; parties = parties; order = order }) (new_cluster config secrets liars)
 new_is config secrets liars ring parties order keys made none =
     ap (λ (l : Ring). record { config = config; ring = l; parties = parties; order = order }) keys
-    ∙ ap (λ (ps : List (Party Replica)). record { config = config; ring = ring_with config secrets; parties = ps; order = order }) (made ∙ ap (λ (l : Ring). map (new_party config l secrets liars) (range_with_len 0 config.replicas)) keys)
-    ∙ ap (λ (o : List ℕ). record { config = config; ring = ring_with config secrets; parties = map (new_party config (ring_with config secrets) secrets liars) (range_with_len 0 config.replicas); order = o }) none
+    ∙ ap (λ (ps : List (Party StateView)). record { config = config; ring = ring_with config secrets; parties = ps; order = order })
+    (made ∙ ap (λ (l : Ring). map (new_party config l secrets liars) (range_with_len 0 config.replicas)) keys)
+    ∙ ap (λ (o : List ℕ). record {
+      config = config;
+      ring = ring_with config secrets;
+      parties =
+          map (new_party config (ring_with config secrets) secrets liars) (range_with_len 0 config.replicas);
+      order = o;
+    }) none
 
 -- the rest of a list is all of it
 pub rest_whole : (xs : List ℕ) (i : ℕ) → take (length xs - i) (drop i xs) ≡ drop i xs
 rest_whole xs i = take_all (drop i xs) (length xs - i) (omega (arith, length-drop i xs))
 
 -- one replica more is counted, if it is correct
-pub correct_more : (liars : List ℕ) (a n : ℕ) → length (correct_from liars a (n + 1)) ≡ length (correct_from liars a n) + cond (is_liar liars (a + n)) 0 1
+pub correct_more : (liars : List ℕ) (a n : ℕ)
+    → length (correct_from liars a (n + 1)) ≡ length (correct_from liars a n) + cond (is_liar liars (a + n)) 0 1
 correct_more liars a zero =
     let here : a + 0 ≡ a = omega arith in
     let one : zero + 1 ≡ suc zero = omega arith in
@@ -282,9 +315,11 @@ correct_more liars a (suc n) =
     let rest = correct_more liars (a + 1) n in
     let there : (a + 1) + n ≡ a + suc n = omega arith in
     let size : suc n + 1 ≡ suc (n + 1) = omega arith in
-    let moved : ◌≡◌ {A = ℕ} (cond (is_liar liars ((a + 1) + n)) 0 1) (cond (is_liar liars (a + suc n)) 0 1) = ap (λ k. cond (is_liar liars k) 0 1) there in
+    let moved : ◌≡◌ {A = ℕ} (cond (is_liar liars ((a + 1) + n)) 0 1) (cond (is_liar liars (a + suc n)) 0 1) =
+    ap (λ k. cond (is_liar liars k) 0 1) there in
     ap (λ k. length (filter (λ r. not (is_liar liars r)) (range_with_len a k))) size
-    ∙ elim (is_liar liars a) as (λ b. length (cond (not b) (a ∷ correct_from liars (a + 1) (n + 1)) (correct_from liars (a + 1) (n + 1))) ≡ length (cond (not b) (a ∷ correct_from liars (a + 1) n) (correct_from liars (a + 1) n)) + cond (is_liar liars (a + suc n)) 0 1) [
+    ∙ elim (is_liar liars a) as (λ b. length (cond (not b) (a ∷ correct_from liars (a + 1) (n + 1)) (correct_from liars (a + 1) (n + 1)))
+    ≡ length (cond (not b) (a ∷ correct_from liars (a + 1) n) (correct_from liars (a + 1) n)) + cond (is_liar liars (a + suc n)) 0 1) [
       | true ↦ omega (arith, rest, moved)
       | false ↦ omega (arith, rest, moved)
     ]

@@ -3,17 +3,21 @@ use Rattle.std.proofs.Common.{◌≡◌, length, ap, subst, sym, ◌∙◌, arit
 use Rattle.ledger_model.specs.Applications.{run}
 use Rattle.ledger_model.specs.Worlds.{World, world_at, IsLedger, Refines}
 use Rattle.ledger_laws.proofs.WorldRuns.{runs_refine, world_now}
-use Rattle.adversary_net.specs.Clusters.{RunningCluster, IsCluster, correct_of, world_of}
+use Rattle.adversary_net.specs.WorldViews.{WorldView, IsCluster, correct_of, world_of}
 use Rattle.adversary_net.specs.Headline.{IsUnforged, IsOneLedger}
 use Rattle.adversary_net.proofs.Telling.{own_machines}
 
 -- where nothing that was accepted was forged
-pub one_ledger : (c : RunningCluster) → IsCluster c → IsUnforged c → IsOneLedger c
+pub one_ledger : (c : WorldView) → IsCluster c → IsUnforged c → IsOneLedger c
 one_ledger c cluster unforged =
-    let refined : Refines c.config (world_of c) = runs_refine c.config c.ring (correct_of c) cluster.ran.steps cluster.ran.answers (world_of c) cluster.replicas cluster.ran.runs unforged in
-    let now : world_at (world_of c) (length c.order) ≡ world_of c = world_now c.config c.ring (correct_of c) cluster.ran.steps cluster.ran.answers (world_of c) cluster.ran.runs in
+    let refined : Refines c.config (world_of c) =
+    runs_refine c.config c.ring (correct_of c) cluster.ran.steps cluster.ran.answers (world_of c) cluster.replicas cluster.ran.runs
+    unforged in
+    let now : world_at (world_of c) (length c.order) ≡ world_of c =
+    world_now c.config c.ring (correct_of c) cluster.ran.steps cluster.ran.answers (world_of c) cluster.ran.runs in
     let ledger : IsLedger c.config (world_of c).histories (refined.ledger (length c.order)) =
-    subst (λ (w : World). IsLedger c.config w.histories (refined.ledger (length c.order))) now (refined.is_ledger (length c.order) (omega arith)) in
+    subst (λ (w : World). IsLedger c.config w.histories (refined.ledger (length c.order))) now
+    (refined.is_ledger (length c.order) (omega arith)) in
     record {
       refines = refined;
       machines = λ r m found. own_machines c cluster r m found ∙ ap (run c.config.kind) (sym (ledger.each r m found));

@@ -7,17 +7,19 @@ use Rattle.std.proofs.lemmas.List.{set-get_or}
 use Rattle.std.proofs.lemmas.Option.{slice_get_past}
 use Rattle.ledger_model.specs.Timelines.{AreReplicas}
 use Rattle.ledger_model.specs.Worlds.{beginning, Runs}
-use Rattle.key_ring.specs.Signers.{Keys}
+use Rattle.key_ring.specs.Signers.{SignerView}
 use Rattle.key_ring.specs.declared.fault.SignFault.{SignFault}
-use Rattle.locked_replica.specs.Replicas.{Replica}
+use Rattle.locked_replica.specs.States.{StateView}
 use Rattle.adversary_net.specs.declared.party.Party.{Party}
 use Rattle.adversary_net.specs.declared.party.Party.TheVariants as party
-use Rattle.adversary_net.specs.Clusters.{RunningCluster, IsCluster, state_in, state_at, liar_in, liar_at, history_in, correct_of, world_of, LiarSigns, SignsFor}
+use Rattle.adversary_net.specs.WorldViews.{WorldView, IsCluster, state_in, state_at, liar_in, liar_at, history_in, correct_of, world_of}
+use Rattle.adversary_net.specs.WorldViews.{LiarSigns, SignsFor}
 use Rattle.adversary_net.proofs.Members.{set_cases}
 use Rattle.adversary_net.proofs.Running.{member_still}
 
 -- the correct replicas stay
-states_same : (parties : List (Party Replica)) (r : ℕ) (old new : Keys) → slice_get parties r ≡ Some (party.Liar old) → filter_map state_in (slice_set parties r (party.Liar new)) ≡ filter_map state_in parties
+states_same : (parties : List (Party StateView)) (r : ℕ) (old new : SignerView) → slice_get parties r ≡ Some (party.Liar old)
+    → filter_map state_in (slice_set parties r (party.Liar new)) ≡ filter_map state_in parties
 states_same [] r old new at = cc
 states_same (party.Correct s ∷ parties) zero old new at = cc
 states_same (party.Liar keys ∷ parties) zero old new at = refl
@@ -25,20 +27,21 @@ states_same (party.Correct s ∷ parties) (suc r) old new at = ap (λ l. s ∷ l
 states_same (party.Liar keys ∷ parties) (suc r) old new at = states_same parties r old new at
 
 -- the cluster with other keys of a liar
-abbrev pub with_keys : RunningCluster → ℕ → Keys → RunningCluster
+abbrev pub with_keys : WorldView → ℕ → SignerView → WorldView
 with_keys c r keys = record { config = c.config; ring = c.ring; parties = slice_set c.parties r (party.Liar keys); order = c.order }
 
-is_state : (o : Option (Party Replica)) (s : Replica) → option_and_then state_in o ≡ Some s → o ≡ Some (party.Correct s)
+is_state : (o : Option (Party StateView)) (s : StateView) → option_and_then state_in o ≡ Some s → o ≡ Some (party.Correct s)
 is_state None s is = cc
 is_state (Some (party.Correct x)) s is = cc
 is_state (Some (party.Liar keys)) s is = cc
 
-pub signed_cluster : (c : RunningCluster) (r : ℕ) (old new : Keys) → IsCluster c → slice_get c.parties r ≡ Some (party.Liar old) → IsCluster (with_keys c r new)
+pub signed_cluster : (c : WorldView) (r : ℕ) (old new : SignerView) → IsCluster c → slice_get c.parties r ≡ Some (party.Liar old)
+    → IsCluster (with_keys c r new)
 signed_cluster c r old new cluster at =
     let d = with_keys c r new in
     let states = states_same c.parties r old new at in
-    let correct : correct_of d ≡ correct_of c = ap (map (λ (s : Replica). s.id)) states in
-    let world : world_of d ≡ world_of c = ap (λ (l : List Replica). record { histories = map history_in l; order = c.order }) states in
+    let correct : correct_of d ≡ correct_of c = ap (map (λ (s : StateView). s.id)) states in
+    let world : world_of d ≡ world_of c = ap (λ (l : List StateView). record { histories = map history_in l; order = c.order }) states in
     record {
       size = length-set c.parties r (party.Liar new) ∙ cluster.size;
       members = λ q s is. member_still c d q s refl refl (cluster.members q s (was_there q s is));
@@ -46,27 +49,31 @@ signed_cluster c r old new cluster at =
       ran = record {
         steps = cluster.ran.steps;
         answers = cluster.ran.answers;
-        runs = subst (λ rs. Runs c.config c.ring (beginning rs) cluster.ran.steps cluster.ran.answers (world_of d)) (sym correct) (subst (Runs c.config c.ring (beginning (correct_of c)) cluster.ran.steps cluster.ran.answers) (sym world) cluster.ran.runs);
+        runs = subst (λ rs. Runs c.config c.ring (beginning rs) cluster.ran.steps cluster.ran.answers (world_of d)) (sym correct)
+            (subst (Runs c.config c.ring (beginning (correct_of c)) cluster.ran.steps cluster.ran.answers) (sym world) cluster.ran.runs);
       };
     }
   where
     -- each correct replica was there before
-    was_there : (q : ℕ) (s : Replica) → state_at (with_keys c r new) q ≡ Some s → state_at c q ≡ Some s
-    was_there q s is = elim (set_cases c.parties r q (party.Liar new) (party.Correct s) (is_state (slice_get (slice_set c.parties r (party.Liar new)) q) s is)) [
-      | inl here ↦ absurd (let no = here.1 in cc)
-      | inr there ↦ ap (option_and_then state_in) there
-    ]
+    was_there : (q : ℕ) (s : StateView) → state_at (with_keys c r new) q ≡ Some s → state_at c q ≡ Some s
+    was_there q s is = elim (set_cases c.parties r q (party.Liar new) (party.Correct s)
+        (is_state (slice_get (slice_set c.parties r (party.Liar new)) q) s is)) [
+          | inl here ↦ absurd (let no = here.1 in cc)
+          | inr there ↦ ap (option_and_then state_in) there
+        ]
 
-liar_is : (o : Option (Party Replica)) (keys : Keys) → option_and_then liar_in o ≡ Some keys → o ≡ Some (party.Liar keys)
+liar_is : (o : Option (Party StateView)) (keys : SignerView) → option_and_then liar_in o ≡ Some keys → o ≡ Some (party.Liar keys)
 liar_is None keys is = cc
 liar_is (Some (party.Correct s)) keys is = cc
 liar_is (Some (party.Liar k)) keys is = cc
 
 -- for the definitions the world is as it was
-pub signed_world : {X : Type 0} (view : X → List ℕ) (c : RunningCluster) (r : ℕ) (message : List ℕ) (answer : Result X SignFault) (d : RunningCluster) → SignsFor view c r message answer d → world_of d ≡ world_of c
+pub signed_world : {X : Type 0} (view : X → List ℕ) (c : WorldView) (r : ℕ) (message : List ℕ) (answer : Result X SignFault)
+    (d : WorldView) → SignsFor view c r message answer d → world_of d ≡ world_of c
 signed_world view c r message answer d (old, new, (is, signs, same)) =
     ap world_of same
-    ∙ ap (λ (l : List Replica). record { histories = map history_in l; order = c.order }) (states_same c.parties r old new (liar_is (slice_get c.parties r) old is))
+    ∙ ap (λ (l : List StateView). record { histories = map history_in l; order = c.order })
+    (states_same c.parties r old new (liar_is (slice_get c.parties r) old is))
 
 got : {X : Type 0} (xs : List X) (i : ℕ) (x : X) → i < length xs → x ≡ slice_index_or xs i x → slice_get xs i ≡ Some x
 got [] i x lt is = absurd (omega arith)
@@ -74,45 +81,65 @@ got (y ∷ ys) zero x lt is = ap Some (sym is)
 got (y ∷ ys) (suc i) x lt is = got ys i x (omega arith) is
 
 -- what was put back changes nothing
-pub signed_none : (c : RunningCluster) (i : ℕ) (lent p : Party Replica) → i < length c.parties → lent ≡ slice_index_or c.parties i lent → p ≡ lent
-    → ◌≡◌ {A = RunningCluster} (record { config = c.config; ring = c.ring; parties = slice_set c.parties i p; order = c.order }) c
+pub signed_none : (c : WorldView) (i : ℕ) (lent p : Party StateView) → i < length c.parties → lent ≡ slice_index_or c.parties i lent
+    → p ≡ lent
+    → ◌≡◌ {A = WorldView} (record { config = c.config; ring = c.ring; parties = slice_set c.parties i p; order = c.order }) c
 signed_none c i lent p within is same =
     let put : slice_set c.parties i p ≡ c.parties = ap (slice_set c.parties i) (same ∙ is) ∙ set-get_or c.parties i lent in
-    ap (λ (ps : List (Party Replica)). record { config = c.config; ring = c.ring; parties = ps; order = c.order }) put
+    ap (λ (ps : List (Party StateView)). record { config = c.config; ring = c.ring; parties = ps; order = c.order }) put
 
 -- a liar's signature
-pub signed_as : {X : Type 0} (view : X → List ℕ) (c : RunningCluster) (i : ℕ) (lent p : Party Replica) (message : List ℕ) (answer : Result X SignFault) → i < length c.parties → lent ≡ slice_index_or c.parties i lent
-    → LiarSigns view lent message answer p → SignsFor view c i message answer (record { config = c.config; ring = c.ring; parties = slice_set c.parties i p; order = c.order })
+pub signed_as : {X : Type 0} (view : X → List ℕ) (c : WorldView) (i : ℕ) (lent p : Party StateView) (message : List ℕ)
+    (answer : Result X SignFault) → i < length c.parties → lent ≡ slice_index_or c.parties i lent
+    → LiarSigns view lent message answer p
+    → SignsFor view c i message answer (record { config = c.config; ring = c.ring; parties = slice_set c.parties i p; order = c.order })
 signed_as view c i lent p message answer within is signs =
-    let at : slice_get c.parties i ≡ Some lent = got c.parties i lent within is in
-    (signs.0, signs.1, (ap (option_and_then liar_in) at ∙ ap liar_in signs.2.0, signs.2.2, ap (λ (q : Party Replica). record { config = c.config; ring = c.ring; parties = slice_set c.parties i q; order = c.order }) signs.2.1))
+    let at : slice_get c.parties i ≡ Some lent = got c.parties i lent within is in (
+      signs.0,
+      signs.1,
+      (
+        ap (option_and_then liar_in) at
+            ∙ ap liar_in signs.2.0,
+        signs.2.2,
+        ap (λ (q : Party StateView). record { config = c.config; ring = c.ring; parties = slice_set c.parties i q; order = c.order })
+            signs.2.1,
+      ),
+    )
 
 -- whatever is answered, what holds of each cluster still does
-pub signed_keeps : {X : Type 0} (view : X → List ℕ) (c : RunningCluster) (i : ℕ) (lent p : Party Replica) (message : List ℕ) (result : Option (Result X SignFault)) → IsCluster c → i < length c.parties
+pub signed_keeps : {X : Type 0} (view : X → List ℕ) (c : WorldView) (i : ℕ) (lent p : Party StateView) (message : List ℕ)
+    (result : Option (Result X SignFault)) → IsCluster c → i < length c.parties
     → lent ≡ slice_index_or c.parties i lent → IfSome result (λ answer. LiarSigns view lent message answer p) → IfNone result (p ≡ lent)
     → IsCluster (record { config = c.config; ring = c.ring; parties = slice_set c.parties i p; order = c.order })
-signed_keeps view c i lent p message None cluster within is signs same = subst IsCluster (sym (signed_none c i lent p within is same)) cluster
+signed_keeps view c i lent p message None cluster within is signs same =
+    subst IsCluster (sym (signed_none c i lent p within is same)) cluster
 signed_keeps view c i lent p message (Some answer) cluster within is signs same =
     let at : slice_get c.parties i ≡ Some (party.Liar signs.0) = got c.parties i lent within is ∙ ap Some signs.2.0 in
-    subst (λ q. IsCluster (record { config = c.config; ring = c.ring; parties = slice_set c.parties i q; order = c.order })) (sym signs.2.1) (signed_cluster c i signs.0 signs.1 cluster at)
+    subst (λ q. IsCluster (record { config = c.config; ring = c.ring; parties = slice_set c.parties i q; order = c.order }))
+    (sym signs.2.1) (signed_cluster c i signs.0 signs.1 cluster at)
 
 -- the same, whether a signature is answered or none
-module _ {X : Type 0} (view : X → List ℕ) (c : RunningCluster) (i r : ℕ) (lent p : Party Replica) (message : List ℕ) (place : i ≡ r) (within : i < length c.parties) (is : lent ≡ slice_index_or c.parties i lent) where
+module _ {X : Type 0} (view : X → List ℕ) (c : WorldView) (i r : ℕ) (lent p : Party StateView) (message : List ℕ) (place : i ≡ r)
+    (within : i < length c.parties) (is : lent ≡ slice_index_or c.parties i lent) where
   pub signs_after : (result : Option (Result X SignFault)) → IfSome result (λ answer. LiarSigns view lent message answer p)
-      → IfSome result (λ answer. SignsFor view c r message answer (record { config = c.config; ring = c.ring; parties = slice_set c.parties i p; order = c.order }))
+      → IfSome result (λ answer. SignsFor view c r message answer
+      (record { config = c.config; ring = c.ring; parties = slice_set c.parties i p; order = c.order }))
   signs_after None signs = tt
   signs_after (Some answer) signs =
-      subst (λ k. SignsFor view c k message answer (record { config = c.config; ring = c.ring; parties = slice_set c.parties i p; order = c.order })) place (signed_as view c i lent p message answer within is signs)
+      subst (λ k. SignsFor view c k message answer
+      (record { config = c.config; ring = c.ring; parties = slice_set c.parties i p; order = c.order })) place
+      (signed_as view c i lent p message answer within is signs)
 
   pub none_after : (result : Option (Result X SignFault)) → IfNone result (liar_in lent ≡ None) → IfNone result (liar_at c r ≡ None)
   none_after (Some answer) none = tt
   none_after None none = ap (λ k. liar_at c k) (sym place) ∙ ap (option_and_then liar_in) (got c.parties i lent within is) ∙ none
 
   pub same_after : (result : Option (Result X SignFault)) → IfNone result (p ≡ lent)
-      → IfNone result (◌≡◌ {A = RunningCluster} (record { config = c.config; ring = c.ring; parties = slice_set c.parties i p; order = c.order }) c)
+      → IfNone result (◌≡◌ {A = WorldView}
+      (record { config = c.config; ring = c.ring; parties = slice_set c.parties i p; order = c.order }) c)
   same_after (Some answer) same = tt
   same_after None same = signed_none c i lent p within is same
 
 -- a number past the last replica is no liar's
-pub no_liar : (c : RunningCluster) (r : ℕ) → length c.parties ≤ r → liar_at c r ≡ None
+pub no_liar : (c : WorldView) (r : ℕ) → length c.parties ≤ r → liar_at c r ≡ None
 no_liar c r past = ap (option_and_then liar_in) (slice_get_past c.parties r past)

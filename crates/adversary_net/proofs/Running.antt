@@ -1,63 +1,76 @@
--- A step keeps what holds of each running cluster.
-use Rattle.std.proofs.Common.{◌≡◌, ℕ, ◌<◌, inl, inr, true, false, List, [], ◌∷◌, ◌++◌, length, map, refl, sym, ap, subst, ◌∙◌, arith}
-use Rattle.std.specs.Prelude.{nat_le, Option, Some, None, is_some, Err, IfSome, IsSomeAnd, MatchBool, unwrap_or, slice_get, slice_index_or, slice_set, option_map, option_and_then}
+-- A step preserves the invariants of a running cluster.
+use Rattle.std.proofs.Common.{◌≡◌, ℕ, ◌+◌, ◌<◌, ◌≤◌, inl, inr, true, false, ◌&&◌, cond, List, [], ◌∷◌, ◌++◌, length, map, refl, sym, ap}
+use Rattle.std.proofs.Common.{subst, ◌∙◌, arith}
+use Rattle.std.specs.Prelude.{nat_lt, nat_le, Option, Some, None, is_some, Result, Ok, Err, IfSome, IsSomeAnd, MatchBool, unwrap_or}
+use Rattle.std.specs.Prelude.{slice_get, slice_index_or, slice_set, option_map, option_and_then}
 use Rattle.std.specs.List.{filter_map}
 use Rattle.std.proofs.Math.ListN.{length-set}
-use Rattle.std.proofs.lemmas.Bool.{lt-leb}
+use Rattle.std.proofs.lemmas.Bool.{cases_Bool, eq-eqb, lt-leb}
 use Rattle.std.proofs.lemmas.Option.{slice_get_within, unwrap_or-slice_get}
 use Rattle.ledger_model.specs.declared.config.Config.{Config}
 use Rattle.ledger_model.specs.declared.event.Event.{Event}
+use Rattle.ledger_model.specs.declared.event.Event.TheVariants as event
 use Rattle.ledger_model.specs.declared.history.Entry.{Entry}
 use Rattle.ledger_model.specs.declared.history.History.{History}
 use Rattle.ledger_model.specs.declared.world.WorldStep.{WorldStep}
+use Rattle.ledger_model.specs.declared.world.WorldStep.TheVariants as step
 use Rattle.ledger_model.specs.declared.world.WorldReply.{WorldReply}
 use Rattle.ledger_model.specs.declared.world.WorldReply.TheVariants as answer
 use Rattle.ledger_model.specs.declared.world.WorldRefusal.{WorldRefusal}
 use Rattle.ledger_model.specs.declared.world.WorldRefusal.TheVariants as refused
 use Rattle.ledger_model.specs.Applications.{run}
 use Rattle.ledger_model.specs.Commits.{commits_of}
+use Rattle.ledger_model.specs.Groups.{is_correct}
 use Rattle.ledger_model.specs.Lawful.{Lawful, Replay}
 use Rattle.ledger_model.specs.Rules.{Ring}
 use Rattle.ledger_model.specs.Timelines.{AreReplicas}
-use Rattle.ledger_model.specs.Worlds.{World, beginning, entries_in, with_entry, event_of, StepsBy, Adds, Refuses, Runs}
+use Rattle.ledger_model.specs.Worlds.{World, beginning, entries_in, frames_sent, with_entry, asks, passes, event_of, StepsBy, Adds, Refuses}
+use Rattle.ledger_model.specs.Worlds.{Runs}
 use Rattle.ledger_laws.proofs.WorldRuns.{names_correct, runs_append}
 use Rattle.key_ring.specs.Signers.{leaves_of}
 use Rattle.replica_core.proofs.SpentLeaves.{account_still}
-use Rattle.locked_replica.specs.Replicas.{Replica, RunsAlone, AccountsForLeaves, UsesAsSigned}
+use Rattle.locked_replica.specs.States.{StateView, RunsAlone, AccountsForLeaves, may_lose}
 use Rattle.adversary_net.specs.declared.party.Party.{Party}
 use Rattle.adversary_net.specs.declared.party.Party.TheVariants as party
-use Rattle.adversary_net.specs.Clusters.{RunningCluster, IsCluster, IsMemberAt, IsSameCluster, is_out_of_memory, state_in, state_at, correct_of, history_in, world_of}
+use Rattle.adversary_net.specs.WorldViews.{WorldView, IsCluster, IsMemberAt, IsSameCluster, state_in, state_at, correct_of, history_in}
+use Rattle.adversary_net.specs.WorldViews.{world_of}
+use Rattle.adversary_net.specs.Leaves.{UsesButFor, loss_at, lost_at}
 use Rattle.adversary_net.specs.Steps.{Applies, AppliesTo, Stays, StaysAs, Asks, IsReady, Went}
-use Rattle.adversary_net.proofs.Members.{histories, histories_added, histories_same, roles_same, set_cases, added_numbers, numbers_of_histories}
-use Rattle.adversary_net.proofs.UsedLeaves.{uses_set, uses_none, one_out}
+use Rattle.adversary_net.proofs.Members.{histories, histories_added, histories_same, roles_same, set_cases, added_numbers}
+use Rattle.adversary_net.proofs.Members.{numbers_of_histories}
+use Rattle.adversary_net.proofs.UsedLeaves.{uses_set, none_lost, some_lost, each_none}
 use Rattle.adversary_net.proofs.Asking.{its_history, its_entries, no_memory}
+use Rattle.ledger_model.specs.Limits.{max_history_len}
 
 -- one step more
-pub runs_one : (config : Config) (ring : Ring) (w mid new : World) (steps : List WorldStep) (answers : List WorldReply) (s : WorldStep) (a : WorldReply)
-    → Runs config ring w steps answers mid → StepsBy config ring mid (event_of config mid s) a new → Runs config ring w (steps ++ s ∷ []) (answers ++ a ∷ []) new
+pub runs_one : (config : Config) (ring : Ring) (w mid new : World) (steps : List WorldStep) (answers : List WorldReply) (s : WorldStep)
+    (a : WorldReply)
+    → Runs config ring w steps answers mid → StepsBy config ring mid (event_of config mid s) a new
+    → Runs config ring w (steps ++ s ∷ []) (answers ++ a ∷ []) new
 unfolding Runs
-runs_one config ring w mid new steps answers s a runs by = runs_append config ring w mid new steps (s ∷ []) answers (a ∷ []) runs (new, by, refl)
+runs_one config ring w mid new steps answers s a runs by =
+    runs_append config ring w mid new steps (s ∷ []) answers (a ∷ []) runs (new, by, refl)
 
 -- ---- the replica that a step is at
 
-party_of : (o : Option (Party Replica)) (s : Replica) → option_and_then state_in o ≡ Some s → o ≡ Some (party.Correct s)
+party_of : (o : Option (Party StateView)) (s : StateView) → option_and_then state_in o ≡ Some s → o ≡ Some (party.Correct s)
 party_of None s is = cc
 party_of (Some (party.Correct x)) s is = cc
 party_of (Some (party.Liar keys)) s is = cc
 
-some_state : (o : Option Replica) → is_some (option_map history_in o) ≡ true → (s : Replica) × (o ≡ Some s)
+some_state : (o : Option StateView) → is_some (option_map history_in o) ≡ true → (s : StateView) × (o ≡ Some s)
 some_state None is = cc
 some_state (Some s) is = (s, refl)
 
 -- a correct replica with room
-pub record Found (c : RunningCluster) (r : ℕ) : Type 0 where
-  pub state : Replica
+pub record Found (c : WorldView) (r : ℕ) : Type 0 where
+  pub state : StateView
   pub there : slice_get c.parties r ≡ Some (party.Correct state)
   pub entries : entries_in (world_of c) r ≡ state.entries
   pub member : IsMemberAt c r state
-  pub room : length state.entries < 65536
+  pub room : length state.entries < max_history_len
 
-pub found : (c : RunningCluster) (s : WorldStep) (r : ℕ) (e : Event) → IsCluster c → IsReady c (event_of c.config (world_of c) s) r e → Found c r
+pub found : (c : WorldView) (s : WorldStep) (r : ℕ) (e : Event) → IsCluster c → IsReady c (event_of c.config (world_of c) s) r e → Found c r
 found c s r e cluster ready =
     let is = names_correct c.config (world_of c) s r e ready.is in
     let own = some_state (state_at c r) (sym (ap is_some (its_history c r cluster)) ∙ is) in
@@ -67,27 +80,84 @@ found c s r e cluster ready =
       there = party_of (slice_get c.parties r) own.0 own.1;
       entries = entries;
       member = cluster.members r own.0 own.1;
-      room = subst (λ (es : List Entry). length es < 65536) entries ready.room;
+      room = subst (λ (es : List Entry). length es < max_history_len) entries ready.room;
     }
+
+-- ---- the leaves that it may lose
+
+abbrev first_of : Result (ℕ × Event) WorldRefusal → ℕ
+first_of (Ok p) = p.0
+first_of (Err f) = 0
+
+abbrev event_in : Result (ℕ × Event) WorldRefusal → Event
+event_in (Ok p) = p.1
+event_in (Err f) = event.RoundEnd
+
+-- an event that is asked is at the replica that is named
+asked : (config : Config) (w : World) (x r : ℕ) (d e : Event) → asks config w x d ≡ Ok (r, e) → (x ≡ r) × (d ≡ e)
+asked config w x r d e ok =
+    elim (cases_Bool (nat_lt x config.replicas)) [
+      | inr far ↦ absurd (let no = simp far at ok in cc)
+      | inl near ↦ elim (cases_Bool (is_correct w.histories x)) [
+        | inl is ↦ (let same = simp (near, is) at ok in (ap first_of same, ap event_in same))
+        | inr liar ↦ absurd (let no = simp (near, liar) at ok in cc)
+      ]
+    ]
+
+abbrev delivered_to : ℕ → Option (List ℕ) → Result (ℕ × Event) WorldRefusal
+delivered_to to None = Err refused.NoSuchFrame
+delivered_to to (Some bytes) = Ok (to, event.Deliver bytes)
+
+-- a pass is a delivery
+passed : (config : Config) (w : World) (from index to r : ℕ) (e : Event) → passes config w from index to ≡ Ok (r, e) → (s : StateView)
+    → may_lose s e ≡ 0
+passed config w from index to r e ok s =
+    elim (cases_Bool (nat_lt from config.replicas && nat_lt to config.replicas)) [
+      | inr far ↦ absurd (let no = simp far at ok in cc)
+      | inl near ↦ elim (cases_Bool (is_correct w.histories from && is_correct w.histories to)) [
+        | inr liar ↦ absurd (let no = simp (near, liar) at ok in cc)
+        | inl are ↦ frame (slice_get (frames_sent (entries_in w from)) index) (simp (near, are) at ok)
+      ]
+    ]
+  where
+    frame : (o : Option (List ℕ)) → delivered_to to o ≡ Ok (r, e) → may_lose s e ≡ 0
+    frame None given = cc
+    frame (Some bytes) given = ap (may_lose s) (sym (ap event_in given))
+
+-- as many as the event may cost
+loss_here : (config : Config) (w : World) (s : WorldStep) (r : ℕ) (e : Event) → event_of config w s ≡ Ok (r, e) → (x : StateView)
+    → loss_at s r x ≡ may_lose x e
+unfolding event_of
+loss_here config w (step.Submit q bytes) r e ok x = ap (may_lose x) (asked config w q r (event.Submit bytes) e ok).1
+loss_here config w (step.Propose q h) r e ok x = ap (may_lose x) (asked config w q r (event.Propose h) e ok).1
+loss_here config w (step.RoundEnd q) r e ok x =
+    let is = asked config w q r event.RoundEnd e ok in
+    ap (λ b. cond b (may_lose x event.RoundEnd) 0) (eq-eqb r q (sym is.0)) ∙ ap (may_lose x) is.1
+loss_here config w (step.Execute q) r e ok x = ap (may_lose x) (asked config w q r event.Execute e ok).1
+loss_here config w (step.Query q key h) r e ok x = ap (may_lose x) (asked config w q r (event.Query key h) e ok).1
+loss_here config w (step.Pass from index to) r e ok x = sym (passed config w from index to r e ok x)
+loss_here config w (step.Inject q bytes) r e ok x = ap (may_lose x) (asked config w q r (event.Deliver bytes) e ok).1
 
 -- ---- the cluster with another party in the place of one
 
-abbrev pub with_party : RunningCluster → ℕ → Party Replica → List ℕ → RunningCluster
+abbrev pub with_party : WorldView → ℕ → Party StateView → List ℕ → WorldView
 with_party c r p order = record { config = c.config; ring = c.ring; parties = slice_set c.parties r p; order = order }
 
 -- a member of the cluster is one of another that has the config and the ring
-pub member_still : (c d : RunningCluster) (r : ℕ) (s : Replica) → d.config ≡ c.config → d.ring ≡ c.ring → IsMemberAt c r s → IsMemberAt d r s
+pub member_still : (c d : WorldView) (r : ℕ) (s : StateView) → d.config ≡ c.config → d.ring ≡ c.ring → IsMemberAt c r s → IsMemberAt d r s
 member_still c d r s config ring member = record {
   config = member.config ∙ sym config;
   ring = member.ring ∙ sym ring;
   id = member.id;
-  replay = subst (λ (k : Config). Replay k d.ring r s.entries) (sym config) (subst (λ (l : Ring). Replay c.config l r s.entries) (sym ring) member.replay);
+  replay = subst (λ (k : Config). Replay k d.ring r s.entries) (sym config)
+      (subst (λ (l : Ring). Replay c.config l r s.entries) (sym ring) member.replay);
   machine = subst (λ (k : Config). s.machine ≡ run k.kind (commits_of k r s.entries)) (sym config) member.machine;
   account = member.account;
 }
 
-members_set : (c : RunningCluster) (r : ℕ) (new : Replica) (order : List ℕ) → IsCluster c → IsMemberAt c r new
-    → (q : ℕ) (s : Replica) → state_at (with_party c r (party.Correct new) order) q ≡ Some s → IsMemberAt (with_party c r (party.Correct new) order) q s
+members_set : (c : WorldView) (r : ℕ) (new : StateView) (order : List ℕ) → IsCluster c → IsMemberAt c r new
+    → (q : ℕ) (s : StateView) → state_at (with_party c r (party.Correct new) order) q ≡ Some s
+    → IsMemberAt (with_party c r (party.Correct new) order) q s
 members_set c r new order cluster member q s is =
     let d = with_party c r (party.Correct new) order in
     let at = party_of (slice_get (slice_set c.parties r (party.Correct new)) q) s is in
@@ -102,15 +172,18 @@ members_set c r new order cluster member q s is =
     same_state e = cc
 
 -- with a member in the place of one, of the same number and secret
-went : (c : RunningCluster) (r : ℕ) (new : Replica) (order : List ℕ) (s : WorldStep) (a : WorldReply) → IsCluster c → (at : Found c r) → IsMemberAt c r new → new.secret ≡ at.state.secret
-    → map (λ (m : History). m.replica) (histories (slice_set c.parties r (party.Correct new))) ≡ map (λ (m : History). m.replica) (histories c.parties)
-    → (is_out_of_memory a ≡ false → UsesAsSigned at.state new)
+went : (c : WorldView) (r : ℕ) (new : StateView) (order : List ℕ) (s : WorldStep) (a : WorldReply) → IsCluster c → (at : Found c r)
+    → IsMemberAt c r new → new.secret ≡ at.state.secret
+    → map (λ (m : History). m.replica) (histories (slice_set c.parties r (party.Correct new)))
+    ≡ map (λ (m : History). m.replica) (histories c.parties)
+    → UsesButFor (lost_at s a r at.state) at.state new
     → StepsBy c.config c.ring (world_of c) (event_of c.config (world_of c) s) a (world_of (with_party c r (party.Correct new) order))
     → Went c (with_party c r (party.Correct new) order) s a
 went c r new order s a cluster at member secret numbers uses by =
     let d = with_party c r (party.Correct new) order in
     let correct : correct_of d ≡ correct_of c =
-    sym (numbers_of_histories (filter_map state_in (slice_set c.parties r (party.Correct new)))) ∙ numbers ∙ numbers_of_histories (filter_map state_in c.parties) in
+    sym (numbers_of_histories (filter_map state_in (slice_set c.parties r (party.Correct new)))) ∙ numbers
+    ∙ numbers_of_histories (filter_map state_in c.parties) in
     record {
       cluster = record {
         size = length-set c.parties r (party.Correct new) ∙ cluster.size;
@@ -119,29 +192,34 @@ went c r new order s a cluster at member secret numbers uses by =
         ran = record {
           steps = cluster.ran.steps ++ s ∷ [];
           answers = cluster.ran.answers ++ a ∷ [];
-          runs = subst (λ (rs : List ℕ). Runs c.config c.ring (beginning rs) (cluster.ran.steps ++ s ∷ []) (cluster.ran.answers ++ a ∷ []) (world_of d)) (sym correct)
-              (runs_one c.config c.ring (beginning (correct_of c)) (world_of c) (world_of d) cluster.ran.steps cluster.ran.answers s a cluster.ran.runs by);
+          runs = subst (λ (rs : List ℕ). Runs c.config c.ring (beginning rs) (cluster.ran.steps ++ s ∷ []) (cluster.ran.answers ++ a ∷ [])
+              (world_of d)) (sym correct)
+              (runs_one c.config c.ring (beginning (correct_of c)) (world_of c) (world_of d) cluster.ran.steps cluster.ran.answers s a
+              cluster.ran.runs by);
         };
       };
-      steps = by;
-      same = record { config = refl; ring = refl; roles = roles_same c.parties r at.state new at.there secret };
-      leaves = λ none. uses_set c.parties r at.state new at.there (uses (one_out a none));
+      answered = record {
+        steps = by;
+        same = record { config = refl; ring = refl; roles = roles_same c.parties r at.state new at.there secret };
+        leaves = uses_set c.parties r at.state new at.there (lost_at s a) uses;
+      };
     }
 
 -- ---- an event was applied
 
-same_party : (p q : Replica) → party.Correct p ≡ party.Correct q → p ≡ q
+same_party : (p q : StateView) → party.Correct p ≡ party.Correct q → p ≡ q
 same_party p q e = cc
 
-room_is : (c : RunningCluster) (r : ℕ) → (at : Found c r) → nat_le 65536 (length (entries_in (world_of c) r)) ≡ false
-room_is c r at = lt-leb 65536 (length (entries_in (world_of c) r)) (omega (arith, at.room, ap length at.entries))
+room_is : (c : WorldView) (r : ℕ) → (at : Found c r) → nat_le max_history_len (length (entries_in (world_of c) r)) ≡ false
+room_is c r at = lt-leb max_history_len (length (entries_in (world_of c) r)) (omega (arith, at.room, ap length at.entries))
 
-added_member : (c : RunningCluster) (r index : ℕ) (e : Event) (new : Replica) → (at : Found c r) → Applies at.state e index new → IsMemberAt c r new
+added_member : (c : WorldView) (r index : ℕ) (e : Event) (new : StateView) → (at : Found c r) → Applies at.state e index new
+    → IsMemberAt c r new
 unfolding RunsAlone
 added_member c r index e new at applied =
-    let config : new.config ≡ c.config = ap (λ (s : Replica). s.config) applied.rest ∙ at.member.config in
-    let ring : new.ring ≡ c.ring = ap (λ (s : Replica). s.ring) applied.rest ∙ at.member.ring in
-    let id : new.id ≡ r = ap (λ (s : Replica). s.id) applied.rest ∙ at.member.id in
+    let config : new.config ≡ c.config = ap (λ (s : StateView). s.config) applied.rest ∙ at.member.config in
+    let ring : new.ring ≡ c.ring = ap (λ (s : StateView). s.ring) applied.rest ∙ at.member.ring in
+    let id : new.id ≡ r = ap (λ (s : StateView). s.id) applied.rest ∙ at.member.id in
     record {
       config = config;
       ring = ring;
@@ -152,113 +230,144 @@ added_member c r index e new at applied =
     }
 
 -- with one entry more
-pub went_on : (c : RunningCluster) (r index : ℕ) (new : Replica) (s : WorldStep) (e : Event) → IsCluster c → IsReady c (event_of c.config (world_of c) s) r e → (at : Found c r)
+pub went_on : (c : WorldView) (r index : ℕ) (new : StateView) (s : WorldStep) (e : Event) → IsCluster c
+    → IsReady c (event_of c.config (world_of c) s) r e → (at : Found c r)
     → Applies at.state e index new → Went c (with_party c r (party.Correct new) (c.order ++ r ∷ [])) s (answer.Done r index)
 went_on c r index new s e cluster ready at applied =
     let d = with_party c r (party.Correct new) (c.order ++ r ∷ []) in
     let entry : Entry = record { event = e; reply = applied.reply } in
-    let id : new.id ≡ at.state.id = ap (λ (s : Replica). s.id) applied.rest in
+    let id : new.id ≡ at.state.id = ap (λ (s : StateView). s.id) applied.rest in
     let grown = histories_added c.parties r at.state new entry (λ j t is. (cluster.members j t is).id) at.there id applied.added in
-    let world : world_of d ≡ with_entry (world_of c) r entry = ap (λ (hs : List History). record { histories = hs; order = c.order ++ r ∷ [] }) grown in
-    let lawful : Lawful c.config c.ring r (entries_in (world_of c) r) e applied.reply = rw (at.entries, sym at.member.config, sym at.member.ring, sym at.member.id) applied.lawful in
-    let done : answer.Done r index ≡ answer.Done r (length (entries_in (world_of c) r)) = ap (answer.Done r) (applied.place ∙ ap length (sym at.entries)) in
+    let world : world_of d ≡ with_entry (world_of c) r entry =
+    ap (λ (hs : List History). record { histories = hs; order = c.order ++ r ∷ [] }) grown in
+    let lawful : Lawful c.config c.ring r (entries_in (world_of c) r) e applied.reply =
+    rw (at.entries, sym at.member.config, sym at.member.ring, sym at.member.id) applied.lawful in
+    let done : answer.Done r index ≡ answer.Done r (length (entries_in (world_of c) r)) =
+    ap (answer.Done r) (applied.place ∙ ap length (sym at.entries)) in
     let by : StepsBy c.config c.ring (world_of c) (event_of c.config (world_of c) s) (answer.Done r index) (world_of d) =
     subst (λ o. StepsBy c.config c.ring (world_of c) o (answer.Done r index) (world_of d)) (sym ready.is)
-    (subst (λ b. MatchBool b (Refuses (world_of c) refused.HistoryFull (answer.Done r index) (world_of d)) (Adds c.config c.ring (world_of c) r e (answer.Done r index) (world_of d))) (sym (room_is c r at))
+    (subst (λ b. MatchBool b (Refuses (world_of c) refused.HistoryFull (answer.Done r index) (world_of d))
+    (Adds c.config c.ring (world_of c) r e (answer.Done r index) (world_of d))) (sym (room_is c r at))
     (inl (applied.reply, lawful, done, world))) in
-    went c r new (c.order ++ r ∷ []) s (answer.Done r index) cluster at (added_member c r index e new at applied) (ap (λ (s : Replica). s.secret) applied.rest)
-    (ap (map (λ (m : History). m.replica)) grown ∙ added_numbers r entry (histories c.parties)) (λ none. applied.signed) by
+    went c r new (c.order ++ r ∷ []) s (answer.Done r index) cluster at (added_member c r index e new at applied)
+    (ap (λ (s : StateView). s.secret) applied.rest)
+    (ap (map (λ (m : History). m.replica)) grown ∙ added_numbers r entry (histories c.parties)) (none_lost at.state new applied.signed) by
 
 -- without memory
-pub stayed : (c : RunningCluster) (r : ℕ) (new : Replica) (s : WorldStep) (e : Event) → IsCluster c → IsReady c (event_of c.config (world_of c) s) r e → (at : Found c r)
-    → Stays at.state new → Went c (with_party c r (party.Correct new) c.order) s (answer.Refused refused.NoMemory)
+pub stayed : (c : WorldView) (r : ℕ) (new : StateView) (s : WorldStep) (e : Event) → IsCluster c
+    → IsReady c (event_of c.config (world_of c) s) r e → (at : Found c r)
+    → Stays at.state e new → Went c (with_party c r (party.Correct new) c.order) s (answer.Refused refused.NoMemory)
 stayed c r new s e cluster ready at stays =
     let d = with_party c r (party.Correct new) c.order in
     let is = stays.same in
-    let id : new.id ≡ at.state.id = ap (λ (s : Replica). s.id) is in
-    let entries : new.entries ≡ at.state.entries = ap (λ (s : Replica). s.entries) is in
+    let id : new.id ≡ at.state.id = ap (λ (s : StateView). s.id) is in
+    let entries : new.entries ≡ at.state.entries = ap (λ (s : StateView). s.entries) is in
     let same = histories_same c.parties r at.state new at.there id entries in
     let world : world_of d ≡ world_of c = ap (λ (hs : List History). record { histories = hs; order = c.order }) same in
     let member : IsMemberAt c r new = record {
-      config = ap (λ (s : Replica). s.config) is ∙ at.member.config;
-      ring = ap (λ (s : Replica). s.ring) is ∙ at.member.ring;
+      config = ap (λ (s : StateView). s.config) is ∙ at.member.config;
+      ring = ap (λ (s : StateView). s.ring) is ∙ at.member.ring;
       id = id ∙ at.member.id;
       replay = subst (Replay c.config c.ring r) (sym entries) at.member.replay;
-      machine = ap (λ (s : Replica). s.machine) is ∙ at.member.machine ∙ ap (λ es. run c.config.kind (commits_of c.config r es)) (sym entries);
-      account = subst (λ (t : Replica). AccountsForLeaves t) (sym is)
-          (account_still at.state.config at.state.id (leaves_of at.state.secret) at.state.used new.used at.state.entries stays.least at.member.account);
+      machine = ap (λ (s : StateView). s.machine) is ∙ at.member.machine
+          ∙ ap (λ es. run c.config.kind (commits_of c.config r es)) (sym entries);
+      account = subst (λ (t : StateView). AccountsForLeaves t) (sym is)
+          (account_still at.state.config at.state.id (leaves_of at.state.secret) at.state.used new.used at.state.entries stays.least
+          at.member.account);
     } in
     let by : StepsBy c.config c.ring (world_of c) (event_of c.config (world_of c) s) (answer.Refused refused.NoMemory) (world_of d) =
     subst (λ o. StepsBy c.config c.ring (world_of c) o (answer.Refused refused.NoMemory) (world_of d)) (sym ready.is)
-    (subst (λ b. MatchBool b (Refuses (world_of c) refused.HistoryFull (answer.Refused refused.NoMemory) (world_of d)) (Adds c.config c.ring (world_of c) r e (answer.Refused refused.NoMemory) (world_of d))) (sym (room_is c r at))
+    (subst (λ b. MatchBool b (Refuses (world_of c) refused.HistoryFull (answer.Refused refused.NoMemory) (world_of d))
+    (Adds c.config c.ring (world_of c) r e (answer.Refused refused.NoMemory) (world_of d))) (sym (room_is c r at))
     (inr (refl, world))) in
-    went c r new c.order s (answer.Refused refused.NoMemory) cluster at member (ap (λ (s : Replica). s.secret) is) (ap (map (λ (m : History). m.replica)) same) (λ none. cc) by
+    went c r new c.order s (answer.Refused refused.NoMemory) cluster at member (ap (λ (s : StateView). s.secret) is)
+    (ap (map (λ (m : History). m.replica)) same)
+    (some_lost (loss_at s r at.state) at.state new entries stays.least
+    (subst (λ n. new.used ≤ at.state.used + n) (sym (loss_here c.config (world_of c) s r e ready.is at.state)) stays.most)) by
 
-pub same_as : (c : RunningCluster) → IsSameCluster c c
+pub same_as : (c : WorldView) → IsSameCluster c c
 same_as c = record { config = refl; ring = refl; roles = refl }
 
 -- the step was refused before
-pub refused_step : (c : RunningCluster) (s : WorldStep) (f : WorldRefusal) → IsCluster c → Asks c s (Err f) → Went c c s (answer.Refused f)
-refused_step c s f cluster asked = record { cluster = cluster; steps = asked; same = same_as c; leaves = uses_none c (answer.Refused f ∷ []) }
+pub refused_step : (c : WorldView) (s : WorldStep) (f : WorldRefusal) → IsCluster c → Asks c s (Err f) → Went c c s (answer.Refused f)
+refused_step c s f cluster asked =
+    record { cluster = cluster; answered = record { steps = asked; same = same_as c; leaves = each_none c s (answer.Refused f) } }
 
 -- ---- what the code did
 
 -- without memory for the order
-pub no_room : (c : RunningCluster) (r : ℕ) (order : List ℕ) (s : WorldStep) (e : Event) → IsCluster c → IsReady c (event_of c.config (world_of c) s) r e → order ≡ c.order
+pub no_room : (c : WorldView) (r : ℕ) (order : List ℕ) (s : WorldStep) (e : Event) → IsCluster c
+    → IsReady c (event_of c.config (world_of c) s) r e → order ≡ c.order
     → Went c (record { config = c.config; ring = c.ring; parties = c.parties; order = order }) s (answer.Refused refused.NoMemory)
 no_room c r order s e cluster ready is =
-    subst (λ o. Went c (record { config = c.config; ring = c.ring; parties = c.parties; order = o }) s (answer.Refused refused.NoMemory)) (sym is)
+    subst (λ o. Went c (record { config = c.config; ring = c.ring; parties = c.parties; order = o }) s (answer.Refused refused.NoMemory))
+    (sym is)
     (refused_step c s refused.NoMemory cluster (no_memory c (event_of c.config (world_of c) s) r e ready))
 
 -- the party that is lent is the correct replica
-pub lent_is : (c : RunningCluster) (i r : ℕ) (lent : Party Replica) → (at : Found c r) → i ≡ r → lent ≡ slice_index_or c.parties i lent → lent ≡ party.Correct at.state
-lent_is c i r lent at place is = is ∙ ap (λ k. slice_index_or c.parties k lent) place ∙ sym (unwrap_or-slice_get c.parties r lent) ∙ ap (λ o. unwrap_or o lent) at.there
+pub lent_is : (c : WorldView) (i r : ℕ) (lent : Party StateView) → (at : Found c r) → i ≡ r → lent ≡ slice_index_or c.parties i lent
+    → lent ≡ party.Correct at.state
+lent_is c i r lent at place is =
+    is ∙ ap (λ k. slice_index_or c.parties k lent) place ∙ sym (unwrap_or-slice_get c.parties r lent) ∙ ap (λ o. unwrap_or o lent) at.there
 
 -- a step that was taken
-pub stepped : (c : RunningCluster) (i r index : ℕ) (lent p : Party Replica) (order : List ℕ) (s : WorldStep) (e : Event)
+pub stepped : (c : WorldView) (i r index : ℕ) (lent p : Party StateView) (order : List ℕ) (s : WorldStep) (e : Event)
     → IsCluster c → IsReady c (event_of c.config (world_of c) s) r e → i ≡ r → lent ≡ slice_index_or c.parties i lent
     → IfSome (state_in lent) (λ x. AppliesTo x e index p) → order ≡ c.order ++ r ∷ []
     → Went c (record { config = c.config; ring = c.ring; parties = slice_set c.parties i p; order = order }) s (answer.Done r index)
 stepped c i r index lent p order s e cluster ready place is applied grown =
     let at = found c s r e cluster ready in
-    let here : AppliesTo at.state e index p = subst (λ q. IfSome (state_in q) (λ x. AppliesTo x e index p)) (lent_is c i r lent at place is) applied in
-    subst (λ k. Went c (record { config = c.config; ring = c.ring; parties = slice_set c.parties k p; order = order }) s (answer.Done r index)) (sym place)
+    let here : AppliesTo at.state e index p =
+    subst (λ q. IfSome (state_in q) (λ x. AppliesTo x e index p)) (lent_is c i r lent at place is) applied in
+    subst (λ k. Went c (record { config = c.config; ring = c.ring; parties = slice_set c.parties k p; order = order }) s
+    (answer.Done r index)) (sym place)
     (subst (λ o. Went c (with_party c r p o) s (answer.Done r index)) (sym grown)
-    (subst (λ q. Went c (with_party c r q (c.order ++ r ∷ [])) s (answer.Done r index)) (sym here.1.0) (went_on c r index here.0 s e cluster ready at here.1.1)))
+    (subst (λ q. Went c (with_party c r q (c.order ++ r ∷ [])) s (answer.Done r index)) (sym here.1.0)
+    (went_on c r index here.0 s e cluster ready at here.1.1)))
 
 -- a step for which there was no memory
-pub not_stepped : (c : RunningCluster) (i r : ℕ) (lent p : Party Replica) (order : List ℕ) (s : WorldStep) (e : Event)
+pub not_stepped : (c : WorldView) (i r : ℕ) (lent p : Party StateView) (order : List ℕ) (s : WorldStep) (e : Event)
     → IsCluster c → IsReady c (event_of c.config (world_of c) s) r e → i ≡ r → lent ≡ slice_index_or c.parties i lent
-    → IfSome (state_in lent) (λ x. StaysAs x p) → order ≡ c.order
-    → Went c (record { config = c.config; ring = c.ring; parties = slice_set c.parties i p; order = order }) s (answer.Refused refused.NoMemory)
+    → IfSome (state_in lent) (λ x. StaysAs x e p) → order ≡ c.order
+    → Went c (record { config = c.config; ring = c.ring; parties = slice_set c.parties i p; order = order }) s
+    (answer.Refused refused.NoMemory)
 not_stepped c i r lent p order s e cluster ready place is stays same =
     let at = found c s r e cluster ready in
-    let here : StaysAs at.state p = subst (λ q. IfSome (state_in q) (λ x. StaysAs x p)) (lent_is c i r lent at place is) stays in
-    subst (λ k. Went c (record { config = c.config; ring = c.ring; parties = slice_set c.parties k p; order = order }) s (answer.Refused refused.NoMemory)) (sym place)
+    let here : StaysAs at.state e p = subst (λ q. IfSome (state_in q) (λ x. StaysAs x e p)) (lent_is c i r lent at place is) stays in
+    subst (λ k. Went c (record { config = c.config; ring = c.ring; parties = slice_set c.parties k p; order = order }) s
+    (answer.Refused refused.NoMemory)) (sym place)
     (subst (λ o. Went c (with_party c r p o) s (answer.Refused refused.NoMemory)) (sym same)
-    (subst (λ q. Went c (with_party c r q c.order) s (answer.Refused refused.NoMemory)) (sym here.1.0) (stayed c r here.0 s e cluster ready at here.1.1)))
+    (subst (λ q. Went c (with_party c r q c.order) s (answer.Refused refused.NoMemory)) (sym here.1.0)
+    (stayed c r here.0 s e cluster ready at here.1.1)))
 
 -- the step is at a replica of the cluster, which is correct and has room
-pub place_within : (c : RunningCluster) (i r : ℕ) → Found c r → i ≡ r → i < length c.parties
+pub place_within : (c : WorldView) (i r : ℕ) → Found c r → i ≡ r → i < length c.parties
 place_within c i r at place = subst (λ k. k < length c.parties) (sym place) (slice_get_within c.parties r (party.Correct at.state) at.there)
 
-pub lent_room : (c : RunningCluster) (i r : ℕ) (lent : Party Replica) → (at : Found c r) → i ≡ r → lent ≡ slice_index_or c.parties i lent → IsSomeAnd (state_in lent) (λ x. length x.entries < 65536)
-lent_room c i r lent at place is = subst (λ q. IsSomeAnd (state_in q) (λ x. length x.entries < 65536)) (sym (lent_is c i r lent at place is)) at.room
+pub lent_room : (c : WorldView) (i r : ℕ) (lent : Party StateView) → (at : Found c r) → i ≡ r → lent ≡ slice_index_or c.parties i lent
+    → IsSomeAnd (state_in lent) (λ x. length x.entries < max_history_len)
+lent_room c i r lent at place is =
+    subst (λ q. IsSomeAnd (state_in q) (λ x. length x.entries < max_history_len)) (sym (lent_is c i r lent at place is)) at.room
 
 -- ---- steps, one after another
 
-pub same_still : (c d : RunningCluster) → IsSameCluster c d → (e : RunningCluster) → IsSameCluster d e → IsSameCluster c e
-same_still c d first e then = record { config = then.config ∙ first.config; ring = then.ring ∙ first.ring; roles = then.roles ∙ first.roles }
+pub same_still : (c d : WorldView) → IsSameCluster c d → (e : WorldView) → IsSameCluster d e → IsSameCluster c e
+same_still c d first e then = record {
+  config = then.config ∙ first.config;
+  ring = then.ring ∙ first.ring;
+  roles =
+      then.roles ∙ first.roles;
+}
 
 -- a run with one step more
-pub run_more : (c d e : RunningCluster) (steps : List WorldStep) (answers : List WorldReply) (s : WorldStep) (a : WorldReply)
+pub run_more : (c d e : WorldView) (steps : List WorldStep) (answers : List WorldReply) (s : WorldStep) (a : WorldReply)
     → Runs c.config c.ring (world_of c) steps answers (world_of d) → IsSameCluster c d → Went d e s a
     → Runs c.config c.ring (world_of c) (steps ++ s ∷ []) (answers ++ a ∷ []) (world_of e)
 run_more c d e steps answers s a runs same went =
     runs_one c.config c.ring (world_of c) (world_of d) (world_of e) steps answers s a runs
     (subst (λ k. StepsBy k c.ring (world_of d) (event_of k (world_of d) s) a (world_of e)) same.config
-    (subst (λ l. StepsBy d.config l (world_of d) (event_of d.config (world_of d) s) a (world_of e)) same.ring went.steps))
+    (subst (λ l. StepsBy d.config l (world_of d) (event_of d.config (world_of d) s) a (world_of e)) same.ring went.answered.steps))
 
-pub no_steps : (c : RunningCluster) → Runs c.config c.ring (world_of c) [] [] (world_of c)
+pub no_steps : (c : WorldView) → Runs c.config c.ring (world_of c) [] [] (world_of c)
 unfolding Runs
 no_steps c = refl

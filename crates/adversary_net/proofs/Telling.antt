@@ -1,4 +1,4 @@
--- What is told of a running cluster: its applications, and what they replied.
+-- The accessors of a running cluster: its applications, and their replies.
 use Rattle.std.proofs.Common.{◌≡◌, ℕ, List, [], length, take, refl, sym, ap, subst, ◌∙◌}
 use Rattle.std.specs.Prelude.{Option, Some, None, slice_get, option_map}
 use Rattle.std.proofs.Math.Seq.{take-length}
@@ -13,42 +13,45 @@ use Rattle.ledger_model.specs.Rules.{Ring}
 use Rattle.ledger_model.specs.Worlds.{entries_in, IsReplyOn, OwnMachines}
 use Rattle.ledger_model.proofs.Steps.{replays_follow}
 use Rattle.ledger_laws.proofs.Ledgers.{entry_at, reply_on}
-use Rattle.locked_replica.specs.Replicas.{Replica}
-use Rattle.replica_core.specs.Telling.{info_reply}
-use Rattle.adversary_net.specs.Clusters.{RunningCluster, IsCluster, IsMemberAt, OwnReplies, state_at, machine_in, history_in, world_of}
+use Rattle.locked_replica.specs.States.{StateView}
+use Rattle.replica_core.specs.Facts.{info_reply}
+use Rattle.adversary_net.specs.WorldViews.{WorldView, IsCluster, IsMemberAt, OwnReplies, state_at, machine_in, history_in, world_of}
 use Rattle.adversary_net.proofs.Asking.{its_history}
 
 -- a correct replica, by its history
-record Correct (c : RunningCluster) (r : ℕ) (m : History) : Type 0 where
-  state : Replica
+record Correct (c : WorldView) (r : ℕ) (m : History) : Type 0 where
+  state : StateView
   there : state_at c r ≡ Some state
   entries : state.entries ≡ m.entries
   member : IsMemberAt c r state
 
-by_history : (o : Option Replica) (m : History) → option_map history_in o ≡ Some m → (s : Replica) × (o ≡ Some s) × (s.entries ≡ m.entries)
+by_history : (o : Option StateView) (m : History) → option_map history_in o ≡ Some m
+    → (s : StateView) × (o ≡ Some s) × (s.entries ≡ m.entries)
 by_history None m is = cc
 by_history (Some s) m is = (s, refl, entries_are (history_in s) m is)
   where
     entries_are : (h m : History) → Some h ≡ Some m → h.entries ≡ m.entries
     entries_are h m e = cc
 
-correct : (c : RunningCluster) (r : ℕ) (m : History) → IsCluster c → history_of (world_of c).histories r ≡ Some m → Correct c r m
+correct : (c : WorldView) (r : ℕ) (m : History) → IsCluster c → history_of (world_of c).histories r ≡ Some m → Correct c r m
 correct c r m cluster is =
     let own = by_history (state_at c r) m (sym (its_history c r cluster) ∙ is) in
     record { state = own.0; there = own.1; entries = own.2; member = cluster.members r own.0 own.1 }
 
-pub own_machines : (c : RunningCluster) → IsCluster c → OwnMachines c.config (world_of c).histories (machine_in c)
+pub own_machines : (c : WorldView) → IsCluster c → OwnMachines c.config (world_of c).histories (machine_in c)
 own_machines c cluster r m is =
     let own = correct c r m cluster is in
     let machine : machine_in c r ≡ own.state.machine = simp own.there in
     machine ∙ own.member.machine ∙ ap (λ es. run c.config.kind (commits_of c.config r es)) own.entries
 
-reply_is : (config : Config) (ring : Ring) (r : ℕ) (entries : List Entry) → Follows config ring r entries → (i : ℕ) (e : Entry) → slice_get entries i ≡ Some e
+reply_is : (config : Config) (ring : Ring) (r : ℕ) (entries : List Entry) → Follows config ring r entries → (i : ℕ) (e : Entry)
+    → slice_get entries i ≡ Some e
     → IsReplyOn config (commits_of config r entries) (length (commits_of config r (take i entries))) e.event e.reply
 reply_is config ring r entries follows i e at =
-    reply_on config ring r entries follows (commits_of config r entries) (take-length (commits_of config r entries)) i e.event e.reply (entry_at config ring r entries follows i e at)
+    reply_on config ring r entries follows (commits_of config r entries) (take-length (commits_of config r entries)) i e.event e.reply
+    (entry_at config ring r entries follows i e at)
 
-pub own_replies : (c : RunningCluster) → IsCluster c → OwnReplies c.config (world_of c).histories
+pub own_replies : (c : WorldView) → IsCluster c → OwnReplies c.config (world_of c).histories
 unfolding Replay Follows
 own_replies c cluster r i m e is at =
     let own = correct c r m cluster is in
@@ -56,10 +59,11 @@ own_replies c cluster r i m e is at =
     reply_is c.config c.ring r m.entries (replays_follow c.config c.ring r [] m.entries replay) i e at
 
 -- what the application of a correct replica tells
-pub info_at : (c : RunningCluster) (r : ℕ) (s t : Replica) → IsMemberAt c r s → entries_in (world_of c) r ≡ s.entries → t ≡ s
-    → info_reply t.config.kind (commits_of t.config t.id t.entries) ≡ info_reply c.config.kind (commits_of c.config r (entries_in (world_of c) r))
+pub info_at : (c : WorldView) (r : ℕ) (s t : StateView) → IsMemberAt c r s → entries_in (world_of c) r ≡ s.entries → t ≡ s
+    → info_reply t.config.kind (commits_of t.config t.id t.entries)
+    ≡ info_reply c.config.kind (commits_of c.config r (entries_in (world_of c) r))
 info_at c r s t member entries same =
-    ap (λ (x : Replica). info_reply x.config.kind (commits_of x.config x.id x.entries)) same
+    ap (λ (x : StateView). info_reply x.config.kind (commits_of x.config x.id x.entries)) same
     ∙ ap (λ (k : Config). info_reply k.kind (commits_of k s.id s.entries)) member.config
     ∙ ap (λ i. info_reply c.config.kind (commits_of c.config i s.entries)) member.id
     ∙ ap (λ es. info_reply c.config.kind (commits_of c.config r es)) (sym entries)

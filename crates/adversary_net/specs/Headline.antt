@@ -1,14 +1,14 @@
--- What a running cluster is to a ledger that knows no replicas.
+-- What a running cluster is equivalent to: a single ledger without replicas.
 use Rattle.std.specs.Prelude.{length}
 use Rattle.ledger_model.specs.Worlds.{NoForgery, Refines, MachinesOn}
-use Rattle.adversary_net.specs.Clusters.{RunningCluster, world_of, machine_in}
+use Rattle.adversary_net.specs.WorldViews.{WorldView, world_of, machine_in}
 
 -- nothing that a correct replica accepted was forged
-abbrev pub IsUnforged : RunningCluster → Type 0
+abbrev pub IsUnforged : WorldView → Type 0
 IsUnforged c = NoForgery c.config c.ring (world_of c)
 
--- what happened, step by step, is a run of one sequential ledger, and now each correct replica's application is the one run
--- alone on a beginning of that ledger: on as many blocks as the replica committed
-pub record IsOneLedger (c : RunningCluster) : Type 0 where
+-- Everything that happened is a run of one sequential ledger. Each correct replica's application is now what it is when
+-- it runs alone on a prefix of that ledger: the prefix that the replica committed.
+pub record IsOneLedger (c : WorldView) : Type 0 where
   pub refines : Refines c.config (world_of c)
   pub machines : MachinesOn c.config (world_of c).histories (refines.ledger (length c.order)) (machine_in c)

@@ -1,5 +1,6 @@
-pub mod Clusters
+pub mod WorldViews
 pub mod Headline
+pub mod Leaves
 pub mod Openings
 pub mod Sending
 pub mod Steps

@@ -1,4 +1,4 @@
--- A cluster as it begins: which replicas lie, their keys, and that nothing has happened.
+-- A cluster at its start: which replicas lie, their keys, and that nothing has happened.
 use Rattle.std.specs.Prelude.{◌≡◌, ℕ, ◌+◌, ◌==◌, ◌<◌, ◌≤◌, Bool, not, List, [], ◌∷◌, length, map, filter, All, if◌then◌else◌}
 use Rattle.std.specs.List.{list_any, range_with_len}
 use Rattle.ledger_model.specs.declared.config.Config.{Config}
@@ -6,12 +6,12 @@ use Rattle.ledger_model.specs.Applications.{Machine, run}
 use Rattle.ledger_model.specs.Rules.{Ring}
 use Rattle.lms_tree.specs.Trees.{Secret}
 use Rattle.cluster_keys.specs.Keys.{unused, ring_with}
-use Rattle.locked_replica.specs.Replicas.{Replica}
+use Rattle.locked_replica.specs.States.{StateView, new_state}
 use Rattle.adversary_net.specs.declared.party.Party.{Party}
 use Rattle.adversary_net.specs.declared.party.Party.TheVariants as party
-use Rattle.adversary_net.specs.Clusters.{RunningCluster}
+use Rattle.adversary_net.specs.WorldViews.{WorldView}
 
--- how many different ones there are
+-- the number of different elements
 abbrev pub different : List ℕ → ℕ
 different [] = 0
 different (x ∷ xs) = (if list_any (λ y. y == x) xs then 0 else 1) + different xs
@@ -20,37 +20,30 @@ different (x ∷ xs) = (if list_any (λ y. y == x) xs then 0 else 1) + different
 abbrev pub is_liar : List ℕ → ℕ → Bool
 is_liar liars r = list_any (λ l. l == r) liars
 
--- the correct ones among n replicas from a on
+-- the correct replicas among the n replicas from number a on
 abbrev pub correct_from : List ℕ → ℕ → ℕ → List ℕ
 correct_from liars a n = filter (λ r. not (is_liar liars r)) (range_with_len a n)
 
--- the replicas of the cluster that are none of the liars, by ascending numbers
+-- the correct replicas of the cluster, in ascending order
 abbrev pub correct_without : Config → List ℕ → List ℕ
 correct_without config liars = correct_from liars 0 config.replicas
 
--- these replicas may lie: no more than t different ones, each of the cluster
+-- these replicas may lie: at most t different ones, each of the cluster
 pub record MayLie (config : Config) (liars : List ℕ) : Type 0 where
   pub few : different liars ≤ config.faults
   pub below : All (λ r. r < config.replicas) liars
 
--- a correct replica to which nothing happened
-abbrev pub new_replica : Config → Ring → (ℕ → Secret) → ℕ → Replica
-new_replica config ring secrets r = record {
-  config = config;
-  id = r;
-  ring = ring;
-  secret = secrets r;
-  used = 0;
-  entries = [];
-  machine = run config.kind [];
-}
+-- a correct replica to which nothing has happened
+abbrev pub new_replica : Config → Ring → (ℕ → Secret) → ℕ → StateView
+new_replica config ring secrets r = new_state config r ring (unused (secrets r))
 
--- what a replica is as the cluster begins
-abbrev pub new_party : Config → Ring → (ℕ → Secret) → List ℕ → ℕ → Party Replica
-new_party config ring secrets liars r = if is_liar liars r then party.Liar (unused (secrets r)) else party.Correct (new_replica config ring secrets r)
+-- the party with this number at the start
+abbrev pub new_party : Config → Ring → (ℕ → Secret) → List ℕ → ℕ → Party StateView
+new_party config ring secrets liars r =
+    if is_liar liars r then party.Liar (unused (secrets r)) else party.Correct (new_replica config ring secrets r)
 
--- the cluster of these secrets, of which these replicas lie, as it begins
-abbrev pub new_cluster : Config → (ℕ → Secret) → List ℕ → RunningCluster
+-- the cluster of these secrets at its start, in which these replicas lie
+abbrev pub new_cluster : Config → (ℕ → Secret) → List ℕ → WorldView
 new_cluster config secrets liars = record {
   config = config;
   ring = ring_with config secrets;
@@ -58,7 +51,7 @@ new_cluster config secrets liars = record {
   order = [];
 }
 
--- an application and random keys for each of so many correct replicas, each application in the opening state of its kind
+-- an application and random keys for each of n correct replicas, with each application in the opening state of its kind
 pub record IsSupply {A R : Type 0} (machine : A → Machine) (config : Config) (n : ℕ) (apps : List A) (randoms : List R) : Type 0 where
   pub an_app : length apps ≡ n
   pub a_pair : length randoms ≡ n

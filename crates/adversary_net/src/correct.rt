@@ -1,11 +1,11 @@
-//! A correct replica, and where in its history the frames that it sent stand.
+//! A correct replica, with an index of the frames that it sent.
 ghost use Rattle.std.specs.Prelude.{◌≡◌, ◌<◌, ◌≤◌, ◌*◌, ◌^◌, length, slice_get, option_map, Some, [], IfOk, OnErr};
 ghost use Rattle.std.specs.Option.{option_copied};
 ghost use Rattle.ledger_model.specs.declared.history.Entry.{Entry};
 ghost use Rattle.ledger_model.specs.Worlds.{frames_in, frames_sent};
 ghost use Rattle.adversary_net.specs.Sending.{frame_of};
 
-use crate::sent_frames::SentFrames;
+use crate::sent_index::SentIndex;
 use abci::Application;
 use bytes::Bytes;
 use key_ring::{KeyRing, Signer};
@@ -15,25 +15,25 @@ use std::alloc::{AllocError, Global};
 use std::hash::RandomState;
 use std::marker::Model;
 
-/// A correct replica, and where in its history the frames that it sent stand.
+/// A correct replica, with an index that finds the frames that it sent in its history.
 #[derive(Drop)]
 pub struct CorrectReplica<A: Application> {
     state: State<A>,
-    sent: SentFrames,
+    sent: SentIndex,
 }
 
 impl<A: Application> Model for CorrectReplica<A> {
-    ghost use Rattle.locked_replica.specs.Replicas.{Replica};
+    ghost use Rattle.locked_replica.specs.States.{StateView};
     ghost use Rattle.adversary_net.specs.Sending.{IsKept};
 
-    ghost Value = { Replica };
+    ghost Value = { StateView };
 
     ghost view = { λ c. c.state };
 
     ghost invariant = { λ c. IsKept c.sent.sending.items c.sent.total c.state };
 }
 
-/// How many frames an entry sent.
+/// The number of frames that an entry sent.
 fn frames_of<A: Application>(state: &State<A>, index: usize) -> usize
     ensures { (e : Entry) → slice_get state.now.entries index ≡ Some e → result ≡ length (frames_in e.reply) }
 {
@@ -46,7 +46,7 @@ fn frames_of<A: Application>(state: &State<A>, index: usize) -> usize
     }
 }
 
-/// A frame of a round end.
+/// The frame of a round end with this index.
 fn frame_in<'a>(ended: &RoundEndView<'a>, frame: usize) -> Option<&'a Bytes>
     ensures { option_copied result ≡ option_map (λ f. f.frame) (slice_get ended.now.frames frame) }
 {
@@ -56,7 +56,7 @@ fn frame_in<'a>(ended: &RoundEndView<'a>, frame: usize) -> Option<&'a Bytes>
     }
 }
 
-/// A frame of an entry.
+/// The frame with this index among those that an entry sent.
 fn frame_at<A: Application>(state: &State<A>, index: usize, frame: usize) -> Option<&Bytes>
     ensures { option_copied result ≡ frame_of state.now.entries index frame }
 {
@@ -71,10 +71,11 @@ fn frame_at<A: Application>(state: &State<A>, index: usize, frame: usize) -> Opt
 
 impl<A: Application> CorrectReplica<A> {
     ghost use Rattle.ledger_model.specs.Applications.{run};
-    ghost use Rattle.locked_replica.specs.Replicas.{IsMember};
+    ghost use Rattle.locked_replica.specs.States.{IsMember, new_state};
     ghost use Rattle.adversary_net.specs.Steps.{Applies, Stays};
+    ghost use Rattle.ledger_model.specs.Limits.{max_history_len};
 
-    /// A replica with no history. The only error is want of memory.
+    /// A replica with an empty history. The only error is allocation failure.
     pub(crate) fn new(
         alloc: Global,
         config: Config,
@@ -86,11 +87,11 @@ impl<A: Application> CorrectReplica<A> {
     ) -> Result<Self, AllocError>
         requires member { IsMember config id ring signer.secret }
         requires opening { A.machine app ≡ run config.kind [] }
-        ensures { IfOk result (λ replica. replica ≡ record { config = config; id = id; ring = ring; secret = signer.secret; used = signer.used; entries = []; machine = run config.kind [] }) }
+        ensures { IfOk result (λ replica. replica ≡ new_state config id ring signer) }
     {
         Ok(CorrectReplica {
             state: State::new(alloc, config, id, signer, ring, app, randoms)?,
-            sent: SentFrames::new(alloc),
+            sent: SentIndex::new(alloc),
         })
     }
 
@@ -101,7 +102,7 @@ impl<A: Application> CorrectReplica<A> {
         &self.state
     }
 
-    /// The frame of an index, of all that it ever sent. It takes no walk over the history.
+    /// The frame with this index, among all that the replica ever sent. It is found without a walk over the history.
     pub(crate) fn frame(&self, index: usize) -> Option<&Bytes>
         ensures { option_copied result ≡ slice_get (frames_sent self.now.entries) index }
     {
@@ -109,22 +110,22 @@ impl<A: Application> CorrectReplica<A> {
         frame_at(&self.state, entry, frame)
     }
 
-    /// How many frames it ever sent.
+    /// The number of frames that the replica ever sent.
     pub(crate) fn frames_sent(&self) -> u128
         ensures count { result ≡ length (frames_sent self.now.entries) }
-        ensures bound { result ≤ 65536 * 2 ^ 64 }
+        ensures bound { result ≤ max_history_len * 2 ^ 64 }
     {
         let _ = self.state.len();
         self.sent.total
     }
 
-    /// Takes one event: the answer is the index of the new entry. The history has room.
+    /// Takes one event and returns the index of the new entry. The history has room.
     ///
-    /// The only error is want of memory. Then all is as before, but a round end may have used leaves.
+    /// The only error is want of memory. Then all is as before, but a round end may have used leaves: as many as were to sign.
     pub(crate) fn apply(&mut self, event: Event) -> Result<usize, AllocError>
-        requires room { length self.old.entries < 65536 }
+        requires room { length self.old.entries < max_history_len }
         ensures applied { IfOk result (λ index. Applies self.old event index self.new) }
-        ensures err { OnErr result (Stays self.old self.new) }
+        ensures err { OnErr result (Stays self.old event self.new) }
     {
         self.sent.reserve()?;
         match self.state.apply(event) {

@@ -1,10 +1,10 @@
-//! How a world is made: its keys, its replicas, and which of them lie.
+//! Makes a world: its keys, its replicas, and the liars among them.
 ghost use Rattle.std.specs.Prelude.{◌≡◌, [], ◌<◌, ◌≤◌, ◌-◌, ◌↔◌, false, length, map, vec_len, All, Any, IfOk, OnOk, IsErrOf, IsTrue, if◌then◌else◌};
 ghost use Rattle.std.specs.List.{range_with_len};
 ghost use Rattle.std.specs.Vec.Iter.{into_iter_items};
 ghost use Rattle.ledger_model.specs.Applications.{run};
 ghost use Rattle.cluster_keys.specs.Keys.{ring_of, secret_of, signers_of, unused};
-ghost use Rattle.locked_replica.specs.Replicas.{IsMember};
+ghost use Rattle.locked_replica.specs.States.{IsMember};
 ghost use Rattle.adversary_net.specs.Openings.{different, is_liar, correct_without, new_party, IsSupply, MayLie};
 
 use crate::correct::CorrectReplica;
@@ -12,21 +12,21 @@ use crate::fault::WorldFault;
 use crate::party::Party;
 use crate::world::World;
 use abci::Application;
-use cluster_keys::{Cluster, ClusterKeys, all_keys};
+use cluster_keys::{ClusterKeys, ClusterSeed, all_keys};
 use key_ring::{KeyRing, Signer};
 use ledger_model::{Config, ReplicaId};
 use std::alloc::{AllocError, Global};
 use std::hash::RandomState;
 use std::vec::IntoIter;
 
-/// Whether the replica is one of them.
+/// Whether the replica is in the list.
 fn is_among(replicas: &[ReplicaId], replica: ReplicaId) -> bool
     ensures { result ≡ is_liar replicas.now replica }
 {
     replicas.contains(&replica)
 }
 
-/// How many replicas of the cluster are none of the liars: as many applications does [`World::new`] take.
+/// The number of replicas of the cluster that are not liars. [`World::new`] takes this number of applications.
 pub fn count_correct(config: &Config, liars: &[ReplicaId]) -> usize
     ensures { result ≡ length (correct_without config.now liars.now) }
 {
@@ -39,7 +39,7 @@ pub fn count_correct(config: &Config, liars: &[ReplicaId]) -> usize
     count
 }
 
-/// How many different replicas are named.
+/// The number of different replicas in the list.
 fn different_of(replicas: &[ReplicaId]) -> usize
     ensures { result ≡ different replicas.now }
 {
@@ -53,7 +53,7 @@ fn different_of(replicas: &[ReplicaId]) -> usize
     count
 }
 
-/// Whether one of them is no replica of the cluster.
+/// Whether the list has a replica that is not in the cluster.
 fn has_stranger(config: &Config, replicas: &[ReplicaId]) -> bool
     ensures { IsTrue result ↔ Any (λ r. config.now.replicas ≤ r) replicas.now }
 {
@@ -78,14 +78,14 @@ fn check_liars(config: &Config, liars: &[ReplicaId]) -> Result<(), WorldFault>
     Ok(())
 }
 
-/// What the correct replicas are made with, the next one's first.
+/// The applications and random keys for the correct replicas that are still to be made, in the order of their numbers.
 #[derive(Drop)]
 struct Supply<A: Application> {
     apps: IntoIter<A>,
     randoms: IntoIter<[RandomState; 2]>,
 }
 
-/// A correct replica, made with the next application and the next random keys.
+/// A correct replica with the next application and the next random keys.
 fn correct_replica<A: Application>(
     alloc: Global,
     config: Config,
@@ -110,10 +110,10 @@ fn correct_replica<A: Application>(
     }
 }
 
-/// What a replica is: a liar, or a correct replica with nothing happened.
+/// A liar, or a correct replica to which nothing has happened.
 fn party_of<A: Application>(
     alloc: Global,
-    cluster: &Cluster,
+    cluster: &ClusterSeed,
     liars: &[ReplicaId],
     id: ReplicaId,
     signer: Signer,
@@ -138,10 +138,10 @@ fn party_of<A: Application>(
     Ok(Party::Correct(replica))
 }
 
-/// What the replicas are, by number.
+/// All parties, by number.
 fn parties_of<A: Application>(
     alloc: Global,
-    cluster: &Cluster,
+    cluster: &ClusterSeed,
     liars: &[ReplicaId],
     signers: Vec<Signer>,
     ring: &KeyRing,
@@ -170,27 +170,28 @@ fn parties_of<A: Application>(
 impl<A: Application> World<A> {
     ghost use Rattle.ledger_model.specs.Timelines.{AreReplicas};
     ghost use Rattle.ledger_model.specs.Worlds.{beginning};
-    ghost use Rattle.adversary_net.specs.Clusters.{world_of};
+    ghost use Rattle.adversary_net.specs.WorldViews.{world_of};
     ghost use Rattle.adversary_net.specs.Openings.{new_cluster};
 
-    /// The world of a cluster in which these replicas lie, with an application and two random keys for each correct replica, by
-    /// ascending numbers. The applications are in their opening state, of the cluster's kind.
+    /// The world of a cluster in which `liars` lie. Each correct replica gets an application and two random keys, in
+    /// ascending order of their numbers. The applications must be in their opening state, of the cluster's kind. All
+    /// key pairs are computed here, once.
     ///
-    /// `TooManyLiars` comes exactly where more than `t` different replicas are to lie; `NoSuchReplica` exactly where not so many
-    /// are, but one has a number that is no replica's. All key pairs are computed here, once.
+    /// `TooManyLiars` comes exactly if more than `t` different replicas are to lie. `NoSuchReplica` comes exactly if no
+    /// more than `t` are, but one of them is not in the cluster. `NoMemory` comes if memory runs out.
     pub fn new(
         alloc: Global,
-        cluster: &Cluster,
+        cluster: &ClusterSeed,
         liars: &[ReplicaId],
         apps: Vec<A>,
         randoms: Vec<[RandomState; 2]>,
     ) -> Result<Self, WorldFault>
-        // There are as many as correct replicas.
+        // There is one application, and one pair of random keys, for each correct replica.
         requires apps { MayLie cluster.now.config liars.now → vec_len apps ≡ length (correct_without cluster.now.config liars.now) }
         requires randoms { MayLie cluster.now.config liars.now → vec_len randoms ≡ length (correct_without cluster.now.config liars.now) }
         requires opening { All (λ app. A.machine app ≡ run cluster.now.config.kind []) apps.items }
         ensures new { IfOk result (λ world. world ≡ new_cluster cluster.now.config (secret_of cluster.now) liars.now) }
-        // For the definitions it is a world in which nothing has happened.
+        // In terms of the definitions, it is a world in which nothing has happened.
         ensures begins { IfOk result (λ world. world_of world ≡ beginning (correct_without cluster.now.config liars.now)) }
         ensures replicas { OnOk result (AreReplicas cluster.now.config (correct_without cluster.now.config liars.now)) }
         ensures too_many { IsErrOf result WorldFault.TooManyLiars ↔ (cluster.now.config.faults < different liars.now) }

@@ -1,17 +1,17 @@
-//! Why a world is not made.
+//! Why a world can't be made.
 ghost use Rattle.std.specs.Prelude.{◌≡◌};
 ghost use Rattle.adversary_net.specs.declared.fault.WorldFault.TheVariants.{NoMemory};
 
 use std::alloc::AllocError;
 use thiserror::Error;
 
-/// Why a world is not made.
+/// Why a world can't be made.
 #[derive(Clone, Copy, Debug, PartialEq, Eq, Error)]
 pub enum WorldFault {
-    /// More different replicas are to lie than may.
+    /// More different replicas are to lie than the cluster tolerates.
     #[error("more replicas are to lie than may")]
     TooManyLiars,
-    /// One that is to lie is no replica of the cluster.
+    /// A replica that is to lie is not in the cluster.
     #[error("the cluster has no replica of that number")]
     NoSuchReplica,
     /// Memory ran out.

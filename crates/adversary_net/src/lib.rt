@@ -1,7 +1,7 @@
-//! A whole cluster with liars, run step by step on the replicas of the product.
+//! A whole cluster with liars, which runs step by step on the same replicas as the running program.
 //!
-//! A [`World`] has the states of the correct replicas and the key pairs of the liars. [`World::run`] takes steps and answers
-//! each; its contract says that what happens is a run of the definitions of a world.
+//! A [`World`] has the states of the correct replicas and the key pairs of the liars. [`World::run`] takes steps and
+//! returns a reply to each. Its contract says that everything that happens is a run in the sense of `ledger_model`.
 #![tactic(auto)]
 
 mod correct;
@@ -9,7 +9,7 @@ mod creation;
 mod fault;
 mod lying;
 mod party;
-mod sent_frames;
+mod sent_index;
 mod stepping;
 mod world;
 

@@ -1,7 +1,7 @@
-//! What a liar signs.
+//! What liars sign.
 ghost use Rattle.std.specs.Prelude.{◌≡◌, ◌≤◌, None, length, IfSome, IfNone, IfOk};
 ghost use Rattle.ledger_model.specs.Limits.{max_signature_len};
-ghost use Rattle.adversary_net.specs.Clusters.{liar_in, LiarSigns};
+ghost use Rattle.adversary_net.specs.WorldViews.{liar_in, LiarSigns};
 
 use crate::correct::CorrectReplica;
 use crate::party::Party;
@@ -29,12 +29,12 @@ fn signature_of<A: Application>(
 }
 
 impl<A: Application> World<A> {
-    ghost use Rattle.adversary_net.specs.Clusters.{liar_at, SignsFor};
+    ghost use Rattle.adversary_net.specs.WorldViews.{liar_at, SignsFor};
 
-    /// A liar's signature of a message with the next leaf of its key pair, for whoever makes lies; none where the number is no
-    /// liar's. It changes nothing else: a lie comes to a replica by a step.
+    /// Signs a message for a liar, with the next leaf of its key pair; `None` if the number is no liar's. Changes
+    /// nothing else: a lie reaches a replica only by a step.
     ///
-    /// `Exhausted` comes only, and always, where no leaf is left. After `NoMemory` the leaf is used up.
+    /// `Exhausted` comes exactly if no leaf is left. After `NoMemory` the leaf is used up.
     pub fn sign_as(&mut self, liar: ReplicaId, message: &[u8]) -> Option<Result<Vec<u8>, SignFault>>
         ensures signs { IfSome result (λ answer. SignsFor (λ signature. signature.items) self.old liar message.now answer self.new) }
         ensures short { IfSome result (λ answer. IfOk answer (λ signature. length signature.items ≤ max_signature_len)) }

@@ -1,7 +1,8 @@
 //! The steps of a world.
 ghost use Rattle.std.specs.Prelude.{◌≡◌, ◌<◌, length, IfSome, IsSomeAnd, IfOk, OnErr};
-ghost use Rattle.adversary_net.specs.Clusters.{state_in};
+ghost use Rattle.adversary_net.specs.WorldViews.{state_in};
 ghost use Rattle.adversary_net.specs.Steps.{AppliesTo, StaysAs, answered};
+ghost use Rattle.ledger_model.specs.Limits.{max_history_len};
 
 use crate::correct::CorrectReplica;
 use crate::party::Party;
@@ -11,14 +12,14 @@ use ledger_model::{Event, ReplicaId, WorldRefusal, WorldReply, WorldStep};
 use locked_replica::MAX_ENTRIES;
 use std::alloc::AllocError;
 
-/// One event at a correct replica, whose history has room.
+/// Applies one event to a correct replica, whose history has room.
 fn apply_to<A: Application>(
     party: &mut Party<CorrectReplica<A>>,
     event: Event,
 ) -> Result<usize, AllocError>
-    requires room { IsSomeAnd (state_in party.old) (λ s. length s.entries < 65536) }
+    requires room { IsSomeAnd (state_in party.old) (λ s. length s.entries < max_history_len) }
     ensures applied { IfOk result (λ index. IfSome (state_in party.old) (λ s. AppliesTo s event index party.new)) }
-    ensures err { OnErr result (IfSome (state_in party.old) (λ s. StaysAs s party.new)) }
+    ensures err { OnErr result (IfSome (state_in party.old) (λ s. StaysAs s event party.new)) }
 {
     let Party::Correct(replica) = party else {
         unreachable!();
@@ -26,7 +27,7 @@ fn apply_to<A: Application>(
     replica.apply(event)
 }
 
-/// The answer to a step.
+/// The reply to a step.
 fn reply_of(outcome: Result<(ReplicaId, usize), WorldRefusal>) -> WorldReply
     ensures { result ≡ answered outcome }
 {
@@ -42,11 +43,12 @@ impl<A: Application> World<A> {
     ghost use Rattle.ledger_model.specs.declared.event.Event.{Event};
     ghost use Rattle.ledger_model.specs.Timelines.{AreReplicas};
     ghost use Rattle.ledger_model.specs.Worlds.{entries_in, asks, passes, fault_of_two, Runs, OwnMachines};
-    ghost use Rattle.adversary_net.specs.Clusters.{world_of, correct_of, machine_in, AllAccountForLeaves, HasRun, IsCluster, IsSameCluster, OwnReplies, UsesAsAnswered};
+    ghost use Rattle.adversary_net.specs.WorldViews.{world_of, correct_of, machine_in, AllAccountForLeaves, HasRun, IsCluster, IsSameCluster, OwnReplies, UsesAsAnswered};
     ghost use Rattle.adversary_net.specs.Headline.{IsUnforged, IsOneLedger};
+    ghost use Rattle.adversary_net.specs.Leaves.{AreAnswered};
     ghost use Rattle.adversary_net.specs.Steps.{Refused, IsReady, Asks, Went};
 
-    /// Whether an event may be asked of the replica: it is correct, and its history has room.
+    /// Why the replica can't take an event, if it can't: the cluster lacks it, it is a liar, or its history is full.
     fn room(&self, replica: ReplicaId) -> Result<(), WorldRefusal>
         ensures ready { OnOk result ((event : Event) → IsReady self.now (asks self.now.config (world_of self.now) replica event) replica event) }
         ensures refused { IfErr result (λ fault. (event : Event) → Refused self.now (asks self.now.config (world_of self.now) replica event) fault) }
@@ -57,7 +59,7 @@ impl<A: Application> World<A> {
         Ok(())
     }
 
-    /// Two correct replicas, or why a step may not name both.
+    /// Two correct replicas, or why a step may not name them.
     fn pair(
         &self,
         from: ReplicaId,
@@ -74,7 +76,7 @@ impl<A: Application> World<A> {
         Ok((self.correct(from)?, self.correct(to)?))
     }
 
-    /// The delivery of a frame that one correct replica sent to another.
+    /// The event that delivers a frame of one correct replica to another.
     fn delivery(&self, from: ReplicaId, index: usize, to: ReplicaId) -> Result<Event, WorldRefusal>
         ensures ready { IfOk result (λ event. IsReady self.now (passes self.now.config (world_of self.now) from index to) to event) }
         ensures refused { IfErr result (λ fault. Refused self.now (passes self.now.config (world_of self.now) from index to) fault) }
@@ -90,7 +92,7 @@ impl<A: Application> World<A> {
         }
     }
 
-    /// The event that a step is, and at which replica, whose history has room; or why it is refused.
+    /// The event of a step and the replica that takes it, whose history has room; or why the step is refused.
     fn event_of(&self, step: &WorldStep) -> Result<(ReplicaId, Event), WorldRefusal>
         ensures { Asks self.now step.now result }
     {
@@ -132,7 +134,7 @@ impl<A: Application> World<A> {
         }
     }
 
-    /// One step: the answer tells which entry of which replica was added.
+    /// Takes one step. Returns the replica, and the index of the entry that was added to its history.
     fn step(&mut self, step: &WorldStep) -> Result<(ReplicaId, usize), WorldRefusal>
         ensures { Went self.old self.new step.now (answered result) }
     {
@@ -150,7 +152,7 @@ impl<A: Application> World<A> {
         }
     }
 
-    /// Takes each step and adds its answer, for which there is room.
+    /// Takes each step and appends its reply, for which there is room.
     fn run_each(&mut self, steps: &[WorldStep], answers: &mut Vec<WorldReply>)
         requires room { vec_len answers.old + length steps.now ≤ vec_capacity answers.old }
         requires none { answers.old.items ≡ [] }
@@ -159,6 +161,7 @@ impl<A: Application> World<A> {
         ensures same { IsSameCluster self.old self.new }
         ensures cluster { IsCluster self.new }
         ensures leaves { UsesAsAnswered self.old answers.new.items self.new }
+        ensures each { AreAnswered self.old steps.now answers.new.items self.new }
     {
         for step in steps {
             let outcome = self.step(step);
@@ -170,30 +173,33 @@ impl<A: Application> World<A> {
         }
     }
 
-    /// Takes the steps in order, and answers each.
+    /// Takes the steps in order, and returns a reply to each.
     ///
-    /// A step that names a number which is no replica's is refused as `NoSuchReplica`, then one that names a liar as `Liar`; of
-    /// the others a pass of a frame that was not sent as `NoSuchFrame`, and then any step at a history of 65,536 entries as
-    /// `HistoryFull`. `NoMemory` may refuse the rest: leaves may be used then. The only error of the call is want of memory: the
-    /// room for all answers and for the order is made before the first step.
+    /// Refusals are tested in this order: `NoSuchReplica` if the step names a replica that is not in the cluster;
+    /// `Liar` if it names a liar; `NoSuchFrame` if it passes a frame that was not sent; `HistoryFull` if the history
+    /// has 65,536 entries. `NoMemory` may refuse any other step, which then may have used leaves. The call itself fails
+    /// only by allocation failure: it reserves the room for all replies and for the order before the first step.
     pub fn run(&mut self, steps: &[WorldStep]) -> Result<Vec<WorldReply>, AllocError>
-        // What happens is a run of the definitions.
+        // What happens is a run in the sense of the definitions.
         ensures runs { IfOk result (λ answers.
             Runs self.old.config self.old.ring (world_of self.old) steps.now answers.items (world_of self.new)) }
         ensures err { OnErr result (self.new ≡ self.old) }
-        // So is all that happened since the world was made.
+        // So is everything that happened since the world was made.
         ensures since { HasRun self.new }
-        // Where nothing that was accepted was forged, all of it is a run of one sequential ledger.
+        // If nothing that was accepted was forged, all of it is a run of one sequential ledger.
         ensures one_ledger { IsUnforged self.new → IsOneLedger self.new }
         ensures replicas { AreReplicas self.new.config (correct_of self.new) }
-        // Each application is what it is run alone on the blocks of its replica, and answered as it did then.
+        // Each application, and each of its replies, is what it is when it runs alone on its replica's blocks.
         ensures machines { OwnMachines self.new.config (world_of self.new).histories (machine_in self.new) }
         ensures replies { OwnReplies self.new.config (world_of self.new).histories }
         ensures same { IsSameCluster self.old self.new }
-        // Each correct replica is mute only because too few leaves were left.
+        // A correct replica is mute only if too few leaves were left.
         ensures account { AllAccountForLeaves self.new }
-        // If memory didn't run out, each used one leaf for each statement of its own that it sent, and no other.
+        // If memory didn't run out, each replica used one leaf for each statement of its own that it sent, and no other.
         ensures leaves { IfOk result (λ answers. UsesAsAnswered self.old answers.items self.new) }
+        // Step by step: if memory ran out, the replica whose round was to end may have lost as many leaves as it was to sign then,
+        // and no other lost one.
+        ensures each { IfOk result (λ answers. AreAnswered self.old steps.now answers.items self.new) }
     {
         let alloc = *self.order.allocator();
         let mut answers = Vec::with_capacity(alloc, steps.len())?;

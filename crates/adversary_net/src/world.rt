@@ -1,7 +1,7 @@
-//! A whole cluster with liars, and what is told of it.
+//! A whole cluster with liars, and its accessors.
 ghost use Rattle.std.specs.Prelude.{◌≡◌, ◌∷◌, ◌++◌, [], map, OnOk};
 ghost use Rattle.std.specs.List.{filter_map};
-ghost use Rattle.adversary_net.specs.Clusters.{state_in, history_in};
+ghost use Rattle.adversary_net.specs.WorldViews.{state_in, history_in};
 
 use crate::correct::CorrectReplica;
 use crate::party::Party;
@@ -12,21 +12,21 @@ use locked_replica::State;
 use std::alloc::AllocError;
 use std::marker::Model;
 
-/// A whole cluster, of which some replicas lie.
+/// A whole cluster, in which some replicas lie: the states of the correct replicas, and the key pairs of the liars.
 ///
-/// It has the states of the correct replicas and the key pairs of the liars. Its type keeps that what happened is a run of the
-/// definitions, that each correct replica's application is what it is run alone on the replica's blocks, that each is mute only
-/// because too few leaves were left, and that no more replicas lie than may.
+/// The invariants of the type: what happened is a run in the sense of the definitions; each correct replica's
+/// application is what it is when it runs alone on the replica's blocks; a correct replica is mute only if too few
+/// leaves were left; and no more replicas lie than the cluster tolerates.
 pub struct World<A: Application> {
     pub(crate) config: Config,
     pub(crate) ring: KeyRing,
-    /// By number.
+    /// The replicas, by number.
     pub(crate) parties: Vec<Party<CorrectReplica<A>>>,
-    /// To which replica each entry went.
+    /// For each entry that was added, the replica that it was added at.
     pub(crate) order: Vec<ReplicaId>,
 }
 
-// It is dropped by a function of its own, so that whoever owns one drops it by a single call.
+// An own `Drop` keeps proofs short: an owner drops it by one call. See docs/WORKING.md.
 impl<A: Application> Drop for World<A> {
     fn drop(self) {
         let World {
@@ -39,16 +39,16 @@ impl<A: Application> Drop for World<A> {
 }
 
 impl<A: Application> Model for World<A> {
-    ghost use Rattle.adversary_net.specs.Clusters.{RunningCluster, IsCluster};
+    ghost use Rattle.adversary_net.specs.WorldViews.{WorldView, IsCluster};
 
-    ghost Value = { RunningCluster };
+    ghost Value = { WorldView };
 
     ghost view = { λ w. record { config = w.config; ring = w.ring; parties = w.parties.items; order = w.order.items } };
 
     ghost invariant = { λ w. IsCluster (record { config = w.config; ring = w.ring; parties = w.parties.items; order = w.order.items }) };
 }
 
-/// Adds a copy of the history, if the party is a correct replica.
+/// Appends a copy of the history, if the party is a correct replica.
 fn add_history<A: Application>(
     histories: &mut Vec<History>,
     party: &Party<CorrectReplica<A>>,
@@ -70,32 +70,33 @@ impl<A: Application> World<A> {
     ghost use Rattle.ledger_model.specs.Commits.{commits_of};
     ghost use Rattle.ledger_model.specs.Groups.{is_correct};
     ghost use Rattle.ledger_model.specs.Worlds.{entries_in, fault_at, frames_sent};
-    ghost use Rattle.replica_core.specs.Telling.{info_reply};
-    ghost use Rattle.adversary_net.specs.Clusters.{world_of, state_at, AllAccountForLeaves, HasRun, IsMemberAt, IsCluster};
+    ghost use Rattle.replica_core.specs.Facts.{info_reply};
+    ghost use Rattle.adversary_net.specs.WorldViews.{world_of, state_at, AllAccountForLeaves, HasRun, IsMemberAt, IsCluster};
     ghost use Rattle.adversary_net.specs.Headline.{IsUnforged, IsOneLedger};
+    ghost use Rattle.ledger_model.specs.Limits.{max_history_len};
 
-    /// The cluster that it is of.
+    /// The configuration of the cluster.
     pub fn config(&self) -> &Config
         ensures { result.now ≡ self.now.config }
     {
         &self.config
     }
 
-    /// To which replica each entry went, over all calls of [`run`](World::run).
+    /// For each entry, the replica that it was added at, over all calls of [`run`](World::run).
     pub fn order(&self) -> &[ReplicaId]
         ensures order { result.now ≡ self.now.order }
-        // All that happened since the world was made is a run of the definitions.
+        // Everything that happened since the world was made is a run in the sense of the definitions.
         ensures since { HasRun self.now }
-        // Where nothing that was accepted was forged, it is a run of one sequential ledger.
+        // If nothing that was accepted was forged, it is a run of one sequential ledger.
         ensures one_ledger { IsUnforged self.now → IsOneLedger self.now }
-        // Each correct replica is mute only because too few leaves were left.
+        // A correct replica is mute only if too few leaves were left.
         ensures account { AllAccountForLeaves self.now }
     {
         &self.order
     }
 
-    /// Copies of the histories of the correct replicas, by ascending numbers; the bytes of frames are shared. The only error
-    /// is want of memory.
+    /// Copies of the histories of the correct replicas, in ascending order of their numbers. They share the bytes of
+    /// frames. The only error is allocation failure.
     pub fn histories(&self) -> Result<Vec<History>, AllocError>
         ensures { IfOk result (λ histories. histories.items ≡ (world_of self.now).histories) }
     {
@@ -107,7 +108,7 @@ impl<A: Application> World<A> {
         Ok(histories)
     }
 
-    /// What the replica of a number is, if the cluster has one.
+    /// The replica with this number, if the cluster has one.
     fn party(&self, replica: ReplicaId) -> Option<&Party<CorrectReplica<A>>>
         ensures party { option_copied result ≡ slice_get self.now.parties replica }
         ensures cluster { IsCluster self.now }
@@ -115,7 +116,7 @@ impl<A: Application> World<A> {
         self.parties.get(usize::from(replica.number()))
     }
 
-    /// The correct replica of a number: none at a liar or where the cluster has no such replica.
+    /// The correct replica with this number; `None` if it is a liar or not in the cluster.
     pub fn state(&self, replica: ReplicaId) -> Option<&State<A>>
         ensures state { option_copied result ≡ state_at self.now replica }
         ensures entries { IfSome result (λ s. entries_in (world_of self.now) replica ≡ s.now.entries) }
@@ -129,7 +130,7 @@ impl<A: Application> World<A> {
         }
     }
 
-    /// The correct replica of a number, or why a step may not name it.
+    /// The correct replica with this number, or why a step may not name it.
     pub(crate) fn correct(&self, replica: ReplicaId) -> Result<&CorrectReplica<A>, WorldRefusal>
         ensures correct { IfOk result (λ s. state_at self.now replica ≡ Some s.now) }
         ensures member { IfOk result (λ s. IsMemberAt self.now replica s.now) }
@@ -145,11 +146,11 @@ impl<A: Application> World<A> {
         }
     }
 
-    /// How many frames a correct replica ever sent, those included that it sent on; none were sent by a liar or a number that is
-    /// no replica's.
+    /// The number of frames that a correct replica ever sent, including locks that it sent on. It is 0 for a liar, and
+    /// for a number that is not in the cluster.
     pub fn frames_sent(&self, replica: ReplicaId) -> u128
         ensures count { result ≡ length (frames_sent (entries_in (world_of self.now) replica)) }
-        ensures bound { result ≤ 65536 * 2 ^ 64 }
+        ensures bound { result ≤ max_history_len * 2 ^ 64 }
     {
         match self.correct(replica) {
             Ok(replica) => replica.frames_sent(),
@@ -157,11 +158,11 @@ impl<A: Application> World<A> {
         }
     }
 
-    /// How many blocks the application of a correct replica committed, and the hash of its state (ABCI's Info).
+    /// The number of blocks that a correct replica's application committed, and the hash of its state (ABCI's Info).
     ///
-    /// `NoSuchReplica` comes exactly where the cluster has no replica of the number, and `Liar` exactly at a liar.
+    /// `NoSuchReplica` comes exactly if the replica is not in the cluster, `Liar` exactly if it is a liar.
     pub fn info(&self, replica: ReplicaId) -> Result<Info, WorldRefusal>
-        // It is the reply of the application run alone on what the replica committed.
+        // It is the answer of the application run alone on what the replica committed.
         ensures info { IfOk result (λ info. info
             ≡ info_reply self.now.config.kind (commits_of self.now.config replica (entries_in (world_of self.now) replica))) }
         ensures no_fault { OnOk result (fault_at self.now.config (world_of self.now) replica ≡ None) }

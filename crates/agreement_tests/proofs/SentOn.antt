@@ -5,7 +5,7 @@ use Rattle.std.specs.List.{AllByRecursion}
 use Rattle.ledger_model.specs.declared.statement.SignedStatement.{SignedStatement}
 use Rattle.ledger_model.specs.Reading.{reading}
 use Rattle.ledger_model.specs.Rules.{Ring, is_signed}
-use Rattle.ledger_model.specs.LockTables.{as_statement}
+use Rattle.lock_proofs.specs.LockTables.{as_statement}
 use Rattle.instance.specs.Laws.{IsLockSentOn}
 
 module _ (ring : Ring) (height : ℕ) where

@@ -1,21 +1,21 @@
-//! Four replicas, each with its own keys, that pass frames to each other: what they send, and that one decides.
+//! Four replicas, each with its own keys, that pass frames to each other: what they send, and that one of them decides.
 
 ghost use Rattle.std.specs.Prelude.{◌≡◌, IfSome};
 ghost use Rattle.ledger_model.specs.Notes.{signer_of};
 ghost use Rattle.ledger_model.specs.Spelling.{IsStatement};
 ghost use Rattle.instance.specs.Plans.{IsOwnMade};
 
-use super::replica::Replica;
+use super::replica::OpenHeight;
 use bytes::Bytes;
-use instance::{Ending, Made, OwnFrame, Plan};
+use instance::{OwnFrame, RoundEffects, RoundPlan, RoundStatement};
 use key_ring::KeyRing;
 use ledger_model::{Signature, Statement};
 use signed_frames::{Frame, UnsignedFrame};
 use std::alloc::{AllocError, Global};
-use test_support::{Cluster, value};
+use test_support::{TestCluster, value};
 
 // The frame of the statement, which its signer signs.
-fn framed(alloc: Global, cluster: &mut Cluster, statement: Statement) -> Option<Frame>
+fn framed(alloc: Global, cluster: &mut TestCluster, statement: Statement) -> Option<Frame>
     requires { IsStatement statement }
     ensures { IfSome result (λ frame. frame.statement ≡ statement) }
 {
@@ -32,25 +32,25 @@ fn framed(alloc: Global, cluster: &mut Cluster, statement: Statement) -> Option<
     unsigned.with_signature(&signature).ok()
 }
 
-// What is made of a statement that is chosen.
+// The round's statement for a chosen statement.
 fn made(
     alloc: Global,
-    cluster: &mut Cluster,
+    cluster: &mut TestCluster,
     statement: Option<Statement>,
     number: u8,
-) -> Option<Made>
+) -> Option<RoundStatement>
     requires spelled { IfSome statement IsStatement }
     requires own { IfSome statement (λ s. signer_of s ≡ number) }
     ensures { IfSome result (λ made. IsOwnMade number made) }
 {
     let Some(statement) = statement else {
-        return Some(Made::Unsent);
+        return Some(RoundStatement::Unsent);
     };
     let frame = framed(alloc, cluster, statement)?;
-    Some(Made::Sent(OwnFrame::new(alloc, frame).ok()?))
+    Some(RoundStatement::Sent(OwnFrame::new(alloc, frame).ok()?))
 }
 
-// Whether there was memory for the frame beside the others.
+// Appends the frame. Returns whether there was memory for it.
 fn put(frames: &mut Vec<Bytes>, frame: Result<Bytes, AllocError>) -> bool {
     match frame {
         Ok(frame) => frames.push(frame).is_ok(),
@@ -58,10 +58,10 @@ fn put(frames: &mut Vec<Bytes>, frame: Result<Bytes, AllocError>) -> bool {
     }
 }
 
-// Puts the frames that are sent, the own one first. Whether there was memory.
-fn put_sent(frames: &mut Vec<Bytes>, ending: &Ending, made: &Made) -> bool {
+// Appends the frames that are sent, the replica's own first. Returns whether there was memory.
+fn put_sent(frames: &mut Vec<Bytes>, ending: &RoundEffects, made: &RoundStatement) -> bool {
     let mut are_put = true;
-    if let Made::Sent(own) = made {
+    if let RoundStatement::Sent(own) = made {
         are_put &= put(frames, own.frame().share());
     }
     for frame in ending.sends_on() {
@@ -70,13 +70,14 @@ fn put_sent(frames: &mut Vec<Bytes>, ending: &Ending, made: &Made) -> bool {
     are_put
 }
 
-impl Replica {
-    // The next round opens, and the frames that are sent are put beside the others. Whether there was memory.
-    fn sends_round(&mut self, cluster: &mut Cluster, frames: &mut Vec<Bytes>) -> bool {
+impl OpenHeight {
+    // Opens the next round, and appends the frames that are sent. Returns whether there was memory.
+    fn sends_round(&mut self, cluster: &mut TestCluster, frames: &mut Vec<Bytes>) -> bool {
         if self.clock >= 1000 {
             return false;
         }
-        let Ok(Plan { statement, ending }) = self.instance.plan_end(self.alloc, self.clock) else {
+        let Ok(RoundPlan { statement, ending }) = self.instance.plan_end(self.alloc, self.clock)
+        else {
             return false;
         };
         let Some(made) = made(self.alloc, cluster, statement, self.number) else {
@@ -89,7 +90,7 @@ impl Replica {
     }
 
     // The frames that it sends as the next round opens.
-    fn frames_of_round(&mut self, cluster: &mut Cluster) -> Option<Vec<Bytes>> {
+    fn frames_of_round(&mut self, cluster: &mut TestCluster) -> Option<Vec<Bytes>> {
         let mut frames = Vec::new(self.alloc);
         if self.sends_round(cluster, &mut frames) {
             Some(frames)
@@ -98,7 +99,7 @@ impl Replica {
         }
     }
 
-    // Each of the frames comes in, which may be ignored. Whether each could.
+    // Reads or ignores each of the frames. Returns whether there was memory for all.
     fn reads_all(&mut self, ring: &KeyRing, frames: &[Bytes]) -> bool {
         for frame in frames {
             if self.ignores(ring, frame.as_slice()).is_none() {
@@ -118,23 +119,23 @@ impl Replica {
     }
 }
 
-fn put_four(alloc: Global, replicas: &mut Vec<Replica>) -> Option<()> {
+fn put_four(alloc: Global, replicas: &mut Vec<OpenHeight>) -> Option<()> {
     for number in 0..4 {
-        replicas.push(Replica::open(alloc, number)?).ok()?;
+        replicas.push(OpenHeight::open(alloc, number)?).ok()?;
     }
     Some(())
 }
 
-fn four_replicas(alloc: Global) -> Option<Vec<Replica>> {
+fn four_replicas(alloc: Global) -> Option<Vec<OpenHeight>> {
     let mut replicas = Vec::new(alloc);
     put_four(alloc, &mut replicas)?;
     Some(replicas)
 }
 
-// Every replica's round ends: the frames that each sends.
+// Ends every replica's round, and returns the frames that each sends.
 fn end_rounds(
-    replicas: &mut [Replica],
-    cluster: &mut Cluster,
+    replicas: &mut [OpenHeight],
+    cluster: &mut TestCluster,
     sent: &mut Vec<Vec<Bytes>>,
 ) -> Option<()> {
     for replica in replicas.iter_mut() {
@@ -143,8 +144,8 @@ fn end_rounds(
     Some(())
 }
 
-// A replica reads what the others sent. Whether it could.
-fn reads_others(replica: &mut Replica, ring: &KeyRing, sent: &[Vec<Bytes>]) -> bool {
+// Lets a replica read what the others sent. Returns whether there was memory.
+fn reads_others(replica: &mut OpenHeight, ring: &KeyRing, sent: &[Vec<Bytes>]) -> bool {
     for (sender, frames) in sent.iter().enumerate() {
         if sender != usize::from(replica.number) && !replica.reads_all(ring, frames) {
             return false;
@@ -153,7 +154,7 @@ fn reads_others(replica: &mut Replica, ring: &KeyRing, sent: &[Vec<Bytes>]) -> b
     true
 }
 
-// Whether each sent so many frames.
+// Whether each replica sent this number of frames.
 fn have_lens(sent: &[Vec<Bytes>], counts: [usize; 4]) -> bool {
     match sent {
         [first, second, third, fourth] => {
@@ -163,8 +164,12 @@ fn have_lens(sent: &[Vec<Bytes>], counts: [usize; 4]) -> bool {
     }
 }
 
-// Every replica's round ends, and then each reads what the others sent. Whether each sent so many frames.
-fn pass_round(replicas: &mut [Replica], cluster: &mut Cluster, counts: [usize; 4]) -> Option<bool> {
+// Ends every replica's round, and then lets each read what the others sent. Returns whether each sent this number of frames.
+fn pass_round(
+    replicas: &mut [OpenHeight],
+    cluster: &mut TestCluster,
+    counts: [usize; 4],
+) -> Option<bool> {
     let mut sent = Vec::new(replicas.first()?.alloc);
     end_rounds(replicas, cluster, &mut sent)?;
     for replica in replicas.iter_mut() {
@@ -175,15 +180,22 @@ fn pass_round(replicas: &mut [Replica], cluster: &mut Cluster, counts: [usize; 4
     Some(have_lens(&sent, counts))
 }
 
-// As all propose [a=1], the owner of phase 1 decides it as its fourth round ends, and no other replica does.
+// All propose [a=1]. The owner of phase 1 decides it as the fourth round ends, and no other replica does.
 #[test]
 fn the_owner_of_the_first_phase_decides(rt: HostRuntime) {
-    let mut cluster = Cluster::new(rt.alloc(), 4, 1).expect(&rt, "a cluster");
+    let mut cluster = TestCluster::new(rt.alloc(), 4, 1).expect(&rt, "a cluster");
     let mut replicas = four_replicas(rt.alloc()).expect(&rt, "four replicas");
-    for counts in [[1, 1, 1, 1], [0, 1, 0, 0], [1, 0, 1, 1], [1, 1, 1, 1]] {
-        assert!(rt; pass_round(&mut replicas, &mut cluster, counts) == Some(true));
+    for (round, counts) in [
+        (1, [1, 1, 1, 1]),
+        (2, [0, 1, 0, 0]),
+        (3, [1, 0, 1, 1]),
+        (4, [1, 1, 1, 1]),
+    ] {
+        let are_sent = pass_round(&mut replicas, &mut cluster, counts);
+        assert!(rt; are_sent == Some(true), "round {round}");
     }
     for (number, replica) in replicas.iter().enumerate() {
-        assert!(rt; replica.has_decided() == Some(number == 1));
+        let has_decided = replica.has_decided();
+        assert!(rt; has_decided == Some(number == 1), "replica {number}");
     }
 }

@@ -1,5 +1,5 @@
-//! Frames of given bytes. These functions say little of what they give: a test that knew it would be
-//! slow to prove.
+//! Builds frames of given bytes. These functions ensure little about their results, because a test that knew more would
+//! be slow to prove.
 
 ghost use Rattle.std.specs.Prelude.{IfSome};
 ghost use Rattle.lock_proofs.specs.LockFrames.{IsLockFrame};

@@ -1,13 +1,13 @@
-//! One height at one of four replicas, which is mute: what it reads, what it is to make, and what it sends on.
+//! One height at one of four replicas, which is mute: what it reads, what it plans to make, and what it sends on.
 
-use super::replica::Replica;
+use super::replica::OpenHeight;
 use bytes::Bytes;
-use instance::{Made, Plan};
+use instance::{RoundPlan, RoundStatement};
 use ledger_model::{Ack, Batch, Ignored, Lock, Report, Statement};
 use std::alloc::Global;
-use test_support::{Cluster, ack_bytes, report_bytes};
+use test_support::{TestCluster, ack_bytes, report_bytes};
 
-// What a replica is to do as a round opens.
+// What a replica plans as a round opens.
 #[derive(Clone, Copy)]
 enum Task<'a> {
     Nothing,
@@ -15,28 +15,32 @@ enum Task<'a> {
     Report(u32),
     Lock,
     Ack,
-    // just this frame
+    // only this frame
     SendOn(&'a [u8]),
 }
 
-impl Replica {
-    // What the replica is to do as the next round opens.
-    fn plan(&self) -> Option<Plan> {
+impl OpenHeight {
+    // The replica's plan for the next round.
+    fn plan(&self) -> Option<RoundPlan> {
         if self.clock >= 1000 {
             return None;
         }
         self.instance.plan_end(self.alloc, self.clock).ok()
     }
 
-    // Whether this is what it is to do as the next round opens.
+    // Whether this is what the replica plans for the next round.
     fn plans(&self, task: Task<'_>) -> bool {
         match self.plan() {
-            Some(Plan { statement, ending }) => is_planned(&statement, ending.sends_on(), task),
+            Some(RoundPlan { statement, ending }) => is_planned(
+                &statement,
+                ending.sends_on(),
+                task,
+            ),
             None => false,
         }
     }
 
-    // The next round opens, and the replica is mute. Whether it could.
+    // Opens the next round at a mute replica. Returns whether there was memory.
     fn ends_round(&mut self) -> bool {
         if self.clock >= 1000 {
             return false;
@@ -44,7 +48,8 @@ impl Replica {
         let Ok(ending) = self.instance.prepare_end(self.alloc, self.clock) else {
             return false;
         };
-        self.instance.close(ending, Made::Mute, self.clock);
+        self.instance
+            .close(ending, RoundStatement::Mute, self.clock);
         self.clock += 1;
         true
     }
@@ -120,8 +125,8 @@ fn is_planned(statement: &Option<Statement>, frames: &[Bytes], task: Task<'_>) -
 }
 
 // A replica in this round, mute until then.
-fn replica_in(alloc: Global, id: u8, clock: u32) -> Option<Replica> {
-    let mut replica = Replica::open(alloc, id)?;
+fn replica_in(alloc: Global, id: u8, clock: u32) -> Option<OpenHeight> {
+    let mut replica = OpenHeight::open(alloc, id)?;
     if replica.ends_rounds(clock) {
         Some(replica)
     } else {
@@ -132,14 +137,14 @@ fn replica_in(alloc: Global, id: u8, clock: u32) -> Option<Replica> {
 // A cluster of four that signs, and one of its replicas, which reads.
 #[derive(Drop)]
 struct Scene {
-    cluster: Cluster,
-    replica: Replica,
+    cluster: TestCluster,
+    replica: OpenHeight,
 }
 
 impl Scene {
-    // The replica is in this round, mute until then.
+    // The replica in this round, mute until then.
     fn new(alloc: Global, id: u8, clock: u32) -> Option<Self> {
-        let cluster = Cluster::new(alloc, 4, 1).ok()?;
+        let cluster = TestCluster::new(alloc, 4, 1).ok()?;
         let replica = replica_in(alloc, id, clock)?;
         Some(Scene { cluster, replica })
     }
@@ -149,16 +154,17 @@ impl Scene {
         self.replica.ignores(self.cluster.ring(), frame) == Some(None)
     }
 
-    // Whether this is what the replica answers to the statement that its signer signs.
-    fn answers(&mut self, signer: u8, statement: &[u8], wanted: Option<Ignored>) -> bool {
+    // Whether the replica gives this answer to the statement, which its signer signs.
+    fn gives_answer(&mut self, signer: u8, statement: &[u8], wanted: Option<Ignored>) -> bool {
         match self.cluster.frame(signer, statement) {
             Ok(frame) => self.replica.ignores(self.cluster.ring(), &frame) == Some(wanted),
             Err(_) => false,
         }
     }
 
-    // Whether this is its answer to a lock of this phase, owner and letter, with the reports of so many first replicas.
-    fn answers_lock(
+    // Whether the replica gives this answer to a lock of this phase, owner and letter, with the reports of the first
+    // `reports` replicas.
+    fn gives_answer_to_lock(
         &mut self,
         (phase, owner, letter, reports): (u8, u8, u8, u8),
         wanted: Option<Ignored>,
@@ -170,12 +176,13 @@ impl Scene {
     }
 }
 
-// Whether a report, an acknowledgement and a lock of phase 1 are ignored as of another round, and nothing is decided.
+// Whether a report, an acknowledgement and a lock of phase 1 are ignored because they belong to another round, and
+// nothing is decided.
 fn reads_nothing(scene: &mut Scene) -> bool {
     let wanted = Some(Ignored::WrongRound);
-    scene.answers(0, &report_bytes(1, 1, 0, b'a'), wanted)
-        && scene.answers(0, &ack_bytes(1, 1, 0, b'a'), wanted)
-        && scene.answers_lock((1, 1, b'a', 3), wanted)
+    scene.gives_answer(0, &report_bytes(1, 1, 0, b'a'), wanted)
+        && scene.gives_answer(0, &ack_bytes(1, 1, 0, b'a'), wanted)
+        && scene.gives_answer_to_lock((1, 1, b'a', 3), wanted)
         && scene.replica.is_undecided()
 }
 
@@ -185,7 +192,7 @@ fn nothing_is_read_before_the_first_round(rt: HostRuntime) {
     assert!(rt; reads_nothing(&mut scene));
 }
 
-// By its place, by its phase, once, and under its signer's key; and no acknowledgement in its place.
+// A report is read in its place and phase, once, and under its signer's key; an acknowledgement is not read there.
 #[test]
 fn a_report_round_brings_reports(rt: HostRuntime) {
     let mut scene = Scene::new(rt.alloc(), 0, 1).expect(&rt, "a scene");
@@ -197,13 +204,16 @@ fn a_report_round_brings_reports(rt: HostRuntime) {
         (3, 1, 3, None),
     ] {
         let report = report_bytes(1, of_phase, named, b'a');
-        assert!(rt; scene.answers(signer, &report, wanted));
+        assert!(rt;
+            scene.gives_answer(signer, &report, wanted),
+            "{signer} {named} {wanted:?}"
+        );
     }
     let ack = ack_bytes(1, 1, 3, b'a');
-    assert!(rt; scene.answers(3, &ack, Some(Ignored::WrongRound)));
+    assert!(rt; scene.gives_answer(3, &ack, Some(Ignored::WrongRound)));
 }
 
-// Of the phase's owner, with enough reports, once.
+// A lock is read if the phase's owner made it, with enough reports, and once.
 #[test]
 fn a_lock_is_read_once(rt: HostRuntime) {
     let mut scene = Scene::new(rt.alloc(), 0, 2).expect(&rt, "a scene");
@@ -213,7 +223,10 @@ fn a_lock_is_read_once(rt: HostRuntime) {
         (1, 3, None),
         (1, 3, Some(Ignored::Repeated)),
     ] {
-        assert!(rt; scene.answers_lock((1, owner, b'a', reports), wanted));
+        assert!(rt;
+            scene.gives_answer_to_lock((1, owner, b'a', reports), wanted),
+            "{owner} {reports} {wanted:?}"
+        );
     }
 }
 
@@ -228,40 +241,43 @@ fn four_values_are_locked_at_most(rt: HostRuntime) {
         (4, b'd', None),
         (5, b'e', Some(Ignored::TableFull)),
     ] {
-        assert!(rt; scene.answers_lock((phase, phase % 4, letter, 3), wanted));
-        assert!(rt; scene.replica.ends_rounds(4));
+        assert!(rt;
+            scene.gives_answer_to_lock((phase, phase % 4, letter, 3), wanted),
+            "phase {phase}"
+        );
+        assert!(rt; scene.replica.ends_rounds(4), "phase {phase}");
     }
 }
 
-// At a replica that made no lock.
+// The replica made no lock.
 #[test]
 fn an_acknowledgement_of_no_own_lock_is_ignored(rt: HostRuntime) {
     let mut scene = Scene::new(rt.alloc(), 1, 3).expect(&rt, "a scene");
     let ack = ack_bytes(1, 1, 3, b'a');
-    assert!(rt; scene.answers(3, &ack, Some(Ignored::NotMine)));
+    assert!(rt; scene.gives_answer(3, &ack, Some(Ignored::NotMine)));
 }
 
-// As the first round of a phase opens a replica reports; who read nothing makes nothing as the others open.
+// As the first round of a phase opens, a replica reports; a replica that has read nothing makes nothing as the other rounds open.
 #[test]
 fn a_report_is_made_in_each_phase(rt: HostRuntime) {
-    let mut replica = Replica::open(rt.alloc(), 2).expect(&rt, "a replica");
-    for &task in &[
-        Task::Report(1),
-        Task::Nothing,
-        Task::Nothing,
-        Task::Nothing,
-        Task::Report(2),
+    let mut replica = OpenHeight::open(rt.alloc(), 2).expect(&rt, "a replica");
+    for &(round, task) in &[
+        (1, Task::Report(1)),
+        (2, Task::Nothing),
+        (3, Task::Nothing),
+        (4, Task::Nothing),
+        (5, Task::Report(2)),
     ] {
-        assert!(rt; replica.plans(task));
-        assert!(rt; replica.ends_round());
+        assert!(rt; replica.plans(task), "round {round}");
+        assert!(rt; replica.ends_round(), "round {round}");
     }
 }
 
 // Whether the replica reads a report of phase 1 on [a=1] by each of the other three.
 fn reads_three_reports(scene: &mut Scene) -> bool {
-    scene.answers(0, &report_bytes(1, 1, 0, b'a'), None)
-        && scene.answers(2, &report_bytes(1, 1, 2, b'a'), None)
-        && scene.answers(3, &report_bytes(1, 1, 3, b'a'), None)
+    scene.gives_answer(0, &report_bytes(1, 1, 0, b'a'), None)
+        && scene.gives_answer(2, &report_bytes(1, 1, 2, b'a'), None)
+        && scene.gives_answer(3, &report_bytes(1, 1, 3, b'a'), None)
 }
 
 // The owner of phase 1 is replica 1.
@@ -272,8 +288,7 @@ fn an_owner_makes_a_lock_of_three_reports(rt: HostRuntime) {
     assert!(rt; scene.replica.plans(Task::Lock));
 }
 
-// Whether replica 0, in round 2, reads the lock of phase 1 with this frame, acknowledges it as round 3 opens, and sends it on as
-// round 4 does.
+// Whether replica 0, in round 2, reads this lock of phase 1, acknowledges it as round 3 opens, and sends it on as round 4 opens.
 fn acknowledges_and_sends_on(scene: &mut Scene, lock: &[u8]) -> bool {
     scene.reads(lock)
         && scene.replica.plans(Task::Ack)
@@ -291,7 +306,7 @@ fn a_lock_is_acknowledged_and_sent_on(rt: HostRuntime) {
     assert!(rt; acknowledges_and_sends_on(&mut scene, &lock));
 }
 
-// Whether the lock of phase 2 comes in the place of that of phase 1 on its value: it is read and sent on.
+// Whether the lock of phase 2 replaces that of phase 1 on the same value: it is read and sent on.
 fn is_renewed(scene: &mut Scene) -> bool {
     let Ok(second) = scene.cluster.lock_frame(2, 2, b'a', 3) else {
         return false;
@@ -303,18 +318,18 @@ fn is_renewed(scene: &mut Scene) -> bool {
         && scene.replica.ends_round()
 }
 
-// Whether the lock on another value, read in the lock-release round, ends it: nothing is sent on in the next phase.
+// Whether a lock on another value, read in the lock-release round, releases it: nothing is sent on in the next phase.
 fn is_released(scene: &mut Scene) -> bool {
-    scene.answers_lock((2, 2, b'b', 3), None)
+    scene.gives_answer_to_lock((2, 2, b'b', 3), None)
         && scene.replica.ends_rounds(3)
         && scene.replica.plans(Task::Nothing)
 }
 
-// A lock is renewed by a later one on its value, and ended in a lock-release round by one on another value.
+// A lock is replaced by a later one on its value, and released in a lock-release round by one on another value.
 #[test]
 fn a_lock_is_renewed_and_released(rt: HostRuntime) {
     let mut scene = Scene::new(rt.alloc(), 0, 2).expect(&rt, "a scene");
-    assert!(rt; scene.answers_lock((1, 1, b'a', 3), None));
+    assert!(rt; scene.gives_answer_to_lock((1, 1, b'a', 3), None));
     assert!(rt; is_renewed(&mut scene));
     assert!(rt; is_released(&mut scene));
 }

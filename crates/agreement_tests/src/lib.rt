@@ -1,5 +1,4 @@
-//! Agreement at a height: tallies, what is proper, locks, the choice and the decision, and whole heights. This crate has tests
-//! alone.
+//! Tests of agreement at a height: tallies, proper values, locks, the choice and the decision, and whole heights.
 #![tactic(auto)]
 
 #[cfg(test)]

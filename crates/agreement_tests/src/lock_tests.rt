@@ -4,10 +4,15 @@ use super::frames::{check, parsed, parsed_lock};
 use key_ring::KeyRing;
 use lock_proofs::{LockFault, LockFrame, is_signed};
 use std::alloc::Global;
-use test_support::{Cluster, lock_bytes, report_bytes};
+use test_support::{TestCluster, lock_bytes, report_bytes};
 
-// Whether this is wrong with the lock of these bytes.
-fn has_fault(alloc: Global, cluster: &Cluster, bytes: &[u8], wanted: Option<LockFault>) -> bool {
+// Whether the lock with these bytes has this fault.
+fn has_fault(
+    alloc: Global,
+    cluster: &TestCluster,
+    bytes: &[u8],
+    wanted: Option<LockFault>,
+) -> bool {
     match check(alloc, &cluster.config(), cluster.ring(), bytes) {
         Some(checked) => checked.err() == wanted,
         None => false,
@@ -15,42 +20,42 @@ fn has_fault(alloc: Global, cluster: &Cluster, bytes: &[u8], wanted: Option<Lock
 }
 
 // Whether a lock is on one transaction, of this owner and phase, and has the frame of these bytes.
-fn is_told(lock: &LockFrame, owner: u8, phase: u32, bytes: &[u8]) -> bool {
+fn has_fields(lock: &LockFrame, owner: u8, phase: u32, bytes: &[u8]) -> bool {
     lock.frame().as_bytes() == bytes
         && lock.lock().signer.number() == owner
         && lock.phase().number() == phase
         && lock.value().transactions().len() == 1
 }
 
-// Whether it is the lock of phase 1 and its owner, once it is checked.
-fn is_accepted(alloc: Global, cluster: &Cluster, bytes: &[u8]) -> bool {
+// Whether the lock of phase 1 and its owner has these bytes after it was checked.
+fn is_accepted(alloc: Global, cluster: &TestCluster, bytes: &[u8]) -> bool {
     match check(alloc, &cluster.config(), cluster.ring(), bytes) {
-        Some(Ok(lock)) => is_told(&lock, 1, 1, bytes),
+        Some(Ok(lock)) => has_fields(&lock, 1, 1, bytes),
         _ => false,
     }
 }
 
-// Whether it is the lock of phase 2 and its owner, unchecked.
+// Whether the lock of phase 2 and its owner has these bytes, unchecked.
 fn is_taken_unchecked(alloc: Global, bytes: &[u8]) -> bool {
     match parsed_lock(alloc, bytes) {
-        Some(frame) => is_told(&LockFrame::of_own(frame), 2, 2, bytes),
+        Some(frame) => has_fields(&LockFrame::of_own(frame), 2, 2, bytes),
         None => false,
     }
 }
 
 #[test]
 fn accepts_a_lock_with_three_reports_among_four(rt: HostRuntime) {
-    let mut cluster = Cluster::new(rt.alloc(), 4, 1).expect(&rt, "a cluster");
+    let mut cluster = TestCluster::new(rt.alloc(), 4, 1).expect(&rt, "a cluster");
     let first = cluster.lock_frame(1, 1, b'a', 3).expect(&rt, "a lock");
     assert!(rt; is_accepted(rt.alloc(), &cluster, &first));
     let second = cluster.lock_frame(2, 2, b'a', 3).expect(&rt, "a lock");
     assert!(rt; is_taken_unchecked(rt.alloc(), &second));
 }
 
-// Whether this is wrong with the lock of phase 1 of this owner, with the reports of so many first replicas.
+// Whether the lock of phase 1 of this owner, with the reports of the first `reports` replicas, has this fault.
 fn is_fault(
     alloc: Global,
-    cluster: &mut Cluster,
+    cluster: &mut TestCluster,
     (owner, reports): (u8, u8),
     wanted: Option<LockFault>,
 ) -> bool {
@@ -62,9 +67,12 @@ fn is_fault(
 
 #[test]
 fn accepts_a_lock_with_nine_reports_among_thirteen(rt: HostRuntime) {
-    let mut cluster = Cluster::new(rt.alloc(), 13, 4).expect(&rt, "a cluster");
+    let mut cluster = TestCluster::new(rt.alloc(), 13, 4).expect(&rt, "a cluster");
     for &(reports, wanted) in &[(9, None), (8, Some(LockFault::BadProof))] {
-        assert!(rt; is_fault(rt.alloc(), &mut cluster, (1, reports), wanted));
+        assert!(rt;
+            is_fault(rt.alloc(), &mut cluster, (1, reports), wanted),
+            "{reports} reports"
+        );
     }
 }
 
@@ -74,23 +82,26 @@ fn raise_last(bytes: &mut [u8]) {
     }
 }
 
-// A lock with another last byte has a bad signature.
+// A lock whose last byte was changed has a bad signature.
 #[test]
-fn tells_why_a_lock_is_not_valid(rt: HostRuntime) {
-    let mut cluster = Cluster::new(rt.alloc(), 4, 1).expect(&rt, "a cluster");
+fn returns_why_a_lock_is_not_valid(rt: HostRuntime) {
+    let mut cluster = TestCluster::new(rt.alloc(), 4, 1).expect(&rt, "a cluster");
     for &(lock, wanted) in &[
         ((1, 4), Some(LockFault::BadProof)),
         ((2, 3), Some(LockFault::NotOwner)),
         ((1, 3), None),
     ] {
-        assert!(rt; is_fault(rt.alloc(), &mut cluster, lock, wanted));
+        assert!(rt;
+            is_fault(rt.alloc(), &mut cluster, lock, wanted),
+            "{lock:?}"
+        );
     }
     let mut lock = cluster.lock_frame(1, 1, b'a', 3).expect(&rt, "a lock");
     raise_last(&mut lock);
     assert!(rt; has_fault(rt.alloc(), &cluster, &lock, Some(LockFault::BadSignature)));
 }
 
-fn put_two_reports(cluster: &mut Cluster, bytes: &mut Vec<u8>) -> Option<()> {
+fn put_two_reports(cluster: &mut TestCluster, bytes: &mut Vec<u8>) -> Option<()> {
     for replica in 0..2 {
         let report = cluster
             .signed(replica, &report_bytes(1, 1, replica, b'a'))
@@ -100,18 +111,18 @@ fn put_two_reports(cluster: &mut Cluster, bytes: &mut Vec<u8>) -> Option<()> {
     Some(())
 }
 
-// The frame of the lock of phase 1 on [a=1] that has this third report beside two good ones.
-fn lock_with(alloc: Global, cluster: &mut Cluster, third: &[u8]) -> Option<Vec<u8>> {
+// The frame of the lock of phase 1 on [a=1] with two good reports and this third one.
+fn lock_with(alloc: Global, cluster: &mut TestCluster, third: &[u8]) -> Option<Vec<u8>> {
     let mut bytes = Vec::from_slice(alloc, &lock_bytes(1, 1, b'a', 3)).ok()?;
     put_two_reports(cluster, &mut bytes)?;
     bytes.extend_from_slice(third).ok()?;
     cluster.frame(1, &bytes).ok()
 }
 
-// Whether this is wrong with that lock.
+// Whether that lock has this fault.
 fn is_fault_with(
     alloc: Global,
-    cluster: &mut Cluster,
+    cluster: &mut TestCluster,
     third: &[u8],
     wanted: Option<LockFault>,
 ) -> bool {
@@ -121,11 +132,11 @@ fn is_fault_with(
     }
 }
 
-// Whether this is wrong with the lock whose third report is of this height and letter, and signed by this replica in the name of
-// replica 2.
+// Whether the lock has this fault if its third report is of this height and letter, and this replica signed it in the
+// name of replica 2.
 fn is_fault_of_third(
     alloc: Global,
-    cluster: &mut Cluster,
+    cluster: &mut TestCluster,
     (height, letter, signer): (u8, u8, u8),
     wanted: Option<LockFault>,
 ) -> bool {
@@ -135,17 +146,20 @@ fn is_fault_of_third(
     }
 }
 
-// A report with another last byte is no proof.
+// A report whose last byte was changed is no proof.
 #[test]
 fn looks_into_each_report(rt: HostRuntime) {
-    let mut cluster = Cluster::new(rt.alloc(), 4, 1).expect(&rt, "a cluster");
+    let mut cluster = TestCluster::new(rt.alloc(), 4, 1).expect(&rt, "a cluster");
     for &(third, wanted) in &[
         ((1, b'a', 2), None),
         ((2, b'a', 2), Some(LockFault::BadProof)),
         ((1, b'a', 3), Some(LockFault::BadProof)),
         ((1, b'b', 2), Some(LockFault::NotSupporting)),
     ] {
-        assert!(rt; is_fault_of_third(rt.alloc(), &mut cluster, third, wanted));
+        assert!(rt;
+            is_fault_of_third(rt.alloc(), &mut cluster, third, wanted),
+            "{third:?}"
+        );
     }
     let mut third = cluster
         .signed(2, &report_bytes(1, 1, 2, b'a'))
@@ -163,11 +177,12 @@ fn is_signed_frame(alloc: Global, ring: &KeyRing, bytes: &[u8]) -> Option<bool> 
 // Replica 1's report, signed by it and by replica 2.
 #[test]
 fn a_frame_is_signed_by_its_signer(rt: HostRuntime) {
-    let mut cluster = Cluster::new(rt.alloc(), 4, 1).expect(&rt, "a cluster");
+    let mut cluster = TestCluster::new(rt.alloc(), 4, 1).expect(&rt, "a cluster");
     for &(signer, wanted) in &[(1, true), (2, false)] {
         let frame = cluster
             .frame(signer, &report_bytes(1, 1, 1, b'a'))
             .expect(&rt, "a frame");
-        assert!(rt; is_signed_frame(rt.alloc(), cluster.ring(), &frame) == Some(wanted));
+        let is_signed = is_signed_frame(rt.alloc(), cluster.ring(), &frame);
+        assert!(rt; is_signed == Some(wanted), "{signer}");
     }
 }

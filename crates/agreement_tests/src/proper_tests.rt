@@ -1,10 +1,10 @@
-//! What is proper for replica 0 of four, of which one may lie, after one phase.
+//! Which values are proper for replica 0 of four, of which one may lie, after one phase.
 
 use super::read_reports::{four, read};
 use ledger_model::{Batch, ReplicaId};
 use proper_sets::Proper;
 use std::alloc::Global;
-use test_support::{Told, naming, value, values};
+use test_support::{ReportFields, naming, value, values};
 
 fn opened(alloc: Global, own: &[u8]) -> Option<Proper> {
     Proper::new(alloc, &four()?, &value(alloc, own).ok()?).ok()
@@ -19,7 +19,7 @@ fn has_all(proper: &Proper, named: &[Batch]) -> bool {
     true
 }
 
-// Whether just these values are proper by name, and all others if `all` says so.
+// Whether exactly these values are proper by name, and all others if `all` is true.
 fn are_proper(alloc: Global, proper: &Proper, all: bool, explicit: &[&[u8]]) -> Option<bool> {
     let other = value(alloc, b"z").ok()?;
     let named = values(alloc, explicit).ok()?;
@@ -31,47 +31,48 @@ fn are_proper(alloc: Global, proper: &Proper, all: bool, explicit: &[&[u8]]) -> 
     )
 }
 
-fn absorb(alloc: Global, proper: &mut Proper, told: &[Told<'_>]) -> Option<()> {
-    let read = read(alloc, &four()?, told)?;
+fn absorb(alloc: Global, proper: &mut Proper, reports: &[ReportFields<'_>]) -> Option<()> {
+    let read = read(alloc, &four()?, reports)?;
     proper.absorb(ReplicaId::new(0), &read).ok()
 }
 
-// A report: its signer, whether every value is proper for it, its initial value, and what it lists.
+// A report: its signer, whether it reports that every value is proper, its initial value, and the values that it lists.
 type Row<'a> = (u8, bool, &'a [u8], &'a [&'a [u8]]);
 
-// A phase: what was read in it, and what is proper then.
+// A phase: its name, what was read in it, and what is proper afterwards.
 struct PhaseCase<'a> {
+    name: &'a str,
     own: &'a [u8],
     read: &'a [Row<'a>],
     all: bool,
     explicit: &'a [&'a [u8]],
 }
 
-fn told_of<'a>(alloc: Global, rows: &'a [Row<'a>]) -> Option<Vec<Told<'a>>> {
-    let mut told = Vec::with_capacity(alloc, rows.len()).ok()?;
+fn reports_of<'a>(alloc: Global, rows: &'a [Row<'a>]) -> Option<Vec<ReportFields<'a>>> {
+    let mut reports = Vec::with_capacity(alloc, rows.len()).ok()?;
     for (signer, all, initial, proper) in rows {
-        let row = Told {
+        let row = ReportFields {
             all: *all,
             ..naming(*signer, initial, proper)
         };
-        told.push(row).ok()?;
+        reports.push(row).ok()?;
     }
-    Some(told)
+    Some(reports)
 }
 
-// Whether what is proper after the phase is what the case says.
+// Whether exactly the values of the case are proper after its phase.
 fn makes_proper(alloc: Global, case: &PhaseCase<'_>) -> Option<bool> {
-    let told = told_of(alloc, case.read)?;
+    let reports = reports_of(alloc, case.read)?;
     let mut proper = opened(alloc, case.own)?;
-    absorb(alloc, &mut proper, &told)?;
+    absorb(alloc, &mut proper, &reports)?;
     are_proper(alloc, &proper, case.all, case.explicit)
 }
 
 const FOUR: [&[u8]; 4] = [b"a", b"b", b"c", b"d"];
 
 const CASES: [PhaseCase<'static>; 7] = [
-    // two others name a value
     PhaseCase {
+        name: "two others name a value",
         own: b"x",
         read: &[
             (1, false, b"x", &[b"x"]),
@@ -81,36 +82,36 @@ const CASES: [PhaseCase<'static>; 7] = [
         all: false,
         explicit: &[b"x", b"y"],
     },
-    // one other names too few
     PhaseCase {
+        name: "one other names too few",
         own: b"a",
         read: &[(1, false, b"a", &[b"a"]), (2, false, b"b", &[b"b"])],
         all: false,
         explicit: &[b"a"],
     },
-    // the least three others are kept
     PhaseCase {
+        name: "the least three others are kept",
         own: b"m",
         read: &[(1, false, b"m", &FOUR), (2, false, b"m", &FOUR)],
         all: false,
         explicit: &[b"a", b"b", b"c", b"m"],
     },
-    // split initial values
     PhaseCase {
+        name: "split initial values",
         own: b"a",
         read: &[(1, false, b"b", &[b"b"]), (2, false, b"c", &[b"c"])],
         all: true,
         explicit: &[b"a"],
     },
-    // two others say that every value is proper
     PhaseCase {
+        name: "two others report that every value is proper",
         own: b"a",
         read: &[(1, true, b"a", &[b"a"]), (2, true, b"a", &[b"a"])],
         all: true,
         explicit: &[b"a"],
     },
-    // the own report alone lists c, and so it isn't proper by name
     PhaseCase {
+        name: "only the own report lists c, so c isn't proper by name",
         own: b"a",
         read: &[
             (0, false, b"a", &[b"c"]),
@@ -120,8 +121,8 @@ const CASES: [PhaseCase<'static>; 7] = [
         all: true,
         explicit: &[b"a"],
     },
-    // another lists c, and others say that every value is proper
     PhaseCase {
+        name: "another replica lists c, and others report that every value is proper",
         own: b"a",
         read: &[(1, true, b"a", &[b"c"]), (2, true, b"a", &[b"a"])],
         all: true,
@@ -132,11 +133,15 @@ const CASES: [PhaseCase<'static>; 7] = [
 #[test]
 fn reports_make_values_proper(rt: HostRuntime) {
     for case in &CASES {
-        assert!(rt; makes_proper(rt.alloc(), case) == Some(true));
+        assert!(rt;
+            makes_proper(rt.alloc(), case) == Some(true),
+            "{}",
+            case.name
+        );
     }
 }
 
-// Whether this is the own value, and what is proper can be copied.
+// Whether this is the own value, and the set can be copied.
 fn has_own(alloc: Global, proper: &Proper, own: &[u8]) -> bool {
     match value(alloc, own) {
         Ok(value) => *proper.own() == value && proper.copy().is_ok(),
@@ -144,7 +149,7 @@ fn has_own(alloc: Global, proper: &Proper, own: &[u8]) -> bool {
     }
 }
 
-// Whether the own value alone is proper at first, and it can be copied.
+// Whether only the own value is proper at first, and the set can be copied.
 fn begins_with(alloc: Global, own: &[u8]) -> bool {
     match opened(alloc, own) {
         Some(proper) => {

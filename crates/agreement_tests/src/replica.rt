@@ -1,4 +1,4 @@
-//! One replica of four at height 1, and the round that is open there.
+//! One replica of four at height 1, and its open round.
 
 ghost use Rattle.std.specs.Prelude.{◌≡◌};
 
@@ -9,9 +9,9 @@ use ledger_model::{AppKind, Config, Height, Ignored, ReplicaId};
 use std::alloc::Global;
 use test_support::value;
 
-/// A replica of four at height 1, of which one may lie, and the round that is open.
+/// A replica of four at height 1, of which one may lie, and its open round.
 #[derive(Drop)]
-pub(crate) struct Replica {
+pub(crate) struct OpenHeight {
     pub(crate) alloc: Global,
     pub(crate) number: u8,
     pub(crate) instance: Instance,
@@ -20,8 +20,8 @@ pub(crate) struct Replica {
     ghost four: { instance.config.replicas ≡ 4 },
 }
 
-impl Replica {
-    /// Its own value is [a=1], and no round is open.
+impl OpenHeight {
+    /// A replica whose own value is [a=1], before the first round.
     pub(crate) fn open(alloc: Global, number: u8) -> Option<Self> {
         let config = Config::new(4, 1, AppKind::KvStore).ok()?;
         if number >= 4 {
@@ -30,7 +30,7 @@ impl Replica {
         let own = value(alloc, b"a=1").ok()?;
         let id = ReplicaId::new(number);
         let instance = Instance::open(alloc, &config, id, Height::new(1), &own).ok()?;
-        Some(Replica {
+        Some(OpenHeight {
             alloc,
             number,
             instance,
@@ -38,7 +38,7 @@ impl Replica {
         })
     }
 
-    /// Why the frame of these bytes is ignored, if it is.
+    /// Why the frame with these bytes is ignored, if it is.
     pub(crate) fn ignores(&mut self, ring: &KeyRing, bytes: &[u8]) -> Option<Option<Ignored>> {
         let frame = parsed(self.alloc, bytes)?;
         if self.clock > 1000

@@ -1,21 +1,21 @@
-//! The heights that replica 1 of four has opened. It is mute.
+//! The heights that replica 1 of four has opened. The replica is mute.
 
 ghost use Rattle.std.specs.Prelude.{◌≡◌};
 
 use super::frames::parsed;
 use height_row::HeightRow;
-use instance::{Instance, Made, Plan};
+use instance::{Instance, RoundPlan, RoundStatement};
 use key_ring::KeyRing;
 use ledger_model::{AppKind, Config, Height, Ignored, ProposeRefusal, ReplicaId, Statement};
 use std::alloc::Global;
-use test_support::{Cluster, report_bytes, value};
+use test_support::{TestCluster, report_bytes, value};
 
 fn number_of(instance: &Instance) -> u32 {
     instance.height().number()
 }
 
 #[derive(Drop)]
-struct Replica {
+struct OpenHeights {
     alloc: Global,
     row: HeightRow,
     // the round that is open
@@ -23,11 +23,11 @@ struct Replica {
     ghost four: { row.config.replicas ≡ 4 },
 }
 
-impl Replica {
-    // No height is open, and no round.
+impl OpenHeights {
+    // A row before any height or round is open.
     fn new(alloc: Global) -> Option<Self> {
         let config = Config::new(4, 1, AppKind::KvStore).ok()?;
-        Some(Replica {
+        Some(OpenHeights {
             alloc,
             row: HeightRow::new(alloc, &config, ReplicaId::new(1)),
             clock: 0,
@@ -45,18 +45,18 @@ impl Replica {
         Some(answer.err())
     }
 
-    // Whether these heights are opened in this order.
-    fn opens(&mut self, heights: &[u32]) -> bool {
+    // Opens these heights in this order. Returns the first that isn't opened, if there is one.
+    fn first_unopened(&mut self, heights: &[u32]) -> Option<u32> {
         for height in heights {
             if self.refuses(*height, 0) != Some(None) {
-                return false;
+                return Some(*height);
             }
         }
-        true
+        None
     }
 
-    // What is to be done at this height as the next round opens.
-    fn plan(&self, height: u32) -> Option<Plan> {
+    // The plan for this height as the next round opens.
+    fn plan(&self, height: u32) -> Option<RoundPlan> {
         let height = Height::new(height);
         if self.clock >= 1000 || self.row.get(height).is_none() {
             return None;
@@ -64,7 +64,7 @@ impl Replica {
         self.row.plan_end(self.alloc, height, self.clock).ok()
     }
 
-    // Whether a report that names the height is to be made at it.
+    // Whether the plan for the height is a report on it.
     fn reports_on(&self, height: u32) -> bool {
         match self.plan(height) {
             Some(plan) => is_report_on(&plan, height),
@@ -72,20 +72,21 @@ impl Replica {
         }
     }
 
-    // The open round ends at this height. Whether it could.
+    // Ends the open round at this height. Returns whether there was memory.
     fn ends_round_at(&mut self, height: u32) -> bool {
         let height = Height::new(height);
         if self.clock >= 1000 || self.row.get(height).is_none() {
             return false;
         }
-        let Ok(Plan { ending, .. }) = self.row.plan_end(self.alloc, height, self.clock) else {
+        let Ok(RoundPlan { ending, .. }) = self.row.plan_end(self.alloc, height, self.clock) else {
             return false;
         };
-        self.row.close(height, ending, Made::Mute, self.clock);
+        self.row
+            .close(height, ending, RoundStatement::Mute, self.clock);
         true
     }
 
-    // The open round ends at heights 1 and 2. Whether it could.
+    // Ends the open round at heights 1 and 2. Returns whether there was memory.
     fn ends_round(&mut self) -> bool {
         if !self.ends_round_at(1) || !self.ends_round_at(2) {
             return false;
@@ -117,7 +118,7 @@ impl Replica {
         self.row.decided_at(Height::new(height)).is_some()
     }
 
-    // Whether these are the open heights, as they stand.
+    // Whether these are the open heights, in order.
     fn has_open(&self, wanted: [u32; 4]) -> bool {
         match self.row.instances() {
             [first, second, third, fourth] => {
@@ -129,8 +130,8 @@ impl Replica {
     }
 }
 
-// Whether a report that names the height is to be made.
-fn is_report_on(plan: &Plan, height: u32) -> bool {
+// Whether the plan is a report on the height.
+fn is_report_on(plan: &RoundPlan, height: u32) -> bool {
     match &plan.statement {
         Some(Statement::Report(report)) => report.height.number() == height,
         _ => false,
@@ -139,7 +140,7 @@ fn is_report_on(plan: &Plan, height: u32) -> bool {
 
 #[test]
 fn a_height_is_refused_by_the_first_cause(rt: HostRuntime) {
-    let mut replica = Replica::new(rt.alloc()).expect(&rt, "a replica");
+    let mut replica = OpenHeights::new(rt.alloc()).expect(&rt, "a replica");
     for &(height, committed, answer) in &[
         (0, 0, Some(ProposeRefusal::Closed)),
         (4097, 0, Some(ProposeRefusal::Closed)),
@@ -148,18 +149,21 @@ fn a_height_is_refused_by_the_first_cause(rt: HostRuntime) {
         (4, 0, Some(ProposeRefusal::AlreadyOpen)),
         (5, 1, None),
     ] {
-        assert!(rt; replica.refuses(height, committed) == Some(answer));
+        assert!(rt;
+            replica.refuses(height, committed) == Some(answer),
+            "{height} {answer:?}"
+        );
     }
 }
 
 #[test]
 fn open_heights_ascend(rt: HostRuntime) {
-    let mut replica = Replica::new(rt.alloc()).expect(&rt, "a replica");
-    assert!(rt; replica.opens(&[3, 1, 4, 2]));
+    let mut replica = OpenHeights::new(rt.alloc()).expect(&rt, "a replica");
+    assert_eq!(rt; replica.first_unopened(&[3, 1, 4, 2]), None);
     assert!(rt; replica.has_open([1, 2, 3, 4]));
 }
 
-fn ends_phase(replica: &mut Replica) -> bool {
+fn ends_phase(replica: &mut OpenHeights) -> bool {
     for _ in 0u8..4 {
         if !replica.ends_round() {
             return false;
@@ -170,18 +174,25 @@ fn ends_phase(replica: &mut Replica) -> bool {
 
 #[test]
 fn each_height_is_reported_on_by_itself(rt: HostRuntime) {
-    let mut replica = Replica::new(rt.alloc()).expect(&rt, "a replica");
-    assert!(rt; replica.opens(&[1, 2]));
-    for _phase in 0u8..2 {
-        assert!(rt; replica.reports_on(1) && replica.reports_on(2));
-        assert!(rt; ends_phase(&mut replica));
+    let mut replica = OpenHeights::new(rt.alloc()).expect(&rt, "a replica");
+    assert_eq!(rt; replica.first_unopened(&[1, 2]), None);
+    for phase in 1u8..3 {
+        assert!(rt;
+            replica.reports_on(1) && replica.reports_on(2),
+            "phase {phase}"
+        );
+        assert!(rt; ends_phase(&mut replica), "phase {phase}");
     }
     assert!(rt; replica.is_open(2) && !replica.is_open(3));
     assert!(rt; !replica.is_decided(1));
 }
 
-// What the replica answers to replica 2's report about a height.
-fn answer(replica: &mut Replica, cluster: &mut Cluster, height: u8) -> Option<Option<Ignored>> {
+// The replica's answer to replica 2's report on a height.
+fn answer(
+    replica: &mut OpenHeights,
+    cluster: &mut TestCluster,
+    height: u8,
+) -> Option<Option<Ignored>> {
     let bytes = cluster.frame(2, &report_bytes(height, 1, 2, b'a')).ok()?;
     replica.ignores(cluster.ring(), &bytes)
 }
@@ -189,15 +200,19 @@ fn answer(replica: &mut Replica, cluster: &mut Cluster, height: u8) -> Option<Op
 // In the first round.
 #[test]
 fn a_frame_is_read_at_its_height_alone(rt: HostRuntime) {
-    let mut cluster = Cluster::new(rt.alloc(), 4, 1).expect(&rt, "a cluster");
-    let mut replica = Replica::new(rt.alloc()).expect(&rt, "a replica");
-    assert!(rt; replica.opens(&[1, 2]) && replica.ends_round());
+    let mut cluster = TestCluster::new(rt.alloc(), 4, 1).expect(&rt, "a cluster");
+    let mut replica = OpenHeights::new(rt.alloc()).expect(&rt, "a replica");
+    assert_eq!(rt; replica.first_unopened(&[1, 2]), None);
+    assert!(rt; replica.ends_round());
     for &(height, wanted) in &[
         (1, None),
         (1, Some(Ignored::Repeated)),
         (2, None),
         (2, Some(Ignored::Repeated)),
     ] {
-        assert!(rt; answer(&mut replica, &mut cluster, height) == Some(wanted));
+        assert!(rt;
+            answer(&mut replica, &mut cluster, height) == Some(wanted),
+            "{height} {wanted:?}"
+        );
     }
 }

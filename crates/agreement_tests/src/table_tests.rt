@@ -1,21 +1,21 @@
-//! Which locks are held.
+//! Which locks the table holds.
 
 use super::frames::check;
 use ledger_model::Phase;
 use lock_proofs::{LockFrame, LockTable, TableFull};
 use std::alloc::Global;
-use test_support::Cluster;
+use test_support::TestCluster;
 
 // Four replicas, and the locks that one of them holds.
 #[derive(Drop)]
 struct Holder {
     alloc: Global,
-    cluster: Cluster,
+    cluster: TestCluster,
     table: LockTable,
 }
 
 // The phase of a lock, and the first byte of its value.
-fn told(lock: &LockFrame) -> (u32, u8) {
+fn phase_and_letter(lock: &LockFrame) -> (u32, u8) {
     let letter = match lock.value().transactions() {
         [tx, ..] => tx.as_bytes()[0],
         [] => 0,
@@ -25,7 +25,7 @@ fn told(lock: &LockFrame) -> (u32, u8) {
 
 impl Holder {
     fn new(alloc: Global) -> Option<Self> {
-        let cluster = Cluster::new(alloc, 4, 1).ok()?;
+        let cluster = TestCluster::new(alloc, 4, 1).ok()?;
         let table = LockTable::new(alloc).ok()?;
         Some(Holder {
             alloc,
@@ -34,14 +34,14 @@ impl Holder {
         })
     }
 
-    // A valid lock of a phase, on the value that begins with this letter.
+    // A valid lock of a phase, on the value that starts with this letter.
     fn lock(&mut self, phase: u8, letter: u8) -> Option<LockFrame> {
         let bytes = self.cluster.lock_frame(phase, phase % 4, letter, 3).ok()?;
         let config = self.cluster.config();
         check(self.alloc, &config, self.cluster.ring(), &bytes)?.ok()
     }
 
-    // Whether the table has room for the value that begins with this letter.
+    // Whether the table has room for the value that starts with this letter.
     fn has_room(&mut self, letter: u8) -> Option<bool> {
         let lock = self.lock(5, letter)?;
         Some(self.table.has_room_for(lock.value()))
@@ -59,25 +59,25 @@ impl Holder {
         Some(())
     }
 
-    // Such a lock is read in a phase.
+    // Reads such a lock in the lock-release round of a phase.
     fn release(&mut self, phase: u8, letter: u8, now: u32) -> Option<()> {
         let lock = self.lock(phase, letter)?;
         self.table.release(&lock, Phase::new(now));
         Some(())
     }
 
-    // Whether it holds just the locks of these phases, on values that begin with these letters.
+    // Whether the table has exactly the locks of these phases, on values that start with these letters.
     fn holds(&self, wanted: &[(u32, u8)]) -> bool {
         let held = self.table.held();
         for (lock, wanted) in held.iter().zip(wanted) {
-            if told(lock) != *wanted {
+            if phase_and_letter(lock) != *wanted {
                 return false;
             }
         }
         held.len() == wanted.len()
     }
 
-    // Whether a fifth value finds no room, and leaves the four.
+    // Whether there is no room for a fifth value, and the four stay.
     fn refuses_a_fifth(&mut self) -> Option<bool> {
         let has_room = self.has_room(b'e')?;
         let answer = self.take(5, b'e')?;
@@ -85,7 +85,7 @@ impl Holder {
         Some(!has_room && answer == Err(TableFull) && are_held)
     }
 
-    // Whether a held value is renewed.
+    // Whether a later lock replaces one on the same value.
     fn renews_the_second(&mut self) -> Option<bool> {
         let has_room = self.has_room(b'b')?;
         let answer = self.take(6, b'b')?;
@@ -93,7 +93,7 @@ impl Holder {
         Some(has_room && answer == Ok(()) && are_held)
     }
 
-    // Whether nothing is released before the phase of the lock that is read, and then what is of no later phase.
+    // Whether a lock releases nothing before its own phase, and then only locks of no later phase.
     fn releases_two(&mut self) -> Option<bool> {
         self.release(3, b'b', 2)?;
         let count = self.table.held().len();

@@ -1,4 +1,4 @@
-//! What one round brought, by signer.
+//! What was read in one round, by signer.
 
 use ledger_model::{Ack, AppKind, Batch, Config, Phase, ReplicaId};
 use std::alloc::Global;
@@ -10,7 +10,7 @@ fn empty<X: Drop>(alloc: Global, replicas: u8, faults: u8) -> Option<Tally<X>> {
     Tally::new(alloc, &config).ok()
 }
 
-// Whether what a replica brought is kept, if there is such a replica.
+// Whether a replica's statement is stored, if the replica exists.
 fn add<X: Drop>(tally: &mut Tally<X>, signer: u8, read: X) -> Option<bool> {
     if signer >= tally.replicas() {
         return None;
@@ -18,7 +18,7 @@ fn add<X: Drop>(tally: &mut Tally<X>, signer: u8, read: X) -> Option<bool> {
     Some(tally.add(ReplicaId::new(signer), read))
 }
 
-// Replicas 1 and 3 of four bring letters, 3 twice.
+// Adds letters of replicas 1 and 3 of four, two of replica 3.
 fn brings_letters(tally: &mut Tally<char>) -> bool {
     add(tally, 3, 'c') == Some(true)
         && add(tally, 1, 'a') == Some(true)
@@ -29,7 +29,7 @@ fn got(tally: &Tally<char>, signer: u8) -> Option<char> {
     tally.get(ReplicaId::new(signer)).copied()
 }
 
-// Whether the first of each signer is there, and counts.
+// Whether the first letter of each signer is stored and counts.
 fn has_letters(tally: &Tally<char>) -> bool {
     (got(tally, 0), got(tally, 1)) == (None, Some('a'))
         && (got(tally, 3), got(tally, 4)) == (Some('c'), None)
@@ -56,26 +56,32 @@ fn the_first_of_a_signer_counts(rt: HostRuntime) {
     assert!(rt; is_cleared(&mut tally));
 }
 
-// Whether what each of thirteen replicas brought is kept.
-fn adds_thirteen(tally: &mut Tally<u8>) -> Option<bool> {
-    let mut are_kept = true;
+// Adds a statement of each of thirteen replicas. Returns the first replica whose statement isn't stored, if there is one.
+fn first_unstored(tally: &mut Tally<u8>) -> Option<u8> {
     for number in 0..13 {
-        are_kept &= add(tally, number, number)?;
+        if add(tally, number, number) != Some(true) {
+            return Some(number);
+        }
     }
+    None
+}
+
+// The numbers of signers, of replicas and of stored statements.
+fn counts_of(tally: &Tally<u8>) -> Option<(usize, u8, usize)> {
     let signers = tally.signers().ok()?.len();
-    let count = tally.count_where(|_| true);
-    Some(are_kept && (signers, tally.replicas(), count) == (13, 13, 13))
+    Some((signers, tally.replicas(), tally.count_where(|_| true)))
 }
 
 #[test]
 fn every_replica_of_the_greatest_cluster_has_a_place(rt: HostRuntime) {
     let mut tally = empty(rt.alloc(), 13, 4).expect(&rt, "a tally");
-    assert!(rt; adds_thirteen(&mut tally) == Some(true));
+    assert_eq!(rt; first_unstored(&mut tally), None);
+    assert!(rt; counts_of(&tally) == Some((13, 13, 13)));
 }
 
-// Acknowledgements of these replicas, of these phases on these values.
-fn add_acks(alloc: Global, acks: &mut Tally<Ack>, told: &[(u8, u32, &[u8])]) -> Option<()> {
-    for &(signer, phase, bytes) in told {
+// Adds acknowledgements of these replicas, phases and values.
+fn add_acks(alloc: Global, acks: &mut Tally<Ack>, sent: &[(u8, u32, &[u8])]) -> Option<()> {
+    for &(signer, phase, bytes) in sent {
         add(acks, signer, ack(alloc, phase, signer, bytes).ok()?)?;
     }
     Some(())
@@ -85,21 +91,21 @@ fn count_of(acks: &Tally<Ack>, phase: u32, value: &Batch) -> usize {
     acks.count_where(|ack| ack.phase == Phase::new(phase) && *value == ack.value)
 }
 
-// How many acknowledge `x=1` in phase 2, and in phase 1.
-fn counted(alloc: Global, told: &[(u8, u32, &[u8])]) -> Option<(usize, usize)> {
+// The number of acknowledgements of `x=1` in phase 2, and in phase 1.
+fn counted(alloc: Global, sent: &[(u8, u32, &[u8])]) -> Option<(usize, usize)> {
     let value = value(alloc, b"x=1").ok()?;
     let mut acks = empty(alloc, 4, 1)?;
-    add_acks(alloc, &mut acks, told)?;
+    add_acks(alloc, &mut acks, sent)?;
     Some((count_of(&acks, 2, &value), count_of(&acks, 1, &value)))
 }
 
 #[test]
 fn acknowledgements_count_by_phase_and_value(rt: HostRuntime) {
-    let told: [(u8, u32, &[u8]); 4] = [
+    let sent: [(u8, u32, &[u8]); 4] = [
         (0, 2, b"x=1"),
         (1, 2, b"x=1"),
         (2, 2, b"x=2"),
         (3, 1, b"x=1"),
     ];
-    assert!(rt; counted(rt.alloc(), &told) == Some((2, 1)));
+    assert!(rt; counted(rt.alloc(), &sent) == Some((2, 1)));
 }

@@ -1,5 +1,6 @@
--- What the counter keeps, and the numbers that it reads.
-use Rattle.std.proofs.Common.{◌≡◌, ℕ, zero, suc, ◌+◌, ◌*◌, ◌^◌, ◌<◌, ◌≤◌, Bool, false, Some, None, List, [], ◌∷◌, ◌++◌, length, take, get_or, refl, ap, sym, ◌∙◌, arith, length-append}
+-- The state of the counter, and the numbers that it reads.
+use Rattle.std.proofs.Common.{◌≡◌, ℕ, zero, suc, ◌+◌, ◌*◌, ◌^◌, ◌<◌, ◌≤◌, Bool, false, Some, None, List, [], ◌∷◌, ◌++◌, length, take}
+use Rattle.std.proofs.Common.{get_or, refl, ap, sym, ◌∙◌, arith, length-append}
 use Rattle.std.specs.Prelude.{◌==◌, nat_lt, if◌then◌else◌}
 use Rattle.std.specs.Int.{w64, to_be_bytes}
 use Rattle.std.proofs.Math.Nat.{pow-suc, mul-le-mul_left, pow-le-pow_right}
@@ -15,18 +16,22 @@ unfolding state_of
 length-of_state done n e = let same : n ≡ length done = cc in sym same
 
 -- one transaction more, where it passes
-pub state-passes : (txs : List (List ℕ)) (tx : List ℕ) (n : ℕ) → Count n ≡ state_of Counter (accepted Counter [] txs) → code_after Counter (accepted Counter [] txs) tx ≡ 0 → Count (n + 1) ≡ state_of Counter (accepted Counter [] (txs ++ tx ∷ []))
+pub state-passes : (txs : List (List ℕ)) (tx : List ℕ) (n : ℕ) → Count n ≡ state_of Counter (accepted Counter [] txs)
+    → code_after Counter (accepted Counter [] txs) tx ≡ 0 → Count (n + 1) ≡ state_of Counter (accepted Counter [] (txs ++ tx ∷ []))
 unfolding state_of
 state-passes txs tx n e passes =
     let same = length-of_state (accepted Counter [] txs) n e in
     rw (accepted-passes Counter txs tx passes) (ap Count (sym (length-append (accepted Counter [] txs) (tx ∷ []) ∙ ap (λ m. m + 1) same)))
 
 -- and where it doesn't
-pub state-refused : (txs : List (List ℕ)) (tx : List ℕ) (n : ℕ) → Count n ≡ state_of Counter (accepted Counter [] txs) → (code_after Counter (accepted Counter [] txs) tx == 0) ≡ false → Count n ≡ state_of Counter (accepted Counter [] (txs ++ tx ∷ []))
+pub state-refused : (txs : List (List ℕ)) (tx : List ℕ) (n : ℕ) → Count n ≡ state_of Counter (accepted Counter [] txs)
+    → (code_after Counter (accepted Counter [] txs) tx == 0) ≡ false → Count n ≡ state_of Counter (accepted Counter [] (txs ++ tx ∷ []))
 state-refused txs tx n e refused = rw (accepted-refused Counter txs tx refused) e
 
 -- the answer to a key, where it is `count` and where it isn't
-pub held-at_key : (done : List (List ℕ)) (n : ℕ) (key : List ℕ) (test : Bool) → same_bytes key (0x63 ∷ 0x6f ∷ 0x75 ∷ 0x6e ∷ 0x74 ∷ []) ≡ test → Count n ≡ state_of Counter done → held_at Counter done key ≡ (if test then Some (to_be_bytes w64 n) else None)
+pub held-at_key : (done : List (List ℕ)) (n : ℕ) (key : List ℕ) (test : Bool)
+    → same_bytes key (0x63 ∷ 0x6f ∷ 0x75 ∷ 0x6e ∷ 0x74 ∷ []) ≡ test → Count n ≡ state_of Counter done
+    → held_at Counter done key ≡ (if test then Some (to_be_bytes w64 n) else None)
 unfolding held_at
 held-at_key done n key test t e = rw (length-of_state done n e, t) refl
 
@@ -57,10 +62,12 @@ pub number_in-take : (bytes : List ℕ) (n : ℕ) → n ≤ 7 → ((k : ℕ) →
 number_in-take bytes n short small =
     let front : (k : ℕ) → get_or (take n bytes) k 0 < 256 = λ k. get_or-take-below n k bytes small in
     let less = number_in-below (take n bytes) front in
-    let most : 256 ^ length (take n bytes) ≤ 256 ^ 7 = pow-le-pow_right {n = 256} (omega arith) {i = length (take n bytes)} {j = 7} (omega (arith, length-take n bytes)) in
+    let most : 256 ^ length (take n bytes) ≤ 256 ^ 7 =
+    pow-le-pow_right {n = 256} (omega arith) {i = length (take n bytes)} {j = 7} (omega (arith, length-take n bytes)) in
     omega (arith, less, most)
 
 -- what CheckTx answers by the count
-pub check-count : (done : List (List ℕ)) (n : ℕ) (tx : List ℕ) → Count n ≡ state_of Counter done → check_after Counter done tx ≡ (if nat_lt 8 (length tx) then 1 else if nat_lt (number_in tx) n then 2 else 0)
+pub check-count : (done : List (List ℕ)) (n : ℕ) (tx : List ℕ) → Count n ≡ state_of Counter done
+    → check_after Counter done tx ≡ (if nat_lt 8 (length tx) then 1 else if nat_lt (number_in tx) n then 2 else 0)
 unfolding check_after
 check-count done n tx e = rw (length-of_state done n e) refl

@@ -1,5 +1,6 @@
 -- No purse pays more than it has.
-use Rattle.std.proofs.Common.{◌≡◌, ℕ, ◌+◌, ◌≤◌, Bool, true, false, cond, List, [], ◌∷◌, ◌++◌, length, refl, ap, ◌∙◌, arith, eqb-true, ltb-false, length-append}
+use Rattle.std.proofs.Common.{◌≡◌, ℕ, ◌+◌, ◌≤◌, Bool, true, false, cond, List, [], ◌∷◌, ◌++◌, length, refl, ap, ◌∙◌, arith, eqb-true}
+use Rattle.std.proofs.Common.{ltb-false, length-append}
 use Rattle.std.specs.Prelude.{◌==◌}
 use Rattle.std.specs.List.{sum_by, filter}
 use Rattle.std.proofs.lemmas.List.Sums.{sum_by-append}
@@ -15,9 +16,11 @@ abbrev pub sent : List (List ℕ) → ℕ → ℕ
 sent done account = sum_by amount (sent_by done account)
 
 -- a sum over what passes, with one more
-sum_by-filter_push : (p : List ℕ → Bool) (done : List (List ℕ)) (tx : List ℕ) → sum_by amount (filter p (done ++ tx ∷ [])) ≡ sum_by amount (filter p done) + cond (p tx) (amount tx) 0
+sum_by-filter_push : (p : List ℕ → Bool) (done : List (List ℕ)) (tx : List ℕ)
+    → sum_by amount (filter p (done ++ tx ∷ [])) ≡ sum_by amount (filter p done) + cond (p tx) (amount tx) 0
 sum_by-filter_push p done tx =
-    ap (sum_by amount) (filter-append p done (tx ∷ [])) ∙ sum_by-append amount (filter p done) (filter p (tx ∷ [])) ∙ ap (λ n. sum_by amount (filter p done) + n) (by (p tx))
+    ap (sum_by amount) (filter-append p done (tx ∷ [])) ∙ sum_by-append amount (filter p done) (filter p (tx ∷ []))
+    ∙ ap (λ n. sum_by amount (filter p done) + n) (by (p tx))
   where
     by : (b : Bool) → sum_by amount (cond b (tx ∷ []) []) ≡ cond b (amount tx) 0
     by true = omega arith
@@ -26,12 +29,14 @@ sum_by-filter_push p done tx =
 pub sent-push : (done : List (List ℕ)) (tx : List ℕ) (a : ℕ) → sent (done ++ tx ∷ []) a ≡ sent done a + cond (sender tx == a) (amount tx) 0
 sent-push done tx a = sum_by-filter_push (λ t. sender t == a) done tx
 
-pub received-push : (done : List (List ℕ)) (tx : List ℕ) (a : ℕ) → received (done ++ tx ∷ []) a ≡ received done a + cond (receiver tx == a) (amount tx) 0
+pub received-push : (done : List (List ℕ)) (tx : List ℕ) (a : ℕ)
+    → received (done ++ tx ∷ []) a ≡ received done a + cond (receiver tx == a) (amount tx) 0
 received-push done tx a = sum_by-filter_push (λ t. receiver t == a) done tx
 
 pub nonce-push : (done : List (List ℕ)) (tx : List ℕ) (a : ℕ) → nonce_of (done ++ tx ∷ []) a ≡ nonce_of done a + cond (sender tx == a) 1 0
 nonce-push done tx a =
-    ap length (filter-append (λ t. sender t == a) done (tx ∷ [])) ∙ length-append (sent_by done a) (filter (λ t. sender t == a) (tx ∷ [])) ∙ ap (λ n. nonce_of done a + n) (by (sender tx == a))
+    ap length (filter-append (λ t. sender t == a) done (tx ∷ [])) ∙ length-append (sent_by done a) (filter (λ t. sender t == a) (tx ∷ []))
+    ∙ ap (λ n. nonce_of done a + n) (by (sender tx == a))
   where
     by : (b : Bool) → length (cond b (tx ∷ []) []) ≡ cond b 1 0
     by true = refl
@@ -51,7 +56,8 @@ first_code-passes false false true d e = absurd (omega arith)
 first_code-passes false false false true e = absurd (omega arith)
 first_code-passes false false false false e = record { spelled = refl; in_turn = refl; covered = refl; apart = refl }
 
-pub code-passes : (done : List (List ℕ)) (tx : List ℕ) → code_after Purse done tx ≡ 0 → (amount tx ≤ balance_of done (sender tx)) × ((sender tx == receiver tx) ≡ false)
+pub code-passes : (done : List (List ℕ)) (tx : List ℕ) → code_after Purse done tx ≡ 0
+    → (amount tx ≤ balance_of done (sender tx)) × ((sender tx == receiver tx) ≡ false)
 unfolding code_after
 code-passes done tx e =
     let p = first_code-passes _ _ _ _ e in
@@ -67,7 +73,8 @@ solvent-push done tx fine paid = record {
       rw (sent-push done tx a, received-push done tx a) (by a (sender tx == a) refl);
 }
   where
-    by : (a : ℕ) (b : Bool) → (sender tx == a) ≡ b → sent done a + cond b (amount tx) 0 ≤ 1000 + (received done a + cond (receiver tx == a) (amount tx) 0)
+    by : (a : ℕ) (b : Bool) → (sender tx == a) ≡ b
+        → sent done a + cond b (amount tx) 0 ≤ 1000 + (received done a + cond (receiver tx == a) (amount tx) 0)
     by a true e =
         let is = eqb-true (sender tx) a e in
         let enough : amount tx ≤ balance_of done a = rw (← is) paid in

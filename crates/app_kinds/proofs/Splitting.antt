@@ -1,5 +1,6 @@
--- The key and the value of a transaction, by the place of its first equals sign.
-use Rattle.std.proofs.Common.{◌≡◌, ℕ, suc, ◌+◌, ◌<◌, Bool, true, false, cond, List, [], ◌∷◌, length, take, drop, Some, None, refl, sym, ap, ◌∙◌, arith, ltb-true, ltb-false, take_all}
+-- The key and the value of a transaction, given the index of its first equals sign.
+use Rattle.std.proofs.Common.{◌≡◌, ℕ, suc, ◌+◌, ◌<◌, Bool, true, false, cond, List, [], ◌∷◌, length, take, drop, Some, None, refl, sym, ap}
+use Rattle.std.proofs.Common.{◌∙◌, arith, ltb-true, ltb-false, take_all}
 use Rattle.std.specs.Prelude.{position, nat_lt, ◌||◌, not}
 use Rattle.std.specs.List.{position_or_len, list_any}
 use Rattle.ledger_model.specs.Applications.{is_equals_sign, key_of, value_in}
@@ -28,19 +29,27 @@ has_sign : (tx : List ℕ) → list_any is_equals_sign tx ≡ nat_lt (sign_at tx
 has_sign [] = refl
 has_sign (b ∷ bs) = by (is_equals_sign b) (has_sign bs)
   where
-    by : (c : Bool) → list_any is_equals_sign bs ≡ nat_lt (sign_at bs) (length bs) → (c || list_any is_equals_sign bs) ≡ nat_lt (cond (not c) (1 + sign_at bs) 0) (suc (length bs))
+    by : (c : Bool) → list_any is_equals_sign bs ≡ nat_lt (sign_at bs) (length bs)
+        → (c || list_any is_equals_sign bs) ≡ nat_lt (cond (not c) (1 + sign_at bs) 0) (suc (length bs))
     by true rest = grind arith
     by false rest = rw rest (grind arith)
 
 -- the parts where there is an equals sign
-pub parts-at : (tx : List ℕ) (at : ℕ) → Some at ≡ position is_equals_sign tx → (at < length tx) × (key_of tx ≡ take at tx) × (value_in tx ≡ drop (at + 1) tx)
+pub parts-at : (tx : List ℕ) (at : ℕ) → Some at ≡ position is_equals_sign tx
+    → (at < length tx) × (key_of tx ≡ take at tx) × (value_in tx ≡ drop (at + 1) tx)
 parts-at tx at is = by (nat_lt (sign_at tx) (length tx)) refl is
   where
-    by : (b : Bool) → nat_lt (sign_at tx) (length tx) ≡ b → Some at ≡ cond b (Some (sign_at tx)) None → (at < length tx) × (key_of tx ≡ take at tx) × (value_in tx ≡ drop (at + 1) tx)
+    by : (b : Bool) → nat_lt (sign_at tx) (length tx) ≡ b → Some at ≡ cond b (Some (sign_at tx)) None
+        → (at < length tx) × (key_of tx ≡ take at tx) × (value_in tx ≡ drop (at + 1) tx)
     by true e found =
         let same : at ≡ sign_at tx = cc in
-        let value : value_in tx ≡ drop (length (key_of tx) + 1) tx = ap (λ b. cond b (drop (length (key_of tx) + 1) tx) tx) (has_sign tx ∙ e) in
-        (rw same (ltb-true _ _ e), key_of-front tx ∙ ap (λ n. take n tx) (sym same), value ∙ ap (λ n. drop (n + 1) tx) (length-key_of tx ∙ sym same))
+        let value : value_in tx ≡ drop (length (key_of tx) + 1) tx =
+        ap (λ b. cond b (drop (length (key_of tx) + 1) tx) tx) (has_sign tx ∙ e) in (
+          rw same (ltb-true _ _ e),
+          key_of-front tx ∙ ap (λ n. take n tx) (sym same),
+          value
+              ∙ ap (λ n. drop (n + 1) tx) (length-key_of tx ∙ sym same),
+        )
     by false e found = cc
 
 -- and where there is none

@@ -1,5 +1,6 @@
--- The pairs of a store after one transaction more, and what they hold.
-use Rattle.std.proofs.Common.{◌≡◌, ℕ, Bool, true, false, cond, ◌||◌, List, [], ◌∷◌, ◌++◌, map, Option, Some, None, refl, sym, ap, ◌∙◌, subst}
+-- The pairs of a store after one more transaction, and their values.
+use Rattle.std.proofs.Common.{◌≡◌, ℕ, Bool, true, false, cond, ◌||◌, List, [], ◌∷◌, ◌++◌, map, Option, Some, None, refl, sym, ap, ◌∙◌}
+use Rattle.std.proofs.Common.{subst}
 use Rattle.std.specs.Prelude.{is_some, unwrap_or}
 use Rattle.std.specs.declared.cmp.Ordering.{Ordering}
 use Rattle.std.specs.declared.cmp.Ordering.TheVariants.{Less, Equal, Greater}
@@ -29,7 +30,8 @@ with_key-key_among k (x ∷ xs) =
     ∙ by (byte_cmp k x)
     ∙ ap (λ r. match_ordering (byte_cmp k x) (k ∷ x ∷ xs) (x ∷ xs) (x ∷ r)) (with_key-key_among k xs)
   where
-    by : (o : Ordering) → cond (is_eq o) (x ∷ xs) (cond (is_lt o) (k ∷ x ∷ xs) (x ∷ with_key k xs)) ≡ match_ordering o (k ∷ x ∷ xs) (x ∷ xs) (x ∷ with_key k xs)
+    by : (o : Ordering) → cond (is_eq o) (x ∷ xs) (cond (is_lt o) (k ∷ x ∷ xs) (x ∷ with_key k xs))
+        ≡ match_ordering o (k ∷ x ∷ xs) (x ∷ xs) (x ∷ with_key k xs)
     by Less = refl
     by Equal = refl
     by Greater = refl
@@ -55,7 +57,8 @@ turned : (a b : List ℕ) (o : Ordering) → byte_cmp a b ≡ o → byte_cmp b a
 turned a b o e = nat_list_cmp_total.antisymm b a ∙ ap ordering_reverse e
 
 -- two keys beside each other, in whichever order they come
-beside : (a b : List ℕ) (rest : List (List ℕ)) → key_among a rest ≡ a ∷ rest → key_among b rest ≡ b ∷ rest → key_among a (b ∷ rest) ≡ key_among b (a ∷ rest)
+beside : (a b : List ℕ) (rest : List (List ℕ)) → key_among a rest ≡ a ∷ rest → key_among b rest ≡ b ∷ rest
+    → key_among a (b ∷ rest) ≡ key_among b (a ∷ rest)
 beside a b rest ha hb = by (byte_cmp a b) refl
   where
     by : (o : Ordering) → byte_cmp a b ≡ o → key_among a (b ∷ rest) ≡ key_among b (a ∷ rest)
@@ -64,13 +67,15 @@ beside a b rest ha hb = by (byte_cmp a b) refl
     by Greater e = behind_head a b rest e ∙ ap (λ r. b ∷ r) ha ∙ sym (before_head b a rest (turned a b Greater e))
 
 -- a comes before the head, and b doesn't
-less_other : (a b x : List ℕ) (xs rest : List (List ℕ)) → byte_cmp a x ≡ Less → byte_cmp b a ≡ Greater → key_among b (x ∷ xs) ≡ x ∷ rest → key_among a (key_among b (x ∷ xs)) ≡ key_among b (key_among a (x ∷ xs))
+less_other : (a b x : List ℕ) (xs rest : List (List ℕ)) → byte_cmp a x ≡ Less → byte_cmp b a ≡ Greater → key_among b (x ∷ xs) ≡ x ∷ rest
+    → key_among a (key_among b (x ∷ xs)) ≡ key_among b (key_among a (x ∷ xs))
 less_other a b x xs rest ea eb hb =
     ap (key_among a) hb ∙ before_head a x rest ea
     ∙ sym (ap (key_among b) (before_head a x xs ea) ∙ behind_head b a (x ∷ xs) eb ∙ ap (λ r. a ∷ r) hb)
 
 -- a is the head, and b doesn't come before it
-equal_other : (a b x : List ℕ) (xs rest : List (List ℕ)) → byte_cmp a x ≡ Equal → key_among b (x ∷ xs) ≡ x ∷ rest → key_among a (key_among b (x ∷ xs)) ≡ key_among b (key_among a (x ∷ xs))
+equal_other : (a b x : List ℕ) (xs rest : List (List ℕ)) → byte_cmp a x ≡ Equal → key_among b (x ∷ xs) ≡ x ∷ rest
+    → key_among a (key_among b (x ∷ xs)) ≡ key_among b (key_among a (x ∷ xs))
 equal_other a b x xs rest ea hb =
     ap (key_among a) hb ∙ at_head a x rest ea ∙ sym (ap (key_among b) (at_head a x xs ea) ∙ hb)
 
@@ -85,8 +90,10 @@ key_among-swap : (a b : List ℕ) (ks : List (List ℕ)) → key_among a (key_am
 key_among-swap a b [] = ap (key_among a) (alone b) ∙ beside a b [] (alone a) (alone b) ∙ sym (ap (key_among b) (alone a))
 key_among-swap a b (x ∷ xs) = by (byte_cmp a x) (byte_cmp b x) refl refl (key_among-swap a b xs)
   where
-    by : (o p : Ordering) → byte_cmp a x ≡ o → byte_cmp b x ≡ p → key_among a (key_among b xs) ≡ key_among b (key_among a xs) → key_among a (key_among b (x ∷ xs)) ≡ key_among b (key_among a (x ∷ xs))
-    by Less Less ea eb rest = ap (key_among a) (before_head b x xs eb) ∙ beside a b (x ∷ xs) (before_head a x xs ea) (before_head b x xs eb) ∙ sym (ap (key_among b) (before_head a x xs ea))
+    by : (o p : Ordering) → byte_cmp a x ≡ o → byte_cmp b x ≡ p → key_among a (key_among b xs) ≡ key_among b (key_among a xs)
+        → key_among a (key_among b (x ∷ xs)) ≡ key_among b (key_among a (x ∷ xs))
+    by Less Less ea eb rest = ap (key_among a) (before_head b x xs eb)
+        ∙ beside a b (x ∷ xs) (before_head a x xs ea) (before_head b x xs eb) ∙ sym (ap (key_among b) (before_head a x xs ea))
     by Less Equal ea eb rest = less_other a b x xs xs ea (equal_after a b x ea eb) (at_head b x xs eb)
     by Less Greater ea eb rest = less_other a b x xs (key_among b xs) ea (greater_after a b x ea eb) (behind_head b x xs eb)
     by Equal Less ea eb rest = sym (less_other b a x xs xs eb (equal_after b a x eb ea) (at_head a x xs ea))
@@ -113,7 +120,8 @@ later : Option (List ℕ) → Option (List ℕ) → Option (List ℕ)
 later (Some v) earlier = Some v
 later None earlier = earlier
 
-value_at-first : (tx : List ℕ) (txs : List (List ℕ)) (key : List ℕ) → value_at (tx ∷ txs) key ≡ later (value_at txs key) (cond (same_bytes (key_of tx) key) (Some (value_in tx)) None)
+value_at-first : (tx : List ℕ) (txs : List (List ℕ)) (key : List ℕ)
+    → value_at (tx ∷ txs) key ≡ later (value_at txs key) (cond (same_bytes (key_of tx) key) (Some (value_in tx)) None)
 unfolding later
 value_at-first tx txs key = refl
 
@@ -126,7 +134,8 @@ later-none : (o : Option (List ℕ)) → later None o ≡ o
 unfolding later
 later-none o = refl
 
-value_at-push : (done : List (List ℕ)) (tx key : List ℕ) → value_at (done ++ tx ∷ []) key ≡ cond (same_bytes (key_of tx) key) (Some (value_in tx)) (value_at done key)
+value_at-push : (done : List (List ℕ)) (tx key : List ℕ)
+    → value_at (done ++ tx ∷ []) key ≡ cond (same_bytes (key_of tx) key) (Some (value_in tx)) (value_at done key)
 value_at-push [] tx key = value_at-first tx [] key ∙ later-none _
 value_at-push (t ∷ done) tx key =
     let first = cond (same_bytes (key_of t) key) (Some (value_in t)) None in
@@ -153,7 +162,8 @@ apart_from_greater : (k q : List ℕ) → byte_cmp k q ≡ Greater → same_byte
 apart_from_greater k q e = texts_ties k q ∙ ap is_eq e
 
 -- a key below the least is below all
-all_after : (k x : List ℕ) (xs : List (List ℕ)) → byte_cmp k x ≡ Less → AllByRecursion (λ y. byte_cmp x y ≡ Less) xs → AllByRecursion (λ y. byte_cmp k y ≡ Less) xs
+all_after : (k x : List ℕ) (xs : List (List ℕ)) → byte_cmp k x ≡ Less → AllByRecursion (λ y. byte_cmp x y ≡ Less) xs
+    → AllByRecursion (λ y. byte_cmp k y ≡ Less) xs
 all_after k x [] e above = tt
 all_after k x (y ∷ ys) e above = (nat_list_cmp_total.trans k x y e above.0, all_after k x ys e above.1)
 
@@ -165,7 +175,8 @@ module _ (g g' : List ℕ → List ℕ) (k v : List ℕ) (here : g' k ≡ v) (ot
       let rest = unchanged_after xs above.1 in
       cc
 
-  map-key_among : (ks : List (List ℕ)) → IsStrictlySortedBy byte_cmp ks → paired g' (key_among k ks) ≡ insert_entry byte_cmp (paired g ks) k v
+  map-key_among : (ks : List (List ℕ)) → IsStrictlySortedBy byte_cmp ks
+      → paired g' (key_among k ks) ≡ insert_entry byte_cmp (paired g ks) k v
   unfolding key_among IsStrictlySortedBy
   map-key_among [] sorted = ap (λ w. (k, w) ∷ []) here
   map-key_among (x ∷ xs) sorted = by (byte_cmp k x) refl (map-key_among xs sorted.1)
@@ -191,18 +202,23 @@ keys-stored g [] = refl
 keys-stored g (k ∷ ks) = ap (λ r. k ∷ r) (keys-stored g ks)
 
 -- one transaction more sets its key's value
-pub stored-push : (done : List (List ℕ)) (tx : List ℕ) → IsStrictlySortedBy byte_cmp (entry_keys (stored done)) → stored (done ++ tx ∷ []) ≡ insert_entry byte_cmp (stored done) (key_of tx) (value_in tx)
+pub stored-push : (done : List (List ℕ)) (tx : List ℕ) → IsStrictlySortedBy byte_cmp (entry_keys (stored done))
+    → stored (done ++ tx ∷ []) ≡ insert_entry byte_cmp (stored done) (key_of tx) (value_in tx)
 stored-push done tx sorted =
     let g : List ℕ → List ℕ = λ k. unwrap_or (value_at done k) [] in
     let g' : List ℕ → List ℕ = λ k. unwrap_or (value_at (done ++ tx ∷ []) k) [] in
-    let here : g' (key_of tx) ≡ value_in tx = ap (λ o. unwrap_or o []) (value_at-push done tx (key_of tx) ∙ ap (λ b. cond b (Some (value_in tx)) (value_at done (key_of tx))) (same_itself (key_of tx))) in
-    let other : (q : List ℕ) → same_bytes (key_of tx) q ≡ false → g' q ≡ g q = λ q apart. ap (λ o. unwrap_or o []) (value_at-push done tx q ∙ ap (λ b. cond b (Some (value_in tx)) (value_at done q)) apart) in
+    let here : g' (key_of tx) ≡ value_in tx =
+    ap (λ o. unwrap_or o []) (value_at-push done tx (key_of tx)
+    ∙ ap (λ b. cond b (Some (value_in tx)) (value_at done (key_of tx))) (same_itself (key_of tx))) in
+    let other : (q : List ℕ) → same_bytes (key_of tx) q ≡ false → g' q ≡ g q =
+    λ q apart. ap (λ o. unwrap_or o []) (value_at-push done tx q ∙ ap (λ b. cond b (Some (value_in tx)) (value_at done q)) apart) in
     ap (paired g') (keys_of-push done tx)
     ∙ map-key_among g g' (key_of tx) (value_in tx) here other (keys_of done) (rw (keys-stored g (keys_of done)) at sorted)
 
 -- ---- what the pairs hold under a key
 
-lookup-map : (g : List ℕ → List ℕ) (q : List ℕ) (ks : List (List ℕ)) → lookup (same_bytes q) (paired g ks) ≡ cond (list_any (same_bytes q) ks) (Some (g q)) None
+lookup-map : (g : List ℕ → List ℕ) (q : List ℕ) (ks : List (List ℕ))
+    → lookup (same_bytes q) (paired g ks) ≡ cond (list_any (same_bytes q) ks) (Some (g q)) None
 lookup-map g q [] = refl
 lookup-map g q (k ∷ ks) = by (same_bytes q k) refl (lookup-map g q ks)
   where
@@ -221,13 +237,15 @@ swapped true false c = refl
 swapped false true c = refl
 swapped false false c = refl
 
-in-key_among : (q k : List ℕ) (ks : List (List ℕ)) → list_any (same_bytes q) (key_among k ks) ≡ (same_bytes q k || list_any (same_bytes q) ks)
+in-key_among : (q k : List ℕ) (ks : List (List ℕ))
+    → list_any (same_bytes q) (key_among k ks) ≡ (same_bytes q k || list_any (same_bytes q) ks)
 unfolding key_among
 in-key_among q k [] = refl
 in-key_among q k (x ∷ xs) = by (byte_cmp k x) refl (in-key_among q k xs)
   where
     by : (o : Ordering) → byte_cmp k x ≡ o → list_any (same_bytes q) (key_among k xs) ≡ (same_bytes q k || list_any (same_bytes q) xs)
-        → list_any (same_bytes q) (match_ordering o (k ∷ x ∷ xs) (x ∷ xs) (x ∷ key_among k xs)) ≡ (same_bytes q k || (same_bytes q x || list_any (same_bytes q) xs))
+        → list_any (same_bytes q) (match_ordering o (k ∷ x ∷ xs) (x ∷ xs) (x ∷ key_among k xs))
+        ≡ (same_bytes q k || (same_bytes q x || list_any (same_bytes q) xs))
     by Less e rest = refl
     by Equal e rest = rw (← exact_bytes k x e) (twice (same_bytes q k) (list_any (same_bytes q) xs))
     by Greater e rest = ap (λ b. same_bytes q x || b) rest ∙ swapped (same_bytes q x) (same_bytes q k) (list_any (same_bytes q) xs)
@@ -249,8 +267,10 @@ in-keys_of (tx ∷ txs) q =
     ap (list_any (same_bytes q)) (with_key-key_among (key_of tx) (keys_of txs))
     ∙ in-key_among q (key_of tx) (keys_of txs)
     ∙ ap (λ b. same_bytes q (key_of tx) || b) (in-keys_of txs q)
-    ∙ ap (λ b. b || is_some (value_at txs q)) (nat_list_eq_equiv.symm q (key_of tx) ∙ sym (is_some-cond (same_bytes (key_of tx) q) (value_in tx)))
-    ∙ sym (ap is_some (value_at-first tx txs q) ∙ is_some-later (value_at txs q) (cond (same_bytes (key_of tx) q) (Some (value_in tx)) None))
+    ∙ ap (λ b. b || is_some (value_at txs q))
+    (nat_list_eq_equiv.symm q (key_of tx) ∙ sym (is_some-cond (same_bytes (key_of tx) q) (value_in tx)))
+    ∙ sym (ap is_some (value_at-first tx txs q)
+    ∙ is_some-later (value_at txs q) (cond (same_bytes (key_of tx) q) (Some (value_in tx)) None))
 
 whole : (o : Option (List ℕ)) → cond (is_some o) (Some (unwrap_or o [])) None ≡ o
 whole (Some v) = refl

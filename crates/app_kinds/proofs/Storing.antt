@@ -1,4 +1,4 @@
--- What the store keeps, said of transactions.
+-- The state of the store, in terms of transactions.
 use Rattle.std.proofs.Common.{◌≡◌, ℕ, List, [], ◌∷◌, ◌++◌, refl, sym, ap, ◌∙◌, subst}
 use Rattle.std.specs.List.Sorted.{IsStrictlySortedBy}
 use Rattle.std.specs.Map.{keys_of as entry_keys, lookup}
@@ -21,15 +21,19 @@ unfolding code_after
 code_of-store done tx = refl
 
 -- one transaction more
-pub state-set : (txs : List (List ℕ)) (tx : List ℕ) (ps qs : List Pair) → Pairs ps ≡ state_of KvStore (accepted KvStore [] txs) → IsStrictlySortedBy byte_cmp (entry_keys ps) → qs ≡ insert_entry byte_cmp ps (key_of tx) (value_in tx) → Pairs qs ≡ state_of KvStore (accepted KvStore [] (txs ++ tx ∷ []))
+pub state-set : (txs : List (List ℕ)) (tx : List ℕ) (ps qs : List Pair) → Pairs ps ≡ state_of KvStore (accepted KvStore [] txs)
+    → IsStrictlySortedBy byte_cmp (entry_keys ps) → qs ≡ insert_entry byte_cmp ps (key_of tx) (value_in tx)
+    → Pairs qs ≡ state_of KvStore (accepted KvStore [] (txs ++ tx ∷ []))
 unfolding state_of
 state-set txs tx ps qs e sorted is =
     let done = accepted KvStore [] txs in
     let same = pairs_of-state done ps e in
     rw (accepted-passes KvStore txs tx (code_of-store done tx))
-    (ap Pairs (is ∙ ap (λ (z : List Pair). insert_entry byte_cmp z (key_of tx) (value_in tx)) same ∙ sym (stored-push done tx (subst (λ (z : List Pair). IsStrictlySortedBy byte_cmp (entry_keys z)) same sorted))))
+    (ap Pairs (is ∙ ap (λ (z : List Pair). insert_entry byte_cmp z (key_of tx) (value_in tx)) same
+    ∙ sym (stored-push done tx (subst (λ (z : List Pair). IsStrictlySortedBy byte_cmp (entry_keys z)) same sorted))))
 
 -- the answer to a key
-pub held-stored : (done : List (List ℕ)) (ps : List Pair) (key : List ℕ) → Pairs ps ≡ state_of KvStore done → lookup (same_bytes key) ps ≡ held_at KvStore done key
+pub held-stored : (done : List (List ℕ)) (ps : List Pair) (key : List ℕ) → Pairs ps ≡ state_of KvStore done
+    → lookup (same_bytes key) ps ≡ held_at KvStore done key
 unfolding held_at
 held-stored done ps key e = ap (lookup (same_bytes key)) (pairs_of-state done ps e) ∙ lookup-stored done key

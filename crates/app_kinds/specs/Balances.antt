@@ -1,11 +1,11 @@
--- What holds of the balances of every purse.
+-- The balances of every purse.
 use Rattle.std.specs.Prelude.{◌≡◌, ℕ, List, [], All}
 use Rattle.std.specs.List.{sum_by, range_with_len}
 use Rattle.ledger_model.specs.GrammarLaws.{IsBytes}
 use Rattle.ledger_model.specs.declared.config.AppKind.TheVariants as kind
 use Rattle.ledger_model.specs.Applications.{accepted, balance_of}
 
--- whatever transactions are offered, the balances of the 256 accounts add up to 256,000
+-- whatever transactions a purse gets, the balances of its 256 accounts add up to 256,000
 abbrev pub TotalStays : Type 0
 TotalStays =
     (txs : List (List ℕ)) → All IsBytes txs

@@ -3,7 +3,7 @@ use Rattle.ledger_model.specs.Applications.{Machine}
 use Rattle.app_kinds.specs.declared.any_kind.AnyKind.{AnyKind}
 use Rattle.app_kinds.specs.declared.any_kind.AnyKind.TheVariants as any
 
--- it is that of the application that was chosen
+-- the machine of the chosen application
 abbrev pub machine_of : AnyKind → Machine
 machine_of (any.KvStore m) = m
 machine_of (any.Counter m) = m

@@ -1,5 +1,5 @@
 pub mod Codes
-pub mod Kept
+pub mod AppStates
 pub mod Wrapped
 pub mod Sorted
 pub mod Purses

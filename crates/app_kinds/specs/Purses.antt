@@ -1,4 +1,4 @@
--- What contracts see of the accounts of a purse: the balance and the nonce of each.
+-- The accounts of a purse as contracts see them: the balance and the nonce of each.
 use Rattle.std.specs.Prelude.{◌≡◌, ◌≢◌, ℕ, ◌+◌, ◌^◌, ◌<◌, ◌≤◌, List, length, map, slice_index_or}
 use Rattle.std.specs.List.{sum_by}
 use Rattle.app_kinds.specs.declared.account.Account.{Account}
@@ -17,11 +17,11 @@ balance_at accounts i = (slice_index_or accounts i (0, 0)).0
 abbrev pub nonce_at : List (ℕ × ℕ) → ℕ → ℕ
 nonce_at accounts i = (slice_index_or accounts i (0, 0)).1
 
--- the balances added up
+-- the sum of all balances
 abbrev pub total_of : List (ℕ × ℕ) → ℕ
 total_of accounts = sum_by (λ a. a.0) accounts
 
--- what ten bytes spell
+-- the transfer is the one that the ten bytes encode
 pub record IsTransferOf (bytes : List ℕ) (transfer : Transfer) : Type 0 where
   pub long : length bytes ≡ 10
   pub from : transfer.from ≡ sender bytes
@@ -31,7 +31,7 @@ pub record IsTransferOf (bytes : List ℕ) (transfer : Transfer) : Type 0 where
   pub from_small : transfer.from < 256
   pub to_small : transfer.to < 256
 
--- the sender has the amount, and a next nonce
+-- sender and receiver differ, the sender has the amount, and its nonce is not the last one
 pub record CanMove (accounts : List (ℕ × ℕ)) (transfer : Transfer) : Type 0 where
   pub apart : transfer.from ≢ transfer.to
   pub covered : transfer.amount ≤ balance_at accounts transfer.from

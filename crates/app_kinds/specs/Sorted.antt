@@ -1,4 +1,4 @@
--- What contracts see of the pairs of a store.
+-- The pairs of a store as contracts see them.
 use Rattle.std.specs.Prelude.{ℕ, ◌≤◌, List, [], ◌∷◌, length, map, Vec}
 use Rattle.std.specs.declared.alloc.Global.{Global}
 use Rattle.ledger_model.specs.Limits.{max_tx_len}

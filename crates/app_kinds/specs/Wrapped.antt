@@ -1,12 +1,12 @@
--- What contracts see of an application with a wrapper round it.
+-- Wrapped applications as contracts see them.
 use Rattle.std.specs.Prelude.{ℕ}
 
--- an application, and how many transactions were delivered to it
+-- an application, and the number of transactions that were delivered to it
 pub record CountedApp (X : Type 0) : Type 0 where
   pub app : X
   pub delivered : ℕ
 
--- an application, and which transaction from now on finds no memory: 1 is the next, 0 none
+-- an application, and which of the next deliveries fails: 1 is the next one, 0 none
 pub record RefusingApp (X : Type 0) : Type 0 where
   pub app : X
   pub refused : ℕ

@@ -1,6 +1,6 @@
 //! One account of a purse.
 
-/// An account: what it holds, and how many transfers it sent.
+/// An account: its balance, and the number of transfers that it sent.
 #[derive(Clone, Copy)]
 pub struct Account {
     pub balance: u32,
@@ -11,7 +11,7 @@ impl Account {
     ghost use Rattle.std.specs.Prelude.{◌≡◌, ◌++◌};
     ghost use Rattle.std.specs.Int.{w32, to_be_bytes};
 
-    /// `u32 balance || u32 nonce`.
+    /// The encoding `u32 balance || u32 nonce`.
     pub fn to_bytes(self) -> [u8; 8]
         ensures { result ≡ to_be_bytes w32 self.balance ++ to_be_bytes w32 self.nonce }
     {

@@ -1,4 +1,4 @@
-//! The state of a purse: what each of its accounts holds.
+//! The state of a purse: its accounts.
 ghost use Rattle.std.specs.Prelude.{◌≡◌, ℕ, List, length, IfOk, IfErr};
 ghost use Rattle.sha2.specs.Sha256.{sha256};
 ghost use Rattle.ledger_model.specs.declared.config.AppKind.TheVariants as kind;
@@ -15,16 +15,16 @@ use sha2::{Digest, Sha256};
 use std::alloc::{AllocError, Global};
 use std::marker::Model;
 
-/// How many accounts there are, one for each number of a byte.
+/// The number of accounts, one for each value of a byte.
 const ACCOUNTS: usize = 256;
 
-/// What each account holds at the opening.
+/// The balance of each account at the opening.
 const OPENING_BALANCE: u32 = 1000;
 
-/// What stands before the accounts in the bytes that are hashed.
+/// The first byte of the encoding that is hashed.
 const PURSE: u8 = 3;
 
-/// 256 accounts, which hold 256,000 together.
+/// 256 accounts, whose balances add up to 256,000.
 #[derive(Drop)]
 pub struct Accounts {
     accounts: [Account; ACCOUNTS],
@@ -45,7 +45,7 @@ impl Accounts {
     ghost use Rattle.std.specs.Prelude.{◌≢◌, ◌+◌, ◌-◌, ◌<◌, ◌≤◌, ◌^◌, slice_set};
     ghost use Rattle.app_kinds.specs.Purses.{balance_at, nonce_at};
 
-    /// The account of a number.
+    /// The account with this number.
     pub fn account(&self, number: u8) -> Account
         ensures balance { result.balance ≡ balance_at self.now number }
         ensures nonce { result.nonce ≡ nonce_at self.now number }
@@ -54,7 +54,7 @@ impl Accounts {
         self.accounts[usize::from(number)]
     }
 
-    /// Moves an amount between two accounts, and counts it at the sender.
+    /// Moves an amount between two accounts, and counts the transfer at the sender.
     pub fn transfer(&mut self, from: u8, to: u8, amount: u32)
         requires apart { from ≢ to }
         requires covered { amount ≤ balance_at self.old from }
@@ -101,7 +101,7 @@ impl KindState for Accounts {
         })
     }
 
-    /// Moves the amount where the transfer is accepted.
+    /// Moves the amount if the transfer is accepted.
     fn deliver(&mut self, _alloc: Global, tx: &[u8]) -> Result<u32, AllocError> {
         match test_delivery(self, tx) {
             Ok(transfer) => {
@@ -112,7 +112,7 @@ impl KindState for Accounts {
         }
     }
 
-    /// Code 3 never comes, since the sender may get what it lacks.
+    /// Code 3 never comes, because the sender may still receive what it lacks.
     fn check(&self, tx: &[u8]) -> u32 {
         let Some(transfer) = Transfer::read(tx) else {
             return Refusal::Misspelled.code();
@@ -135,13 +135,13 @@ impl KindState for Accounts {
         Ok(Some(Vec::from_slice(alloc, &bytes)?))
     }
 
-    /// The encoding is `03`, and for each account `u32 balance || u32 nonce`.
+    /// The encoding is `03`, followed by `u32 balance || u32 nonce` for each account.
     fn hash(&self) -> [u8; 32] {
         hash_of(&self.accounts)
     }
 }
 
-/// The transfer of a transaction that is accepted.
+/// The transfer of a transaction, if it is accepted.
 fn test_delivery(accounts: &Accounts, tx: &[u8]) -> Result<Transfer, Refusal>
     ensures transfer { IfOk result (λ transfer. IsTransferOf tx.now transfer) }
     ensures possible { IfOk result (λ transfer. CanMove accounts.now transfer) }

@@ -4,7 +4,7 @@ use abci::{Application, CheckKind, Info, QueryFault};
 use ledger_model::{AppKind, Height, Tx};
 use std::alloc::{AllocError, Global};
 
-/// One of the three applications, for a program whose user chooses the kind. Each call is that of the chosen one.
+/// One of the three applications, for a program whose user chooses the kind. Forwards each call to the chosen one.
 #[derive(Drop)]
 pub enum AnyKind {
     /// Kind 1.
@@ -23,7 +23,7 @@ impl AnyKind {
     /// The application of this kind before the first block.
     pub fn new(alloc: Global, kind: AppKind) -> Self
         ensures new { machine_of result ≡ run kind [] }
-        // It is one that an executor may begin with.
+        // It is an application that an executor can start with.
         ensures kind { (machine_of result).kind ≡ kind }
     {
         match kind {

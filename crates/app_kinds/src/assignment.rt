@@ -1,4 +1,4 @@
-//! What a transaction of a store sets: the key and the value in its bytes.
+//! The key and the value that a transaction of a store sets.
 ghost use Rattle.std.specs.Prelude.{◌≡◌, ◌≤◌, length, position};
 ghost use Rattle.ledger_model.specs.Applications.{is_equals_sign, key_of, value_in};
 
@@ -15,7 +15,7 @@ pub fn key_and_value(tx: &[u8]) -> (&[u8], &[u8])
     }
 }
 
-/// Where the first `=` stands.
+/// The index of the first `=`.
 fn equals_sign(tx: &[u8]) -> Option<usize>
     ensures { result ≡ position is_equals_sign tx.now }
 {

@@ -1,4 +1,4 @@
-//! The state of a counter: how many transactions were accepted.
+//! The state of a counter: the number of accepted transactions.
 ghost use Rattle.std.specs.Prelude.{◌≡◌, ◌+◌, ◌^◌, ◌<◌, ◌≤◌, ℕ, List, length, OnOk, IfErr};
 ghost use Rattle.ledger_model.specs.Applications.{number_in, code_after, state_bytes};
 ghost use Rattle.ledger_model.specs.Applications.AppState.{Count as CountState};
@@ -14,10 +14,10 @@ use std::alloc::{AllocError, Global};
 /// The most bytes of a number.
 const NUMBER_LEN: usize = 8;
 
-/// What stands before the count in the bytes that are hashed.
+/// The first byte of the encoding that is hashed.
 const COUNTER: u8 = 2;
 
-/// How many transactions were accepted.
+/// The number of accepted transactions.
 #[derive(Clone, Copy)]
 pub struct Count {
     accepted: u64,
@@ -39,7 +39,7 @@ impl KindState for Count {
         Ok(*self)
     }
 
-    /// One more is counted where it is accepted.
+    /// Counts the transaction if it is accepted.
     fn deliver(&mut self, _alloc: Global, tx: &[u8]) -> Result<u32, AllocError> {
         match test_delivery(self.accepted, tx) {
             Ok(()) => {
@@ -50,7 +50,7 @@ impl KindState for Count {
         }
     }
 
-    /// A number that isn't next yet is kept.
+    /// A number that is not yet due is kept.
     fn check(&self, tx: &[u8]) -> u32 {
         if tx.len() > NUMBER_LEN {
             return Refusal::Misspelled.code();
@@ -79,7 +79,7 @@ impl KindState for Count {
     }
 }
 
-/// Whether a transaction is accepted where `count` were before it.
+/// Whether a transaction is accepted after `count` others.
 #[tactic(auto, unfolding(ledger_model::specs::Applications::code_after))]
 fn test_delivery(count: u64, tx: &[u8]) -> Result<(), Refusal>
     ensures room { OnOk result (count + 1 < 2 ^ 64) }
@@ -97,7 +97,7 @@ fn test_delivery(count: u64, tx: &[u8]) -> Result<(), Refusal>
     Ok(())
 }
 
-/// The number that at most eight bytes spell, the highest byte first.
+/// The number that at most eight bytes encode, big-endian.
 fn number_of(bytes: &[u8]) -> u64
     requires { length bytes.now ≤ 8 }
     ensures { result ≡ number_in bytes.now }

@@ -1,10 +1,10 @@
-//! An application whose delivered transactions are counted.
+//! A wrapper that counts the transactions delivered to an application.
 use abci::{Application, CheckKind, Info, QueryFault};
 use ledger_model::{Height, Tx};
 use std::alloc::AllocError;
 use std::marker::Model;
 
-/// An application, and how many transactions were delivered to it.
+/// An application, with the number of transactions that were delivered to it.
 #[derive(Drop)]
 pub struct Counted<X: Application> {
     app: X,
@@ -22,7 +22,7 @@ impl<X: Application> Model for Counted<X> {
 impl<X: Application> Counted<X> {
     ghost use Rattle.std.specs.Prelude.{◌≡◌};
 
-    /// The application, before anything is delivered to it.
+    /// The application, with nothing delivered to it yet.
     pub fn new(app: X) -> Self
         ensures app { result.app ≡ app }
         ensures none { result.delivered ≡ 0 }
@@ -30,7 +30,7 @@ impl<X: Application> Counted<X> {
         Counted { app, delivered: 0 }
     }
 
-    /// How often `deliver_tx` was called, whatever it answered; at most `u64::MAX`.
+    /// The number of calls of `deliver_tx`, whatever they returned; at most `u64::MAX`.
     pub fn delivered(&self) -> u64
         ensures { result ≡ self.now.delivered }
     {
@@ -69,7 +69,7 @@ impl<X: Application> Application for Counted<X> {
         self.app.begin_block(height)
     }
 
-    /// It counts, whatever it answers.
+    /// Counts the call, whatever it returns.
     fn deliver_tx(&mut self, tx: &Tx) -> Result<u32, AllocError>
         requires { IsSome (X.machine self.old.app).working }
         ensures goes_on { OnOk result (GoesOn (X.machine self.old.app) (X.machine self.new.app)) }

@@ -1,4 +1,4 @@
-//! What holds of the applications whatever is offered to them, over the definitions alone.
+//! Laws of the applications that hold whatever transactions they get, proved from the definitions alone.
 ghost use Rattle.app_kinds.specs.Balances.{TotalStays};
 
 /// No transaction makes or loses money: the balances of a purse add up to 256,000.

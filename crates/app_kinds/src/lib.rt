@@ -1,10 +1,10 @@
-//! The three applications of the ledger, and wrappers round any application.
+//! The three applications of the ledger, and wrappers for any application.
 //!
-//! Each application is a state machine behind ABCI's calls: what a call answers is what the definitions of `ledger_model`
-//! say of the whole list of accepted transactions. [`KvStore`] keeps values by key, [`Counter`] accepts numbers in turn,
-//! and [`Purse`] moves amounts between accounts; each is one [`StateMachine`] over a state of its own. [`AnyKind`] is one of
-//! them, chosen at run time. [`Counted`] counts the transactions that are delivered to another application, and [`Refusing`]
-//! lets one of them find no memory.
+//! Each application is a state machine behind ABCI's calls: every call returns what the definitions of `ledger_model`
+//! say for the whole list of accepted transactions. [`KvStore`] has values by key, [`Counter`] accepts numbers in
+//! order, and [`Purse`] moves amounts between accounts; each is one [`StateMachine`] over a state of its own.
+//! [`AnyKind`] is one of them, chosen at run time. [`Counted`] counts the transactions that are delivered to another
+//! application, and [`Refusing`] lets one delivery fail with allocation failure.
 #![tactic(auto)]
 
 mod account;

@@ -14,10 +14,10 @@ use std::alloc::{AllocError, Global};
 use std::collections::BTreeMap;
 use std::marker::Model;
 
-/// What stands before the pairs in the bytes that are hashed.
+/// The first byte of the encoding that is hashed.
 const PAIRS: u8 = 1;
 
-/// Values by key. Both are parts of a transaction, so no longer than one.
+/// Values by key. Both are parts of a transaction, so neither is longer than one.
 #[derive(Drop)]
 pub struct Pairs {
     values: BTreeMap<Vec<u8>, Vec<u8>>,
@@ -43,7 +43,7 @@ impl Pairs {
     ghost use Rattle.std.specs.BTreeMap.{insert_entry};
     ghost use Rattle.ledger_model.specs.Applications.{same_bytes};
 
-    /// Sets the value of a key. Without memory the pairs are as before.
+    /// Sets the value of a key. After allocation failure the pairs are unchanged.
     pub fn set(&mut self, alloc: Global, key: &[u8], value: &[u8]) -> Result<(), AllocError>
         requires key { length key.now ≤ max_tx_len }
         requires value { length value.now ≤ max_tx_len }
@@ -86,7 +86,7 @@ impl KindState for Pairs {
         })
     }
 
-    /// Sets what the transaction says. Its code is 0.
+    /// Sets the key of the transaction to its value. The code is 0.
     fn deliver(&mut self, alloc: Global, tx: &[u8]) -> Result<u32, AllocError> {
         let (key, value) = key_and_value(tx);
         self.set(alloc, key, value)?;
@@ -106,13 +106,13 @@ impl KindState for Pairs {
         }
     }
 
-    /// The encoding is `01 || u64 count`, and for each pair `u8 length || key || u8 length || value`.
+    /// The encoding is `01 || u64 count`, followed by `u8 length || key || u8 length || value` for each pair.
     fn hash(&self) -> [u8; 32] {
         hash_of(&self.values)
     }
 }
 
-/// The SHA-256 of the encoding of these values by key.
+/// The SHA-256 of the encoding of these pairs.
 fn hash_of(values: &BTreeMap<Vec<u8>, Vec<u8>>) -> [u8; 32]
     requires { AreShort (shown values.now.entries) }
     ensures { result ≡ sha256 (state_bytes (PairState (shown values.now.entries))) }
@@ -127,7 +127,7 @@ fn hash_of(values: &BTreeMap<Vec<u8>, Vec<u8>>) -> [u8; 32]
     hasher.finalize()
 }
 
-/// Adds a key or a value to what is hashed, its length before it.
+/// Hashes a key or a value, preceded by its length.
 fn add_piece(hasher: &mut Sha256, piece: &[u8])
     requires { length piece.now ≤ max_tx_len }
     ensures { (m : List ℕ) → Holds256 hasher.old m → Holds256 hasher.new (m ++ length piece.now ∷ piece.now) }

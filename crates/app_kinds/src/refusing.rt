@@ -1,14 +1,14 @@
-//! An application in which one delivery of a transaction finds no memory.
+//! A wrapper in which one delivery of a transaction fails with allocation failure.
 use abci::{Application, CheckKind, Info, QueryFault};
 use ledger_model::{Height, Tx};
 use std::alloc::AllocError;
 use std::marker::Model;
 
-/// An application that answers one chosen call of `deliver_tx` with want of memory.
+/// An application in which one chosen call of `deliver_tx` fails with allocation failure.
 #[derive(Drop)]
 pub struct Refusing<X: Application> {
     app: X,
-    /// Which call from now on is refused: 1 is the next, 0 none.
+    /// Which of the next calls fails: 1 is the next one, 0 none.
     refused: u64,
 }
 
@@ -23,7 +23,7 @@ impl<X: Application> Model for Refusing<X> {
 impl<X: Application> Refusing<X> {
     ghost use Rattle.std.specs.Prelude.{◌≡◌};
 
-    /// The application, whose call number `refused` of `deliver_tx`, counted from 1, will find no memory. 0 is none.
+    /// The application, of which call number `refused` of `deliver_tx`, counted from 1, will fail. 0 means none.
     pub fn new(app: X, refused: u64) -> Self
         ensures app { result.app ≡ app }
         ensures refused { result.refused ≡ refused }

@@ -38,7 +38,7 @@ impl<S: KindState> StateMachine<S> {
     ghost use Rattle.std.specs.Prelude.{◌≡◌, []};
     ghost use Rattle.ledger_model.specs.Applications.{run};
 
-    /// The application before the first block. It takes no memory yet.
+    /// The application before the first block. Allocates nothing.
     pub fn new(alloc: Global) -> Self
         ensures { result ≡ run S.of_kind [] }
     {

@@ -1,6 +1,6 @@
-//! Transfers, as the transactions of a purse spell them.
+//! Transfers, the transactions of a purse.
 
-/// A transfer, as a transaction spells it.
+/// A transfer, decoded from a transaction.
 #[derive(Clone, Copy)]
 pub struct Transfer {
     pub from: u8,
@@ -9,14 +9,14 @@ pub struct Transfer {
     pub nonce: u32,
 }
 
-/// How many bytes a transfer has.
+/// The number of bytes of a transfer.
 const TRANSFER_LEN: usize = 10;
 
 impl Transfer {
     ghost use Rattle.std.specs.Prelude.{◌≢◌, ◌↔◌, length, IsNone, IfSome};
     ghost use Rattle.app_kinds.specs.Purses.{IsTransferOf};
 
-    /// The transfer that ten bytes spell: `u8 from || u8 to || u32 amount || u32 nonce`.
+    /// The transfer that ten bytes encode: `u8 from || u8 to || u32 amount || u32 nonce`. `None` for any other number of bytes.
     pub fn read(bytes: &[u8]) -> Option<Self>
         ensures none { IsNone result ↔ (length bytes.now ≢ 10) }
         ensures read { IfSome result (IsTransferOf bytes.now) }

@@ -1,4 +1,4 @@
-//! Applications in boxes, as a program hands them in.
+//! Applications in boxes, as a program may pass them.
 
 use abci::{Application, CheckKind};
 use app_kinds::{Counted, Counter, KvStore, Purse};
@@ -11,7 +11,8 @@ use test_support::tx;
 /// An application whose type is not known.
 type AnyApp = Box<dyn Application + Send>;
 
-/// Plays a first block of one transaction through a box, and tells whether it is accepted and Info then tells Commit's hash.
+/// Runs a first block of one transaction through a box. Returns whether the transaction is accepted, and Info then
+/// returns Commit's hash.
 fn plays(app: &mut AnyApp, tx: &Tx) -> Result<bool, AllocError> {
     if app.info().height != 0 {
         return Ok(false);
@@ -25,7 +26,7 @@ fn plays(app: &mut AnyApp, tx: &Tx) -> Result<bool, AllocError> {
     Ok(code == 0 && told.height == 1 && told.hash == hash)
 }
 
-/// Whether a transaction is accepted, by CheckTx and in the first block. One function plays each kind, wrapped or not.
+/// Whether a transaction is accepted, by CheckTx and in the first block. The same function runs each kind, wrapped or not.
 fn accepts(alloc: Global, app: &mut AnyApp, bytes: &[u8]) -> bool {
     let Ok(tx) = tx(alloc, bytes) else {
         return false;
@@ -33,7 +34,7 @@ fn accepts(alloc: Global, app: &mut AnyApp, bytes: &[u8]) -> bool {
     app.check_tx(&tx, CheckKind::New) == 0 && matches!(plays(app, &tx), Ok(true))
 }
 
-/// Whether it holds this under a key at height 1.
+/// Whether the application has this value under a key at height 1.
 fn holds(app: &AnyApp, key: &[u8], wanted: &[u8]) -> bool {
     match app.query(key, 1) {
         Ok(Some(value)) => value.as_slice() == wanted,
@@ -41,7 +42,7 @@ fn holds(app: &AnyApp, key: &[u8], wanted: &[u8]) -> bool {
     }
 }
 
-/// Whether an application accepts a transaction in its first block, and then holds this under a key.
+/// Whether an application accepts a transaction in its first block, and then has this value under a key.
 fn is_played(alloc: Global, mut app: AnyApp, bytes: &[u8], (key, held): (&[u8], &[u8])) -> bool {
     accepts(alloc, &mut app, bytes) && holds(&app, key, held)
 }

@@ -1,6 +1,6 @@
-//! The three kinds: their codes, what they hold, and their hashes.
+//! The three kinds: their codes, their values, and their hashes.
 
-use super::tests::{COUNT_OF_ZERO, answers};
+use super::tests::{COUNT_OF_ZERO, has_result};
 use abci::{Application, CheckKind, Info, QueryFault};
 use abci_executor::{Executor, run_block};
 use app_kinds::{Counter, KvStore, Purse};
@@ -9,7 +9,7 @@ use std::alloc::Global;
 use std::test::Fail;
 use test_support::{batch, tx};
 
-/// The hash of a store that holds `v` under no byte, `b=c` under `a` and `k` under `k`.
+/// The hash of a store with `v` under the empty key, `b=c` under `a`, and `k` under `k`.
 const THREE_PAIRS: [u8; 32] = [
     0xc4, 0xce, 0x23, 0xc6, 0xc2, 0xf5, 0xdd, 0x61, 0x77, 0xbc, 0x41, 0xfd, 0x3e, 0xd1, 0x83, 0xfe,
     0x5e, 0xe4, 0xd1, 0x30, 0x69, 0x9d, 0x56, 0xa4, 0xe6, 0xe1, 0xac, 0xa6, 0x23, 0x13, 0x38, 0xa3,
@@ -49,7 +49,7 @@ fn plays<A: Application>(
     }
 }
 
-// Whether an application holds this under a key, or nothing.
+// Whether an application has this value under a key, or none.
 fn holds<A: Application>(app: &A, key: &[u8], wanted: Option<&[u8]>) -> bool {
     match app.query(key, 0) {
         Ok(Some(value)) => wanted == Some(value.as_slice()),
@@ -72,8 +72,8 @@ fn checks<A: Application>(
     }
 }
 
-// Whether an application tells this height and this hash.
-fn tells<A: Application>(app: &A, height: u32, hash: [u8; 32]) -> bool {
+// Whether Info returns this height and this hash.
+fn has_info<A: Application>(app: &A, height: u32, hash: [u8; 32]) -> bool {
     app.info() == Info { height, hash }
 }
 
@@ -85,23 +85,23 @@ fn sets_three_pairs(alloc: Global, store: &mut KvStore) -> bool {
         && holds(store, b"", Some(b"v"))
         && holds(store, b"a", Some(b"b=c"))
         && holds(store, b"b", None)
-        && tells(store, 1, THREE_PAIRS)
+        && has_info(store, 1, THREE_PAIRS)
 }
 
-// What stands before the first sign of equality is the key, all of it where there is none.
+// The bytes before the first equals sign are the key, or all of them if there is none.
 #[test]
 fn store_sets_what_stands_after_the_first_sign(rt: HostRuntime) {
     let mut store = KvStore::new(rt.alloc());
     assert!(rt; sets_three_pairs(rt.alloc(), &mut store));
 }
 
-// Whether the first block counts nothing, as both transactions are too long for a number.
+// Whether the first block counts nothing, because both transactions are too long for a number.
 fn counts_nothing(alloc: Global, counter: &mut Counter) -> bool {
     plays(alloc, counter, &[b"123456789", b"9876543210"], &[1, 1])
-        && tells(counter, 1, COUNT_OF_ZERO)
+        && has_info(counter, 1, COUNT_OF_ZERO)
 }
 
-// Whether the second block counts the number 0, and not a number of nine bytes.
+// Whether the second block counts the number 0, but not a number of nine bytes.
 fn counts_zero(alloc: Global, counter: &mut Counter) -> bool {
     checks(alloc, counter, LONG, CheckKind::New, 1)
         && checks(alloc, counter, b"\x00", CheckKind::New, 0)
@@ -115,9 +115,9 @@ fn counts_one(alloc: Global, counter: &mut Counter) -> bool {
         && checks(alloc, counter, b"\x01", CheckKind::Recheck, 2)
 }
 
-// Whether three blocks counted to 2, which alone is held.
+// Whether three blocks counted to 2, which is the only value.
 fn is_at_two(counter: &Counter) -> bool {
-    tells(counter, 3, COUNT_OF_TWO)
+    has_info(counter, 3, COUNT_OF_TWO)
         && holds(counter, b"count", Some(&[0, 0, 0, 0, 0, 0, 0, 2]))
         && holds(counter, b"counts", None)
         && matches!(counter.query(b"count", 1), Err(QueryFault::NotHeld))
@@ -135,14 +135,14 @@ fn counter_counts_in_turn(rt: HostRuntime) {
     );
 }
 
-// Whether account 0 paid 5 to account 1, and no other key is held.
+// Whether account 0 paid 5 to account 1, and no other key has a value.
 fn has_five_paid(purse: &Purse) -> bool {
     holds(purse, b"\x00", Some(&[0, 0, 3, 0xe3, 0, 0, 0, 1]))
         && holds(purse, b"\x01", Some(&[0, 0, 3, 0xed, 0, 0, 0, 0]))
         && holds(purse, b"\x00\x00", None)
 }
 
-// 5 from account 0 to account 1; the same again; more than there is; to oneself; and too few bytes.
+// 5 from account 0 to account 1; the same again; more than the balance; to itself; and too few bytes.
 const PAYMENTS: [&[u8]; 5] = [
     b"\x00\x01\x00\x00\x00\x05\x00\x00\x00\x00",
     b"\x00\x01\x00\x00\x00\x05\x00\x00\x00\x00",
@@ -156,39 +156,40 @@ fn purse_moves_an_amount_once(rt: HostRuntime) -> Result<(), Fail> {
     let mut executor = Executor::new(Purse::new(rt.alloc()))?;
     let wanted = (1, [0, 2, 3, 4, 1].as_slice(), FIVE_PAID);
     assert!(rt;
-        answers(rt.alloc(), &mut executor, &PAYMENTS, wanted) && has_five_paid(executor.app())
+        has_result(rt.alloc(), &mut executor, &PAYMENTS, wanted) && has_five_paid(executor.app())
     );
     Ok(())
 }
 
-// Whether the next three blocks are empty, and leave the count at 0.
-fn runs_three_empty_blocks(alloc: Global, executor: &mut Executor<Counter>) -> bool {
+// Runs three empty blocks. Returns the number of the first that doesn't leave the count at 0, if there is one.
+fn first_wrong_block(alloc: Global, executor: &mut Executor<Counter>) -> Option<u32> {
     for number in 1..=3 {
-        if !answers(alloc, executor, &[], (number, &[], COUNT_OF_ZERO)) {
-            return false;
+        if !has_result(alloc, executor, &[], (number, &[], COUNT_OF_ZERO)) {
+            return Some(number);
         }
     }
-    true
+    None
 }
 
-// Whether the count is told at a height.
-fn is_told_at(executor: &Executor<Counter>, height: u32) -> bool {
+// Whether a query at a height returns the count.
+fn has_count_at(executor: &Executor<Counter>, height: u32) -> bool {
     match executor.query(b"count", height) {
         Ok(answer) => answer.value.is_some(),
         Err(_) => false,
     }
 }
 
-// Whether the count is told with this height alone, which is the last.
+// Whether `last` is the last height, a query there returns the count, and a query at the other height fails.
 fn is_asked_at(executor: &Executor<Counter>, last: u32, other: u32) -> bool {
     executor.app().info().height == last
         && executor.query(b"count", other).is_err()
-        && is_told_at(executor, last)
+        && has_count_at(executor, last)
 }
 
 #[test]
 fn blocks_follow_one_another(rt: HostRuntime) -> Result<(), Fail> {
     let mut executor = Executor::new(Counter::new(rt.alloc()))?;
-    assert!(rt; runs_three_empty_blocks(rt.alloc(), &mut executor) && is_asked_at(&executor, 3, 2));
+    assert_eq!(rt; first_wrong_block(rt.alloc(), &mut executor), None);
+    assert!(rt; is_asked_at(&executor, 3, 2));
     Ok(())
 }

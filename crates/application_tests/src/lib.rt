@@ -1,4 +1,4 @@
-//! The applications, the executor of blocks and the pool of transactions together. This crate has tests alone.
+//! Tests of the applications, the executor of blocks and the pool of transactions together.
 #![tactic(auto)]
 
 #[cfg(test)]

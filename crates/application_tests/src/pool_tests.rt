@@ -1,4 +1,4 @@
-//! The pool with real applications: what is refused and in which order, what is proposed, what a block takes out.
+//! The pool with real applications: what it refuses and in which order, what it proposes, and what a block removes.
 
 use super::tests::{is_run, submits};
 use abci_executor::Executor;
@@ -42,7 +42,7 @@ fn are_numbers_from(block: &Batch, first: u16) -> bool {
     true
 }
 
-/// How many transactions wait, where they are the numbers from 0 on in their order.
+/// The number of waiting transactions, if they are the numbers from 0 on, in order.
 fn numbers_in(pool: &Pool) -> Option<u16> {
     let mut next = 0;
     for tx in pool.transactions() {
@@ -54,7 +54,7 @@ fn numbers_in(pool: &Pool) -> Option<u16> {
     Some(next)
 }
 
-/// Bytes, their answer, and how many transactions wait then.
+/// Bytes, the answer to them, and the number of transactions that wait afterwards.
 const LENGTHS: [(&[u8], Result<(), SubmitFault>, usize); 5] = [
     (&[], EMPTY, 0),
     (&[7; 65], TOO_LONG, 0),
@@ -63,21 +63,22 @@ const LENGTHS: [(&[u8], Result<(), SubmitFault>, usize); 5] = [
     (&[7; 64], DUPLICATE, 2),
 ];
 
-// Whether bytes of each length get their answer, and leave so many transactions waiting.
-fn takes_lengths(pool: &mut Pool, app: &KvStore) -> bool {
-    for &(bytes, wanted, waiting) in &LENGTHS {
+/// Submits the bytes of each case. Returns the index of the first case whose answer or number of waiting transactions is
+/// wrong, if there is one.
+fn first_wrong_length(pool: &mut Pool, app: &KvStore) -> Option<usize> {
+    for (index, &(bytes, wanted, waiting)) in LENGTHS.iter().enumerate() {
         if !submits(pool, app, bytes, wanted) || pool.len() != waiting {
-            return false;
+            return Some(index);
         }
     }
-    true
+    None
 }
 
 #[test]
 fn lengths_from_1_to_64_are_taken_in(rt: HostRuntime) -> Result<(), Fail> {
     let mut pool = Pool::new(rt.alloc(), RandomState::new(&rt)?);
     let app = KvStore::new(rt.alloc());
-    assert!(rt; takes_lengths(&mut pool, &app));
+    assert_eq!(rt; first_wrong_length(&mut pool, &app), None);
     Ok(())
 }
 
@@ -88,7 +89,7 @@ fn takes_the_last(pool: &mut Pool, app: &Counter) -> bool {
         && pool.len() == 1024
 }
 
-// Whether the refusals of a full pool are told in their order, and leave it as it is.
+// Whether a full pool refuses in the order of its refusals, and stays as it is.
 fn refuses(pool: &mut Pool, app: &Counter) -> bool {
     submits(pool, app, &[], EMPTY)
         && submits(pool, app, &[0; 65], TOO_LONG)
@@ -98,7 +99,7 @@ fn refuses(pool: &mut Pool, app: &Counter) -> bool {
         && pool.len() == 1024
 }
 
-// Whether a pool proposes so many numbers, from `first` on.
+// Whether a pool proposes `count` numbers, from `first` on.
 fn proposes(pool: &Pool, first: u16, count: usize) -> bool {
     match pool.reap() {
         Ok(block) => block.transactions().len() == count && are_numbers_from(&block, first),
@@ -106,7 +107,7 @@ fn proposes(pool: &Pool, first: u16, count: usize) -> bool {
     }
 }
 
-// Whether a block of the number 2, which the counter refuses as out of turn, and of 0 and 1 leaves the others.
+// Whether a block of the number 2, which the counter refuses because it is not due, and of 0 and 1 leaves the others.
 fn runs_three(alloc: Global, executor: &mut Executor<Counter>, pool: &mut Pool) -> bool {
     let Ok(block) = batch(alloc, &[&[0, 2], &[0, 0], &[0, 1]]) else {
         return false;
@@ -114,7 +115,7 @@ fn runs_three(alloc: Global, executor: &mut Executor<Counter>, pool: &mut Pool) 
     is_run(alloc, executor, pool, &block, &[2, 0, 0]) && pool.len() == 1021
 }
 
-// Whether the next numbers are proposed then, and the number 2 may come again.
+// Whether the next numbers are proposed then, and the number 2 can be submitted again.
 fn goes_on_at_three(pool: &mut Pool, app: &Counter) -> bool {
     proposes(pool, 3, 16) && submits(pool, app, &[0, 2], Ok(())) && pool.len() == 1022
 }
@@ -124,7 +125,7 @@ fn is_filled(pool: &mut Pool, app: &Counter) -> bool {
     takes_numbers(pool, app, 1023) && takes_the_last(pool, app) && refuses(pool, app)
 }
 
-// The first 16 are proposed and stay, until a block takes its transactions out.
+// The first 16 are proposed and stay, until a block removes its transactions.
 #[test]
 fn a_full_pool_refuses_and_goes_on_behind_a_block(rt: HostRuntime) -> Result<(), Fail> {
     let random = RandomState::new(&rt)?;

@@ -1,4 +1,4 @@
-//! Blocks on the executor, and what waits for them. That each kind is chosen at run time is seen in `examples/`.
+//! Blocks on the executor, and the transactions that wait for them. `examples/` shows that the kind is chosen at run time.
 
 use abci::{Application, Info};
 use abci_executor::Executor;
@@ -34,7 +34,7 @@ const COUNT_OF_THREE: [u8; 32] = [
     0x52, 0xa6, 0x2e, 0xde, 0x36, 0xba, 0xc7, 0x9e, 0xb7, 0x10, 0xf8, 0x03, 0xb2, 0xf6, 0x3b, 0x3c,
 ];
 
-/// Runs the next block. There is none where no height is left or memory runs out.
+/// Runs the next block. `None` if no height is left or memory runs out.
 fn execute<A: Application>(
     alloc: Global,
     executor: &mut Executor<A>,
@@ -57,8 +57,8 @@ fn runs<A: Application>(
     execute(alloc, executor, &block)
 }
 
-/// Runs a block of these transactions, and tells whether it has this number, these codes and this hash.
-pub(crate) fn answers<A: Application>(
+/// Runs a block of these transactions. Returns whether it has this number, these codes and this hash.
+pub(crate) fn has_result<A: Application>(
     alloc: Global,
     executor: &mut Executor<A>,
     transactions: &[&[u8]],
@@ -72,7 +72,7 @@ pub(crate) fn answers<A: Application>(
     }
 }
 
-/// Runs a block, whose transactions the pool then takes out, and tells whether it has these codes.
+/// Runs a block, and lets the pool remove its transactions. Returns whether it has these codes.
 pub(crate) fn is_run<A: Application>(
     alloc: Global,
     executor: &mut Executor<A>,
@@ -88,12 +88,12 @@ pub(crate) fn is_run<A: Application>(
     is_met
 }
 
-/// What a pool answers to a transaction.
+/// The pool's answer to a transaction.
 fn answer<A: Application>(pool: &mut Pool, app: &A, bytes: &[u8]) -> Result<(), SubmitFault> {
     pool.submit(bytes, app)
 }
 
-/// Whether a pool answers this to a transaction.
+/// Whether the pool gives this answer to a transaction.
 pub(crate) fn submits<A: Application>(
     pool: &mut Pool,
     app: &A,
@@ -111,7 +111,7 @@ fn is_answer(answer: &QueryAnswer, height: u32, wanted: &[u8]) -> bool {
     }
 }
 
-/// Whether a key has this value, told with the last block's height.
+/// Whether a key has this value, returned with the last block's height.
 fn holds<A: Application>(executor: &Executor<A>, key: &[u8], last: u32, wanted: &[u8]) -> bool {
     match executor.query(key, 0) {
         Ok(answer) => is_answer(&answer, last, wanted),
@@ -119,22 +119,22 @@ fn holds<A: Application>(executor: &Executor<A>, key: &[u8], last: u32, wanted: 
     }
 }
 
-/// Whether an executor tells this height and this hash.
-fn tells<A: Application>(executor: &Executor<A>, height: u32, hash: [u8; 32]) -> bool {
+/// Whether an executor returns this height and this hash.
+fn has_info<A: Application>(executor: &Executor<A>, height: u32, hash: [u8; 32]) -> bool {
     executor.info() == Info { height, hash }
 }
 
-// Whether a block finds no memory at its second delivery, and leaves the executor as it began.
+// Whether a block finds no memory at its second delivery, and leaves the executor as it was.
 fn finds_no_memory<A: Application>(alloc: Global, executor: &mut Executor<Counted<A>>) -> bool {
     runs(alloc, executor, &[&[0], &[1], &[2]]).is_none()
-        && tells(executor, 0, COUNT_OF_ZERO)
+        && has_info(executor, 0, COUNT_OF_ZERO)
         && executor.app().delivered() == 2
 }
 
-// Another block, which names the same numbers, is then run from the same state.
+// Another block with the same numbers then runs from the same state.
 fn counts_to_three<A: Application>(alloc: Global, executor: &mut Executor<Counted<A>>) -> bool {
     let wanted = (1, [0, 0, 0].as_slice(), COUNT_OF_THREE);
-    answers(alloc, executor, &[&[0, 0], &[0, 1], &[0, 2]], wanted)
+    has_result(alloc, executor, &[&[0, 0], &[0, 1], &[0, 2]], wanted)
         && executor.app().delivered() == 5
         && holds(executor, b"count", 1, &[0, 0, 0, 0, 0, 0, 0, 3])
 }
@@ -147,7 +147,7 @@ fn after_a_block_that_found_no_memory_another_is_run(rt: HostRuntime) -> Result<
     Ok(())
 }
 
-// Whether a pool takes two transactions that name the number 0, and none of nine bytes.
+// Whether a pool takes two transactions that encode the number 0, and none of nine bytes.
 fn takes_two<A: Application>(pool: &mut Pool, app: &A) -> bool {
     let rejected = Err(SubmitFault::Refused(SubmitRefusal::Rejected(1)));
     submits(pool, app, &[0], Ok(()))
@@ -156,7 +156,7 @@ fn takes_two<A: Application>(pool: &mut Pool, app: &A) -> bool {
         && pool.len() == 2
 }
 
-// Whether a block with one of the two leaves none: the other is refused then.
+// Whether a block with one of the two leaves none, because the other is then refused.
 fn drops_the_other(alloc: Global, executor: &mut Executor<Counter>, pool: &mut Pool) -> bool {
     let Ok(block) = batch(alloc, &[&[0]]) else {
         return false;
@@ -176,7 +176,7 @@ fn a_recheck_drops_what_came_too_late(rt: HostRuntime) -> Result<(), Fail> {
     Ok(())
 }
 
-// Runs what a pool of one transaction proposes, and tells whether that transaction waited until then and not longer.
+// Runs what a pool of one transaction proposes. Returns whether that transaction waited until then and no longer.
 fn is_proposed_and_run<A: Application>(
     alloc: Global,
     executor: &mut Executor<A>,
@@ -191,20 +191,20 @@ fn is_proposed_and_run<A: Application>(
         && pool.is_empty()
 }
 
-// Whether the first block is empty, and a transaction that is then submitted comes into the second.
+// Whether the first block is empty, and a transaction that is submitted afterwards is in the second.
 fn comes_into_the_next_block<A: Application>(
     alloc: Global,
     executor: &mut Executor<A>,
     pool: &mut Pool,
 ) -> bool {
-    answers(alloc, executor, &[], (1, &[], EMPTY_STORE))
+    has_result(alloc, executor, &[], (1, &[], EMPTY_STORE))
         && submits(pool, executor.app(), b"a=1", Ok(()))
         && is_proposed_and_run(alloc, executor, pool)
-        && tells(executor, 2, ONE_PAIR)
+        && has_info(executor, 2, ONE_PAIR)
         && holds(executor, b"a", 2, b"1")
 }
 
-// The first block is empty: it has a height and a hash all the same.
+// The first block is empty, but has a height and a hash.
 #[test]
 fn what_waits_is_proposed_run_and_taken_out(rt: HostRuntime) -> Result<(), Fail> {
     let random = RandomState::new(&rt)?;

@@ -11,8 +11,8 @@ use std::hash::RandomState;
 use std::test::Fail;
 use test_support::batch;
 
-/// InitChain once, then for each block BeginBlock, DeliverTx in order, EndBlock and Commit, as ABCI 0.17.0 has it; and no
-/// more calls.
+/// InitChain once; then for each block BeginBlock, DeliverTx in order, EndBlock and Commit, as ABCI 0.17.0 prescribes;
+/// and no other calls.
 const MADE: [Option<Call>; MAX_CALLS] = [
     Some(Call::InitChain),
     Some(Call::CheckNew(7)),
@@ -25,7 +25,7 @@ const MADE: [Option<Call>; MAX_CALLS] = [
     None,
 ];
 
-// Offers one transaction and runs a block of two others, and tells whether all are accepted.
+// Offers one transaction and runs a block of two others. Returns whether all are accepted.
 fn offers_and_runs<A: Application>(
     alloc: Global,
     executor: &mut Executor<A>,
@@ -37,23 +37,23 @@ fn offers_and_runs<A: Application>(
     submits(pool, executor.app(), &[7], Ok(())) && is_run(alloc, executor, pool, &block, &[0, 0])
 }
 
-// Why the count is not told at a height.
+// Why a query at a height returns no count.
 fn fault_at<A: Application>(executor: &Executor<A>, height: u32) -> Option<QueryFault> {
     executor.query(b"count", height).err()
 }
 
-// Whether the calls that were made are those of ABCI, in its order.
+// Whether the calls were those of ABCI, in its order.
 fn is_in_order<A: Application>(executor: &Executor<Traced<A>>) -> bool {
     executor.app().calls() == MADE
 }
 
-// Whether the last height's answer finds no memory, and another height isn't held.
+// Whether a query at the last height finds no memory, and another height isn't held.
 fn hands_on_faults<A: Application>(executor: &Executor<A>) -> bool {
     let wanted = (Some(QueryFault::NoMemory), Some(QueryFault::NotHeld));
     (fault_at(executor, 0), fault_at(executor, 2)) == wanted
 }
 
-// The executor also hands on that the application found no memory for its answer, and still tells a height that isn't held.
+// The executor forwards that the application found no memory for its answer, and still reports a height that isn't held.
 #[test]
 fn calls_come_in_order_and_faults_are_handed_on(rt: HostRuntime) -> Result<(), Fail> {
     let random = RandomState::new(&rt)?;

@@ -1,4 +1,4 @@
-//! An application whose calls are written down, and that finds no memory for its answers to queries.
+//! An application that records its calls, and finds no memory for its answers to queries.
 ghost use Rattle.std.specs.Prelude.{◌≡◌};
 
 use abci::{Application, CheckKind, Info, QueryFault};
@@ -6,7 +6,7 @@ use ledger_model::{Height, Tx};
 use std::alloc::AllocError;
 use std::cell::Cell;
 
-/// A call that an engine made. A transaction is told by its first byte.
+/// A call that an engine made. A transaction is recorded by its first byte.
 #[derive(Clone, Copy, PartialEq, Eq)]
 pub(crate) enum Call {
     InitChain,
@@ -18,10 +18,10 @@ pub(crate) enum Call {
     Commit,
 }
 
-/// The most calls that are written down.
+/// The most calls that are recorded.
 pub(crate) const MAX_CALLS: usize = 9;
 
-/// An application, and the calls that were made on it but for Info and Query.
+/// An application, and the calls that were made on it, except Info and Query.
 #[derive(Drop)]
 pub(crate) struct Traced<X: Application> {
     app: X,
@@ -39,12 +39,12 @@ impl<X: Application> Traced<X> {
         }
     }
 
-    /// The calls that were made, in their order, and then `None`.
+    /// The recorded calls, in order, followed by `None`.
     pub(crate) fn calls(&self) -> [Option<Call>; MAX_CALLS] {
         self.calls.get()
     }
 
-    /// Writes a call down, behind those before it.
+    /// Records a call after the earlier ones.
     fn note(&self, call: Call) {
         let mut calls = self.calls.get();
         for index in 0..MAX_CALLS {

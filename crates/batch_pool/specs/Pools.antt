@@ -1,4 +1,4 @@
--- What a pool answers and leaves, by the blocks that led to the application's committed state.
+-- The results of a pool's calls, given the blocks that led to the application's committed state.
 use Rattle.std.specs.Prelude.{◌≡◌, ℕ, ◌==◌, Bool, List, Option, Some, None, Result, Ok, Err}
 use Rattle.ledger_model.specs.declared.reply.SubmitRefusal.{SubmitRefusal}
 use Rattle.ledger_model.specs.declared.reply.SubmitRefusal.TheVariants as refusal
@@ -10,13 +10,13 @@ use Rattle.abci.specs.Meaning.{without_work}
 use Rattle.batch_pool.specs.declared.fault.SubmitFault.{SubmitFault}
 use Rattle.batch_pool.specs.declared.fault.SubmitFault.TheVariants as fault
 
--- the answer, unless memory ran out
+-- the answer to a submit, unless memory ran out
 abbrev pub answer_of : Result (Unit {0}) SubmitFault → Option (Result (Unit {0}) SubmitRefusal)
 answer_of (Ok u) = Some (Ok tt)
 answer_of (Err (fault.Refused f)) = Some (Err f)
 answer_of (Err fault.NoMemory) = None
 
--- the part of an answer that is the pool's own: neither what CheckTx refuses nor want of memory
+-- the pool's own part of an answer: Ok if CheckTx refused, or memory ran out
 abbrev pub own_part : Result (Unit {0}) SubmitFault → Result (Unit {0}) SubmitRefusal
 own_part (Ok u) = Ok tt
 own_part (Err (fault.Refused refusal.Empty)) = Err refusal.Empty
@@ -26,17 +26,17 @@ own_part (Err (fault.Refused refusal.Full)) = Err refusal.Full
 own_part (Err (fault.Refused (refusal.Rejected code))) = Ok tt
 own_part (Err fault.NoMemory) = Ok tt
 
--- what is answered to a transaction where these blocks led to the application's committed state
+-- the answer to a submit, given the blocks that led to the application's committed state
 abbrev pub Answers : Machine → Value → List ℕ → Result (Unit {0}) SubmitRefusal → Type 0
 Answers m pool tx answer =
     (batches : List Value) → without_work m ≡ run m.kind batches → answer ≡ submit_answer pool tx (check_reply m.kind batches tx)
 
--- what waits when the application ran these blocks, of which this is the last
+-- the transactions that wait after the application ran blocks of which `block` is the last
 abbrev pub Leaves : Machine → Value → Value → Value → Type 0
 Leaves m block old new =
     (batches : List Value) → without_work m ≡ run m.kind batches → new ≡ left_after block (check_reply m.kind batches) old
 
--- whether CheckTx accepts a transaction where these blocks led to the application's committed state
+-- whether CheckTx accepts the transaction, given the blocks that led to the application's committed state
 abbrev pub StaysBy : Machine → List ℕ → Bool → Type 0
 StaysBy m tx answer =
     (batches : List Value) → without_work m ≡ run m.kind batches → answer ≡ (check_reply m.kind batches tx == 0)

@@ -1,4 +1,4 @@
-//! Why a transaction is not taken into the pool.
+//! Why the pool doesn't take a transaction.
 ghost use Rattle.std.specs.Prelude.{◌≡◌};
 ghost use Rattle.batch_pool.specs.declared.fault.SubmitFault.TheVariants.{NoMemory};
 
@@ -6,7 +6,7 @@ use ledger_model::SubmitRefusal;
 use std::alloc::AllocError;
 use thiserror::Error;
 
-/// Why a transaction was not taken in. The pool is as it was.
+/// Why the pool doesn't take a transaction. The pool is unchanged.
 #[derive(Clone, Copy, Debug, PartialEq, Eq, Error)]
 pub enum SubmitFault {
     /// The pool or the application refuses it.

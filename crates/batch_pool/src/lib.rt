@@ -1,7 +1,7 @@
 //! The transactions that wait for a block.
 //!
-//! A [`Pool`] keeps them in the order in which they came, each once and at most 1024, and finds one by its bytes. Contracts see it
-//! as the list of them.
+//! A [`Pool`] has them in order of arrival, each once and at most 1024, and finds one by its bytes. Contracts see the
+//! list of the transactions.
 #![tactic(auto)]
 
 mod fault;

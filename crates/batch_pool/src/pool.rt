@@ -1,4 +1,4 @@
-//! The pool: the transactions that wait for a block, in the order in which they came.
+//! The pool: the transactions that wait for a block, in order of arrival.
 ghost use Rattle.std.specs.Prelude.{◌≡◌, ◌<◌, ◌≤◌, ◌==◌, false, not, [], ◌∷◌, ◌++◌, length, take, IfOk, OnOk, IfSome, is_ok, if◌then◌else◌};
 ghost use Rattle.std.specs.Map.Iter.{ShowsInOrder, deref};
 ghost use Rattle.ledger_model.specs.declared.batch.Tx.{Tx as TxValue};
@@ -16,13 +16,13 @@ use std::alloc::{AllocError, Global};
 use std::hash::RandomState;
 use std::marker::Model;
 
-/// The transactions that wait for a block, in the order in which they came.
+/// The transactions that wait for a block, in order of arrival.
 pub struct Pool {
-    /// Each transaction under its bytes, by which it is found without taking memory.
+    /// Each transaction, with its bytes as the key, so that looking it up allocates nothing.
     waiting: IndexMap<Vec<u8>, Tx, RandomState>,
 }
 
-// It is dropped by a function of its own, so that whoever owns one drops it by a single call.
+// An own `Drop` keeps proofs short: an owner drops it by one call. See docs/WORKING.md.
 impl Drop for Pool {
     fn drop(self) {
         let Pool { waiting: _waiting } = self;
@@ -44,7 +44,7 @@ impl Model for Pool {
 }
 
 impl Pool {
-    /// An empty pool, which allocates nothing yet. Its hashes have these random keys.
+    /// An empty pool, which allocates nothing yet. It hashes with these random keys.
     pub fn new(alloc: Global, random: RandomState) -> Self
         ensures { result ≡ [] }
     {
@@ -53,7 +53,7 @@ impl Pool {
         }
     }
 
-    /// How many transactions wait: at most 1024, and none of them twice.
+    /// The number of waiting transactions: at most 1024, all different.
     pub fn len(&self) -> usize
         ensures len { result ≡ length self.now }
         ensures bounded { length self.now ≤ max_pool_len }
@@ -69,7 +69,7 @@ impl Pool {
         self.waiting.is_empty()
     }
 
-    /// The transactions, in the order in which they came.
+    /// The transactions, in order of arrival.
     pub fn transactions(&self) -> Values<'_, Vec<u8>, Tx>
         ensures all { result ≡ self.now }
         ensures in_order { ShowsInOrder (deref {X = TxValue}) }
@@ -79,8 +79,8 @@ impl Pool {
 
     /// Takes in a transaction, as the last one.
     ///
-    /// The refusals are tested in the order of `SubmitRefusal`; `Rejected` has the code of CheckTx. The pool's own come whatever
-    /// memory there is, and `NoMemory` only where none of them fits. At each fault the pool stays as it was.
+    /// The refusals are tested in the order of `SubmitRefusal`; `Rejected` has the code of CheckTx. The pool's own refusals
+    /// don't depend on memory, and `NoMemory` comes only if none of them applies. After a fault the pool is unchanged.
     pub fn submit<A: Application>(&mut self, bytes: &[u8], app: &A) -> Result<(), SubmitFault>
         ensures own { own_part result ≡ first_fault (own_refusals self.old bytes.now) tt }
         ensures answer { IfSome (answer_of result) (Answers (A.machine app.now) self.old bytes.now) }
@@ -102,7 +102,7 @@ impl Pool {
         }
     }
 
-    /// The first of the pool's own refusals that fits the bytes. It takes no memory.
+    /// The first of the pool's own refusals that applies to the bytes. Allocates nothing.
     fn own_refusal(&self, bytes: &[u8]) -> Result<(), SubmitRefusal>
         ensures first { result ≡ first_fault (own_refusals self.now bytes.now) tt }
         ensures some { OnOk result (1 ≤ length bytes.now) }
@@ -125,7 +125,7 @@ impl Pool {
         Ok(())
     }
 
-    /// The first 16 transactions, or all of fewer. They stay in the pool.
+    /// The first 16 transactions, or all if there are fewer. They stay in the pool. The only error is allocation failure.
     pub fn reap(&self) -> Result<Batch, AllocError>
         ensures { IfOk result (λ batch. batch ≡ take max_batch_len self.now) }
     {
@@ -140,9 +140,9 @@ impl Pool {
         }
     }
 
-    /// Takes out a block's transactions, and then those that the application refuses now that it ran the block.
+    /// Removes a block's transactions, and then those that the application refuses after it ran the block.
     ///
-    /// It takes no memory.
+    /// Allocates nothing.
     pub fn after_block<A: Application>(&mut self, block: &Batch, app: &A)
         ensures { Leaves (A.machine app.now) block.now self.old self.new }
     {
@@ -159,7 +159,7 @@ impl Pool {
     }
 }
 
-/// The transaction of 1 to 64 bytes.
+/// The transaction of these 1 to 64 bytes.
 fn transaction(alloc: Global, bytes: &[u8]) -> Result<Tx, AllocError>
     requires some { 1 ≤ length bytes.now }
     requires short { length bytes.now ≤ max_tx_len }
@@ -178,7 +178,7 @@ fn is_in(block: &Batch, tx: &Tx) -> bool
     block.transactions().iter().any(|ran| tx == ran)
 }
 
-/// Whether the application accepts a transaction still.
+/// Whether the application still accepts a transaction.
 fn stays<A: Application>(tx: &Tx, app: &A) -> bool
     ensures { StaysBy (A.machine app.now) tx.now result }
 {

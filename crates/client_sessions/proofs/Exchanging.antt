@@ -1,4 +1,4 @@
--- A request that was served by one exchange.
+-- A request that one exchange serves.
 use Rattle.std.proofs.Common.{◌≡◌, ℕ, List, [], ◌∷◌, ◌++◌, Bool, true, false, refl, sym, ap, ◌∙◌, arith}
 use Rattle.std.proofs.lemmas.Bool.{le-ltb}
 use Rattle.std.specs.Prelude.{nat_lt, ◌||◌, Ok, if◌then◌else◌}
@@ -8,12 +8,14 @@ use Rattle.ledger_model.specs.Sessions.{Exchange, Queries, Heights, Request, Que
 use Rattle.client_sessions.specs.Answering.{Answers}
 
 -- a choice by a test that holds
-if_so : (test : Bool) (reply : List ℕ) (new : Session) (x y : List ℕ × Session) → test ≡ true → Gives reply new x → Gives reply new (if test then x else y)
+if_so : (test : Bool) (reply : List ℕ) (new : Session) (x y : List ℕ × Session) → test ≡ true → Gives reply new x
+    → Gives reply new (if test then x else y)
 if_so true reply new x y holds gives = gives
 if_so false reply new x y holds gives = absurd cc
 
 -- by one that fails
-if_not : (test : Bool) (reply : List ℕ) (new : Session) (x y : List ℕ × Session) → test ≡ false → Gives reply new y → Gives reply new (if test then x else y)
+if_not : (test : Bool) (reply : List ℕ) (new : Session) (x y : List ℕ × Session) → test ≡ false → Gives reply new y
+    → Gives reply new (if test then x else y)
 if_not true reply new x y fails gives = absurd cc
 if_not false reply new x y fails gives = gives
 
@@ -23,17 +25,21 @@ none_below height = le-ltb height 0 (omega arith)
 
 module _ {T : Type 0} (asks : T → Exchange → T → Type 0) (count : ℕ) (before after : T) (old : Session) where
   pub by_one : (request : Request) (reply : List ℕ) (new : Session) (exchange : Exchange)
-      → asks before exchange after → Serves count old request (exchange ∷ []) reply new → Answers asks count before after old request reply new
+      → asks before exchange after → Serves count old request (exchange ∷ []) reply new
+      → Answers asks count before after old request reply new
   by_one request reply new exchange asked serves = record { exchanges = exchange ∷ []; asked = (after, asked, refl); serves = serves }
 
   -- the application's height is behind
-  pub query_behind : (min : ℕ) (key : List ℕ) (replica : ℕ) (found : QueryAnswer) → asks before (Queries replica key (Ok found)) after → replica ≡ old.replica
-      → (nat_lt found.height min || nat_lt found.height old.greatest) ≡ true → Answers asks count before after old (Query min key) (status 2) old
+  pub query_behind : (min : ℕ) (key : List ℕ) (replica : ℕ) (found : QueryAnswer) → asks before (Queries replica key (Ok found)) after
+      → replica ≡ old.replica
+      → (nat_lt found.height min || nat_lt found.height old.greatest) ≡ true
+      → Answers asks count before after old (Query min key) (status 2) old
   query_behind min key replica found asked same behind =
       by_one (Query min key) (status 2) old (Queries replica key (Ok found)) asked (same, refl, if_so _ _ _ _ _ behind (refl, refl))
 
   -- or isn't
-  pub query_told : (min : ℕ) (key : List ℕ) (replica : ℕ) (found : QueryAnswer) (new : Session) → asks before (Queries replica key (Ok found)) after → replica ≡ old.replica
+  pub query_told : (min : ℕ) (key : List ℕ) (replica : ℕ) (found : QueryAnswer) (new : Session)
+      → asks before (Queries replica key (Ok found)) after → replica ≡ old.replica
       → (nat_lt found.height min || nat_lt found.height old.greatest) ≡ false
       → new ≡ record old { greatest = found.height }
       → Answers asks count before after old (Query min key) (0 ∷ to_be_bytes w32 found.height ++ present found.value) new

@@ -1,4 +1,4 @@
--- What is said of an error holds where it comes.
+-- A fact about every error holds for the error that is returned.
 use Rattle.std.specs.Prelude.{◌≡◌, Result, Ok, Err, IfErr, MatchResult}
 use Rattle.std.specs.Result.{IsErr, IsErrAnd}
 use Rattle.std.proofs.Common.{subst, sym}

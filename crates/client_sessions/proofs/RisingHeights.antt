@@ -1,18 +1,15 @@
--- In a session the heights that a client is told never fall.
+-- In a session the heights that a client gets never fall.
 use Rattle.std.proofs.Common.{◌≡◌, ℕ, ◌≤◌, List, [], ◌∷◌, ◌++◌, Bool, true, false, refl, sym, ap, subst, ◌∙◌, inl, inr, arith}
 use Rattle.std.specs.Prelude.{nat_lt, ◌||◌, Some, None, Ok, Err, if◌then◌else◌}
 use Rattle.std.specs.Int.{w32, to_be_bytes}
 use Rattle.std.specs.List.{flat_map}
-use Rattle.std.proofs.lemmas.Bool.{ltb-false}
+use Rattle.std.proofs.lemmas.Bool.{ltb-false, or_parts}
 use Rattle.std.proofs.lemmas.List.Concat.{flat_map-cons}
 use Rattle.ledger_model.specs.declared.reply.QueryAnswer.{QueryAnswer}
-use Rattle.ledger_model.specs.Sessions.{Exchange, Submits, Queries, Heights, Blocks, Fault, Full, Want_of_memory, Gives, Height, Malformed, Query, Request, Serves, Session, Session_of, Submit, Block, Switch, faulty, framed, present, request_of, status}
+use Rattle.ledger_model.specs.Sessions.{Exchange, Submits, Queries, Heights, Blocks, Fault, Full, Want_of_memory, Gives, Height, Malformed}
+use Rattle.ledger_model.specs.Sessions.{Query, Request, Serves, Session, Session_of, Submit, Block, Switch, faulty, framed, present}
+use Rattle.ledger_model.specs.Sessions.{request_of, status}
 use Rattle.client_sessions.specs.Heights.{IsRefusal, Rises, RisesBy, Tells, TellsNone}
-
--- neither test holds
-neither : (a b : Bool) → (a || b) ≡ false → (a ≡ false) × (b ≡ false)
-neither true b is = absurd cc
-neither false b is = (refl, is)
 
 -- a fault's reply is a refusal
 fault_refuses : (fault : Fault) (reply : List ℕ) → reply ≡ faulty fault → IsRefusal reply
@@ -29,11 +26,12 @@ module _ (s : Session) (reply : List ℕ) (new : Session) where
   stays request same none = inl (ap (λ t. t.greatest) same, none)
 
   query_step : (min : ℕ) (key : List ℕ) (a : QueryAnswer) (test : Bool) → (nat_lt a.height min || nat_lt a.height s.greatest) ≡ test
-      → Gives reply new (if test then (status 2, s) else (0 ∷ to_be_bytes w32 a.height ++ present a.value, record s { greatest = a.height }))
+      → Gives reply new (if test then (status 2, s)
+      else (0 ∷ to_be_bytes w32 a.height ++ present a.value, record s { greatest = a.height }))
       → RisesBy s.greatest (Query min key) reply new.greatest
   query_step min key a true is gives = stays (Query min key) gives.1 (behind_refuses reply gives.0)
   query_step min key a false is gives =
-      let (enough, later) = neither (nat_lt a.height min) (nat_lt a.height s.greatest) is in
+      let (enough, later) = or_parts (nat_lt a.height min) (nat_lt a.height s.greatest) is in
       let raised : a.height ≡ new.greatest = sym (ap (λ t. t.greatest) gives.1) in
       inr (
         subst (λ h. s.greatest ≤ h) raised (ltb-false a.height s.greatest later),
@@ -48,7 +46,8 @@ module _ (s : Session) (reply : List ℕ) (new : Session) where
       let raised : height ≡ new.greatest = sym (ap (λ t. t.greatest) gives.1) in
       inr (subst (λ h. s.greatest ≤ h) raised (ltb-false height s.greatest is), subst (λ h. reply ≡ 0 ∷ to_be_bytes w32 h) raised gives.0)
 
-  switch_step : (r : ℕ) (test : Bool) → Gives reply new (if test then (status 0, record s { replica = r }) else (status 5, s)) → RisesBy s.greatest (Switch r) reply new.greatest
+  switch_step : (r : ℕ) (test : Bool) → Gives reply new (if test then (status 0, record s { replica = r }) else (status 5, s))
+      → RisesBy s.greatest (Switch r) reply new.greatest
   switch_step r true gives = inl (ap (λ t. t.greatest) gives.1, tt)
   switch_step r false gives = inl (ap (λ t. t.greatest) gives.1, tt)
 
@@ -58,9 +57,12 @@ pub one_rises : (targets : ℕ) (s : Session) (request : Request) (exchanges : L
 one_rises targets s (Submit tx) (Submits r asked (Ok (Ok u)) ∷ []) reply new serves = stays s reply new (Submit tx) serves.3 tt
 one_rises targets s (Submit tx) (Submits r asked (Ok (Err e)) ∷ []) reply new serves = stays s reply new (Submit tx) serves.3 tt
 one_rises targets s (Submit tx) (Submits r asked (Err f) ∷ []) reply new serves = stays s reply new (Submit tx) serves.3 tt
-one_rises targets s (Query min key) (Queries r asked (Ok a) ∷ []) reply new serves = query_step s reply new min key a (nat_lt a.height min || nat_lt a.height s.greatest) refl serves.2
-one_rises targets s (Query min key) (Queries r asked (Err f) ∷ []) reply new serves = stays s reply new (Query min key) serves.3 (fault_refuses f reply serves.2)
-one_rises targets s Height (Heights r height ∷ []) reply new serves = height_step s reply new height (nat_lt height s.greatest) refl serves.1
+one_rises targets s (Query min key) (Queries r asked (Ok a) ∷ []) reply new serves =
+    query_step s reply new min key a (nat_lt a.height min || nat_lt a.height s.greatest) refl serves.2
+one_rises targets s (Query min key) (Queries r asked (Err f) ∷ []) reply new serves =
+    stays s reply new (Query min key) serves.3 (fault_refuses f reply serves.2)
+one_rises targets s Height (Heights r height ∷ []) reply new serves =
+    height_step s reply new height (nat_lt height s.greatest) refl serves.1
 one_rises targets s (Block h) (Blocks r asked (Ok (Some v)) ∷ []) reply new serves = stays s reply new (Block h) serves.3 tt
 one_rises targets s (Block h) (Blocks r asked (Ok None) ∷ []) reply new serves = stays s reply new (Block h) serves.3 tt
 one_rises targets s (Block h) (Blocks r asked (Err f) ∷ []) reply new serves = stays s reply new (Block h) serves.3 tt
@@ -85,12 +87,15 @@ heights_rise targets s (body ∷ bodies) exchanges written new (first, (rest, (r
 
 -- one more request
 pub rises_more : (least : ℕ) (bodies replies : List (List ℕ)) (mid : ℕ) (body reply : List ℕ) (greatest : ℕ)
-    → Rises least bodies replies mid → RisesBy mid (request_of body) reply greatest → Rises least (bodies ++ body ∷ []) (replies ++ reply ∷ []) greatest
+    → Rises least bodies replies mid → RisesBy mid (request_of body) reply greatest
+    → Rises least (bodies ++ body ∷ []) (replies ++ reply ∷ []) greatest
 unfolding Rises
-rises_more least [] [] mid body reply greatest rises by = (greatest, (subst (λ n. RisesBy n (request_of body) reply greatest) rises by, refl))
+rises_more least [] [] mid body reply greatest rises by =
+    (greatest, (subst (λ n. RisesBy n (request_of body) reply greatest) rises by, refl))
 rises_more least [] (r ∷ rs) mid body reply greatest rises by = absurd rises
 rises_more least (b ∷ bs) [] mid body reply greatest rises by = absurd rises
-rises_more least (b ∷ bs) (r ∷ rs) mid body reply greatest (next, (first, rest)) by = (next, (first, rises_more next bs rs mid body reply greatest rest by))
+rises_more least (b ∷ bs) (r ∷ rs) mid body reply greatest (next, (first, rest)) by =
+    (next, (first, rises_more next bs rs mid body reply greatest rest by))
 
 -- the greatest height is at least that before
 pub never_falls : (least : ℕ) (bodies replies : List (List ℕ)) (greatest : ℕ) → Rises least bodies replies greatest → least ≤ greatest

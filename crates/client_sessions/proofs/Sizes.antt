@@ -1,4 +1,4 @@
--- How many bytes a batch has at most.
+-- The most bytes of an encoded batch.
 use Rattle.std.proofs.Common.{ℕ, ◌*◌, ◌≤◌, List, [], ◌∷◌, length, ap, arith}
 use Rattle.std.specs.List.{flat_map, AllByRecursion}
 use Rattle.std.proofs.lemmas.List.{length-append}
@@ -9,7 +9,14 @@ use Rattle.ledger_model.specs.Values.{Value, value_bytes, IsTx, IsValue}
 txs_bound : (v : Value) → AllByRecursion IsTx v → length (flat_map (λ tx. length tx ∷ tx) v) ≤ 65 * length v
 txs_bound [] all = omega arith
 txs_bound (tx ∷ v) all =
-    omega (arith, all.0.short, txs_bound v all.1, ap length (flat_map-cons (λ (tx : List ℕ). length tx ∷ tx) tx v), length-append (length tx ∷ tx) (flat_map (λ tx. length tx ∷ tx) v))
+    omega (
+      arith,
+      all.0.short,
+      txs_bound v all.1,
+      ap length (flat_map-cons (λ (tx : List ℕ). length tx ∷ tx) tx v),
+      length-append
+          (length tx ∷ tx) (flat_map (λ tx. length tx ∷ tx) v),
+    )
 
 -- a batch
 pub value_bound : (v : Value) → IsValue v → length (value_bytes v) ≤ 1041

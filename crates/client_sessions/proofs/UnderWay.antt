@@ -1,5 +1,6 @@
--- A session that is under way: what was read are whole requests, each of which was served.
-use Rattle.std.proofs.Common.{◌≡◌, ℕ, ◌+◌, ◌-◌, ◌^◌, List, [], ◌∷◌, ◌++◌, refl, sym, ap, subst, ◌∙◌, length, append_assoc, append-nil, arith, length-append}
+-- A session that is under way: the bytes read are whole requests, each of which was served.
+use Rattle.std.proofs.Common.{◌≡◌, ℕ, ◌+◌, ◌-◌, ◌^◌, List, [], ◌∷◌, ◌++◌, refl, sym, ap, subst, ◌∙◌, length, append_assoc, append-nil}
+use Rattle.std.proofs.Common.{arith, length-append}
 use Rattle.std.specs.Prelude.{Option}
 use Rattle.std.specs.List.{AllByRecursion, FoldsTo, flat_map}
 use Rattle.std.specs.Io.KnownBytes.{Appends, Consumes}
@@ -11,11 +12,12 @@ use Rattle.client_sessions.specs.declared.session_end.SessionFault.TheVariants a
 use Rattle.client_sessions.specs.Heights.{Rises}
 use Rattle.client_sessions.specs.Serving.{Ended, Replies, Served, Stopped}
 use Rattle.client_sessions.specs.Streams.{EndsBehind, IsBody, ReadsPart}
-use Rattle.client_sessions.specs.Writing.{AppendsSome}
+use Rattle.byte_streams.specs.Writing.{AppendsSome}
 use Rattle.client_sessions.proofs.RisingHeights.{one_rises, rises_more}
 
 -- since the start this many requests were read and served, and their replies written
-pub record UnderWay {T : Type 0} (asks : T → Exchange → T → Type 0) (count : ℕ) (before now : T) (old session : Session) (unread left had has : Option (List ℕ)) (number : ℕ) : Type 0 where
+pub record UnderWay {T : Type 0} (asks : T → Exchange → T → Type 0) (count : ℕ) (before now : T) (old session : Session)
+    (unread left had has : Option (List ℕ)) (number : ℕ) : Type 0 where
   pub bodies : List (List ℕ)
   pub replies : List (List ℕ)
   pub counted : length bodies ≡ number
@@ -24,17 +26,20 @@ pub record UnderWay {T : Type 0} (asks : T → Exchange → T → Type 0) (count
   pub written : Appends had has (flat_map framed replies)
 
 -- short bodies, and one more
-all_more : (bodies : List (List ℕ)) (body : List ℕ) → AllByRecursion IsBody bodies → IsBody body → AllByRecursion IsBody (bodies ++ body ∷ [])
+all_more : (bodies : List (List ℕ)) (body : List ℕ) → AllByRecursion IsBody bodies → IsBody body
+    → AllByRecursion IsBody (bodies ++ body ∷ [])
 all_more [] body all short = (short, tt)
 all_more (b ∷ bs) body all short = (all.0, all_more bs body all.1 short)
 
 -- exchanges, and then others
-folds_both : {T : Type 0} (asks : T → Exchange → T → Type 0) (a b c : T) (xs ys : List Exchange) → FoldsTo asks a xs b → FoldsTo asks b ys c → FoldsTo asks a (xs ++ ys) c
+folds_both : {T : Type 0} (asks : T → Exchange → T → Type 0) (a b c : T) (xs ys : List Exchange) → FoldsTo asks a xs b
+    → FoldsTo asks b ys c → FoldsTo asks a (xs ++ ys) c
 folds_both asks a b c [] ys first second = subst (λ t. FoldsTo asks t ys c) (sym first) second
 folds_both asks a b c (x ∷ xs) ys first second = (first.0, first.1, folds_both asks first.0 b c xs ys first.2 second)
 
 -- a session, and one request more
-session_more : (count : ℕ) (s : Session) (bodies : List (List ℕ)) (exchanges : List Exchange) (written : List ℕ) (mid : Session) (body : List ℕ) (last : List Exchange) (reply : List ℕ) (new : Session)
+session_more : (count : ℕ) (s : Session) (bodies : List (List ℕ)) (exchanges : List Exchange) (written : List ℕ) (mid : Session)
+    (body : List ℕ) (last : List Exchange) (reply : List ℕ) (new : Session)
     → Session_of count s bodies exchanges written mid → Serves count mid (request_of body) last reply new
     → Session_of count s (bodies ++ body ∷ []) (exchanges ++ last) (written ++ framed reply) new
 unfolding Session_of
@@ -57,29 +62,31 @@ session_more count s [] exchanges written mid body last reply new session serves
     ),
   ),
 )
-session_more count s (b ∷ bs) exchanges written mid body last reply new (first, (rest, (r, (more, (next, e, w, served, session))))) serves = (
-  first,
-  (
-    rest ++ last,
-    (
-      r,
+session_more count s (b ∷ bs) exchanges written mid body last reply new (first, (rest, (r, (more, (next, e, w, served, session)))))
+    serves = (
+      first,
       (
-        more ++ framed reply,
+        rest ++ last,
         (
-          next,
-          ap (λ l. l ++ last) e ∙ append_assoc first rest last,
-          ap (λ l. l ++ framed reply) w ∙ append_assoc (framed r) more (framed reply),
-          served,
-          session_more count next bs rest more mid body last reply new session serves,
+          r,
+          (
+            more ++ framed reply,
+            (
+              next,
+              ap (λ l. l ++ last) e ∙ append_assoc first rest last,
+              ap (λ l. l ++ framed reply) w ∙ append_assoc (framed r) more (framed reply),
+              served,
+              session_more count next bs rest more mid body last reply new session serves,
+            ),
+          ),
         ),
       ),
-    ),
-  ),
-)
+    )
 
 -- pieces, and one more
 pieces_more : (pieces : List (List ℕ)) (piece : List ℕ) → flat_map framed pieces ++ framed piece ≡ flat_map framed (pieces ++ piece ∷ [])
-pieces_more pieces piece = sym (flat_map-append framed pieces (piece ∷ []) ∙ ap (λ l. flat_map framed pieces ++ l) (append-nil (framed piece)))
+pieces_more pieces piece = sym (flat_map-append framed pieces (piece ∷ [])
+    ∙ ap (λ l. flat_map framed pieces ++ l) (append-nil (framed piece)))
 
 module _ {T : Type 0} (asks : T → Exchange → T → Type 0) (count : ℕ) (before : T) (old : Session) (unread had : Option (List ℕ)) where
   -- nothing was read
@@ -107,9 +114,11 @@ module _ {T : Type 0} (asks : T → Exchange → T → Type 0) (count : ℕ) (be
     written = Appends-nil had;
   }
 
-  module _ (now : T) (session : Session) (left has : Option (List ℕ)) (number : ℕ) (so_far : UnderWay asks count before now old session unread left had has number) where
+  module _ (now : T) (session : Session) (left has : Option (List ℕ)) (number : ℕ)
+      (so_far : UnderWay asks count before now old session unread left had has number) where
     -- the input came to its end
-    pub ends : (last : Option (List ℕ)) (end : SessionEnd) → EndsBehind left last end → Ended asks count before now old session unread last had has end
+    pub ends : (last : Option (List ℕ)) (end : SessionEnd) → EndsBehind left last end
+        → Ended asks count before now old session unread last had has end
     ends last end behind = record {
       bodies = so_far.bodies;
       rest = behind.rest;
@@ -122,7 +131,8 @@ module _ {T : Type 0} (asks : T → Exchange → T → Type 0) (count : ℕ) (be
     }
 
     -- a read failed
-    pub read_fails : (last : Option (List ℕ)) (error : _) → ReadsPart left last → Stopped asks count before now old session unread last had has (fault.Read error)
+    pub read_fails : (last : Option (List ℕ)) (error : _) → ReadsPart left last
+        → Stopped asks count before now old session unread last had has (fault.Read error)
     read_fails last error read = record {
       bodies = so_far.bodies;
       rest = read.rest;
@@ -145,35 +155,43 @@ module _ {T : Type 0} (asks : T → Exchange → T → Type 0) (count : ℕ) (be
       written = so_far.written;
     }
 
-    module _ (body : List ℕ) (short : IsBody body) (last : Option (List ℕ)) (read : Consumes left last (framed body)) (after : T) (new : Session) (Sent : List ℕ → Type 0) (one : Replies asks count now after session body new Sent) where
+    module _ (body : List ℕ) (short : IsBody body) (last : Option (List ℕ)) (read : Consumes left last (framed body)) (after : T)
+        (new : Session) (Sent : List ℕ → Type 0) (one : Replies asks count now after session body new Sent) where
       -- one more request was served
       served_more : Served asks count before after old (so_far.bodies ++ body ∷ []) (so_far.replies ++ one.reply ∷ []) new
       served_more = record {
         exchanges = so_far.served.exchanges ++ one.answers.exchanges;
         asked = folds_both asks before now after so_far.served.exchanges one.answers.exchanges so_far.served.asked one.answers.asked;
-        session = subst (λ l. Session_of count old (so_far.bodies ++ body ∷ []) (so_far.served.exchanges ++ one.answers.exchanges) l new) (pieces_more so_far.replies one.reply)
-            (session_more count old so_far.bodies so_far.served.exchanges (flat_map framed so_far.replies) session body one.answers.exchanges one.reply new so_far.served.session one.answers.serves);
-        rises = rises_more old.greatest so_far.bodies so_far.replies session.greatest body one.reply new.greatest so_far.served.rises (one_rises count session (request_of body) one.answers.exchanges one.reply new one.answers.serves);
+        session = subst (λ l. Session_of count old (so_far.bodies ++ body ∷ []) (so_far.served.exchanges ++ one.answers.exchanges) l new)
+            (pieces_more so_far.replies one.reply)
+            (session_more count old so_far.bodies so_far.served.exchanges (flat_map framed so_far.replies) session body
+            one.answers.exchanges one.reply new so_far.served.session one.answers.serves);
+        rises = rises_more old.greatest so_far.bodies so_far.replies session.greatest body one.reply new.greatest so_far.served.rises
+            (one_rises count session (request_of body) one.answers.exchanges one.reply new one.answers.serves);
         requests_short = all_more so_far.bodies body so_far.served.requests_short short;
         replies_short = all_more so_far.replies one.reply so_far.served.replies_short one.short;
       }
 
       read_more : Consumes unread last (flat_map framed (so_far.bodies ++ body ∷ []))
-      read_more = subst (Consumes unread last) (pieces_more so_far.bodies body) (Consumes-trans unread left last (flat_map framed so_far.bodies) (framed body) so_far.read read)
+      read_more = subst (Consumes unread last) (pieces_more so_far.bodies body)
+          (Consumes-trans unread left last (flat_map framed so_far.bodies) (framed body) so_far.read read)
 
       -- and its reply was written
-      pub goes_on : (holds : Option (List ℕ)) → Appends has holds (framed one.reply) → UnderWay asks count before after old new unread last had holds (number + 1)
+      pub goes_on : (holds : Option (List ℕ)) → Appends has holds (framed one.reply)
+          → UnderWay asks count before after old new unread last had holds (number + 1)
       goes_on holds sent = record {
         bodies = so_far.bodies ++ body ∷ [];
         replies = so_far.replies ++ one.reply ∷ [];
         counted = length-append so_far.bodies (body ∷ []) ∙ ap (λ n. n + 1) so_far.counted;
         read = read_more;
         served = served_more;
-        written = subst (Appends had holds) (pieces_more so_far.replies one.reply) (Appends-trans had has holds (flat_map framed so_far.replies) (framed one.reply) so_far.written sent);
+        written = subst (Appends had holds) (pieces_more so_far.replies one.reply)
+            (Appends-trans had has holds (flat_map framed so_far.replies) (framed one.reply) so_far.written sent);
       }
 
       -- or a beginning of it
-      pub write_fails : (holds : Option (List ℕ)) (error : _) → AppendsSome has holds (framed one.reply) → Stopped asks count before after old new unread last had holds (fault.Write error)
+      pub write_fails : (holds : Option (List ℕ)) (error : _) → AppendsSome has holds (framed one.reply)
+          → Stopped asks count before after old new unread last had holds (fault.Write error)
       write_fails holds error sent = record {
         bodies = so_far.bodies ++ body ∷ [];
         rest = [];
@@ -184,7 +202,8 @@ module _ {T : Type 0} (asks : T → Exchange → T → Type 0) (count : ℕ) (be
         written = record {
           done = flat_map framed so_far.replies ++ sent.done;
           left = sent.left;
-          split = append_assoc (flat_map framed so_far.replies) sent.done sent.left ∙ ap (λ l. flat_map framed so_far.replies ++ l) sent.split ∙ pieces_more so_far.replies one.reply;
+          split = append_assoc (flat_map framed so_far.replies) sent.done sent.left
+              ∙ ap (λ l. flat_map framed so_far.replies ++ l) sent.split ∙ pieces_more so_far.replies one.reply;
           written = Appends-trans had has holds (flat_map framed so_far.replies) sent.done so_far.written sent.written;
         };
       }

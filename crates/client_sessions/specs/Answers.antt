@@ -1,4 +1,4 @@
--- The replies' bodies, by the answer.
+-- The bodies of the replies, by the answer.
 use Rattle.std.specs.Prelude.{ℕ, ◌≤◌, List, ◌∷◌, ◌++◌, length, IfSome}
 use Rattle.std.specs.Int.{w32, to_be_bytes}
 use Rattle.ledger_model.specs.Values.{value_bytes}
@@ -7,7 +7,7 @@ use Rattle.client_sessions.specs.declared.answer.Answer.{Answer}
 use Rattle.client_sessions.specs.declared.answer.Answer.TheVariants as answer
 use Rattle.client_sessions.specs.Asking.{fault_of, max_value_len}
 
--- the body of the reply that tells the answer
+-- the body of the reply that encodes the answer
 abbrev pub answer_bytes : Answer → List ℕ
 answer_bytes answer.Done = status 0
 answer_bytes (answer.Value found) = 0 ∷ to_be_bytes w32 found.height ++ present found.value
@@ -20,7 +20,7 @@ answer_bytes answer.NoReplica = status 5
 answer_bytes (answer.Refused refusal) = refused refusal
 answer_bytes (answer.Faulted fault) = faulty (fault_of fault)
 
--- a value in it is short enough for a reply
+-- if the answer contains a value, that value fits into a reply
 abbrev pub IsShort : Answer → Type 0
 IsShort (answer.Value found) = IfSome found.value (λ v. length v ≤ max_value_len)
 IsShort _ = Unit {0}

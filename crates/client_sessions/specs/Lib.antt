@@ -2,7 +2,6 @@ pub mod Asking
 pub mod Requests
 pub mod Answers
 pub mod Answering
-pub mod Writing
 pub mod Reading
 pub mod Faults
 pub mod Streams

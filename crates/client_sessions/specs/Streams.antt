@@ -1,4 +1,4 @@
--- Requests in a stream of bytes: what stands behind the last whole one.
+-- Requests in a stream of bytes, and what follows the last whole one.
 use Rattle.std.specs.Prelude.{◌≡◌, ◌⊎◌, ℕ, ◌+◌, ◌<◌, ◌≤◌, ◌^◌, List, [], length, take, Option}
 use Rattle.std.specs.Int.{w16, from_be_bytes}
 use Rattle.std.specs.Io.KnownBytes.{Consumes, IsAtEnd}
@@ -16,29 +16,30 @@ announced bytes = from_be_bytes w16 (take 2 bytes)
 abbrev pub IsPartial : List ℕ → Type 0
 IsPartial bytes = (length bytes < 2) ⊎ (length bytes < 2 + announced bytes)
 
--- a body whose length two bytes can tell
+-- a body whose length fits into two bytes
 abbrev pub IsBody : List ℕ → Type 0
 IsBody body = length body < 2 ^ 16
 
--- the input ends so: nothing stands behind the last whole request, or some of one
+-- how the input ended: with nothing after the last whole request, or with part of a request
 abbrev pub Stands : SessionEnd → List ℕ → Type 0
 Stands Clean rest = rest ≡ []
 Stands Cut rest = (1 ≤ length rest) × IsPartial rest
 
--- the input came to its end behind these bytes
+-- the input has ended, after these last bytes
 pub record EndsBehind (unread left : Option (List ℕ)) (end : SessionEnd) : Type 0 where
   pub rest : List ℕ
   pub read : Consumes unread left rest
   pub stands : Stands end rest
   pub at_end : IsAtEnd left
 
--- some of a request was read
+-- less than a whole request was read
 pub record ReadsPart (unread left : Option (List ℕ)) : Type 0 where
   pub rest : List ℕ
   pub read : Consumes unread left rest
   pub part : IsPartial rest
 
--- what was received into a buffer: a whole request, of which these many bytes are the body, or the end of the input
+-- what was received into the buffer: a whole request with a body of `count` bytes, or the end of the input
 abbrev pub Receives : Option (List ℕ) → Option (List ℕ) → List ℕ → Received → Type 0
-Receives unread left buffer (Body count) = (count ≤ length buffer) × (IsBody (take count buffer) × Consumes unread left (framed (take count buffer)))
+Receives unread left buffer (Body count) =
+    (count ≤ length buffer) × (IsBody (take count buffer) × Consumes unread left (framed (take count buffer)))
 Receives unread left buffer (End end) = EndsBehind unread left end

@@ -1,28 +1,28 @@
-//! What a session answers to a request.
+//! A session's answer to a request.
 use crate::TargetFault;
 use ledger_model::{Batch, Height, QueryAnswer, SubmitRefusal};
 
-/// The answer to a request, with what its reply tells.
+/// The answer to a request, with the data for its reply.
 #[derive(Drop)]
 pub(crate) enum Answer {
     /// It is done.
     Done,
-    /// What the application has of a key.
+    /// The application's answer to a query.
     Value(QueryAnswer),
     /// The committed height.
     Height(Height),
-    /// The batch of a block.
+    /// The batch of the block at this height.
     Block(Height, Batch),
-    /// The body is no request.
+    /// The body encodes no request.
     Malformed,
-    /// The height found is below one that this client has seen or asked for.
+    /// The height that the replica returned is below one that this client has seen or asked for.
     Behind,
-    /// The replica has no such block.
+    /// The replica has not committed this block.
     NotHeld,
-    /// There is no such replica.
+    /// The replica that the request names doesn't exist.
     NoReplica,
-    /// The pool did not take the transaction.
+    /// The pool refused the transaction.
     Refused(SubmitRefusal),
-    /// The replica did not take the event.
+    /// The replica took no event.
     Faulted(TargetFault),
 }

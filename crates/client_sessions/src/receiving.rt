@@ -1,4 +1,4 @@
-//! One request from a reader, and no byte behind it.
+//! Reads one request, and no byte after it.
 ghost use Rattle.std.specs.Prelude.{◌≡◌, ◌<◌, ◌≤◌, ◌+◌, ◌^◌, length, MatchResult};
 ghost use Rattle.std.specs.Int.{w16, to_be_bytes, from_be_bytes};
 ghost use Rattle.client_sessions.specs.Faults.{failures_in};
@@ -9,15 +9,15 @@ use crate::streams::SessionReader;
 use crate::transfers::fill;
 use std::io;
 
-/// What comes next of the input.
+/// What was read next.
 pub(crate) enum Received {
-    /// A whole request, whose body has so many bytes.
+    /// A whole request, with the number of bytes of its body.
     Body(usize),
-    /// The end.
+    /// The end of the input.
     End(SessionEnd),
 }
 
-/// Where the input ends behind fewer bytes than a length has.
+/// How the input ended, after fewer bytes than a length has.
 fn end_behind(bytes: &[u8]) -> SessionEnd
     requires { length bytes.now ≤ 1 }
     ensures { Stands result bytes.now }
@@ -29,7 +29,7 @@ fn end_behind(bytes: &[u8]) -> SessionEnd
     }
 }
 
-/// The length that two bytes tell.
+/// The length that the two bytes encode.
 fn length_of(prefix: &[u8; 2]) -> usize
     ensures length { result ≡ from_be_bytes w16 prefix.now }
     ensures bytes { to_be_bytes w16 result ≡ prefix.now }
@@ -38,7 +38,7 @@ fn length_of(prefix: &[u8; 2]) -> usize
     usize::from(u16::from_be_bytes(*prefix))
 }
 
-/// Reads the next request, its body into the buffer. It reads no further, so that a client can wait for the reply.
+/// Reads the next request, and its body into the buffer. Reads no further, so that a client can wait for the reply.
 pub(crate) fn receive<R: SessionReader>(input: &mut R, buffer: &mut [u8]) -> io::Result<Received>
     requires { 65535 ≤ length buffer.old }
     ensures received { MatchResult result

@@ -1,28 +1,28 @@
-//! What a client asks for.
+//! The requests of a client.
 ghost use Rattle.std.specs.Prelude.{◌≡◌};
 ghost use Rattle.ledger_model.specs.Sessions.{request_of};
 ghost use Rattle.client_sessions.specs.Requests.{asked_for};
 
 use ledger_model::{Height, Key, ReplicaId};
 
-/// A request, by the body that spells it.
+/// A request; each variant shows the body that encodes it.
 pub(crate) enum Request<'a> {
     /// `01 tx`: a transaction for the pool.
     Submit(&'a [u8]),
-    /// `02 min_height key`: what the application has of a key, at that height or a later one.
+    /// `02 min_height key`: what the application has under a key, at that height or a later one.
     Query { min_height: u32, key: &'a [u8] },
     /// `03`: the committed height.
     Height,
-    /// `04 height`: the batch of a block.
+    /// `04 height`: the batch of the block at this height.
     Block(Height),
-    /// `05 replica`: another replica from now on.
+    /// `05 replica`: talk to another replica from now on.
     Switch(ReplicaId),
-    /// None of these.
+    /// The body encodes no request.
     Malformed,
 }
 
 impl<'a> Request<'a> {
-    /// What the body asks for.
+    /// The request that the body encodes.
     pub(crate) fn parse(body: &'a [u8]) -> Self
         ensures { asked_for result ≡ request_of body.now }
     {

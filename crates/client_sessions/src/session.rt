@@ -1,11 +1,11 @@
-//! A client's session: which replica it speaks to, and how far that client has seen.
+//! The state of a client's session: which replica it talks to, and the greatest height that the client has seen.
 use crate::Targets;
 use crate::answer::Answer;
 use crate::request::Request;
 use ledger_model::{Height, ReplicaId};
 use std::marker::Model;
 
-/// What is kept of a session between its requests.
+/// The state of a session between two requests.
 #[derive(Debug, Drop)]
 pub struct Session {
     replica: ReplicaId,
@@ -13,9 +13,9 @@ pub struct Session {
 }
 
 impl Model for Session {
-    ghost use Rattle.ledger_model.specs.Sessions.{Session as Kept};
+    ghost use Rattle.ledger_model.specs.Sessions.{Session as SessionView};
 
-    ghost Value = { Kept };
+    ghost Value = { SessionView };
 
     ghost view = { λ s. record { replica = s.replica; greatest = s.greatest } };
 }
@@ -27,7 +27,7 @@ impl Session {
     ghost use Rattle.client_sessions.specs.Answers.{answer_bytes, IsShort};
     ghost use Rattle.client_sessions.specs.Answering.{Answers};
 
-    /// A session that speaks to replica 0 and was answered no height.
+    /// A session that talks to replica 0, whose client has seen no height.
     pub fn new() -> Self
         ensures { result ≡ record { replica = 0; greatest = 0 } }
     {
@@ -37,21 +37,21 @@ impl Session {
         }
     }
 
-    /// The replica that it speaks to.
+    /// The replica that the session talks to.
     pub fn replica(&self) -> ReplicaId
         ensures { result ≡ self.now.replica }
     {
         self.replica
     }
 
-    /// The greatest height that it was answered.
+    /// The greatest height that the client got in a reply.
     pub fn greatest(&self) -> Height
         ensures { result ≡ self.now.greatest }
     {
         self.greatest
     }
 
-    /// Submits a transaction.
+    /// Submits a transaction to the replica.
     fn submit<T: Targets>(&self, targets: &mut T, tx: &[u8]) -> Answer
         requires { self.now.replica < T.replicas targets.old }
         ensures answers { Answers T.asks (T.replicas targets.old) targets.old targets.new self.now (Submit tx.now) (answer_bytes result) self.now }
@@ -65,7 +65,7 @@ impl Session {
         }
     }
 
-    /// Asks for a key, and raises the greatest height to that of the answer.
+    /// Queries the replica for a key, and raises the greatest height to that of the answer.
     fn query<T: Targets>(&mut self, targets: &mut T, min_height: u32, key: &[u8]) -> Answer
         requires { self.old.replica < T.replicas targets.old }
         ensures answers { Answers T.asks (T.replicas targets.old) targets.old targets.new self.old (Query min_height key.now) (answer_bytes result) self.new }
@@ -85,7 +85,7 @@ impl Session {
         Answer::Value(found)
     }
 
-    /// Asks for the committed height, and raises the greatest height to it.
+    /// Gets the committed height of the replica, and raises the greatest height to it.
     fn height<T: Targets>(&mut self, targets: &mut T) -> Answer
         requires { self.old.replica < T.replicas targets.old }
         ensures answers { Answers T.asks (T.replicas targets.old) targets.old targets.new self.old AskHeight (answer_bytes result) self.new }
@@ -102,7 +102,7 @@ impl Session {
         Answer::Height(height)
     }
 
-    /// Asks for the batch of a block.
+    /// Gets the batch of a block from the replica.
     fn block<T: Targets>(&self, targets: &mut T, height: Height) -> Answer
         requires { self.now.replica < T.replicas targets.old }
         ensures answers { Answers T.asks (T.replicas targets.old) targets.old targets.new self.now (Block height) (answer_bytes result) self.now }
@@ -116,7 +116,7 @@ impl Session {
         }
     }
 
-    /// Speaks to another replica from now on, if there is one of that number.
+    /// Talks to another replica from now on, if it exists.
     fn switch<T: Targets>(&mut self, targets: &T, replica: ReplicaId) -> Answer
         requires { self.old.replica < T.replicas targets.now }
         ensures answers { Answers T.asks (T.replicas targets.now) targets.now targets.now self.old (Switch replica) (answer_bytes result) self.new }
@@ -131,14 +131,14 @@ impl Session {
         Answer::Done
     }
 
-    /// Whether a height is below one that the client asked for, or was answered before.
+    /// Whether the height is below the one that the client asked for, or below one that it has seen.
     fn is_behind(&self, height: Height, min_height: u32) -> bool
         ensures { result ≡ (nat_lt height min_height || nat_lt height self.now.greatest) }
     {
         height.number() < min_height || height.number() < self.greatest.number()
     }
 
-    /// The answer to a request, by what the replica of the session answers.
+    /// The answer to a request, by what the session's replica answers.
     pub(crate) fn answer<T: Targets>(&mut self, targets: &mut T, request: Request<'_>) -> Answer
         requires { self.old.replica < T.replicas targets.old }
         ensures answers { Answers T.asks (T.replicas targets.old) targets.old targets.new self.old (asked_for request.entry) (answer_bytes result) self.new }

@@ -6,25 +6,25 @@ use std::alloc::AllocError;
 use std::io;
 use thiserror::Error;
 
-/// Where the input of a session ends.
+/// Where the input of a session ended.
 #[derive(Clone, Copy, Debug, PartialEq, Eq)]
 pub enum SessionEnd {
-    /// Behind a whole request, or before the first.
+    /// After a whole request, or before the first.
     Clean,
     /// Within a request, which was not served.
     Cut,
 }
 
-/// What stops a session before its input ends.
+/// What stopped a session before its input ended.
 #[derive(Debug, Drop, Error)]
 pub enum SessionFault {
     /// A read failed.
     #[error("a read failed: {0}")]
     Read(io::Error),
-    /// A write failed. The request of that reply was served.
+    /// A write failed. The request that the reply belongs to was served.
     #[error("a write failed: {0}")]
     Write(io::Error),
-    /// There was no memory for a request and a reply. Nothing was read.
+    /// There was no memory for a request and a reply. Nothing was read or written.
     #[error("out of memory")]
     NoMemory,
     /// A session has at most 2^64 - 1 requests.

@@ -1,13 +1,13 @@
-//! Whole buffers through streams that give and take a part of one at a time.
+//! Transfers whole buffers through streams that read and write only part of one at a time.
 ghost use Rattle.std.specs.Prelude.{◌≡◌, ◌+◌, length, MatchResult};
 ghost use Rattle.client_sessions.specs.Faults.{failures_in};
 ghost use Rattle.client_sessions.specs.Reading.{Fills, ReadsFewer};
-ghost use Rattle.client_sessions.specs.Writing.{Writes};
+ghost use Rattle.byte_streams.specs.Writing.{Writes};
 
 use crate::streams::{SessionReader, SessionWriter};
 use std::io;
 
-/// Fills the buffer as far as the input goes, and answers how many bytes that were.
+/// Fills the buffer, unless the input ends first, and returns the number of bytes that were read.
 pub(crate) fn fill<R: SessionReader>(input: &mut R, buffer: &mut [u8]) -> io::Result<usize>
     ensures filled { MatchResult result
         (λ count. Fills (R.remaining input.old) (R.remaining input.new) buffer.new count)
@@ -25,7 +25,7 @@ pub(crate) fn fill<R: SessionReader>(input: &mut R, buffer: &mut [u8]) -> io::Re
     Ok(count)
 }
 
-/// Writes all of the bytes. After an error a prefix of them was written.
+/// Writes all of the bytes. After an error, a prefix of them was written.
 fn write_all<W: SessionWriter>(output: &mut W, bytes: &[u8]) -> io::Result<()>
     ensures written { Writes result (W.contents output.old) (W.contents output.new) bytes.now }
     ensures counted { W.failures output.new ≡ W.failures output.old + failures_in result }
@@ -38,7 +38,7 @@ fn write_all<W: SessionWriter>(output: &mut W, bytes: &[u8]) -> io::Result<()>
     Ok(())
 }
 
-/// Writes all of the bytes, and hands them on. After an error a prefix of them was written.
+/// Writes all of the bytes, and flushes the writer. After an error, a prefix of them was written.
 pub(crate) fn send<W: SessionWriter>(output: &mut W, bytes: &[u8]) -> io::Result<()>
     ensures written { Writes result (W.contents output.old) (W.contents output.new) bytes.now }
     ensures counted { W.failures output.new ≡ W.failures output.old + failures_in result }

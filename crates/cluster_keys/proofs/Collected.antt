@@ -1,4 +1,4 @@
--- Values that were made one by one, each by a call of its own.
+-- Values that are made one by one, each by a call of its own.
 use Rattle.std.proofs.Common.{◌≡◌, ℕ, ◌<◌, List, length, map, sym, subst, ap, ◌∙◌, arith}
 use Rattle.std.specs.Prelude.{Result, Ok, IfOk, slice_index_or}
 use Rattle.std.specs.List.{range_with_len}

@@ -1,15 +1,15 @@
--- The key pairs of the replicas, from the cluster's seed.
+-- The key pairs of the replicas, derived from the cluster's seed.
 use Rattle.std.specs.Prelude.{ℕ, List, [], ◌∷◌, ◌++◌, take, map}
 use Rattle.std.specs.List.{range_with_len}
 use Rattle.sha2.specs.Sha256.{sha256}
 use Rattle.ledger_model.specs.declared.config.Config.{Config}
 use Rattle.ledger_model.specs.Rules.{Ring}
 use Rattle.lms_tree.specs.Trees.{Secret}
-use Rattle.key_ring.specs.Signers.{Keys, key_of}
-use Rattle.cluster_keys.specs.declared.cluster.Cluster.{Cluster}
+use Rattle.key_ring.specs.Signers.{SignerView, key_of}
+use Rattle.cluster_keys.specs.declared.cluster_seed.ClusterSeed.{ClusterSeed}
 
 -- the secret of a replica
-abbrev pub secret_of : Cluster → ℕ → Secret
+abbrev pub secret_of : ClusterSeed → ℕ → Secret
 secret_of cluster r = record {
   params = cluster.params;
   identifier = take 16 (sha256 (cluster.seed ++ r ∷ 0 ∷ []));
@@ -17,11 +17,11 @@ secret_of cluster r = record {
 }
 
 -- the key pair of a secret, with no leaf used
-abbrev pub unused : Secret → Keys
+abbrev pub unused : Secret → SignerView
 unused secret = record { secret = secret; used = 0 }
 
 -- the key pairs of the replicas, by number, with no leaf used
-abbrev pub signers_of : Cluster → List Keys
+abbrev pub signers_of : ClusterSeed → List SignerView
 signers_of cluster = map (λ r. unused (secret_of cluster r)) (range_with_len 0 cluster.config.replicas)
 
 -- the public keys of replicas that have these secrets, by number
@@ -29,5 +29,5 @@ abbrev pub ring_with : Config → (ℕ → Secret) → Ring
 ring_with config secrets = map (λ r. key_of (secrets r)) (range_with_len 0 config.replicas)
 
 -- the public keys of the replicas, by number
-abbrev pub ring_of : Cluster → Ring
+abbrev pub ring_of : ClusterSeed → Ring
 ring_of cluster = ring_with cluster.config (secret_of cluster)

@@ -1,9 +1,9 @@
-//! What all replicas of a cluster have: a key pair each, and the ring of their public keys.
+//! The keys of all replicas of a cluster: a key pair for each, and the ring of their public keys.
 ghost use Rattle.std.specs.Prelude.{◌≡◌, map, IfOk, Ok};
 ghost use Rattle.key_ring.specs.Signers.{key_of};
 ghost use Rattle.cluster_keys.specs.Keys.{ring_of, signers_of};
 
-use crate::cluster::Cluster;
+use crate::cluster_seed::ClusterSeed;
 use crate::derivation::key_pair;
 use key_ring::{KeyRing, Signer};
 use ledger_model::ReplicaId;
@@ -14,12 +14,12 @@ use std::thread::Threads;
 /// The key pairs of all replicas of a cluster, and the public keys of all.
 #[derive(Drop)]
 pub struct ClusterKeys {
-    /// By replica, the first that of replica 0. No leaf is used.
+    /// The key pairs, from replica 0 on. No leaf is used.
     pub signers: Vec<Signer>,
     pub ring: KeyRing,
 }
 
-/// The public keys of the signers, in their order.
+/// The public keys of the signers, in the same order.
 fn ring_of_signers(alloc: Global, signers: &[Signer]) -> Result<KeyRing, AllocError>
     ensures { IfOk result (λ ring. ring ≡ map (λ keys. key_of keys.secret) signers.now) }
 {
@@ -30,10 +30,10 @@ fn ring_of_signers(alloc: Global, signers: &[Signer]) -> Result<KeyRing, AllocEr
     Ok(KeyRing::new(keys))
 }
 
-/// The keys of a cluster that has these key pairs.
+/// The keys of a cluster with these key pairs.
 fn with_ring(
     alloc: Global,
-    cluster: &Cluster,
+    cluster: &ClusterSeed,
     signers: Vec<Signer>,
 ) -> Result<ClusterKeys, AllocError>
     requires { signers.items ≡ signers_of cluster.now }
@@ -45,7 +45,7 @@ fn with_ring(
 }
 
 /// The key pairs of all replicas, computed one after the other.
-fn signers(alloc: Global, cluster: &Cluster) -> Result<Vec<Signer>, AllocError>
+fn signers(alloc: Global, cluster: &ClusterSeed) -> Result<Vec<Signer>, AllocError>
     ensures { IfOk result (λ signers. signers.items ≡ signers_of cluster.now) }
 {
     let mut signers = Vec::with_capacity(alloc, usize::from(cluster.config.replicas))?;
@@ -55,7 +55,7 @@ fn signers(alloc: Global, cluster: &Cluster) -> Result<Vec<Signer>, AllocError>
     Ok(signers)
 }
 
-/// The signers, if memory sufficed for each.
+/// The signers, if there was enough memory for each.
 fn collect_signers(
     alloc: Global,
     made: Vec<Result<Signer, AllocError>>,
@@ -73,7 +73,7 @@ fn collect_signers(
 fn signers_in_parallel<R: Threads + Sync>(
     rt: &R,
     alloc: Global,
-    cluster: &Cluster,
+    cluster: &ClusterSeed,
 ) -> Result<Vec<Signer>, AllocError>
     ensures { IfOk result (λ signers. signers.items ≡ signers_of cluster.now) }
 {
@@ -88,22 +88,22 @@ fn signers_in_parallel<R: Threads + Sync>(
 
 /// The keys of all replicas. Computes `N` trees, one after the other.
 ///
-/// The only error is that memory ran out.
-pub fn all_keys(alloc: Global, cluster: &Cluster) -> Result<ClusterKeys, AllocError>
+/// The only error is allocation failure.
+pub fn all_keys(alloc: Global, cluster: &ClusterSeed) -> Result<ClusterKeys, AllocError>
     ensures signers { IfOk result (λ keys. keys.signers.items ≡ signers_of cluster.now) }
     ensures ring { IfOk result (λ keys. keys.ring ≡ ring_of cluster.now) }
 {
     with_ring(alloc, cluster, signers(alloc, cluster)?)
 }
 
-/// The same keys as those of [`all_keys`]. Computes `N` trees in parallel, each in a thread of its own; where the system
+/// The same keys as those of [`all_keys`]. Computes `N` trees in parallel, each in a thread of its own; if the system
 /// makes no thread, one tree after the other. Returns when each thread has ended.
 ///
-/// The only error is that memory ran out.
+/// The only error is allocation failure.
 pub fn all_keys_in_parallel<R: Threads + Sync>(
     rt: &R,
     alloc: Global,
-    cluster: &Cluster,
+    cluster: &ClusterSeed,
 ) -> Result<ClusterKeys, AllocError>
     ensures signers { IfOk result (λ keys. keys.signers.items ≡ signers_of cluster.now) }
     ensures ring { IfOk result (λ keys. keys.ring ≡ ring_of cluster.now) }

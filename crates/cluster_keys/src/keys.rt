@@ -1,19 +1,19 @@
-//! What one replica holds of the cluster's keys: its own key pair, and the public keys of all.
+//! The keys that one replica has: its own key pair, and the public keys of all.
 ghost use Rattle.std.specs.Prelude.{◌≡◌, ◌<◌, ℕ, Some, IfOk, length, slice_get};
 ghost use Rattle.key_ring.specs.Signers.{key_of};
 ghost use Rattle.cluster_keys.specs.Keys.{ring_of, secret_of, unused};
 
-use crate::cluster::Cluster;
+use crate::cluster_seed::ClusterSeed;
 use crate::derivation::key_pair;
 use key_ring::{KeyRing, Signer};
 use ledger_model::ReplicaId;
 use lms_tree::PublicKey;
 use std::alloc::{AllocError, Global};
 
-/// The public key of `other`, for the replica `own` that has the key pair `signer`: its own tree is not computed again.
+/// The public key of `other`, computed by the replica `own`, whose key pair is `signer`. The tree of `own` is not computed again.
 fn public_key(
     alloc: Global,
-    cluster: &Cluster,
+    cluster: &ClusterSeed,
     own: ReplicaId,
     signer: &Signer,
     other: ReplicaId,
@@ -28,10 +28,10 @@ fn public_key(
     Ok(pair.public())
 }
 
-/// The public keys of all replicas by number, for the replica `own` that has the key pair `signer`.
+/// The public keys of all replicas by number, computed by the replica `own`, whose key pair is `signer`.
 fn ring(
     alloc: Global,
-    cluster: &Cluster,
+    cluster: &ClusterSeed,
     own: ReplicaId,
     signer: &Signer,
 ) -> Result<KeyRing, AllocError>
@@ -52,7 +52,7 @@ fn ring(
 /// computed once.
 pub fn signer_and_ring(
     alloc: Global,
-    cluster: &Cluster,
+    cluster: &ClusterSeed,
     own: ReplicaId,
 ) -> Result<(Signer, KeyRing), AllocError>
     ensures signer { IfOk result (λ keys. keys.0 ≡ unused (secret_of cluster.now own)) }

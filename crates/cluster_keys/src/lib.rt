@@ -2,11 +2,11 @@
 #![tactic(auto)]
 
 mod all;
-mod cluster;
+mod cluster_seed;
 mod derivation;
 mod keys;
 
 pub use all::{ClusterKeys, all_keys, all_keys_in_parallel};
-pub use cluster::Cluster;
+pub use cluster_seed::ClusterSeed;
 pub use derivation::key_pair;
 pub use keys::signer_and_ring;

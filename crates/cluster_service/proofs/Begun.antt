@@ -1,4 +1,4 @@
--- A replica to which a transaction was submitted, and nothing else happened.
+-- A replica to which a transaction was submitted, and to which nothing else happened.
 use Rattle.std.proofs.Common.{◌≡◌, ℕ, List, [], ◌∷◌, ◌++◌, refl, ap, ◌∙◌}
 use Rattle.ledger_model.specs.declared.config.Config.{Config}
 use Rattle.ledger_model.specs.declared.event.Event.TheVariants as event
@@ -7,30 +7,32 @@ use Rattle.ledger_model.specs.declared.reply.Reply.TheVariants as reply
 use Rattle.ledger_model.specs.Applications.{run}
 use Rattle.ledger_model.specs.Commits.{commits_of}
 use Rattle.ledger_model.specs.Lawful.{Lawful, clock_at}
-use Rattle.locked_replica.specs.Replicas.{Replica, RunsAlone, keys_in}
+use Rattle.locked_replica.specs.States.{StateView, RunsAlone, keys_in}
 use Rattle.replica_core.specs.Steps.{UsesLeaves}
-use Rattle.cluster_keys.specs.declared.cluster.Cluster.{Cluster}
+use Rattle.cluster_keys.specs.declared.cluster_seed.ClusterSeed.{ClusterSeed}
 use Rattle.cluster_service.specs.Replicas.{begun, submitted}
 
 -- the new replica is the old one with this entry more
-pub record Goes (old new : Replica) (tx : List ℕ) (answer : Reply) : Type 0 where
+pub record Goes (old new : StateView) (tx : List ℕ) (answer : Reply) : Type 0 where
   pub added : new.entries ≡ old.entries ++ record { event = event.Submit tx; reply = answer } ∷ []
   pub lawful : Lawful old.config old.ring old.id old.entries (event.Submit tx) answer
   pub uses : UsesLeaves (keys_in old) (clock_at old.entries) answer (keys_in new)
   pub rest : new ≡ record old { used = new.used; entries = new.entries; machine = new.machine }
   pub alone : RunsAlone new
 
-no_blocks : (cluster : Cluster) (tx : List ℕ) (r id : ℕ) → commits_of cluster.config id (submitted cluster tx r) ≡ []
+no_blocks : (cluster : ClusterSeed) (tx : List ℕ) (r id : ℕ) → commits_of cluster.config id (submitted cluster tx r) ≡ []
 unfolding commits_of
 no_blocks cluster tx r id = refl
 
-pub first_goes : (cluster : Cluster) (tx : List ℕ) (id : ℕ) (new : Replica) (answer : Reply) → Goes (begun cluster [] id) new tx answer → new ≡ begun cluster (submitted cluster tx id) id
+pub first_goes : (cluster : ClusterSeed) (tx : List ℕ) (id : ℕ) (new : StateView) (answer : Reply)
+    → Goes (begun cluster [] id) new tx answer → new ≡ begun cluster (submitted cluster tx id) id
 unfolding RunsAlone
 first_goes cluster tx id new (reply.Submitted r) goes =
-    let entries : new.entries ≡ submitted cluster tx id = goes.added ∙ ap (λ a. record { event = event.Submit tx; reply = reply.Submitted a } ∷ []) goes.lawful in
+    let entries : new.entries ≡ submitted cluster tx id =
+    goes.added ∙ ap (λ a. record { event = event.Submit tx; reply = reply.Submitted a } ∷ []) goes.lawful in
     let used : new.used ≡ 0 = ap (λ k. k.used) goes.uses in
-    let config : new.config ≡ cluster.config = ap (λ (x : Replica). x.config) goes.rest in
-    let own : new.id ≡ id = ap (λ (x : Replica). x.id) goes.rest in
+    let config : new.config ≡ cluster.config = ap (λ (x : StateView). x.config) goes.rest in
+    let own : new.id ≡ id = ap (λ (x : StateView). x.id) goes.rest in
     let machine : new.machine ≡ run cluster.config.kind [] =
     goes.alone
     ∙ ap (λ (x : Config). run x.kind (commits_of x new.id new.entries)) config

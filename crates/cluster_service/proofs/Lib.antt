@@ -1,1 +1,2 @@
 mod Begun
+pub mod ReportingLemmas

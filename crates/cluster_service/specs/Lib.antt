@@ -1,1 +1,3 @@
 pub mod Replicas
+pub mod Targets
+pub mod Reporting

@@ -1,4 +1,4 @@
--- The replicas of a running cluster as they begin.
+-- The replicas of a running cluster at its start.
 use Rattle.std.specs.Prelude.{ℕ, List, [], ◌∷◌, map}
 use Rattle.std.specs.List.{range_with_len}
 use Rattle.ledger_model.specs.declared.event.Event.TheVariants as event
@@ -6,26 +6,19 @@ use Rattle.ledger_model.specs.declared.history.Entry.{Entry}
 use Rattle.ledger_model.specs.declared.reply.Reply.TheVariants as reply
 use Rattle.ledger_model.specs.Applications.{run}
 use Rattle.ledger_model.specs.Commits.{submit_reply}
-use Rattle.cluster_keys.specs.declared.cluster.Cluster.{Cluster}
-use Rattle.cluster_keys.specs.Keys.{ring_of, secret_of}
-use Rattle.locked_replica.specs.Replicas.{Replica}
+use Rattle.cluster_keys.specs.declared.cluster_seed.ClusterSeed.{ClusterSeed}
+use Rattle.cluster_keys.specs.Keys.{ring_of, secret_of, unused}
+use Rattle.locked_replica.specs.States.{StateView, new_state}
 
 -- the history in which a client submits the transaction
-abbrev pub submitted : Cluster → List ℕ → ℕ → List Entry
+abbrev pub submitted : ClusterSeed → List ℕ → ℕ → List Entry
 submitted cluster tx r = record { event = event.Submit tx; reply = reply.Submitted (submit_reply cluster.config r [] tx) } ∷ []
 
--- a replica of the cluster to which so much happened, none of it a block, and which signed nothing
-abbrev pub begun : Cluster → List Entry → ℕ → Replica
-begun cluster entries r = record {
-  config = cluster.config;
-  id = r;
-  ring = ring_of cluster;
-  secret = secret_of cluster r;
-  used = 0;
-  entries = entries;
-  machine = run cluster.config.kind [];
-}
+-- a replica of the cluster with this history, which committed no block and signed nothing
+abbrev pub begun : ClusterSeed → List Entry → ℕ → StateView
+begun cluster entries r =
+    record (new_state cluster.config r (ring_of cluster) (unused (secret_of cluster r))) { entries = entries }
 
--- the replicas of the cluster, by number, to each of which the transaction was submitted, and nothing else happened
-abbrev pub all_begun : Cluster → List ℕ → List Replica
+-- the replicas of the cluster, by number; the transaction was submitted to each, and nothing else happened
+abbrev pub all_begun : ClusterSeed → List ℕ → List StateView
 all_begun cluster tx = map (λ r. begun cluster (submitted cluster tx r) r) (range_with_len 0 cluster.config.replicas)

@@ -1,15 +1,17 @@
-//! One question of a client to a replica, answered as a session tells it.
+//! One question of a client to a replica, with its answer for the session.
 ghost use Rattle.std.specs.Prelude.{◌≡◌, ◌⊎◌, ◌≤◌, ◌<◌, ◌+◌, ◌↔◌, ◌∷◌, [], true, None, Ok, length, IfOk, IfSome, IfNone, OnOk, OnErr, IsErrOf};
 ghost use Rattle.ledger_model.specs.Commits.{commits_of, submit_reply};
 ghost use Rattle.ledger_model.specs.Replies.{query_reply};
 ghost use Rattle.ledger_model.specs.declared.event.Event.TheVariants as events;
 ghost use Rattle.replica_turns.specs.Clients.{is_tx_len, submit_events};
 ghost use Rattle.replica_turns.specs.Turns.{Takes};
-ghost use Rattle.client_sessions.specs.Asking.{max_value_len};
+ghost use Rattle.client_sessions.specs.Asking.{max_value_len, told};
+ghost use Rattle.cluster_service.specs.Targets.{AnswersBlock, AnswersQuery, AnswersSubmit};
+ghost use Rattle.ledger_model.specs.Limits.{max_history_len};
 
 use abci::Application;
 use client_sessions::TargetFault;
-use ledger_model::{Height, Key, QueryAnswer, SubmitRefusal};
+use ledger_model::{Batch, Height, Key, QueryAnswer, SubmitRefusal};
 use locked_replica::{ApplyFault, State};
 use replica_turns::ClientEntries;
 use std::alloc::{AllocError, Global};
@@ -17,7 +19,7 @@ use std::alloc::{AllocError, Global};
 /// The most bytes of a value in a session's reply.
 const MAX_VALUE_LEN: usize = 65_529;
 
-/// Submits a transaction. The inner refusal is the pool's.
+/// Submits a transaction. The inner `Err` is the pool's refusal.
 pub(crate) fn submit<A: Application>(
     alloc: Global,
     state: &mut State<A>,
@@ -28,8 +30,10 @@ pub(crate) fn submit<A: Application>(
     ensures event { OnOk result (Takes state.old.entries (submit_events tx.now) state.new.entries) }
     ensures used { length state.new.entries + entries.new ≡ length state.old.entries + entries.old }
     ensures full { IsErrOf result TargetFault.HistoryFull
-        ↔ ((is_tx_len tx.now ≡ true) × ((entries.old ≡ 0) ⊎ (65536 ≤ length state.old.entries))) }
+        ↔ ((is_tx_len tx.now ≡ true) × ((entries.old ≡ 0) ⊎ (max_history_len ≤ length state.old.entries))) }
     ensures same { OnErr result (state.new ≡ state.old) }
+    // As a session tells it.
+    ensures told { AnswersSubmit tx.now (told result) }
 {
     match replica_turns::submit(alloc, state, entries, tx) {
         Ok(answer) => Ok(answer),
@@ -38,7 +42,7 @@ pub(crate) fn submit<A: Application>(
     }
 }
 
-/// The key of these bytes, none where they are too many for one.
+/// The key of these bytes; `None` if there are too many for a key.
 fn key_of(alloc: Global, bytes: &[u8]) -> Result<Option<Key>, AllocError>
     ensures some { IfOk result (λ key. IfSome key (λ k. k ≡ bytes.now)) }
     ensures none { IfOk result (λ key. IfNone key (64 < length bytes.now)) }
@@ -46,10 +50,11 @@ fn key_of(alloc: Global, bytes: &[u8]) -> Result<Option<Key>, AllocError>
     Ok(Key::new(bytes.to_vec(alloc)?).ok())
 }
 
-/// Asks the application for a key, as of its last block. Keys of more than 64 bytes have no value, and are no event.
+/// Queries the application for a key, as of its last block. A key of more than 64 bytes has no value, and asking for it
+/// adds no event.
 ///
-/// After `HistoryFull` nothing has changed. After `NoMemory` the query may be in the history although its answer could not be
-/// handed out.
+/// After `HistoryFull` nothing has changed. After `NoMemory` the query may be in the history, although its answer could
+/// not be returned.
 pub(crate) fn query<A: Application>(
     alloc: Global,
     state: &mut State<A>,
@@ -60,17 +65,21 @@ pub(crate) fn query<A: Application>(
         (commits_of state.old.config state.old.id state.old.entries) key.now 0) }
     ensures event { length key.now ≤ 64 → OnOk result (Takes state.old.entries (events.Query key.now 0 ∷ []) state.new.entries) }
     ensures fault { OnErr result ((state.new ≡ state.old) ⊎ Takes state.old.entries (events.Query key.now 0 ∷ []) state.new.entries) }
-    ensures full { IsErrOf result TargetFault.HistoryFull → (length key.now ≤ 64) × ((entries.old ≡ 0) ⊎ (65536 ≤ length state.old.entries)) }
+    ensures full { IsErrOf result TargetFault.HistoryFull → (length key.now ≤ 64) × ((entries.old ≡ 0) ⊎ (max_history_len ≤ length state.old.entries)) }
     ensures same { IsErrOf result TargetFault.HistoryFull → state.new ≡ state.old }
     ensures long { 64 < length key.now → IfOk result (λ answer. answer
         ≡ record { height = length (commits_of state.old.config state.old.id state.old.entries); value = None }) }
     ensures long_same { 64 < length key.now → state.new ≡ state.old }
     ensures short { IfOk result (λ answer. IfSome answer.value (λ v. length v ≤ max_value_len)) }
     ensures used { length state.new.entries + entries.new ≡ length state.old.entries + entries.old }
+    // As a session tells it.
+    ensures told { AnswersQuery key.now (told result) }
 {
     let Ok(key) = key_of(alloc, key) else {
         return Err(TargetFault::NoMemory);
     };
+    // The history is a replay: its length is read for the proof.
+    let _ = state.len();
     let Some(key) = key else {
         return Ok(QueryAnswer {
             height: Height::new(state.height()),
@@ -84,7 +93,25 @@ pub(crate) fn query<A: Application>(
     }
 }
 
-/// Whether the value fits a session's reply. No application of this repository has a longer one.
+/// The batch that the replica committed at a height, copied. The only fault is want of memory.
+pub(crate) fn block<A: Application>(
+    state: &State<A>,
+    height: Height,
+) -> Result<Option<Batch>, TargetFault>
+    ensures { AnswersBlock height (told result) }
+{
+    // The history is a replay: its length is read for the proof.
+    let _ = state.len();
+    match state.block(height) {
+        Some(batch) => match batch.copy() {
+            Ok(batch) => Ok(Some(batch)),
+            Err(_) => Err(TargetFault::NoMemory),
+        },
+        None => Ok(None),
+    }
+}
+
+/// Whether the value fits into a session's reply. No application of this repository has a longer value.
 fn is_short(answer: &QueryAnswer) -> bool
     ensures { result ≡ true → IfSome answer.now.value (λ v. length v ≤ max_value_len) }
 {

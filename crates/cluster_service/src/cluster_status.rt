@@ -1,6 +1,7 @@
-//! How the replicas of a running cluster stand, and the notices that the operator hasn't got yet.
+//! The status of a running cluster's replicas, and the notices that the operator hasn't received yet.
 use crate::notice::Notice;
 use ledger_model::ReplicaId;
+use program_streams::ProgramFault;
 use replica_turns::ReplicaStatus;
 use std::alloc::{AllocError, Global};
 use std::mem;
@@ -19,23 +20,25 @@ pub(crate) fn unknown(alloc: Global, replicas: u8) -> Result<Vec<ReplicaStatus>,
     Vec::from_elem(alloc, UNKNOWN, usize::from(replicas))
 }
 
-/// How the replicas of a running cluster stand, and the notices that the operator hasn't got yet.
+/// The status of a running cluster's replicas, and the notices that the operator hasn't received yet.
 #[derive(Drop)]
 pub(crate) struct ClusterStatus {
-    /// By number.
+    /// The status of each replica, by number.
     replicas: Vec<ReplicaStatus>,
-    /// The notices that the reporter hasn't taken, the oldest first: a few for each block and each replica.
+    /// The notices that the reporter hasn't taken, oldest first: a few for each block and each replica.
     notices: Vec<Notice>,
-    /// The greatest height whose block has had its notice.
+    /// The greatest height for whose block a notice was added.
     height: u32,
     /// Whether blocks, mute replicas and nearly full histories get notices. If not, each round of replica 0 is news.
     has_log: bool,
     /// Whether no more notices will come.
     is_over: bool,
+    /// The fault that ended the cluster, until the reporter takes it.
+    fault: Option<ProgramFault>,
 }
 
 impl ClusterStatus {
-    /// A cluster of `replicas` replicas that hasn't begun.
+    /// The status of a cluster of `replicas` replicas that hasn't started.
     pub(crate) fn new(alloc: Global, replicas: u8, has_log: bool) -> Result<Self, AllocError> {
         Ok(ClusterStatus {
             replicas: unknown(alloc, replicas)?,
@@ -43,17 +46,24 @@ impl ClusterStatus {
             height: 0,
             has_log,
             is_over: false,
+            fault: None,
         })
     }
 
-    /// Adds a notice, if there is memory for it.
+    /// Adds a notice, unless memory runs out.
     pub(crate) fn add(&mut self, notice: Notice) {
         let _ = self.notices.push(notice);
     }
 
-    /// No notice will be added any more.
-    pub(crate) fn close(&mut self) {
+    /// Announces that no further notice will be added. The fault is what ended the cluster, if one did.
+    pub(crate) fn close(&mut self, fault: Option<ProgramFault>) {
         self.is_over = true;
+        self.fault = fault;
+    }
+
+    /// Moves out the fault that ended the cluster.
+    pub(crate) fn take_fault(&mut self) -> Option<ProgramFault> {
+        self.fault.take()
     }
 
     /// Adds a notice for each block that this replica is the first to run.
@@ -68,7 +78,7 @@ impl ClusterStatus {
         self.height = self.height.max(status.height);
     }
 
-    /// Adds the notices of what changed for a replica since `before`.
+    /// Adds notices for what changed at a replica since `before`.
     fn add_changes(&mut self, replica: ReplicaId, before: &ReplicaStatus, after: &ReplicaStatus) {
         self.add_blocks(replica, after);
         if after.is_mute && !before.is_mute {
@@ -86,7 +96,7 @@ impl ClusterStatus {
         }
     }
 
-    /// Stores how a replica stands. Returns whether there is news for the operator.
+    /// Stores the status of a replica. Returns whether there is news for the operator.
     pub(crate) fn note(&mut self, replica: ReplicaId, status: ReplicaStatus) -> bool {
         let Some(known) = self.replicas.get_mut(usize::from(replica.number())) else {
             return false;

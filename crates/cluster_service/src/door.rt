@@ -1,20 +1,20 @@
-//! The door of a running cluster: the streams of the sessions that are open, and whether more are taken.
+//! The door of a running cluster: the streams of the open sessions, and whether new sessions are admitted.
 use std::alloc::{AllocError, Global};
 use std::net::{Shutdown, TcpStream};
 use std::sync::atomic::{AtomicBool, Ordering};
 use std::sync::{Arc, Mutex, Wait};
 
-/// What the sessions of a cluster share with whoever ends them.
+/// What the sessions of a cluster share with the thread that ends them.
 #[derive(Drop)]
 pub(crate) struct Door {
     /// The stream of each open session, by its number.
     streams: Mutex<Vec<Option<Arc<TcpStream>>>>,
-    /// Whether all sessions have ended, and none is taken any more.
+    /// Whether all sessions have ended, and no more are admitted.
     is_closed: AtomicBool,
 }
 
 impl Door {
-    /// A door for `sessions` sessions, of which none is open.
+    /// A door for `sessions` sessions, none of which is open.
     pub(crate) fn new(alloc: Global, sessions: usize) -> Result<Self, AllocError> {
         let mut streams = Vec::with_capacity(alloc, sessions)?;
         for _ in 0..sessions {
@@ -26,7 +26,7 @@ impl Door {
         })
     }
 
-    /// Sets the stream of a session: none where it isn't open.
+    /// Sets the stream of a session; `None` if the session isn't open.
     pub(crate) fn set<R: Wait>(&self, rt: &R, session: usize, stream: Option<Arc<TcpStream>>) {
         let mut streams = self.streams.lock(rt);
         if let Some(place) = streams.get_mut(session) {
@@ -34,7 +34,7 @@ impl Door {
         }
     }
 
-    /// Ends all open sessions: their clients can neither send nor receive any more.
+    /// Ends all open sessions: their clients can no longer send or receive.
     pub(crate) fn end_sessions<R: Wait>(&self, rt: &R) {
         let streams = self.streams.lock(rt);
         for stream in streams.iter() {
@@ -44,7 +44,7 @@ impl Door {
         }
     }
 
-    /// No session is open, and none is taken any more.
+    /// Closes the door: no session is open, and no more are admitted.
     pub(crate) fn close(&self) {
         self.is_closed.store(true, Ordering::SeqCst);
     }

@@ -5,7 +5,7 @@ use crate::door::Door;
 use crate::live_targets::LiveTargets;
 use abci::Application;
 use client_sessions::{Session, serve};
-use cluster_workers::{Cluster, Stop};
+use cluster_workers::{RunningCluster, Stop};
 use commit_board::ReaderSeat;
 use counted_streams::CountedStream;
 use replica_turns::ClientEntries;
@@ -16,10 +16,10 @@ use std::thread;
 use std::thread::Threads;
 use std::time::{Clock, Duration};
 
-/// How many milliseconds pass before a connection or a thread is tried again that could not be had.
+/// How many milliseconds pass before a failed attempt to get a connection or a thread is repeated.
 const RETRY_MS: u64 = 10;
 
-/// Serves a session to its end, however it comes.
+/// Serves a session until it ends, for whatever reason.
 fn serve_session<A: Application, R: Wait>(
     alloc: Global,
     stream: &TcpStream,
@@ -32,7 +32,7 @@ fn serve_session<A: Application, R: Wait>(
     let _ = serve(alloc, &mut input, &mut output, &mut session, &mut targets);
 }
 
-/// A connection that is to be served in a thread of its own, by its number.
+/// A connection, with its number, that is to be served in a thread of its own.
 struct Connection<'a, 'b, A: Application, R: Wait> {
     rt: &'b R,
     alloc: Global,
@@ -43,7 +43,7 @@ struct Connection<'a, 'b, A: Application, R: Wait> {
     door: &'b Door,
 }
 
-// It is dropped by a function of its own, so that whoever owns one drops it by a single call.
+// An own `Drop` keeps proofs short: an owner drops it by one call. See docs/WORKING.md.
 impl<A: Application, R: Wait> Drop for Connection<'_, '_, A, R> {
     fn drop(self) {
         let Connection {
@@ -59,7 +59,8 @@ impl<A: Application, R: Wait> Drop for Connection<'_, '_, A, R> {
 }
 
 impl<A: Application, R: Wait> Connection<'_, '_, A, R> {
-    /// Serves it to its end, unless the cluster is asked to stop. While it is open its stream stands at the door.
+    /// Serves the connection until it ends, unless the cluster is asked to stop. While the connection is open, the door
+    /// has its stream.
     fn serve(self) {
         let Connection {
             rt,
@@ -84,11 +85,11 @@ impl<A: Application, R: Wait> Connection<'_, '_, A, R> {
     }
 }
 
-/// The targets of as many sessions as there are seats, whose clients share these entries of each replica's history.
+/// Targets for one session per seat. The clients of all sessions share these entries of each replica's history.
 pub(crate) fn targets_of<'a, A: Application, R: Wait>(
     rt: &'a R,
     alloc: Global,
-    cluster: &'a Cluster<A>,
+    cluster: &'a RunningCluster<A>,
     entries: &'a [Mutex<ClientEntries>],
     seats: Vec<ReaderSeat>,
 ) -> Result<Vec<LiveTargets<'a, A, R>>, AllocError>
@@ -102,12 +103,12 @@ pub(crate) fn targets_of<'a, A: Application, R: Wait>(
     Ok(targets)
 }
 
-/// Waits a moment.
+/// Waits for `RETRY_MS`.
 fn pause<R: Clock>(rt: &R) {
     let _ = thread::sleep(rt, Duration::from_millis(RETRY_MS));
 }
 
-/// The next connection, or none where the cluster is asked to stop. One that can't be taken is tried again.
+/// The next connection; `None` if the cluster is asked to stop. Tries again if a connection can't be accepted.
 fn next_stream<R: Clock + Wait>(rt: &R, listener: &TcpListener, stop: &Stop) -> Option<TcpStream> {
     for _ in rt.forever() {
         let taken = listener.accept();
@@ -122,9 +123,9 @@ fn next_stream<R: Clock + Wait>(rt: &R, listener: &TcpListener, stop: &Stop) -> 
     None
 }
 
-/// Takes as many connections as there are targets, and serves each in a thread of its own. Then, or where the cluster is asked to
-/// stop, the listener is closed, so that the next client is refused. It returns when all sessions have ended, and closes the
-/// door.
+/// Accepts as many connections as there are targets, and serves each in a thread of its own. Afterwards, or when the
+/// cluster is asked to stop, it closes the listener, so that the next client is refused. Returns when all sessions have
+/// ended, and then closes the door.
 ///
 /// A connection or a thread that can't be had is tried again, and uses up no target.
 pub(crate) fn listen<'a, A, R>(

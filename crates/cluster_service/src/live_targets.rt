@@ -1,23 +1,23 @@
-//! The replicas of a running cluster, as a session speaks to them.
+//! The replicas of a running cluster, as targets of a session.
 ghost use Rattle.std.specs.Prelude.{◌≡◌, ◌<◌, length};
 
-use crate::asking::{query, submit};
+use crate::asking::{block, query, submit};
 use abci::Application;
 use client_sessions::{TargetFault, Targets};
-use cluster_workers::Cluster;
+use cluster_workers::RunningCluster;
 use commit_board::ReaderSeat;
 use ledger_model::{Batch, Height, QueryAnswer, ReplicaId, SubmitRefusal};
 use replica_turns::ClientEntries;
 use std::alloc::Global;
 use std::sync::{Mutex, Wait};
 
-/// The replicas of a running cluster for one session, which reads heights by a seat of its own, and shares with all other sessions
-/// what clients may use of each history.
+/// The replicas of a running cluster, for one session. The session reads heights through a seat of its own. It shares
+/// the entries that clients may use of each history with all other sessions.
 #[derive(Drop)]
 pub struct LiveTargets<'a, A: Application, R: Wait> {
     rt: &'a R,
     alloc: Global,
-    cluster: &'a Cluster<A>,
+    cluster: &'a RunningCluster<A>,
     entries: &'a [Mutex<ClientEntries>],
     seat: ReaderSeat,
     ghost tied: { seat.board ≡ cluster.now.board },
@@ -26,12 +26,12 @@ pub struct LiveTargets<'a, A: Application, R: Wait> {
 }
 
 impl<'a, A: Application, R: Wait> LiveTargets<'a, A, R> {
-    /// The replicas of the cluster, whose heights are read by this seat of its board. Of each replica's history clients may use
-    /// what its entry says.
+    /// The replicas of the cluster, whose heights are read through this seat of its board. Clients may use as many
+    /// entries of a replica's history as its item in the list allows.
     pub fn new(
         rt: &'a R,
         alloc: Global,
-        cluster: &'a Cluster<A>,
+        cluster: &'a RunningCluster<A>,
         entries: &'a [Mutex<ClientEntries>],
         seat: ReaderSeat,
     ) -> Self
@@ -50,9 +50,11 @@ impl<'a, A: Application, R: Wait> LiveTargets<'a, A, R> {
 }
 
 impl<A: Application, R: Wait> Targets for LiveTargets<'_, A, R> {
+    ghost use Rattle.cluster_service.specs.Targets.{IsExchange};
+
     ghost replicas = { λ t. t.cluster.now.replicas };
 
-    ghost asks = { λ _ _ _. Unit {0} };
+    ghost asks = { λ old exchange new. IsExchange old.seat.seen exchange new.seat.seen };
 
     fn count(&self) -> usize {
         self.cluster.len()
@@ -80,12 +82,6 @@ impl<A: Application, R: Wait> Targets for LiveTargets<'_, A, R> {
 
     fn block(&mut self, replica: ReplicaId, height: Height) -> Result<Option<Batch>, TargetFault> {
         let state = self.cluster.replica(replica).lock(self.rt);
-        match state.block(height) {
-            Some(batch) => match batch.copy() {
-                Ok(batch) => Ok(Some(batch)),
-                Err(_) => Err(TargetFault::NoMemory),
-            },
-            None => Ok(None),
-        }
+        block(&*state, height)
     }
 }

@@ -1,41 +1,41 @@
-//! The notices of a running cluster to its operator, a line each.
+//! The notices of a running cluster to its operator, one line each.
 use ledger_model::ReplicaId;
 use std::fmt;
 
 /// A notice to the operator.
 #[derive(Clone, Copy, Debug, PartialEq, Eq)]
 pub(crate) enum Notice {
-    /// The seed is the default one.
+    /// The cluster uses the default seed.
     DefaultSeed,
     /// The keys of this many replicas are being made.
     Keys(u8),
-    /// A block was run, first by this replica.
+    /// A block was run, and this replica was the first to run it.
     Block {
         height: u32,
         replica: ReplicaId,
         round: u32,
     },
-    /// A replica is mute from now on.
+    /// A replica has become mute.
     Mute {
         replica: ReplicaId,
         round: u32,
         signatures: u32,
     },
-    /// Nine tenths of a replica's history are full.
+    /// A replica's history is nine tenths full.
     NearlyFull {
         replica: ReplicaId,
         entries: usize,
     },
-    /// The rounds are over.
+    /// The last round has ended.
     RoundsOver,
-    /// They are, and clients are still served.
+    /// The last round has ended, and clients are still served.
     ServesOn,
     /// The cluster was asked to stop.
     Stopped,
 }
 
 impl Notice {
-    /// Whether a terminal's line of progress shows it, and a log doesn't.
+    /// Whether the notice is shown in a terminal's line of progress, and left out of a log.
     pub(crate) fn is_progress(&self) -> bool {
         matches!(self, Notice::Keys(_))
     }

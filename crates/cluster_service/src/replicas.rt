@@ -1,17 +1,18 @@
-//! The replicas of a cluster as they begin, and what they committed at its end.
-ghost use Rattle.std.specs.Prelude.{◌≡◌, ◌<◌, [], vec_len, IfOk, OnOk};
+//! The replicas of a cluster at its start, and the heights that they committed at its end.
+ghost use Rattle.std.specs.Prelude.{◌≡◌, ◌<◌, [], vec_len, IfOk, IfErr, OnOk};
 ghost use Rattle.cluster_keys.specs.Keys.{ring_of, secret_of, unused};
+ghost use Rattle.program_streams.specs.Faults.{IsMemoryOrRefusal};
 ghost use Rattle.cluster_service.specs.Replicas.{all_begun, begun, submitted};
 
 use abci::Application;
 use app_kinds::AnyKind;
 use bytes::Bytes;
-use cluster_keys::{Cluster as ClusterSeed, ClusterKeys, all_keys_in_parallel};
-use cluster_workers::Cluster;
+use cluster_keys::{ClusterKeys, ClusterSeed, all_keys_in_parallel};
+use cluster_workers::RunningCluster;
 use key_ring::{KeyRing, Signer};
 use ledger_model::{Event, ReplicaId, Tx};
 use locked_replica::{ApplyFault, State};
-use program_streams::ProgramFault;
+use program_streams::{ProgramFault, Resource};
 use replica_turns::new_replica;
 use std::alloc::Global;
 use std::hash::RandomState;
@@ -19,19 +20,24 @@ use std::random::RandomSource;
 use std::sync::Wait;
 use std::thread::Threads;
 
-/// Why a replica took no event.
-fn fault_of(fault: ApplyFault) -> ProgramFault {
-    match fault {
-        ApplyFault::HistoryFull => ProgramFault::HistoryFull,
-        ApplyFault::NoMemory => ProgramFault::NoMemory,
+/// The random key of a replica's hashes.
+fn random<R: RandomSource>(source: &R) -> Result<RandomState, ProgramFault>
+    ensures { IfErr result IsMemoryOrRefusal }
+{
+    match RandomState::new(source) {
+        Ok(key) => Ok(key),
+        Err(error) => Err(ProgramFault::Refused(Resource::Random, error)),
     }
 }
 
-fn randoms<R: RandomSource>(source: &R) -> Result<[RandomState; 2], ProgramFault> {
-    Ok([RandomState::new(source)?, RandomState::new(source)?])
+/// The random keys of a replica's hashes.
+fn randoms<R: RandomSource>(source: &R) -> Result<[RandomState; 2], ProgramFault>
+    ensures { IfErr result IsMemoryOrRefusal }
+{
+    Ok([random(source)?, random(source)?])
 }
 
-/// Submits the transaction to a replica to which nothing happened.
+/// Submits the transaction to a replica to which nothing has happened.
 fn submit(
     alloc: Global,
     cluster: &ClusterSeed,
@@ -39,16 +45,19 @@ fn submit(
     tx: &Tx,
 ) -> Result<(), ProgramFault>
     requires fresh { state.old ≡ begun cluster.now [] state.old.id }
-    ensures { OnOk result (state.new ≡ begun cluster.now (submitted cluster.now tx.now state.old.id) state.old.id) }
+    ensures begun { OnOk result (state.new ≡ begun cluster.now (submitted cluster.now tx.now state.old.id) state.old.id) }
+    ensures fault { IfErr result IsMemoryOrRefusal }
 {
     let tx = Bytes::copy_from_slice(alloc, tx.as_bytes())?;
     match state.apply(Event::Submit(tx)) {
         Ok(_) => Ok(()),
-        Err(fault) => Err(fault_of(fault)),
+        Err(ApplyFault::NoMemory) => Err(ProgramFault::NoMemory),
+        // The history is empty.
+        Err(ApplyFault::HistoryFull) => unreachable!(),
     }
 }
 
-/// A replica with nothing in its pool.
+/// A replica with an empty pool.
 fn empty_state<R: RandomSource>(
     source: &R,
     alloc: Global,
@@ -60,7 +69,8 @@ fn empty_state<R: RandomSource>(
     requires below { id < cluster.now.config.replicas }
     requires signer { signer ≡ unused (secret_of cluster.now id) }
     requires ring { ring.now ≡ ring_of cluster.now }
-    ensures { IfOk result (λ state. state ≡ begun cluster.now [] id) }
+    ensures begun { IfOk result (λ state. state ≡ begun cluster.now [] id) }
+    ensures fault { IfErr result IsMemoryOrRefusal }
 {
     let randoms = randoms(source)?;
     let app = AnyKind::new(alloc, cluster.config.kind);
@@ -68,7 +78,7 @@ fn empty_state<R: RandomSource>(
     Ok(new_replica(alloc, cluster, id, signer, ring, app, randoms)?)
 }
 
-/// A replica with the transaction in its pool.
+/// A replica whose pool has the transaction.
 fn new_state<R: RandomSource>(
     source: &R,
     alloc: Global,
@@ -81,15 +91,16 @@ fn new_state<R: RandomSource>(
     requires below { id < cluster.now.config.replicas }
     requires signer { signer ≡ unused (secret_of cluster.now id) }
     requires ring { ring.now ≡ ring_of cluster.now }
-    ensures { IfOk result (λ state. state ≡ begun cluster.now (submitted cluster.now tx.now id) id) }
+    ensures begun { IfOk result (λ state. state ≡ begun cluster.now (submitted cluster.now tx.now id) id) }
+    ensures fault { IfErr result IsMemoryOrRefusal }
 {
     let mut state = empty_state(source, alloc, cluster, id, signer, ring)?;
     submit(alloc, cluster, &mut state, tx)?;
     Ok(state)
 }
 
-/// The replicas of a cluster, by number, to each of which the transaction was submitted. Computes each replica's tree once, in
-/// parallel. The random bytes are the keys of hashes. An `Err` is that memory ran out, or that there were no random bytes.
+/// The replicas of a cluster, by number. The transaction was submitted to each. Each replica's tree is computed once, in parallel
+/// with the others. The random bytes are the keys of hashes. An `Err` is an allocation failure, or that there were no random bytes.
 pub fn new_replicas<R: RandomSource + Threads + Sync>(
     source: &R,
     alloc: Global,
@@ -98,6 +109,8 @@ pub fn new_replicas<R: RandomSource + Threads + Sync>(
 ) -> Result<Vec<State<AnyKind>>, ProgramFault>
     ensures count { IfOk result (λ states. vec_len states ≡ cluster.now.config.replicas) }
     ensures replicas { IfOk result (λ states. states.items ≡ all_begun cluster.now tx.now) }
+    // There are no random bytes where their stream fails.
+    ensures fault { IfErr result IsMemoryOrRefusal }
 {
     let ClusterKeys { signers, ring } = all_keys_in_parallel(source, alloc, cluster)?;
     let mut signers = signers.into_iter();
@@ -111,18 +124,18 @@ pub fn new_replicas<R: RandomSource + Threads + Sync>(
     Ok(states)
 }
 
-/// How many blocks a replica committed.
-fn height_of<A: Application, R: Wait>(rt: &R, cluster: &Cluster<A>, id: u8) -> u32
+/// The number of blocks that a replica committed.
+fn height_of<A: Application, R: Wait>(rt: &R, cluster: &RunningCluster<A>, id: u8) -> u32
     requires { id < cluster.now.replicas }
 {
     cluster.replica(ReplicaId::new(id)).lock(rt).height()
 }
 
-/// How many blocks each replica committed, by number.
+/// The number of blocks that each replica committed, by number.
 pub(crate) fn heights_of<A: Application, R: Wait>(
     rt: &R,
     alloc: Global,
-    cluster: &Cluster<A>,
+    cluster: &RunningCluster<A>,
     replicas: u8,
 ) -> Result<Vec<u32>, ProgramFault>
     requires { replicas ≡ cluster.now.replicas }

@@ -1,28 +1,31 @@
 //! How a running cluster stands, told to its operator: on a terminal by one line that is written over and over, else by a line for
-//! each thing that happens. A thread of its own writes, and nobody waits for it.
+//! each thing that happens. A thread of its own writes these lines, and the fault that ended the cluster; nobody waits for it for long.
 use crate::cluster_status::unknown;
 use crate::notice::Notice;
 use crate::reporting::SharedStatus;
-use program_streams::{ProgramFault, write_whole};
+use byte_streams::write_whole;
+use program_streams::{ProgramFault, complain};
 use replica_turns::ReplicaStatus;
+use settings::ClusterSettings;
 use std::alloc::{AllocError, Global};
-use std::io::{self, Write};
+use std::io::Write;
 use std::sync::{Arc, Wait};
 use std::thread::Threads;
 use std::time::Duration;
 use std::{fmt, mem, thread};
 
-/// Where an operator looks.
+/// Where the operator reads the reports.
 #[derive(Drop)]
 pub enum Watcher<P: Write + Drop> {
-    /// At a terminal: each line of progress takes the place of the one before.
+    /// A terminal, on which each line of progress replaces the one before.
     Terminal(P),
-    /// At lines, which may be kept in a file.
+    /// Plain lines, which may go to a file.
     Log(P),
 }
 
 impl<P: Write + Drop> Watcher<P> {
-    fn writer(&mut self) -> &mut P {
+    /// The stream that is looked at.
+    pub fn writer(&mut self) -> &mut P {
         match self {
             Watcher::Terminal(writer) | Watcher::Log(writer) => writer,
         }
@@ -31,33 +34,30 @@ impl<P: Write + Drop> Watcher<P> {
     pub(crate) fn is_log(&self) -> bool {
         matches!(self, Watcher::Log(_))
     }
-
-    /// Tries whether it can be written to, by a write of no byte. If not, a socket may stand at its descriptor.
-    pub fn try_write(&mut self) -> io::Result<()> {
-        self.writer().write(&[])?;
-        Ok(())
-    }
 }
 
-/// What tells how a cluster stands.
+/// Reports a cluster's status to a watcher.
 #[derive(Drop)]
 pub(crate) struct Reporter<P: Write + Drop> {
     alloc: Global,
     watcher: Watcher<P>,
     rounds: u32,
     shared: Arc<SharedStatus>,
-    /// What it took last, to be told.
+    /// The notices that it took last and hasn't reported yet.
     notices: Vec<Notice>,
-    /// How each replica stood then, by number.
+    /// The status of each replica at that time, by number.
     replicas: Vec<ReplicaStatus>,
-    /// The last round of replica 0 that was told.
+    /// The last round of replica 0 that it reported.
     told: u32,
 }
 
-/// Erases what is left of a terminal's line.
+/// Erases the rest of the terminal's line.
 const ERASE: &str = "\x1b[K";
 
-/// The most seconds for which a reporter sleeps.
+/// Erases a terminal's line, and goes to its start.
+const CLEAR: &str = "\r\x1b[K";
+
+/// The most seconds that a reporter sleeps.
 const LONGEST_S: u64 = 10;
 
 /// The least and the greatest of some numbers.
@@ -68,7 +68,7 @@ struct Range {
 }
 
 impl Range {
-    /// Of no number.
+    /// The range of no numbers.
     const NONE: Range = Range {
         least: u32::MAX,
         most: 0,
@@ -92,7 +92,7 @@ impl fmt::Display for Range {
 }
 
 impl<P: Write + Drop> Reporter<P> {
-    /// A reporter that has written nothing yet of a cluster of `replicas` replicas.
+    /// A reporter for a cluster of `replicas` replicas, which has written nothing yet.
     fn new(
         alloc: Global,
         watcher: Watcher<P>,
@@ -111,12 +111,13 @@ impl<P: Write + Drop> Reporter<P> {
         })
     }
 
-    /// Writes a text, where the watcher takes it.
+    /// Writes a text, and ignores a failure to write it.
     fn write(&mut self, text: &str) {
         let _ = write_whole(self.watcher.writer(), text.as_bytes());
     }
 
-    /// The line of a notice. On a terminal it takes the place of the line of progress, and is one where the next may take its own.
+    /// The line of a notice. On a terminal it replaces the line of progress and, unless the notice is one of progress, ends with a
+    /// line feed, so that the next line starts below it.
     fn notice_line(&self, notice: Notice) -> Result<String, AllocError> {
         if self.watcher.is_log() {
             format!(in self.alloc; "{notice}\n")
@@ -127,8 +128,8 @@ impl<P: Write + Drop> Reporter<P> {
         }
     }
 
-    /// The line of progress, at most 80 columns wide: the round that replica 0 ended, the blocks of the replicas and the signatures
-    /// that they have left, from the least to the greatest, and how many are mute.
+    /// The line of progress, at most 80 columns wide: the round that replica 0 ended, the least and the greatest number
+    /// of blocks and of signatures left among the replicas, and how many replicas are mute.
     fn progress_line(&self) -> Result<String, AllocError> {
         let ended = self.told;
         let rounds = self.rounds;
@@ -145,13 +146,13 @@ impl<P: Write + Drop> Reporter<P> {
         )
     }
 
-    /// Whether a round of replica 0 ended that was not told. It is then.
+    /// Whether replica 0 ended a round that was not reported yet. Counts it as reported.
     fn has_progress(&mut self) -> bool {
         let ended = self.replicas.first().map_or(0, |status| status.rounds);
         ended > mem::replace(&mut self.told, ended)
     }
 
-    /// Tells a notice, where there is memory for it. A log has none of progress.
+    /// Reports a notice, unless memory runs out. A log skips notices of progress.
     fn tell(&mut self, notice: Notice) {
         if notice.is_progress() && self.watcher.is_log() {
             return;
@@ -161,7 +162,7 @@ impl<P: Write + Drop> Reporter<P> {
         }
     }
 
-    /// Tells what it took.
+    /// Reports everything that it took.
     fn tell_all(&mut self) {
         let notices = mem::replace(&mut self.notices, Vec::new(self.alloc));
         for notice in &notices {
@@ -175,13 +176,23 @@ impl<P: Write + Drop> Reporter<P> {
         }
     }
 
-    /// Takes what is not told. True where nothing comes behind it.
+    /// Takes the notices that are not reported yet. Returns whether no more will follow.
     fn take<R: Wait>(&mut self, rt: &R) -> bool {
         self.shared
             .hand_over(rt, &mut self.notices, &mut self.replicas)
     }
 
-    /// Tells what comes, until nothing will.
+    /// Writes the fault that ended the cluster, if one did. On a terminal it takes the place of the line of progress.
+    fn tell_fault<R: Wait>(&mut self, rt: &R) {
+        if let Some(fault) = self.shared.take_fault(rt) {
+            if !self.watcher.is_log() {
+                self.write(CLEAR);
+            }
+            let _ = complain(self.alloc, self.watcher.writer(), &fault);
+        }
+    }
+
+    /// Reports what happens, until no more notices will follow.
     fn run<R: Wait>(mut self, rt: &R) {
         for _ in rt.forever() {
             let news = self.shared.news();
@@ -192,31 +203,28 @@ impl<P: Write + Drop> Reporter<P> {
             }
             self.shared.sleep(rt, news, Duration::from_secs(LONGEST_S));
         }
+        self.tell_fault(rt);
         self.shared.end();
     }
 }
 
-/// Starts the reporter of a cluster of `replicas` replicas in a detached thread, and returns what it shares with the cluster. Without a
-/// watcher there is no reporter.
-pub(crate) fn start_reporter<R, P>(
+/// Starts the reporter of a cluster in a detached thread, and returns what it shares with the cluster. If the settings ask for quiet it
+/// writes nothing but the fault that ends the cluster, if one does.
+pub fn start_reporter<R, P>(
     rt: &R,
     alloc: Global,
-    watcher: Option<Watcher<P>>,
-    replicas: u8,
-    rounds: u32,
+    watcher: Watcher<P>,
+    settings: &ClusterSettings,
 ) -> Result<Arc<SharedStatus>, ProgramFault>
 where
     R: Copy + Send + Threads + Wait + 'static,
     P: Write + Drop + Send + 'static,
 {
-    let Some(watcher) = watcher else {
-        let shared = SharedStatus::new(alloc, replicas, false, false)?;
-        return Ok(Arc::new(alloc, shared)?);
-    };
-    let shared = SharedStatus::new(alloc, replicas, true, watcher.is_log())?;
+    let replicas = settings.cluster.config.replicas;
+    let shared = SharedStatus::new(alloc, replicas, settings.is_quiet, watcher.is_log())?;
     let shared = Arc::new(alloc, shared)?;
     let theirs = Arc::try_clone(&shared)?;
-    let reporter = Reporter::new(alloc, watcher, replicas, rounds, theirs)?;
+    let reporter = Reporter::new(alloc, watcher, replicas, settings.rounds, theirs)?;
     let rt = *rt;
     match thread::spawn(&rt, move || reporter.run(&rt)) {
         Ok(_) => Ok(shared),

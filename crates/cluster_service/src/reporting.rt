@@ -1,23 +1,26 @@
-//! What the workers of a cluster, and whoever runs it, share with the thread that writes to the operator.
+//! What the workers of a cluster, and the thread that runs it, share with the thread that writes to the operator.
+ghost use Rattle.std.specs.Prelude.{◌≡◌, MatchResult};
+
 use crate::cluster_status::ClusterStatus;
 use crate::notice::Notice;
 use cluster_workers::{Bell, TurnGate};
 use ledger_model::ReplicaId;
+use program_streams::{ProgramFault, STOPPED};
 use replica_turns::ReplicaStatus;
 use std::alloc::{AllocError, Global};
-use std::sync::{Arc, Mutex, Wait};
+use std::sync::{Mutex, Wait};
 use std::time::Duration;
 
 /// The most milliseconds that the end of a cluster waits until the reporter has written everything.
 const LAST_MS: u64 = 1000;
 
-/// How a cluster stands, and the bells that wake the reporter and the end of the cluster. Nobody holds the lock during a write, so an
-/// operator who reads nothing blocks no worker.
+/// The status of a cluster, and the bells that wake the reporter and the end of the cluster. No thread holds the lock
+/// during a write, so an operator who reads nothing blocks no worker.
 #[derive(Drop)]
-pub(crate) struct SharedStatus {
+pub struct SharedStatus {
     status: Mutex<ClusterStatus>,
-    /// Whether there is a reporter.
-    has_reader: bool,
+    /// Whether the operator gets no notice, but for a fault.
+    is_quiet: bool,
     /// Rung when there is news.
     news: Bell,
     /// Rung when the reporter has written everything.
@@ -25,56 +28,62 @@ pub(crate) struct SharedStatus {
 }
 
 impl SharedStatus {
-    /// The status of a cluster of `replicas` replicas that hasn't begun.
+    /// The status of a cluster of `replicas` replicas that hasn't started.
     pub(crate) fn new(
         alloc: Global,
         replicas: u8,
-        has_reader: bool,
+        is_quiet: bool,
         has_log: bool,
     ) -> Result<Self, AllocError> {
         Ok(SharedStatus {
             status: Mutex::new(ClusterStatus::new(alloc, replicas, has_log)?),
-            has_reader,
+            is_quiet,
             news: Bell::new(),
             end: Bell::new(),
         })
     }
 
-    /// Passes a notice to the reporter, if there is one.
+    /// Passes a notice to the reporter, unless the operator gets none.
     pub(crate) fn tell<R: Wait>(&self, rt: &R, notice: Notice) {
-        if self.has_reader {
+        if !self.is_quiet {
             self.status.lock(rt).add(notice);
             self.news.ring();
         }
     }
 
-    /// Stores how a replica stands.
+    /// Stores the status of a replica.
     fn note<R: Wait>(&self, rt: &R, replica: ReplicaId, status: ReplicaStatus) {
-        if self.has_reader && self.status.lock(rt).note(replica, status) {
+        if !self.is_quiet && self.status.lock(rt).note(replica, status) {
             self.news.ring();
         }
     }
 
-    /// Ends the reporter. Waits until it has written everything, at most for a second.
-    pub(crate) fn close<R: Wait>(&self, rt: &R) {
-        if self.has_reader {
-            self.status.lock(rt).close();
-            self.news.ring();
-            self.end.sleep(rt, 0, Duration::from_millis(LAST_MS));
-        }
+    /// Ends the reporter, which writes last the fault that ended the cluster, if one did. Waits until it has written everything, at most
+    /// for a second. Returns the exit status.
+    pub fn close<R: Wait>(&self, rt: &R, done: Result<(), ProgramFault>) -> u8
+        ensures { MatchResult done (λ _. result ≡ 0) (λ _. result ≡ 3) }
+    {
+        let (status, fault) = match done {
+            Ok(()) => (0, None),
+            Err(fault) => (STOPPED, Some(fault)),
+        };
+        self.status.lock(rt).close(fault);
+        self.news.ring();
+        self.end.sleep(rt, 0, Duration::from_millis(LAST_MS));
+        status
     }
 
-    /// The reporter has written everything.
+    /// Announces that the reporter has written everything.
     pub(crate) fn end(&self) {
         self.end.ring();
     }
 
-    /// How many times there was news, modulo 2^32.
+    /// The number of times that there was news, modulo 2^32.
     pub(crate) fn news(&self) -> u32 {
         self.news.rings()
     }
 
-    /// Sleeps until the count of news differs from `news`, at most for `most`.
+    /// Sleeps until the number of news differs from `news`, but at most for `most`.
     pub(crate) fn sleep<R: Wait>(&self, rt: &R, news: u32, most: Duration) {
         self.news.sleep(rt, news, most);
     }
@@ -88,28 +97,28 @@ impl SharedStatus {
     ) -> bool {
         self.status.lock(rt).hand_over(notices, replicas)
     }
+
+    /// Moves out the fault that ended the cluster.
+    pub(crate) fn take_fault<R: Wait>(&self, rt: &R) -> Option<ProgramFault> {
+        self.status.lock(rt).take_fault()
+    }
 }
 
-/// The gate that stores how a replica stands after each of its turns.
+/// The gate of a cluster's workers, which stores the status of a replica after each of its turns.
 #[derive(Drop)]
 pub(crate) struct ReportingGate<'a, R: Wait> {
     rt: &'a R,
-    shared: Arc<SharedStatus>,
+    shared: &'a SharedStatus,
 }
 
 impl<'a, R: Wait> ReportingGate<'a, R> {
-    pub(crate) fn new(rt: &'a R, shared: Arc<SharedStatus>) -> Self {
+    pub(crate) fn new(rt: &'a R, shared: &'a SharedStatus) -> Self {
         ReportingGate { rt, shared }
     }
 
     /// Passes a notice to the reporter.
     pub(crate) fn tell(&self, notice: Notice) {
         self.shared.tell(self.rt, notice);
-    }
-
-    /// Ends the reporter. Waits until it has written everything, at most for a second.
-    pub(crate) fn close(&self) {
-        self.shared.close(self.rt);
     }
 }
 

@@ -1,4 +1,4 @@
-//! Clusters that run in threads of this process, by the machine's clock, and listen at its ports.
+//! Clusters that run in threads of this process, on wall-clock time, and listen at ports of this machine.
 ghost use Rattle.std.specs.Prelude.{◌≡◌, ◌⊎◌, ◌<◌, ℕ, Some, length, slice_get, vec_len, IfOk, All};
 ghost use Rattle.commit_board.specs.Seats.{new_reader};
 ghost use denote.Param.Send.{IsSend, IsSync};
@@ -8,16 +8,14 @@ use crate::listening::{listen, targets_of};
 use crate::live_targets::LiveTargets;
 use crate::notice::Notice;
 use crate::replicas::{heights_of, new_replicas};
-use crate::reporter::{Watcher, start_reporter};
-use crate::reporting::ReportingGate;
+use crate::reporting::{ReportingGate, SharedStatus};
 use app_kinds::AnyKind;
-use cluster_workers::{Cluster, MachineClock, Stop, Worker, run_all};
+use cluster_workers::{MachineClock, RunningCluster, Stop, Worker, run_all};
 use commit_board::ReaderSeat;
-use program_streams::ProgramFault;
+use program_streams::{ProgramFault, Resource};
 use replica_turns::ClientEntries;
 use settings::{ClusterSettings, ServeSettings};
 use std::alloc::{AllocError, Global};
-use std::io::Write;
 use std::net::{Ipv4Addr, Net, TcpListener, TcpStream};
 use std::random::RandomSource;
 use std::sync::{Mutex, Wait};
@@ -25,10 +23,10 @@ use std::thread;
 use std::thread::Threads;
 use std::time::{Clock, Duration};
 
-/// How many milliseconds pass before it is looked again whether a server is to stop.
+/// How many milliseconds pass between two looks at whether a server is to stop.
 const LOOK_MS: u64 = 50;
 
-/// Listens at a port of 127.0.0.1, at 0 at one that is free, and answers its number.
+/// Listens at a port of 127.0.0.1, for port 0 at any free one, and returns the port's number.
 pub fn listen_at<R: Net<Listener = TcpListener, Stream = TcpStream>>(
     rt: &R,
     port: u16,
@@ -40,26 +38,35 @@ pub fn listen_at<R: Net<Listener = TcpListener, Stream = TcpStream>>(
             if port != 0 {
                 return Ok((listener, port));
             }
-            let found = listener.local_addr()?.port();
-            Ok((listener, found))
+            match listener.local_addr() {
+                Ok(found) => Ok((listener, found.port())),
+                Err(error) => Err(ProgramFault::NoListener(port, error)),
+            }
         }
         Err(error) => Err(ProgramFault::NoListener(port, error)),
     }
 }
 
-/// A cluster of the settings as it begins, its workers, and `readers` readers' seats of its board.
+/// The cluster of the settings at its start, its workers, and `readers` readers' seats of its board.
 fn new_cluster<R: RandomSource + Threads + Sync>(
     rt: &R,
     alloc: Global,
     settings: &ClusterSettings,
     readers: u32,
-) -> Result<(Cluster<AnyKind>, Vec<Worker<AnyKind>>, Vec<ReaderSeat>), ProgramFault>
+) -> Result<
+    (
+        RunningCluster<AnyKind>,
+        Vec<Worker<AnyKind>>,
+        Vec<ReaderSeat>,
+    ),
+    ProgramFault,
+>
     ensures replicas { IfOk result (λ r. r.0.replicas ≡ settings.now.cluster.config.replicas) }
     ensures reader_count { IfOk result (λ r. vec_len r.2 ≡ readers) }
     ensures readers { IfOk result (λ r. (k : ℕ) → k < readers → slice_get r.2.items k ≡ Some (new_reader r.0.board)) }
 {
     let states = new_replicas(rt, alloc, &settings.cluster, &settings.tx)?;
-    let made = Cluster::new(
+    let made = RunningCluster::new(
         alloc,
         &settings.cluster.config,
         states,
@@ -69,30 +76,21 @@ fn new_cluster<R: RandomSource + Threads + Sync>(
     Ok(made)
 }
 
-/// The gate of a cluster's workers, which has its watcher told how the replicas stand. It begins with what is to be known before the
-/// keys are made.
-fn new_gate<'a, R, P>(
+/// The gate of a cluster's workers, which stores how the replicas stand. It begins with what is to be known before the keys are made.
+fn new_gate<'a, R: Wait>(
     rt: &'a R,
-    alloc: Global,
     settings: &ClusterSettings,
-    watcher: Option<Watcher<P>>,
-) -> Result<ReportingGate<'a, R>, ProgramFault>
-where
-    R: Copy + Send + Threads + Wait + 'static,
-    P: Write + Drop + Send + 'static,
-{
-    let watcher = if settings.is_quiet { None } else { watcher };
-    let replicas = settings.cluster.config.replicas;
-    let shared = start_reporter(rt, alloc, watcher, replicas, settings.rounds)?;
-    let gate = ReportingGate::new(rt, shared);
+    status: &'a SharedStatus,
+) -> ReportingGate<'a, R> {
+    let gate = ReportingGate::new(rt, status);
     if settings.cluster.seed == [0; 32] {
         gate.tell(Notice::DefaultSeed);
     }
-    gate.tell(Notice::Keys(replicas));
-    Ok(gate)
+    gate.tell(Notice::Keys(settings.cluster.config.replicas));
+    gate
 }
 
-/// Runs the workers of a cluster until their rounds are over, or it is asked to stop.
+/// Runs the workers of a cluster until their rounds are over, or the cluster is asked to stop.
 fn run_workers<R: Clock + Threads + Wait + Sync>(
     rt: &R,
     settings: &ClusterSettings,
@@ -100,7 +98,10 @@ fn run_workers<R: Clock + Threads + Wait + Sync>(
     gate: &ReportingGate<'_, R>,
     stop: &Stop,
 ) -> Result<(), ProgramFault> {
-    let clock = MachineClock::start(rt, settings.base_ms)?;
+    let clock = match MachineClock::start(rt, settings.base_ms) {
+        Ok(clock) => clock,
+        Err(error) => return Err(ProgramFault::Refused(Resource::Clock, error)),
+    };
     if run_all(rt, workers, &clock, gate, stop) {
         Ok(())
     } else {
@@ -108,7 +109,7 @@ fn run_workers<R: Clock + Threads + Wait + Sync>(
     }
 }
 
-/// Makes a cluster and runs it, and answers how many blocks each replica committed.
+/// Makes a cluster and runs it. Returns the number of blocks that each replica committed.
 fn run_through<R: Clock + RandomSource + Threads + Wait + Sync>(
     rt: &R,
     alloc: Global,
@@ -125,26 +126,21 @@ fn run_through<R: Clock + RandomSource + Threads + Wait + Sync>(
 }
 
 /// Runs a cluster until its rounds are over, or it is asked to stop, and answers how many blocks each replica committed, by number.
-/// How it stands is told to the watcher, if there is one and the settings don't ask for quiet.
-pub fn run_cluster<R, P>(
+/// How it stands is stored in `status`.
+pub fn run_cluster<R: Clock + RandomSource + Threads + Wait + Sync>(
     rt: &R,
     alloc: Global,
     settings: &ClusterSettings,
-    watcher: Option<Watcher<P>>,
+    status: &SharedStatus,
     stop: &Stop,
 ) -> Result<Vec<u32>, ProgramFault>
-where
-    R: Clock + Copy + RandomSource + Send + Sync + Threads + Wait + 'static,
-    P: Write + Drop + Send + 'static,
     ensures each { IfOk result (λ heights. vec_len heights ≡ settings.now.cluster.config.replicas) }
 {
-    let gate = new_gate(rt, alloc, settings, watcher)?;
-    let done = run_through(rt, alloc, settings, &gate, stop);
-    gate.close();
-    done
+    let gate = new_gate(rt, settings, status);
+    run_through(rt, alloc, settings, &gate, stop)
 }
 
-/// The notice that the workers have ended.
+/// The notice for the end of the workers: `over`, or that the cluster was asked to stop.
 fn end_of(stop: &Stop, over: Notice) -> Notice {
     if stop.is_asked() {
         Notice::Stopped
@@ -153,7 +149,7 @@ fn end_of(stop: &Stop, over: Notice) -> Notice {
     }
 }
 
-/// For each of `replicas` replicas, `count` entries that its clients may use.
+/// For each of `replicas` replicas, a budget of `count` entries that its clients may use.
 fn new_entries(
     alloc: Global,
     replicas: u8,
@@ -168,8 +164,8 @@ fn new_entries(
     Ok(entries)
 }
 
-/// Waits until the sessions have ended, if the cluster may be asked to stop, or is. Where it is, the sessions are ended, and a
-/// connection to the listener wakes it.
+/// Waits until the sessions have ended, if the cluster can be asked to stop. Once it is asked, this ends the sessions,
+/// and connects to the listener to wake it.
 fn end_sessions<R: Clock + Net<Listener = TcpListener, Stream = TcpStream> + Wait>(
     rt: &R,
     port: u16,
@@ -189,7 +185,7 @@ fn end_sessions<R: Clock + Net<Listener = TcpListener, Stream = TcpStream> + Wai
     }
 }
 
-/// Runs the workers of a cluster beside the sessions of its clients, until both have ended.
+/// Runs the workers of a cluster in parallel with the sessions of its clients, until both have ended.
 fn run_beside<'a, R>(
     rt: &R,
     alloc: Global,
@@ -219,12 +215,13 @@ where
     })
 }
 
-/// Runs the workers of a cluster beside as many sessions as there are seats, which share so many entries of each history.
+/// Runs the workers of a cluster in parallel with one session per seat. The sessions share the given number of entries
+/// of each history.
 fn serve_beside<R>(
     rt: &R,
     alloc: Global,
     settings: &ServeSettings,
-    cluster: &Cluster<AnyKind>,
+    cluster: &RunningCluster<AnyKind>,
     workers: Vec<Worker<AnyKind>>,
     seats: Vec<ReaderSeat>,
     gate: &ReportingGate<'_, R>,
@@ -246,7 +243,7 @@ where
     )
 }
 
-/// Makes a cluster, runs it and serves its clients, and answers how many blocks each replica committed.
+/// Makes a cluster, runs it and serves its clients. Returns the number of blocks that each replica committed.
 fn serve_through<R>(
     rt: &R,
     alloc: Global,
@@ -277,32 +274,26 @@ where
     )
 }
 
-/// The same beside the clients of a listener: it returns when the rounds are over and as many connections as the settings say have
-/// ended, or it was asked to stop. The listener is closed after the last connection.
-pub fn serve_cluster<R, P>(
+/// Like [`run_cluster`], and serves the clients of a listener. Returns when the rounds are over and as many connections as
+/// the settings say have ended, or when the cluster was asked to stop. Closes the listener after the last connection.
+pub fn serve_cluster<R>(
     rt: &R,
     alloc: Global,
     settings: &ServeSettings,
     listener: TcpListener,
     port: u16,
-    watcher: Option<Watcher<P>>,
+    status: &SharedStatus,
     stop: &Stop,
 ) -> Result<Vec<u32>, ProgramFault>
 where
     R: Clock
-        + Copy
         + Net<Listener = TcpListener, Stream = TcpStream>
         + RandomSource
-        + Send
         + Sync
         + Threads
-        + Wait
-        + 'static,
-    P: Write + Drop + Send + 'static,
+        + Wait,
     ensures each { IfOk result (λ heights. vec_len heights ≡ settings.now.cluster.cluster.config.replicas) }
 {
-    let gate = new_gate(rt, alloc, &settings.cluster, watcher)?;
-    let done = serve_through(rt, alloc, settings, &gate, listener, port, stop);
-    gate.close();
-    done
+    let gate = new_gate(rt, &settings.cluster, status);
+    serve_through(rt, alloc, settings, &gate, listener, port, stop)
 }

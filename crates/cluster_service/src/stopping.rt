@@ -1,6 +1,6 @@
-//! The end of an input as the wish that a running cluster stops.
+//! The end of an input, as the request that a running cluster stop.
 use cluster_workers::Stop;
-use program_streams::ProgramFault;
+use program_streams::{ProgramFault, Resource};
 use std::io::{ErrorKind, Read};
 use std::sync::Arc;
 use std::thread;
@@ -10,10 +10,11 @@ use std::time::{Clock, Duration};
 /// The most bytes that are read at once.
 const PIECE_LEN: usize = 4096;
 
-/// How many milliseconds pass before an input is read again that had nothing to read.
-const RETRY_MS: u64 = 50;
+/// How many milliseconds pass before an input is read again: reading one that has no end, or that has nothing to read and would not
+/// wait, takes next to no processor time.
+const REST_MS: u64 = 50;
 
-/// Reads an input until it ends or can't be read any more. One that has nothing to read, and would not wait, is read again.
+/// Reads an input until it ends or can't be read any more.
 fn read_to_end<R: Clock, I: Read>(rt: &R, input: &mut I) {
     let mut piece = [0; PIECE_LEN];
     for _ in 0..u64::MAX {
@@ -21,22 +22,23 @@ fn read_to_end<R: Clock, I: Read>(rt: &R, input: &mut I) {
             Ok(0) => break,
             Ok(_) => {}
             Err(error) if error.kind() == ErrorKind::Interrupted => {}
-            Err(error) if error.kind() == ErrorKind::WouldBlock => {
-                let _ = thread::sleep(rt, Duration::from_millis(RETRY_MS));
-            }
+            Err(error) if error.kind() == ErrorKind::WouldBlock => {}
             Err(_) => break,
         }
+        let _ = thread::sleep(rt, Duration::from_millis(REST_MS));
     }
 }
 
-/// Asks a cluster to stop where the input ends, in a thread of its own, which nobody waits for. The errors are an input that can't be
-/// read, and that there is no thread.
+/// Asks a cluster to stop when the input ends. A thread of its own reads the input, and nothing waits for it. The
+/// errors are an input that can't be read, and that no thread can be had.
 pub fn stop_at_end<R, I>(rt: &R, mut input: I, stop: Arc<Stop>) -> Result<(), ProgramFault>
 where
     R: Clock + Copy + Send + Threads + 'static,
     I: Read + Drop + Send + 'static,
 {
-    input.read(&mut [])?;
+    if let Err(error) = input.read(&mut []) {
+        return Err(ProgramFault::Refused(Resource::Input, error));
+    }
     let rt = *rt;
     let reading = move || {
         read_to_end(&rt, &mut input);

@@ -1,4 +1,4 @@
-//! Four replicas that run at once, and commit.
+//! Four replicas that run concurrently, and commit.
 ghost use Rattle.std.specs.Prelude.{◌≡◌, ◌<◌, ℕ, Some, vec_len, slice_get, IfOk};
 ghost use Rattle.commit_board.specs.Seats.{new_reader};
 
@@ -6,7 +6,7 @@ use crate::meeting_gate::MeetingGate;
 use crate::quiet_clock::QuietClock;
 use crate::replicas::{four, replicas};
 use app_kinds::AnyKind;
-use cluster_workers::{Cluster, Stop, run_all};
+use cluster_workers::{RunningCluster, Stop, run_all};
 use commit_board::ReaderSeat;
 use ledger_model::{Height, ReplicaId};
 use locked_replica::State;
@@ -33,10 +33,10 @@ fn has_committed<R: Wait>(rt: &R, replica: &LockedReplica<AnyKind>, published: u
     published >= 1 && state.height() == published && has_first_block(&*state)
 }
 
-/// Whether this replica committed that block, up to the height that this reader finds of it.
+/// Whether this replica committed that block, up to the height that this reader reads.
 fn is_done<R: Wait>(
     rt: &R,
-    cluster: &Cluster<AnyKind>,
+    cluster: &RunningCluster<AnyKind>,
     reader: &mut ReaderSeat,
     id: ReplicaId,
 ) -> bool
@@ -48,25 +48,29 @@ fn is_done<R: Wait>(
     has_committed(rt, cluster.replica(id), published)
 }
 
-/// Whether all of so many replicas did so.
-fn are_done<R: Wait>(
+/// The first of the replicas that did not do so, if there is one.
+fn first_behind<R: Wait>(
     rt: &R,
-    cluster: &Cluster<AnyKind>,
+    cluster: &RunningCluster<AnyKind>,
     mut reader: ReaderSeat,
     replicas: u8,
-) -> bool
+) -> Option<u8>
     requires board { reader.board ≡ cluster.now.board }
     requires count { replicas ≡ cluster.now.replicas }
 {
-    let mut are_done = true;
     for id in 0..replicas {
-        are_done &= is_done(rt, cluster, &mut reader, ReplicaId::new(id));
+        if !is_done(rt, cluster, &mut reader, ReplicaId::new(id)) {
+            return Some(id);
+        }
     }
-    are_done
+    None
 }
 
-/// The reader's seat of a cluster that has one.
-fn reader_of(cluster: &Cluster<AnyKind>, mut reading: Vec<ReaderSeat>) -> Result<ReaderSeat, Fail>
+/// The reader's seat of a cluster that has exactly one.
+fn reader_of(
+    cluster: &RunningCluster<AnyKind>,
+    mut reading: Vec<ReaderSeat>,
+) -> Result<ReaderSeat, Fail>
     requires count { vec_len reading ≡ 1 }
     requires readers { (k : ℕ) → k < 1 → slice_get reading.items k ≡ Some (new_reader cluster.now.board) }
     ensures { IfOk result (λ reader. reader.board ≡ cluster.now.board) }
@@ -82,12 +86,15 @@ fn four_replicas_commit_and_two_workers_meet(rt: HostRuntime) -> Result<(), Fail
     let alloc = rt.alloc();
     let keys = four()?;
     let states = replicas(&rt, alloc, &keys)?;
-    let (cluster, workers, reading) = Cluster::new(alloc, &keys.config, states, ROUNDS, 1)?;
+    let (cluster, workers, reading) = RunningCluster::new(alloc, &keys.config, states, ROUNDS, 1)?;
     let reader = reader_of(&cluster, reading)?;
     let clock = QuietClock::new(&rt, alloc, 4)?;
     let gate = MeetingGate::new();
     assert!(rt; run_all(&rt, workers, &clock, &gate, &Stop::new()));
     assert!(rt; !clock.has_note() && !gate.has_note() && gate.have_met());
-    assert!(rt; are_done(&rt, &cluster, reader, keys.config.replicas));
+    assert_eq!(rt;
+        first_behind(&rt, &cluster, reader, keys.config.replicas),
+        None
+    );
     Ok(())
 }

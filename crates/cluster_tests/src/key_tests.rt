@@ -21,19 +21,25 @@ fn is_of(replica: u8, signer: &Signer, ring: &KeyRing) -> bool {
         && ring.key(ReplicaId::new(replica)).copied() == Some(key)
 }
 
-/// Whether there are four key pairs, each of the replica of its place, and no fifth public key.
-fn are_of_four(keys: &ClusterKeys) -> bool {
+/// The first of four replicas whose index has another key pair, if there is one.
+fn first_other(keys: &ClusterKeys) -> Option<u8> {
     for (replica, signer) in (0..4u8).zip(keys.signers.iter()) {
         if !is_of(replica, signer, &keys.ring) {
-            return false;
+            return Some(replica);
         }
     }
+    None
+}
+
+/// Whether there are four signers, and no fifth public key.
+fn has_four(keys: &ClusterKeys) -> bool {
     keys.signers.len() == 4 && keys.ring.key(ReplicaId::new(4)).is_none()
 }
 
 #[test]
 fn each_replica_has_the_key_pair_of_its_number(rt: HostRuntime) -> Result<(), Fail> {
     let keys = all_keys_in_parallel(&rt, rt.alloc(), &four()?)?;
-    assert!(rt; are_of_four(&keys));
+    assert_eq!(rt; first_other(&keys), None);
+    assert!(rt; has_four(&keys));
     Ok(())
 }

@@ -1,4 +1,4 @@
-//! A cluster whose replicas run in threads. This crate has tests alone.
+//! Tests of a cluster whose replicas run in threads.
 #![tactic(auto)]
 
 #[cfg(test)]

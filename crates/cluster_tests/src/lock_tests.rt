@@ -1,4 +1,4 @@
-//! Two threads, each with a replica of its own, at once.
+//! Two threads that lock a replica each, at the same time.
 use crate::meeting_gate::meet;
 use crate::replicas::{four, replicas};
 use app_kinds::AnyKind;

@@ -5,10 +5,10 @@ use replica_turns::ReplicaStatus;
 use std::sync::atomic::{AtomicBool, Ordering};
 use std::thread;
 
-/// How often a thread looks for another one before it leaves a note.
+/// How often a thread looks for the other one before it gives up.
 pub(crate) const MAX_TURNS: u32 = 1_000_000;
 
-/// Raises the own flag, and waits for the other one. False where it did not come in so many turns.
+/// Sets this thread's flag, and waits for the other one. Returns false if the other flag was not set within `MAX_TURNS` looks.
 pub(crate) fn meet(own: &AtomicBool, other: &AtomicBool) -> bool {
     own.store(true, Ordering::SeqCst);
     for _ in 0..MAX_TURNS {
@@ -20,7 +20,7 @@ pub(crate) fn meet(own: &AtomicBool, other: &AtomicBool) -> bool {
     false
 }
 
-/// Before each turn, and so before the first, either worker waits until the other has come to a turn.
+/// Before each turn, and so before the first, each worker waits until the other has reached a turn.
 #[derive(Drop)]
 pub(crate) struct MeetingGate {
     first: AtomicBool,
@@ -37,12 +37,12 @@ impl MeetingGate {
         }
     }
 
-    /// Whether one waited in vain.
+    /// Whether one worker gave up.
     pub(crate) fn has_note(&self) -> bool {
         self.note.load(Ordering::SeqCst)
     }
 
-    /// Whether both came.
+    /// Whether both workers arrived.
     pub(crate) fn have_met(&self) -> bool {
         self.first.load(Ordering::SeqCst) && self.second.load(Ordering::SeqCst)
     }

@@ -1,4 +1,4 @@
-//! A clock that ends a round only where nothing is left to do: all inboxes are empty, and all workers idle.
+//! A clock that ends a round only if nothing is left to do: all inboxes are empty, and all workers are idle.
 use crate::meeting_gate::MAX_TURNS;
 use cluster_workers::{Progress, RoundClock};
 use ledger_model::ReplicaId;
@@ -6,27 +6,27 @@ use std::alloc::{AllocError, Global};
 use std::sync::{Mutex, Wait};
 use std::time::Duration;
 
-/// What the workers told.
+/// What the workers reported.
 #[derive(Drop)]
-struct Told {
-    /// Which workers did nothing since they were last asked, and have ended all rounds that may end.
+struct Counts {
+    /// For each worker, whether it did nothing since it last asked, and has ended all rounds that may end.
     idle: Vec<bool>,
     sent: usize,
     taken: usize,
-    /// How many rounds may end.
+    /// The number of rounds that may end.
     rounds: u32,
-    /// How often it was asked since a round might last end.
+    /// How often the clock was asked since it last let a round end.
     asked: u32,
     note: bool,
 }
 
-impl Told {
-    /// Whether no frame is on its way, and no worker has anything to do.
+impl Counts {
+    /// Whether no frame is in an inbox, and no worker has anything to do.
     fn is_quiet(&self) -> bool {
         self.sent == self.taken && self.idle.iter().all(|idle| *idle)
     }
 
-    /// One round more may end. No worker is idle then before it has told so.
+    /// Lets one more round end. From now on no worker counts as idle before it has reported so.
     fn let_one_end(&mut self) {
         self.rounds = self.rounds.saturating_add(1);
         self.asked = 0;
@@ -41,7 +41,7 @@ impl Told {
         }
     }
 
-    /// Whether the worker that tells this is to end a round.
+    /// Whether the worker with this progress is to end a round.
     fn ask(&mut self, replica: usize, ended: u32, progress: Progress) -> bool {
         self.sent = self.sent.wrapping_add(progress.sent);
         self.taken = self.taken.wrapping_add(progress.taken);
@@ -57,18 +57,18 @@ impl Told {
     }
 }
 
-/// A clock for so many workers. After a million turns in which no round could end it leaves a note, and all rounds end.
+/// A clock for `workers` workers. After a million questions without a round that could end, it gives up, and all rounds end.
 #[derive(Drop)]
 pub(crate) struct QuietClock<'a, R: Wait> {
     rt: &'a R,
-    told: Mutex<Told>,
+    told: Mutex<Counts>,
 }
 
 impl<'a, R: Wait> QuietClock<'a, R> {
     pub(crate) fn new(rt: &'a R, alloc: Global, workers: usize) -> Result<Self, AllocError> {
         Ok(QuietClock {
             rt,
-            told: Mutex::new(Told {
+            told: Mutex::new(Counts {
                 idle: Vec::from_elem(alloc, false, workers)?,
                 sent: 0,
                 taken: 0,

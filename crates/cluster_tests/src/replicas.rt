@@ -4,7 +4,7 @@ ghost use Rattle.cluster_keys.specs.Keys.{ring_of, secret_of, unused};
 
 use app_kinds::AnyKind;
 use bytes::Bytes;
-use cluster_keys::{Cluster, ClusterKeys, all_keys};
+use cluster_keys::{ClusterKeys, ClusterSeed, all_keys};
 use key_ring::{KeyRing, Signer};
 use ledger_model::{AppKind, Config, Event, ReplicaId};
 use lm_ots::{Params, TreeHeight, Width};
@@ -21,8 +21,8 @@ const PARAMS: Params = Params {
 };
 
 /// A cluster of four, of which one may lie.
-pub(crate) fn four() -> Result<Cluster, Fail> {
-    Ok(Cluster {
+pub(crate) fn four() -> Result<ClusterSeed, Fail> {
+    Ok(ClusterSeed {
         config: Config::new(4, 1, AppKind::KvStore)?,
         params: PARAMS,
         seed: [0; 32],
@@ -33,11 +33,11 @@ fn randoms<R: RandomSource>(rt: &R) -> Result<[RandomState; 2], Fail> {
     Ok([RandomState::new(rt)?, RandomState::new(rt)?])
 }
 
-/// One of its replicas, with nothing in its pool.
+/// One of its replicas, with an empty pool.
 fn new_state<R: RandomSource>(
     rt: &R,
     alloc: Global,
-    cluster: &Cluster,
+    cluster: &ClusterSeed,
     id: u8,
     signer: Signer,
     ring: &KeyRing,
@@ -61,7 +61,7 @@ fn submit(state: &mut State<AnyKind>) -> Result<(), Fail> {
 fn replica<R: RandomSource>(
     rt: &R,
     alloc: Global,
-    cluster: &Cluster,
+    cluster: &ClusterSeed,
     id: u8,
     signer: Signer,
     ring: &KeyRing,
@@ -79,7 +79,7 @@ fn replica<R: RandomSource>(
 pub(crate) fn replicas<R: RandomSource>(
     rt: &R,
     alloc: Global,
-    cluster: &Cluster,
+    cluster: &ClusterSeed,
 ) -> Result<Vec<State<AnyKind>>, Fail>
     ensures { IfOk result (λ states. vec_len states ≡ cluster.now.config.replicas) }
 {

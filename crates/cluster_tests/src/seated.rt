@@ -1,11 +1,11 @@
-//! A replica with the right to raise its word of a board, and the turns that it takes.
+//! A replica with the right to raise its word of a board, which takes turns.
 ghost use Rattle.std.specs.Prelude.{◌≡◌, ◌<◌, ℕ, Some, vec_len, slice_get, IfOk};
 ghost use Rattle.commit_board.specs.Seats.{new_writer};
 
 use crate::replicas::{four, replicas};
 use app_kinds::AnyKind;
 use bytes::Bytes;
-use cluster_keys::Cluster;
+use cluster_keys::ClusterSeed;
 use commit_board::{Board, WriterSeat};
 use ledger_model::Event;
 use locked_replica::{ApplyFault, State};
@@ -35,8 +35,8 @@ fn last_seat(board: &Board, mut seats: Vec<WriterSeat>) -> Result<WriterSeat, Fa
     }
 }
 
-/// A board on which nothing is published, and the last of its seats.
-fn board_and_seat(alloc: Global, cluster: &Cluster) -> Result<(Board, WriterSeat), Fail>
+/// A board on which nothing is published, and its last writer's seat.
+fn board_and_seat(alloc: Global, cluster: &ClusterSeed) -> Result<(Board, WriterSeat), Fail>
     ensures { IfOk result (λ r. r.1.board ≡ r.0) }
 {
     let (board, seats, _) = Board::new(alloc, &cluster.config, 0)?;
@@ -48,7 +48,7 @@ fn board_and_seat(alloc: Global, cluster: &Cluster) -> Result<(Board, WriterSeat
 fn last_state<R: RandomSource>(
     rt: &R,
     alloc: Global,
-    cluster: &Cluster,
+    cluster: &ClusterSeed,
 ) -> Result<State<AnyKind>, Fail> {
     let mut states = replicas(rt, alloc, cluster)?;
     match states.pop() {
@@ -68,7 +68,7 @@ fn take_seat(state: State<AnyKind>, board: Board, seat: WriterSeat) -> Result<Se
     }
 }
 
-/// The last of four replicas, with `a=1` in its pool, and with a board on which nothing is published.
+/// The last of four replicas, with `a=1` in its pool, and a board on which nothing is published.
 pub(crate) fn last_of_four<R: RandomSource>(rt: &R, alloc: Global) -> Result<Seated, Fail> {
     let cluster = four()?;
     let (board, seat) = board_and_seat(alloc, &cluster)?;
@@ -95,7 +95,7 @@ impl Seated {
         turn(&mut self.state, events, &self.board, &mut self.seat)
     }
 
-    /// A turn in which a transaction is handed in: the new entry has it.
+    /// A turn in which a transaction is submitted. Returns the index of the new entry.
     pub(crate) fn submit(&mut self, alloc: Global, bytes: Bytes) -> Result<usize, Fail>
         ensures { IfOk result (λ index. option_map (λ (e : Entry). e.event) (slice_get self.new.state.entries index) ≡ Some (event.Submit bytes)) }
     {

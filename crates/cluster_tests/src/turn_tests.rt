@@ -1,4 +1,4 @@
-//! Turns of one replica: what they answer, and what stands in its history and on the board then.
+//! Turns of one replica: what they return, and what is in its history and on the board afterwards.
 use crate::seated::{Seated, last_of_four};
 use bytes::Bytes;
 use ledger_model::{Event, Height, Tx};
@@ -7,12 +7,12 @@ use std::alloc::{AllocError, Global};
 use std::random::RandomSource;
 use std::test::Fail;
 
-/// Whether the history has so many entries, and nothing of its replica is published.
+/// Whether the history has this number of entries, and nothing of its replica is published.
 fn is_unpublished(seated: &mut Seated, entries: usize) -> bool {
     seated.state().len() == entries && seated.published() == 0
 }
 
-/// Whether these bytes were submitted and taken at an index of the history.
+/// Whether these bytes were submitted and taken at this index of the history.
 fn has_submitted(seated: &Seated, index: usize, bytes: &[u8]) -> bool {
     let Some(entry) = seated.state().entry(index) else {
         return false;
@@ -31,7 +31,7 @@ fn are_both(transactions: &[Tx]) -> bool {
     }
 }
 
-/// Whether a height was opened with both transactions at an index of the history.
+/// Whether a height was opened with both transactions at this index of the history.
 fn has_opened(seated: &Seated, index: usize) -> bool {
     let Some(entry) = seated.state().entry(index) else {
         return false;
@@ -42,7 +42,7 @@ fn has_opened(seated: &Seated, index: usize) -> bool {
     }
 }
 
-/// Whether at an index of the history a block was to be run, and none was decided.
+/// Whether at this index of the history a block was to be run, and none was decided.
 fn has_run_nothing(seated: &Seated, index: usize) -> bool {
     let Some(entry) = seated.state().entry(index) else {
         return false;
@@ -51,7 +51,7 @@ fn has_run_nothing(seated: &Seated, index: usize) -> bool {
         && matches!(entry.reply(), ReplyView::Executed(Err(_)))
 }
 
-/// A turn with a transaction, and one with two events. Whether their entries begin at 1 and at 2.
+/// Takes a turn with a transaction, and one with two events. Returns whether their entries start at 1 and at 2.
 fn takes_two_turns(alloc: Global, seated: &mut Seated) -> Result<bool, Fail> {
     let first = seated.submit(alloc, Bytes::from_static(b"b=2"))?;
     let events = vec![in alloc; Event::Propose(Height::new(1)), Event::Execute]?;
@@ -67,7 +67,7 @@ fn has_both_turns(seated: &mut Seated) -> bool {
         && is_unpublished(seated, 4)
 }
 
-/// Whether a new replica takes these turns, and has what they make then.
+/// Whether a new replica takes these turns, and then has that history.
 fn goes_through_two_turns<R: RandomSource>(rt: &R, alloc: Global) -> Result<bool, Fail> {
     let mut seated = last_of_four(rt, alloc)?;
     Ok(takes_two_turns(alloc, &mut seated)? && has_both_turns(&mut seated))
@@ -79,7 +79,7 @@ fn a_turn_takes_its_events_in_order(rt: HostRuntime) -> Result<(), Fail> {
     Ok(())
 }
 
-/// So many ends of rounds.
+/// `count` ends of rounds.
 fn round_ends(alloc: Global, count: usize) -> Result<Vec<Event>, AllocError> {
     let mut events = Vec::with_capacity(alloc, count)?;
     for _ in 0..count {
@@ -88,7 +88,7 @@ fn round_ends(alloc: Global, count: usize) -> Result<Vec<Event>, AllocError> {
     Ok(events)
 }
 
-/// Fills the history but for one entry, and hands in two events. Whether the turn is refused since the history is full.
+/// Fills the history except for one entry, and passes two events. Returns whether the turn is refused because the history is full.
 fn is_refused_where_full(alloc: Global, seated: &mut Seated) -> Result<bool, Fail> {
     let is_filled = seated.turn(round_ends(alloc, 65_534)?) == Ok(1);
     let last = Event::Submit(Bytes::from_static(b"b=2"));
@@ -96,7 +96,7 @@ fn is_refused_where_full(alloc: Global, seated: &mut Seated) -> Result<bool, Fai
     Ok(is_filled && seated.turn(events) == Err(ApplyFault::HistoryFull))
 }
 
-/// Whether a new replica comes to the end of its history so, and keeps what it took.
+/// Whether a new replica fills its history so, and keeps what it took.
 fn fills_its_history<R: RandomSource>(rt: &R, alloc: Global) -> Result<bool, Fail> {
     let mut seated = last_of_four(rt, alloc)?;
     let is_refused = is_refused_where_full(alloc, &mut seated)?;

@@ -7,7 +7,7 @@ use std::test::Fail;
 /// A report of height 1 and phase 1 on the batch `[a=1]`, without a signature.
 const REPORT: &[u8; 29] = b"\0\0\0\x19\x01\0\0\0\x01\0\0\0\x01\0\0\x01\x03a=1\x01\x01\x03a=1\0\0\0";
 
-/// Takes in a frame of the round after this one, and one that is none.
+/// Takes in a frame of the round after this one, and bytes that are no frame.
 fn take_in_two(alloc: Global, waiting: &mut WaitingFrames, clock: u32) -> Result<(), AllocError> {
     let mut frames = Vec::with_capacity(alloc, 2)?;
     frames.push(Bytes::from_static(REPORT))?;
@@ -18,7 +18,7 @@ fn take_in_two(alloc: Global, waiting: &mut WaitingFrames, clock: u32) -> Result
     waiting.take_in(alloc, clock, frames)
 }
 
-/// How many frames are due, and how many more there is room for.
+/// The number of frames that are due, and the number of frames that there is room for.
 fn counts(waiting: &WaitingFrames) -> (usize, usize) {
     (waiting.due().len(), waiting.room())
 }

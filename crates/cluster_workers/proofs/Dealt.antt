@@ -1,4 +1,4 @@
--- What holds of each element of a list holds of each behind the first.
+-- What holds of each element of a list holds of each after the first.
 use Rattle.std.proofs.Common.{◌≡◌, List, ◌∷◌, suc, arith}
 use Rattle.std.specs.List.{All}
 

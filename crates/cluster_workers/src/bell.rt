@@ -1,10 +1,9 @@
-//! What wakes a thread that sleeps: a bell that is rung for whatever it waits for.
+//! A bell, which wakes a sleeping thread.
 use std::sync::Wait;
 use std::sync::atomic::{AtomicU64, Ordering};
 use std::time::Duration;
 
-/// Counts how often it was rung. Who sleeps by it names the count that it has seen, so that no ring is missed. A ring wakes one
-/// thread.
+/// Counts its rings. A thread that sleeps passes the count that it has seen, so that it misses no ring. A ring wakes one thread.
 #[derive(Drop)]
 pub struct Bell {
     rings: AtomicU64,
@@ -18,7 +17,7 @@ impl Bell {
         }
     }
 
-    /// How often it was rung, modulo 2^32.
+    /// The number of rings, modulo 2^32.
     pub fn rings(&self) -> u32 {
         (self.rings.load(Ordering::SeqCst) & 0xffff_ffff) as u32
     }
@@ -29,7 +28,7 @@ impl Bell {
         self.rings.wake_one();
     }
 
-    /// Sleeps until it is rung once more than so often, at most so long. It may return earlier.
+    /// Sleeps until the count of rings differs from `rings`, but at most for `most`. It may return earlier.
     pub fn sleep<R: Wait>(&self, rt: &R, rings: u32, most: Duration) {
         self.rings.park_timeout(rt, rings, most);
     }

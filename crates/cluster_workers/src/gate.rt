@@ -1,17 +1,17 @@
-//! What is called round each turn.
+//! What is called before and after each turn.
 use ledger_model::ReplicaId;
 use replica_turns::ReplicaStatus;
 
-/// What is called round each turn of a replica, before it is locked and after it is free again.
+/// Called before and after each turn of a replica, while the replica isn't locked.
 pub trait TurnGate {
-    /// A turn of this replica is about to come.
+    /// A turn of this replica is about to start.
     fn before(&self, replica: ReplicaId);
 
-    /// It is over, and the replica stands so.
+    /// The turn has ended, and the replica has this status.
     fn after(&self, replica: ReplicaId, status: ReplicaStatus);
 }
 
-/// The gate that is always open.
+/// A gate that does nothing.
 #[derive(Drop)]
 pub struct NoGate;
 

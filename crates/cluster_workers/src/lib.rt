@@ -1,36 +1,36 @@
-//! The workers of a running cluster: a thread for each replica, which gives it its frames and its rounds.
+//! The workers of a running cluster: a thread for each replica, which delivers the replica's frames and ends its rounds.
 //!
-//! A [`Worker`] takes frames from its replica's inbox, opens the height after the committed one, runs what is decided, and ends
-//! the rounds that are due. It changes the replica by turns alone, each under the replica's lock, so that what a lock keeps holds
-//! whatever the threads do: each history is a replay. The frames that a round end sends go into the inboxes of their addressees; a
-//! full inbox loses the frame.
+//! A [`Worker`] takes frames from its replica's inbox, opens the height after the committed one, runs the decided
+//! blocks, and ends the rounds that are due. It changes the replica only by turns, each under the replica's lock, so
+//! the invariant behind the lock holds whatever the threads do: each history is a replay. The frames that a round end
+//! sends go into the inboxes of their addressees; a full inbox loses the frame.
 //!
-//! [`Cluster::new`] makes a worker for each of some replicas, and what they share; [`run_all`] runs each in a thread of its own until
-//! its rounds are over, or a [`Stop`] is asked for. The workers are generic over a [`RoundClock`], which tells when rounds end, and
-//! over a [`TurnGate`], which is called round each turn and told how the replica stands then. A worker with nothing to do sleeps
-//! until a frame comes or its round is due.
+//! [`RunningCluster::new`] makes a worker for each replica, and what the workers share. [`run_all`] runs each in a
+//! thread of its own until its rounds are over, or a [`Stop`] asks it to end. The workers are generic over a
+//! [`RoundClock`], which decides when rounds end, and over a [`TurnGate`], which is called before and after each turn
+//! and gets the replica's status. A worker with nothing to do sleeps until a frame arrives or its round is due.
 //!
-//! A worker whose replica's history is full gives up what waits, takes nothing more, and counts its rounds.
+//! A worker whose replica's history is full drops the waiting frames, takes no more, and only counts its rounds.
 //!
-//! Proved: what a worker goes by and each turn (`replica_turns`). Only tested: that the workers run at once, and that the cluster
-//! commits. Not promised: progress and time.
+//! Proved: the worker's decisions, and each turn (`replica_turns`). Only tested: that the workers run concurrently, and
+//! that the cluster commits. Not promised: progress and time.
 #![tactic(auto)]
 
 mod bell;
-mod cluster;
 mod gate;
-mod mail;
-mod post;
+mod inboxes;
 mod round_clock;
 mod running;
+mod running_cluster;
 mod sending;
 mod stop;
+mod turn_taker;
 mod worker;
 
 pub use bell::Bell;
-pub use cluster::Cluster;
 pub use gate::{NoGate, TurnGate};
 pub use round_clock::{MachineClock, Progress, RoundClock};
 pub use running::run_all;
+pub use running_cluster::RunningCluster;
 pub use stop::Stop;
 pub use worker::Worker;

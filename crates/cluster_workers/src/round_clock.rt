@@ -7,11 +7,11 @@ use std::time::{Clock, Duration, Instant};
 /// What a worker did since it last asked whether a round is due.
 #[derive(Clone, Copy, Debug, PartialEq, Eq)]
 pub struct Progress {
-    /// How many frames it took from its inbox.
+    /// The number of frames that it took from its inbox.
     pub taken: usize,
-    /// How many frames it put into other inboxes.
+    /// The number of frames that it put into other inboxes.
     pub sent: usize,
-    /// How many events its replica took, the deliveries of frames among them.
+    /// The number of events that its replica took, including deliveries of frames.
     pub events: usize,
 }
 
@@ -22,19 +22,19 @@ impl Progress {
     }
 }
 
-/// What tells the workers when rounds end. All of them ask it.
+/// Decides when rounds end. All workers share it.
 pub trait RoundClock {
-    /// Whether the next round of this replica is to end, of which so many ended before.
+    /// Whether the next round of this replica is to end; `ended` rounds ended before.
     fn is_due(&self, replica: ReplicaId, ended: u32, progress: Progress) -> bool;
 
-    /// How long a worker that has nothing to do may sleep where no frame comes; so many of its rounds have ended.
+    /// How long a worker that has nothing to do may sleep if no frame arrives; `ended` of its rounds have ended.
     fn pause(&self, ended: u32) -> Duration;
 }
 
-/// The most milliseconds for which a worker sleeps: then it looks whether it is to stop.
+/// The most milliseconds that a worker sleeps before it looks whether it is to stop.
 const LONGEST_PAUSE_MS: u64 = 100;
 
-/// The machine's clock: each round lasts a base time, and a millisecond more than the one before it (`round_pacer`).
+/// Wall-clock time: each round lasts a base time, and a millisecond more than the one before it (`round_pacer`).
 #[derive(Drop)]
 pub struct MachineClock<'a, R: Clock> {
     rt: &'a R,
@@ -43,7 +43,7 @@ pub struct MachineClock<'a, R: Clock> {
 }
 
 impl<'a, R: Clock> MachineClock<'a, R> {
-    /// A clock that starts now, where this one can be read.
+    /// A clock that starts now. An `Err` means that the machine's clock can't be read.
     pub fn start(rt: &'a R, base_ms: u32) -> io::Result<Self> {
         Ok(MachineClock {
             rt,
@@ -52,7 +52,8 @@ impl<'a, R: Clock> MachineClock<'a, R> {
         })
     }
 
-    /// The milliseconds since the start. Where the clock can't be read any more, all rounds are over.
+    /// The milliseconds since the start. If the machine's clock can't be read any more, it is the greatest number, so
+    /// every round is due.
     fn now_ms(&self) -> u64 {
         match self.start.elapsed(self.rt) {
             Ok(elapsed) => u64::try_from(elapsed.as_millis()).unwrap_or(u64::MAX),

@@ -8,8 +8,8 @@ use std::sync::Wait;
 use std::thread;
 use std::thread::Threads;
 
-/// Runs each worker in a thread of its own, and returns when all have ended. Where a thread can't be made the cluster is asked to
-/// stop, and the answer is false: neither that worker nor those behind it did anything.
+/// Runs each worker in a thread of its own, and returns when all have ended. If a thread can't be made, the cluster is
+/// asked to stop and the result is false; that worker and those after it did nothing.
 pub fn run_all<A, R, C, G>(
     rt: &R,
     workers: Vec<Worker<A>>,

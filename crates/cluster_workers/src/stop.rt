@@ -1,4 +1,4 @@
-//! The wish that a running cluster stops before its rounds are over.
+//! The request that a running cluster stop before its rounds are over.
 use std::sync::atomic::{AtomicBool, Ordering};
 
 /// Whether a running cluster is to stop. Threads share it.
@@ -8,19 +8,19 @@ pub struct Stop {
 }
 
 impl Stop {
-    /// Nobody has asked for it.
+    /// A cluster that nobody has asked to stop.
     pub fn new() -> Self {
         Stop {
             is_asked: AtomicBool::new(false),
         }
     }
 
-    /// Asks the cluster to stop. Its workers end no round any more: they run what is decided, and end.
+    /// Asks the cluster to stop. Its workers end no more rounds; they run the blocks that are decided, and then end.
     pub fn ask(&self) {
         self.is_asked.store(true, Ordering::SeqCst);
     }
 
-    /// Whether somebody has asked for it.
+    /// Whether the cluster was asked to stop.
     pub fn is_asked(&self) -> bool {
         self.is_asked.load(Ordering::SeqCst)
     }

@@ -2,16 +2,16 @@
 ghost use Rattle.std.specs.Prelude.{◌≡◌, ◌≤◌, vec_len};
 
 use crate::gate::TurnGate;
-use crate::mail::{Inlet, Outlet};
-use crate::post::{Post, TurnOutcome};
+use crate::inboxes::{Receiver, Sender};
 use crate::round_clock::{Progress, RoundClock};
 use crate::sending::send;
 use crate::stop::Stop;
+use crate::turn_taker::{TurnOutcome, TurnTaker};
 use abci::Application;
 use bytes::Bytes;
 use ledger_model::{Event, ReplicaId, Sent};
 use locked_replica::ApplyFault;
-use replica_turns::{LockedReplica, Own, WaitingFrames, events_of, offered, own_of, sent_at};
+use replica_turns::{LockedReplica, OwnEvents, WaitingFrames, events_of, offered, own_of, sent_at};
 use std::alloc::{AllocError, Global};
 use std::marker::Model;
 use std::mem;
@@ -21,41 +21,41 @@ use std::sync::{Arc, Wait};
 pub struct Worker<A: Application> {
     alloc: Global,
     replica: Arc<LockedReplica<A>>,
-    post: Post,
-    inlet: Inlet,
-    outlets: Vec<Outlet>,
+    turn_taker: TurnTaker,
+    receiver: Receiver,
+    senders: Vec<Sender>,
     rounds: u32,
-    /// How many rounds have ended. One whose end was refused counts.
+    /// The number of rounds that have ended, including those whose end was refused.
     ended: u32,
     /// The greatest height that was proposed.
     proposed: u32,
     /// The frames of the next turn, and of the next round.
     frames: WaitingFrames,
-    /// How many frames were put into inboxes since the clock was asked.
+    /// The number of frames that were put into inboxes since the clock was last asked.
     sent: usize,
-    /// Whether the history has no room any more: the replica takes nothing then.
+    /// Whether the history is full: the replica takes no more events.
     is_full: bool,
-    /// Whether memory was refused in the last turn.
+    /// Whether memory ran out in the last turn.
     is_short: bool,
 }
 
 impl<A: Application> Model for Worker<A> {
-    ghost use Rattle.cluster_workers.specs.Running.{WorkerView};
+    ghost use Rattle.cluster_workers.specs.RunningClusters.{WorkerView};
 
     ghost Value = { WorkerView };
 
-    ghost view = { λ w. record { replica = w.post.seat.replica; rounds = w.rounds } };
+    ghost view = { λ w. record { replica = w.turn_taker.seat.replica; rounds = w.rounds } };
 }
 
-// It is dropped by a function of its own, so that whoever owns one drops it by a single call.
+// An own `Drop` keeps proofs short: an owner drops it by one call. See docs/WORKING.md.
 impl<A: Application> Drop for Worker<A> {
     fn drop(self) {
         let Worker {
             alloc: _alloc,
             replica: _replica,
-            post: _post,
-            inlet: _inlet,
-            outlets: _outlets,
+            turn_taker: _post,
+            receiver: _inlet,
+            senders: _outlets,
             rounds: _rounds,
             ended: _ended,
             proposed: _proposed,
@@ -75,12 +75,12 @@ struct Pass {
 }
 
 /// Takes at most `most` frames from an inbox.
-fn take_frames<R: Wait>(rt: &R, alloc: Global, inlet: &mut Inlet, most: usize) -> Vec<Bytes>
+fn take_frames<R: Wait>(rt: &R, alloc: Global, receiver: &mut Receiver, most: usize) -> Vec<Bytes>
     ensures { vec_len result ≤ most }
 {
     let mut frames = Vec::new(alloc);
     for _taken in 0..most {
-        let Some(frame) = inlet.take(rt) else {
+        let Some(frame) = receiver.take(rt) else {
             break;
         };
         if frames.push(frame).is_err() {
@@ -94,19 +94,19 @@ impl<A: Application> Worker<A> {
     pub(crate) fn new(
         alloc: Global,
         replica: Arc<LockedReplica<A>>,
-        post: Post,
-        inlet: Inlet,
-        outlets: Vec<Outlet>,
+        turn_taker: TurnTaker,
+        receiver: Receiver,
+        senders: Vec<Sender>,
         rounds: u32,
     ) -> Self
-        ensures { result ≡ record { replica = post.seat.replica; rounds = rounds } }
+        ensures { result ≡ record { replica = turn_taker.seat.replica; rounds = rounds } }
     {
         Worker {
             alloc,
             replica,
-            post,
-            inlet,
-            outlets,
+            turn_taker,
+            receiver,
+            senders,
             rounds,
             ended: 0,
             proposed: 0,
@@ -121,18 +121,18 @@ impl<A: Application> Worker<A> {
     pub fn replica(&self) -> ReplicaId
         ensures { result ≡ self.now.replica }
     {
-        self.post.replica()
+        self.turn_taker.replica()
     }
 
     /// The replica's round, and what it does by itself next.
-    fn look<R: Wait>(&self, rt: &R) -> (u32, Own) {
+    fn look<R: Wait>(&self, rt: &R) -> (u32, OwnEvents) {
         let state = self.replica.lock(rt);
         (state.clock(), own_of(&*state, self.proposed))
     }
 
-    /// Takes in as many frames from the inbox as there is room for, while this round is open, and answers how many came.
+    /// Takes as many frames from the inbox as there is room for, while the round `clock` is open. Returns how many it took.
     fn take_in<R: Wait>(&mut self, rt: &R, clock: u32) -> usize {
-        let frames = take_frames(rt, self.alloc, &mut self.inlet, self.frames.room());
+        let frames = take_frames(rt, self.alloc, &mut self.receiver, self.frames.room());
         let taken = frames.len();
         let _ = self.frames.take_in(self.alloc, clock, frames);
         taken
@@ -140,7 +140,7 @@ impl<A: Application> Worker<A> {
 
     /// A turn of the replica, under its lock.
     fn turn<R: Wait, G: TurnGate>(&mut self, rt: &R, gate: &G, events: Vec<Event>) -> TurnOutcome {
-        let id = self.post.replica();
+        let id = self.turn_taker.replica();
         gate.before(id);
         let outcome = self.turn_locked(rt, events);
         gate.after(id, outcome.status);
@@ -149,11 +149,11 @@ impl<A: Application> Worker<A> {
 
     fn turn_locked<R: Wait>(&mut self, rt: &R, events: Vec<Event>) -> TurnOutcome {
         let mut state = self.replica.lock(rt);
-        self.post.turn(&mut *state, events)
+        self.turn_taker.turn(&mut *state, events)
     }
 
-    /// Notes why an event was refused, if one was; `offered` frames were handed over until then. Where the history is full, or
-    /// memory is refused once more, all frames that wait are given up.
+    /// Records why an event was refused, if one was. `offered` frames were offered until then, and are dropped. If the
+    /// history is full, or memory runs out for the second time in a row, all waiting frames are dropped.
     fn note_fault(&mut self, fault: Option<ApplyFault>, offered: usize) {
         match fault {
             Some(ApplyFault::HistoryFull) => {
@@ -172,9 +172,9 @@ impl<A: Application> Worker<A> {
         }
     }
 
-    /// Hands over what the replica does by itself, and the frames that wait. An event that is refused is given up, and the frames
-    /// behind it wait for the next turn. Answers how many events were taken.
-    fn hand_over<R: Wait, G: TurnGate>(&mut self, rt: &R, gate: &G, own: &Own) -> usize {
+    /// Gives the replica a turn with what it does by itself, followed by the waiting frames. A refused event is
+    /// dropped, and the frames after it wait for the next turn. Returns the number of events that were taken.
+    fn hand_over<R: Wait, G: TurnGate>(&mut self, rt: &R, gate: &G, own: &OwnEvents) -> usize {
         let Ok(events) = events_of(self.alloc, own, self.frames.due()) else {
             self.note_fault(Some(ApplyFault::NoMemory), 0);
             return 0;
@@ -190,7 +190,7 @@ impl<A: Application> Worker<A> {
         outcome.taken
     }
 
-    /// The frames of an entry, none where memory ran out.
+    /// The frames of an entry; none if memory ran out.
     fn sent_at<R: Wait>(&self, rt: &R, index: usize) -> Vec<Sent> {
         let state = self.replica.lock(rt);
         match sent_at(self.alloc, &*state, index) {
@@ -215,14 +215,14 @@ impl<A: Application> Worker<A> {
 
     /// Puts the frames of an entry into the inboxes of their addressees.
     fn send_all<R: Wait>(&mut self, rt: &R, index: usize) {
-        let from = self.post.replica();
+        let from = self.turn_taker.replica();
         for sent in self.sent_at(rt, index) {
-            let count = send(rt, &mut self.outlets, from, &sent);
+            let count = send(rt, &mut self.senders, from, &sent);
             self.sent = self.sent.saturating_add(count);
         }
     }
 
-    /// One pass of the loop, which ends a round if one is due and may end.
+    /// One pass of the loop. It ends a round if one is due and may end.
     fn pass<R: Wait, C: RoundClock, G: TurnGate>(
         &mut self,
         rt: &R,
@@ -238,7 +238,7 @@ impl<A: Application> Worker<A> {
             sent: mem::replace(&mut self.sent, 0),
             events,
         };
-        let is_due = may_end && clock.is_due(self.post.replica(), self.ended, progress);
+        let is_due = may_end && clock.is_due(self.turn_taker.replica(), self.ended, progress);
         if is_due {
             self.end_round(rt, gate);
         }
@@ -248,14 +248,14 @@ impl<A: Application> Worker<A> {
         }
     }
 
-    /// One pass where the history is full: the replica takes nothing any more, and its rounds are counted.
+    /// One pass while the history is full: the replica takes no events, and its rounds are only counted.
     fn pass_full<C: RoundClock>(&mut self, clock: &C, may_end: bool) -> Pass {
         let progress = Progress {
             taken: 0,
             sent: mem::replace(&mut self.sent, 0),
             events: 0,
         };
-        let is_due = may_end && clock.is_due(self.post.replica(), self.ended, progress);
+        let is_due = may_end && clock.is_due(self.turn_taker.replica(), self.ended, progress);
         if is_due {
             self.ended = self.ended.saturating_add(1);
         }
@@ -265,7 +265,7 @@ impl<A: Application> Worker<A> {
         }
     }
 
-    /// Runs until its rounds are over, or the cluster is asked to stop, and all that was decided then is run.
+    /// Runs until the rounds are over, or the cluster is asked to stop, and then runs the blocks that are already decided.
     pub fn run<R: Wait, C: RoundClock, G: TurnGate>(
         mut self,
         rt: &R,
@@ -274,7 +274,7 @@ impl<A: Application> Worker<A> {
         stop: &Stop,
     ) {
         for _ in rt.forever() {
-            let rings = self.inlet.rings();
+            let rings = self.receiver.rings();
             let may_end = self.ended < self.rounds && !stop.is_asked();
             let pass = if self.is_full {
                 self.pass_full(clock, may_end)
@@ -285,7 +285,7 @@ impl<A: Application> Worker<A> {
                 break;
             }
             if pass.is_idle {
-                self.inlet.sleep(rt, rings, clock.pause(self.ended));
+                self.receiver.sleep(rt, rings, clock.pause(self.ended));
             }
         }
     }

@@ -1,4 +1,4 @@
-//! Numbers and bytes at a cursor, and at the end of a vector.
+//! Numbers and bytes that are taken from a cursor, and appended to a vector.
 
 use octets::{Cursor, put_bytes, put_u8, put_u16, put_u32};
 use std::alloc::AllocError;
@@ -19,7 +19,7 @@ fn reads_two(cursor: &mut Cursor<'_>) -> bool {
         && cursor.take_u32().is_err()
 }
 
-// The last number, and none behind it.
+// The last number, and none after it.
 fn reads_the_last(cursor: &mut Cursor<'_>) -> bool {
     cursor.take_u16().ok() == Some(2348) && cursor.take_u8().is_err() && cursor.take_u16().is_err()
 }

@@ -19,7 +19,7 @@ fn parsed_of(alloc: Global, built: Result<Vec<u8>, AllocError>) -> Option<Frame>
     parsed(alloc, &built.ok()?)
 }
 
-// Whether a frame has these bytes where they are shared.
+// Whether the shared bytes of a frame are these.
 fn shares(frame: &Frame, bytes: &[u8]) -> bool {
     match frame.share() {
         Ok(shared) => shared.as_slice() == bytes,
@@ -27,12 +27,12 @@ fn shares(frame: &Frame, bytes: &[u8]) -> bool {
     }
 }
 
-// Whether a frame has these bytes, also where they are shared.
+// Whether the bytes of a frame are these, shared or not.
 fn has_bytes(frame: &Frame, bytes: &[u8]) -> bool {
     frame.as_bytes() == bytes && shares(frame, bytes)
 }
 
-// Whether a frame has these bytes and those of its statement, and its signature the other ones; and this signer.
+// Whether a frame has these bytes, those of its statement, the rest as its signature, and this signer.
 fn is_whole(frame: &Frame, statement: &[u8], bytes: &[u8], signer: u8) -> bool {
     has_bytes(frame, bytes)
         && frame.statement_bytes() == statement
@@ -40,7 +40,7 @@ fn is_whole(frame: &Frame, statement: &[u8], bytes: &[u8], signer: u8) -> bool {
         && frame.statement().signer().number() == signer
 }
 
-// Whether there is such a frame.
+// Whether there is a frame, and it is that one.
 fn shows(frame: Option<Frame>, statement: &[u8], bytes: &[u8], signer: u8) -> bool {
     let Some(frame) = frame else {
         return false;
@@ -48,7 +48,8 @@ fn shows(frame: Option<Frame>, statement: &[u8], bytes: &[u8], signer: u8) -> bo
     is_whole(&frame, statement, bytes, signer)
 }
 
-// The statement of these bytes under a signature of bytes 7. It is spelled by them before it is signed.
+// The frame of a statement with these bytes, whose signature consists of bytes 7. The statement is encoded to these
+// bytes before it is signed.
 fn signed(alloc: Global, statement: &[u8]) -> Option<Frame> {
     let unsigned = UnsignedFrame::new(alloc, decode(alloc, statement).ok()?).ok()?;
     if unsigned.statement_bytes() != statement {
@@ -57,7 +58,7 @@ fn signed(alloc: Global, statement: &[u8]) -> Option<Frame> {
     unsigned.with_signature(&[7; 2348]).ok()
 }
 
-// Whether so many bytes were built, and are parsed as the frame of the statement by this signer, and made from it.
+// Whether the frame that was built has `len` bytes, is parsed as the frame of the statement by this signer, and is made from it.
 fn is_frame(
     alloc: Global,
     built: Result<Vec<u8>, AllocError>,
@@ -82,12 +83,12 @@ fn parses_and_builds_each_kind(rt: HostRuntime) {
     assert!(rt; is_frame(alloc, lock_frame(alloc), 9489, &statement, 1));
 }
 
-// Whether the frame of these bytes gives them away.
+// Whether the frame of these bytes returns them.
 fn gives_bytes(alloc: Global, bytes: &[u8]) -> Option<bool> {
     Some(parsed(alloc, bytes)?.into_bytes().as_slice() == bytes)
 }
 
-// The signer of the statement that the frame of these bytes gives away.
+// The signer of the statement that the frame of these bytes returns.
 fn signer_given(alloc: Global, bytes: &[u8]) -> Option<u8> {
     Some(parsed(alloc, bytes)?.into_statement().signer().number())
 }
@@ -99,7 +100,7 @@ fn is_taken_apart(rt: HostRuntime) {
     assert!(rt; signer_given(rt.alloc(), &ack) == Some(2));
 }
 
-// Whether this is the report at a place of the lock, with its signer and its signature.
+// Whether the report at this index of the lock has this signer and this signature.
 fn lends(frame: &Frame, place: usize, signer: u8, signature: &[u8]) -> bool {
     let report = report_bytes(1, 1, signer, b'a');
     match frame.lent_reports().nth(place) {
@@ -116,30 +117,38 @@ fn lends_nothing(frame: &Frame, place: usize) -> bool {
     frame.lent_reports().nth(place).is_none()
 }
 
-// Whether these reports are lent, each at its place with its signer and its signature, and nothing behind them.
-fn lends_each(frame: &Frame, reports: &[(usize, u8, &[u8])], behind: usize) -> bool {
-    for (place, signer, signature) in reports {
-        if !lends(frame, *place, *signer, signature) {
-            return false;
+// The first index, if there is one, at which the frame doesn't have the report of this index, signer and signature, or
+// has one although the frame has `count` reports.
+fn first_wrong_report(
+    frame: &Frame,
+    reports: &[(usize, u8, &[u8])],
+    count: usize,
+) -> Option<usize> {
+    for (index, signer, signature) in reports {
+        if !lends(frame, *index, *signer, signature) {
+            return Some(*index);
         }
     }
-    lends_nothing(frame, behind) && lends_nothing(frame, usize::MAX)
+    for index in [count, usize::MAX] {
+        if !lends_nothing(frame, index) {
+            return Some(index);
+        }
+    }
+    None
 }
 
-// Whether the frame that was built lends so.
-fn is_lender(
+// The same for the frame that was built, if it is one.
+fn first_wrong_of(
     alloc: Global,
     built: Result<Vec<u8>, AllocError>,
     reports: &[(usize, u8, &[u8])],
-    behind: usize,
-) -> bool {
-    let Some(frame) = parsed_of(alloc, built) else {
-        return false;
-    };
-    lends_each(&frame, reports, behind)
+    count: usize,
+) -> Option<Option<usize>> {
+    let frame = parsed_of(alloc, built)?;
+    Some(first_wrong_report(&frame, reports, count))
 }
 
-// Of the lock of nine only the last report is asked for.
+// Of the lock with nine reports, only the last is read.
 #[test]
 fn lends_the_reports_of_locks(rt: HostRuntime) {
     let alloc = rt.alloc();
@@ -148,11 +157,20 @@ fn lends_the_reports_of_locks(rt: HostRuntime) {
         (1, 2, &[2; 2348]),
         (2, 3, &[3; 2348]),
     ];
-    assert!(rt; is_lender(alloc, lock_frame(alloc), &three, 3));
+    assert_eq!(rt;
+        first_wrong_of(alloc, lock_frame(alloc), &three, 3),
+        Some(None)
+    );
     let ninth = [(8, 8, [8, 5].as_slice())];
-    assert!(rt; is_lender(alloc, long_lock_frame(alloc), &ninth, 9));
-    assert!(rt; is_lender(alloc, report_frame(alloc), &[], 0));
-    assert!(rt; is_lender(alloc, ack_frame(alloc), &[], 0));
+    assert_eq!(rt;
+        first_wrong_of(alloc, long_lock_frame(alloc), &ninth, 9),
+        Some(None)
+    );
+    assert_eq!(rt;
+        first_wrong_of(alloc, report_frame(alloc), &[], 0),
+        Some(None)
+    );
+    assert_eq!(rt; first_wrong_of(alloc, ack_frame(alloc), &[], 0), Some(None));
 }
 
 fn is_malformed(alloc: Global, bytes: &[u8]) -> Option<bool> {
@@ -160,22 +178,27 @@ fn is_malformed(alloc: Global, bytes: &[u8]) -> Option<bool> {
     Some(Frame::parse(alloc, copied).err() == Some(DecodeFault::Malformed))
 }
 
-// Whether each beginning of these bytes, and the bytes with one more, are malformed.
-fn only_whole(alloc: Global, bytes: &[u8]) -> Option<bool> {
+// The length of the first proper prefix of these bytes that isn't malformed, or of the bytes with one more if they
+// aren't, if there is such a length.
+fn first_well_formed(alloc: Global, bytes: &[u8]) -> Option<Option<usize>> {
     for len in 0..bytes.len() {
         if !is_malformed(alloc, &bytes[..len])? {
-            return Some(false);
+            return Some(Some(len));
         }
     }
     let longer = joined(alloc, &[bytes, &[0]]).ok()?;
-    is_malformed(alloc, &longer)
+    if is_malformed(alloc, &longer)? {
+        Some(None)
+    } else {
+        Some(Some(longer.len()))
+    }
 }
 
 #[test]
 fn refuses_beginnings_and_more(rt: HostRuntime) {
     let alloc = rt.alloc();
     let report = report_frame(alloc).expect(&rt, "memory");
-    assert!(rt; only_whole(alloc, &report) == Some(true));
+    assert_eq!(rt; first_well_formed(alloc, &report), Some(None));
     let lock = lock_frame(alloc).expect(&rt, "memory");
-    assert!(rt; only_whole(alloc, &lock) == Some(true));
+    assert_eq!(rt; first_well_formed(alloc, &lock), Some(None));
 }

@@ -1,4 +1,4 @@
-//! Values, statements and frames, and their bytes. This crate has tests alone.
+//! Tests of values, statements and frames, and of their bytes.
 #![tactic(auto)]
 
 #[cfg(test)]

@@ -4,31 +4,32 @@ use super::spellings::{ack_frame, joined, lock_frame, report_frame};
 use signed_frames::{Frame, FrameFault, FrameReader};
 use std::alloc::{AllocError, Global};
 
-// What a reader answers to a piece: how many frames it gives, or the fault; and whether it is then between two frames.
+// A reader's answer to a piece: the number of frames that it returns, or the fault; and whether it is then between two frames.
 type Answer = (Result<usize, FrameFault>, bool);
 
 fn fed(reader: &mut FrameReader, piece: &[u8]) -> Result<usize, FrameFault> {
     Ok(reader.feed(piece)?.len())
 }
 
-// Whether a reader answers this to each of the pieces.
-fn answers(reader: &mut FrameReader, cases: &[(&[u8], Answer)]) -> bool {
-    for (piece, wanted) in cases {
+// The index of the first piece to which the reader gives another answer, if there is one.
+fn first_wrong_answer(reader: &mut FrameReader, cases: &[(&[u8], Answer)]) -> Option<usize> {
+    for (index, (piece, wanted)) in cases.iter().enumerate() {
         let answer = fed(reader, piece);
         if (answer, reader.is_between()) != *wanted {
-            return false;
+            return Some(index);
         }
     }
-    true
+    None
 }
 
-// Whether a new reader does.
-fn are_fed(alloc: Global, cases: &[(&[u8], Answer)]) -> bool {
+// The same for a new reader.
+fn first_wrong(alloc: Global, cases: &[(&[u8], Answer)]) -> Option<usize> {
     let mut reader = FrameReader::new(alloc);
-    answers(&mut reader, cases)
+    first_wrong_answer(&mut reader, cases)
 }
 
-// How many frames come byte by byte, and whether the reader is between two of them before the first and behind each alone.
+// The number of frames that arrive byte by byte, and whether the reader is between two frames exactly before the first
+// and after each.
 fn fed_singly(reader: &mut FrameReader, bytes: &[u8]) -> Result<(usize, bool), FrameFault> {
     let mut count = 0usize;
     let mut between = reader.is_between();
@@ -47,7 +48,7 @@ fn reads_one_frame_byte_by_byte(rt: HostRuntime) {
     assert!(rt; fed_singly(&mut reader, &bytes) == Ok((1, true)));
 }
 
-// A report, these bytes, an acknowledgement, and those.
+// A report, the bytes `between`, an acknowledgement, and the bytes `behind`.
 fn with_between(alloc: Global, between: &[u8], behind: &[u8]) -> Result<Vec<u8>, AllocError> {
     let report = report_frame(alloc)?;
     let ack = ack_frame(alloc)?;
@@ -78,7 +79,7 @@ fn finds(alloc: Global, piece: &[u8], signers: &[u8]) -> bool {
     }
 }
 
-// At once, and two frames and a part of the third before the rest of it.
+// All at once; and two frames with part of the third, before the rest of it.
 #[test]
 fn reads_several_frames(rt: HostRuntime) {
     let bytes = three_frames(rt.alloc()).expect(&rt, "memory");
@@ -89,10 +90,10 @@ fn reads_several_frames(rt: HostRuntime) {
         (&[], (Ok(0), false)),
         (&bytes[cut..], (Ok(1), true)),
     ];
-    assert!(rt; are_fed(rt.alloc(), &cases));
+    assert_eq!(rt; first_wrong(rt.alloc(), &cases), None);
 }
 
-// What stays after a fault: each further piece fails.
+// The answers after a fault: each further piece fails.
 const FAILED: Answer = (Err(FrameFault::Failed), false);
 
 #[test]
@@ -106,38 +107,49 @@ fn refuses_a_long_frame(rt: HostRuntime) {
         (&[], FAILED),
         (&good, FAILED),
     ];
-    assert!(rt; are_fed(rt.alloc(), &cases));
+    assert_eq!(rt; first_wrong(rt.alloc(), &cases), None);
 }
 
 #[test]
 fn awaits_150000_bytes_and_refuses_an_empty_frame(rt: HostRuntime) {
     let longest = [([0, 2, 0x49, 0xf0].as_slice(), (Ok(0), false))];
-    assert!(rt; are_fed(rt.alloc(), &longest));
+    assert_eq!(rt; first_wrong(rt.alloc(), &longest), None);
     let empty = [
         ([0, 0, 0].as_slice(), (Ok(0), false)),
         (&[0], (Err(FrameFault::Malformed), false)),
         (&[0], FAILED),
     ];
-    assert!(rt; are_fed(rt.alloc(), &empty));
+    assert_eq!(rt; first_wrong(rt.alloc(), &empty), None);
 }
 
-// Whether a reader hands out so many frames of these bytes before this fault, which then stays: for no bytes, and for a good
-// frame.
-fn ends(alloc: Global, bytes: &[u8], count: usize, fault: FrameFault) -> Option<bool> {
+// A reader returns `count` frames of these bytes before this fault, which then stays: for no bytes, and for a good frame.
+// The index of the first of these three pieces that gets another answer, if there is one.
+fn first_wrong_end(
+    alloc: Global,
+    bytes: &[u8],
+    count: usize,
+    fault: FrameFault,
+) -> Option<Option<usize>> {
     let good = report_frame(alloc).ok()?;
     let cases = [
         (bytes, (Ok(count), false)),
         (&[], (Err(fault), false)),
         (&good, FAILED),
     ];
-    Some(are_fed(alloc, &cases))
+    Some(first_wrong(alloc, &cases))
 }
 
 #[test]
 fn hands_out_frames_before_a_fault(rt: HostRuntime) {
     let alloc = rt.alloc();
     let long = with_between(alloc, &[], &[0xff, 0xff, 0xff, 0xff]).expect(&rt, "memory");
-    assert!(rt; ends(alloc, &long, 2, FrameFault::TooLong) == Some(true));
+    assert_eq!(rt;
+        first_wrong_end(alloc, &long, 2, FrameFault::TooLong),
+        Some(None)
+    );
     let malformed = with_between(alloc, &[0, 0, 0, 1, 9], &[]).expect(&rt, "memory");
-    assert!(rt; ends(alloc, &malformed, 1, FrameFault::Malformed) == Some(true));
+    assert_eq!(rt;
+        first_wrong_end(alloc, &malformed, 1, FrameFault::Malformed),
+        Some(None)
+    );
 }

@@ -1,10 +1,10 @@
-//! Ledgers, reports, and the lists that statements and histories keep.
+//! Ledgers, reports, and the lists in statements and histories.
 
 use ledger_model::{
     Batch, Batches, Codes, Entries, Entry, Event, Ledger, NothingDecided, Reply, Signature,
 };
 use std::alloc::Global;
-use test_support::{Told, naming, report, value, values};
+use test_support::{ReportFields, naming, report, value, values};
 
 // Whether these are the batches of one transaction each.
 fn are_values(alloc: Global, batches: &[Batch], wanted: &[&[u8]]) -> Option<bool> {
@@ -25,24 +25,24 @@ fn a_ledger_grows(rt: HostRuntime) {
     assert!(rt; are_values(rt.alloc(), ledger.blocks(), &[b"a=1", b"b=2"]) == Some(true));
 }
 
-// Whether a report that tells this names and finds a value.
-fn found_in(alloc: Global, told: &Told<'_>, value: &Batch) -> Option<(bool, bool)> {
-    let report = report(alloc, told).ok()?;
+// Whether a report with these fields names and finds a value.
+fn found_in(alloc: Global, fields: &ReportFields<'_>, value: &Batch) -> Option<(bool, bool)> {
+    let report = report(alloc, fields).ok()?;
     Some((report.names(value), report.finds(value)))
 }
 
-// The same of `a=1` and a report with ALL or not, which names these values and holds locks on those.
+// Whether a report, with ALL or not, that names these values and lists these locks names and finds `a=1`.
 fn found(alloc: Global, all: bool, proper: &[&[u8]], locked: &[&[u8]]) -> Option<(bool, bool)> {
-    let told = Told {
+    let fields = ReportFields {
         all,
         locked,
         ..naming(0, b"a=1", proper)
     };
     let value = value(alloc, b"a=1").ok()?;
-    found_in(alloc, &told, &value)
+    found_in(alloc, &fields, &value)
 }
 
-// Reports with ALL or not, the values that they name and lock, and whether they name and find `a=1`.
+// Reports with ALL or not, the values that they name and list as locked, and whether they name and find `a=1`.
 const REPORTS: [(bool, &[&[u8]], &[&[u8]], (bool, bool)); 6] = [
     (false, &[b"a=1"], &[], (true, true)),
     (false, &[b"b=2"], &[], (false, false)),
@@ -54,8 +54,11 @@ const REPORTS: [(bool, &[&[u8]], &[&[u8]], (bool, bool)); 6] = [
 
 #[test]
 fn what_reports_name_and_find(rt: HostRuntime) {
-    for &(all, proper, locked, wanted) in &REPORTS {
-        assert!(rt; found(rt.alloc(), all, proper, locked) == Some(wanted));
+    for (index, &(all, proper, locked, wanted)) in REPORTS.iter().enumerate() {
+        assert!(rt;
+            found(rt.alloc(), all, proper, locked) == Some(wanted),
+            "report {index}"
+        );
     }
 }
 

@@ -26,14 +26,14 @@ fn put_all(bytes: &mut Vec<u8>, parts: &[&[u8]]) -> Result<(), AllocError> {
     Ok(())
 }
 
-/// These bytes, one part behind the other.
+/// These parts, one after another.
 pub(crate) fn joined(alloc: Global, parts: &[&[u8]]) -> Result<Vec<u8>, AllocError> {
     let mut bytes = Vec::new(alloc);
     put_all(&mut bytes, parts)?;
     Ok(bytes)
 }
 
-// The reports of these signers on [a=1] at height 1 and phase 1, each under the signature of its signer's number and 5.
+// Appends the reports of these signers on [a=1] at height 1 and phase 1. Each signature consists of its signer's number and 5.
 fn put_reports(bytes: &mut Vec<u8>, signers: &[u8]) -> Result<(), AllocError> {
     for signer in signers {
         bytes.extend_from_slice(&report_bytes(1, 1, *signer, b'a'))?;
@@ -42,15 +42,15 @@ fn put_reports(bytes: &mut Vec<u8>, signers: &[u8]) -> Result<(), AllocError> {
     Ok(())
 }
 
-/// The lock of replica 1 on [a=1] at height 1 and phase 1, with the reports of these signers on it, each under the signature of
-/// its signer's number and 5.
+/// The lock of replica 1 on [a=1] at height 1 and phase 1, with the reports of these signers on [a=1]. Each report's
+/// signature consists of its signer's number and 5.
 pub(crate) fn lock_of(alloc: Global, count: u8, signers: &[u8]) -> Result<Vec<u8>, AllocError> {
     let mut bytes = joined(alloc, &[&lock_bytes(1, 1, b'a', count)])?;
     put_reports(&mut bytes, signers)?;
     Ok(bytes)
 }
 
-/// The frame of a statement's bytes under a signature of bytes 7, with the length that it announces.
+/// The frame that announces this length, with a statement's bytes and a signature of bytes 7.
 fn frame_of(alloc: Global, len: [u8; 4], statement: &[u8]) -> Result<Vec<u8>, AllocError> {
     joined(alloc, &[&len, statement, &SIGNATURE_LEN, &[7; 2348]])
 }
@@ -63,7 +63,7 @@ pub(crate) fn ack_frame(alloc: Global) -> Result<Vec<u8>, AllocError> {
     frame_of(alloc, [0, 0, 0x09, 0x3d], &ACK)
 }
 
-/// The lock with the reports of replicas 0, 2 and 3, each under a signature of bytes that are its number.
+/// The lock with the reports of replicas 0, 2 and 3. Each report's signature consists of bytes that are its signer's number.
 pub(crate) fn lock_statement(alloc: Global) -> Result<Vec<u8>, AllocError> {
     joined(
         alloc,
@@ -87,7 +87,7 @@ pub(crate) fn lock_frame(alloc: Global) -> Result<Vec<u8>, AllocError> {
     frame_of(alloc, [0, 0, 0x25, 0x0d], &lock_statement(alloc)?)
 }
 
-/// The frame of the lock with the reports of replicas 0 to 8, each under a signature of its number and 5.
+/// The frame of the lock with the reports of replicas 0 to 8. Each report's signature consists of its signer's number and 5.
 pub(crate) fn long_lock_frame(alloc: Global) -> Result<Vec<u8>, AllocError> {
     let lock = lock_of(alloc, 9, &[0, 1, 2, 3, 4, 5, 6, 7, 8])?;
     joined(alloc, &[&[0, 0, 1, 7], &lock, &[0, 2, 6, 7]])

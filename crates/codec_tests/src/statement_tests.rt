@@ -11,7 +11,7 @@ use statements::{
 use std::alloc::{AllocError, Global};
 use test_support::{ack_bytes, report_bytes, value};
 
-// What is seen of a statement, if one was read.
+// What `look` finds in a statement, if one was read.
 fn seen<T, F: FnOnce(&Statement) -> T>(read: Result<Statement, DecodeFault>, look: F) -> Option<T>
     requires { F.IsAlwaysCallable look }
 {
@@ -37,7 +37,7 @@ fn shown(statement: &Statement) -> (char, (u8, u32, u32)) {
     (kind, place)
 }
 
-// How many bytes a report has, or the reports of a lock.
+// The number of bytes of a report, or of a lock's reports.
 fn len_of_reports(statement: &Statement) -> usize
     requires { IsStatement statement.now }
 {
@@ -48,7 +48,7 @@ fn len_of_reports(statement: &Statement) -> usize
     }
 }
 
-// How many bytes a statement has, and its reports, if it is encoded so.
+// The number of bytes of a statement and of its reports, if it is encoded to these bytes.
 fn lens(alloc: Global, statement: &Statement, bytes: &[u8]) -> Option<(usize, usize)>
     requires { IsStatement statement.now }
 {
@@ -59,7 +59,7 @@ fn lens(alloc: Global, statement: &Statement, bytes: &[u8]) -> Option<(usize, us
     Some((encoded_len(statement), len_of_reports(statement)))
 }
 
-// The same of the statement that is read from these bytes.
+// The same for the statement that these bytes encode.
 fn lens_as_read(alloc: Global, bytes: &[u8]) -> Option<(usize, usize)> {
     match decode(alloc, bytes) {
         Ok(statement) => lens(alloc, &statement, bytes),
@@ -67,7 +67,7 @@ fn lens_as_read(alloc: Global, bytes: &[u8]) -> Option<(usize, usize)> {
     }
 }
 
-// Whether the statement of these bytes is shown so, and has these lengths.
+// Whether the statement with these bytes is shown so, and has these lengths.
 fn are_read(
     alloc: Global,
     bytes: &[u8],
@@ -77,7 +77,7 @@ fn are_read(
     seen(decode(alloc, bytes), shown) == Some(wanted) && lens_as_read(alloc, bytes) == Some(lens)
 }
 
-// An acknowledgement of a batch of transactions of one length, whose count and lengths may be wrong.
+// An acknowledgement of a batch of transactions of one length; the count and the lengths may be wrong.
 fn batch_bytes(alloc: Global, count: u8, len: u8) -> Result<Vec<u8>, AllocError> {
     let mut bytes = joined(alloc, &[&ACK[..10], &[count]])?;
     put_transactions(&mut bytes, count, len)?;
@@ -93,7 +93,7 @@ fn put_transactions(bytes: &mut Vec<u8>, count: u8, len: u8) -> Result<(), Alloc
     Ok(())
 }
 
-// Whether what was built is read so.
+// Whether the statement that was built is read so.
 fn are_built(
     alloc: Global,
     built: Result<Vec<u8>, AllocError>,
@@ -118,8 +118,8 @@ fn reads_and_writes_statements(rt: HostRuntime) {
     assert!(rt; are_built(alloc, batch, ('a', (2, 1, 1)), (1051, 0)));
 }
 
-// Whether a report has ALL; how many transactions its initial value has; how many values are proper and how many locked.
-fn told(statement: &Statement) -> Option<(bool, usize, usize, usize)> {
+// Whether a report has ALL, and the numbers of transactions of its initial value, of proper values, and of locked values.
+fn counts_of(statement: &Statement) -> Option<(bool, usize, usize, usize)> {
     let Statement::Report(report) = statement else {
         return None;
     };
@@ -132,16 +132,19 @@ fn told(statement: &Statement) -> Option<(bool, usize, usize, usize)> {
 }
 
 #[test]
-fn reads_what_reports_tell(rt: HostRuntime) {
+fn reads_the_fields_of_reports(rt: HostRuntime) {
     for (bytes, wanted) in [
         (REPORT.as_slice(), (false, 1, 1, 0)),
         (&ALL_REPORT, (true, 0, 2, 1)),
     ] {
-        assert!(rt; seen(decode(rt.alloc(), bytes), told) == Some(Some(wanted)));
+        assert!(rt;
+            seen(decode(rt.alloc(), bytes), counts_of) == Some(Some(wanted)),
+            "{wanted:?}"
+        );
     }
 }
 
-// Whether a report begins with a value, and whether it finds it.
+// Whether a report names a value, and whether it finds it.
 fn found(statement: &Statement, value: &Batch) -> Option<(bool, bool)> {
     match statement {
         Statement::Report(report) => Some((report.initial == *value, report.finds(value))),
@@ -149,13 +152,13 @@ fn found(statement: &Statement, value: &Batch) -> Option<(bool, bool)> {
     }
 }
 
-// The same of the batch of one transaction.
+// The same for the batch of one transaction.
 fn found_by(alloc: Global, bytes: &[u8], tx: &[u8]) -> Option<(bool, bool)> {
     let value = value(alloc, tx).ok()?;
     seen(decode(alloc, bytes), |statement| found(statement, &value))?
 }
 
-// The second has ALL, and locks [z] alone.
+// The second report has ALL, and lists only [z] as locked.
 #[test]
 fn a_decoded_report_finds_values(rt: HostRuntime) {
     for (bytes, tx, wanted) in [
@@ -164,11 +167,14 @@ fn a_decoded_report_finds_values(rt: HostRuntime) {
         (&ALL_REPORT, b"z", (false, true)),
         (&ALL_REPORT, b"a=1", (false, false)),
     ] {
-        assert!(rt; found_by(rt.alloc(), bytes, tx) == Some(wanted));
+        assert!(rt;
+            found_by(rt.alloc(), bytes, tx) == Some(wanted),
+            "{tx:?} {wanted:?}"
+        );
     }
 }
 
-// Whether each report has the signature of its signer's number and 5.
+// Whether the signature of each report consists of its signer's number and 5.
 fn are_signed(reports: &[SignedReport]) -> bool {
     for signed in reports {
         let signer = signed.report.signer.number();
@@ -179,7 +185,7 @@ fn are_signed(reports: &[SignedReport]) -> bool {
     true
 }
 
-// How many reports a lock has, and whether each is signed so.
+// The number of a lock's reports, and whether each is signed so.
 fn proof_of(statement: &Statement) -> Option<(usize, bool)> {
     let Statement::Lock(lock) = statement else {
         return None;
@@ -188,14 +194,14 @@ fn proof_of(statement: &Statement) -> Option<(usize, bool)> {
     Some((reports.len(), are_signed(reports)))
 }
 
-// A lock's signers may be no replicas.
+// The signers of a lock need not be replicas of a cluster.
 #[test]
 fn reads_a_lock(rt: HostRuntime) {
     let bytes = lock_of(rt.alloc(), 3, &[0, 2, 255]).expect(&rt, "memory");
     assert!(rt; seen(decode(rt.alloc(), &bytes), proof_of) == Some(Some((3, true))));
 }
 
-// What other tests build is what is written by hand here.
+// The builders of `test_support` build what is written by hand here.
 #[test]
 fn builders_spell_the_same(rt: HostRuntime) {
     assert!(rt; report_bytes(1, 1, 0, b'a') == REPORT && ack_bytes(1, 1, 2, b'a') == ACK);
@@ -222,7 +228,7 @@ fn counts_the_reports_of_a_lock(rt: HostRuntime) {
         (13, &thirteen, true),
     ] {
         let is_malformed = is_malformed_lock(rt.alloc(), count, signers);
-        assert!(rt; is_malformed == Some(wanted), "{count}");
+        assert!(rt; is_malformed == Some(wanted), "{count} {signers:?}");
     }
 }
 
@@ -248,7 +254,7 @@ fn is_malformed_at(alloc: Global, at: usize, byte: u8) -> bool {
     is_malformed(alloc, &changed)
 }
 
-// A kind that there isn't; height 0 and phase 0; a flag of 2; 17 transactions announced, and one of no byte; nothing proper.
+// An unknown kind; height 0 and phase 0; a flag of 2; 17 transactions announced, and one of no bytes; no proper value.
 #[test]
 fn refuses_other_bytes(rt: HostRuntime) {
     for (at, byte) in [
@@ -261,12 +267,12 @@ fn refuses_other_bytes(rt: HostRuntime) {
         (12, 0),
         (16, 0),
     ] {
-        assert!(rt; is_malformed_at(rt.alloc(), at, byte), "{at}");
+        assert!(rt; is_malformed_at(rt.alloc(), at, byte), "{at} {byte}");
     }
 }
 
-// A report of replica 0 on the empty batch, up to its proper values: [] twice, [z] before [], and [z] before [aa], as lengths
-// count first.
+// A report of replica 0 on the empty batch, up to its proper values: [] twice, [z] before [], and [z] before [aa],
+// which is wrong because lengths are compared first.
 #[test]
 fn refuses_values_that_do_not_ascend(rt: HostRuntime) {
     for (bytes, wanted) in [
@@ -285,7 +291,7 @@ fn refuses_values_that_do_not_ascend(rt: HostRuntime) {
             false,
         ),
     ] {
-        assert!(rt; is_malformed(rt.alloc(), bytes) == wanted);
+        assert!(rt; is_malformed(rt.alloc(), bytes) == wanted, "{bytes:?}");
     }
 }
 
@@ -294,11 +300,11 @@ fn refuses_beginnings_and_more(rt: HostRuntime) {
     let longer = joined(rt.alloc(), &[&REPORT, &[0]]).expect(&rt, "memory");
     assert!(rt; is_malformed(rt.alloc(), &longer));
     for len in 0..REPORT.len() {
-        assert!(rt; is_malformed(rt.alloc(), &REPORT[..len]));
+        assert!(rt; is_malformed(rt.alloc(), &REPORT[..len]), "{len}");
     }
 }
 
-// Whether an acknowledgement of replica 2 stands at the front of these bytes, and no statement behind it.
+// Whether these bytes start with an acknowledgement of replica 2, and no statement follows.
 fn has_one_ack(alloc: Global, bytes: &[u8], rest: &[u8]) -> bool {
     let mut cursor = Cursor::new(bytes);
     seen(take_statement(alloc, &mut cursor), shown) == Some(('a', (2, 1, 1)))
@@ -313,7 +319,7 @@ fn takes_from_the_front(rt: HostRuntime) {
     assert!(rt; has_one_ack(rt.alloc(), &bytes, &rest));
 }
 
-// How many bytes the signature at the front has, and how many are left; or none, if it is malformed.
+// The number of bytes of the signature at the front, or none if it is malformed; and the number of bytes that are left.
 fn signature_taken(bytes: &[u8]) -> (Option<usize>, usize) {
     let mut cursor = Cursor::new(bytes);
     match take_signature_bytes(&mut cursor) {
@@ -322,7 +328,7 @@ fn signature_taken(bytes: &[u8]) -> (Option<usize>, usize) {
     }
 }
 
-// The same of a length and bytes 7, at most 2514 bytes in all.
+// The same for a length followed by `count` bytes 7, at most 2514 bytes in all.
 fn taken_of([first, second]: [u8; 2], count: usize) -> (Option<usize>, usize) {
     let mut bytes = [7; 2514];
     bytes[0] = first;
@@ -345,12 +351,12 @@ fn takes_signatures(rt: HostRuntime) {
     }
 }
 
-// Whether this is taken as a signature's bytes, and these are left.
+// Whether the cursor takes this as a signature's bytes, and these bytes are left.
 fn takes(cursor: &mut Cursor<'_>, wanted: Result<&[u8], DecodeFault>, rest: &[u8]) -> bool {
     take_signature_bytes(cursor) == wanted && cursor.rest() == rest
 }
 
-// The bytes behind the length are the signature, and stay behind the cursor; what is too short stays before it.
+// The bytes after the length are the signature, and the cursor is after them; if they are too short, the cursor doesn't move.
 #[test]
 fn takes_the_bytes_of_a_signature(rt: HostRuntime) {
     let mut cursor = Cursor::new(&[0, 2, 5, 6, 7]);

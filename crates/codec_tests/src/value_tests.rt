@@ -8,7 +8,7 @@ use std::alloc::Global;
 use std::cmp::Ordering;
 use test_support::{batch, tx, value, values};
 
-// Whether a cluster has its numbers and its kind, or why there is none.
+// Whether a cluster has these numbers and its kind, or why there is none.
 fn config_shows(replicas: u8, faults: u8) -> Result<bool, ConfigFault> {
     let config = Config::new(replicas, faults, AppKind::Purse)?;
     Ok((config.replicas, config.faults, config.kind) == (replicas, faults, AppKind::Purse))
@@ -41,7 +41,7 @@ fn numbers(rt: HostRuntime) {
     assert!(rt; Height::new(9) < Height::new(10));
 }
 
-// Whether the bytes come back from a transaction, or why they are none.
+// Whether a transaction returns these bytes, or why there is none.
 fn tx_shows(alloc: Global, bytes: &[u8]) -> Option<Result<bool, TxFault>> {
     match Tx::new(Vec::from_slice(alloc, bytes).ok()?) {
         Ok(tx) => Some(Ok(tx.as_bytes() == bytes)),
@@ -72,7 +72,7 @@ fn lengths_of_transactions_and_keys(rt: HostRuntime) {
     }
 }
 
-// The order of two transactions, whether the first is below, and whether they are one.
+// The order of two transactions, whether the first is below the second, and whether they are equal.
 fn order_of(alloc: Global, first: &[u8], second: &[u8]) -> Option<(Ordering, bool, bool)> {
     let first = tx(alloc, first).ok()?;
     let second = tx(alloc, second).ok()?;
@@ -91,7 +91,10 @@ fn order_of_transactions(rt: HostRuntime) {
         (b"ab", b"aa", (Ordering::Greater, false, false)),
         (b"ab", b"ab", (Ordering::Equal, false, true)),
     ] {
-        assert!(rt; order_of(rt.alloc(), first, second) == Some(wanted));
+        assert!(rt;
+            order_of(rt.alloc(), first, second) == Some(wanted),
+            "{first:?} {second:?}"
+        );
     }
 }
 
@@ -102,7 +105,7 @@ fn put_transactions(alloc: Global, made: &mut Vec<Tx>, count: usize) -> Option<(
     Some(())
 }
 
-// How many transactions a batch of so many has, or why there is none.
+// The number of transactions of a batch made from `count`, or why there is none.
 fn sizes(alloc: Global, count: usize) -> Option<Result<usize, BatchFault>> {
     let mut transactions = Vec::new(alloc);
     put_transactions(alloc, &mut transactions, count)?;
@@ -142,7 +145,7 @@ fn a_batch_shows_its_transactions(rt: HostRuntime) {
     assert!(rt; is_same(rt.alloc(), &made, &[b"b=2", b"a=1"]) == Some(false));
 }
 
-// `[]`, `[z]`, `[aa]`, `[a,a]`: their encodings begin 00, 01 01, 01 02 and 02.
+// `[]`, `[z]`, `[aa]`, `[a,a]`: their encodings start with 00, 01 01, 01 02 and 02.
 const IN_ORDER: [&[&[u8]]; 4] = [&[], &[b"z"], &[b"aa"], &[b"a", b"a"]];
 
 fn in_order(alloc: Global) -> Option<Vec<Batch>> {
@@ -158,7 +161,7 @@ fn put_each(alloc: Global, made: &mut Vec<Batch>) -> Option<()> {
     Some(())
 }
 
-// The first two batches of these, compared, that do not stand in the order of their places.
+// The first two of these batches, compared, that are not in the order of their indices.
 fn first_misplaced(values: &[Batch]) -> Option<(usize, usize)> {
     for (i, value) in values.iter().enumerate() {
         for (j, other) in values.iter().enumerate() {

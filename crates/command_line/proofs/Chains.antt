@@ -1,4 +1,4 @@
--- Commands that are made step by step.
+-- Commands that are built step by step.
 use Rattle.std.proofs.Common.{◌≡◌, ◌∙◌, ◌∷◌, ◌++◌, ◌+◌, ◌<◌, ℕ, [], List, ap, false, get_or, length, map, sym, take}
 use Rattle.std.proofs.lemmas.List.{map-append, map_more}
 use Rattle.std.proofs.lemmas.List.Elements.{All-head, All-tail}
@@ -12,7 +12,8 @@ use Rattle.clap.specs.declared.builder.command.Command.TheViews.{out-Command as 
 use Rattle.command_line.specs.Grammar.{with_rules, with_subcommands}
 
 -- arguments in turn, none of them global
-pub args_added : (c d : Command) (xs : List Arg) → (fields_of c).has_globals ≡ false → All (λ a. a.global ≡ false) xs → AddsInTurn AddsArg c xs d
+pub args_added : (c d : Command) (xs : List Arg) → (fields_of c).has_globals ≡ false → All (λ a. a.global ≡ false) xs
+    → AddsInTurn AddsArg c xs d
     → (app_of d ≡ with_rules (app_of c) (map rule_of xs)) × ((fields_of d).has_globals ≡ false)
 args_added c d [] local all same = (ap app_of (sym same), ap (λ x. (fields_of x).has_globals) (sym same) ∙ local)
 args_added c d (x ∷ xs) local all added =
@@ -22,12 +23,14 @@ args_added c d (x ∷ xs) local all added =
     (rest.0 ∙ ap (λ a. with_rules a (map rule_of xs)) (added.1.shape own), rest.1)
 
 -- subcommands in turn, none with a global argument
-pub commands_added : (c d : Command) (xs : List Command) → All (λ x. (fields_of x).has_globals ≡ false) xs → AddsInTurn AddsSubcommand c xs d
+pub commands_added : (c d : Command) (xs : List Command) → All (λ x. (fields_of x).has_globals ≡ false) xs
+    → AddsInTurn AddsSubcommand c xs d
     → app_of d ≡ with_subcommands (app_of c) (map app_of xs)
 commands_added c d [] all same = ap app_of (sym same)
 commands_added c d (x ∷ xs) all added =
     let own = All-head (λ (y : Command). (fields_of y).has_globals ≡ false) x xs all in
-    commands_added added.0 d xs (All-tail (λ (y : Command). (fields_of y).has_globals ≡ false) x xs all) added.2 ∙ ap (λ a. with_subcommands a (map app_of xs)) (added.1.shape own)
+    commands_added added.0 d xs (All-tail (λ (y : Command). (fields_of y).has_globals ≡ false) x xs all) added.2
+    ∙ ap (λ a. with_subcommands a (map app_of xs)) (added.1.shape own)
 
 -- a list that follows another one: one more of each
 pub one_more_made : {X Y Z : Type 0} (f : X → Z) (g : Y → Z) (xs : List X) (ys : List Y) (i : ℕ) (x : X) (d : Y) → i < length ys

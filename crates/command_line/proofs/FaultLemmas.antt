@@ -1,4 +1,4 @@
--- What is told of words that clap refuses, and of options that set nothing.
+-- The faults of words that clap refuses, and of options with a wrong value.
 use Rattle.std.proofs.Common.{◌≡◌, ◌∙◌, true, List, [], ◌∷◌, refl, sym, subst, inl, inr}
 use Rattle.std.specs.Prelude.{◌⊎◌, Option, Some, Result, Ok, Err, IfErr, IsOkAnd, MatchResult}
 use Rattle.clap.specs.Words.{HasKind, IsAmong, Kinds, Row, Text, is_simple_and_free, kind_of, subcommand_of}
@@ -7,8 +7,9 @@ use Rattle.clap.specs.declared.error.ErrorKind.TheVariants as kind
 use Rattle.clap.proofs.OnLiterals.{clap_on_literals}
 use Rattle.command_line.specs.Grammar.{abft_app}
 use Rattle.settings.specs.declared.Settings.{Settings}
-use Rattle.command_line.specs.Options.{AsksForText, WantsMemory}
-use Rattle.command_line.specs.Faults.{AskForHelp, AskForHelpAlone, IsRightFault, IsRightIn, IsRightOf, IsRightOption, NamesInput, kinds_of, rows_in}
+use Rattle.command_line.specs.Options.{AsksForText, WantsMemory, options_of}
+use Rattle.command_line.specs.Faults.{AskForHelp, AskForHelpAlone, IsRightFault, IsRightIn, IsRightOf, IsRightOption, NamesInput, kinds_of}
+use Rattle.command_line.specs.Faults.{rows_in, table_in}
 use Rattle.command_line.specs.declared.usage_fault.UsageFault.{UsageFault}
 use Rattle.command_line.specs.declared.usage_fault.UsageFault.TheVariants as fault
 
@@ -18,12 +19,14 @@ unfolding clap_on_literals
 abft_is_free = refl
 
 -- the error is about an unknown argument, and so are the words
-unknown_among : (words : List Text) (error : Error) → HasKind (kinds_of words) error → kind_of error ≡ kind.UnknownArgument → IsAmong kind.UnknownArgument (kinds_of words)
+unknown_among : (words : List Text) (error : Error) → HasKind (kinds_of words) error → kind_of error ≡ kind.UnknownArgument
+    → IsAmong kind.UnknownArgument (kinds_of words)
 unknown_among words error (inl memory) is = let bad = sym memory ∙ is in absurd cc
 unknown_among words error (inr among) is = subst (λ k. IsAmong k (kinds_of words)) is among
 
 -- an input that is named
-named_right : (words : List Text) (f : UsageFault) → IsAmong kind.UnknownArgument (kinds_of words) → NamesInput words f → IsRightFault words f
+named_right : (words : List Text) (f : UsageFault) → IsAmong kind.UnknownArgument (kinds_of words) → NamesInput words f
+    → IsRightFault words f
 named_right words (fault.NamedFrames word) among names = (among, names)
 named_right words (fault.NamedScenario word) among names = (among, names)
 named_right words (fault.CommandLine error) among names = absurd names
@@ -46,7 +49,7 @@ refused_right words error f has (inl same) = subst (IsRightFault words) (sym sam
 refused_right words error f has (inr (unknown, names)) = named_right words f (unknown_among words error has unknown) names
 
 -- the fault of an option is one of the subcommand that has it
-of_found : (o : Option (Text × List Row)) (f : UsageFault) → IsRightOf (rows_in o) f → IsRightIn o f
+of_found : (o : Option (Text × List Row)) (f : UsageFault) → IsRightOf (table_in o) (rows_in o) f → IsRightIn o f
 of_found o (fault.CommandLine error) right = right
 of_found o (fault.Number option least most word) right = right
 of_found o (fault.Neither option one other word) right = right
@@ -62,12 +65,14 @@ of_found o (fault.Missing option) right = right
 of_found o fault.NoSubcommand right = absurd right
 of_found o fault.NoMemory right = right
 
-pub right_alike : {T : Type 0} (Q : T → Settings → Type 0) (o : Option (Text × List Row)) (p : Text × List Row) (r : Result T UsageFault) (told : Result Settings UsageFault) → o ≡ Some p
-    → IfErr r (IsRightOf p.1) → MatchResult r (λ t. IsOkAnd told (Q t)) (λ e. told ≡ Err e) → IfErr told (IsRightIn o)
+pub right_alike : {T : Type 0} (Q : T → Settings → Type 0) (o : Option (Text × List Row)) (p : Text × List Row) (r : Result T UsageFault)
+    (told : Result Settings UsageFault) → o ≡ Some p
+    → IfErr r (IsRightOf (options_of p.0) p.1) → MatchResult r (λ t. IsOkAnd told (Q t)) (λ e. told ≡ Err e) → IfErr told (IsRightIn o)
 right_alike Q o p (Ok t) (Ok s) found right cases = tt
 right_alike Q o p (Ok t) (Err e) found right cases = absurd cases
 right_alike Q o p (Err e) told found right cases =
-    subst (λ (x : Result Settings UsageFault). IfErr x (IsRightIn o)) (sym cases) (of_found o e (subst (λ q. IsRightOf (rows_in q) e) (sym found) right))
+    subst (λ (x : Result Settings UsageFault). IfErr x (IsRightIn o)) (sym cases)
+    (of_found o e (subst (λ q. IsRightOf (table_in q) (rows_in q) e) (sym found) right))
 
 -- the fault of an option of words that clap takes
 option_right : (words : List Text) (f : UsageFault) → IsRightOption words f → IsRightFault words f
@@ -86,7 +91,8 @@ option_right words (fault.Missing option) right = right
 option_right words fault.NoSubcommand right = right
 option_right words fault.NoMemory right = tt
 
-pub options_right : {T : Type 0} (words : List Text) (o : Option (Text × List Row)) (r : Result T UsageFault) → kinds_of words ≡ [] → o ≡ subcommand_of abft_app words
+pub options_right : {T : Type 0} (words : List Text) (o : Option (Text × List Row)) (r : Result T UsageFault) → kinds_of words ≡ []
+    → o ≡ subcommand_of abft_app words
     → IfErr r (IsRightIn o) → IfErr r (IsRightFault words)
 options_right words o (Ok x) taken found right = tt
 options_right words o (Err f) taken found right = option_right words f (taken, subst (λ p. IsRightIn p f) found right)
@@ -138,7 +144,8 @@ module _ (ks : Kinds) where
       one (inr none) = absurd none
   shown error (inr among) (inr version) = one (subst (IsAmong (kind_of error)) version among)
     where
-      one : IsAmong (kind_of error) (kind.DisplayVersion ∷ []) → AsksForText (fault.CommandLine error) ⊎ WantsMemory (fault.CommandLine error)
+      one : IsAmong (kind_of error) (kind.DisplayVersion ∷ [])
+          → AsksForText (fault.CommandLine error) ⊎ WantsMemory (fault.CommandLine error)
       one (inl same) = inl (inr same)
       one (inr none) = absurd none
 
@@ -159,7 +166,8 @@ answered words fault.NoSubcommand right alone = absurd (some_kind (kinds_of word
 answered words fault.NoMemory right alone = inr tt
 
 -- whatever else is told is not told of words that ask for them alone
-pub not_alone : (words : List Text) (f : UsageFault) → IsRightFault words f → (AsksForText f → ⊥) → (WantsMemory f → ⊥) → AskForHelpAlone words → ⊥
+pub not_alone : (words : List Text) (f : UsageFault) → IsRightFault words f → (AsksForText f → ⊥) → (WantsMemory f → ⊥)
+    → AskForHelpAlone words → ⊥
 not_alone words f right other enough alone = neither (answered words f right alone)
   where
     neither : AsksForText f ⊎ WantsMemory f → ⊥

@@ -1,6 +1,7 @@
 -- From the matches of the words to the subcommand that they name.
 use Rattle.std.proofs.Common.{◌≡◌, ◌∙◌, true, false, List, refl, sym, ap, subst, codes, inl, inr}
-use Rattle.std.specs.Prelude.{◌⊎◌, Option, Some, None, Result, Ok, Err, IfOk, IfErr, OnErr, IsOkAnd, MatchResult, option_map, option_and_then, find}
+use Rattle.std.specs.Prelude.{◌⊎◌, Option, Some, None, Result, Ok, Err, IfOk, IfErr, OnErr, IsOkAnd, MatchResult, option_map}
+use Rattle.std.specs.Prelude.{option_and_then, find}
 use Rattle.std.specs.Str.{bytes_eq}
 use Rattle.std.proofs.lemmas.Bool.Decides.{not_from_Decides}
 use Rattle.std.proofs.lemmas.Option.{same_Some}
@@ -11,7 +12,8 @@ use Rattle.clap.specs.Matches.{matched_of}
 use Rattle.clap.specs.declared.parser.matches.Found.{Found}
 use Rattle.clap.specs.declared.parser.matches.MatchedArg.{MatchedArg}
 use Rattle.clap.proofs.WalkLemmas.{find-map}
-use Rattle.clap.specs.Words.{App, Row, Text, HasMatchesOf, is_simple, found_of, rows_of, subcommand_of, subcommand_name_of, subcommand_rows_of}
+use Rattle.clap.specs.Words.{App, Row, Text, HasMatchesOf, is_simple, found_of, rows_of, subcommand_of, subcommand_name_of}
+use Rattle.clap.specs.Words.{subcommand_rows_of}
 use Rattle.clap.specs.declared.parser.matches.ArgMatches.{ArgMatches}
 use Rattle.clap.specs.declared.parser.matches.ArgMatches.TheViews.{out-ArgMatches, out-SubCommand}
 use Rattle.std.specs.Box.{box_value}
@@ -33,32 +35,39 @@ unfolding clap_on_literals
 abft_is_simple = refl
 
 -- a pair by its parts
-pub pair_is : {A B : Type 0} (o : Option (A × B)) (x : A) (y : B) → option_map (λ (p : A × B). p.0) o ≡ Some x → option_map (λ (p : A × B). p.1) o ≡ Some y → o ≡ Some (x, y)
+pub pair_is : {A B : Type 0} (o : Option (A × B)) (x : A) (y : B) → option_map (λ (p : A × B). p.0) o ≡ Some x
+    → option_map (λ (p : A × B). p.1) o ≡ Some y → o ≡ Some (x, y)
 pair_is None x y first second = absurd cc
 pair_is (Some (a, b)) x y first second = let f : a ≡ x = same_Some a x first in let g : b ≡ y = same_Some b y second in rw (f, g) refl
 
 -- the first parts of what a map into pairs gives
-firsts : {A B C : Type 0} (f : A → B) (g : A → C) → (o : Option A) → option_map (λ (p : B × C). p.0) (option_map (λ a. (f a, g a)) o) ≡ option_map f o
+firsts : {A B C : Type 0} (f : A → B) (g : A → C) → (o : Option A)
+    → option_map (λ (p : B × C). p.0) (option_map (λ a. (f a, g a)) o) ≡ option_map f o
 firsts f g None = refl
 firsts f g (Some a) = refl
 
 -- the name among the subcommand's rows
 name_is : (m : ArgMatches) → option_map (λ p. p.0) (subcommand_rows_of m) ≡ subcommand_name_of m
-name_is m = firsts (λ b. (out-SubCommand (box_value b)).name.now) (λ b. rows_of (found_of (out-SubCommand (box_value b)).matches)) (out-ArgMatches m).subcommand
+name_is m = firsts (λ b. (out-SubCommand (box_value b)).name.now) (λ b. rows_of (found_of (out-SubCommand (box_value b)).matches))
+    (out-ArgMatches m).subcommand
 
 -- the subcommand's name and rows are what the matches give one by one
-pub found_is : (m : ArgMatches) (name : Text) (rows : List Row) → Some name ≡ subcommand_name_of m → Some rows ≡ option_map (λ p. p.1) (subcommand_rows_of m)
+pub found_is : (m : ArgMatches) (name : Text) (rows : List Row) → Some name ≡ subcommand_name_of m
+    → Some rows ≡ option_map (λ p. p.1) (subcommand_rows_of m)
     → subcommand_rows_of m ≡ Some (name, rows)
 found_is m name rows named rowed = pair_is (subcommand_rows_of m) name rows (name_is m ∙ sym named) (sym rowed)
 
 -- the subcommand of the matches is the one that the words name
-pub rows_are : (m : ArgMatches) (app : App) (words : List Text) → app ≡ abft_app → HasMatchesOf app words m → subcommand_rows_of m ≡ subcommand_of abft_app words
+pub rows_are : (m : ArgMatches) (app : App) (words : List Text) → app ≡ abft_app → HasMatchesOf app words m
+    → subcommand_rows_of m ≡ subcommand_of abft_app words
 rows_are m app words is has = (has (ap is_simple is ∙ abft_is_simple)).1 ∙ ap (λ a. subcommand_of a words) is
 
 -- the name is one of the five subcommands'
 abbrev pub IsOneOfFive : Option Text → Type 0
 IsOneOfFive name =
-    (name ≡ Some (codes "sign")) ⊎ ((name ≡ Some (codes "deliver")) ⊎ ((name ≡ Some (codes "simulate")) ⊎ ((name ≡ Some (codes "cluster")) ⊎ (name ≡ Some (codes "serve")))))
+    (name ≡ Some (codes "sign")) ⊎
+    ((name ≡ Some (codes "deliver"))
+    ⊎ ((name ≡ Some (codes "simulate")) ⊎ ((name ≡ Some (codes "cluster")) ⊎ (name ≡ Some (codes "serve")))))
 
 -- whatever is set is set by a subcommand of one of these names
 named : (o : Option (Text × List Row)) (s : Settings) → Sets o s → IsOneOfFive (option_map (λ p. p.0) o)
@@ -77,35 +86,40 @@ differ : {W : Type 0} (x y : Text) → bytes_eq x y ≡ false → x ≡ y → W
 differ x y are same = absurd (not_from_Decides (bytes_eq x y) (bytes_eq-Decides x y) are same)
 
 -- what is set by a subcommand of each name
-pub sets_sign : {W : Type 0} (rows : List Row) (s : Settings) → ((t : SignSettings) → SetsSign rows t → W) → Sets (Some (codes "sign", rows)) s → W
+pub sets_sign : {W : Type 0} (rows : List Row) (s : Settings) → ((t : SignSettings) → SetsSign rows t → W)
+    → Sets (Some (codes "sign", rows)) s → W
 sets_sign rows (settings.Sign t) then sets = then t sets.1
 sets_sign rows (settings.Deliver t) then sets = differ _ _ refl sets.0
 sets_sign rows (settings.Simulate t) then sets = differ _ _ refl sets.0
 sets_sign rows (settings.Cluster t) then sets = differ _ _ refl sets.0
 sets_sign rows (settings.Serve t) then sets = differ _ _ refl sets.0
 
-pub sets_deliver : {W : Type 0} (rows : List Row) (s : Settings) → ((t : DeliverSettings) → SetsDeliver rows t → W) → Sets (Some (codes "deliver", rows)) s → W
+pub sets_deliver : {W : Type 0} (rows : List Row) (s : Settings) → ((t : DeliverSettings) → SetsDeliver rows t → W)
+    → Sets (Some (codes "deliver", rows)) s → W
 sets_deliver rows (settings.Deliver t) then sets = then t sets.1
 sets_deliver rows (settings.Sign t) then sets = differ _ _ refl sets.0
 sets_deliver rows (settings.Simulate t) then sets = differ _ _ refl sets.0
 sets_deliver rows (settings.Cluster t) then sets = differ _ _ refl sets.0
 sets_deliver rows (settings.Serve t) then sets = differ _ _ refl sets.0
 
-pub sets_simulate : {W : Type 0} (rows : List Row) (s : Settings) → ((t : SimulateSettings) → SetsSimulate rows t → W) → Sets (Some (codes "simulate", rows)) s → W
+pub sets_simulate : {W : Type 0} (rows : List Row) (s : Settings) → ((t : SimulateSettings) → SetsSimulate rows t → W)
+    → Sets (Some (codes "simulate", rows)) s → W
 sets_simulate rows (settings.Simulate t) then sets = then t sets.1
 sets_simulate rows (settings.Sign t) then sets = differ _ _ refl sets.0
 sets_simulate rows (settings.Deliver t) then sets = differ _ _ refl sets.0
 sets_simulate rows (settings.Cluster t) then sets = differ _ _ refl sets.0
 sets_simulate rows (settings.Serve t) then sets = differ _ _ refl sets.0
 
-pub sets_cluster : {W : Type 0} (rows : List Row) (s : Settings) → ((t : ClusterSettings) → SetsRunning rows t → W) → Sets (Some (codes "cluster", rows)) s → W
+pub sets_cluster : {W : Type 0} (rows : List Row) (s : Settings) → ((t : ClusterSettings) → SetsRunning rows t → W)
+    → Sets (Some (codes "cluster", rows)) s → W
 sets_cluster rows (settings.Cluster t) then sets = then t sets.1
 sets_cluster rows (settings.Sign t) then sets = differ _ _ refl sets.0
 sets_cluster rows (settings.Deliver t) then sets = differ _ _ refl sets.0
 sets_cluster rows (settings.Simulate t) then sets = differ _ _ refl sets.0
 sets_cluster rows (settings.Serve t) then sets = differ _ _ refl sets.0
 
-pub sets_serve : {W : Type 0} (rows : List Row) (s : Settings) → ((t : ServeSettings) → SetsServe rows t → W) → Sets (Some (codes "serve", rows)) s → W
+pub sets_serve : {W : Type 0} (rows : List Row) (s : Settings) → ((t : ServeSettings) → SetsServe rows t → W)
+    → Sets (Some (codes "serve", rows)) s → W
 sets_serve rows (settings.Serve t) then sets = then t sets.1
 sets_serve rows (settings.Sign t) then sets = differ _ _ refl sets.0
 sets_serve rows (settings.Deliver t) then sets = differ _ _ refl sets.0
@@ -113,15 +127,20 @@ sets_serve rows (settings.Simulate t) then sets = differ _ _ refl sets.0
 sets_serve rows (settings.Cluster t) then sets = differ _ _ refl sets.0
 
 -- where an option's value came from, among the entries and among the rows
-pub source_is : (f : Found) (id : Text) → option_and_then (λ a. a.source) (matched_of f id) ≡ option_and_then (λ (r : Row). r.source) (find (λ (r : Row). bytes_eq r.id id) (rows_of f))
-source_is f id = go (find (λ (e : Entry). bytes_eq e.0.now id) f.entries.items) ∙ ap (option_and_then (λ (r : Row). r.source)) (find-map (λ (r : Row). bytes_eq r.id id) row_of f.entries.items)
+pub source_is : (f : Found) (id : Text)
+    → option_and_then (λ a. a.source) (matched_of f id)
+    ≡ option_and_then (λ (r : Row). r.source) (find (λ (r : Row). bytes_eq r.id id) (rows_of f))
+source_is f id = go (find (λ (e : Entry). bytes_eq e.0.now id) f.entries.items)
+    ∙ ap (option_and_then (λ (r : Row). r.source)) (find-map (λ (r : Row). bytes_eq r.id id) row_of f.entries.items)
   where
-    go : (o : Option Entry) → option_and_then (λ (a : MatchedArg). a.source) (option_map (λ e. e.1) o) ≡ option_and_then (λ (r : Row). r.source) (option_map row_of o)
+    go : (o : Option Entry) → option_and_then (λ (a : MatchedArg). a.source) (option_map (λ e. e.1) o)
+        ≡ option_and_then (λ (r : Row). r.source) (option_map row_of o)
     go None = refl
     go (Some e) = refl
 
 -- settings that are set are set as those of the subcommand
-pub set_alike : {T : Type 0} (Q : T → Settings → Type 0) (S : T → Type 0) (o : Option (Text × List Row)) (p : Text × List Row) (r : Result T UsageFault) (told : Result Settings UsageFault) → o ≡ Some p
+pub set_alike : {T : Type 0} (Q : T → Settings → Type 0) (S : T → Type 0) (o : Option (Text × List Row)) (p : Text × List Row)
+    (r : Result T UsageFault) (told : Result Settings UsageFault) → o ≡ Some p
     → ((t : T) (s : Settings) → Q t s → S t → Sets (Some p) s)
     → IfOk r S → MatchResult r (λ t. IsOkAnd told (Q t)) (λ e. told ≡ Err e)
     → IfOk told (λ s. Sets o s)
@@ -130,16 +149,19 @@ set_alike Q S o p (Ok t) (Err e) found join set cases = absurd cases
 set_alike Q S o p (Err e) told found join set cases = subst (λ (x : Result Settings UsageFault). IfOk x (λ s. Sets o s)) (sym cases) tt
 
 -- settings that are refused are refused as those of the subcommand
-pub refused_alike : {T : Type 0} (Q : T → Settings → Type 0) (S : T → Type 0) (o : Option (Text × List Row)) (p : Text × List Row) (r : Result T UsageFault) (told : Result Settings UsageFault) → o ≡ Some p
+pub refused_alike : {T : Type 0} (Q : T → Settings → Type 0) (S : T → Type 0) (o : Option (Text × List Row)) (p : Text × List Row)
+    (r : Result T UsageFault) (told : Result Settings UsageFault) → o ≡ Some p
     → ((e : UsageFault) (s : Settings) → ((t : T) → S t → WantsMemory e) → Sets (Some p) s → WantsMemory e)
     → IfErr r (λ e. (t : T) → S t → WantsMemory e) → MatchResult r (λ t. IsOkAnd told (Q t)) (λ e. told ≡ Err e)
     → IfErr told (λ e. (s : Settings) → Sets o s → WantsMemory e)
 refused_alike Q S o p (Ok t) (Ok s) found split refused cases = tt
 refused_alike Q S o p (Ok t) (Err e) found split refused cases = absurd cases
 refused_alike Q S o p (Err e) told found split refused cases =
-    subst (λ (x : Result Settings UsageFault). IfErr x (λ f. (s : Settings) → Sets o s → WantsMemory f)) (sym cases) (λ s sets. split e s refused (subst (λ q. Sets q s) found sets))
+    subst (λ (x : Result Settings UsageFault). IfErr x (λ f. (s : Settings) → Sets o s → WantsMemory f)) (sym cases)
+    (λ s sets. split e s refused (subst (λ q. Sets q s) found sets))
 
 -- what nothing sets is refused for whatever reason
-pub refused_anyway : {T E : Type 0} (S : T → Type 0) (P : E → Type 0) (r : Result T E) → OnErr r ((t : T) → S t → ⊥) → IfErr r (λ e. (t : T) → S t → P e)
+pub refused_anyway : {T E : Type 0} (S : T → Type 0) (P : E → Type 0) (r : Result T E) → OnErr r ((t : T) → S t → ⊥)
+    → IfErr r (λ e. (t : T) → S t → P e)
 refused_anyway S P (Ok x) none = tt
 refused_anyway S P (Err e) none = λ t sets. absurd (none t sets)

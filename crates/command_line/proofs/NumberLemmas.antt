@@ -1,4 +1,4 @@
--- Numbers and transactions as they are written.
+-- Numbers and transactions in their printed form.
 use Rattle.std.proofs.Common.{◌≡◌, ◌∙◌, ℕ, ◌<◌, ◌≤◌, false, List, [], refl, IsTrue, arith, ap, codes, sym, subst}
 use Rattle.std.specs.Prelude.{Result, Ok, Err, Some, None, IfOk, IfErr, OnErr, IsErrOf, is_ok, ◌↔◌}
 use Rattle.std.specs.Result.{result_ok}
@@ -16,7 +16,7 @@ use Rattle.lm_ots.specs.declared.params.Width.{Width}
 use Rattle.lm_ots.specs.declared.params.Width.TheVariants.{W4, W8}
 use Rattle.lm_ots.specs.declared.params.TreeHeight.{TreeHeight}
 use Rattle.lm_ots.specs.declared.params.TreeHeight.TheVariants.{H5, H10}
-use Rattle.cluster_keys.specs.declared.cluster.Cluster.{Cluster}
+use Rattle.cluster_keys.specs.declared.cluster_seed.ClusterSeed.{ClusterSeed}
 use Rattle.abci.specs.Meaning.{ChecksTo, state_after}
 use Rattle.command_line.specs.Options.{IsNumber, IsWritten, SetsCluster, number_of}
 use Rattle.plain_text.specs.Numbers.{is_decimal}
@@ -51,14 +51,17 @@ out_of_limits rows name text low high v has is out n i =
     out (subst (λ m. low ≤ m) (sym value) i.least) (subst (λ m. m ≤ high) (sym value) i.most)
 
 -- the same option has one number
-pub one_number : (rows : List Row) (name : Text) (low high low2 high2 n m : ℕ) → IsNumber rows name low high n → IsNumber rows name low2 high2 m → n ≡ m
+pub one_number : (rows : List Row) (name : Text) (low high low2 high2 n m : ℕ) → IsNumber rows name low high n
+    → IsNumber rows name low2 high2 m → n ≡ m
 one_number rows name low high low2 high2 n m i j =
     let same : i.text ≡ j.text = same_Some i.text j.text (sym i.has ∙ j.has) in
     sym i.number ∙ subst (λ t. digits_value 10 t ≡ m) (sym same) j.number
 
 -- a number is one within other limits if it lies there
-pub narrowed : (rows : List Row) (name : Text) (low high low2 high2 n : ℕ) → IsNumber rows name low high n → low2 ≤ n → n ≤ high2 → IsNumber rows name low2 high2 n
-narrowed rows name low high low2 high2 n i least most = record { text = i.text; has = i.has; decimal = i.decimal; number = i.number; least = least; most = most }
+pub narrowed : (rows : List Row) (name : Text) (low high low2 high2 n : ℕ) → IsNumber rows name low high n → low2 ≤ n → n ≤ high2
+    → IsNumber rows name low2 high2 n
+narrowed rows name low high low2 high2 n i least most =
+    record { text = i.text; has = i.has; decimal = i.decimal; number = i.number; least = least; most = most }
 
 -- what is so anyway is so where there is an error
 pub on_err : {A E X : Type 0} (r : Result A E) → X → OnErr r X
@@ -76,18 +79,21 @@ not_this rows name low high n (Ok m) has none other i = other (ap (λ k. Some k)
 not_this rows name low high n (Err e) has none other i = none n i
 
 -- and no width, or no tree's height, where it is neither of the two
-pub no_width : {E : Type 0} (rows : List Row) (r : Result ℕ E) → IfOk r (λ m. IsNumber rows (codes "w") 4 8 m) → OnErr r ((m : ℕ) → IsNumber rows (codes "w") 4 8 m → ⊥)
+pub no_width : {E : Type 0} (rows : List Row) (r : Result ℕ E) → IfOk r (λ m. IsNumber rows (codes "w") 4 8 m)
+    → OnErr r ((m : ℕ) → IsNumber rows (codes "w") 4 8 m → ⊥)
     → (result_ok r ≡ Some 4 → ⊥) → (result_ok r ≡ Some 8 → ⊥) → (w : Width) → IsNumber rows (codes "w") 4 8 (bits_of w) → ⊥
 no_width rows r has none four eight W4 i = not_this rows (codes "w") 4 8 4 r has none four i
 no_width rows r has none four eight W8 i = not_this rows (codes "w") 4 8 8 r has none eight i
 
-pub no_tree_height : {E : Type 0} (rows : List Row) (r : Result ℕ E) → IfOk r (λ m. IsNumber rows (codes "tree") 5 10 m) → OnErr r ((m : ℕ) → IsNumber rows (codes "tree") 5 10 m → ⊥)
+pub no_tree_height : {E : Type 0} (rows : List Row) (r : Result ℕ E) → IfOk r (λ m. IsNumber rows (codes "tree") 5 10 m)
+    → OnErr r ((m : ℕ) → IsNumber rows (codes "tree") 5 10 m → ⊥)
     → (result_ok r ≡ Some 5 → ⊥) → (result_ok r ≡ Some 10 → ⊥) → (h : TreeHeight) → IsNumber rows (codes "tree") 5 10 (levels_of h) → ⊥
 no_tree_height rows r has none five ten H5 i = not_this rows (codes "tree") 5 10 5 r has none five i
 no_tree_height rows r has none five ten H10 i = not_this rows (codes "tree") 5 10 10 r has none ten i
 
 -- bytes of a transaction's length make one
-pub is_transaction : (r : Result (List ℕ) TxFault) (n : ℕ) → (IsErrOf r fault.Empty ↔ (n ≡ 0)) → (IsErrOf r fault.TooLong ↔ (64 < n)) → is_ok r ≡ false → 1 ≤ n → n ≤ 64 → ⊥
+pub is_transaction : (r : Result (List ℕ) TxFault) (n : ℕ) → (IsErrOf r fault.Empty ↔ (n ≡ 0)) → (IsErrOf r fault.TooLong ↔ (64 < n))
+    → is_ok r ≡ false → 1 ≤ n → n ≤ 64 → ⊥
 is_transaction (Ok tx) n none long bad some few = absurd cc
 is_transaction (Err fault.Empty) n none long bad some few = let zero_is : n ≡ 0 = none.0 refl in absurd (omega (arith, zero_is, some))
 is_transaction (Err fault.TooLong) n none long bad some few = let over : 64 < n = long.0 refl in absurd (omega (arith, over, few))
@@ -111,12 +117,14 @@ one_kind Purse KvStore same = absurd (omega (arith, same))
 one_kind Purse Counter same = absurd (omega (arith, same))
 
 -- the same options name one application
-pub same_kind : (rows : List Row) (a b : Cluster) → SetsCluster rows a → SetsCluster rows b → a.config.kind ≡ b.config.kind
+pub same_kind : (rows : List Row) (a b : ClusterSeed) → SetsCluster rows a → SetsCluster rows b → a.config.kind ≡ b.config.kind
 same_kind rows a b i j = one_kind a.config.kind b.config.kind (one_number rows (codes "kind") 1 3 1 3 _ _ i.kind j.kind)
 
 -- a check in the opening state answers as the application run on no block
-pub checked_at_opening : (m : Machine) (kind : AppKind) (tx : List ℕ) (code : ℕ) → ChecksTo m tx code → m ≡ run kind [] → code ≡ check_reply kind [] tx
+pub checked_at_opening : (m : Machine) (kind : AppKind) (tx : List ℕ) (code : ℕ) → ChecksTo m tx code → m ≡ run kind []
+    → code ≡ check_reply kind [] tx
 unfolding run check_reply
 checked_at_opening m kind tx code checked is =
-    checked (transactions_of []) (ap (λ (n : Machine). n.committed) is ∙ ap (λ k. state_after k (transactions_of [])) (sym (ap (λ (n : Machine). n.kind) is)))
+    checked (transactions_of []) (ap (λ (n : Machine). n.committed) is
+    ∙ ap (λ k. state_after k (transactions_of [])) (sym (ap (λ (n : Machine). n.kind) is)))
     ∙ ap (λ k. check_reply k [] tx) (ap (λ (n : Machine). n.kind) is)

@@ -1,4 +1,4 @@
--- What is said of words that set nothing: each fault names what is wrong with them.
+-- The faults of words that give no settings: each names what is wrong with the words.
 use Rattle.std.specs.Prelude.{◌≡◌, ◌≢◌, ◌⊎◌, ℕ, ◌<◌, ◌+◌, ◌*◌, ⊤, List, [], ◌∷◌, codes, slice_get, slice_index, Option, Some, None}
 use Rattle.clap.specs.Words.{HasKind, IsAmong, Kinds, Row, Text, fault_of, first_of, subcommand_of}
 use Rattle.clap.specs.declared.error.ErrorKind.TheVariants as kind
@@ -8,22 +8,23 @@ use Rattle.plain_text.specs.Transactions.{Misspells}
 use Rattle.plain_text.specs.declared.spelling_fault.SpellingFault.{SpellingFault}
 use Rattle.settings.specs.declared.sign.What.{What}
 use Rattle.command_line.specs.Grammar.{abft_app}
-use Rattle.command_line.specs.Options.{IsNumber, IsSeed, IsWritten, number_of, word_of}
+use Rattle.command_line.specs.Options.{HasOption, IsNumber, IsSeed, IsWritten, OptionTable, TakesEither, TakesNumber, TakesTransaction}
+use Rattle.command_line.specs.Options.{number_of, options_of, word_of}
 use Rattle.command_line.specs.declared.usage_fault.UsageFault.{UsageFault}
 use Rattle.command_line.specs.declared.usage_fault.UsageFault.TheVariants as fault
 
 -- ---- words that are no command line
 
--- the kinds of error that clap may answer to these words: those of the first thing that it refuses or shows, and none where they are a command line of
--- the program
+-- The kinds of error that clap may return for these words: those of the first thing that it refuses or shows. There is
+-- none if the words are a command line of the program.
 unfoldable pub kinds_of : List Text → Kinds
 kinds_of words = fault_of abft_app words
 
--- the words ask for the help or the version. At `abft help WORD` clap has two kinds, since WORD may be no subcommand
+-- The words ask for the help or the version. For `abft help WORD` there are two kinds, because WORD may be no subcommand.
 abbrev pub AskForHelp : List Text → Type 0
 AskForHelp words = IsAmong kind.DisplayHelp (kinds_of words) ⊎ IsAmong kind.DisplayVersion (kinds_of words)
 
--- they ask for nothing else
+-- the words ask for the help or the version, and for nothing else
 abbrev pub AskForHelpAlone : List Text → Type 0
 AskForHelpAlone words = (kinds_of words ≡ kind.DisplayHelp ∷ []) ⊎ (kinds_of words ≡ kind.DisplayVersion ∷ [])
 
@@ -33,44 +34,45 @@ pub record IsOperand (words : List Text) (subcommand word : Text) : Type 0 where
   pub third : slice_get words 2 ≡ Some word
   pub plain : slice_index word 0 ≢ 0x2d
 
--- the fault names the word behind a subcommand that takes its input from standard input
+-- the fault names the word after a subcommand that reads its input from standard input
 abbrev pub NamesInput : List Text → UsageFault → Type 0
 NamesInput words (fault.NamedFrames word) = IsOperand words (codes "deliver") word.now
 NamesInput words (fault.NamedScenario word) = IsOperand words (codes "simulate") word.now
 NamesInput words other = ⊥
 
--- ---- options that set nothing
+-- ---- options with a wrong value
 
--- the word is the option's value, which is none of its numbers
+-- the word is the option's value, but no number within the limits
 abbrev pub IsNoNumber : List Row → Text → ℕ → ℕ → Text → Type 0
 IsNoNumber rows option least most word = (first_of option rows ≡ Some word) × ((n : ℕ) → IsNumber rows option least most n → ⊥)
 
--- it is neither of its two numbers
+-- the word is the option's value, but neither of its two numbers
 abbrev pub IsNeither : List Row → Text → ℕ → ℕ → Text → Type 0
 IsNeither rows option one other word =
     (first_of option rows ≡ Some word) × ((IsNumber rows option one other one → ⊥) × (IsNumber rows option one other other → ⊥))
 
--- it isn't 64 hexadecimal digits
+-- the word is the value of `--seed`, but not 64 hexadecimal digits
 abbrev pub IsNoSeed : List Row → Text → Type 0
 IsNoSeed rows word = (first_of (codes "seed") rows ≡ Some word) × ((seed : List ℕ) → IsSeed rows seed → ⊥)
 
--- the options name so many replicas and faults, and the replicas are too few
+-- the options give these numbers of replicas and faults, and there are too few replicas
 pub record AreTooFew (rows : List Row) (replicas faults : ℕ) : Type 0 where
   pub n : IsNumber rows (codes "n") 4 13 replicas
   pub t : IsNumber rows (codes "t") 1 4 faults
   pub few : replicas < 3 * faults + 1
 
--- the option's value spells no bytes, by this fault
+-- the option's value encodes no bytes, with this fault
 pub record IsMisspelled (rows : List Row) (option : Text) (why : SpellingFault) : Type 0 where
   pub word : Text
   pub has : first_of option rows ≡ Some word
   pub misspells : Misspells word why
 
--- the word is the option's value, which is no transaction
+-- the word is the option's value, but no transaction
 abbrev pub IsNoTransaction : List Row → Text → Text → Type 0
 IsNoTransaction rows option word = (first_of option rows ≡ Some word) × ((tx : List ℕ) → IsWritten rows option tx → ⊥)
 
--- the word is the option's value, a transaction to which an application of the cluster's kind answers this code in its opening state
+-- The word is the option's value, a transaction for which an application of the cluster's kind returns this code in its
+-- opening state.
 pub record IsRejected (rows : List Row) (option : Text) (code : ℕ) (word : Text) : Type 0 where
   pub has : first_of option rows ≡ Some word
   pub tx : List ℕ
@@ -84,44 +86,53 @@ pub record IsRejected (rows : List Row) (option : Text) (code : ℕ) (word : Tex
 abbrev pub IsNoStatement : List Row → Text → Type 0
 IsNoStatement rows word = (first_of (codes "what") rows ≡ Some word) × ((what : What) → word ≡ word_of what → ⊥)
 
--- the fault names an option of these, and what is wrong with it
-abbrev pub IsRightOf : List Row → UsageFault → Type 0
-IsRightOf rows (fault.CommandLine error) = ⊥
-IsRightOf rows (fault.Number option least most word) = IsNoNumber rows option.now least most word.now
-IsRightOf rows (fault.Neither option one other word) = IsNeither rows option.now one other word.now
-IsRightOf rows (fault.Seed word) = IsNoSeed rows word.now
-IsRightOf rows (fault.TooFew replicas faults) = AreTooFew rows replicas faults
-IsRightOf rows (fault.Spelling option why) = IsMisspelled rows option.now why
-IsRightOf rows (fault.NoTransaction option word) = IsNoTransaction rows option.now word.now
-IsRightOf rows (fault.Rejected option code word) = IsRejected rows option.now code word.now
-IsRightOf rows (fault.NamedFrames word) = ⊥
-IsRightOf rows (fault.NamedScenario word) = ⊥
-IsRightOf rows (fault.What word) = IsNoStatement rows word.now
-IsRightOf rows (fault.Missing option) = first_of option.now rows ≡ None
-IsRightOf rows fault.NoSubcommand = ⊥
-IsRightOf rows fault.NoMemory = ⊤
+-- the fault names an option of the table and of these rows, the numbers that it takes, and what is wrong with it
+abbrev pub IsRightOf : OptionTable → List Row → UsageFault → Type 0
+IsRightOf table rows (fault.CommandLine error) = ⊥
+IsRightOf table rows (fault.Number option least most word) =
+    TakesNumber table rows option.now least most × IsNoNumber rows option.now least most word.now
+IsRightOf table rows (fault.Neither option one other word) =
+    TakesEither table option.now one other × IsNeither rows option.now one other word.now
+IsRightOf table rows (fault.Seed word) = HasOption table (codes "seed") × IsNoSeed rows word.now
+IsRightOf table rows (fault.TooFew replicas faults) = AreTooFew rows replicas faults
+IsRightOf table rows (fault.Spelling option why) = TakesTransaction table option.now × IsMisspelled rows option.now why
+IsRightOf table rows (fault.NoTransaction option word) = TakesTransaction table option.now × IsNoTransaction rows option.now word.now
+IsRightOf table rows (fault.Rejected option code word) = TakesTransaction table option.now × IsRejected rows option.now code word.now
+IsRightOf table rows (fault.NamedFrames word) = ⊥
+IsRightOf table rows (fault.NamedScenario word) = ⊥
+IsRightOf table rows (fault.What word) = HasOption table (codes "what") × IsNoStatement rows word.now
+IsRightOf table rows (fault.Missing option) = HasOption table option.now × (first_of option.now rows ≡ None)
+IsRightOf table rows fault.NoSubcommand = ⊥
+IsRightOf table rows fault.NoMemory = ⊤
 
--- none was found of the subcommands that the program has
+-- no subcommand of the program was found
 abbrev pub IsNoSubcommand : Option (Text × List Row) → Type 0
 IsNoSubcommand None = ⊤
 IsNoSubcommand (Some found) =
-    (found.0 ≢ codes "sign") × ((found.0 ≢ codes "deliver") × ((found.0 ≢ codes "simulate") × ((found.0 ≢ codes "cluster") × (found.0 ≢ codes "serve"))))
+    (found.0 ≢ codes "sign") × ((found.0 ≢ codes "deliver")
+    × ((found.0 ≢ codes "simulate") × ((found.0 ≢ codes "cluster") × (found.0 ≢ codes "serve"))))
+
+-- the table of the subcommand that was found
+abbrev pub table_in : Option (Text × List Row) → OptionTable
+table_in None = options_of []
+table_in (Some found) = options_of found.0
 
 -- the options of the subcommand that was found
 abbrev pub rows_in : Option (Text × List Row) → List Row
 rows_in None = []
 rows_in (Some found) = found.1
 
--- the fault names an option of the subcommand that was found, or says that none was
+-- the fault names an option of the subcommand that was found, or says that none was found
 abbrev pub IsRightIn : Option (Text × List Row) → UsageFault → Type 0
 IsRightIn found fault.NoSubcommand = IsNoSubcommand found
-IsRightIn found e = IsRightOf (rows_in found) e
+IsRightIn found e = IsRightOf (table_in found) (rows_in found) e
 
--- the words are a command line of the program, and the fault is one of its subcommand's
+-- the words are a command line of the program, and the fault is about an option of its subcommand
 abbrev pub IsRightOption : List Text → UsageFault → Type 0
 IsRightOption words e = (kinds_of words ≡ []) × IsRightIn (subcommand_of abft_app words) e
 
--- the fault is true of the words: clap answers an error of this kind to them, or they are a command line, and an option has this fault
+-- the fault is true of the words: clap returns an error of this kind for them, or they are a command line and an option
+-- has this fault
 abbrev pub IsRightFault : List Text → UsageFault → Type 0
 IsRightFault words (fault.CommandLine error) = HasKind (kinds_of words) error
 IsRightFault words (fault.NamedFrames word) = IsAmong kind.UnknownArgument (kinds_of words) × IsOperand words (codes "deliver") word.now

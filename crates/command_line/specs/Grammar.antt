@@ -1,4 +1,4 @@
--- The command line of the program, in clap's words: which options each subcommand has, and their defaults.
+-- The command line of the program, in clap's terms: the options of each subcommand, and their defaults.
 use Rattle.std.specs.Prelude.{Some, true, List, [], ◌∷◌, codes, map}
 use Rattle.clap.specs.Words.{App, Rule, Text, new_app, new_rule, with_rule, with_subcommand}
 use Rattle.clap.specs.declared.builder.action.ArgAction.TheVariants.{SetTrue}
@@ -7,7 +7,7 @@ use Rattle.command_line.specs.declared.subcommand.Kind.{Kind}
 use Rattle.command_line.specs.declared.subcommand.Kind.TheVariants.{Value, Flag, Word}
 use Rattle.command_line.specs.declared.subcommand.Subcommand.{Subcommand}
 
--- an option with a value: its name, and the value where the words name none
+-- an option with a value: its name, and the value if the words give none
 abbrev pub option_rule : Text → Text → Rule
 option_rule name default = record (new_rule name) { long = Some name; defaults = default ∷ [] }
 
@@ -28,7 +28,7 @@ kind_rule name Word = word_rule name
 abbrev pub argument_rule : Argument → Rule
 argument_rule a = kind_rule a.name.now a.kind
 
--- arguments in turn
+-- the command with these arguments, in order
 abbrev pub with_rules : App → List Rule → App
 with_rules a [] = a
 with_rules a (r ∷ rs) = with_rules (with_rule a r) rs
@@ -37,7 +37,7 @@ with_rules a (r ∷ rs) = with_rules (with_rule a r) rs
 abbrev pub subcommand_app : Subcommand → App
 subcommand_app s = with_rules (new_app s.name.now) (map argument_rule s.arguments.now)
 
--- subcommands in turn
+-- the command with these subcommands, in order
 abbrev pub with_subcommands : App → List App → App
 with_subcommands a [] = a
 with_subcommands a (s ∷ ss) = with_subcommands (with_subcommand a s.top) ss
@@ -57,11 +57,11 @@ with_cluster a =
     (option_rule (codes "tree") (codes "5")))
     seed_rule
 
--- what is to be signed: a word that is required
+-- the statement to sign: a word that is required
 abbrev pub what_rule : Rule
 what_rule = word_rule (codes "what")
 
--- the options of `abft sign` alone
+-- the options that only `abft sign` has
 abbrev pub with_sign : App → App
 with_sign a =
     with_rule (with_rule (with_rule (with_rule a
@@ -70,11 +70,11 @@ with_sign a =
     (option_rule (codes "phase") (codes "1")))
     (option_rule (codes "value") (codes "a=1"))
 
--- `abft sign`: what is signed, and its options
+-- `abft sign`: the statement to sign, and its options
 abbrev pub sign_app : App
 sign_app = with_sign (with_rule (with_cluster (new_app (codes "sign"))) what_rule)
 
--- the options of `abft deliver` alone
+-- the options that only `abft deliver` has
 abbrev pub with_deliver : App → App
 with_deliver a =
     with_rule (with_rule (with_rule (with_rule a
@@ -87,7 +87,7 @@ with_deliver a =
 abbrev pub deliver_app : App
 deliver_app = with_deliver (with_cluster (new_app (codes "deliver")))
 
--- `abft simulate`: the seed, and whether histories are asked for
+-- `abft simulate`: the seed, and whether to write histories
 abbrev pub simulate_app : App
 simulate_app = with_rule (with_rule (new_app (codes "simulate")) seed_rule) (flag_rule (codes "histories"))
 
@@ -107,7 +107,7 @@ with_running a = with_rule (with_rule (with_run (with_cluster a)) (flag_rule (co
 abbrev pub cluster_app : App
 cluster_app = with_running (new_app (codes "cluster"))
 
--- the options of `abft serve` alone
+-- the options that only `abft serve` has
 abbrev pub with_serve : App → App
 with_serve a =
     with_rule (with_rule (with_rule a
@@ -119,7 +119,7 @@ with_serve a =
 abbrev pub serve_app : App
 serve_app = with_serve (with_running (new_app (codes "serve")))
 
--- a subcommand is required, and `--version` is there
+-- a subcommand is required, and `--version` exists
 abbrev pub at_top : App → App
 at_top a = record a { top = record a.top { has_version = true; subcommand_required = true } }
 

@@ -1,5 +1,8 @@
--- What the words of a command line set: each option by the value that its matches hold, which is its default where the words name none.
-use Rattle.std.specs.Prelude.{◌≡◌, ℕ, true, ◌≤◌, ◌+◌, ◌-◌, ◌*◌, IsTrue, List, [], length, codes, Option, Some, None, Ok, ◌⊎◌, ◌↔◌, find, option_and_then}
+-- The settings that the words of a command line give: each option has its value in the matches, which is its default if
+-- the words give none.
+use Rattle.std.specs.Prelude.{◌≡◌, ℕ, ◌==◌, Bool, true, ◌&&◌, ◌≤◌, ◌+◌, ◌-◌, ◌*◌, IsTrue, List, [], ◌∷◌, ◌++◌, length, codes, Option, Some}
+use Rattle.std.specs.Prelude.{None, Ok, ◌⊎◌, ◌↔◌, find, option_and_then, if◌then◌else◌}
+use Rattle.std.specs.List.{list_any}
 use Rattle.std.specs.Str.{bytes_eq}
 use Rattle.std.specs.Str.Parse.{digits_value}
 use Rattle.hex.specs.Hex.{decode_sized}
@@ -13,7 +16,7 @@ use Rattle.lm_ots.specs.Parameters.{bits_of, levels_of}
 use Rattle.command_line.specs.Grammar.{abft_app}
 use Rattle.command_line.specs.declared.usage_fault.UsageFault.{UsageFault}
 use Rattle.command_line.specs.declared.usage_fault.UsageFault.TheVariants as fault
-use Rattle.cluster_keys.specs.declared.cluster.Cluster.{Cluster}
+use Rattle.cluster_keys.specs.declared.cluster_seed.ClusterSeed.{ClusterSeed}
 use Rattle.settings.specs.declared.sign.SignSettings.{SignSettings}
 use Rattle.settings.specs.declared.deliver.DeliverSettings.{DeliverSettings}
 use Rattle.settings.specs.declared.simulate.SimulateSettings.{SimulateSettings}
@@ -26,6 +29,96 @@ use Rattle.settings.specs.declared.sign.What.TheVariants.{Report, Ack}
 use Rattle.plain_text.specs.Numbers.{is_decimal}
 use Rattle.plain_text.specs.Transactions.{StandsFor}
 
+-- ---- which options a subcommand has, and which numbers they take
+
+-- the numbers that an option takes
+pub record Limits : Type 0 where
+  pub option : Text
+  pub least : ℕ
+  pub most : ℕ
+
+-- the options of a subcommand that have a value: those that take a number within limits, those that take a transaction, and all of
+-- them by name
+pub record OptionTable : Type 0 where
+  pub numbers : List Limits
+  pub transactions : List Text
+  pub names : List Text
+
+-- an option that takes the numbers from `least` to `most`
+abbrev pub limits : Text → ℕ → ℕ → Limits
+limits option least most = record { option = option; least = least; most = most }
+
+-- the numbers of a cluster, which every subcommand but `abft simulate` has
+abbrev pub cluster_numbers : List Limits
+cluster_numbers = limits (codes "n") 4 13 ∷ limits (codes "t") 1 4 ∷ limits (codes "kind") 1 3 ∷ []
+
+-- the options of a cluster that have a value
+abbrev pub cluster_names : List Text
+cluster_names = codes "n" ∷ codes "t" ∷ codes "kind" ∷ codes "w" ∷ codes "tree" ∷ codes "seed" ∷ []
+
+-- the options of `abft sign`
+abbrev pub sign_options : OptionTable
+sign_options = record {
+  numbers = cluster_numbers ++ limits (codes "height") 1 4096 ∷ limits (codes "phase") 1 1000000000 ∷ [];
+  transactions = codes "value" ∷ [];
+  names = cluster_names ++ codes "what" ∷ codes "replica" ∷ codes "height" ∷ codes "phase" ∷ codes "value" ∷ [];
+}
+
+-- of `abft deliver`
+abbrev pub deliver_options : OptionTable
+deliver_options = record {
+  numbers = cluster_numbers ++ limits (codes "height") 1 4 ∷ limits (codes "rounds") 0 4000000000 ∷ [];
+  transactions = codes "value" ∷ [];
+  names = cluster_names ++ codes "replica" ∷ codes "value" ∷ codes "height" ∷ codes "rounds" ∷ [];
+}
+
+-- of `abft simulate`
+abbrev pub simulate_options : OptionTable
+simulate_options = record { numbers = []; transactions = []; names = codes "seed" ∷ [] }
+
+-- of `abft cluster`
+abbrev pub running_options : OptionTable
+running_options = record {
+  numbers = cluster_numbers ++ limits (codes "rounds") 0 4000000000 ∷ limits (codes "base-ms") 1 60000 ∷ [];
+  transactions = codes "tx" ∷ [];
+  names = cluster_names ++ codes "tx" ∷ codes "rounds" ∷ codes "base-ms" ∷ [];
+}
+
+-- of `abft serve`
+abbrev pub serve_options : OptionTable
+serve_options = record {
+  numbers = running_options.numbers ++ limits (codes "port") 0 65535 ∷ limits (codes "sessions") 1 1000
+      ∷ limits (codes "client-entries") 0 65536 ∷ [];
+  transactions = running_options.transactions;
+  names = running_options.names ++ codes "port" ∷ codes "sessions" ∷ codes "client-entries" ∷ [];
+}
+
+-- the options of a subcommand, by its name
+abbrev pub options_of : Text → OptionTable
+options_of name =
+    if bytes_eq name (codes "sign") then sign_options
+    else if bytes_eq name (codes "deliver") then deliver_options
+    else if bytes_eq name (codes "simulate") then simulate_options
+    else if bytes_eq name (codes "cluster") then running_options
+    else if bytes_eq name (codes "serve") then serve_options
+    else record { numbers = []; transactions = []; names = [] }
+
+-- the text is one of these
+abbrev pub is_among : Text → List Text → Bool
+is_among text texts = list_any (λ t. bytes_eq t text) texts
+
+-- the option is one of the table, and has a value
+abbrev pub HasOption : OptionTable → Text → Type 0
+HasOption table option = IsTrue (is_among option table.names)
+
+-- the option is one of the table, and takes a transaction
+abbrev pub TakesTransaction : OptionTable → Text → Type 0
+TakesTransaction table option = HasOption table option × IsTrue (is_among option table.transactions)
+
+-- these are the option's limits
+abbrev pub is_limit : Text → ℕ → ℕ → Limits → Bool
+is_limit option least most l = bytes_eq l.option option && ((l.least == least) && (l.most == most))
+
 -- the option's value is a decimal number within the limits
 pub record IsNumber (rows : List Row) (name : Text) (low high n : ℕ) : Type 0 where
   pub text : Text
@@ -35,13 +128,53 @@ pub record IsNumber (rows : List Row) (name : Text) (low high n : ℕ) : Type 0 
   pub least : low ≤ n
   pub most : n ≤ high
 
--- the option's value is 64 hexadecimal digits of these bytes
+-- the option is that of a replica's number, which is below the number of replicas
+pub record IsReplicaLimit (rows : List Row) (option : Text) (least most : ℕ) : Type 0 where
+  pub named : option ≡ codes "replica"
+  pub zero : least ≡ 0
+  pub replicas : ℕ
+  pub set : IsNumber rows (codes "n") 0 255 replicas
+  pub last : most ≡ replicas - 1
+
+-- the option is one of the table, and takes the numbers from `least` to `most`
+abbrev pub TakesNumber : OptionTable → List Row → Text → ℕ → ℕ → Type 0
+TakesNumber table rows option least most =
+    HasOption table option × (IsTrue (list_any (is_limit option least most) table.numbers) ⊎ IsReplicaLimit rows option least most)
+
+-- the option is one of the table, and takes one of these two numbers: that of the bits, or that of the tree's levels
+abbrev pub TakesEither : OptionTable → Text → ℕ → ℕ → Type 0
+TakesEither table option one other =
+    HasOption table option
+    × (((option ≡ codes "w") × (one ≡ 4) × (other ≡ 8)) ⊎ ((option ≡ codes "tree") × (one ≡ 5) × (other ≡ 10)))
+
+-- the table has the options of a cluster
+pub record HasCluster (table : OptionTable) : Type 0 where
+  pub n : HasOption table (codes "n")
+  pub n_limits : IsTrue (list_any (is_limit (codes "n") 4 13) table.numbers)
+  pub t : HasOption table (codes "t")
+  pub t_limits : IsTrue (list_any (is_limit (codes "t") 1 4) table.numbers)
+  pub kind : HasOption table (codes "kind")
+  pub kind_limits : IsTrue (list_any (is_limit (codes "kind") 1 3) table.numbers)
+  pub w : HasOption table (codes "w")
+  pub tree : HasOption table (codes "tree")
+  pub seed : HasOption table (codes "seed")
+
+-- the table has the options of a running cluster
+pub record HasRunning (table : OptionTable) : Type 0 where
+  pub cluster : HasCluster table
+  pub tx : TakesTransaction table (codes "tx")
+  pub rounds : HasOption table (codes "rounds")
+  pub rounds_limits : IsTrue (list_any (is_limit (codes "rounds") 0 4000000000) table.numbers)
+  pub base : HasOption table (codes "base-ms")
+  pub base_limits : IsTrue (list_any (is_limit (codes "base-ms") 1 60000) table.numbers)
+
+-- the option's value is the 64 hexadecimal digits of these bytes
 pub record IsSeed (rows : List Row) (seed : List ℕ) : Type 0 where
   pub text : Text
   pub has : first_of (codes "seed") rows ≡ Some text
   pub decoded : decode_sized text 32 ≡ Ok seed
 
--- the option's value is written as this transaction
+-- the option's value encodes this transaction
 pub record IsWritten (rows : List Row) (name : Text) (tx : List ℕ) : Type 0 where
   pub text : Text
   pub has : first_of name rows ≡ Some text
@@ -49,12 +182,12 @@ pub record IsWritten (rows : List Row) (name : Text) (tx : List ℕ) : Type 0 wh
   pub some : 1 ≤ length tx
   pub short : length tx ≤ 64
 
--- the option's value is written as this transaction, which an application of this kind accepts in its opening state
+-- the option's value encodes this transaction, which an application of this kind accepts in its opening state
 pub record IsAccepted (rows : List Row) (name : Text) (kind : AppKind) (tx : List ℕ) : Type 0 where
   pub written : IsWritten rows name tx
   pub checked : check_reply kind [] tx ≡ 0
 
--- the words name the option: its value is not its default
+-- the words contain the option: its value is not its default
 abbrev pub IsNamed : List Row → Text → Type 0
 IsNamed rows name = option_and_then (λ r. r.source) (find (λ r. bytes_eq r.id name) rows) ≡ Some CommandLine
 
@@ -65,7 +198,7 @@ number_of Counter = 2
 number_of Purse = 3
 
 -- the options of a cluster
-pub record SetsCluster (rows : List Row) (cluster : Cluster) : Type 0 where
+pub record SetsCluster (rows : List Row) (cluster : ClusterSeed) : Type 0 where
   pub n : IsNumber rows (codes "n") 0 255 cluster.config.replicas
   pub t : IsNumber rows (codes "t") 0 255 cluster.config.faults
   pub kind : IsNumber rows (codes "kind") 1 3 (number_of cluster.config.kind)
@@ -76,7 +209,7 @@ pub record SetsCluster (rows : List Row) (cluster : Cluster) : Type 0 where
   pub tree : IsNumber rows (codes "tree") 5 10 (levels_of cluster.params.height)
   pub seed : IsSeed rows cluster.seed
 
--- the word that says what is to be signed
+-- the word that names the statement to sign
 abbrev pub word_of : What → Text
 word_of Report = codes "report"
 word_of Ack = codes "ack"
@@ -98,12 +231,13 @@ pub record SetsDeliver (rows : List Row) (s : DeliverSettings) : Type 0 where
   pub height : IsNumber rows (codes "height") 1 4 s.height
   pub rounds : IsNumber rows (codes "rounds") 0 4000000000 s.rounds
 
--- the options of `abft simulate` set these settings: histories are asked for where the words name that option
+-- the options of `abft simulate` set these settings; histories are to be written if the words contain that option
 pub record SetsSimulate (rows : List Row) (s : SimulateSettings) : Type 0 where
   pub seed : IsSeed rows s.seed
   pub histories : IsTrue s.histories ↔ IsNamed rows (codes "histories")
 
--- the options of `abft cluster` set these settings: it is to be quiet, and to end with standard input, where the words name these options
+-- The options of `abft cluster` set these settings. The run is quiet, and ends with standard input, if the words
+-- contain those options.
 pub record SetsRunning (rows : List Row) (s : ClusterSettings) : Type 0 where
   pub cluster : SetsCluster rows s.cluster
   pub tx : IsAccepted rows (codes "tx") s.cluster.config.kind s.tx
@@ -119,7 +253,7 @@ pub record SetsServe (rows : List Row) (s : ServeSettings) : Type 0 where
   pub sessions : IsNumber rows (codes "sessions") 1 1000 s.sessions
   pub entries : IsNumber rows (codes "client-entries") 0 65536 s.client_entries
 
--- the subcommand that the words name, and its options
+-- the subcommand that the words name sets these settings with its options
 abbrev pub Sets : Option (Text × List Row) → Settings → Type 0
 Sets None s = ⊥
 Sets (Some found) (settings.Sign s) = (found.0 ≡ codes "sign") × SetsSign found.1 s
@@ -128,15 +262,15 @@ Sets (Some found) (settings.Simulate s) = (found.0 ≡ codes "simulate") × Sets
 Sets (Some found) (settings.Cluster s) = (found.0 ≡ codes "cluster") × SetsRunning found.1 s
 Sets (Some found) (settings.Serve s) = (found.0 ≡ codes "serve") × SetsServe found.1 s
 
--- the words set this
+-- the words give these settings
 abbrev pub IsSet : List Text → Settings → Type 0
 IsSet words s = Sets (subcommand_of abft_app words) s
 
--- the words are no command line of the program, or set nothing
+-- the words are no command line of the program, or give no settings
 abbrev pub IsRefused : List Text → Type 0
 IsRefused words = takes abft_app words ≡ true → (s : Settings) → IsSet words s → ⊥
 
--- the fault says that memory ran out, here or in clap
+-- the fault is that memory ran out, here or in clap
 abbrev pub WantsMemory : UsageFault → Type 0
 WantsMemory (fault.CommandLine error) = kind_of error ≡ kind.OutOfMemory
 WantsMemory (fault.Number option least most word) = ⊥

@@ -1,4 +1,4 @@
-//! The grammar of the command line, as clap is told it: subcommands, options, defaults and help.
+//! The grammar of the command line, as clap gets it: subcommands, options, defaults and help.
 ghost use Rattle.std.specs.Prelude.{◌≡◌, IfOk, codes};
 ghost use Rattle.clap.specs.Words.{app_of, new_app};
 ghost use Rattle.command_line.specs.Grammar.{at_top, abft_app};

@@ -1,4 +1,4 @@
-//! The command line of `abft`: what its words set. The one crate that reads words with clap.
+//! The command line of `abft`: the settings that its words give. This is the only crate that reads words with clap.
 #![tactic(auto)]
 
 mod grammar;

@@ -1,13 +1,13 @@
-//! The options of a command line, read from its matches.
+//! Reads the options of a command line from its matches.
 ghost use Rattle.std.specs.Prelude.{◌≡◌, ◌↔◌, IsTrue, ℕ, List, [], ◌≤◌, ◌-◌, IfOk, IfErr, OnErr, Some, None, codes};
 ghost use Rattle.clap.specs.Words.{Row, found_of, rows_of, first_of};
 ghost use Rattle.lm_ots.specs.Parameters.{bits_of, levels_of};
 ghost use Rattle.command_line.specs.Faults.{IsRightOf};
-ghost use Rattle.command_line.specs.Options.{IsAccepted, IsNamed, IsNumber, IsSeed, IsWritten, SetsCluster, WantsMemory, number_of, word_of};
+ghost use Rattle.command_line.specs.Options.{HasCluster, HasOption, IsAccepted, IsNamed, IsNumber, IsSeed, IsWritten, OptionTable, SetsCluster, TakesNumber, TakesTransaction, WantsMemory, number_of, word_of};
 ghost use Rattle.plain_text.specs.Transactions.{StandsFor};
 ghost use Rattle.ledger_model.specs.Replies.{check_reply};
 ghost use Rattle.ledger_model.specs.declared.config.AppKind.{AppKind};
-ghost use Rattle.cluster_keys.specs.declared.cluster.Cluster.{Cluster};
+ghost use Rattle.cluster_keys.specs.declared.cluster_seed.ClusterSeed.{ClusterSeed};
 ghost use Rattle.settings.specs.declared.sign.What.{What};
 ghost use Rattle.lm_ots.specs.declared.params.Width.{Width};
 ghost use Rattle.lm_ots.specs.declared.params.TreeHeight.{TreeHeight};
@@ -17,7 +17,7 @@ use abci::{Application, CheckKind};
 use app_kinds::AnyKind;
 use clap::ArgMatches;
 use clap::parser::ValueSource;
-use cluster_keys::Cluster;
+use cluster_keys::ClusterSeed;
 use hex::FromHex;
 use ledger_model::{AppKind, Config, Tx};
 use lm_ots::{Params, TreeHeight, Width};
@@ -29,7 +29,7 @@ use std::alloc::Global;
 fn text<'a>(matches: &ArgMatches<'a>, name: &'static str) -> Result<&'a str, UsageFault<'a>>
     ensures some { IfOk result (λ t. first_of name.now (rows_of (found_of matches.now)) ≡ Some t.now) }
     ensures none { OnErr result (first_of name.now (rows_of (found_of matches.now)) ≡ None) }
-    ensures right { IfErr result (IsRightOf (rows_of (found_of matches.now))) }
+    ensures right { (table : OptionTable) → HasOption table name.now → IfErr result (IsRightOf table (rows_of (found_of matches.now))) }
 {
     match matches.get_str(name) {
         Some(text) => Ok(text),
@@ -46,7 +46,7 @@ pub(crate) fn number<'a>(
 ) -> Result<u32, UsageFault<'a>>
     ensures some { IfOk result (λ n. IsNumber (rows_of (found_of matches.now)) name.now least most n) }
     ensures none { OnErr result ((n : ℕ) → IsNumber (rows_of (found_of matches.now)) name.now least most n → ⊥) }
-    ensures right { IfErr result (IsRightOf (rows_of (found_of matches.now))) }
+    ensures right { (table : OptionTable) → TakesNumber table (rows_of (found_of matches.now)) name.now least most → IfErr result (IsRightOf table (rows_of (found_of matches.now))) }
 {
     let text = text(matches, name)?;
     match decimal(text) {
@@ -60,7 +60,7 @@ pub(crate) fn number<'a>(
     }
 }
 
-/// A number below 256.
+/// An option that is a number below 256.
 pub(crate) fn small_number<'a>(
     matches: &ArgMatches<'a>,
     name: &'static str,
@@ -69,17 +69,18 @@ pub(crate) fn small_number<'a>(
 ) -> Result<u8, UsageFault<'a>>
     ensures some { IfOk result (λ n. IsNumber (rows_of (found_of matches.now)) name.now least most n) }
     ensures none { OnErr result ((n : ℕ) → IsNumber (rows_of (found_of matches.now)) name.now least most n → ⊥) }
-    ensures right { IfErr result (IsRightOf (rows_of (found_of matches.now))) }
+    ensures right { (table : OptionTable) → TakesNumber table (rows_of (found_of matches.now)) name.now least most → IfErr result (IsRightOf table (rows_of (found_of matches.now))) }
 {
     let number = number(matches, name, u32::from(least), u32::from(most))?;
     Ok(number as u8)
 }
 
-/// The bytes that the text of an option stands for.
+/// The bytes that the text of an option encodes.
 fn bytes<'a>(alloc: Global, option: &'static str, text: &'a str) -> Result<Vec<u8>, UsageFault<'a>>
     ensures some { IfOk result (λ v. StandsFor text.now v.items) }
     ensures none { IfErr result (λ e. (v : List ℕ) → StandsFor text.now v → WantsMemory e) }
-    ensures right { (rows : List Row) → first_of option.now rows ≡ Some text.now → IfErr result (IsRightOf rows) }
+    ensures right { (table : OptionTable) → TakesTransaction table option.now
+        → (rows : List Row) → first_of option.now rows ≡ Some text.now → IfErr result (IsRightOf table rows) }
 {
     match written(alloc, text) {
         Ok(bytes) => Ok(bytes),
@@ -96,7 +97,7 @@ pub(crate) fn transaction<'a>(
 ) -> Result<Tx, UsageFault<'a>>
     ensures some { IfOk result (λ tx. IsWritten (rows_of (found_of matches.now)) name.now tx) }
     ensures none { IfErr result (λ e. (tx : List ℕ) → IsWritten (rows_of (found_of matches.now)) name.now tx → WantsMemory e) }
-    ensures right { IfErr result (IsRightOf (rows_of (found_of matches.now))) }
+    ensures right { (table : OptionTable) → TakesTransaction table name.now → IfErr result (IsRightOf table (rows_of (found_of matches.now))) }
 {
     let text = text(matches, name)?;
     let bytes = bytes(alloc, name, text)?;
@@ -109,7 +110,7 @@ pub(crate) fn transaction<'a>(
     Ok(tx)
 }
 
-/// The code that an application in its opening state answers to a transaction.
+/// The code that an application in its opening state returns for a transaction.
 fn check_code(alloc: Global, kind: AppKind, tx: &Tx) -> u32
     ensures { result ≡ check_reply kind [] tx.now }
 {
@@ -125,7 +126,8 @@ pub(crate) fn accepted_transaction<'a>(
 ) -> Result<Tx, UsageFault<'a>>
     ensures some { IfOk result (λ tx. IsAccepted (rows_of (found_of matches.now)) name.now kind tx) }
     ensures none { IfErr result (λ e. (tx : List ℕ) → IsAccepted (rows_of (found_of matches.now)) name.now kind tx → WantsMemory e) }
-    ensures right { IsNumber (rows_of (found_of matches.now)) (codes "kind") 1 3 (number_of kind) → IfErr result (IsRightOf (rows_of (found_of matches.now))) }
+    ensures right { (table : OptionTable) → TakesTransaction table name.now → IsNumber (rows_of (found_of matches.now)) (codes "kind") 1 3 (number_of kind)
+        → IfErr result (IsRightOf table (rows_of (found_of matches.now))) }
 {
     let word = text(matches, name)?;
     let tx = transaction(alloc, matches, name)?;
@@ -140,11 +142,11 @@ pub(crate) fn accepted_transaction<'a>(
     Ok(tx)
 }
 
-/// The word that says what is to be signed.
+/// The word that names the statement to sign.
 pub(crate) fn what<'a>(matches: &ArgMatches<'a>) -> Result<What, UsageFault<'a>>
     ensures some { IfOk result (λ w. first_of (codes "what") (rows_of (found_of matches.now)) ≡ Some (word_of w)) }
     ensures none { OnErr result ((w : What) → first_of (codes "what") (rows_of (found_of matches.now)) ≡ Some (word_of w) → ⊥) }
-    ensures right { IfErr result (IsRightOf (rows_of (found_of matches.now))) }
+    ensures right { (table : OptionTable) → HasOption table (codes "what") → IfErr result (IsRightOf table (rows_of (found_of matches.now))) }
 {
     let word = text(matches, "what")?;
     match word {
@@ -154,7 +156,7 @@ pub(crate) fn what<'a>(matches: &ArgMatches<'a>) -> Result<What, UsageFault<'a>>
     }
 }
 
-/// Whether the words name an option that has no value.
+/// Whether the words contain an option that has no value.
 pub(crate) fn is_named(matches: &ArgMatches<'_>, name: &str) -> bool
     ensures { IsTrue result ↔ IsNamed (rows_of (found_of matches.now)) name.now }
 {
@@ -165,7 +167,7 @@ pub(crate) fn is_named(matches: &ArgMatches<'_>, name: &str) -> bool
 pub(crate) fn seed<'a>(matches: &ArgMatches<'a>) -> Result<[u8; 32], UsageFault<'a>>
     ensures some { IfOk result (λ s. IsSeed (rows_of (found_of matches.now)) s) }
     ensures none { OnErr result ((s : List ℕ) → IsSeed (rows_of (found_of matches.now)) s → ⊥) }
-    ensures right { IfErr result (IsRightOf (rows_of (found_of matches.now))) }
+    ensures right { (table : OptionTable) → HasOption table (codes "seed") → IfErr result (IsRightOf table (rows_of (found_of matches.now))) }
 {
     let text = text(matches, "seed")?;
     match <[u8; 32] as FromHex>::from_hex(text) {
@@ -178,7 +180,7 @@ pub(crate) fn seed<'a>(matches: &ArgMatches<'a>) -> Result<[u8; 32], UsageFault<
 fn width<'a>(matches: &ArgMatches<'a>) -> Result<Width, UsageFault<'a>>
     ensures some { IfOk result (λ w. IsNumber (rows_of (found_of matches.now)) (codes "w") 4 8 (bits_of w)) }
     ensures none { OnErr result ((w : Width) → IsNumber (rows_of (found_of matches.now)) (codes "w") 4 8 (bits_of w) → ⊥) }
-    ensures right { IfErr result (IsRightOf (rows_of (found_of matches.now))) }
+    ensures right { (table : OptionTable) → HasOption table (codes "w") → IfErr result (IsRightOf table (rows_of (found_of matches.now))) }
 {
     let word = text(matches, "w")?;
     match number(matches, "w", 4, 8).ok() {
@@ -197,7 +199,7 @@ fn width<'a>(matches: &ArgMatches<'a>) -> Result<Width, UsageFault<'a>>
 fn tree_height<'a>(matches: &ArgMatches<'a>) -> Result<TreeHeight, UsageFault<'a>>
     ensures some { IfOk result (λ h. IsNumber (rows_of (found_of matches.now)) (codes "tree") 5 10 (levels_of h)) }
     ensures none { OnErr result ((h : TreeHeight) → IsNumber (rows_of (found_of matches.now)) (codes "tree") 5 10 (levels_of h) → ⊥) }
-    ensures right { IfErr result (IsRightOf (rows_of (found_of matches.now))) }
+    ensures right { (table : OptionTable) → HasOption table (codes "tree") → IfErr result (IsRightOf table (rows_of (found_of matches.now))) }
 {
     let word = text(matches, "tree")?;
     match number(matches, "tree", 5, 10).ok() {
@@ -216,7 +218,7 @@ fn tree_height<'a>(matches: &ArgMatches<'a>) -> Result<TreeHeight, UsageFault<'a
 fn kind<'a>(matches: &ArgMatches<'a>) -> Result<AppKind, UsageFault<'a>>
     ensures some { IfOk result (λ k. IsNumber (rows_of (found_of matches.now)) (codes "kind") 1 3 (number_of k)) }
     ensures none { OnErr result ((k : AppKind) → IsNumber (rows_of (found_of matches.now)) (codes "kind") 1 3 (number_of k) → ⊥) }
-    ensures right { IfErr result (IsRightOf (rows_of (found_of matches.now))) }
+    ensures right { (table : OptionTable) → TakesNumber table (rows_of (found_of matches.now)) (codes "kind") 1 3 → IfErr result (IsRightOf table (rows_of (found_of matches.now))) }
 {
     match number(matches, "kind", 1, 3)? {
         1 => Ok(AppKind::KvStore),
@@ -226,10 +228,10 @@ fn kind<'a>(matches: &ArgMatches<'a>) -> Result<AppKind, UsageFault<'a>>
 }
 
 /// The options of a cluster.
-pub(crate) fn cluster<'a>(matches: &ArgMatches<'a>) -> Result<Cluster, UsageFault<'a>>
+pub(crate) fn cluster<'a>(matches: &ArgMatches<'a>) -> Result<ClusterSeed, UsageFault<'a>>
     ensures some { IfOk result (λ c. SetsCluster (rows_of (found_of matches.now)) c) }
-    ensures none { OnErr result ((c : Cluster) → SetsCluster (rows_of (found_of matches.now)) c → ⊥) }
-    ensures right { IfErr result (IsRightOf (rows_of (found_of matches.now))) }
+    ensures none { OnErr result ((c : ClusterSeed) → SetsCluster (rows_of (found_of matches.now)) c → ⊥) }
+    ensures right { (table : OptionTable) → HasCluster table → IfErr result (IsRightOf table (rows_of (found_of matches.now))) }
 {
     let replicas = small_number(matches, "n", 4, Config::MAX_REPLICAS)?;
     let faults = small_number(matches, "t", 1, 4)?;
@@ -240,7 +242,7 @@ pub(crate) fn cluster<'a>(matches: &ArgMatches<'a>) -> Result<Cluster, UsageFaul
     let width = width(matches)?;
     let height = tree_height(matches)?;
     let seed = seed(matches)?;
-    Ok(Cluster {
+    Ok(ClusterSeed {
         config,
         params: Params { width, height },
         seed,

@@ -1,4 +1,4 @@
-//! Words that clap refuses: what is told of them.
+//! The faults of words that clap refuses.
 ghost use Rattle.std.specs.Prelude.{◌≡◌, ◌≢◌, ◌⊎◌, IfSome, Some, map, slice_get, slice_index};
 ghost use Rattle.clap.specs.Words.{kind_of};
 ghost use Rattle.clap.specs.declared.error.ErrorKind.TheVariants as kind;
@@ -8,7 +8,7 @@ ghost use Rattle.command_line.specs.declared.usage_fault.UsageFault.TheVariants 
 use crate::usage_fault::UsageFault;
 use clap::error::ErrorKind;
 
-/// The word behind the subcommand, if it is no option.
+/// The word after the subcommand, if it is no option.
 fn operand<'a>(words: &'a [&'a str]) -> Option<&'a str>
     ensures third { IfSome result (λ word. slice_get (map (λ w. w.now) words.entry.now) 2 ≡ Some word.now) }
     ensures plain { IfSome result (λ word. slice_index word.now 0 ≢ 0x2d) }
@@ -21,7 +21,7 @@ fn operand<'a>(words: &'a [&'a str]) -> Option<&'a str>
     }
 }
 
-/// The fault of a subcommand whose input comes on standard input, where a word names a file.
+/// The fault if a word names a file, but the subcommand reads standard input.
 fn named_input<'a>(words: &'a [&'a str]) -> Option<UsageFault<'a>>
     ensures { IfSome result (NamesInput (map (λ w. w.now) words.entry.now)) }
 {

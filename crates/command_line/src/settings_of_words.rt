@@ -1,9 +1,9 @@
-//! What the words of a command line set.
+//! The settings that the words of a command line give.
 ghost use Rattle.std.specs.Prelude.{◌≡◌, [], map, true, IfOk, IfErr, OnErr};
 ghost use Rattle.clap.specs.Words.{found_of, rows_of, subcommand_of, subcommand_rows_of, takes};
 ghost use Rattle.command_line.specs.Faults.{IsRightFault, IsRightIn, IsRightOf, kinds_of};
 ghost use Rattle.command_line.specs.Grammar.{abft_app};
-ghost use Rattle.command_line.specs.Options.{IsSet, Sets, SetsDeliver, SetsRunning, SetsServe, SetsSign, SetsSimulate, WantsMemory};
+ghost use Rattle.command_line.specs.Options.{HasRunning, IsSet, OptionTable, Sets, SetsDeliver, SetsRunning, SetsServe, SetsSign, SetsSimulate, WantsMemory, deliver_options, serve_options, sign_options, simulate_options};
 ghost use Rattle.settings.specs.declared.sign.SignSettings.{SignSettings};
 ghost use Rattle.settings.specs.declared.deliver.DeliverSettings.{DeliverSettings};
 ghost use Rattle.settings.specs.declared.simulate.SimulateSettings.{SimulateSettings};
@@ -24,14 +24,14 @@ use settings::{
 };
 use std::alloc::Global;
 
-/// `abft sign`, by its matches.
+/// The settings of `abft sign`, from its matches.
 fn sign_settings<'a>(
     alloc: Global,
     matches: &ArgMatches<'a>,
 ) -> Result<SignSettings, UsageFault<'a>>
     ensures some { IfOk result (λ s. SetsSign (rows_of (found_of matches.now)) s) }
     ensures none { IfErr result (λ e. (s : SignSettings) → SetsSign (rows_of (found_of matches.now)) s → WantsMemory e) }
-    ensures right { IfErr result (IsRightOf (rows_of (found_of matches.now))) }
+    ensures right { IfErr result (IsRightOf sign_options (rows_of (found_of matches.now))) }
 {
     let cluster = cluster(matches)?;
     let what = what(matches)?;
@@ -49,14 +49,14 @@ fn sign_settings<'a>(
     })
 }
 
-/// `abft deliver`, by its matches.
+/// The settings of `abft deliver`, from its matches.
 fn deliver_settings<'a>(
     alloc: Global,
     matches: &ArgMatches<'a>,
 ) -> Result<DeliverSettings, UsageFault<'a>>
     ensures some { IfOk result (λ s. SetsDeliver (rows_of (found_of matches.now)) s) }
     ensures none { IfErr result (λ e. (s : DeliverSettings) → SetsDeliver (rows_of (found_of matches.now)) s → WantsMemory e) }
-    ensures right { IfErr result (IsRightOf (rows_of (found_of matches.now))) }
+    ensures right { IfErr result (IsRightOf deliver_options (rows_of (found_of matches.now))) }
 {
     let cluster = cluster(matches)?;
     let replica = small_number(matches, "replica", 0, cluster.config.replicas - 1)?;
@@ -72,11 +72,11 @@ fn deliver_settings<'a>(
     })
 }
 
-/// `abft simulate`, by its matches.
+/// The settings of `abft simulate`, from its matches.
 fn simulate_settings<'a>(matches: &ArgMatches<'a>) -> Result<SimulateSettings, UsageFault<'a>>
     ensures some { IfOk result (λ s. SetsSimulate (rows_of (found_of matches.now)) s) }
     ensures none { OnErr result ((s : SimulateSettings) → SetsSimulate (rows_of (found_of matches.now)) s → ⊥) }
-    ensures right { IfErr result (IsRightOf (rows_of (found_of matches.now))) }
+    ensures right { IfErr result (IsRightOf simulate_options (rows_of (found_of matches.now))) }
 {
     let seed = seed(matches)?;
     Ok(SimulateSettings {
@@ -85,14 +85,14 @@ fn simulate_settings<'a>(matches: &ArgMatches<'a>) -> Result<SimulateSettings, U
     })
 }
 
-/// `abft cluster`, by its matches.
+/// The settings of `abft cluster`, from its matches.
 fn cluster_settings<'a>(
     alloc: Global,
     matches: &ArgMatches<'a>,
 ) -> Result<ClusterSettings, UsageFault<'a>>
     ensures some { IfOk result (λ s. SetsRunning (rows_of (found_of matches.now)) s) }
     ensures none { IfErr result (λ e. (s : ClusterSettings) → SetsRunning (rows_of (found_of matches.now)) s → WantsMemory e) }
-    ensures right { IfErr result (IsRightOf (rows_of (found_of matches.now))) }
+    ensures right { (table : OptionTable) → HasRunning table → IfErr result (IsRightOf table (rows_of (found_of matches.now))) }
 {
     let cluster = cluster(matches)?;
     let tx = accepted_transaction(alloc, matches, "tx", cluster.config.kind)?;
@@ -108,14 +108,14 @@ fn cluster_settings<'a>(
     })
 }
 
-/// `abft serve`, by its matches.
+/// The settings of `abft serve`, from its matches.
 fn serve_settings<'a>(
     alloc: Global,
     matches: &ArgMatches<'a>,
 ) -> Result<ServeSettings, UsageFault<'a>>
     ensures some { IfOk result (λ s. SetsServe (rows_of (found_of matches.now)) s) }
     ensures none { IfErr result (λ e. (s : ServeSettings) → SetsServe (rows_of (found_of matches.now)) s → WantsMemory e) }
-    ensures right { IfErr result (IsRightOf (rows_of (found_of matches.now))) }
+    ensures right { IfErr result (IsRightOf serve_options (rows_of (found_of matches.now))) }
 {
     let cluster = cluster_settings(alloc, matches)?;
     let port = number(matches, "port", 0, 65_535)?;
@@ -129,7 +129,7 @@ fn serve_settings<'a>(
     })
 }
 
-/// The matches of the words; the first word is the program's name.
+/// The matches of the words, of which the first is the program's name.
 fn matches_of<'a>(alloc: Global, words: &'a [&'a str]) -> Result<ArgMatches<'a>, UsageFault<'a>>
     ensures found { IfOk result (λ m. subcommand_rows_of m ≡ subcommand_of abft_app (map (λ w. w.now) words.entry.now)) }
     ensures refused { IfErr result (λ e. takes abft_app (map (λ w. w.now) words.entry.now) ≡ true → WantsMemory e) }
@@ -143,7 +143,7 @@ fn matches_of<'a>(alloc: Global, words: &'a [&'a str]) -> Result<ArgMatches<'a>,
     }
 }
 
-/// What the subcommand of the matches asks for.
+/// The settings of the subcommand in the matches.
 fn settings_of<'a>(alloc: Global, matches: &ArgMatches<'a>) -> Result<Settings, UsageFault<'a>>
     ensures set { IfOk result (λ s. Sets (subcommand_rows_of matches.now) s) }
     ensures refused { IfErr result (λ e. (s : Settings) → Sets (subcommand_rows_of matches.now) s → WantsMemory e) }
@@ -162,16 +162,16 @@ fn settings_of<'a>(alloc: Global, matches: &ArgMatches<'a>) -> Result<Settings, 
     }
 }
 
-/// What the words of a command line ask for; the first word is the program's name.
+/// The settings that the words of a command line give. The first word is the program's name.
 ///
-/// Each option has the value that the words give it, or else its default, within its limits. An `Err` says what is
-/// wrong, or holds the help that was asked for.
+/// Each option has the value that the words give it, or else its default, and is within its limits. An `Err` contains
+/// what is wrong, or the help that the words ask for.
 pub fn settings<'a>(alloc: Global, words: &'a [&'a str]) -> Result<Settings, UsageFault<'a>>
     ensures set { IfOk result (λ s. IsSet (map (λ w. w.now) words.entry.now) s) }
-    // Words that set something are refused for want of memory alone.
+    // Words that set something are refused only if memory runs out.
     ensures refused { IfErr result (λ e. takes abft_app (map (λ w. w.now) words.entry.now) ≡ true
         → (s : Settings) → IsSet (map (λ w. w.now) words.entry.now) s → WantsMemory e) }
-    // What the fault says of the words is so.
+    // What the fault says about the words is true.
     ensures right { IfErr result (IsRightFault (map (λ w. w.now) words.entry.now)) }
 {
     let matches = matches_of(alloc, words)?;

@@ -1,14 +1,14 @@
 //! The arguments that several subcommands have.
 use crate::subcommand::{Argument, Kind};
 
-/// How many replicas a cluster has.
+/// The number of replicas of a cluster.
 pub(crate) const REPLICAS: Argument = Argument {
     name: "n",
     kind: Kind::Value("4"),
     help: "How many replicas there are, 4 to 13",
 };
 
-/// How many of them may lie.
+/// The number of replicas that may lie.
 pub(crate) const FAULTS: Argument = Argument {
     name: "t",
     kind: Kind::Value("1"),
@@ -57,7 +57,7 @@ pub(crate) const ROUNDS: Argument = Argument {
     help: "How many rounds each replica ends, 0 to 4000000000",
 };
 
-/// How long the first round of a run is.
+/// How long the first round of a run lasts.
 pub(crate) const FIRST_ROUND: Argument = Argument {
     name: "base-ms",
     kind: Kind::Value("200"),
@@ -71,7 +71,7 @@ pub(crate) const QUIET: Argument = Argument {
     help: "Tells nothing of its progress",
 };
 
-/// Whether a run ends where standard input does.
+/// Whether a run ends when standard input does.
 pub(crate) const STOP_AT_EOF: Argument = Argument {
     name: "stop-at-eof",
     kind: Kind::Flag,

@@ -1,4 +1,4 @@
-//! A subcommand as a table describes it, and as clap is told it.
+//! Subcommands as rows of a table, and how clap gets them.
 ghost use Rattle.std.specs.Prelude.{◌≡◌, IfOk, false, map};
 ghost use Rattle.std.specs.List.{All};
 ghost use Rattle.clap.specs.Words.{app_of, rule_of};
@@ -10,11 +10,11 @@ use std::alloc::{AllocError, Global};
 
 /// How the words of a command line give an argument.
 pub(crate) enum Kind {
-    /// By `--name VALUE`; this is its value where the words name none.
+    /// By `--name VALUE`; this is the value if the words don't give one.
     Value(&'static str),
     /// By `--name` alone.
     Flag,
-    /// By its value alone, which has to be there.
+    /// By its value alone, which is required.
     Word,
 }
 
@@ -25,7 +25,7 @@ pub(crate) struct Argument {
     pub(crate) help: &'static str,
 }
 
-/// A subcommand: what it does, its usage line where clap's own lacks something, its arguments in turn, and the end of its help.
+/// A subcommand: what it does, a usage line if clap's own lacks something, its arguments in order, and the end of its help.
 pub(crate) struct Subcommand {
     pub(crate) name: &'static str,
     pub(crate) about: &'static str,
@@ -35,7 +35,7 @@ pub(crate) struct Subcommand {
 }
 
 impl Argument {
-    /// The argument as clap is told it.
+    /// The argument in clap's form.
     fn clap_arg<'a>(&self, alloc: Global) -> Arg<'a>
         ensures rule { rule_of result ≡ argument_rule self.now }
         ensures local { result.global ≡ false }
@@ -49,7 +49,7 @@ impl Argument {
     }
 }
 
-/// The arguments as clap is told them.
+/// The arguments in clap's form.
 fn clap_args<'a>(alloc: Global, arguments: &[Argument]) -> Result<Vec<Arg<'a>>, AllocError>
     ensures rules { IfOk result (λ v. map rule_of v.items ≡ map argument_rule arguments.now) }
     ensures local { IfOk result (λ v. All (λ a. a.global ≡ false) v.items) }
@@ -73,7 +73,7 @@ fn with_usage<'a>(command: Command<'a>, usage: Option<&'static str>) -> Command<
 }
 
 impl Subcommand {
-    /// The subcommand as clap is told it.
+    /// The subcommand in clap's form.
     fn clap_command<'a>(&self, alloc: Global) -> Result<Command<'a>, AllocError>
         ensures app { IfOk result (λ c. app_of c ≡ subcommand_app self.now) }
         ensures local { IfOk result (λ c. (fields_of c).has_globals ≡ false) }
@@ -86,7 +86,7 @@ impl Subcommand {
     }
 }
 
-/// The subcommands as clap is told them.
+/// The subcommands in clap's form.
 pub(crate) fn clap_commands<'a>(
     alloc: Global,
     subcommands: &[Subcommand],

@@ -9,57 +9,57 @@ use std::alloc::AllocError;
 use std::error::Error;
 use std::fmt;
 
-/// Why the words of a command line set nothing: what was wrong, and what was wanted.
+/// Why the words of a command line give no settings: what was wrong, and what was expected.
 #[derive(Debug, Drop)]
 pub enum UsageFault<'a> {
     /// The words are no command line of the program, or ask for help or the version.
     CommandLine(clap::Error),
-    /// The word at this option is none of its numbers.
+    /// The word for this option is no number within its limits.
     Number {
         option: &'static str,
         least: u32,
         most: u32,
         word: &'a str,
     },
-    /// The word at this option is neither of its two numbers.
+    /// The word for this option is neither of its two numbers.
     Neither {
         option: &'static str,
         one: u32,
         other: u32,
         word: &'a str,
     },
-    /// The word at `--seed` is not 64 hexadecimal digits.
+    /// The word for `--seed` is not 64 hexadecimal digits.
     Seed(&'a str),
-    /// Fewer replicas than three times those that may lie, and one more.
+    /// Fewer than `3 * faults + 1` replicas.
     TooFew {
         replicas: u8,
         faults: u8,
     },
-    /// The word at this option spells no transaction.
+    /// The word for this option is not written as a transaction is.
     Spelling {
         option: &'static str,
         fault: SpellingFault,
     },
-    /// The word at this option spells no byte, or more than a transaction has.
+    /// The word for this option encodes no byte, or more bytes than a transaction has.
     NoTransaction {
         option: &'static str,
         word: &'a str,
     },
-    /// The application's check answers this code to the transaction at this option.
+    /// The application's check returns this code for the transaction of this option.
     Rejected {
         option: &'static str,
         code: u32,
         word: &'a str,
     },
-    /// `abft deliver` reads its frames from standard input, and not from what this word names.
+    /// `abft deliver` reads its frames from standard input, and not from the file that this word names.
     NamedFrames(&'a str),
-    /// `abft simulate` reads its scenario from standard input, and not from what this word names.
+    /// `abft simulate` reads its scenario from standard input, and not from the file that this word names.
     NamedScenario(&'a str),
-    /// What is to be signed is neither a report nor an acknowledgement.
+    /// The word for the statement to sign is neither `report` nor `ack`.
     What(&'a str),
-    /// An option without a default is not there.
+    /// An option without a default is missing.
     Missing(&'static str),
-    /// No subcommand is there.
+    /// The subcommand is missing.
     NoSubcommand,
     /// Memory ran out.
     NoMemory,
@@ -69,7 +69,7 @@ impl UsageFault<'_> {
     ghost use Rattle.std.specs.Prelude.{◌↔◌, IsTrue};
     ghost use Rattle.command_line.specs.Options.{AsksForText, WantsMemory};
 
-    /// Whether this is the help or the version, which the words ask for: no fault, and for standard output.
+    /// Whether this is the help or the version, which the words ask for. This is no fault, and goes to standard output.
     pub fn is_asked_for(&self) -> bool
         ensures { IsTrue result ↔ AsksForText self.now }
     {
@@ -91,7 +91,7 @@ impl UsageFault<'_> {
     }
 }
 
-/// Writes which numbers an option takes, and what it was given.
+/// Writes which numbers an option takes, and the word that it got.
 fn show_number<W: fmt::Write>(
     f: &mut fmt::Formatter<W>,
     option: &str,
@@ -105,7 +105,7 @@ fn show_number<W: fmt::Write>(
     )
 }
 
-/// Writes which two numbers an option takes, and what it was given.
+/// Writes which two numbers an option takes, and the word that it got.
 fn show_neither<W: fmt::Write>(
     f: &mut fmt::Formatter<W>,
     option: &str,
@@ -116,7 +116,7 @@ fn show_neither<W: fmt::Write>(
     write!(f, "error: --{option} is {one} or {other}, not '{word}'")
 }
 
-/// Writes with which code the application's check refuses the transaction at an option.
+/// Writes the code with which the application's check refuses the transaction of an option.
 fn show_rejected<W: fmt::Write>(
     f: &mut fmt::Formatter<W>,
     option: &str,
@@ -129,7 +129,7 @@ fn show_rejected<W: fmt::Write>(
     )
 }
 
-/// Writes how a subcommand is given its input, which the words named.
+/// Writes how a subcommand gets its input, which the words named.
 fn show_named<W: fmt::Write>(
     f: &mut fmt::Formatter<W>,
     input: &str,
@@ -142,12 +142,12 @@ fn show_named<W: fmt::Write>(
     )
 }
 
-/// Writes what is wanted, and what stands there.
+/// Writes what is expected, and the word that is there.
 fn show_wanted<W: fmt::Write>(f: &mut fmt::Formatter<W>, wanted: &str, word: &str) -> fmt::Result {
     write!(f, "error: {wanted}, not '{word}'")
 }
 
-/// Writes what is told of an option.
+/// Writes what is wrong with an option.
 fn show_option<W: fmt::Write, D: fmt::Display>(
     f: &mut fmt::Formatter<W>,
     option: &str,
@@ -156,7 +156,7 @@ fn show_option<W: fmt::Write, D: fmt::Display>(
     write!(f, "error: --{option} {told}")
 }
 
-/// Writes that a word at an option is no transaction.
+/// Writes that the word for an option is no transaction.
 fn show_no_transaction<W: fmt::Write>(
     f: &mut fmt::Formatter<W>,
     option: &str,

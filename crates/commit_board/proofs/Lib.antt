@@ -1,3 +1,4 @@
+pub mod OneSeat
 pub mod Heights
 pub mod Seating
 pub mod Moves

@@ -1,37 +1,38 @@
--- What contracts see of a commit board and of its seats, and what its calls tell.
+-- A commit board and its seats as contracts see them, and the outcomes of its calls.
 use Rattle.std.specs.Prelude.{◌≡◌, ℕ, List, [], Some, slice_get}
 use Rattle.atomic_table.specs.Seated.{TableId}
 use Rattle.ledger_model.specs.Boards.{Board, IsBoard, Reads, Raises}
 
--- which board it is
+-- the identity of a board
 abbrev pub BoardId : Type 0
 BoardId = TableId
 
--- how many replicas have a word
+-- the number of replicas that have a word
 abbrev pub replicas_of : BoardId → ℕ
 replicas_of board = board.words
 
 -- a writer's seat: its board, its replica, and the greatest height published through it
-pub record Writer : Type 0 where
+pub record WriterSeatView : Type 0 where
   pub board : BoardId
   pub replica : ℕ
   pub height : ℕ
 
--- a reader's seat: its board, the (replica, height) pairs that its loads found, in order, and those of the writers' seats that were handed back
-pub record Reader : Type 0 where
+-- a reader's seat: its board, the (replica, height) pairs that it loaded, in order, and the pairs of the writers' seats
+-- that were handed back to it
+pub record ReaderSeatView : Type 0 where
   pub board : BoardId
   pub seen : List (ℕ × ℕ)
   pub closed : List (ℕ × ℕ)
 
 -- a writer's seat through which nothing was published
-abbrev pub new_writer : BoardId → ℕ → Writer
+abbrev pub new_writer : BoardId → ℕ → WriterSeatView
 new_writer board replica = record { board = board; replica = replica; height = 0 }
 
--- a reader's seat that found nothing yet
-abbrev pub new_reader : BoardId → Reader
+-- a reader's seat that has read nothing yet
+abbrev pub new_reader : BoardId → ReaderSeatView
 new_reader board = record { board = board; seen = []; closed = [] }
 
--- at one step a reader that had found these found the height of r
+-- in one atomic step a reader that had read `before` read the height of r
 pub record ReadAtOnce (before : List (ℕ × ℕ)) (r height : ℕ) (after : List (ℕ × ℕ)) : Type 0 where
   pub old : Board
   pub new : Board
@@ -42,7 +43,7 @@ pub record ReadAtOnce (before : List (ℕ × ℕ)) (r height : ℕ) (after : Lis
   pub is : IsBoard new
   pub has : slice_get new.readers reader ≡ Some after
 
--- at one step the word of r was raised to the height, where the one before had been published
+-- in one atomic step the word of r, of which `before` had been published, was raised to the height
 pub record RaisedAtOnce (before r height after : ℕ) : Type 0 where
   pub old : Board
   pub new : Board
@@ -52,6 +53,6 @@ pub record RaisedAtOnce (before r height after : ℕ) : Type 0 where
   pub is : IsBoard new
   pub has : slice_get new.writers r ≡ Some after
 
--- where the writer's seat of r was handed back, the height is the one that it had
+-- if r's writer's seat was handed back, the height is the one that it had published
 abbrev pub IsLast : List (ℕ × ℕ) → ℕ → ℕ → Type 0
 IsLast closed r height = (k last : ℕ) → slice_get closed k ≡ Some (r, last) → height ≡ last

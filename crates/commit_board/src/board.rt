@@ -1,4 +1,4 @@
-//! The board and its calls.
+//! The commit board and its calls.
 use crate::log::{ByOwning, ByRaising, ByReading, HandedBack, Log, NextReader, NextWriter, Rising};
 use crate::seats::{ReaderSeat, WriterSeat};
 use atomic_table::{Seat, Table};
@@ -28,7 +28,7 @@ impl Board {
     ghost use Rattle.ledger_model.specs.Boards.{heights_of, rises_to};
     ghost use Rattle.commit_board.specs.Seats.{replicas_of, new_writer, new_reader, ReadAtOnce, RaisedAtOnce, IsLast};
 
-    /// A board on which nothing is published, the writer's seat of each replica, and so many readers' seats.
+    /// A board on which nothing is published, a writer's seat for each replica, and `readers` readers' seats.
     pub fn new(
         alloc: Global,
         config: &Config,
@@ -51,7 +51,7 @@ impl Board {
         Ok((board, writing, reading))
     }
 
-    /// The writers' seats of this many replicas.
+    /// The writers' seats of `replicas` replicas.
     fn with_writers(
         &self,
         maker: &mut Seat<(), Log>,
@@ -74,7 +74,7 @@ impl Board {
         writing
     }
 
-    /// This many readers' seats.
+    /// `readers` readers' seats.
     fn with_readers(
         &self,
         maker: &mut Seat<(), Log>,
@@ -110,7 +110,7 @@ impl Board {
         }
     }
 
-    /// A reader's seat.
+    /// The next reader's seat.
     fn next_reader(&self, maker: &mut Seat<(), Log>) -> ReaderSeat
         requires board { maker.old.table_id ≡ self.now }
         ensures board { maker.new.table_id ≡ maker.old.table_id }
@@ -120,7 +120,7 @@ impl Board {
         ReaderSeat { seat }
     }
 
-    /// Raises the word of the seat's replica to this height, if it is lower.
+    /// Raises the word of the seat's replica to this height, if the word is lower.
     pub fn publish(&self, seat: &mut WriterSeat, height: Height)
         requires { seat.old.board ≡ self.now }
         ensures height { seat.new ≡ record seat.old { height = max seat.old.height height } }
@@ -133,13 +133,14 @@ impl Board {
             .fetch_max::<ByRaising>(&mut seat.seat, word, height);
     }
 
-    /// The height of this replica.
+    /// The height in the word of this replica.
     pub fn read(&self, seat: &mut ReaderSeat, replica: ReplicaId) -> u32
         requires board { seat.old.board ≡ self.now }
         requires replica { replica < replicas_of self.now }
         ensures seen { seat.new ≡ record seat.old { seen = seat.old.seen ++ (replica, result) ∷ [] } }
         ensures rises { IsTrue (rises_to result (heights_of replica seat.new.seen)) }
-        // Where the writer's seat was handed back, it is the height that this one published.
+        // If the replica's writer's seat was handed back to this reader, it is the greatest height that was published
+        // through that seat.
         ensures last { IsLast seat.old.closed replica result }
         ensures step { ReadAtOnce seat.old.seen replica result seat.new.seen }
     {
@@ -159,7 +160,7 @@ impl Board {
         height as u32
     }
 
-    /// Hands a writer's seat back: from now on this reader finds what was published through it.
+    /// Hands a writer's seat back to this reader, which from now on reads exactly what was published through that seat.
     pub fn retire(&self, reader: &mut ReaderSeat, writer: WriterSeat)
         requires reader { reader.old.board ≡ self.now }
         requires writer { writer.board ≡ self.now }

@@ -1,13 +1,14 @@
-//! The commit board: a word for each replica, which its worker raises and any thread reads.
+//! The commit board: one word for each replica, which its worker raises and any thread reads.
 //!
-//! [`Board::new`] gives the board, a writer's seat for each replica and the readers' seats. [`Board::publish`] raises the
-//! word of the writer's replica to a height by one atomic maximum, [`Board::own`] loads that word and [`Board::read`] the
-//! word of any replica. [`Board::retire`] hands a writer's seat back to a reader. None of them waits or takes memory.
+//! [`Board::new`] returns the board, a writer's seat for each replica and the readers' seats. [`Board::publish`] raises
+//! the word of the writer's replica to a height, with one atomic maximum. [`Board::own`] loads that word, and
+//! [`Board::read`] loads the word of any replica. [`Board::retire`] hands a writer's seat back to a reader. No call
+//! waits or allocates memory, except `new`, which allocates.
 //!
-//! Promised over every schedule of the threads: each word is the greatest height that was published through its replica's
-//! seat; the heights that a reader finds of one replica never fall, and the last is at most the word (`IsBoard`).
+//! Proved for every schedule of the threads: each word is the greatest height that was published through its replica's
+//! seat; the heights that a reader reads of one replica never fall, and the last is at most the word (`IsBoard`).
 //!
-//! Not promised: when a reader finds a height that was published, and an order between the words of two replicas.
+//! Not promised: when a reader sees a published height, and an order between the words of two replicas.
 #![tactic(auto)]
 
 mod board;

@@ -1,9 +1,9 @@
-//! What the seats of a board saw, and the rule of its table. All of it is for the proofs: no value is made.
+//! The logs of a board's seats, and the rule of its table. All of it exists only in proofs: no value of these types is ever made.
 use atomic_table::{Join, Play, Split, TableRule};
 use std::collections::LinkedList;
 
 /// What a seat did: the height that a writer published for its replica; or the (replica, height) pairs that a reader
-/// found, and those of the writers that were handed back to it.
+/// read, and those of the writers that were handed back to it.
 pub struct Log {
     pub makes: bool,
     pub writes: bool,
@@ -13,44 +13,44 @@ pub struct Log {
     pub closed: LinkedList<(u8, u32)>,
 }
 
-/// The rule of the table, for so many replicas.
+/// The rule of the table, for a given number of replicas.
 pub struct Rising;
 
 impl TableRule<(), Log, u8> for Rising {
-    ghost use Rattle.commit_board.specs.Kept.{Kept, maker_log};
+    ghost use Rattle.commit_board.specs.BoardRule.{KeepsBoard, maker_log};
 
-    ghost holds = { Kept };
+    ghost holds = { KeepsBoard };
 
     ghost first = { λ _. maker_log 0 };
 }
 
-/// A writer's seat is made.
+/// The step that makes a writer's seat.
 pub struct NextWriter;
 
 impl Split<Log> for NextWriter {
-    ghost use Rattle.commit_board.specs.Kept.{with_writer, next_writer};
+    ghost use Rattle.commit_board.specs.BoardRule.{with_writer, next_writer};
 
     ghost left = { with_writer };
 
     ghost right = { next_writer };
 }
 
-/// A reader's seat is made.
+/// The step that makes a reader's seat.
 pub struct NextReader;
 
 impl Split<Log> for NextReader {
-    ghost use Rattle.commit_board.specs.Kept.{next_reader};
+    ghost use Rattle.commit_board.specs.BoardRule.{next_reader};
 
     ghost left = { λ v. v };
 
     ghost right = { next_reader };
 }
 
-/// A writer's seat is handed back to a reader.
+/// The step that hands a writer's seat back to a reader.
 pub struct HandedBack;
 
 impl Join<Log> for HandedBack {
-    ghost use Rattle.commit_board.specs.Kept.{with_closed, nobody};
+    ghost use Rattle.commit_board.specs.BoardRule.{with_closed, nobody};
 
     ghost both = { with_closed };
 
@@ -61,7 +61,7 @@ impl Join<Log> for HandedBack {
 pub struct ByReading;
 
 impl Play<(), Log> for ByReading {
-    ghost use Rattle.commit_board.specs.Kept.{Found};
+    ghost use Rattle.commit_board.specs.BoardRule.{Found};
 
     ghost then = { Found };
 }
@@ -70,7 +70,7 @@ impl Play<(), Log> for ByReading {
 pub struct ByOwning;
 
 impl Play<(), Log> for ByOwning {
-    ghost use Rattle.commit_board.specs.Kept.{Owned};
+    ghost use Rattle.commit_board.specs.BoardRule.{Owned};
 
     ghost then = { Owned };
 }
@@ -79,7 +79,7 @@ impl Play<(), Log> for ByOwning {
 pub struct ByRaising;
 
 impl Play<(), Log> for ByRaising {
-    ghost use Rattle.commit_board.specs.Kept.{Raised};
+    ghost use Rattle.commit_board.specs.BoardRule.{Raised};
 
     ghost then = { Raised };
 }

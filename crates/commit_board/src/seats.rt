@@ -4,7 +4,7 @@ use atomic_table::Seat;
 use ledger_model::ReplicaId;
 use std::marker::Model;
 
-/// The right to raise the word of one replica. Its worker has it.
+/// The right to raise the word of one replica. The replica's worker has it.
 #[derive(Drop)]
 pub struct WriterSeat {
     pub(crate) replica: ReplicaId,
@@ -13,9 +13,9 @@ pub struct WriterSeat {
 
 impl Model for WriterSeat {
     ghost use Rattle.std.specs.Prelude.{◌≡◌, ◌<◌, [], true, false};
-    ghost use Rattle.commit_board.specs.Seats.{Writer};
+    ghost use Rattle.commit_board.specs.Seats.{WriterSeatView};
 
-    ghost Value = { Writer };
+    ghost Value = { WriterSeatView };
 
     ghost view = { λ w. record { board = w.seat.table_id; replica = w.replica; height = w.seat.me.0.height } };
 
@@ -25,7 +25,7 @@ impl Model for WriterSeat {
 impl WriterSeat {
     ghost use Rattle.std.specs.Prelude.{◌≡◌};
 
-    /// Its replica.
+    /// The number of its replica.
     pub fn replica(&self) -> ReplicaId
         ensures { result ≡ self.now.replica }
     {
@@ -41,9 +41,9 @@ pub struct ReaderSeat {
 
 impl Model for ReaderSeat {
     ghost use Rattle.std.specs.Prelude.{◌≡◌, [], false};
-    ghost use Rattle.commit_board.specs.Seats.{Reader};
+    ghost use Rattle.commit_board.specs.Seats.{ReaderSeatView};
 
-    ghost Value = { Reader };
+    ghost Value = { ReaderSeatView };
 
     ghost view = { λ s. record { board = s.seat.table_id; seen = s.seat.me.0.seen; closed = s.seat.me.0.closed } };
 

@@ -1,4 +1,4 @@
--- A stream, and how often it has failed.
+-- A stream, and the number of its failures.
 use Rattle.std.specs.Prelude.{ℕ}
 use Rattle.counted_streams.specs.declared.counted_stream.CountedStream.{CountedStream}
 
@@ -6,6 +6,6 @@ use Rattle.counted_streams.specs.declared.counted_stream.CountedStream.{CountedS
 abbrev pub stream_of : {S : Type 0} → CountedStream S → S
 stream_of counted = counted.stream
 
--- how often a call of it failed since it is counted
+-- the number of calls that failed since counting began
 abbrev pub failures_of : {S : Type 0} → CountedStream S → ℕ
 failures_of counted = counted.failures.number

@@ -1,4 +1,4 @@
-//! A stream of std, and how often it has failed.
+//! A stream of std whose failures are counted.
 ghost use Rattle.std.specs.Prelude.{◌≡◌, ◌+◌};
 ghost use Rattle.client_sessions.specs.Faults.{failures_in};
 
@@ -9,7 +9,7 @@ use std::io::{self, Read, Write};
 
 /// A reader or a writer of std that counts its failures.
 ///
-/// A call that was interrupted is made again, and is no failure. The count exists in contracts alone: no code can read it.
+/// A call that was interrupted is repeated, and is no failure. The count exists only in contracts: no code can read it.
 #[derive(Drop)]
 pub struct CountedStream<S> {
     stream: S,
@@ -30,7 +30,7 @@ impl<S> CountedStream<S> {
         }
     }
 
-    /// Counts one failure if a call had an error.
+    /// Counts one failure if the call returned an error.
     fn count<T>(&mut self, outcome: &io::Result<T>)
         ensures stream { stream_of self.new ≡ stream_of self.old }
         ensures failures { failures_of self.new ≡ failures_of self.old + failures_in outcome.now }

@@ -1,9 +1,9 @@
-//! A count that exists in contracts alone.
+//! A count that exists only in contracts.
 ghost use Rattle.std.specs.Prelude.{◌≡◌, ℕ, ◌+◌};
 
 use std::marker::Model;
 
-/// How often a stream has failed. A count has no bytes, and its methods do nothing at run time.
+/// The number of times that a stream has failed. A count has no bytes, and its methods do nothing at run time.
 #[derive(Drop)]
 pub(crate) struct FailureCount {
     pub ghost number: { ℕ },
@@ -16,14 +16,14 @@ impl Model for FailureCount {
 }
 
 impl FailureCount {
-    /// Of a stream that has not failed yet.
+    /// The count of a stream that has not failed yet.
     pub(crate) fn zero() -> Self
         ensures { result.number ≡ 0 }
     {
         FailureCount {}
     }
 
-    /// One more.
+    /// The count after one more failure.
     pub(crate) fn plus_one(&self) -> Self
         ensures { result.number ≡ self.now.number + 1 }
     {

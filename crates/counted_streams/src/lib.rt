@@ -1,4 +1,4 @@
-//! Readers and writers of std as the streams of a session, which count their failures.
+//! Readers and writers of std as streams of a session, with their failures counted.
 #![tactic(auto)]
 
 mod counted_stream;

@@ -1,4 +1,4 @@
-//! Calls of a stream that are made again when they were interrupted.
+//! Calls of a stream that are repeated if they were interrupted.
 //!
 //! A call gives up, with [`ErrorKind::TimedOut`], if all of 2^64 - 1 tries were interrupted.
 ghost use Rattle.std.specs.Prelude.{◌≡◌, ◌<◌, length, IfOk};
@@ -25,7 +25,7 @@ pub(crate) fn read<R: Read>(stream: &mut R, buffer: &mut [u8]) -> io::Result<usi
     Err(io::Error::from(ErrorKind::TimedOut))
 }
 
-/// Writes some of the bytes. A writer that takes none of them has failed.
+/// Writes some of the bytes. A writer that takes no byte has failed.
 pub(crate) fn write<W: Write>(stream: &mut W, bytes: &[u8]) -> io::Result<usize>
     ensures bound { WritesAtMost result bytes.now }
     ensures some { IfOk result (λ count. 0 < length bytes.now → 0 < count) }
@@ -45,7 +45,7 @@ pub(crate) fn write<W: Write>(stream: &mut W, bytes: &[u8]) -> io::Result<usize>
     Err(io::Error::from(ErrorKind::TimedOut))
 }
 
-/// Hands on what the writer keeps back.
+/// Forwards the bytes that the writer buffers.
 pub(crate) fn flush<W: Write>(stream: &mut W) -> io::Result<()>
     ensures bytes { Keeps (W.contents stream.old) (W.contents stream.new) }
 {

@@ -6,31 +6,29 @@ use Rattle.ledger_model.specs.declared.reply.ProposeRefusal.{ProposeRefusal}
 use Rattle.ledger_model.specs.declared.reply.ProposeRefusal.TheVariants as refusal
 use Rattle.ledger_model.specs.Limits.{max_height, max_ahead}
 use Rattle.ledger_model.specs.Commits.{first_fault}
-use Rattle.instance.specs.Rows.{Row}
+use Rattle.instance.specs.Instances.{InstanceView}
 use Rattle.height_row.specs.Heights.{row_at, open_answer}
+use Rattle.ledger_model.proofs.Lists.{none_if_not_some}
 
 -- it is one of the heights, and not open
-pub record MayBeOpened (rows : List Row) (h : ℕ) : Type 0 where
+pub record MayBeOpened (rows : List InstanceView) (h : ℕ) : Type 0 where
   pub low : 1 ≤ h
   pub high : h ≤ max_height
   pub none : row_at rows h ≡ None
 
 -- the first two of three tests don't fit, where none does
-none_fits : (b c d : Bool) (e f g : ProposeRefusal) → first_fault {X = Unit {0}} ((b, e) ∷ (c, f) ∷ (d, g) ∷ []) tt ≡ Ok tt → (b ≡ false) × (c ≡ false)
+none_fits : (b c d : Bool) (e f g : ProposeRefusal) → first_fault {X = Unit {0}} ((b, e) ∷ (c, f) ∷ (d, g) ∷ []) tt ≡ Ok tt
+    → (b ≡ false) × (c ≡ false)
 none_fits true c d e f g is = absurd cc
 none_fits false true d e f g is = absurd cc
 none_fits false false d e f g is = (refl, refl)
 
--- nothing is there
-not_some : {X : Type 0} (o : Option X) → is_some o ≡ false → o ≡ None
-not_some None is = refl
-not_some (Some x) is = absurd cc
-
 -- where no refusal fits
-pub may_be_opened : (rows : List Row) (committed h : ℕ) → open_answer rows committed h ≡ Ok tt → MayBeOpened rows h
+pub may_be_opened : (rows : List InstanceView) (committed h : ℕ) → open_answer rows committed h ≡ Ok tt → MayBeOpened rows h
 may_be_opened rows committed h is =
-    let parts = none_fits ((h == 0) || nat_lt max_height h) (is_some (row_at rows h)) (nat_lt (committed + max_ahead) h) refusal.Closed refusal.AlreadyOpen refusal.TooFar is in
+    let parts = none_fits ((h == 0) || nat_lt max_height h) (is_some (row_at rows h)) (nat_lt (committed + max_ahead) h) refusal.Closed
+    refusal.AlreadyOpen refusal.TooFar is in
     let bounds = or_parts (h == 0) (nat_lt max_height h) parts.0 in
     let low = eqb-false h 0 bounds.0 in
     let high = ltb-false max_height h bounds.1 in
-    record { low = omega (arith, low); high = high; none = not_some (row_at rows h) parts.1 }
+    record { low = omega (arith, low); high = high; none = none_if_not_some (row_at rows h) parts.1 }

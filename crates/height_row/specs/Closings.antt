@@ -1,11 +1,11 @@
--- What is done at each open height as a round opens.
+-- How each open height closes its round.
 use Rattle.std.specs.Prelude.{◌≡◌, ℕ, List, [], ◌∷◌}
-use Rattle.instance.specs.Rows.{Row}
+use Rattle.instance.specs.Instances.{InstanceView}
 use Rattle.instance.specs.Plans.{ended, IsOwnMade}
-use Rattle.height_row.specs.declared.closing.Closing.{Closing}
+use Rattle.height_row.specs.declared.round_closing.RoundClosing.{RoundClosing}
 
--- each is what its height prepares as round c opens, and makes nothing of another replica's
-abbrev pub AreClosings : ℕ → List Row → List Closing → Type 0
+-- each closing has the effects of its height as round c opens, and no statement of another replica
+abbrev pub AreClosings : ℕ → List InstanceView → List RoundClosing → Type 0
 AreClosings c [] [] = Unit {0}
 AreClosings c (row ∷ rows) (x ∷ xs) = (x.ending ≡ ended row c) × IsOwnMade row.id x.made × AreClosings c rows xs
 AreClosings c [] (x ∷ xs) = ⊥

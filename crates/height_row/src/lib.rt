@@ -1,8 +1,9 @@
-//! The heights that a replica has opened, each an instance of its own. What happens at one leaves the others.
+//! The heights that a replica has opened, each an instance of agreement of its own. What happens at one height leaves
+//! the others unchanged.
 #![tactic(auto)]
 
-mod closing;
+mod round_closing;
 mod row;
 
-pub use closing::Closing;
+pub use round_closing::RoundClosing;
 pub use row::HeightRow;

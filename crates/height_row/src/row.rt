@@ -4,15 +4,15 @@ ghost use Rattle.std.specs.List.{find, position};
 ghost use Rattle.std.specs.Option.{option_copied};
 ghost use Rattle.height_row.specs.Heights.{place_for, AreAscending};
 
-use crate::closing::{Closing, close_each, plan_each, prepare_each};
-use instance::{Ending, Instance, Made, Plan};
+use crate::round_closing::{RoundClosing, close_each, plan_each, prepare_each};
+use instance::{Instance, RoundEffects, RoundPlan, RoundStatement};
 use key_ring::KeyRing;
 use ledger_model::{Batch, Config, Height, Ignored, ProposeRefusal, ReplicaId};
 use signed_frames::Frame;
 use std::alloc::{AllocError, Global};
 use std::marker::Model;
 
-/// The heights that a replica has opened, in ascending order. Contracts see a `Heights`.
+/// The heights that a replica has opened, in ascending order. Contracts see a `HeightRowView`.
 #[derive(Drop)]
 pub struct HeightRow {
     config: Config,
@@ -24,9 +24,9 @@ impl Model for HeightRow {
     ghost use Rattle.std.specs.Prelude.{◌≡◌, ◌<◌, ◌≤◌, List};
     ghost use Rattle.std.specs.List.{AllByRecursion};
     ghost use Rattle.ledger_model.specs.Limits.{max_height};
-    ghost use Rattle.height_row.specs.Heights.{Heights, AreAscending};
+    ghost use Rattle.height_row.specs.Heights.{HeightRowView, AreAscending};
 
-    ghost Value = { Heights };
+    ghost Value = { HeightRowView };
 
     ghost view = { λ r. record { config = r.config; id = r.id; rows = r.instances.items } };
 
@@ -39,22 +39,22 @@ impl HeightRow {
     ghost use Rattle.std.specs.Prelude.{◌≡◌, ◌<◌, ◌≤◌, ◌+◌, ◌++◌, ◌∷◌, ℕ, ◌==◌, List, [], map, Some, is_some, true, IsTrue, IfOk, IfSome, OnOk, OnErr};
     ghost use Rattle.std.specs.List.{position, AllByRecursion};
     ghost use Rattle.std.specs.Option.{option_copied};
-    ghost use Rattle.ledger_model.specs.Rounds.{place_of};
+    ghost use Rattle.ledger_model.specs.Rounds.{place_of, release_place};
     ghost use Rattle.ledger_model.specs.Notes.{Note, Proposed, Read, clock_of, signer_of};
     ghost use Rattle.ledger_model.specs.Locks.{decided_of};
     ghost use Rattle.ledger_model.specs.Logs.{height_of};
     ghost use Rattle.ledger_model.specs.Rules.{Ring, answer_to};
     ghost use Rattle.ledger_model.specs.Lawful.{held_locks, are_signed_reports};
     ghost use Rattle.ledger_model.specs.Spelling.{IsStatement, frame_bytes};
-    ghost use Rattle.instance.specs.Rows.{Row};
-    ghost use Rattle.instance.specs.Matching.{Matches, only_rounds};
+    ghost use Rattle.instance.specs.Instances.{InstanceView};
+    ghost use Rattle.instance.specs.Matching.{MatchesLog, only_rounds};
     ghost use Rattle.instance.specs.Reads.{opened_row, IsSameHeight};
     ghost use Rattle.instance.specs.Plans.{chosen_statement, ended, IsOwnMade};
     ghost use Rattle.instance.specs.Laws.{MayBeSent, MayClose, IsSignedMade, IsLockSentOn, opened_by};
     ghost use Rattle.height_row.specs.Heights.{row_at, decided_in, open_answer, plan_of, closed_each, AreApart, AreAscending, AreFound, AreOwn, IsSameReplica};
     ghost use Rattle.ledger_model.specs.Limits.{last_round, max_height};
 
-    /// No height is open yet.
+    /// A row with no open height.
     pub fn new(alloc: Global, config: &Config, id: ReplicaId) -> Self
         requires { id < config.now.replicas }
         ensures row { result ≡ record { config = config.now; id = id; rows = [] } }
@@ -67,7 +67,7 @@ impl HeightRow {
         }
     }
 
-    /// The height, if it is open.
+    /// The instance of the height, if the height is open.
     pub fn get(&self, height: Height) -> Option<&Instance>
         ensures row { option_copied result ≡ row_at self.now.rows height }
         ensures own { AreOwn self.now }
@@ -75,11 +75,11 @@ impl HeightRow {
         find_height(&self.instances, height)
     }
 
-    /// What is kept of each open height, by ascending height.
+    /// The instances of the open heights, in ascending order.
     pub fn instances(&self) -> &[Instance]
         ensures rows { result.now ≡ self.now.rows }
         ensures ascend { AreAscending self.now.rows }
-        // Each stands for its height.
+        // Each instance is the one of its height.
         ensures found { AreFound self.now.rows }
         ensures own { AreOwn self.now }
     {
@@ -89,16 +89,16 @@ impl HeightRow {
     /// The value that was decided at the height, if one was.
     pub fn decided_at(&self, height: Height) -> Option<&Batch>
         ensures row { option_copied result ≡ decided_in (row_at self.now.rows height) }
-        // It is what was decided by every log that the height matches.
-        ensures decided { (row : Row) → row_at self.now.rows height ≡ Some row → (ring : Ring) (log : List Note)
-            → Matches ring row log → option_copied result ≡ decided_of row.config log }
+        // It is the value that was decided by every log that the height matches.
+        ensures decided { (row : InstanceView) → row_at self.now.rows height ≡ Some row → (ring : Ring) (log : List Note)
+            → MatchesLog ring row log → option_copied result ≡ decided_of row.config log }
         ensures own { AreOwn self.now }
     {
         self.get(height)?.decided()
     }
 
-    /// Whether a height may be opened, `committed` blocks being committed. The refusals are tested in the order Closed (0, or
-    /// above the last), AlreadyOpen, TooFar (more than [`Height::MAX_AHEAD`] above `committed`). It takes no memory.
+    /// Whether a height may be opened if `committed` blocks are committed. The refusals are tested in this order: Closed (height 0,
+    /// or above the last), AlreadyOpen, TooFar (more than [`Height::MAX_AHEAD`] above `committed`). Allocates nothing.
     pub fn may_open(&self, height: Height, committed: u32) -> Result<(), ProposeRefusal>
         requires committed { committed ≤ max_height }
         ensures { result ≡ open_answer self.now.rows committed height }
@@ -115,8 +115,8 @@ impl HeightRow {
         Ok(())
     }
 
-    /// Opens a height with the own initial value, `committed` blocks being committed, unless [`HeightRow::may_open`] refuses it.
-    /// A refusal changes nothing, nor does want of memory.
+    /// Opens a height with the replica's own initial value, unless [`HeightRow::may_open`] refuses it. `committed`
+    /// blocks are committed. A refusal changes nothing, and neither does allocation failure.
     pub fn open(
         &mut self,
         alloc: Global,
@@ -126,10 +126,10 @@ impl HeightRow {
     ) -> Result<Result<(), ProposeRefusal>, AllocError>
         requires committed { committed ≤ max_height }
         ensures answer { IfOk result (λ r. r ≡ open_answer self.old.rows committed height) }
-        // The height is open then, and matches every log in which rounds were opened, and then the height.
+        // The height is open then, and matches every log of opened rounds that ends with this proposal.
         ensures opened { IfOk result (λ r. OnOk r (row_at self.new.rows height ≡ Some (opened_row self.old.config self.old.id height initial.now))) }
-        ensures matches { IfOk result (λ r. OnOk r ((row : Row) → row_at self.new.rows height ≡ Some row → (ring : Ring) (log : List Note)
-            → only_rounds log ≡ true → Matches ring row (log ++ Proposed initial.now ∷ []))) }
+        ensures matches { IfOk result (λ r. OnOk r ((row : InstanceView) → row_at self.new.rows height ≡ Some row → (ring : Ring) (log : List Note)
+            → only_rounds log ≡ true → MatchesLog ring row (log ++ Proposed initial.now ∷ []))) }
         ensures refused { IfOk result (λ r. OnErr r (self.new ≡ self.old)) }
         ensures err { OnErr result (self.new ≡ self.old) }
         ensures apart { AreApart height self.old.rows self.new.rows }
@@ -145,7 +145,7 @@ impl HeightRow {
         Ok(Ok(()))
     }
 
-    /// Where the instance of an open height stands.
+    /// The index of the instance of an open height.
     fn position(&self, height: Height) -> usize
         requires open { is_some (row_at self.now.rows height) ≡ true }
         ensures { position (λ row. row.height == height) self.now.rows ≡ Some result }
@@ -156,8 +156,8 @@ impl HeightRow {
         }
     }
 
-    /// A frame of an open height comes in, whose signer is a replica, while round `clock` is open: it is read, or ignored by
-    /// the first cause that fits, and nothing changes. Where memory runs out, nothing changes either.
+    /// Reads or ignores a frame of an open height, whose signer is in the cluster, while round `clock` is open. A frame is
+    /// ignored with the first cause that applies, and then nothing changes. If memory runs out, nothing changes either.
     pub fn read(
         &mut self,
         alloc: Global,
@@ -168,12 +168,12 @@ impl HeightRow {
         requires signer { signer_of frame.statement < self.old.config.replicas }
         requires open { is_some (row_at self.old.rows (height_of frame.statement)) ≡ true }
         requires clock { clock ≤ last_round }
-        // What is answered, and what it leaves, by every log that the height matches.
-        ensures answer { IfOk result (λ r. (row : Row) → row_at self.old.rows (height_of frame.statement) ≡ Some row → (log : List Note)
-            → Matches ring.now row log → clock_of log ≡ clock → r ≡ answer_to row.config ring.now log frame) }
-        ensures read { IfOk result (λ r. (row new : Row) → row_at self.old.rows (height_of frame.statement) ≡ Some row
+        // The answer and its effect are those of the definitions, on every log that the height matches.
+        ensures answer { IfOk result (λ r. (row : InstanceView) → row_at self.old.rows (height_of frame.statement) ≡ Some row → (log : List Note)
+            → MatchesLog ring.now row log → clock_of log ≡ clock → r ≡ answer_to row.config ring.now log frame) }
+        ensures read { IfOk result (λ r. (row new : InstanceView) → row_at self.old.rows (height_of frame.statement) ≡ Some row
             → row_at self.new.rows (height_of frame.statement) ≡ Some new → (log : List Note)
-            → Matches ring.now row log → clock_of log ≡ clock → IfOk r (λ x. Matches ring.now new (log ++ Read clock frame ∷ []))) }
+            → MatchesLog ring.now row log → clock_of log ≡ clock → IfOk r (λ x. MatchesLog ring.now new (log ++ Read clock frame ∷ []))) }
         ensures ignored { IfOk result (λ r. OnErr r (self.new ≡ self.old)) }
         ensures err { OnErr result (self.new ≡ self.old) }
         ensures open { is_some (row_at self.new.rows (height_of frame.statement)) ≡ true }
@@ -185,40 +185,45 @@ impl HeightRow {
         self.instances[place].read(alloc, ring, frame, clock)
     }
 
-    /// What is to be done at an open height as the next round opens, `clock` being the number of the one that closes: the
-    /// statement that this replica chooses to send, and all else. Nothing changes yet.
-    pub fn plan_end(&self, alloc: Global, height: Height, clock: u32) -> Result<Plan, AllocError>
+    /// The plan for opening the next round at an open height: the statement that the replica chooses to send, and all
+    /// other effects. `clock` is the number of the round that closes. Changes nothing yet.
+    pub fn plan_end(
+        &self,
+        alloc: Global,
+        height: Height,
+        clock: u32,
+    ) -> Result<RoundPlan, AllocError>
         requires open { is_some (row_at self.now.rows height) ≡ true }
         requires clock { clock < last_round }
-        ensures statement { IfOk result (λ plan. (row : Row) → row_at self.now.rows height ≡ Some row → plan.statement ≡ chosen_statement row (clock + 1)) }
-        ensures ending { IfOk result (λ plan. (row : Row) → row_at self.now.rows height ≡ Some row → plan.ending ≡ ended row (clock + 1)) }
-        // It chooses what may be sent, by every log that the height matches.
-        ensures may { IfOk result (λ plan. (row : Row) → row_at self.now.rows height ≡ Some row → (ring : Ring) (log : List Note)
-            → Matches ring row log → clock_of log ≡ clock → MayBeSent row log (clock + 1) plan.statement) }
-        // The reports in the proof of a lock are signed.
-        ensures proofs { IfOk result (λ plan. (row : Row) → row_at self.now.rows height ≡ Some row → (ring : Ring) (log : List Note)
-            → Matches ring row log → clock_of log ≡ clock → IfSome plan.statement (λ s. IsTrue (are_signed_reports ring s))) }
-        // The statement is the replica's, of this height, and can be spelled, whatever log there is.
+        ensures statement { IfOk result (λ plan. (row : InstanceView) → row_at self.now.rows height ≡ Some row → plan.statement ≡ chosen_statement row (clock + 1)) }
+        ensures ending { IfOk result (λ plan. (row : InstanceView) → row_at self.now.rows height ≡ Some row → plan.ending ≡ ended row (clock + 1)) }
+        // It chooses only what every log that the height matches allows.
+        ensures may { IfOk result (λ plan. (row : InstanceView) → row_at self.now.rows height ≡ Some row → (ring : Ring) (log : List Note)
+            → MatchesLog ring row log → clock_of log ≡ clock → MayBeSent row log (clock + 1) plan.statement) }
+        // If the statement is a lock, the reports in its proof are signed.
+        ensures proofs { IfOk result (λ plan. (row : InstanceView) → row_at self.now.rows height ≡ Some row → (ring : Ring) (log : List Note)
+            → MatchesLog ring row log → clock_of log ≡ clock → IfSome plan.statement (λ s. IsTrue (are_signed_reports ring s))) }
+        // The statement is the replica's own, of this height, and can be encoded, whatever the log is.
         ensures signer { IfOk result (λ plan. IfSome plan.statement (λ s. signer_of s ≡ self.now.id)) }
         ensures height { IfOk result (λ plan. IfSome plan.statement (λ s. height_of s ≡ height)) }
         ensures spelled { IfOk result (λ plan. IfSome plan.statement IsStatement) }
-        // In a lock-release round it sends on the locks that are held.
-        ensures sends_on { IfOk result (λ plan. (row : Row) → row_at self.now.rows height ≡ Some row → (ring : Ring) (log : List Note)
-            → Matches ring row log → clock_of log ≡ clock → place_of (clock + 1) ≡ 4 → plan.ending.sends_on ≡ map frame_bytes (held_locks log)) }
+        // In a lock-release round the replica sends on the locks that it holds.
+        ensures sends_on { IfOk result (λ plan. (row : InstanceView) → row_at self.now.rows height ≡ Some row → (ring : Ring) (log : List Note)
+            → MatchesLog ring row log → clock_of log ≡ clock → place_of (clock + 1) ≡ release_place → plan.ending.sends_on ≡ map frame_bytes (held_locks log)) }
         // Each of those frames reads back as a signed lock of the height.
-        ensures readable { IfOk result (λ plan. (row : Row) → row_at self.now.rows height ≡ Some row → (ring : Ring) (log : List Note)
-            → Matches ring row log → AllByRecursion (IsLockSentOn ring height) plan.ending.sends_on) }
+        ensures readable { IfOk result (λ plan. (row : InstanceView) → row_at self.now.rows height ≡ Some row → (ring : Ring) (log : List Note)
+            → MatchesLog ring row log → AllByRecursion (IsLockSentOn ring height) plan.ending.sends_on) }
         ensures own { AreOwn self.now }
     {
         let place = self.position(height);
         self.instances[place].plan_end(alloc, clock)
     }
 
-    /// The same at each open height, in order.
-    pub fn plan_ends(&self, alloc: Global, clock: u32) -> Result<Vec<Plan>, AllocError>
+    /// The plans for opening the next round at each open height, in order.
+    pub fn plan_ends(&self, alloc: Global, clock: u32) -> Result<Vec<RoundPlan>, AllocError>
         requires clock { clock < last_round }
         ensures plans { IfOk result (λ plans. plans.items ≡ map (plan_of (clock + 1)) self.now.rows) }
-        // The statements can be spelled, whatever log there is.
+        // The statements can be encoded, whatever the log is.
         ensures spelled { IfOk result (λ plans. AllByRecursion (λ plan. IfSome plan.statement IsStatement) plans.items) }
         ensures ascend { AreAscending self.now.rows }
         ensures own { AreOwn self.now }
@@ -226,9 +231,9 @@ impl HeightRow {
         plan_each(alloc, &self.instances, clock)
     }
 
-    /// Prepares the end of round `clock` at each open height, by ascending height, whatever is sent. It chooses no statement and
+    /// Prepares the effects of ending round `clock` at each open height, in ascending order. Chooses no statement and
     /// changes nothing. The only error is allocation failure.
-    pub fn prepare_ends(&self, alloc: Global, clock: u32) -> Result<Vec<Ending>, AllocError>
+    pub fn prepare_ends(&self, alloc: Global, clock: u32) -> Result<Vec<RoundEffects>, AllocError>
         requires clock { clock < last_round }
         ensures endings { IfOk result (λ endings. endings.items ≡ map (λ row. ended row (clock + 1)) self.now.rows) }
         ensures ascend { AreAscending self.now.rows }
@@ -237,17 +242,18 @@ impl HeightRow {
         prepare_each(alloc, &self.instances, clock)
     }
 
-    /// Opens the next round at an open height: puts in place what was prepared for its end, and what of its own the replica
-    /// makes in it. It takes no memory.
-    pub fn close(&mut self, height: Height, ending: Ending, made: Made, clock: u32)
+    /// Opens the next round at an open height: stores what was prepared for the end of the round, and the replica's own
+    /// statement. Allocates nothing.
+    pub fn close(&mut self, height: Height, ending: RoundEffects, made: RoundStatement, clock: u32)
         requires open { is_some (row_at self.old.rows height) ≡ true }
         requires clock { clock < last_round }
-        requires ending { (row : Row) → row_at self.old.rows height ≡ Some row → ending ≡ ended row (clock + 1) }
+        requires ending { (row : InstanceView) → row_at self.old.rows height ≡ Some row → ending ≡ ended row (clock + 1) }
         requires own { IsOwnMade self.old.id made }
-        // Every log that the height matched, and by which this may be made, goes on with the round and with what is made.
-        ensures matches { (row new : Row) → row_at self.old.rows height ≡ Some row → row_at self.new.rows height ≡ Some new
-            → (ring : Ring) (log : List Note) → Matches ring row log → clock_of log ≡ clock → MayClose row log (clock + 1) made
-            → IsSignedMade ring made → Matches ring new (opened_by row log (clock + 1) made) }
+        // For every log that the height matched and that allows what is made: the height then matches that log,
+        // continued with the round and with what is made.
+        ensures matches { (row new : InstanceView) → row_at self.old.rows height ≡ Some row → row_at self.new.rows height ≡ Some new
+            → (ring : Ring) (log : List Note) → MatchesLog ring row log → clock_of log ≡ clock → MayClose row log (clock + 1) made
+            → IsSignedMade ring made → MatchesLog ring new (opened_by row log (clock + 1) made) }
         ensures open { is_some (row_at self.new.rows height) ≡ true }
         ensures apart { AreApart height self.old.rows self.new.rows }
         ensures same { IsSameReplica self.old self.new }
@@ -257,8 +263,8 @@ impl HeightRow {
         self.instances[place].close(ending, made, clock);
     }
 
-    /// Opens the next round at each open height, in order, as [`HeightRow::close`] does at one. It takes no memory.
-    pub fn close_all(&mut self, closings: Vec<Closing>, clock: u32)
+    /// Opens the next round at each open height, in order, as [`HeightRow::close`] does at one. Allocates nothing.
+    pub fn close_all(&mut self, closings: Vec<RoundClosing>, clock: u32)
         requires clock { clock < last_round }
         requires endings { map (λ c. c.ending) closings.items ≡ map (λ row. ended row (clock + 1)) self.old.rows }
         requires own { AllByRecursion (λ c. IsOwnMade self.old.id c.made) closings.items }
@@ -271,7 +277,7 @@ impl HeightRow {
     }
 }
 
-/// How many instances are of lower heights: the place of one of this height.
+/// The number of instances of lower heights, which is the index for an instance of this height.
 fn count_below(instances: &[Instance], height: Height) -> usize
     requires ascend { AreAscending instances.now }
     ensures { result ≡ place_for height instances.now }
@@ -279,7 +285,7 @@ fn count_below(instances: &[Instance], height: Height) -> usize
     instances.partition_point(|instance| instance.height() < height)
 }
 
-/// Where the instance of the height stands, if there is one.
+/// The index of the instance of the height, if there is one.
 fn position_of(instances: &[Instance], height: Height) -> Option<usize>
     requires ascend { AreAscending instances.now }
     ensures { result ≡ position (λ row. row.height == height) instances.now }

@@ -1,4 +1,4 @@
--- The one spelling of a history.
+-- The one encoding of a history.
 use Rattle.std.specs.Prelude.{ℕ, ◌%◌, Bool, List, [], ◌∷◌, ◌++◌, length, Option, Some, None, Ok, Err, if◌then◌else◌}
 use Rattle.std.specs.List.{flat_map}
 use Rattle.std.specs.Int.{w16, w32, to_be_bytes}
@@ -21,8 +21,9 @@ use Rattle.ledger_model.specs.declared.reply.Sent.{Sent}
 use Rattle.ledger_model.specs.declared.reply.SubmitRefusal.{SubmitRefusal}
 use Rattle.ledger_model.specs.declared.reply.SubmitRefusal.TheVariants as refusal
 use Rattle.ledger_model.specs.Values.{value_bytes}
+use Rattle.ledger_model.specs.Causes.{cause_number}
 
--- a count in one byte, in two, and in four: the low ones, where it is too great for them
+-- a count in one, two or four bytes: its low bytes, if it doesn't fit
 abbrev pub count_in_1 : ℕ → List ℕ
 count_in_1 n = n % 256 ∷ []
 
@@ -32,7 +33,7 @@ count_in_2 n = to_be_bytes w16 (n % 65536)
 abbrev pub count_in_4 : ℕ → List ℕ
 count_in_4 n = to_be_bytes w32 (n % 4294967296)
 
--- an event: its number, and what it came with
+-- an event: its number, and its data
 abbrev pub event_bytes : Event → List ℕ
 event_bytes (event.Submit tx) = 1 ∷ count_in_4 (length tx) ++ tx
 event_bytes (event.Propose height) = 2 ∷ to_be_bytes w32 height
@@ -41,7 +42,7 @@ event_bytes event.RoundEnd = 4 ∷ []
 event_bytes event.Execute = 5 ∷ []
 event_bytes (event.Query key height) = 6 ∷ to_be_bytes w32 height ++ count_in_1 (length key) ++ key
 
--- why a transaction was refused: its number, and the application's code behind it
+-- why a transaction was refused: the reason's number, followed by the application's code if it has one
 abbrev pub refusal_bytes : SubmitRefusal → List ℕ
 refusal_bytes refusal.Empty = 1 ∷ []
 refusal_bytes refusal.TooLong = 2 ∷ []
@@ -55,51 +56,37 @@ unopened_number unopened.TooFar = 1
 unopened_number unopened.AlreadyOpen = 2
 unopened_number unopened.Closed = 3
 
--- why a frame was ignored
-abbrev pub cause_number : Ignored → ℕ
-cause_number cause.Malformed = 1
-cause_number cause.Signer = 2
-cause_number cause.NoRow = 3
-cause_number cause.WrongRound = 4
-cause_number cause.WrongPhase = 5
-cause_number cause.NotOwner = 6
-cause_number cause.Repeated = 7
-cause_number cause.BadSignature = 8
-cause_number cause.BadProof = 9
-cause_number cause.TableFull = 10
-cause_number cause.NotMine = 11
-
 -- a flag
 abbrev pub flag : Bool → ℕ
 flag b = if b then 1 else 0
 
--- to whom a frame went: 255 is all
+-- the number of a frame's addressee; 255 is all replicas
 abbrev pub addressee_number : Addressee → ℕ
 addressee_number addressee.All = 255
 addressee_number (addressee.One r) = r
 
--- a frame that was sent, which tells its own length
+-- a frame that was sent; the frame starts with its own length
 abbrev pub sent_bytes : Sent → List ℕ
 sent_bytes sent = addressee_number sent.addressee ∷ sent.frame
 
--- a value that may be absent
+-- an optional value
 abbrev pub present_bytes : Option (List ℕ) → List ℕ
 present_bytes None = 0 ∷ []
 present_bytes (Some value) = 1 ∷ count_in_1 (length value) ++ value
 
--- a round end that opened a round: whether the replica was mute, how many frames, and each
+-- a round end that opened a round: whether the replica was mute, the number of frames, and each frame
 abbrev pub ended_bytes : RoundEnded → List ℕ
 ended_bytes ended = flag ended.mute ∷ count_in_2 (length ended.frames) ++ flat_map sent_bytes ended.frames
 
--- a block that was run: its height, how many codes, each, and the hash
+-- a block that was run: its height, the number of codes, each code, and the hash
 abbrev pub block_bytes : BlockResult → List ℕ
 block_bytes block = to_be_bytes w32 block.height ++ count_in_1 (length block.codes) ++ flat_map (to_be_bytes w32) block.codes ++ block.hash
 
--- an answer of the application
+-- the application's answer to a query
 abbrev pub answer_bytes : QueryAnswer → List ℕ
 answer_bytes answer = to_be_bytes w32 answer.height ++ present_bytes answer.value
 
--- a reply: the number of its event, 0 where the event happened, and what came of it, or else why not
+-- a reply: the number of its event; 0 if the event succeeded, followed by its result; or otherwise why it didn't
 abbrev pub reply_bytes : Reply → List ℕ
 reply_bytes (reply.Submitted (Ok _)) = 1 ∷ 0 ∷ []
 reply_bytes (reply.Submitted (Err r)) = 1 ∷ refusal_bytes r
@@ -118,6 +105,6 @@ reply_bytes (reply.Queried (Err _)) = 6 ∷ 1 ∷ []
 abbrev pub entry_bytes : Entry → List ℕ
 entry_bytes e = event_bytes e.event ++ reply_bytes e.reply
 
--- a history: its replica, how many entries, and each
+-- a history: its replica, the number of entries, and each entry
 unfoldable pub history_bytes : History → List ℕ
 history_bytes h = h.replica ∷ count_in_4 (length h.entries) ++ flat_map entry_bytes h.entries

@@ -1,25 +1,25 @@
-//! Counts at the end of a vector, each by as many of its low bytes as it takes.
+//! Appends counts, of each its low bytes.
 ghost use Rattle.std.specs.Prelude.{◌≡◌, ◌++◌, OnOk};
 ghost use Rattle.history_bytes.specs.Histories.{count_in_1, count_in_2, count_in_4};
 
 use octets::{put_u8, put_u16, put_u32};
 use std::alloc::AllocError;
 
-/// A count in one byte.
+/// Appends a count in one byte.
 pub(crate) fn put_count_1(out: &mut Vec<u8>, count: usize) -> Result<(), AllocError>
     ensures { OnOk result (out.new.items ≡ out.old.items ++ count_in_1 count) }
 {
     put_u8(out, (count % 256) as u8)
 }
 
-/// A count in two bytes.
+/// Appends a count in two bytes.
 pub(crate) fn put_count_2(out: &mut Vec<u8>, count: usize) -> Result<(), AllocError>
     ensures { OnOk result (out.new.items ≡ out.old.items ++ count_in_2 count) }
 {
     put_u16(out, (count % 65_536) as u16)
 }
 
-/// A count in four bytes.
+/// Appends a count in four bytes.
 pub(crate) fn put_count_4(out: &mut Vec<u8>, count: usize) -> Result<(), AllocError>
     ensures { OnOk result (out.new.items ≡ out.old.items ++ count_in_4 count) }
 {

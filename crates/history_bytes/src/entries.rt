@@ -1,4 +1,4 @@
-//! Entries and whole histories as bytes.
+//! Encodes entries and whole histories.
 ghost use Rattle.std.specs.Prelude.{◌≡◌, ◌++◌, IfOk, OnOk};
 ghost use Rattle.std.specs.List.{flat_map};
 ghost use Rattle.history_bytes.specs.Histories.{entry_bytes, history_bytes};
@@ -26,7 +26,7 @@ fn put_entries(out: &mut Vec<u8>, entries: &[Entry]) -> Result<(), AllocError>
     Ok(())
 }
 
-/// The bytes of a history. Histories one behind another are a file of histories. The only error is want of memory.
+/// The encoding of a history. Encoded histories, one after another, are a file of histories. The only error is allocation failure.
 pub fn history_bytes(alloc: Global, history: &History) -> Result<Vec<u8>, AllocError>
     ensures { IfOk result (λ bytes. bytes.items ≡ history_bytes history.now) }
 {

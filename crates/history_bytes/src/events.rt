@@ -1,4 +1,4 @@
-//! Events at the end of a vector.
+//! Appends encoded events.
 ghost use Rattle.std.specs.Prelude.{◌≡◌, ◌++◌, length, OnOk};
 ghost use Rattle.history_bytes.specs.Histories.{count_in_1, count_in_4, event_bytes};
 
@@ -7,7 +7,7 @@ use ledger_model::Event;
 use octets::{put_bytes, put_u8, put_u32};
 use std::alloc::AllocError;
 
-/// Bytes behind their number, which takes four bytes.
+/// Appends bytes, preceded by their number in four bytes.
 fn put_counted(out: &mut Vec<u8>, bytes: &[u8]) -> Result<(), AllocError>
     ensures { OnOk result (out.new.items ≡ out.old.items ++ count_in_4 (length bytes.now) ++ bytes.now) }
 {
@@ -15,7 +15,7 @@ fn put_counted(out: &mut Vec<u8>, bytes: &[u8]) -> Result<(), AllocError>
     put_bytes(out, bytes)
 }
 
-/// Bytes behind their number, which takes one byte.
+/// Appends bytes, preceded by their number in one byte.
 pub(crate) fn put_short(out: &mut Vec<u8>, bytes: &[u8]) -> Result<(), AllocError>
     ensures { OnOk result (out.new.items ≡ out.old.items ++ count_in_1 (length bytes.now) ++ bytes.now) }
 {
@@ -23,7 +23,7 @@ pub(crate) fn put_short(out: &mut Vec<u8>, bytes: &[u8]) -> Result<(), AllocErro
     put_bytes(out, bytes)
 }
 
-/// An event: its number, and what it came with.
+/// Appends an event: its number, and its data.
 pub(crate) fn put_event(out: &mut Vec<u8>, event: &Event) -> Result<(), AllocError>
     ensures { OnOk result (out.new.items ≡ out.old.items ++ event_bytes event.now) }
 {

@@ -1,8 +1,8 @@
 //! Histories as bytes.
 //!
-//! A history is its replica, the number of its entries, and each entry: its event and the reply. `specs/Histories` has the
-//! spelling; numbers are big-endian, and a count that is too great for its bytes is told by its low ones, which no history of a
-//! replica has.
+//! A history is encoded as its replica, the number of its entries, and each entry: its event and the reply.
+//! `specs/Histories` defines the encoding. Numbers are big-endian. A count that doesn't fit is written modulo 2^8, 2^16
+//! or 2^32, but no history of a replica has such a count.
 #![tactic(auto)]
 
 mod counts;

@@ -1,20 +1,20 @@
-//! Replies at the end of a vector.
+//! Appends encoded replies.
 ghost use Rattle.std.specs.Prelude.{◌≡◌, ◌∷◌, ◌++◌, [], length, OnOk};
 ghost use Rattle.std.specs.List.{flat_map};
 ghost use Rattle.std.specs.Int.{w32, to_be_bytes};
 ghost use Rattle.ledger_model.specs.Values.{value_bytes};
-ghost use Rattle.history_bytes.specs.Histories.{refusal_bytes, unopened_number, cause_number, addressee_number, sent_bytes, present_bytes, ended_bytes, block_bytes, answer_bytes, reply_bytes};
+ghost use Rattle.history_bytes.specs.Histories.{refusal_bytes, unopened_number, addressee_number, sent_bytes, present_bytes, ended_bytes, block_bytes, answer_bytes, reply_bytes};
 
 use crate::counts::{put_count_1, put_count_2};
 use crate::events::put_short;
 use ledger_model::{
-    Addressee, Batch, BlockResult, Ignored, ProposeRefusal, QueryAnswer, Reply, RoundEnded, Sent,
-    SubmitRefusal, Tx,
+    Addressee, BlockResult, ProposeRefusal, QueryAnswer, Reply, RoundEnded, Sent, SubmitRefusal,
 };
 use octets::{put_bytes, put_u8, put_u32};
+use statements::put_batch;
 use std::alloc::AllocError;
 
-/// Why a transaction was refused: its number, and the application's code behind it.
+/// Appends why a transaction was refused: the reason's number, followed by the application's code if it has one.
 fn put_refusal(out: &mut Vec<u8>, refusal: SubmitRefusal) -> Result<(), AllocError>
     ensures { OnOk result (out.new.items ≡ out.old.items ++ refusal_bytes refusal) }
 {
@@ -30,7 +30,7 @@ fn put_refusal(out: &mut Vec<u8>, refusal: SubmitRefusal) -> Result<(), AllocErr
     }
 }
 
-/// The number of why a height was not opened.
+/// The number of the reason for which a height was not opened.
 fn unopened_number(refusal: ProposeRefusal) -> u8
     ensures { result ≡ unopened_number refusal }
 {
@@ -41,26 +41,7 @@ fn unopened_number(refusal: ProposeRefusal) -> u8
     }
 }
 
-/// The number of why a frame was ignored.
-fn cause_number(cause: Ignored) -> u8
-    ensures { result ≡ cause_number cause }
-{
-    match cause {
-        Ignored::Malformed => 1,
-        Ignored::Signer => 2,
-        Ignored::NoRow => 3,
-        Ignored::WrongRound => 4,
-        Ignored::WrongPhase => 5,
-        Ignored::NotOwner => 6,
-        Ignored::Repeated => 7,
-        Ignored::BadSignature => 8,
-        Ignored::BadProof => 9,
-        Ignored::TableFull => 10,
-        Ignored::NotMine => 11,
-    }
-}
-
-/// To whom a frame went: 255 is all.
+/// The number of an addressee: 255 is all.
 fn addressee_number(addressee: Addressee) -> u8
     ensures { result ≡ addressee_number addressee }
 {
@@ -68,31 +49,6 @@ fn addressee_number(addressee: Addressee) -> u8
         Addressee::All => 255,
         Addressee::One(replica) => replica.number(),
     }
-}
-
-fn put_tx(out: &mut Vec<u8>, tx: &Tx) -> Result<(), AllocError>
-    ensures { OnOk result (out.new.items ≡ out.old.items ++ length tx.now ∷ tx.now) }
-{
-    let bytes = tx.as_bytes();
-    put_u8(out, bytes.len() as u8)?;
-    put_bytes(out, bytes)
-}
-
-fn put_txs(out: &mut Vec<u8>, txs: &[Tx]) -> Result<(), AllocError>
-    ensures { OnOk result (out.new.items ≡ out.old.items ++ flat_map (λ tx. length tx ∷ tx) txs.now) }
-{
-    for tx in txs {
-        put_tx(out, tx)?;
-    }
-    Ok(())
-}
-
-fn put_batch(out: &mut Vec<u8>, batch: &Batch) -> Result<(), AllocError>
-    ensures { OnOk result (out.new.items ≡ out.old.items ++ value_bytes batch.now) }
-{
-    let transactions = batch.transactions();
-    put_u8(out, transactions.len() as u8)?;
-    put_txs(out, transactions)
 }
 
 fn put_sent(out: &mut Vec<u8>, sent: &Sent) -> Result<(), AllocError>
@@ -152,7 +108,7 @@ fn put_answer(out: &mut Vec<u8>, answer: &QueryAnswer) -> Result<(), AllocError>
     }
 }
 
-/// A reply: the number of its event, 0 where the event happened, and what came of it, or else why not.
+/// Appends a reply: the number of its event; 0 if the event succeeded, followed by its result; or otherwise why it didn't.
 pub(crate) fn put_reply(out: &mut Vec<u8>, reply: &Reply) -> Result<(), AllocError>
     ensures { OnOk result (out.new.items ≡ out.old.items ++ reply_bytes reply.now) }
 {
@@ -168,7 +124,7 @@ pub(crate) fn put_reply(out: &mut Vec<u8>, reply: &Reply) -> Result<(), AllocErr
         }
         Reply::Proposed(Err(refusal)) => put_bytes(out, &[2, unopened_number(*refusal)]),
         Reply::Delivered(Ok(())) => put_bytes(out, &[3, 0]),
-        Reply::Delivered(Err(cause)) => put_bytes(out, &[3, cause_number(*cause)]),
+        Reply::Delivered(Err(cause)) => put_bytes(out, &[3, cause.number()]),
         Reply::RoundEnded(Ok(ended)) => {
             put_bytes(out, &[4, 0])?;
             put_ended(out, ended)

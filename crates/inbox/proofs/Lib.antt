@@ -1,5 +1,5 @@
-pub mod Places
+pub mod OneSeat
 pub mod Lists
 pub mod Laws
-pub mod Told
+pub mod PassEnds
 pub mod Moves

@@ -1,4 +1,4 @@
-//! What goes through an inbox: the number of the pass that put it, and a frame.
+//! What goes through an inbox: a frame, with the number of the pass that put it.
 use bytes::Bytes;
 use std::marker::Model;
 

@@ -1,17 +1,17 @@
-//! An inbox: frames from several putting threads to one taking thread, through a queue of 1024 places with no lock.
+//! An inbox: frames from several sending threads to one receiving thread, through a queue of 1024 places without a lock.
 //!
-//! [`Inbox::new`] gives the inbox, its one taking pass and the putting passes. Each thread that puts has a pass of its own,
-//! and [`Inbox::put`] appends an item to what that pass put; [`Inbox::take`] appends the item that it answers to what was
-//! taken. [`Inbox::retire`] hands a putting pass back to the taking pass.
+//! [`Inbox::new`] returns the inbox, its one taking pass and its putting passes. Each thread that puts has a pass of
+//! its own. [`Inbox::put`] appends an item to what that pass put, and [`Inbox::take`] appends the item that it returns
+//! to what was taken. [`Inbox::retire`] hands a putting pass back to the taking pass.
 //!
-//! Promised over every schedule of the threads: what a pass put, in order, is what was taken of it and then what the inbox
-//! holds of it, and the inbox holds at most 1024 items (`IsInbox`). So each item is taken at most once, in the order of its
-//! pass. `take` answers nothing only where of each pass that was handed back all is taken.
+//! Proved for every schedule of the threads: the items that a pass put, in order, are those that were taken followed by
+//! those in the inbox, and the inbox has at most 1024 items (`IsInbox`). So each item is taken at most once, in the
+//! order of its pass. `take` returns `None` only if everything was taken of each pass that was handed back.
 //!
-//! Only tested: that `put` gives the item back only where the inbox is full, and `take` answers nothing only where it is empty.
+//! Only tested: `put` returns the item only if the inbox is full, and `take` returns `None` only if it is empty.
 //!
-//! Not promised: an order between passes, fairness, or that a call gets on. `put` and `take` may wait for a thread that
-//! stands in the midst of such a call, and wait for good after 2^62 puts.
+//! Not promised: an order between passes, fairness, and progress of a call. `put` and `take` may wait for a thread that
+//! is within such a call, and after 2^62 puts they wait forever.
 #![tactic(auto)]
 
 mod item;

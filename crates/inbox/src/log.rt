@@ -1,10 +1,9 @@
-//! What the passes of an inbox did, and the rule of its queue. All of it is for the proofs: no value is made.
+//! The logs of an inbox's passes, and the rule of its queue. All of it exists only in proofs: no value of these types is ever made.
 use crate::item::Item;
 use crossbeam_queue::protocol::{Join, Lesson, Outcome, Protocol, Split};
 use std::collections::LinkedList;
 
-/// What a pass did: the items that it put under its number; or those that it took, and what it was told of the putting
-/// passes.
+/// What a pass did: the items that it put under its number; or the items that it took, and what it knows of the putting passes.
 pub struct Log {
     pub puts: bool,
     pub takes: bool,
@@ -19,61 +18,61 @@ pub struct InOrder;
 
 impl Protocol<Item, Log> for InOrder {
     ghost use Rattle.std.specs.Prelude.{[]};
-    ghost use Rattle.inbox.specs.Kept.{Kept, taker_log};
+    ghost use Rattle.inbox.specs.InboxRule.{KeepsInbox, taker_log};
 
-    ghost holds = { Kept };
+    ghost holds = { KeepsInbox };
 
     ghost first = { taker_log 0 [] [] };
 }
 
-/// A putting pass is made of the taking one.
+/// The step in which the taking pass makes a putting pass.
 pub struct NextPass;
 
 impl Split<Log> for NextPass {
-    ghost use Rattle.inbox.specs.Kept.{with_pass, next_pass};
+    ghost use Rattle.inbox.specs.InboxRule.{with_pass, next_pass};
 
     ghost left = { with_pass };
 
     ghost right = { next_pass };
 }
 
-/// A putting pass is handed back to the taking one.
+/// The step that hands a putting pass back to the taking pass.
 pub struct HandedBack;
 
 impl Join<Log> for HandedBack {
-    ghost use Rattle.inbox.specs.Kept.{with_ended, nobody};
+    ghost use Rattle.inbox.specs.InboxRule.{with_ended, nobody};
 
     ghost both = { with_ended };
 
     ghost spent = { nobody };
 }
 
-/// What a put tells.
+/// The outcome of a put.
 pub struct ByPutting;
 
 impl Outcome<Item, Log> for ByPutting {
-    ghost use Rattle.inbox.specs.Kept.{Putting};
+    ghost use Rattle.inbox.specs.InboxRule.{Putting};
 
     ghost then = { Putting };
 }
 
 impl Lesson<Item, Log> for ByPutting {
-    ghost use Rattle.inbox.specs.Kept.{Beside};
+    ghost use Rattle.inbox.specs.InboxRule.{Beside};
 
     ghost fact = { Beside };
 }
 
-/// What a take tells.
+/// The outcome of a take.
 pub struct ByTaking;
 
 impl Outcome<Item, Log> for ByTaking {
-    ghost use Rattle.inbox.specs.Kept.{Taking};
+    ghost use Rattle.inbox.specs.InboxRule.{Taking};
 
     ghost then = { Taking };
 }
 
 impl Lesson<Item, Log> for ByTaking {
-    ghost use Rattle.inbox.specs.Kept.{Behind};
+    ghost use Rattle.inbox.specs.InboxRule.{Behind};
 
     ghost fact = { Behind };
 }

@@ -4,7 +4,7 @@ use crate::log::Log;
 use crossbeam_queue::Pass;
 use std::marker::Model;
 
-/// The right to put under one number. A thread that puts has one.
+/// The right to put under one number. Each thread that puts has one.
 #[derive(Drop)]
 pub struct PuttingPass {
     pub(crate) number: u32,
@@ -13,10 +13,10 @@ pub struct PuttingPass {
 
 impl Model for PuttingPass {
     ghost use Rattle.std.specs.Prelude.{◌≡◌, [], true, false};
-    ghost use Rattle.inbox.specs.Passes.{Putter};
-    ghost use Rattle.inbox.specs.Kept.{log_of};
+    ghost use Rattle.inbox.specs.Passes.{PuttingPassView};
+    ghost use Rattle.inbox.specs.InboxRule.{log_of};
 
-    ghost Value = { Putter };
+    ghost Value = { PuttingPassView };
 
     ghost view = { λ p. record { inbox = p.seat.table_id; number = p.number; put = (log_of p.seat).items } };
 
@@ -26,7 +26,7 @@ impl Model for PuttingPass {
 impl PuttingPass {
     ghost use Rattle.std.specs.Prelude.{◌≡◌};
 
-    /// Its number, from 0 on, which its items bear.
+    /// The number of the pass, from 0 on, which its items have.
     pub fn number(&self) -> u32
         ensures { result ≡ self.now.number }
     {
@@ -42,10 +42,10 @@ pub struct TakingPass {
 
 impl Model for TakingPass {
     ghost use Rattle.std.specs.Prelude.{◌≡◌, [], true, false};
-    ghost use Rattle.inbox.specs.Passes.{Taker};
-    ghost use Rattle.inbox.specs.Kept.{log_of};
+    ghost use Rattle.inbox.specs.Passes.{TakingPassView};
+    ghost use Rattle.inbox.specs.InboxRule.{log_of};
 
-    ghost Value = { Taker };
+    ghost Value = { TakingPassView };
 
     ghost view = { λ p. record { inbox = p.seat.table_id; passes = (log_of p.seat).passes; taken = (log_of p.seat).items; ended = (log_of p.seat).ended } };
 

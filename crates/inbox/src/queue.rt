@@ -30,10 +30,10 @@ impl Inbox {
     ghost use Rattle.ledger_model.specs.Inboxes.{Put};
     ghost use Rattle.inbox.specs.Passes.{new_putter, new_taker, AllTaken, IsShared};
 
-    /// The most items that it holds.
+    /// The most items in an inbox.
     pub const CAPACITY: usize = 1024;
 
-    /// An inbox, its one taking pass, and so many putting passes, whose numbers are their places.
+    /// An inbox, its one taking pass, and `passes` putting passes, whose numbers are their indices.
     pub fn new(
         alloc: Global,
         putters: u32,
@@ -64,7 +64,8 @@ impl Inbox {
         PuttingPass { number, seat }
     }
 
-    /// Appends the item to what this pass put, or gives it back: where the inbox is full, which is only tested.
+    /// Appends the item to what this pass put, or returns it. That it returns the item only if the inbox is full is
+    /// tested, not proved.
     pub fn put<R: Wait>(&self, rt: &R, pass: &mut PuttingPass, item: Item) -> Result<(), Item>
         requires inbox { pass.old.inbox ≡ self.now }
         requires number { item.pass ≡ pass.old.number }
@@ -75,7 +76,7 @@ impl Inbox {
         self.queue.push_as::<ByPutting, R>(rt, &mut pass.seat, item)
     }
 
-    /// One pop of the queue, by the inbox's rule.
+    /// Pops one item off the queue, by the inbox's rule.
     fn pop<R: Wait>(&self, rt: &R, pass: &mut TakingPass) -> Option<Item>
         requires { pass.old.inbox ≡ self.now }
         ensures taken { IfSome result (λ item. pass.new ≡ record pass.old { taken = pass.old.taken ++ item ∷ [] }) }
@@ -86,8 +87,8 @@ impl Inbox {
         self.queue.pop_as::<ByTaking, R>(rt, &mut pass.seat)
     }
 
-    /// Takes the oldest item. `None` only where of each pass that was handed back all is taken; that no other pass has an item in the
-    /// inbox either is only tested.
+    /// Takes the oldest item. `None` comes only if everything was taken of each pass that was handed back. That then no
+    /// other pass has an item in the inbox either is tested, not proved.
     pub fn take<R: Wait>(&self, rt: &R, pass: &mut TakingPass) -> Option<Item>
         requires { pass.old.inbox ≡ self.now }
         ensures taken { IfSome result (λ item. pass.new ≡ record pass.old { taken = pass.old.taken ++ item ∷ [] }) }
@@ -98,7 +99,7 @@ impl Inbox {
         self.pop(rt, pass)
     }
 
-    /// Hands a putting pass back: what it put, in order, is what was taken of it and then what the inbox holds of it.
+    /// Hands a putting pass back: the items that it put, in order, are those that were taken followed by those in the inbox.
     pub fn retire(&self, taking: &mut TakingPass, putting: PuttingPass)
         requires taking { taking.old.inbox ≡ self.now }
         requires putting { putting.inbox ≡ self.now }

@@ -1,14 +1,15 @@
--- Lists with one place for each replica: what was read, one element more, and what a row that matches has in them.
-use Rattle.std.proofs.Common.{◌≡◌, ℕ, zero, suc, ◌+◌, ◌≤◌, true, inl, inr, List, [], ◌∷◌, length, refl, sym, ap, subst, arith, ◌<◌, Bool, ◌||◌, ◌⊎◌, ◌∙◌}
+-- Lists with one place for each replica: what was read, one more element, and the places of an instance that matches.
+use Rattle.std.proofs.Common.{◌≡◌, ℕ, zero, suc, ◌+◌, ◌≤◌, true, inl, inr, List, [], ◌∷◌, length, refl, sym, ap, subst, arith, ◌<◌, Bool}
+use Rattle.std.proofs.Common.{◌||◌, ◌⊎◌, ◌∙◌}
 use Rattle.std.specs.Prelude.{map, Option, Some, None, nat_eq, is_some, slice_set, replicate}
 use Rattle.std.proofs.lemmas.Simd.{map-map}
 use Rattle.ledger_model.specs.Notes.{Note, Has}
-use Rattle.ledger_model.specs.Tallies.{all_read, read_of, Places}
+use Rattle.tally.specs.Tallies.{all_read, read_of, Places}
 use Rattle.ledger_model.specs.Validity.{ascends_within}
 use Rattle.ledger_model.specs.Rules.{Ring}
-use Rattle.ledger_model.specs.Phases.{reports_of, AreReadIn, AreAcksIn}
+use Rattle.tally.specs.Readings.{reports_of, AreReadIn, AreAcksIn}
 use Rattle.ledger_model.proofs.Counting.{ascends_from, ascends_lower}
-use Rattle.instance.specs.Rows.{Row}
+use Rattle.instance.specs.Instances.{InstanceView}
 use Rattle.instance.specs.Matching.{MatchesIn}
 use Rattle.std.specs.List.{list_any}
 use Rattle.std.specs.Cmp.{both_ways}
@@ -58,7 +59,8 @@ pub taken_place : {X : Type 0} (key : X → ℕ) (places : Places X) → ((r : �
 taken_place key places at r =
     both_ways (is_some (read_of places r)) (list_any (λ x. nat_eq (key x) r) (all_read places))
     (λ some. let found = some_value (read_of places r) some in
-    has_any (λ x. nat_eq (key x) r) (all_read places) found.0 (at_read places r found.0 found.1) (eq-eqb (key found.0) r (at r found.0 found.1)))
+    has_any (λ x. nat_eq (key x) r) (all_read places) found.0 (at_read places r found.0 found.1)
+    (eq-eqb (key found.0) r (at r found.0 found.1)))
     (λ any. let found = any_has (λ x. nat_eq (key x) r) (all_read places) any in
     let place = read_at places found.0 found.1.0 in
     let here : place.0 ≡ r = sym (at place.0 found.0 place.1) ∙ eqb-true (key found.0) r found.1.1 in
@@ -85,7 +87,8 @@ pub there_now : {X : Type 0} (places : Places X) (r : ℕ) (x : X) → r < lengt
 there_now [] r x below = absurd (omega arith)
 there_now (place ∷ places) r x below = let rest = there_now places in grind arith
 
-pub there_still : {X : Type 0} (places : Places X) (r q : ℕ) (x y : X) → read_of places r ≡ None → read_of places q ≡ Some y → read_of (slice_set places r (Some x)) q ≡ Some y
+pub there_still : {X : Type 0} (places : Places X) (r q : ℕ) (x y : X) → read_of places r ≡ None → read_of places q ≡ Some y
+    → read_of (slice_set places r (Some x)) q ≡ Some y
 there_still [] r q x y none some = cc
 there_still (place ∷ places) zero q x y none some = grind arith
 there_still (place ∷ places) (suc r) q x y none some = let rest = there_still places r in grind arith
@@ -108,14 +111,19 @@ none_there (suc n) (suc r) = none_there n r
 
 -- ---- a row that matches a log
 
-module _ (ring : Ring) (row : Row) (log : List Note) (k : ℕ) (m : MatchesIn ring row log k) where
+module _ (ring : Ring) (row : InstanceView) (log : List Note) (k : ℕ) (m : MatchesIn ring row log k) where
   -- the reports and the acknowledgements that are kept are those that were read in the phase
   pub are_read_in : AreReadIn row.config log k (reports_of (all_read row.reports))
   are_read_in = record {
     same = m.reports.same;
-    signers = subst (λ rs. ascends_within 0 row.config.replicas rs ≡ true) (sym (map-map (λ p. p.signer) (λ s. s.report) (all_read row.reports)))
+    signers = subst (λ rs. ascends_within 0 row.config.replicas rs ≡ true)
+        (sym (map-map (λ p. p.signer) (λ s. s.report) (all_read row.reports)))
         (read_ascends (λ s. s.report.signer) row.config.replicas row.reports m.reports.count (λ r s h. (m.reports.kept r s h).of_signer));
   }
 
   pub are_acks_in : AreAcksIn row.config log k (all_read row.acks)
-  are_acks_in = record { same = m.acks.same; signers = read_ascends (λ a. a.signer) row.config.replicas row.acks m.acks.count m.acks.ackers }
+  are_acks_in = record {
+    same = m.acks.same;
+    signers =
+        read_ascends (λ a. a.signer) row.config.replicas row.acks m.acks.count m.acks.ackers;
+  }

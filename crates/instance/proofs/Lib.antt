@@ -1,5 +1,4 @@
 -- ---- the laws
-pub mod AtPlace
 pub mod KeptPlaces
 pub mod ProperStays
 pub mod OneNote

@@ -1,20 +1,22 @@
--- What may be sent by what is kept is what may be sent by the log, and so what is chosen may be.
+-- The instance allows exactly what the log allows, and so it may make what it chooses.
 use Rattle.std.proofs.Common.{◌≡◌, ℕ, ◌+◌, false, inl, inr, List, ◌∷◌, refl, sym, ap, ◌∙◌, arith, ◌&&◌, [], ◌++◌, subst}
 use Rattle.std.specs.Prelude.{nat_eq, Option, Some, None, map}
 use Rattle.std.proofs.lemmas.Bool.{cases_Bool, and_parts}
 use Rattle.ledger_model.specs.Values.{Value}
-use Rattle.ledger_model.specs.Rounds.{phase_of, place_of, owner_of}
+use Rattle.ledger_model.specs.Rounds.{phase_of, place_of, owner_of, ack_place, report_place}
 use Rattle.ledger_model.specs.Notes.{Note, clock_of, Has}
 use Rattle.ledger_model.specs.Locks.{value_taken, is_supported}
 use Rattle.ledger_model.specs.Logs.{own_ack}
 use Rattle.ledger_model.specs.Rules.{Ring, MayMake, MayMakeOpen, MayLock, IsOwnLock, is_signed, with_signature, report_of, acks_of}
-use Rattle.instance.specs.declared.made.Made.{Made}
-use Rattle.instance.specs.declared.made.Made.TheVariants as made
-use Rattle.instance.specs.Rows.{Row}
-use Rattle.instance.specs.Matching.{Matches, MatchesIn, proper_phase}
-use Rattle.instance.specs.Plans.{unsent_ack, unsent_frames, made_by, ended, own_report, sent_ack, chosen_lock, chosen_statement, MaySend, MaySendLock, IsOwnLockOf}
-use Rattle.instance.specs.Laws.{made_in, Allows, Allowed, Chooses, ProvesSigned, SendsOn, SendsLocks, IsLockSentOn, with_unsent, statements_of}
-use Rattle.instance.proofs.AtPlace.{at_place, at_reports, at_lock, at_acks, at_release}
+use Rattle.instance.specs.declared.round_statement.RoundStatement.{RoundStatement}
+use Rattle.instance.specs.declared.round_statement.RoundStatement.TheVariants as made
+use Rattle.instance.specs.Instances.{InstanceView}
+use Rattle.instance.specs.Matching.{MatchesLog, MatchesIn, proper_phase}
+use Rattle.instance.specs.Plans.{unsent_ack, unsent_frames, made_by, ended, own_report, sent_ack, chosen_lock, chosen_statement, MaySend}
+use Rattle.instance.specs.Plans.{MaySendLock, IsOwnLockOf}
+use Rattle.instance.specs.Laws.{made_in, Allows, Allowed, Chooses, ProvesSigned, SendsOn, SendsLocks, IsLockSentOn, with_unsent}
+use Rattle.instance.specs.Laws.{statements_of}
+use Rattle.ledger_model.proofs.AtPlace.{at_place, at_reports, at_lock, at_acks, at_release}
 use Rattle.std.proofs.lemmas.Bool.Decides.{nat_tests}
 use Rattle.std.specs.List.{list_all}
 use Rattle.std.proofs.lemmas.Simd.{map-map}
@@ -23,12 +25,13 @@ use Rattle.ledger_model.specs.declared.statement.SignedStatement.{SignedStatemen
 use Rattle.ledger_model.specs.declared.statement.Statement.{Statement}
 use Rattle.ledger_model.specs.declared.statement.Statement.TheVariants as statement
 use Rattle.ledger_model.specs.Spelling.{frame_bytes}
-use Rattle.ledger_model.specs.LockTables.{SignedLock, as_statement}
+use Rattle.lock_proofs.specs.LockTables.{SignedLock, as_statement}
 use Rattle.ledger_model.specs.Validity.{is_quorate, is_supporting}
 use Rattle.ledger_model.proofs.FrameReading.{reading-again}
 use Rattle.ledger_model.proofs.Lists.{all_from, has_map, each_from}
-use Rattle.ledger_model.specs.Phases.{reports_of, is_found_by, chosen}
-use Rattle.ledger_model.specs.Tallies.{all_read}
+use Rattle.tally.specs.Readings.{reports_of}
+use Rattle.phase_core.specs.Choices.{is_found_by, chosen}
+use Rattle.tally.specs.Tallies.{all_read}
 use Rattle.lock_proofs.proofs.HeldLocks.{values_are_held}
 use Rattle.phase_core.proofs.Logs.{found_is_supported}
 use Rattle.proper_sets.specs.Laws.{proper_at}
@@ -38,7 +41,8 @@ use Rattle.phase_core.proofs.Choosing.{chosen_found, none_chosen}
 use Rattle.instance.proofs.OwnLocks.{own_lock_right}
 
 -- by the value that was taken
-of_taken : (row : Row) (log : List Note) (c : ℕ) → place_of c ≡ 3 → (taken : Option Value) → taken ≡ value_taken log (phase_of c)
+of_taken : (row : InstanceView) (log : List Note) (c : ℕ) → place_of c ≡ ack_place → (taken : Option Value)
+    → taken ≡ value_taken log (phase_of c)
     → own_ack row.config row.id row.height log c false ≡ unsent_frames (unsent_ack row (phase_of c) taken)
 unfolding own_ack
 of_taken row log c place taken is = rw place (grind arith)
@@ -59,7 +63,7 @@ one_alike sent s = grind arith
 none_alike : (sent : Option Statement) → Alike (sent ≡ None) (beside sent [] ≡ [])
 none_alike sent = grind arith
 
-module _ (ring : Ring) (row : Row) (log : List Note) (m : Matches ring row log) where
+module _ (ring : Ring) (row : InstanceView) (log : List Note) (m : MatchesLog ring row log) where
   abbrev c : ℕ
   c = clock_of log + 1
 
@@ -67,7 +71,7 @@ module _ (ring : Ring) (row : Row) (log : List Note) (m : Matches ring row log) 
   k = phase_of (clock_of log + 1)
 
   -- what is known in each round of a phase but the first
-  now_in : (place_of c ≡ 1 → ⊥) → MatchesIn ring row log k
+  now_in : (place_of c ≡ report_place → ⊥) → MatchesIn ring row log k
   now_in later = subst (MatchesIn ring row log) (omega (arith, later)) m
 
   -- ---- the acknowledgement that an owner makes of its own lock and doesn't send
@@ -85,7 +89,7 @@ module _ (ring : Ring) (row : Row) (log : List Note) (m : Matches ring row log) 
   ]
 
   -- so what is made is the same
-  pub made_alike : (what : Made) → made_in row log c what ≡ made_by (ended row c).unsent what
+  pub made_alike : (what : RoundStatement) → made_in row log c what ≡ made_by (ended row c).unsent what
   unfolding own_ack
   made_alike made.Mute = refl
   made_alike made.Unsent = own_ack_is
@@ -93,13 +97,22 @@ module _ (ring : Ring) (row : Row) (log : List Note) (m : Matches ring row log) 
 
   -- ---- the report
 
-  report_alike : place_of c ≡ 1 → own_report row k ≡ report_of row.config row.id row.height log k row.proper.own
+  report_alike : place_of c ≡ report_place → own_report row k ≡ report_of row.config row.id row.height log k row.proper.own
   unfolding report_of
   report_alike place =
       let phase : proper_phase (clock_of log) ≡ k = grind (arith, nat_tests) in
       let proper = m.proper ∙ ap (λ j. proper_at row.config row.id log j row.proper.own) phase in
       let held = values_are_held log row.table m.locks in
-      λ i. record { height = row.height; phase = k; signer = row.id; all = (proper i).all; initial = row.proper.own; proper = (proper i).explicit; locked = held i }
+      λ i. record {
+        height = row.height;
+        phase = k;
+        signer = row.id;
+        all = (proper i).all;
+        initial =
+            row.proper.own;
+        proper = (proper i).explicit;
+        locked = held i;
+      }
 
   -- ---- the lock
 
@@ -109,8 +122,24 @@ module _ (ring : Ring) (row : Row) (log : List Note) (m : Matches ring row log) 
 
     own_alike : (l : Lock) → Alike (IsOwnLockOf row k l) (IsOwnLock row.config row.id row.height log k l)
     own_alike l = (
-      λ h. record { of_height = h.of_height; of_phase = h.of_phase; own = h.own; quorate = h.quorate; supporting = h.supporting; read = λ s has. (now.reports.kept s.report.signer s (h.kept s has)).read },
-      λ h. record { of_height = h.of_height; of_phase = h.of_phase; own = h.own; quorate = h.quorate; supporting = h.supporting; kept = λ s has. now.reports.every s (h.read s has) },
+      λ h. record {
+        of_height = h.of_height;
+        of_phase = h.of_phase;
+        own = h.own;
+        quorate = h.quorate;
+        supporting = h.supporting;
+        read =
+            λ s has. (now.reports.kept s.report.signer s (h.kept s has)).read;
+      },
+      λ h. record {
+        of_height = h.of_height;
+        of_phase = h.of_phase;
+        own = h.own;
+        quorate = h.quorate;
+        supporting = h.supporting;
+        kept =
+            λ s has. now.reports.every s (h.read s has);
+      },
     )
 
     lock_alike : (sent : Option Statement) → Alike (MaySendLock row k sent) (MayLock row.config row.id row.height log k (beside sent []))
@@ -125,7 +154,8 @@ module _ (ring : Ring) (row : Row) (log : List Note) (m : Matches ring row log) 
       ],
     )
 
-    chosen_may : (o : Option Value) → chosen row.config (reports_of (all_read row.reports)) row.proper.own ≡ o → MaySendLock row k (chosen_lock row k o)
+    chosen_may : (o : Option Value) → chosen row.config (reports_of (all_read row.reports)) row.proper.own ≡ o
+        → MaySendLock row k (chosen_lock row k o)
     chosen_may o e =
         let none = none_chosen row.config (reports_of (all_read row.reports)) row.proper.own in
         let found = chosen_found row.config (reports_of (all_read row.reports)) row.proper.own in
@@ -134,26 +164,32 @@ module _ (ring : Ring) (row : Row) (log : List Note) (m : Matches ring row log) 
 
   -- ---- the acknowledgement
 
-  ack_alike : (sent : Option Statement) (taken : Option Value) → Alike (sent ≡ sent_ack row k taken) (beside sent (unsent_frames (unsent_ack row k taken)) ≡ acks_of row.id row.height k taken)
+  ack_alike : (sent : Option Statement) (taken : Option Value)
+      → Alike (sent ≡ sent_ack row k taken) (beside sent (unsent_frames (unsent_ack row k taken)) ≡ acks_of row.id row.height k taken)
   ack_alike sent taken = grind arith
 
   -- ---- in any round
 
-  open_alike : (sent : Option Statement) → Alike (MaySend row c sent) (MayMakeOpen row.config row.id row.height log c row.proper.own (beside sent (unsent_frames (ended row c).unsent)))
+  open_alike : (sent : Option Statement)
+      → Alike (MaySend row c sent) (MayMakeOpen row.config row.id row.height log c row.proper.own
+      (beside sent (unsent_frames (ended row c).unsent)))
   unfolding ended
   open_alike sent = elim (at_place c) [
-    | at_reports e ↦ rw e (subst (λ r. Alike (sent ≡ Some (statement.Report (own_report row k))) (beside sent [] ≡ statement.Report r ∷ [])) (report_alike e) (one_alike sent (statement.Report (own_report row k))))
+    | at_reports e ↦ rw e (subst (λ r. Alike (sent ≡ Some (statement.Report (own_report row k)))
+        (beside sent [] ≡ statement.Report r ∷ [])) (report_alike e) (one_alike sent (statement.Report (own_report row k))))
     | at_lock e ↦ elim (cases_Bool (nat_eq (owner_of row.config k) row.id)) [
       | inl mine ↦ rw (e, mine) (lock_alike (now_in (λ f. omega (arith, e, f))) sent)
       | inr other ↦ rw (e, other) (none_alike sent)
     ]
-    | at_acks e ↦ rw e (subst (λ o. Alike (sent ≡ sent_ack row k row.taken) (beside sent (unsent_frames (unsent_ack row k row.taken)) ≡ acks_of row.id row.height k o))
+    | at_acks e ↦ rw e (subst (λ o. Alike (sent ≡ sent_ack row k row.taken)
+        (beside sent (unsent_frames (unsent_ack row k row.taken)) ≡ acks_of row.id row.height k o))
         (now_in (λ f. omega (arith, e, f))).lock.taken (ack_alike sent row.taken))
     | at_release e ↦ rw e (none_alike sent)
   ]
 
   -- the height is open
-  sent_alike : (sent : Option Statement) → Alike (MaySend row c sent) (MayMake row.config row.id row.height log c false (with_unsent (statements_of sent) row log c false))
+  sent_alike : (sent : Option Statement)
+      → Alike (MaySend row c sent) (MayMake row.config row.id row.height log c false (with_unsent (statements_of sent) row log c false))
   unfolding MayMake
   sent_alike sent = rw m.opened (rw own_ack_is (open_alike sent))
 
@@ -163,7 +199,8 @@ module _ (ring : Ring) (row : Row) (log : List Note) (m : Matches ring row log) 
   choice_may = elim (at_place c) [
     | at_reports e ↦ rw e refl
     | at_lock e ↦ elim (cases_Bool (nat_eq (owner_of row.config k) row.id)) [
-      | inl mine ↦ rw (e, mine) (chosen_may (now_in (λ f. omega (arith, e, f))) (chosen row.config (reports_of (all_read row.reports)) row.proper.own) refl)
+      | inl mine ↦ rw (e, mine) (chosen_may (now_in (λ f. omega (arith, e, f)))
+          (chosen row.config (reports_of (all_read row.reports)) row.proper.own) refl)
       | inr other ↦ rw (e, other) refl
     ]
     | at_acks e ↦ rw e refl
@@ -206,12 +243,14 @@ sends_locks ring row log c m = elim (at_place c) [
     sent frame h =
         let s = has_map (λ (x : SignedLock). frame_bytes (as_statement x)) row.table frame h in
         let held = m.sound.held s.0 s.1.0 in
-        let proved = and_parts (is_quorate row.config s.0.lock && list_all (λ p. is_signed ring (with_signature p)) s.0.lock.proof) (is_supporting s.0.lock) held.proved in
+        let proved = and_parts (is_quorate row.config s.0.lock && list_all (λ p. is_signed ring (with_signature p)) s.0.lock.proof)
+        (is_supporting s.0.lock) held.proved in
         subst (IsLockSentOn ring row.height) s.1.1 (record {
           lock = s.0;
           is = refl;
           reads = reading-again (as_statement s.0) held.frame;
           of_height = held.of_height;
           signed = held.signed;
-          proof_signed = (and_parts (is_quorate row.config s.0.lock) (list_all (λ p. is_signed ring (with_signature p)) s.0.lock.proof) proved.0).1;
+          proof_signed = (and_parts (is_quorate row.config s.0.lock) (list_all (λ p. is_signed ring (with_signature p)) s.0.lock.proof)
+              proved.0).1;
         })

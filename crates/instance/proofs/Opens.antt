@@ -1,5 +1,6 @@
--- A height that is just opened matches a log of rounds and of what was proposed.
-use Rattle.std.proofs.Common.{◌≡◌, ℕ, zero, suc, ◌+◌, ◌/◌, ◌≤◌, Bool, true, false, not, ◌&&◌, ◌||◌, cond, List, [], ◌∷◌, ◌++◌, refl, sym, ap, ◌∙◌, arith}
+-- An instance that was just opened matches a log of rounds and its proposal.
+use Rattle.std.proofs.Common.{◌≡◌, ℕ, zero, suc, ◌+◌, ◌/◌, ◌≤◌, Bool, true, false, not, ◌&&◌, ◌||◌, cond, List, [], ◌∷◌, ◌++◌, refl, sym}
+use Rattle.std.proofs.Common.{ap, ◌∙◌, arith}
 use Rattle.std.specs.Prelude.{nat_eq, nat_lt, Option, Some, None}
 use Rattle.std.specs.List.{filter_map, flat_map, range_with_len}
 use Rattle.std.proofs.lemmas.Bool.{false_from_ne_true}
@@ -8,13 +9,13 @@ use Rattle.ledger_model.specs.declared.config.Config.{Config}
 use Rattle.ledger_model.specs.declared.statement.SignedStatement.{SignedStatement}
 use Rattle.ledger_model.specs.declared.statement.Statement.{Statement}
 use Rattle.ledger_model.specs.Values.{Value}
-use Rattle.ledger_model.specs.Rounds.{round_at, count_from}
-use Rattle.ledger_model.specs.Notes.{Note, Proposed, Round, Made, Read, Has, clock_of, initial_of, was_read, was_made}
+use Rattle.ledger_model.specs.Rounds.{round_at, count_from, lock_place, report_place, rounds_in_phase}
+use Rattle.ledger_model.specs.Notes.{Note, Proposed, Round, OwnStatement, Read, Has, clock_of, initial_of, was_read, was_made}
 use Rattle.ledger_model.specs.Locks.{value_read, value_made, held_values, decided_by, decided_of}
 use Rattle.ledger_model.specs.Lawful.{held_locks}
 use Rattle.ledger_model.specs.Proper.{is_split, are_all_named, is_all_proper, cut, proper_values}
-use Rattle.ledger_model.specs.Phases.{only_own}
-use Rattle.ledger_model.specs.LockTables.{as_statement}
+use Rattle.proper_sets.specs.Propriety.{only_own}
+use Rattle.lock_proofs.specs.LockTables.{as_statement}
 use Rattle.proper_sets.specs.Laws.{proper_at}
 use Rattle.instance.specs.Matching.{is_round, only_rounds}
 use Rattle.instance.specs.Laws.{Opens}
@@ -38,8 +39,8 @@ module _ (own : Value) (log : List Note) (only : only_rounds log ≡ true) where
   none_read : (c : ℕ) (s : SignedStatement) → Has opened (Read c s) → ⊥
   none_read c s has = none_else (Read c s) refl (λ e. cc) has
 
-  none_made : (c : ℕ) (s : Statement) → Has opened (Made c s) → ⊥
-  none_made c s has = none_else (Made c s) refl (λ e. cc) has
+  none_made : (c : ℕ) (s : Statement) → Has opened (OwnStatement c s) → ⊥
+  none_made c s has = none_else (OwnStatement c s) refl (λ e. cc) has
 
   unread : (c : ℕ) (test : Statement → Bool) → was_read opened c test ≡ false
   unread c test = false_from_ne_true (was_read opened c test) (λ e. let r = read_has opened c test e in none_read c r.0 r.1.0)
@@ -47,7 +48,8 @@ module _ (own : Value) (log : List Note) (only : only_rounds log ≡ true) where
   unmade : (c : ℕ) (test : Statement → Bool) → was_made opened c test ≡ false
   unmade c test = false_from_ne_true (was_made opened c test) (λ e. let r = made_has opened c test e in none_made c r.0 r.1.0)
 
-no_values : (own : Value) (f : Note → Option Value) → ((c : ℕ) → f (Round c) ≡ None) → f (Proposed own) ≡ None → (log : List Note) → only_rounds log ≡ true → filter_map f (log ++ Proposed own ∷ []) ≡ []
+no_values : (own : Value) (f : Note → Option Value) → ((c : ℕ) → f (Round c) ≡ None) → f (Proposed own) ≡ None → (log : List Note)
+    → only_rounds log ≡ true → filter_map f (log ++ Proposed own ∷ []) ≡ []
 no_values own f round proposed [] h = rw proposed refl
 no_values own f round proposed (n ∷ log) h = let rest = no_values own f round proposed log in grind arith
 
@@ -68,7 +70,7 @@ module _ (own : Value) (log : List Note) (only : only_rounds log ≡ true) where
 
   none_decided : (config : Config) → decided_of config (opened own log only) ≡ None
   unfolding decided_of
-  none_decided config = decided_none config (clock_of (opened own log only) / 4)
+  none_decided config = decided_none config (clock_of (opened own log only) / rounds_in_phase)
 
 -- ---- the own value alone is proper
 
@@ -113,12 +115,17 @@ opens config id height own ring log member heights value only =
         held = λ s none. absurd none;
       };
       opened = begins own log only;
-      timely = record { past = λ c s has. absurd (none_read own log only c s has); of_phase = λ c s has place. absurd (none_read own log only c (as_statement s) has) };
+      timely = record {
+        past = λ c s has. absurd (none_read own log only c s has);
+        of_phase =
+            λ c s has place. absurd (none_read own log only c (as_statement s) has);
+      };
       made_by_now = λ c s has. absurd (none_made own log only c s has);
-      proper = sym (proper_at-stays config id [] log_now _ own (λ j one below s has. none_read own log only (round_at 1 j) s has) ∙ only_own-empty config id _ own);
+      proper = sym (proper_at-stays config id [] log_now _ own
+          (λ j one below s has. none_read own log only (round_at report_place j) s has) ∙ only_own-empty config id _ own);
       locks = sym (none_held own log only);
       decided = sym (none_decided own log only config);
       reports = no_reports log_now k none_in ring config.replicas height;
-      lock = no_lock log_now k none_in (unmade own log only (round_at 2 k));
+      lock = no_lock log_now k none_in (unmade own log only (round_at lock_place k));
       acks = no_acks log_now k none_in config.replicas;
     }

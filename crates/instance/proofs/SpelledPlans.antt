@@ -1,24 +1,25 @@
--- What a replica plans to make can be spelled, where what it keeps can.
+-- What a replica plans to make can be encoded, if the instance can.
 use Rattle.std.proofs.Common.{◌≡◌, inl, inr, List, ◌++◌, ℕ, ◌<◌, ◌≤◌, length, refl, arith}
 use Rattle.std.specs.Prelude.{Some, nat_eq, Option, None, IfSome}
 use Rattle.ledger_model.specs.declared.config.Config.{Config}
 use Rattle.ledger_model.specs.declared.statement.Report.{Report}
 use Rattle.ledger_model.specs.Values.{Value, IsValue}
 use Rattle.ledger_model.specs.Notes.{Has}
-use Rattle.ledger_model.specs.Phases.{chosen, reports_of}
+use Rattle.phase_core.specs.Choices.{chosen}
+use Rattle.tally.specs.Readings.{reports_of}
 use Rattle.ledger_model.specs.Spelling.{IsReport, IsSigned, IsPlace, IsStatement}
 use Rattle.ledger_model.proofs.Lists.{each_has, flat_map_has, has_cases, each_from}
-use Rattle.phase_core.proofs.Choosing.{chosen_told, chosen_found}
+use Rattle.phase_core.proofs.Choosing.{chosen_named, chosen_found}
 use Rattle.std.proofs.lemmas.Bool.{cases_Bool}
 use Rattle.ledger_model.specs.Rounds.{phase_of, owner_of}
-use Rattle.ledger_model.specs.Tallies.{all_read}
+use Rattle.tally.specs.Tallies.{all_read}
 use Rattle.ledger_model.specs.Validity.{signers_of}
-use Rattle.instance.specs.Rows.{Row}
+use Rattle.instance.specs.Instances.{InstanceView}
 use Rattle.instance.specs.Matching.{IsSpelled, IsSpelledSet}
 use Rattle.instance.specs.Plans.{own_lock, chosen_lock, sent_ack, chosen_statement, ended, IsOwnStatement}
-use Rattle.instance.proofs.AtPlace.{at_place, at_reports, at_lock, at_acks, at_release}
+use Rattle.ledger_model.proofs.AtPlace.{at_place, at_reports, at_lock, at_acks, at_release}
 use Rattle.instance.proofs.OwnLocks.{in_proof, proof_length, signers_within}
-use Rattle.proper_sets.specs.Known.{Known}
+use Rattle.proper_sets.specs.ProperViews.{ProperView}
 use Rattle.ledger_model.proofs.Counting.{ascends_higher}
 use Rattle.instance.proofs.SpelledRows.{each_spelled, absorbs}
 
@@ -26,7 +27,7 @@ module _ (config : Config) (reports : List Report) (own : Value) where
   -- it has a spelling, where the own one and the reports do
   chosen_spelled : IsValue own → ((p : Report) → Has reports p → IsReport p) → (v : Value) → chosen config reports own ≡ Some v → IsValue v
   chosen_spelled own_spelled spelled v e =
-      let told = chosen_told config reports own v e in
+      let told = chosen_named config reports own v e in
       let listed = flat_map_has (λ (p : Report). p.proper ++ p.locked) reports v in
       let proper = λ (p : Report) (has : Has reports p). each_has IsValue p.proper v (spelled p has).proper.each in
       let locked = λ (p : Report) (has : Has reports p). each_has IsValue p.locked v (spelled p has).locked.each in
@@ -34,15 +35,22 @@ module _ (config : Config) (reports : List Report) (own : Value) where
       grind arith
 
 -- what is chosen as round c opens, which is not before the first
-module _ (row : Row) (h : IsSpelled row) (member : row.id < row.config.replicas) (places : length row.reports ≡ row.config.replicas) (c : ℕ) (begun : 1 ≤ c) (early : c ≤ 4000000000) where
+module _ (row : InstanceView) (h : IsSpelled row) (member : row.id < row.config.replicas)
+    (places : length row.reports ≡ row.config.replicas) (c : ℕ) (begun : 1 ≤ c) (early : c ≤ 4000000000) where
   abbrev k : ℕ
   k = phase_of c
 
   place : IsPlace row.height k row.id
-  place = let bounded = row.config.bounded in record { heights = h.heights; phases = (omega (arith, begun), omega (arith, early)); signers = omega arith }
+  place = let bounded = row.config.bounded in record {
+    heights =
+        h.heights;
+    phases = (omega (arith, begun), omega (arith, early));
+    signers = omega arith;
+  }
 
   -- the lock, whose reports are kept ones
-  lock_spelled : (o : Option Value) → chosen row.config (reports_of (all_read row.reports)) row.proper.own ≡ o → IfSome (chosen_lock row k o) IsStatement
+  lock_spelled : (o : Option Value) → chosen row.config (reports_of (all_read row.reports)) row.proper.own ≡ o
+      → IfSome (chosen_lock row k o) IsStatement
   lock_spelled None is = tt
   lock_spelled (Some v) is =
       let enough = row.config.enough in
@@ -53,8 +61,10 @@ module _ (row : Row) (h : IsSpelled row) (member : row.id < row.config.replicas)
         place = place;
         value = chosen_spelled row.config (reports_of (all_read row.reports)) row.proper.own h.own (each_spelled h) v is;
         count = (omega arith, omega arith);
-        each = each_from IsSigned (own_lock row k v).proof (λ s has. (h.reports s.report.signer s (in_proof row h places k v s has).0).spelled);
-        signers = ascends_higher 0 row.config.replicas 256 (signers_of (own_lock row k v).proof) (omega arith) (signers_within row h places k v);
+        each = each_from IsSigned (own_lock row k v).proof
+            (λ s has. (h.reports s.report.signer s (in_proof row h places k v s has).0).spelled);
+        signers = ascends_higher 0 row.config.replicas 256 (signers_of (own_lock row k v).proof) (omega arith)
+            (signers_within row h places k v);
       }
 
   ack_spelled : (o : Option Value) → IfSome o IsValue → IfSome (sent_ack row k o) IsStatement
@@ -64,22 +74,27 @@ module _ (row : Row) (h : IsSpelled row) (member : row.id < row.config.replicas)
   unfolding chosen_statement
   chosen_spelled_as = elim (at_place c) [
     | at_reports e ↦ rw e (record { place = place; initial = h.own; proper = h.proper; some = h.some; locked = h.locked })
-    | at_lock e ↦ elim (cases_Bool (nat_eq (owner_of row.config k) row.id)) [ inl mine ↦ rw (e, mine) (lock_spelled _ refl) | inr other ↦ rw (e, other) tt ]
+    | at_lock e ↦ elim (cases_Bool (nat_eq (owner_of row.config k) row.id)) [
+      | inl mine ↦ rw (e, mine) (lock_spelled _ refl)
+      | inr other ↦
+          rw (e, other) tt
+    ]
     | at_acks e ↦ rw e (ack_spelled row.taken h.taken)
     | at_release e ↦ rw e tt
   ]
 
 -- it is one's own
-pub chosen_own_statement : (row : Row) (c : ℕ) → IfSome (chosen_statement row c) (IsOwnStatement row)
+pub chosen_own_statement : (row : InstanceView) (c : ℕ) → IfSome (chosen_statement row c) (IsOwnStatement row)
 unfolding chosen_statement
 chosen_own_statement row c = grind arith
 
 -- what the end of a round makes proper
-pub proper_spelled : (row : Row) (c : ℕ) (known : Known) → IsSpelled row → (ended row c).proper ≡ Some known → IsSpelledSet known.set
+pub proper_spelled : (row : InstanceView) (c : ℕ) (known : ProperView) → IsSpelled row → (ended row c).proper ≡ Some known
+    → IsSpelledSet known.set
 unfolding ended
 proper_spelled row c known h e = let set = absorbs h in grind arith
 
 -- its proper set is of the same cluster
-pub proper_config : (row : Row) (c : ℕ) (known : Known) → (ended row c).proper ≡ Some known → known.config ≡ row.config
+pub proper_config : (row : InstanceView) (c : ℕ) (known : ProperView) → (ended row c).proper ≡ Some known → known.config ≡ row.config
 unfolding ended
 proper_config row c known e = grind arith

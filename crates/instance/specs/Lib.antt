@@ -1,7 +1,6 @@
-pub mod Rows
+pub mod Instances
 pub mod Matching
 pub mod Reads
 pub mod Plans
-pub mod Kept
-pub mod Places
+pub mod Reserved
 pub mod Laws

@@ -5,12 +5,13 @@ ghost use Rattle.ledger_model.specs.Values.{same_value};
 ghost use Rattle.instance.specs.Plans.{same_report, same_signed};
 
 use crate::height::Instance;
-use crate::rounds::{Place, phase_of, place_of};
-use ledger_model::{Ack, Batch, Lock, Phase, Report, SignedReport, Statement};
+use ledger_model::{
+    Ack, Batch, Lock, Phase, Place, Report, SignedReport, Statement, phase_of, place_of,
+};
 use lock_proofs::{is_quorate, is_supporting};
 use phase_core::chosen_value;
 
-/// Whether two reports tell the same.
+/// Whether two reports are equal.
 fn same_report(one: &Report, other: &Report) -> bool
     ensures { result ≡ same_report one.now other.now }
 {
@@ -23,7 +24,7 @@ fn same_report(one: &Report, other: &Report) -> bool
         && one.locked.as_slice() == other.locked.as_slice()
 }
 
-/// Whether two signed reports are the same, their signatures too.
+/// Whether two signed reports are equal, signatures included.
 fn same_signed(one: &SignedReport, other: &SignedReport) -> bool
     ensures { result ≡ same_signed one.now other.now }
 {
@@ -42,12 +43,12 @@ impl Instance {
     ghost use Rattle.ledger_model.specs.Rules.{Ring};
     ghost use Rattle.ledger_model.specs.Lawful.{are_signed_reports};
     ghost use Rattle.lock_proofs.specs.Tables.{values_of};
-    ghost use Rattle.instance.specs.Matching.{Matches};
+    ghost use Rattle.instance.specs.Matching.{MatchesLog};
     ghost use Rattle.instance.specs.Plans.{own_report, is_kept, is_own_lock, is_own_ack, may_send_report, may_send_lock, may_send_ack, may_send, same_report, IsOwnStatement};
     ghost use Rattle.instance.specs.Laws.{MayBeSent};
     ghost use Rattle.ledger_model.specs.Limits.{last_round};
 
-    /// Whether these are the values of the held locks, in order.
+    /// Whether these are exactly the values of the held locks, in order.
     fn holds_just(&self, values: &[Batch]) -> bool
         ensures { result ≡ pointwise same_value values.now (values_of self.now.table) }
     {
@@ -63,7 +64,7 @@ impl Instance {
         true
     }
 
-    /// Whether this is the own report of the phase.
+    /// Whether this is the replica's own report of the phase.
     fn is_own_report(&self, report: &Report, phase: Phase) -> bool
         ensures { result ≡ same_report report.now (own_report self.now phase) }
     {
@@ -76,7 +77,7 @@ impl Instance {
             && self.holds_just(report.locked.as_slice())
     }
 
-    /// Whether this very report is kept, with this signature.
+    /// Whether the instance has this report, with this signature.
     fn keeps(&self, signed: &SignedReport) -> bool
         ensures { result ≡ is_kept self.now signed.now }
     {
@@ -86,14 +87,14 @@ impl Instance {
         }
     }
 
-    /// Whether each of these very reports is kept.
+    /// Whether the instance has each of these reports, with these signatures.
     fn keeps_all(&self, reports: &[SignedReport]) -> bool
         ensures { result ≡ list_all (is_kept self.now) reports.now }
     {
         reports.iter().all(|signed| self.keeps(signed))
     }
 
-    /// Whether this is a lock that the replica may make as owner of the phase.
+    /// Whether this is a lock that the replica may make as the owner of the phase.
     fn is_own_lock(&self, lock: &Lock, phase: Phase) -> bool
         ensures { result ≡ is_own_lock self.now phase lock.now }
     {
@@ -105,7 +106,7 @@ impl Instance {
             && self.keeps_all(lock.proof.as_slice())
     }
 
-    /// Whether this is the own acknowledgement of the value.
+    /// Whether this is the replica's own acknowledgement of the value.
     fn is_own_ack(&self, ack: &Ack, phase: Phase, value: &Batch) -> bool
         ensures { result ≡ is_own_ack self.now phase value.now ack.now }
     {
@@ -115,7 +116,7 @@ impl Instance {
             && ack.value == *value
     }
 
-    /// Whether this may be sent as the round of locks opens.
+    /// Whether the replica may send this as the round of locks opens.
     fn may_send_lock(&self, sent: Option<&Statement>, phase: Phase) -> bool
         ensures { result ≡ may_send_lock self.now phase (option_copied sent.entry) }
     {
@@ -129,7 +130,7 @@ impl Instance {
         }
     }
 
-    /// Whether this may be sent as the round of acknowledgements opens.
+    /// Whether the replica may send this as the round of acknowledgements opens.
     fn may_send_ack(&self, sent: Option<&Statement>, phase: Phase) -> bool
         ensures { result ≡ may_send_ack self.now phase (option_copied sent.entry) }
     {
@@ -143,7 +144,7 @@ impl Instance {
         }
     }
 
-    /// Whether this may be sent as the round of reports opens.
+    /// Whether the replica may send this as the round of reports opens.
     fn may_send_report(&self, sent: Option<&Statement>, phase: Phase) -> bool
         ensures { result ≡ may_send_report self.now phase (option_copied sent.entry) }
     {
@@ -153,14 +154,14 @@ impl Instance {
         }
     }
 
-    /// Whether this may be sent as the round opens.
+    /// Whether the replica may send this as the round opens.
     #[tactic(auto, unfolding(crate::specs::Plans::may_send))]
     fn may_send(&self, sent: Option<&Statement>, round: u32) -> bool
         requires { (1 ≤ round) × (round ≤ last_round) }
         ensures { result ≡ may_send self.now round (option_copied sent.entry) }
     {
         let phase = phase_of(round);
-        match place_of(round) {
+        match place_of(u64::from(round)) {
             Place::Reports => self.may_send_report(sent, phase),
             Place::Lock => self.may_send_lock(sent, phase),
             Place::Acknowledgements => self.may_send_ack(sent, phase),
@@ -168,21 +169,22 @@ impl Instance {
         }
     }
 
-    /// Whether this replica may send the statement, or nothing, as the next round opens, `clock` being the number of the one
-    /// that closes. It takes no memory.
+    /// Whether a replica that is not mute may send the statement, or nothing, as the next round opens. `clock` is the
+    /// number of the round that closes. Allocates nothing.
     ///
-    /// An owner's acknowledgement of its own lock is made beside it, and not sent. A replica that is mute sends nothing.
+    /// This doesn't cover an owner's acknowledgement of its own lock, which it makes and doesn't send. A mute replica
+    /// sends nothing.
     pub fn may_make(&self, clock: u32, sent: Option<&Statement>) -> bool
         requires clock { clock < last_round }
-        // It may just where every log that the instance matches allows it.
-        ensures may { (ring : Ring) (log : List Note) → Matches ring self.now log → clock_of log ≡ clock → result ≡ true
+        // It may exactly if every log that the instance matches allows it.
+        ensures may { (ring : Ring) (log : List Note) → MatchesLog ring self.now log → clock_of log ≡ clock → result ≡ true
             → MayBeSent self.now log (clock + 1) (option_copied sent.entry) }
-        ensures only { (ring : Ring) (log : List Note) → Matches ring self.now log → clock_of log ≡ clock
+        ensures only { (ring : Ring) (log : List Note) → MatchesLog ring self.now log → clock_of log ≡ clock
             → MayBeSent self.now log (clock + 1) (option_copied sent.entry) → result ≡ true }
-        // The reports in the proof of a lock that it may send are signed.
-        ensures proofs { (ring : Ring) (log : List Note) → Matches ring self.now log → clock_of log ≡ clock → result ≡ true
+        // If the statement is a lock, the reports in its proof are signed.
+        ensures proofs { (ring : Ring) (log : List Note) → MatchesLog ring self.now log → clock_of log ≡ clock → result ≡ true
             → IfSome (option_copied sent.entry) (λ s. IsTrue (are_signed_reports ring s)) }
-        // What it may send is its own, of this height, whatever log there is.
+        // What it may send is its own statement, of this height, whatever the log is.
         ensures own { result ≡ true → IfSome (option_copied sent.entry) (IsOwnStatement self.now) }
     {
         self.may_send(sent, clock + 1)

@@ -1,14 +1,13 @@
-//! What is kept as a round opens.
+//! What an instance stores as a round opens.
 ghost use Rattle.std.specs.Prelude.{◌≡◌, Some, IsTrue, true};
 ghost use Rattle.ledger_model.specs.Notes.{signer_of, is_report, is_ack};
 ghost use Rattle.ledger_model.specs.Locks.{lock_value};
 
 use crate::height::Instance;
-use crate::made::{Kept, Made, OwnFrame};
-use crate::plan::Ending;
 use crate::reading::into_ack;
-use crate::rounds::{Place, place_of};
-use ledger_model::{Ack, Batch, Signature, SignedReport, Statement};
+use crate::round_plan::RoundEffects;
+use crate::round_statement::{OwnFrame, Reserved, RoundStatement};
+use ledger_model::{Ack, Batch, Place, Signature, SignedReport, Statement, place_of};
 use lock_proofs::LockFrame;
 use proper_sets::Proper;
 use signed_frames::Frame;
@@ -19,13 +18,13 @@ impl Instance {
     ghost use Rattle.ledger_model.specs.Rules.{Ring};
     ghost use Rattle.ledger_model.specs.Spelling.{IsFrame};
     ghost use Rattle.ledger_model.specs.Locks.{or_else, lock_value};
-    ghost use Rattle.instance.specs.Matching.{Matches, IsSpelledSet};
+    ghost use Rattle.instance.specs.Matching.{MatchesLog, IsSpelledSet};
     ghost use Rattle.instance.specs.Plans.{ended, made_by, unsent_frames, closed, forgotten, with_all, with_own, IsOwnMade, added};
     ghost use Rattle.instance.specs.Laws.{MayClose, IsSignedMade, IsFrameMade, opened_by};
     ghost use Rattle.instance.specs.Reads.{IsSameHeight};
     ghost use Rattle.ledger_model.specs.Limits.{last_round};
 
-    /// Forgets what was read and made in a phase. It takes no memory.
+    /// Forgets what was read and made in a phase. Allocates nothing.
     fn forget_phase(&mut self)
         ensures { self.new ≡ forgotten self.old }
     {
@@ -35,7 +34,7 @@ impl Instance {
         self.made = None;
     }
 
-    /// Keeps another set of what is proper. It takes no memory.
+    /// Replaces the set of proper values. Allocates nothing.
     fn put_proper(&mut self, proper: Proper)
         requires config { proper.config ≡ self.old.config }
         requires spelled { IsSpelledSet proper.set }
@@ -44,7 +43,7 @@ impl Instance {
         self.proper = proper;
     }
 
-    /// Keeps what is decided, if nothing was decided before. It takes no memory.
+    /// Stores the decided value, if none was decided before. Allocates nothing.
     fn put_decided(&mut self, decided: Option<Batch>)
         ensures { self.new ≡ record self.old { decided = or_else self.old.decided decided } }
     {
@@ -53,14 +52,14 @@ impl Instance {
         }
     }
 
-    /// Keeps a report of one's own, with its signature. It takes no memory.
+    /// Stores the replica's own report, with its signature. Allocates nothing.
     fn put_report(&mut self, frame: Frame, signature: Signature)
         requires kind { IsTrue (is_report (λ r. true) frame.statement) }
         requires signature { signature ≡ frame.signature }
         requires own { signer_of frame.statement ≡ self.old.id }
         ensures { self.new ≡ with_own frame self.old }
     {
-        // The frame shows that what it holds can be spelled.
+        // This call shows the proof that the frame's statement can be encoded.
         let _ = frame.statement();
         let Statement::Report(report) = frame.into_statement() else {
             unreachable!()
@@ -69,14 +68,14 @@ impl Instance {
             .add(self.id, SignedReport { report, signature });
     }
 
-    /// Keeps a lock of one's own, whose value is given twice: as that of the lock that was made, and, where the table has a
-    /// place for the lock, as that of the lock that was taken. It takes no memory.
+    /// Stores the replica's own lock. Its value is passed twice: as the value of the lock that was made and, if the
+    /// table has a place for the lock, as the value of the lock that was taken. Allocates nothing.
     fn put_lock(&mut self, frame: Frame, made: Batch, taken: Batch)
         requires made { lock_value frame.statement ≡ Some made }
         requires taken { lock_value frame.statement ≡ Some taken }
         ensures { self.new ≡ with_own frame self.old }
     {
-        // The frame shows that what it holds can be spelled.
+        // This call shows the proof that the frame's statement can be encoded.
         let _ = frame.statement();
         self.made = Some(made);
         if self.locks.take(LockFrame::of_own(frame)).is_ok() {
@@ -84,14 +83,14 @@ impl Instance {
         }
     }
 
-    /// Keeps an acknowledgement of one's own. It takes no memory.
+    /// Stores the replica's own acknowledgement. Allocates nothing.
     fn put_ack(&mut self, ack: Ack)
         ensures { self.new ≡ record self.old { acks = added self.old.acks self.old.id ack } }
     {
         self.acks.add(self.id, ack);
     }
 
-    /// Keeps a signed statement of one's own. It takes no memory.
+    /// Stores a signed statement of the replica's own. Allocates nothing.
     fn put_own(&mut self, own: OwnFrame)
         requires own { signer_of own.statement ≡ self.old.id }
         ensures after { self.new ≡ with_own own self.old }
@@ -99,46 +98,47 @@ impl Instance {
     {
         let (frame, kept) = own.into_parts();
         match kept {
-            Kept::Report(signature) => self.put_report(frame, signature),
-            Kept::Lock(made, taken) => self.put_lock(frame, made, taken),
-            Kept::Ack => self.put_ack(into_ack(frame)),
+            Reserved::Report(signature) => self.put_report(frame, signature),
+            Reserved::Lock(made, taken) => self.put_lock(frame, made, taken),
+            Reserved::Ack => self.put_ack(into_ack(frame)),
         }
     }
 
-    /// Keeps what is made. It takes no memory.
-    fn put_made(&mut self, made: Made, unsent: Option<Ack>)
+    /// Stores what the replica makes. Allocates nothing.
+    fn put_made(&mut self, made: RoundStatement, unsent: Option<Ack>)
         requires own { IsOwnMade self.old.id made }
         ensures after { self.new ≡ with_all (made_by unsent made) self.old }
         ensures frame { IsFrameMade made }
     {
         match made {
-            Made::Mute => return,
-            Made::Unsent => {}
-            Made::Sent(own) => self.put_own(own),
+            RoundStatement::Mute => return,
+            RoundStatement::Unsent => {}
+            RoundStatement::Sent(own) => self.put_own(own),
         }
         if let Some(ack) = unsent {
             self.put_ack(ack);
         }
     }
 
-    /// Opens the next round, `clock` being the number of the one that closes: puts in place what was prepared for its end, and
-    /// what of its own the replica makes in it. It takes no memory.
+    /// Opens the next round. `clock` is the number of the round that closes. Stores what was prepared for its end, and
+    /// what the replica makes in the new round. Allocates nothing.
     #[tactic(auto, unfolding(crate::specs::Plans::closed))]
-    pub fn close(&mut self, ending: Ending, made: Made, clock: u32)
+    pub fn close(&mut self, ending: RoundEffects, made: RoundStatement, clock: u32)
         requires clock { clock < last_round }
         requires ending { ending ≡ ended self.old (clock + 1) }
         requires own { IsOwnMade self.old.id made }
         ensures row { self.new ≡ closed self.old (clock + 1) ending made }
-        // Every log that the instance matched, and by which this may be made, goes on with the round and with what is made.
-        ensures matches { (ring : Ring) (log : List Note) → Matches ring self.old log → clock_of log ≡ clock
+        // For every log that the instance matched and that allows what is made: the instance then matches that log,
+        // continued with the round and with what is made.
+        ensures matches { (ring : Ring) (log : List Note) → MatchesLog ring self.old log → clock_of log ≡ clock
             → MayClose self.old log (clock + 1) made → IsSignedMade ring made
-            → Matches ring self.new (opened_by self.old log (clock + 1) made) }
+            → MatchesLog ring self.new (opened_by self.old log (clock + 1) made) }
         ensures same { IsSameHeight self.old self.new }
     {
-        // What is kept is opened for the proof that it can be spelled.
+        // This read opens the invariant for the proof: what the instance has can be encoded.
         let _ = &self.height;
         let (proper, decided, unsent) = ending.into_parts();
-        if place_of(clock + 1) == Place::Reports {
+        if place_of(u64::from(clock) + 1) == Place::Reports {
             self.forget_phase();
         }
         if let Some(proper) = proper {

@@ -1,4 +1,4 @@
-//! Agreement at one height: what is kept of it, and how it begins.
+//! The state of the agreement at one height, and how it starts.
 ghost use Rattle.std.specs.Prelude.{◌≡◌, None, IfOk, replicate};
 
 use ledger_model::{Ack, Batch, Config, Height, ReplicaId, SignedReport};
@@ -8,7 +8,7 @@ use std::alloc::{AllocError, Global};
 use std::marker::Model;
 use tally::Tally;
 
-/// Agreement at one height. Contracts see a `Row`.
+/// The agreement at one height, as one replica sees it. Contracts see an `InstanceView`.
 pub struct Instance {
     pub(crate) config: Config,
     pub(crate) id: ReplicaId,
@@ -17,14 +17,14 @@ pub struct Instance {
     pub(crate) locks: LockTable,
     pub(crate) reports: Tally<SignedReport>,
     pub(crate) acks: Tally<Ack>,
-    /// The value whose lock was taken in the open phase.
+    /// The value of the lock that was taken in the open phase.
     pub(crate) taken: Option<Batch>,
     /// The value of the lock that was made in the open phase.
     pub(crate) made: Option<Batch>,
     pub(crate) decided: Option<Batch>,
 }
 
-// It is dropped by a function of its own, so that whoever owns one drops it by a single call.
+// An own `Drop` keeps proofs short: an owner drops it by one call. See docs/WORKING.md.
 impl Drop for Instance {
     fn drop(self) {
         let Instance {
@@ -44,10 +44,10 @@ impl Drop for Instance {
 
 impl Model for Instance {
     ghost use Rattle.std.specs.Prelude.{◌≡◌, ◌<◌, length};
-    ghost use Rattle.instance.specs.Rows.{Row};
+    ghost use Rattle.instance.specs.Instances.{InstanceView};
     ghost use Rattle.instance.specs.Matching.{IsSpelled};
 
-    ghost Value = { Row };
+    ghost Value = { InstanceView };
 
     ghost view = { λ i. record {
       config = i.config;
@@ -85,7 +85,7 @@ impl Instance {
     ghost use Rattle.ledger_model.specs.Locks.{decided_of};
     ghost use Rattle.ledger_model.specs.Rules.{Ring};
     ghost use Rattle.ledger_model.specs.Limits.{max_height};
-    ghost use Rattle.instance.specs.Matching.{Matches, only_rounds};
+    ghost use Rattle.instance.specs.Matching.{MatchesLog, only_rounds};
     ghost use Rattle.instance.specs.Reads.{opened_row};
 
     /// A height that replica `id` opens with its own initial value, in any round.
@@ -99,9 +99,9 @@ impl Instance {
         requires member { id < config.now.replicas }
         requires height { (1 ≤ height) × (height ≤ max_height) }
         ensures row { IfOk result (λ row. row ≡ opened_row config.now id height initial.now) }
-        // It matches every log in which rounds were opened, and then the height.
+        // It matches every log of opened rounds that ends with this proposal.
         ensures matches { IfOk result (λ row. (ring : Ring) (log : List Note) → only_rounds log ≡ true
-            → Matches ring row (log ++ Proposed initial.now ∷ [])) }
+            → MatchesLog ring row (log ++ Proposed initial.now ∷ [])) }
     {
         let locks = LockTable::new(alloc)?;
         let (reports, acks) = empty_places(alloc, config)?;
@@ -127,10 +127,10 @@ impl Instance {
         self.height
     }
 
-    /// The value that was decided, if one was. It stays.
+    /// The value that was decided, if one was. A decision never changes.
     pub fn decided(&self) -> Option<&Batch>
         ensures row { option_copied result ≡ self.now.decided }
-        ensures decided { (ring : Ring) (log : List Note) → Matches ring self.now log
+        ensures decided { (ring : Ring) (log : List Note) → MatchesLog ring self.now log
             → option_copied result ≡ decided_of self.now.config log }
     {
         self.decided.as_ref()

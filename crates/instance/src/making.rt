@@ -1,16 +1,18 @@
-//! What is made as a round opens.
+//! What a replica makes as a round opens.
 ghost use Rattle.std.specs.Prelude.{◌≡◌, map, filter, take, IfOk};
 ghost use Rattle.ledger_model.specs.Locks.{finds};
 ghost use Rattle.ledger_model.specs.Spelling.{frame_bytes};
-ghost use Rattle.ledger_model.specs.Tallies.{all_read};
-ghost use Rattle.ledger_model.specs.LockTables.{as_statement};
+ghost use Rattle.tally.specs.Tallies.{all_read};
+ghost use Rattle.lock_proofs.specs.LockTables.{as_statement};
 ghost use Rattle.lock_proofs.specs.Tables.{values_of};
 
 use crate::height::Instance;
-use crate::plan::{Ending, Plan};
-use crate::rounds::{Place, phase_of, place_of};
+use crate::round_plan::{RoundEffects, RoundPlan};
 use bytes::Bytes;
-use ledger_model::{Ack, Batch, Batches, Lock, LockProof, Phase, Report, SignedReport, Statement};
+use ledger_model::{
+    Ack, Batch, Batches, Lock, LockProof, Phase, Place, Report, SignedReport, Statement, phase_of,
+    place_of,
+};
 use lock_proofs::LockFrame;
 use phase_core::{choose, is_acknowledged};
 use proper_sets::Proper;
@@ -19,29 +21,30 @@ use std::alloc::{AllocError, Global};
 impl Instance {
     ghost use Rattle.std.specs.Prelude.{◌≡◌, ◌<◌, ◌≤◌, ◌+◌, List, map, filter, take, Some, IfOk, IfSome, IsTrue, true};
     ghost use Rattle.std.specs.List.{AllByRecursion};
-    ghost use Rattle.ledger_model.specs.Rounds.{phase_of, place_of, quorum};
+    ghost use Rattle.ledger_model.specs.Rounds.{phase_of, place_of, quorum, release_place};
     ghost use Rattle.ledger_model.specs.Notes.{Note, clock_of};
     ghost use Rattle.ledger_model.specs.Locks.{finds};
     ghost use Rattle.ledger_model.specs.Rules.{Ring};
     ghost use Rattle.ledger_model.specs.Lawful.{held_locks, are_signed_reports};
     ghost use Rattle.ledger_model.specs.Spelling.{IsStatement, frame_bytes};
-    ghost use Rattle.ledger_model.specs.Phases.{absorbed, reports_of};
-    ghost use Rattle.ledger_model.specs.Tallies.{all_read};
-    ghost use Rattle.ledger_model.specs.LockTables.{as_statement};
+    ghost use Rattle.proper_sets.specs.Propriety.{absorbed};
+    ghost use Rattle.tally.specs.Readings.{reports_of};
+    ghost use Rattle.tally.specs.Tallies.{all_read};
+    ghost use Rattle.lock_proofs.specs.LockTables.{as_statement};
     ghost use Rattle.lock_proofs.specs.Tables.{values_of};
-    ghost use Rattle.instance.specs.Matching.{Matches};
+    ghost use Rattle.instance.specs.Matching.{MatchesLog};
     ghost use Rattle.instance.specs.Plans.{own_report, own_lock, locking_of, chosen_lock, own_acks, sent_ack, unsent_ack, decides_now, decides_first, chosen_statement, ended, nothing_ends, IsOwnStatement};
     ghost use Rattle.instance.specs.Laws.{MayBeSent, IsLockSentOn};
     ghost use Rattle.ledger_model.specs.Limits.{last_round};
 
-    /// The values of the locks that are held, ascending.
+    /// The values on which locks are held, ascending.
     fn held_values(&self, alloc: Global) -> Result<Vec<Batch>, AllocError>
         ensures { IfOk result (λ values. values.items ≡ values_of self.now.table) }
     {
         copied_values(alloc, self.locks.held())
     }
 
-    /// The own report of a phase: what is proper and what is held.
+    /// The replica's own report of a phase: the proper values, and those on which locks are held.
     fn own_report(&self, alloc: Global, phase: Phase) -> Result<Report, AllocError>
         ensures { IfOk result (λ report. report ≡ own_report self.now phase) }
     {
@@ -58,7 +61,7 @@ impl Instance {
         })
     }
 
-    /// The reports of the lowest signers that find the value, as many as a lock needs.
+    /// The reports that find the value, from the lowest signers: as many as a lock needs.
     fn proof(&self, alloc: Global, value: &Batch) -> Result<Vec<SignedReport>, AllocError>
         ensures { IfOk result (λ proof. proof.items
             ≡ take (quorum self.now.config) (filter (λ s. finds s.report value.now) (all_read self.now.reports))) }
@@ -67,7 +70,7 @@ impl Instance {
         lowest_finding(alloc, self.reports.places(), value, quorum)
     }
 
-    /// The own lock of a phase on a value.
+    /// The replica's own lock of a phase on a value.
     fn own_lock(&self, alloc: Global, phase: Phase, value: Batch) -> Result<Lock, AllocError>
         ensures { IfOk result (λ lock. lock ≡ own_lock self.now phase value) }
     {
@@ -91,7 +94,7 @@ impl Instance {
         choose(&self.config, &self.reports, self.proper.own())
     }
 
-    /// The own lock of a phase, if this replica owns the phase and may lock a value.
+    /// The replica's own lock of a phase, if it owns the phase and may lock a value.
     fn chosen_lock(&self, alloc: Global, phase: Phase) -> Result<Option<Statement>, AllocError>
         ensures { IfOk result (λ chosen. chosen ≡ chosen_lock self.now phase (locking_of self.now phase)) }
     {
@@ -116,7 +119,7 @@ impl Instance {
         }
     }
 
-    /// The acknowledgement that is sent to the owner of the phase.
+    /// The acknowledgement that the replica sends to the owner of the phase; `None` if it is the owner, or took no lock.
     fn sent_ack(&self, phase: Phase) -> Result<Option<Statement>, AllocError>
         ensures { IfOk result (λ sent. sent ≡ sent_ack self.now phase self.now.taken) }
     {
@@ -129,7 +132,7 @@ impl Instance {
         }
     }
 
-    /// An owner's acknowledgement of its own lock, which it isn't sent.
+    /// An owner's acknowledgement of its own lock, which it makes and doesn't send.
     fn unsent_ack(&self, phase: Phase) -> Result<Option<Ack>, AllocError>
         ensures { IfOk result (λ unsent. unsent ≡ unsent_ack self.now phase self.now.taken) }
     {
@@ -146,7 +149,7 @@ impl Instance {
         ensures { IfOk result (λ chosen. chosen ≡ chosen_statement self.now round) }
     {
         let phase = phase_of(round);
-        match place_of(round) {
+        match place_of(u64::from(round)) {
             Place::Reports => Ok(Some(Statement::Report(self.own_report(alloc, phase)?))),
             Place::Lock => self.chosen_lock(alloc, phase),
             Place::Acknowledgements => self.sent_ack(phase),
@@ -154,7 +157,7 @@ impl Instance {
         }
     }
 
-    /// What is proper once the reports of the phase are taken in.
+    /// The set of proper values after the reports of the phase are absorbed.
     fn absorbed(&self) -> Result<Proper, AllocError>
         ensures config { IfOk result (λ proper. proper.config ≡ self.now.config) }
         ensures set { IfOk result (λ proper. proper.set
@@ -165,7 +168,7 @@ impl Instance {
         Ok(proper)
     }
 
-    /// The value of the own lock of the phase, if its acknowledgements decide it.
+    /// The value of the replica's own lock of the phase, if the acknowledgements decide it.
     fn decides_now(&self, phase: Phase) -> Result<Option<Batch>, AllocError>
         ensures { IfOk result (λ value. value ≡ decides_now self.now phase self.now.made) }
     {
@@ -177,7 +180,7 @@ impl Instance {
         }
     }
 
-    /// The same, where nothing was decided before.
+    /// The value that the phase decides, unless one was decided before.
     fn decides_first(&self, phase: Phase) -> Result<Option<Batch>, AllocError>
         ensures { IfOk result (λ value. value ≡ decides_first self.now phase) }
     {
@@ -187,15 +190,15 @@ impl Instance {
         self.decides_now(phase)
     }
 
-    /// The frames of the held locks, by ascending value.
+    /// The frames of the held locks, ascending by value.
     fn held_frames(&self, alloc: Global) -> Result<Vec<Bytes>, AllocError>
         ensures { IfOk result (λ frames. frames.items ≡ map (λ s. frame_bytes (as_statement s)) self.now.table) }
     {
         shared_frames(alloc, self.locks.held())
     }
 
-    /// What is to be done as the lock-release round of a phase opens: the held locks are sent on, and a value may be decided.
-    fn release_ending(&self, alloc: Global, phase: Phase) -> Result<Ending, AllocError>
+    /// The effects of opening the lock-release round of a phase: the held locks are sent on, and a value may be decided.
+    fn release_ending(&self, alloc: Global, phase: Phase) -> Result<RoundEffects, AllocError>
         ensures { IfOk result (λ ending. ending ≡ record nothing_ends {
           sends_on = map (λ s. frame_bytes (as_statement s)) self.now.table;
           decided = decides_first self.now phase;
@@ -203,64 +206,67 @@ impl Instance {
     {
         let sends_on = self.held_frames(alloc)?;
         let decided = self.decides_first(phase)?;
-        Ok(Ending::releasing(sends_on, decided))
+        Ok(RoundEffects::releasing(sends_on, decided))
     }
 
-    /// What is to be done as a round opens, whatever is sent.
+    /// The effects of opening a round, which don't depend on what is sent.
     #[tactic(auto, unfolding(crate::specs::Plans::ended))]
-    fn ending(&self, alloc: Global, round: u32) -> Result<Ending, AllocError>
+    fn ending(&self, alloc: Global, round: u32) -> Result<RoundEffects, AllocError>
         requires { (1 ≤ round) × (round ≤ last_round) }
         ensures { IfOk result (λ ending. ending ≡ ended self.now round) }
     {
         let phase = phase_of(round);
-        match place_of(round) {
-            Place::Reports => Ok(Ending::nothing(alloc)),
-            Place::Lock => Ok(Ending::absorbing(alloc, self.absorbed()?)),
-            Place::Acknowledgements => Ok(Ending::acknowledging(alloc, self.unsent_ack(phase)?)),
+        match place_of(u64::from(round)) {
+            Place::Reports => Ok(RoundEffects::nothing(alloc)),
+            Place::Lock => Ok(RoundEffects::absorbing(alloc, self.absorbed()?)),
+            Place::Acknowledgements => Ok(RoundEffects::acknowledging(
+                alloc,
+                self.unsent_ack(phase)?,
+            )),
             Place::Release => self.release_ending(alloc, phase),
         }
     }
 
-    /// What is to be done as the next round opens, whatever is sent; `clock` is the number of the round that closes. Nothing
-    /// changes yet.
-    pub fn prepare_end(&self, alloc: Global, clock: u32) -> Result<Ending, AllocError>
+    /// The effects of opening the next round, which don't depend on what is sent. `clock` is the number of the round
+    /// that closes. Changes nothing yet.
+    pub fn prepare_end(&self, alloc: Global, clock: u32) -> Result<RoundEffects, AllocError>
         requires clock { clock < last_round }
         ensures ending { IfOk result (λ ending. ending ≡ ended self.now (clock + 1)) }
-        // In a lock-release round it sends on the locks that are held.
-        ensures sends_on { IfOk result (λ ending. (ring : Ring) (log : List Note) → Matches ring self.now log → clock_of log ≡ clock
-            → place_of (clock + 1) ≡ 4 → ending.sends_on ≡ map frame_bytes (held_locks log)) }
+        // In a lock-release round the replica sends on the locks that it holds.
+        ensures sends_on { IfOk result (λ ending. (ring : Ring) (log : List Note) → MatchesLog ring self.now log → clock_of log ≡ clock
+            → place_of (clock + 1) ≡ release_place → ending.sends_on ≡ map frame_bytes (held_locks log)) }
         // Each of those frames reads back as a signed lock of this height.
-        ensures readable { IfOk result (λ ending. (ring : Ring) (log : List Note) → Matches ring self.now log
+        ensures readable { IfOk result (λ ending. (ring : Ring) (log : List Note) → MatchesLog ring self.now log
             → AllByRecursion (IsLockSentOn ring self.now.height) ending.sends_on) }
     {
         self.ending(alloc, clock + 1)
     }
 
-    /// What is to be done as the next round opens, `clock` being the number of the one that closes: the statement to send,
-    /// and all else. Nothing changes yet.
-    pub fn plan_end(&self, alloc: Global, clock: u32) -> Result<Plan, AllocError>
+    /// The plan for opening the next round: the statement to send, and all other effects. `clock` is the number of the
+    /// round that closes. Changes nothing yet.
+    pub fn plan_end(&self, alloc: Global, clock: u32) -> Result<RoundPlan, AllocError>
         requires clock { clock < last_round }
         ensures statement { IfOk result (λ plan. plan.statement ≡ chosen_statement self.now (clock + 1)) }
         ensures ending { IfOk result (λ plan. plan.ending ≡ ended self.now (clock + 1)) }
-        // It chooses what may be sent, by every log that the instance matches.
-        ensures may { IfOk result (λ plan. (ring : Ring) (log : List Note) → Matches ring self.now log → clock_of log ≡ clock
+        // It chooses only what every log that the instance matches allows.
+        ensures may { IfOk result (λ plan. (ring : Ring) (log : List Note) → MatchesLog ring self.now log → clock_of log ≡ clock
             → MayBeSent self.now log (clock + 1) plan.statement) }
-        // The reports in the proof of a lock are signed.
-        ensures proofs { IfOk result (λ plan. (ring : Ring) (log : List Note) → Matches ring self.now log → clock_of log ≡ clock
+        // If the statement is a lock, the reports in its proof are signed.
+        ensures proofs { IfOk result (λ plan. (ring : Ring) (log : List Note) → MatchesLog ring self.now log → clock_of log ≡ clock
             → IfSome plan.statement (λ s. IsTrue (are_signed_reports ring s))) }
-        // The statement is the replica's, of this height, and can be spelled, whatever log there is.
+        // The statement is the replica's own, of this height, and can be encoded, whatever the log is.
         ensures own { IfOk result (λ plan. IfSome plan.statement (IsOwnStatement self.now)) }
         ensures spelled { IfOk result (λ plan. IfSome plan.statement IsStatement) }
-        // In a lock-release round it sends on the locks that are held.
-        ensures sends_on { IfOk result (λ plan. (ring : Ring) (log : List Note) → Matches ring self.now log → clock_of log ≡ clock
-            → place_of (clock + 1) ≡ 4 → plan.ending.sends_on ≡ map frame_bytes (held_locks log)) }
+        // In a lock-release round the replica sends on the locks that it holds.
+        ensures sends_on { IfOk result (λ plan. (ring : Ring) (log : List Note) → MatchesLog ring self.now log → clock_of log ≡ clock
+            → place_of (clock + 1) ≡ release_place → plan.ending.sends_on ≡ map frame_bytes (held_locks log)) }
         // Each of those frames reads back as a signed lock of this height.
-        ensures readable { IfOk result (λ plan. (ring : Ring) (log : List Note) → Matches ring self.now log
+        ensures readable { IfOk result (λ plan. (ring : Ring) (log : List Note) → MatchesLog ring self.now log
             → AllByRecursion (IsLockSentOn ring self.now.height) plan.ending.sends_on) }
     {
-        // What is kept is opened for the proof that it can be spelled.
+        // This read opens the invariant for the proof: what the instance has can be encoded.
         let _ = &self.height;
-        Ok(Plan {
+        Ok(RoundPlan {
             statement: self.chosen_statement(alloc, clock + 1)?,
             ending: self.prepare_end(alloc, clock)?,
         })
@@ -288,7 +294,7 @@ fn copied_values(alloc: Global, locks: &[LockFrame]) -> Result<Vec<Batch>, Alloc
     Ok(values)
 }
 
-/// The reports of the lowest signers that find the value, at most so many.
+/// The reports that find the value, from the lowest signers: at most `count`.
 fn lowest_finding(
     alloc: Global,
     places: &[Option<SignedReport>],

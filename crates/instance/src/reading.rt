@@ -1,42 +1,21 @@
-//! Frames of the height come in.
+//! How an instance reads a frame of its height.
 ghost use Rattle.std.specs.Prelude.{◌≡◌, ◌≤◌, true, IsTrue};
 ghost use Rattle.ledger_model.specs.Notes.{is_ack};
-ghost use Rattle.ledger_model.specs.Rules.{has_place, has_phase, has_owner};
-ghost use Rattle.instance.specs.Places.{number_of};
+ghost use Rattle.ledger_model.specs.Rules.{has_owner};
 ghost use Rattle.instance.specs.Reads.{cause_told};
 ghost use Rattle.ledger_model.specs.Limits.{last_round};
 
 use crate::height::Instance;
-use crate::rounds::{Place, phase_of, place_of};
 use key_ring::KeyRing;
-use ledger_model::{Ack, Batch, Config, Ignored, Signature, SignedReport, Statement};
+use ledger_model::{
+    Ack, Batch, Config, Ignored, Place, Signature, SignedReport, Statement, has_phase, has_place,
+    phase_of, place_of,
+};
 use lock_proofs::{LockFault, LockFrame, check_lock, is_signed};
 use signed_frames::Frame;
 use std::alloc::{AllocError, Global};
 
-/// Whether such statements are read in the rounds at this place.
-fn has_place(place: Place, statement: &Statement) -> bool
-    ensures { result ≡ has_place (number_of place) statement.now }
-{
-    match statement {
-        Statement::Report(_) => place == Place::Reports,
-        Statement::Lock(_) => place == Place::Lock || place == Place::Release,
-        Statement::Ack(_) => place == Place::Acknowledgements,
-    }
-}
-
-/// Whether the statement's phase is that of the round; in a lock-release round a lock may be of an earlier one.
-fn has_phase(round: u32, statement: &Statement) -> bool
-    requires { round ≤ last_round }
-    ensures { result ≡ has_phase round statement.now }
-{
-    match statement {
-        Statement::Lock(lock) if place_of(round) == Place::Release => lock.phase <= phase_of(round),
-        _ => statement.phase() == phase_of(round),
-    }
-}
-
-/// Whether the statement is no lock, or one of its phase's owner.
+/// Whether the statement is no lock, or a lock of its phase's owner.
 fn has_owner(config: &Config, statement: &Statement) -> bool
     ensures { result ≡ has_owner config.now statement.now }
 {
@@ -57,7 +36,7 @@ fn cause_of(fault: LockFault) -> Ignored
     }
 }
 
-/// The acknowledgement of a frame that has one.
+/// The acknowledgement in a frame that contains one.
 pub(crate) fn into_ack(frame: Frame) -> Ack
     requires { IsTrue (is_ack (λ a. true) frame.statement) }
     ensures { frame.statement ≡ Statement.Ack result }
@@ -72,38 +51,38 @@ impl Instance {
     ghost use Rattle.std.specs.Prelude.{◌≡◌, ◌==◌, ◌<◌, ◌≤◌, ◌++◌, ◌∷◌, ℕ, List, [], None, Some, slice_set, not, false, true, is_some, IsTrue, IfOk, OnOk, OnErr};
     ghost use Rattle.std.specs.Option.{option_map_or};
     ghost use Rattle.ledger_model.specs.Values.{same_value};
-    ghost use Rattle.ledger_model.specs.Rounds.{phase_of, place_of};
+    ghost use Rattle.ledger_model.specs.Rounds.{phase_of, place_of, lock_place};
     ghost use Rattle.ledger_model.specs.Notes.{Note, Read, clock_of, signer_of, is_report, is_lock, is_ack};
     ghost use Rattle.ledger_model.specs.Logs.{height_of};
     ghost use Rattle.ledger_model.specs.Rules.{answer_to, first_of};
     ghost use Rattle.ledger_model.specs.Spelling.{IsFrame, IsLock};
-    ghost use Rattle.ledger_model.specs.LockTables.{as_statement, with_lock, has_four_others, released};
-    ghost use Rattle.ledger_model.specs.Tallies.{read_of};
-    ghost use Rattle.instance.specs.Matching.{Matches};
+    ghost use Rattle.lock_proofs.specs.LockTables.{as_statement, with_lock, has_four_others, released};
+    ghost use Rattle.tally.specs.Tallies.{read_of};
+    ghost use Rattle.instance.specs.Matching.{MatchesLog};
     ghost use Rattle.instance.specs.Reads.{round_causes, row_causes, report_causes, room_causes, lock_causes, ack_causes, is_kept_already, after_read, if_accepted, IsSameHeight};
     ghost use Rattle.ledger_model.specs.Limits.{last_round};
 
-    /// Whether one such statement is kept already.
+    /// Whether the instance already has such a statement.
     fn is_kept_already(&self, statement: &Statement, round: u32) -> bool
         requires { round ≤ last_round }
         ensures { result ≡ is_kept_already self.now round statement.now }
     {
         match statement {
             Statement::Report(report) => self.reports.get(report.signer).is_some(),
-            Statement::Lock(_) => place_of(round) == Place::Lock && self.taken.is_some(),
+            Statement::Lock(_) => place_of(u64::from(round)) == Place::Lock && self.taken.is_some(),
             Statement::Ack(ack) => self.acks.get(ack.signer).is_some(),
         }
     }
 
-    /// The first of the causes that the statement shows by itself, if one fits.
+    /// The first cause that depends on the statement and the round alone, if one applies.
     fn judge(&self, statement: &Statement, round: u32) -> Result<(), Ignored>
         requires { round ≤ last_round }
         ensures { result ≡ first_of (round_causes self.now round statement.now) }
     {
-        if round == 0 || !has_place(place_of(round), statement) {
+        if round == 0 || !has_place(place_of(u64::from(round)), statement) {
             return Err(Ignored::WrongRound);
         }
-        if !has_phase(round, statement) {
+        if !has_phase(u64::from(round), statement) {
             return Err(Ignored::WrongPhase);
         }
         if !has_owner(&self.config, statement) {
@@ -115,7 +94,7 @@ impl Instance {
         Ok(())
     }
 
-    /// Keeps the first report of its signer in this phase, with its signature. It takes no memory.
+    /// Stores the first report of its signer in this phase, with its signature. Allocates nothing.
     fn put_read_report(&mut self, frame: Frame, signature: Signature)
         requires kind { IsTrue (is_report (λ r. true) frame.statement) }
         requires signer { signer_of frame.statement < self.old.config.replicas }
@@ -131,7 +110,7 @@ impl Instance {
             .add(report.signer, SignedReport { report, signature });
     }
 
-    /// Takes the first report of its signer in this phase, whose signature verifies.
+    /// Stores the first report of its signer in this phase, whose signature verifies.
     fn take_report(&mut self, alloc: Global, frame: Frame) -> Result<(), AllocError>
         requires kind { IsTrue (is_report (λ r. true) frame.statement) }
         requires signer { signer_of frame.statement < self.old.config.replicas }
@@ -174,7 +153,7 @@ impl Instance {
         self.made.as_ref().is_some_and(|value| ack.value == *value)
     }
 
-    /// Keeps the first acknowledgement of its signer in this phase. It takes no memory.
+    /// Stores the first acknowledgement of its signer in this phase. Allocates nothing.
     fn put_read_ack(&mut self, ack: Ack)
         requires signer { ack.signer < self.old.config.replicas }
         requires first { read_of self.old.acks ack.signer ≡ None }
@@ -183,7 +162,7 @@ impl Instance {
         self.acks.add(ack.signer, ack);
     }
 
-    /// Reads the first acknowledgement of its signer in this phase, if its signature verifies and it is of the own lock.
+    /// Reads the first acknowledgement of its signer in this phase, if its signature verifies and it is of this replica's own lock.
     fn read_ack(&mut self, ring: &KeyRing, frame: Frame) -> Result<(), Ignored>
         requires kind { IsTrue (is_ack (λ a. true) frame.statement) }
         requires signer { signer_of frame.statement < self.old.config.replicas }
@@ -202,7 +181,7 @@ impl Instance {
         Ok(())
     }
 
-    /// Keeps a lock for which the table has a place, and its value as that of the lock that was taken. It takes no memory.
+    /// Stores a lock for which the table has a place, and its value as that of the lock that was taken. Allocates nothing.
     fn put_taken(&mut self, lock: LockFrame, value: Batch)
         requires lock { IsLock lock.lock }
         requires value { value ≡ lock.lock.value }
@@ -238,7 +217,7 @@ impl Instance {
         Ok(Ok(()))
     }
 
-    /// Ends the holding of other locks by one that was read in a lock-release round.
+    /// Releases locks on other values, by a lock that was read in a lock-release round.
     fn release_by(&mut self, lock: &LockFrame, round: u32)
         requires { round ≤ last_round }
         ensures { self.new ≡ record self.old { table = released (phase_of round) lock.now.lock self.old.table } }
@@ -246,23 +225,23 @@ impl Instance {
         self.locks.release(lock, phase_of(round));
     }
 
-    /// Reads a valid lock of its phase's owner: in the round of locks it is taken, in a lock-release round it releases others.
+    /// Reads a valid lock of its phase's owner: takes it in the round of locks, and lets it release others in a lock-release round.
     fn read_valid(&mut self, lock: LockFrame, round: u32) -> Result<Result<(), Ignored>, AllocError>
         requires round { round ≤ last_round }
         requires lock { IsLock lock.lock }
-        ensures answer { IfOk result (λ r. r ≡ first_of (room_causes (place_of round == 2) self.old lock.lock.value)) }
+        ensures answer { IfOk result (λ r. r ≡ first_of (room_causes (place_of round == lock_place) self.old lock.lock.value)) }
         ensures after { IfOk result (λ r. self.new ≡ if_accepted r (after_read self.old round (as_statement lock)) self.old) }
         ensures err { OnErr result (self.new ≡ self.old) }
     {
-        if place_of(round) == Place::Lock {
+        if place_of(u64::from(round)) == Place::Lock {
             return self.take_lock(lock);
         }
         self.release_by(&lock, round);
         Ok(Ok(()))
     }
 
-    /// Reads a lock of its phase's owner, if it is valid: in the round of locks it is taken, in a lock-release round it
-    /// releases others.
+    /// Reads a lock of its phase's owner, if it is valid: takes it in the round of locks, and lets it release others in
+    /// a lock-release round.
     fn read_lock(
         &mut self,
         ring: &KeyRing,
@@ -283,10 +262,10 @@ impl Instance {
         }
     }
 
-    /// A frame of this height comes in, whose signer is a replica, while this round is open: it is read, or ignored by the
-    /// first cause that fits, and nothing changes.
+    /// Reads or ignores a frame of this height, whose signer is in the cluster, while round `clock` is open. A frame is
+    /// ignored with the first cause that applies, and then nothing changes.
     ///
-    /// Where memory runs out, nothing changes either.
+    /// If memory runs out, nothing changes either.
     pub fn read(
         &mut self,
         alloc: Global,
@@ -297,11 +276,11 @@ impl Instance {
         requires signer { signer_of frame.statement < self.old.config.replicas }
         requires height { height_of frame.statement ≡ self.old.height }
         requires clock { clock ≤ last_round }
-        // What is answered, and what it leaves, by every log that the instance matches.
-        ensures answer { IfOk result (λ r. (log : List Note) → Matches ring.now self.old log → clock_of log ≡ clock
+        // The answer and its effect are those of the definitions, on every log that the instance matches.
+        ensures answer { IfOk result (λ r. (log : List Note) → MatchesLog ring.now self.old log → clock_of log ≡ clock
             → r ≡ answer_to self.old.config ring.now log frame) }
-        ensures read { IfOk result (λ r. (log : List Note) → Matches ring.now self.old log → clock_of log ≡ clock
-            → IfOk r (λ x. Matches ring.now self.new (log ++ Read clock frame ∷ []))) }
+        ensures read { IfOk result (λ r. (log : List Note) → MatchesLog ring.now self.old log → clock_of log ≡ clock
+            → IfOk r (λ x. MatchesLog ring.now self.new (log ++ Read clock frame ∷ []))) }
         ensures ignored { IfOk result (λ r. OnErr r (self.new ≡ self.old)) }
         ensures err { OnErr result (self.new ≡ self.old) }
         ensures same { IsSameHeight self.old self.new }

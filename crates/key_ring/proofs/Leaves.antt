@@ -12,7 +12,7 @@ use Rattle.lm_ots.specs.Parameters.{numbers_of, levels_of}
 use Rattle.lms_tree.specs.Trees.{Secret}
 use Rattle.key_ring.specs.declared.fault.SignFault.{SignFault}
 use Rattle.key_ring.specs.declared.fault.SignFault.TheVariants as fault
-use Rattle.key_ring.specs.Signers.{Keys, Signs, signed_with, leaves_of}
+use Rattle.key_ring.specs.Signers.{SignerView, Signs, signed_with, leaves_of}
 use Rattle.key_ring.specs.Laws.{Call, SignsAll, AscendFrom, NoLeafTwice, leaf_in, leaf_of}
 
 few_leaves : (h : TreeHeight) → 2 ^ levels_of h < 2 ^ 32
@@ -38,19 +38,19 @@ weaker least more [] le a = tt
 weaker least more (n ∷ ns) le a = let first = a.0 in (omega arith, a.1)
 
 -- what one call adds to the leaves of those after it
-one_call : (old next : Keys) (message : List ℕ) (answer : Result (List ℕ) SignFault) (ns : List ℕ)
+one_call : (old next : SignerView) (message : List ℕ) (answer : Result (List ℕ) SignFault) (ns : List ℕ)
     → Signs old message answer next → AscendFrom next.used ns → AscendFrom old.used (cons_option (leaf_of answer) ns)
 unfolding AscendFrom
 one_call old next message (Ok signature) ns step rest =
     let left : old.used < leaves_of old.secret = step.1.0 in
-    let used : next.used ≡ old.used + 1 = ap (λ (k : Keys). k.used) (step.1.1) in
+    let used : next.used ≡ old.used + 1 = ap (λ (k : SignerView). k.used) (step.1.1) in
     let few = few_leaves old.secret.params.height in
     let leaf : leaf_in signature ≡ old.used = ap leaf_in (step.0) ∙ named old.secret old.used message (omega arith) in
     (omega arith, subst (λ n. AscendFrom n ns) (omega arith) rest)
 one_call old next message (Err fault.Exhausted) ns step rest =
-    subst (λ (k : Keys). AscendFrom k.used ns) (step.1) rest
+    subst (λ (k : SignerView). AscendFrom k.used ns) (step.1) rest
 one_call old next message (Err fault.NoMemory) ns step rest =
-    let used : next.used ≡ old.used + 1 = ap (λ (k : Keys). k.used) (step.1) in
+    let used : next.used ≡ old.used + 1 = ap (λ (k : SignerView). k.used) (step.1) in
     weaker old.used next.used ns (omega arith) rest
 
 pub no_leaf_twice : NoLeafTwice

@@ -1,13 +1,13 @@
-//! Why a signer signs nothing.
+//! Why a signer doesn't sign.
 use thiserror::Error;
 
 /// Why nothing was signed.
 #[derive(Clone, Copy, Debug, PartialEq, Eq, Error)]
 pub enum SignFault {
-    /// Each leaf signed, or was used up for want of memory.
+    /// Every leaf has signed, or was used up when memory ran out.
     #[error("every leaf of the key pair is used")]
     Exhausted,
-    /// Memory ran out. The leaf counts as used.
+    /// Memory ran out. The leaf is used up.
     #[error("no memory for the signature")]
     NoMemory,
 }

@@ -1,7 +1,7 @@
-//! What holds of every series of signatures, over the definitions alone.
+//! Laws of every series of signatures, proved from the definitions alone.
 ghost use Rattle.key_ring.specs.Laws.{NoLeafTwice};
 
-/// The leaves that the signatures of one signer name ascend, whatever is signed and whichever calls find no memory: no
+/// The leaf numbers in the signatures of one signer ascend, whatever it signs and whichever calls run out of memory: no
 /// leaf signs twice.
 pub fn no_leaf_twice()
     ensures { NoLeafTwice }

@@ -1,7 +1,7 @@
 //! Signers that use each leaf of a tree once, and the public keys of a cluster by replica.
 //!
 //! A hash-based key pair is safe only while no leaf signs twice (RFC 8554, section 9.2). A [`Signer`] counts a leaf as
-//! used before it signs with it, and can't be copied; [`KeyRing`] holds the keys that a replica trusts.
+//! used before it signs with it, and can't be copied. A [`KeyRing`] has the keys that a replica trusts.
 #![tactic(auto)]
 
 mod fault;

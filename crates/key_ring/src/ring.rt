@@ -23,7 +23,7 @@ impl KeyRing {
     ghost use Rattle.std.specs.Option.{option_copied};
     ghost use Rattle.ledger_model.specs.Rules.{is_signed_by};
 
-    /// The ring of these keys, that of replica 0 first.
+    /// The ring of these keys, from replica 0 on.
     pub fn new(keys: Vec<PublicKey>) -> Self
         ensures { result ≡ keys.items }
     {
@@ -37,8 +37,8 @@ impl KeyRing {
         self.keys.get(usize::from(replica.number()))
     }
 
-    /// Whether the signature is one of the message under the signer's key (RFC 8554, section 5.4.2); false where the ring has
-    /// no key of that number. It takes no memory.
+    /// Whether the signature is valid for the message under the signer's key (RFC 8554, section 5.4.2); false if the
+    /// ring has no key with that number. Allocates nothing.
     pub fn verifies(&self, signer: ReplicaId, message: &[u8], signature: &[u8]) -> bool
         ensures { result ≡ is_signed_by (slice_get self.now signer) message.now signature.now }
     {
@@ -48,7 +48,7 @@ impl KeyRing {
         }
     }
 
-    /// The same ring once more.
+    /// A copy of the ring. The only error is allocation failure.
     pub fn copy(&self) -> Result<Self, AllocError>
         ensures { IfOk result (λ ring. ring ≡ self.now) }
     {

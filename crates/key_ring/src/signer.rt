@@ -1,13 +1,13 @@
-//! A signer: a tree of one-time keys, of which it uses each leaf once.
+//! A signer: a tree of one-time keys, of which it uses each leaf at most once.
 use crate::SignFault;
 use lm_ots::{Identifier, Params, Seed};
 use lms_tree::{PublicKey, Tree};
 use std::alloc::{AllocError, Global};
 use std::marker::Model;
 
-/// A key pair, and how many of its leaves are used.
+/// A key pair, and the number of its leaves that are used.
 ///
-/// Its leaves sign in order, each at most once. It holds the secret seed: it can't be copied or printed.
+/// Its leaves sign in order, each at most once. A signer contains the secret seed, so it can't be copied or printed.
 #[derive(Drop)]
 pub struct Signer {
     tree: Tree,
@@ -16,9 +16,9 @@ pub struct Signer {
 
 impl Model for Signer {
     ghost use Rattle.std.specs.Prelude.{◌≤◌};
-    ghost use Rattle.key_ring.specs.Signers.{Keys, leaves_of};
+    ghost use Rattle.key_ring.specs.Signers.{SignerView, leaves_of};
 
-    ghost Value = { Keys };
+    ghost Value = { SignerView };
 
     ghost view = { λ s. record { secret = s.tree; used = s.used } };
 
@@ -31,10 +31,10 @@ impl Signer {
     ghost use Rattle.ledger_model.specs.Signatures.{verifies};
     ghost use Rattle.key_ring.specs.Signers.{leaves_of, key_of, SignsAs};
 
-    /// The key pair of a seed, under an identifier, with no leaf used. Its tree is computed here, once.
+    /// The key pair of a seed under an identifier, with no leaf used. Its tree is computed here, once.
     ///
-    /// An identifier and a seed are to make one signer ever, of one parameter set: a second one signs with the same
-    /// leaves again, and the chains of both widths begin at the same secrets.
+    /// Make only one signer ever from a seed and an identifier, with one parameter set: a second one would sign with
+    /// the same leaves again, and the chains of both widths start at the same secrets.
     pub fn new(
         alloc: Global,
         params: Params,
@@ -52,10 +52,10 @@ impl Signer {
 
     /// The signature of a message with the next leaf (RFC 8554, section 5.4).
     ///
-    /// `Exhausted` comes only, and always, where no leaf is left, and changes nothing. After `NoMemory` the leaf is used
-    /// up like after a signature: it counts as used before memory is asked for.
+    /// `Exhausted` comes exactly if no leaf is left, and changes nothing. After `NoMemory` the leaf is used up, as
+    /// after a signature: the signer counts it as used before it allocates memory.
     pub fn sign(&mut self, alloc: Global, message: &[u8]) -> Result<Vec<u8>, SignFault>
-        // Which leaf signed, which leaves are used then, and when each fault comes.
+        // Which leaf signed, which leaves are used afterwards, and when each fault comes.
         ensures signs { SignsAs (λ signature. signature.items) self.old message.now result self.new }
         ensures verifies { IfOk result (λ signature.
             verifies (key_of self.old.secret) message.now signature.items ≡ true) }
@@ -72,7 +72,7 @@ impl Signer {
         }
     }
 
-    /// How many more messages can be signed.
+    /// The number of messages that it can still sign.
     pub fn leaves_left(&self) -> u32
         ensures { self.now.used + result ≡ leaves_of self.now.secret }
     {

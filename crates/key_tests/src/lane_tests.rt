@@ -1,4 +1,4 @@
-//! Digests side by side. Those wanted are of an independent program.
+//! Digests in parallel. The expected digests come from an independent program.
 
 use sha_lanes::{digest_each, take_turns};
 use sha2::{Digest, Sha256};
@@ -12,7 +12,7 @@ fn message(lane: u8) -> [u8; 55] {
     message
 }
 
-/// Their digests by SHA-256.
+/// The SHA-256 digests of those messages.
 const WANTED: [[u8; 32]; 8] = [
     [
         0x57, 0x6a, 0x1b, 0xf8, 0xd4, 0x47, 0x86, 0x57, 0xe6, 0xdc, 0x4a, 0xf9, 0x39, 0x85, 0x44,
@@ -74,8 +74,8 @@ fn digests_side_by_side(rt: HostRuntime) {
     }
 }
 
-/// The digest of all eight messages after 300 turns: each time the digest of a message stands in the place of its last 32
-/// bytes, and the byte before them is one greater, modulo 256.
+/// The digest of all eight messages after 300 turns. In each turn the digest of a message replaces its last 32 bytes,
+/// and the byte before them grows by one, modulo 256.
 const AFTER_TURNS: [u8; 32] = [
     0x5a, 0x49, 0x81, 0x2c, 0xbd, 0xde, 0xac, 0x10, 0xeb, 0xee, 0xe1, 0x8a, 0x12, 0xad, 0xa7, 0x17,
     0x70, 0x3f, 0x54, 0xbc, 0x25, 0x47, 0xa6, 0x39, 0x7b, 0x70, 0x9a, 0x26, 0x28, 0x24, 0xbc, 0xd4,

@@ -1,8 +1,6 @@
-//! One-time signatures, trees over them, and key pairs that use each leaf once, against RFC 8554. This crate has tests alone.
+//! Tests of one-time signatures, trees over them, and key pairs that use each leaf once, against RFC 8554.
 #![tactic(auto)]
 
-#[cfg(test)]
-mod block_tests;
 #[cfg(test)]
 mod lane_tests;
 #[cfg(test)]

@@ -8,7 +8,7 @@ use lm_ots::{
 use sha2::{Digest, Sha256};
 use std::alloc::Global;
 
-// What is expected was computed by an independent program in Python that also finds the roots given there.
+// The expected values come from an independent program in Python, which also finds the roots in the RFC.
 struct Expected {
     width: Width,
     length: usize,
@@ -61,7 +61,7 @@ fn is_public_hash(params: Params, expected: [u8; 32]) -> bool {
         && public_hashes(params, &identifier, 0, &seed)[3] == expected
 }
 
-// Whether a signature leads to this public hash at leaf 3 and for its message alone.
+// Whether a signature leads to this public hash only for leaf 3 and its message.
 fn leads_to(params: Params, signature: &[u8], public: [u8; 32]) -> bool {
     let identifier = Identifier::new(IDENTIFIER);
     candidate(params, &identifier, 3, MESSAGE, signature) == Some(public)
@@ -78,16 +78,20 @@ fn signed(alloc: Global, params: Params, leaf: u32) -> Option<Vec<u8>> {
 #[test]
 fn signatures_of_both_widths(rt: HostRuntime) {
     for expected in [&WIDE, &NARROW] {
-        let params = params_of(expected.width);
-        assert!(rt; is_public_hash(params, expected.public));
+        let width = expected.width;
+        let params = params_of(width);
+        assert!(rt; is_public_hash(params, expected.public), "{width:?}");
         let signature = signed(rt.alloc(), params, 3).expect(&rt, "a signature");
-        assert!(rt; signature.len() == expected.length);
-        assert!(rt; Sha256::digest(&signature) == expected.signature);
-        assert!(rt; leads_to(params, &signature, expected.public));
+        assert!(rt; signature.len() == expected.length, "{width:?}");
+        assert!(rt;
+            Sha256::digest(&signature) == expected.signature,
+            "{width:?}"
+        );
+        assert!(rt; leads_to(params, &signature, expected.public), "{width:?}");
     }
 }
 
-// Counted by the same program.
+// The expected counts come from the same program.
 #[test]
 fn steps_of_signatures(rt: HostRuntime) {
     for (width, leaf, steps) in [
@@ -100,7 +104,10 @@ fn steps_of_signatures(rt: HostRuntime) {
         let signature = signed(rt.alloc(), params, leaf).expect(&rt, "a signature");
         let randomizer = signature.get(4..36).unwrap_or(&[]);
         let identifier = Identifier::new(IDENTIFIER);
-        assert!(rt; signed_steps(params, &identifier, leaf, randomizer, MESSAGE) == steps);
+        assert!(rt;
+            signed_steps(params, &identifier, leaf, randomizer, MESSAGE) == steps,
+            "{width:?} {leaf}"
+        );
     }
 }
 

@@ -43,17 +43,17 @@ fn is_exhausted(alloc: Global, signer: &mut Signer) -> bool {
     signer.leaves_left() == 0 && signer.sign(alloc, MESSAGE).err() == Some(SignFault::Exhausted)
 }
 
-// Thirty-two signatures verify, with leaves 0 to 31; the next call changes nothing.
+// Thirty-two signatures verify, by leaves 0 to 31; the next call changes nothing.
 #[test]
 fn each_leaf_signs_once(rt: HostRuntime) {
     let mut signer = small(rt.alloc(), Width::W4).expect(&rt, "a signer");
     let key = signer.public();
     for leaf in 0..32u8 {
-        assert!(rt; signer.leaves_left() == 32 - u32::from(leaf));
-        assert!(rt; signs_with(rt.alloc(), &mut signer, &key, leaf));
+        assert!(rt; signer.leaves_left() == 32 - u32::from(leaf), "{leaf}");
+        assert!(rt; signs_with(rt.alloc(), &mut signer, &key, leaf), "{leaf}");
     }
-    for _ in 0..2 {
-        assert!(rt; is_exhausted(rt.alloc(), &mut signer));
+    for call in 33u8..35 {
+        assert!(rt; is_exhausted(rt.alloc(), &mut signer), "call {call}");
     }
 }
 
@@ -80,27 +80,35 @@ fn copied_ring(alloc: Global, keys: [PublicKey; 2]) -> Option<KeyRing> {
     ring_of(alloc, keys)?.copy().ok()
 }
 
-// Whether a signature verifies under the key of replica 1 alone, and of its message alone.
-fn verifies_at_one(ring: &KeyRing, signature: &[u8]) -> bool {
-    for (replica, verifies) in [(0, false), (1, true), (2, false)] {
-        if ring.verifies(ReplicaId::new(replica), MESSAGE, signature) != verifies {
-            return false;
+// Replicas and messages, and whether replica 1's signature of `MESSAGE` verifies for them.
+const VERIFIED: [(u8, &[u8], bool); 4] = [
+    (0, MESSAGE, false),
+    (1, MESSAGE, true),
+    (2, MESSAGE, false),
+    (1, b"another", false),
+];
+
+// The index of the first case that the ring contradicts for replica 1's signature, if there is one.
+fn first_wrong_case(ring: &KeyRing, signature: &[u8]) -> Option<usize> {
+    for (index, &(replica, message, verifies)) in VERIFIED.iter().enumerate() {
+        if ring.verifies(ReplicaId::new(replica), message, signature) != verifies {
+            return Some(index);
         }
     }
-    !ring.verifies(ReplicaId::new(1), b"another", signature)
+    None
 }
 
-// Whether that holds of what a signer signs whose key is replica 1's, beside another key.
-fn verifies_under_its_key(alloc: Global, signer: &mut Signer) -> Option<bool> {
+// The same for a signature of this signer, in a ring that has its key at replica 1, and another key.
+fn first_wrong_of(alloc: Global, signer: &mut Signer) -> Option<Option<usize>> {
     let other = small_key(alloc, Width::W8)?;
     let ring = copied_ring(alloc, [other, signer.public()])?;
     let signature = signer.sign(alloc, MESSAGE).ok()?;
-    Some(verifies_at_one(&ring, &signature))
+    Some(first_wrong_case(&ring, &signature))
 }
 
-// Under the signer's key alone, and not where the ring has none.
+// It verifies under the signer's key only, and not if the ring has no key.
 #[test]
 fn a_ring_verifies_under_the_signers_key(rt: HostRuntime) {
     let mut signer = small(rt.alloc(), Width::W4).expect(&rt, "a signer");
-    assert!(rt; verifies_under_its_key(rt.alloc(), &mut signer) == Some(true));
+    assert_eq!(rt; first_wrong_of(rt.alloc(), &mut signer), Some(None));
 }

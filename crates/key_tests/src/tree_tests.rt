@@ -30,7 +30,7 @@ fn small(alloc: Global, width: Width) -> Option<Tree> {
     built(alloc, width, TreeHeight::H5)
 }
 
-// Whether it is the key of the small tree of width 8, and is made of its bytes.
+// Whether this is the key of the small tree of width 8, and is read back from its bytes.
 fn is_small_key(key: &PublicKey) -> bool {
     let bytes = key.as_bytes();
     &bytes[..8] == [0, 0, 0, 5, 0, 0, 0, 4].as_slice()
@@ -70,7 +70,7 @@ fn is_tall_key(key: &PublicKey) -> bool {
     &bytes[..8] == [0, 0, 0, 6, 0, 0, 0, 3].as_slice() && &bytes[24..] == TALL_ROOT.as_slice()
 }
 
-// Whether the signature with this leaf has so many bytes and verifies.
+// Whether the signature with this leaf has `len` bytes and verifies.
 fn signs_with(alloc: Global, tree: &Tree, leaf: u32, len: usize) -> bool {
     match signed(alloc, tree, leaf) {
         Some(signature) => { signature.len() == len && verify(&tree.public(), MESSAGE, &signature) }
@@ -86,7 +86,7 @@ fn key_of_a_tall_tree(rt: HostRuntime) {
     assert!(rt; signs_with(rt.alloc(), &tree, 1000, 2508));
 }
 
-// The digests of the signature and of the path are those of an independent program in Python.
+// The digests of the signature and of the path come from an independent program in Python.
 #[test]
 fn signature_of_a_small_tree(rt: HostRuntime) {
     let tree = small(rt.alloc(), Width::W8).expect(&rt, "a tree");
@@ -151,7 +151,7 @@ fn another_width_does_not_verify(rt: HostRuntime) {
     assert!(rt; !verify(&narrow, MESSAGE, &signature));
 }
 
-// Whether that holds of a signature in this parameter set.
+// Whether that holds of a signature with this parameter set.
 fn signs_with_one_length(
     alloc: Global,
     width: Width,
@@ -163,7 +163,7 @@ fn signs_with_one_length(
     Some(has_one_length(&tree.public(), &mut signature, len))
 }
 
-// In each parameter set a signature has one length, and neither one byte more nor one byte less verifies.
+// With each parameter set a signature has one length; one byte more or less, and it doesn't verify.
 #[test]
 fn lengths(rt: HostRuntime) {
     for (width, height, len) in [
@@ -172,8 +172,9 @@ fn lengths(rt: HostRuntime) {
         (Width::W8, TreeHeight::H10, 1452),
         (Width::W4, TreeHeight::H10, 2508),
     ] {
-        assert!(rt; Params { width, height }.signature_len() == len);
-        assert!(rt; signs_with_one_length(rt.alloc(), width, height, len) == Some(true));
+        assert!(rt; Params { width, height }.signature_len() == len, "{len}");
+        let has_one_length = signs_with_one_length(rt.alloc(), width, height, len);
+        assert!(rt; has_one_length == Some(true), "{len}");
     }
 }
 

@@ -1,4 +1,4 @@
-//! What RFC 8554 gives (Appendix F, test case 2).
+//! Test case 2 of RFC 8554, Appendix F.
 
 /// The tree of height 5: its identifier, its seed and its root.
 pub(crate) const IDENTIFIER: [u8; 16] = [
@@ -15,5 +15,5 @@ pub(crate) const ROOT: [u8; 32] = [
     0xd1, 0x52, 0x33, 0x8e, 0x7a, 0x5e, 0x59, 0x84, 0xbc, 0xd5, 0xf7, 0xbb, 0x4e, 0xba, 0x40, 0xb7,
 ];
 
-/// What is signed here. It is not that test case's message.
+/// The message that is signed here. It is not the one of that test case.
 pub(crate) const MESSAGE: &[u8] = b"The powers not delegated";

@@ -4,11 +4,15 @@ use Rattle.std.specs.Prelude.{Ok, Err}
 use Rattle.ledger_model.specs.declared.event.Event.TheVariants as event
 use Rattle.ledger_model.specs.declared.reply.Reply.TheVariants as reply
 use Rattle.ledger_model.specs.declared.reply.Ignored.TheVariants as cause
-use Rattle.ledger_laws.specs.Examples.{TwoNameOne, ThreeDiffer, TwoAgree, TwoNameAll, CutToFour, ThreeAcksDecide, LockReleased, TwoLocksHeld, ReportSpelled, FramesReadBack, BatchLimits, DigitsAndChecksums, CounterCounts, CounterChecks, PursePays, FirstEntriesReplay, OwnListingIsNoOthers, LogOfARound, LockSentOn, RoundEntriesReplay, WorldRuns, tx_a, world_after}
+use Rattle.ledger_laws.specs.Examples.{TwoNameOne, ThreeDiffer, TwoAgree, TwoNameAll, CutToFour, ThreeAcksDecide, LockReleased}
+use Rattle.ledger_laws.specs.Examples.{TwoLocksHeld, ReportSpelled, FramesReadBack, BatchLimits, DigitsAndChecksums, CounterCounts}
+use Rattle.ledger_laws.specs.Examples.{CounterChecks, PursePays, FirstEntriesReplay, OwnListingIsNoOthers, LogOfARound, LockSentOn}
+use Rattle.ledger_laws.specs.Examples.{RoundEntriesReplay, WorldRuns, tx_a, world_after}
 use Rattle.ledger_model.specs.Proper.{is_all_proper, proper_values}
 use Rattle.ledger_model.specs.Locks.{decided_of, holds, held_values}
 use Rattle.ledger_model.specs.Spelling.{statement_bytes, body_bytes, frame_bytes}
-use Rattle.ledger_model.specs.Reading.{reading, body_reading, statement_at, report_at, lock_at, proof_at, signed_at, place_at, positive_at, flag_at, value_at, txs_at, tx_at, list_at, values_at, signature_at}
+use Rattle.ledger_model.specs.Reading.{reading, body_reading, statement_at, report_at, lock_at, proof_at, signed_at, place_at, positive_at}
+use Rattle.ledger_model.specs.Reading.{flag_at, value_at, txs_at, tx_at, list_at, values_at, signature_at}
 use Rattle.ledger_model.specs.Signatures.{coef, checksum}
 use Rattle.ledger_model.specs.Applications.{codes, code_after, check_after, accepted, held_at}
 use Rattle.ledger_model.specs.Replies.{check_reply, query_reply}
@@ -54,7 +58,8 @@ pub report_spelled : ReportSpelled
 report_spelled = (refl, refl)
 
 pub frames_read_back : FramesReadBack
-unfolding frame_bytes body_bytes statement_bytes reading body_reading statement_at place_at positive_at flag_at tx_at report_at lock_at proof_at signed_at value_at txs_at list_at values_at signature_at
+unfolding frame_bytes body_bytes statement_bytes reading body_reading statement_at place_at positive_at flag_at tx_at report_at lock_at
+    proof_at signed_at value_at txs_at list_at values_at signature_at
 frames_read_back = (refl, refl, refl, refl)
 
 pub batch_limits : BatchLimits
@@ -78,7 +83,8 @@ unfolding codes code_after query_reply accepted held_at
 purse_pays = (refl, refl)
 
 pub first_entries_replay : FirstEntriesReplay
-unfolding Replay ReplaysFrom submit_reply propose_reply execute_reply commits_of pool_of pool_after check_reply check_after accepted log_of log_after notes_of decided_of
+unfolding Replay ReplaysFrom submit_reply propose_reply execute_reply commits_of pool_of pool_after check_reply check_after accepted log_of
+    log_after notes_of decided_of
 first_entries_replay = (refl, refl, (refl, refl, (refl, refl, (refl, refl, (refl, refl, (refl, refl, tt))))))
 
 pub own_listing_is_no_others : OwnListingIsNoOthers
@@ -86,7 +92,8 @@ unfolding proper_values is_all_proper
 own_listing_is_no_others = (refl, refl, refl)
 
 pub log_of_a_round : LogOfARound
-unfolding log_of log_after notes_of statements_made statements_sent own_ack reading body_reading statement_at place_at positive_at flag_at tx_at report_at value_at txs_at list_at values_at signature_at frame_bytes body_bytes statement_bytes
+unfolding log_of log_after notes_of statements_made statements_sent own_ack reading body_reading statement_at place_at positive_at flag_at
+    tx_at report_at value_at txs_at list_at values_at signature_at frame_bytes body_bytes statement_bytes
 log_of_a_round = (refl, refl)
 
 pub lock_sent_on : LockSentOn
@@ -94,17 +101,44 @@ unfolding held_locks held_values holds
 lock_sent_on = refl
 
 pub round_entries_replay : RoundEntriesReplay
-unfolding Replay ReplaysFrom propose_reply commits_of pool_of pool_after log_of log_after notes_of statements_made statements_sent own_ack MayMake causes reading body_reading statement_at place_at positive_at flag_at tx_at report_at value_at txs_at list_at values_at signature_at frame_bytes body_bytes statement_bytes
+unfolding Replay ReplaysFrom propose_reply commits_of pool_of pool_after log_of log_after notes_of statements_made statements_sent own_ack
+    MayMake causes reading body_reading statement_at place_at positive_at flag_at tx_at report_at value_at txs_at list_at values_at
+    signature_at frame_bytes body_bytes statement_bytes
 round_entries_replay = (
-  (omega arith, record { mute = λ m. absurd (cc m); frames = tt; order = refl; makes = λ h. refl; sends_on = λ h place. absurd (cc place) }),
+  (
+    omega arith,
+    record {
+      mute = λ m. absurd (cc m);
+      frames = tt;
+      order = refl;
+      makes = λ h. refl;
+      sends_on =
+          λ h place. absurd (cc place);
+    },
+  ),
   refl,
   (refl, refl, (refl, refl, (refl, refl, (refl, refl, (refl, refl, tt))))),
 )
 
 pub world_runs : WorldRuns
 unfolding Runs event_of frames_sent submit_reply commits_of pool_of pool_after check_reply check_after accepted reading
-world_runs =
-    (start, (refl, refl), (start, (refl, refl), (start, (refl, refl), (one_entry, inl (reply.Submitted (Ok tt), refl, refl, refl), (world_after, inl (reply.Delivered (Err cause.Malformed), refl, refl, refl), refl)))))
+world_runs = (
+  start,
+  (refl, refl),
+  (
+    start,
+    (refl, refl),
+    (
+      start,
+      (refl, refl),
+      (
+        one_entry,
+        inl (reply.Submitted (Ok tt), refl, refl, refl),
+        (world_after, inl (reply.Delivered (Err cause.Malformed), refl, refl, refl), refl),
+      ),
+    ),
+  ),
+)
   where
     start : World
     start = beginning (0 ∷ 2 ∷ 3 ∷ [])

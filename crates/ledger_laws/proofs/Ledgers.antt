@@ -1,5 +1,6 @@
--- The histories of correct replicas, however far each has come, are those of one ledger.
-use Rattle.std.proofs.Common.{◌≡◌, ℕ, zero, suc, ◌+◌, ◌<◌, ◌≤◌, Bool, true, false, not, cond, inl, inr, List, [], ◌∷◌, ◌++◌, length, take, refl, sym, ap, subst, ◌∙◌, append_assoc, arith}
+-- The histories of correct replicas, however far each has come, have one ledger.
+use Rattle.std.proofs.Common.{◌≡◌, ℕ, zero, suc, ◌+◌, ◌<◌, ◌≤◌, Bool, true, false, not, cond, inl, inr, List, [], ◌∷◌, ◌++◌, length, take}
+use Rattle.std.proofs.Common.{refl, sym, ap, subst, ◌∙◌, append_assoc, arith}
 use Rattle.std.specs.Prelude.{nat_eq, Option, Some, None, Result, Ok, Err, is_some, slice_get}
 use Rattle.std.specs.List.{filter_map, range_with_len}
 use Rattle.std.proofs.Math.Dec.{leb, ltb}
@@ -19,15 +20,18 @@ use Rattle.ledger_model.specs.Values.{Value}
 use Rattle.ledger_model.specs.Rounds.{count_from}
 use Rattle.ledger_model.specs.Locks.{decided_of}
 use Rattle.ledger_model.specs.Rules.{Ring}
-use Rattle.ledger_model.specs.Commits.{executed, decided_at, commits_of, pool_of, is_among, first_fault, submit_reply, block_of, execute_reply}
+use Rattle.ledger_model.specs.Commits.{executed, decided_at, commits_of, pool_of, is_among, first_fault, submit_reply, block_of}
+use Rattle.ledger_model.specs.Commits.{execute_reply}
 use Rattle.ledger_model.specs.Replies.{block_reply, query_reply, check_reply}
 use Rattle.ledger_model.specs.Lawful.{Lawful, FollowsFrom, Follows}
 use Rattle.ledger_model.specs.Groups.{history_of, is_correct, log_if, log_in, AreCorrect, ReadsBacked}
 use Rattle.ledger_model.specs.Worlds.{Begins, IsReplyOn, IsLedger}
 use Rattle.ledger_model.proofs.Counting.{some_of}
 use Rattle.ledger_laws.proofs.Proposals.{decided_common}
-use Rattle.ledger_model.proofs.Staying.{some_value, executed-append, AllDecided, all_decided, length-commits, decision_stays, commits_grow, follows_front, begins_range}
+use Rattle.ledger_model.proofs.Staying.{some_value, executed-append, AllDecided, all_decided, length-commits, decision_stays, commits_grow}
+use Rattle.ledger_model.proofs.Staying.{follows_front, begins_range}
 use Rattle.ledger_laws.proofs.Agreement.{one_decision}
+use Rattle.ledger_model.proofs.Lists.{same_some}
 
 -- of two correct replicas, what the one committed begins what the other did
 pub commits_agree : (config : Config) (ring : Ring) (histories : List History) (r q : ℕ) (m n : History)
@@ -39,14 +43,18 @@ unfolding commits_of
 commits_agree config ring histories r q m n correct backed is_m is_n shorter =
     let all_m = all_decided config ring r (m.entries) (correct.follows r m is_m) in
     let all_n = all_decided config ring q (n.entries) (correct.follows q n is_n) in
-    let le : executed m.entries ≤ executed n.entries = omega (arith, length-commits config ring r (m.entries) all_m, length-commits config ring q (n.entries) all_n) in
+    let le : executed m.entries ≤ executed n.entries =
+    omega (arith, length-commits config ring r (m.entries) all_m, length-commits config ring q (n.entries) all_n) in
     begins_range (decided_at config r m.entries) (decided_at config q n.entries) 1 (executed m.entries) (executed n.entries) le
     (λ i low high.
     let v = some_value (decided_at config r m.entries i) (all_m i low high) in
     let w = some_value (decided_at config q n.entries i) (all_n i low (omega arith)) in
-    let decided_r : decided_of config (log_in config histories i r) ≡ Some (v.0) = ap (λ o. decided_of config (log_if config i r o)) is_m ∙ v.1 in
-    let decided_q : decided_of config (log_in config histories i q) ≡ Some (w.0) = ap (λ o. decided_of config (log_if config i q o)) is_n ∙ w.1 in
-    let same : v.0 ≡ w.0 = one_decision config ring histories correct i (backed i) r q (ap is_some is_m) (ap is_some is_n) (v.0) (w.0) decided_r decided_q in
+    let decided_r : decided_of config (log_in config histories i r) ≡ Some (v.0) =
+    ap (λ o. decided_of config (log_if config i r o)) is_m ∙ v.1 in
+    let decided_q : decided_of config (log_in config histories i q) ≡ Some (w.0) =
+    ap (λ o. decided_of config (log_if config i q o)) is_n ∙ w.1 in
+    let same : v.0 ≡ w.0 = one_decision config ring histories correct i (backed i) r q (ap is_some is_m) (ap is_some is_n) (v.0) (w.0)
+    decided_r decided_q in
     (v.0, (v.1, w.1 ∙ ap Some (sym same))))
 
 -- an element within the beginning
@@ -70,7 +78,8 @@ pub begins_get : (xs ys : List Value) (i : ℕ) → Begins xs ys → i < length 
 begins_get xs ys i b lt = sym (get_take (length xs) i ys lt) ∙ ap (λ zs. slice_get zs i) b
 
 -- the i-th value of the heights from a on, where each has one
-pub get_range : (D : ℕ → Option Value) (a m i : ℕ) → ((j : ℕ) → a ≤ j → j < a + m → is_some (D j) ≡ true) → i < m → slice_get (filter_map D (range_with_len a m)) i ≡ D (a + i)
+pub get_range : (D : ℕ → Option Value) (a m i : ℕ) → ((j : ℕ) → a ≤ j → j < a + m → is_some (D j) ≡ true) → i < m
+    → slice_get (filter_map D (range_with_len a m)) i ≡ D (a + i)
 get_range D a zero i all lt = absurd (omega arith)
 get_range D a (suc m) zero all lt =
     let first = some_value (D a) (all a (omega arith) (omega arith)) in
@@ -83,36 +92,48 @@ get_range D a (suc m) (suc i) all lt =
     simp (first.1) (rest ∙ same)
 
 -- an entry of a lawful history is lawful after those before it
-pub lawful_at : (config : Config) (ring : Ring) (id : ℕ) (front es : List Entry) (i : ℕ) (e : Entry) → FollowsFrom config ring id front es → slice_get es i ≡ Some e
+pub lawful_at : (config : Config) (ring : Ring) (id : ℕ) (front es : List Entry) (i : ℕ) (e : Entry) → FollowsFrom config ring id front es
+    → slice_get es i ≡ Some e
     → Lawful config ring id (front ++ take i es) e.event e.reply × ((rest : List Entry) × (es ≡ (take i es ++ e ∷ []) ++ rest))
 unfolding FollowsFrom
 lawful_at config ring id front [] i e follows at = cc
 lawful_at config ring id front (x ∷ xs) zero e follows at =
-    let same : x ≡ e = cc in
-    (subst (λ es. Lawful config ring id es e.event e.reply) (sym (append-nil front)) (subst (λ (y : Entry). Lawful config ring id front y.event y.reply) same (follows.0)), (xs, ap (λ y. y ∷ xs) same))
+    let same : x ≡ e = cc in (
+      subst (λ es. Lawful config ring id es e.event e.reply) (sym (append-nil front))
+          (subst (λ (y : Entry). Lawful config ring id front y.event y.reply) same (follows.0)),
+      (xs, ap (λ y. y ∷ xs) same),
+    )
 lawful_at config ring id front (x ∷ xs) (suc i) e follows at =
-    let r = lawful_at config ring id (front ++ x ∷ []) xs i e (follows.1) at in
-    (subst (λ es. Lawful config ring id es e.event e.reply) (append_assoc front (x ∷ []) (take i xs)) (r.0), (r.1.0, ap (λ ys. x ∷ ys) (r.1.1)))
+    let r = lawful_at config ring id (front ++ x ∷ []) xs i e (follows.1) at in (
+      subst (λ es. Lawful config ring id es e.event e.reply) (append_assoc front (x ∷ []) (take i xs)) (r.0),
+      (r.1.0, ap (λ ys. x ∷ ys) (r.1.1)),
+    )
 
 -- the code of a refused transaction is the application's
-last_code : (code : ℕ) (b : Bool) (c : ℕ) → ◌≡◌ {A = Result (Unit {0}) SubmitRefusal} (Err (refusal.Rejected code)) (cond b (Err (refusal.Rejected c)) (Ok tt)) → code ≡ c
+last_code : (code : ℕ) (b : Bool) (c : ℕ)
+    → ◌≡◌ {A = Result (Unit {0}) SubmitRefusal} (Err (refusal.Rejected code)) (cond b (Err (refusal.Rejected c)) (Ok tt)) → code ≡ c
 last_code code true c e = cc
 last_code code false c e = cc
 
 first_code_is : (code : ℕ) (b1 b2 b3 b4 : Bool) (c : ℕ)
-    → ◌≡◌ {A = Result (Unit {0}) SubmitRefusal} (Err (refusal.Rejected code)) (first_fault ((b1, refusal.Empty) ∷ (b2, refusal.TooLong) ∷ (b3, refusal.Duplicate) ∷ (b4, refusal.Full) ∷ (not (nat_eq c 0), refusal.Rejected c) ∷ []) tt) → code ≡ c
+    → ◌≡◌ {A = Result (Unit {0}) SubmitRefusal} (Err (refusal.Rejected code))
+    (first_fault ((b1, refusal.Empty) ∷ (b2, refusal.TooLong) ∷ (b3, refusal.Duplicate) ∷ (b4, refusal.Full)
+    ∷ (not (nat_eq c 0), refusal.Rejected c) ∷ []) tt) → code ≡ c
 first_code_is code true b2 b3 b4 c e = cc
 first_code_is code false true b3 b4 c e = cc
 first_code_is code false false true b4 c e = cc
 first_code_is code false false false true c e = cc
 first_code_is code false false false false c e = last_code code (not (nat_eq c 0)) c e
 
-pub rejected_code : (config : Config) (id : ℕ) (entries : List Entry) (tx : List ℕ) (code : ℕ) → Err (refusal.Rejected code) ≡ submit_reply config id entries tx → code ≡ check_reply config.kind (commits_of config id entries) tx
+pub rejected_code : (config : Config) (id : ℕ) (entries : List Entry) (tx : List ℕ) (code : ℕ)
+    → Err (refusal.Rejected code) ≡ submit_reply config id entries tx → code ≡ check_reply config.kind (commits_of config id entries) tx
 unfolding submit_reply
 rejected_code config id entries tx code e =
-    first_code_is code (nat_eq (length tx) 0) (ltb 64 (length tx)) (is_among (pool_of config id entries) tx) (leb 1024 (length (pool_of config id entries))) (check_reply config.kind (commits_of config id entries) tx) e
+    first_code_is code (nat_eq (length tx) 0) (ltb 64 (length tx)) (is_among (pool_of config id entries) tx)
+    (leb 1024 (length (pool_of config id entries))) (check_reply config.kind (commits_of config id entries) tx) e
 
-pub ran_block : (config : Config) (batches : List Value) (o : Option Value) (b : BlockResult) → Ok b ≡ block_of config batches o → (v : Value) × ((o ≡ Some v) × (b ≡ block_reply config.kind batches v))
+pub ran_block : (config : Config) (batches : List Value) (o : Option Value) (b : BlockResult) → Ok b ≡ block_of config batches o
+    → (v : Value) × ((o ≡ Some v) × (b ≡ block_reply config.kind batches v))
 ran_block config batches None b e = cc
 ran_block config batches (Some v) b e = (v, (refl, cc))
 
@@ -147,37 +168,46 @@ module _ (config : Config) (ring : Ring) (id : ℕ) (entries : List Entry) (foll
   taken_follows i e p = follows_front config ring id [] (take i entries) (e ∷ []) (front_follows i e p)
 
   -- the i-th batch that was committed is the decided one of its height
-  pub get_commits : (es : List Entry) (i : ℕ) → AllDecided config ring id es → i < executed es → slice_get (commits_of config id es) i ≡ decided_at config id es (i + 1)
+  pub get_commits : (es : List Entry) (i : ℕ) → AllDecided config ring id es → i < executed es
+      → slice_get (commits_of config id es) i ≡ decided_at config id es (i + 1)
   unfolding commits_of
   get_commits es i all lt = get_range (decided_at config id es) 1 (executed es) i all lt ∙ ap (decided_at config id es) (omega arith)
 
   -- each reply of the application is that on what was committed when it was given
-  pub reply_on : (ledger : List Value) → Begins (commits_of config id entries) ledger → (i : ℕ) (e : Event) (r : Reply) → At i (record { event = e; reply = r })
+  pub reply_on : (ledger : List Value) → Begins (commits_of config id entries) ledger → (i : ℕ) (e : Event) (r : Reply)
+      → At i (record { event = e; reply = r })
       → IsReplyOn config ledger (length (commits_of config id (take i entries))) e r
   unfolding execute_reply
   reply_on ledger begins i event.Execute (reply.Executed (Ok b)) p =
       let entry : Entry = record { event = event.Execute; reply = reply.Executed (Ok b) } in
       let front : List Entry = take i entries in
-      let ran = ran_block config (commits_of config id front) (decided_at config id front (length (commits_of config id front) + 1)) b (p.lawful) in
+      let ran = ran_block config (commits_of config id front) (decided_at config id front (length (commits_of config id front) + 1)) b
+      (p.lawful) in
       let v = ran.0 in
-      let all : AllDecided config ring id (front ++ entry ∷ []) = all_decided config ring id (front ++ entry ∷ []) (front_follows i entry p) in
+      let all : AllDecided config ring id (front ++ entry ∷ []) =
+      all_decided config ring id (front ++ entry ∷ []) (front_follows i entry p) in
       let size = length-commits config ring id front (all_decided config ring id front (taken_follows i entry p)) in
       let one = executed-append front (entry ∷ []) in
       let at_end : slice_get (commits_of config id (front ++ entry ∷ [])) (length (commits_of config id front)) ≡ Some v =
       get_commits (front ++ entry ∷ []) (length (commits_of config id front)) all (omega (arith, size, one))
       ∙ decision_stays config id (length (commits_of config id front) + 1) front (entry ∷ []) v (ran.1.0) in
-      let shorter : length (commits_of config id front) < length (commits_of config id (front ++ entry ∷ [])) = omega (arith, size, one, length-commits config ring id (front ++ entry ∷ []) all) in
+      let shorter : length (commits_of config id front) < length (commits_of config id (front ++ entry ∷ [])) =
+      omega (arith, size, one, length-commits config ring id (front ++ entry ∷ []) all) in
       let there = begins_get (commits_of config id (front ++ entry ∷ [])) ledger (length (commits_of config id front))
-      (begins_trans (commits_of config id (front ++ entry ∷ [])) (commits_of config id entries) ledger (after_entry i entry p) begins) shorter ∙ at_end in
-      let same : take (length (commits_of config id front)) ledger ≡ commits_of config id front = begins_trans (commits_of config id front) (commits_of config id entries) ledger (before_entry i entry p) begins in
+      (begins_trans (commits_of config id (front ++ entry ∷ [])) (commits_of config id entries) ledger (after_entry i entry p) begins)
+      shorter ∙ at_end in
+      let same : take (length (commits_of config id front)) ledger ≡ commits_of config id front =
+      begins_trans (commits_of config id front) (commits_of config id entries) ledger (before_entry i entry p) begins in
       (v, there, subst (λ vs. b ≡ block_reply config.kind vs v) (sym same) (ran.1.1))
   reply_on ledger begins i (event.Query key h) (reply.Queried r) p =
       let entry : Entry = record { event = event.Query key h; reply = reply.Queried r } in
-      let same = begins_trans (commits_of config id (take i entries)) (commits_of config id entries) ledger (before_entry i entry p) begins in
+      let same = begins_trans (commits_of config id (take i entries)) (commits_of config id entries) ledger (before_entry i entry p) begins
+      in
       subst (λ vs. r ≡ query_reply config.kind vs key h) (sym same) (p.lawful)
   reply_on ledger begins i (event.Submit tx) (reply.Submitted (Err (refusal.Rejected code))) p =
       let entry : Entry = record { event = event.Submit tx; reply = reply.Submitted (Err (refusal.Rejected code)) } in
-      let same = begins_trans (commits_of config id (take i entries)) (commits_of config id entries) ledger (before_entry i entry p) begins in
+      let same = begins_trans (commits_of config id (take i entries)) (commits_of config id entries) ledger (before_entry i entry p) begins
+      in
       subst (λ vs. code ≡ check_reply config.kind vs tx) (sym same) (rejected_code config id (take i entries) tx code (p.lawful))
   reply_on ledger begins i e r p = tt
 
@@ -186,23 +216,27 @@ pub record Longest (config : Config) (histories : List History) : Type 0 where
   pub replica : ℕ
   pub history : History
   pub is : history_of histories replica ≡ Some history
-  pub most : (q : ℕ) (m : History) → history_of histories q ≡ Some m → length (commits_of config q m.entries) ≤ length (commits_of config replica history.entries)
+  pub most : (q : ℕ) (m : History) → history_of histories q ≡ Some m
+      → length (commits_of config q m.entries) ≤ length (commits_of config replica history.entries)
 
 -- among the replicas below n and one other, one committed most
 pub record LongestBelow (config : Config) (histories : List History) (n : ℕ) : Type 0 where
   pub replica : ℕ
   pub history : History
   pub is : history_of histories replica ≡ Some history
-  pub most : (q : ℕ) (m : History) → q < n → history_of histories q ≡ Some m → length (commits_of config q m.entries) ≤ length (commits_of config replica history.entries)
+  pub most : (q : ℕ) (m : History) → q < n → history_of histories q ≡ Some m
+      → length (commits_of config q m.entries) ≤ length (commits_of config replica history.entries)
 
-longer : (config : Config) (histories : List History) (n : ℕ) → LongestBelow config histories n → (o : Option History) → history_of histories n ≡ o → LongestBelow config histories (n + 1)
+longer : (config : Config) (histories : List History) (n : ℕ) → LongestBelow config histories n → (o : Option History)
+    → history_of histories n ≡ o → LongestBelow config histories (n + 1)
 longer config histories n best None is = record {
   replica = best.replica;
   history = best.history;
   is = best.is;
   most = λ q m lt at. elim (cases_lt q n) [
     | inl before ↦ best.most q m before at
-    | inr new ↦ absurd (let same : q ≡ n = omega arith in let f : Some m ≡ None = sym at ∙ ap (history_of histories) same ∙ is in no_some m f)
+    | inr new ↦ absurd (let same : q ≡ n = omega arith in let f : Some m ≡ None =
+        sym at ∙ ap (history_of histories) same ∙ is in no_some m f)
   ];
 }
   where
@@ -230,19 +264,23 @@ longer config histories n best (Some new) is =
       }
     ]
   where
-    newest : (q : ℕ) (m : History) → q ≡ n → history_of histories q ≡ Some m → length (commits_of config q m.entries) ≤ length (commits_of config n new.entries)
+    newest : (q : ℕ) (m : History) → q ≡ n → history_of histories q ≡ Some m
+        → length (commits_of config q m.entries) ≤ length (commits_of config n new.entries)
     newest q m same at =
         let here : history_of histories n ≡ Some m = ap (history_of histories) (sym same) ∙ at in
         let one : m ≡ new = same_some m new (sym here ∙ is) in
-        omega (arith, ap (λ (x : History). length (commits_of config q x.entries)) one, ap (λ x. length (commits_of config x new.entries)) same)
-      where
-        same_some : (x y : History) → Some x ≡ Some y → x ≡ y
-        same_some x y e = cc
+        omega (
+          arith,
+          ap (λ (x : History). length (commits_of config q x.entries)) one,
+          ap (λ x. length (commits_of config x new.entries))
+              same,
+        )
 
 longest_below : (config : Config) (histories : List History) → LongestBelow config histories 0 → (n : ℕ) → LongestBelow config histories n
 longest_below config histories first zero = first
 longest_below config histories first (suc n) =
-    subst (LongestBelow config histories) (omega arith) (longer config histories n (longest_below config histories first n) (history_of histories n) refl)
+    subst (LongestBelow config histories) (omega arith)
+    (longer config histories n (longest_below config histories first n) (history_of histories n) refl)
 
 pub count_all : (a n : ℕ) → count_from a n (λ r. true) ≡ n
 count_all a zero = refl
@@ -255,9 +293,11 @@ some_history None is = cc
 pub longest : (config : Config) (ring : Ring) (histories : List History) → AreCorrect config ring histories → Longest config histories
 longest config ring histories correct =
     let few = config.enough in
-    let one = some_of (λ r. true) (is_correct histories) (config.replicas) (config.faults) (omega (arith, count_all 0 (config.replicas))) (correct.enough) in
+    let one = some_of (λ r. true) (is_correct histories) (config.replicas) (config.faults) (omega (arith, count_all 0 (config.replicas)))
+    (correct.enough) in
     let m = some_history (history_of histories (one.0)) (one.1.0) in
-    let first : LongestBelow config histories 0 = record { replica = one.0; history = m.0; is = m.1; most = λ q n lt at. absurd (omega arith) } in
+    let first : LongestBelow config histories 0 =
+    record { replica = one.0; history = m.0; is = m.1; most = λ q n lt at. absurd (omega arith) } in
     let best = longest_below config histories first (config.replicas) in
     record {
       replica = best.replica;
@@ -267,7 +307,8 @@ longest config ring histories correct =
     }
 
 -- the histories of correct replicas are those of one ledger
-pub one_ledger : (config : Config) (ring : Ring) (histories : List History) → AreCorrect config ring histories → ((h : ℕ) → ReadsBacked config histories h) → (ledger : List Value) × IsLedger config histories ledger
+pub one_ledger : (config : Config) (ring : Ring) (histories : List History) → AreCorrect config ring histories
+    → ((h : ℕ) → ReadsBacked config histories h) → (ledger : List Value) × IsLedger config histories ledger
 one_ledger config ring histories correct backed =
     let best = longest config ring histories correct in
     let r = best.replica in
@@ -281,12 +322,14 @@ one_ledger config ring histories correct backed =
         each = each;
         replies = λ q i n e at there.
             let follows = correct.follows q n at in
-            reply_on config ring q (n.entries) follows ledger (each q n at) i (e.event) (e.reply) (entry_at config ring q (n.entries) follows i e there);
+            reply_on config ring q (n.entries) follows ledger (each q n at) i (e.event) (e.reply)
+            (entry_at config ring q (n.entries) follows i e there);
         common = λ h v w common there.
             let follows = correct.follows r m (best.is) in
             let all = all_decided config ring r (m.entries) follows in
             let lt : h < executed m.entries = omega (arith, get_lt ledger h w there, length-commits config ring r (m.entries) all) in
             let decided = sym (get_commits config ring r (m.entries) follows (m.entries) h all lt) ∙ there in
-            decided_common config ring histories correct (h + 1) (backed (h + 1)) v common r (ap is_some (best.is)) w (ap (λ o. decided_of config (log_if config (h + 1) r o)) (best.is) ∙ decided);
+            decided_common config ring histories correct (h + 1) (backed (h + 1)) v common r (ap is_some (best.is)) w
+            (ap (λ o. decided_of config (log_if config (h + 1) r o)) (best.is) ∙ decided);
       },
     )

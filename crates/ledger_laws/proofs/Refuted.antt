@@ -1,5 +1,6 @@
 -- Histories that no ledger explains.
-use Rattle.std.proofs.Common.{◌≡◌, ℕ, zero, suc, ◌+◌, true, false, inl, inr, List, [], ◌∷◌, ◌++◌, length, take, refl, sym, ap, subst, ◌∙◌, arith}
+use Rattle.std.proofs.Common.{◌≡◌, ℕ, zero, suc, ◌+◌, true, false, inl, inr, List, [], ◌∷◌, ◌++◌, length, take, refl, sym, ap, subst, ◌∙◌}
+use Rattle.std.proofs.Common.{arith}
 use Rattle.std.proofs.lemmas.Bool.{cases_Bool, eqb-true}
 use Rattle.std.specs.Prelude.{nat_eq, Some, Result, is_some, slice_get}
 use Rattle.ledger_model.specs.declared.config.AppKind.TheVariants.{KvStore}
@@ -16,20 +17,22 @@ use Rattle.ledger_model.specs.declared.history.Entry.{Entry}
 use Rattle.ledger_model.specs.Locks.{decided_of, held_values, holds}
 use Rattle.ledger_model.specs.Logs.{log_of, log_after, notes_of, statements_made, statements_sent, own_ack}
 use Rattle.ledger_model.specs.Spelling.{statement_bytes, body_bytes, frame_bytes}
-use Rattle.ledger_model.specs.Reading.{reading, body_reading, statement_at, report_at, lock_at, ack_at, proof_at, signed_at, place_at, positive_at, flag_at, value_at, txs_at, tx_at, list_at, values_at, signature_at}
+use Rattle.ledger_model.specs.Reading.{reading, body_reading, statement_at, report_at, lock_at, ack_at, proof_at, signed_at, place_at}
+use Rattle.ledger_model.specs.Reading.{positive_at, flag_at, value_at, txs_at, tx_at, list_at, values_at, signature_at}
 use Rattle.ledger_model.specs.Timelines.{AreReplicas}
 use Rattle.ledger_model.specs.declared.config.Config.{Config}
 use Rattle.ledger_model.specs.Worlds.{World, world_at, Refines, Begins, IsReplyOn, IsLedger}
 use Rattle.ledger_laws.specs.Examples.{four, a, b}
-use Rattle.ledger_laws.specs.Vacuity.{NoLedger, NoRunWithoutLedger, NoRunThatRewrites, LedgerIsUnique, forked, forked_world, ForkHasNoLedger, ForkExample, WrongBlockHasNoLedger, WrongQueryHasNoLedger, WrongCodeHasNoLedger, UnproposedBatchHasNoLedger, UnproposedBatchExample, AgreementHasLedger, proposes, commits, runs_block, answers_query, rejects, first_result, three}
+use Rattle.ledger_laws.specs.Vacuity.{NoLedger, NoRunWithoutLedger, NoRunThatRewrites, LedgerIsUnique, forked, forked_world}
+use Rattle.ledger_laws.specs.Vacuity.{ForkHasNoLedger, ForkExample, WrongBlockHasNoLedger, WrongQueryHasNoLedger, WrongCodeHasNoLedger}
+use Rattle.ledger_laws.specs.Vacuity.{UnproposedBatchHasNoLedger, UnproposedBatchExample, AgreementHasLedger, proposes, commits, runs_block}
+use Rattle.ledger_laws.specs.Vacuity.{answers_query, rejects, first_result, three}
 use Rattle.std.proofs.Math.Seq.{take-length}
 use Rattle.std.proofs.lemmas.List.{length-take}
 use Rattle.ledger_laws.proofs.Backing.{correct_at}
 use Rattle.ledger_laws.proofs.WorldRuns.{runs_refine}
 use Rattle.ledger_laws.proofs.Ledgers.{begins_get, get_lt}
-
-same_some : {X : Type 0} → (x y : X) → Some x ≡ Some y → x ≡ y
-same_some x y e = cc
+use Rattle.ledger_model.proofs.Lists.{same_some}
 
 -- what a correct replica committed is at the same place of the ledger
 committed_in : (xs ledger : List Value) (i : ℕ) (v : Value) → Begins xs ledger → slice_get xs i ≡ Some v → slice_get ledger i ≡ Some v
@@ -48,15 +51,21 @@ unproposed_batch_has_no_ledger config histories r h m v w found at_w proposed di
 -- ---- what the histories commit
 
 commits_a : (result : BlockResult) → commits_of (four KvStore) 1 (commits a a result) ≡ a ∷ []
-unfolding commits_of decided_of log_of log_after notes_of statements_made statements_sent own_ack held_values holds statement_bytes body_bytes frame_bytes reading body_reading statement_at report_at lock_at ack_at proof_at signed_at place_at positive_at flag_at value_at txs_at tx_at list_at values_at signature_at
+unfolding commits_of decided_of log_of log_after notes_of statements_made statements_sent own_ack held_values holds statement_bytes
+    body_bytes frame_bytes reading body_reading statement_at report_at lock_at ack_at proof_at signed_at place_at positive_at flag_at
+    value_at txs_at tx_at list_at values_at signature_at
 commits_a result = refl
 
 commits_b : (result : BlockResult) → commits_of (four KvStore) 2 (commits b b result) ≡ b ∷ []
-unfolding commits_of decided_of log_of log_after notes_of statements_made statements_sent own_ack held_values holds statement_bytes body_bytes frame_bytes reading body_reading statement_at report_at lock_at ack_at proof_at signed_at place_at positive_at flag_at value_at txs_at tx_at list_at values_at signature_at
+unfolding commits_of decided_of log_of log_after notes_of statements_made statements_sent own_ack held_values holds statement_bytes
+    body_bytes frame_bytes reading body_reading statement_at report_at lock_at ack_at proof_at signed_at place_at positive_at flag_at
+    value_at txs_at tx_at list_at values_at signature_at
 commits_b result = refl
 
 commits_other : (result : BlockResult) → commits_of (four KvStore) 1 (commits a b result) ≡ b ∷ []
-unfolding commits_of decided_of log_of log_after notes_of statements_made statements_sent own_ack held_values holds statement_bytes body_bytes frame_bytes reading body_reading statement_at report_at lock_at ack_at proof_at signed_at place_at positive_at flag_at value_at txs_at tx_at list_at values_at signature_at
+unfolding commits_of decided_of log_of log_after notes_of statements_made statements_sent own_ack held_values holds statement_bytes
+    body_bytes frame_bytes reading body_reading statement_at report_at lock_at ack_at proof_at signed_at place_at positive_at flag_at
+    value_at txs_at tx_at list_at values_at signature_at
 commits_other result = refl
 
 differ : a ≡ b → ⊥
@@ -87,29 +96,37 @@ replica_of_three of_0 of_1 of_2 r is =
 
 pub no_run_without_ledger : NoRunWithoutLedger
 no_run_without_ledger config w now none refines =
-    none (refines.ledger (length w.order)) (subst (λ (v : World). IsLedger config v.histories (refines.ledger (length w.order))) now (refines.is_ledger (length w.order) (omega arith)))
+    none (refines.ledger (length w.order))
+    (subst (λ (v : World). IsLedger config v.histories (refines.ledger (length w.order))) now
+    (refines.is_ledger (length w.order) (omega arith)))
 
 pub ledger_is_unique : LedgerIsUnique
 ledger_is_unique config histories ledger other is also =
     let first : Begins ledger other = begins config histories ledger other is also in
     let second : Begins other ledger = begins config histories other ledger also is in
-    let size : length ledger ≡ length other = omega (arith, ap length first, ap length second, length-take (length ledger) other, length-take (length other) ledger) in
+    let size : length ledger ≡ length other =
+    omega (arith, ap length first, ap length second, length-take (length ledger) other, length-take (length other) ledger) in
     sym first ∙ ap (λ n. take n other) size ∙ take-length other
   where
-    begins : (config : Config) (histories : List History) (xs ys : List Value) → IsLedger config histories xs → IsLedger config histories ys → Begins xs ys
+    begins : (config : Config) (histories : List History) (xs ys : List Value) → IsLedger config histories xs
+        → IsLedger config histories ys → Begins xs ys
     begins config histories xs ys is also =
         let from = is.some in
         subst (λ vs. Begins vs ys) (sym (from.1.1.1)) (also.each (from.0) (from.1.0) (from.1.1.0))
 
 pub no_run_that_rewrites : NoRunThatRewrites
 no_run_that_rewrites config w n ledger later lt is_now is_later rewrites refines =
-    let now : refines.ledger n ≡ ledger = ledger_is_unique config (world_at w n).histories (refines.ledger n) ledger (refines.is_ledger n (omega (arith, lt))) is_now in
-    let next : refines.ledger (n + 1) ≡ later = ledger_is_unique config (world_at w (n + 1)).histories (refines.ledger (n + 1)) later (refines.is_ledger (n + 1) (omega (arith, lt))) is_later in
+    let now : refines.ledger n ≡ ledger =
+    ledger_is_unique config (world_at w n).histories (refines.ledger n) ledger (refines.is_ledger n (omega (arith, lt))) is_now in
+    let next : refines.ledger (n + 1) ≡ later =
+    ledger_is_unique config (world_at w (n + 1)).histories (refines.ledger (n + 1)) later
+    (refines.is_ledger (n + 1) (omega (arith, lt))) is_later in
     rewrites (subst (Begins ledger) next (subst (λ vs. Begins vs (refines.ledger (n + 1))) now (refines.grows n lt)))
 
 fork_has_none : NoLedger (four KvStore) forked
 fork_has_none =
-    fork_has_no_ledger (four KvStore) forked 1 2 0 (record { replica = 1; entries = commits a a (first_result a) }) (record { replica = 2; entries = commits b b (first_result b) }) a b refl refl
+    fork_has_no_ledger (four KvStore) forked 1 2 0 (record { replica = 1; entries = commits a a (first_result a) })
+    (record { replica = 2; entries = commits b b (first_result b) }) a b refl refl
     (ap (λ vs. slice_get vs 0) (commits_a (first_result a))) (ap (λ vs. slice_get vs 0) (commits_b (first_result b))) differ
 
 fork_is_no_run : Refines (four KvStore) forked_world → ⊥
@@ -118,7 +135,12 @@ fork_is_no_run refines = no_run_without_ledger (four KvStore) forked_world refl 
 
 three_replicas : AreReplicas (four KvStore) (0 ∷ 1 ∷ 2 ∷ [])
 three_replicas = record {
-  below = λ r is. elim (replica_of_three [] [] [] r (correct_at (0 ∷ 1 ∷ 2 ∷ []) [] r ∙ is)) [ Is_0 at ↦ omega (arith, at) | Is_1 at ↦ omega (arith, at) | Is_2 at ↦ omega (arith, at) ];
+  below = λ r is. elim (replica_of_three [] [] [] r (correct_at (0 ∷ 1 ∷ 2 ∷ []) [] r ∙ is)) [
+    | Is_0 at ↦ omega (arith, at)
+    | Is_1 at ↦
+        omega (arith, at)
+    | Is_2 at ↦ omega (arith, at)
+  ];
   enough = omega arith;
 }
 
@@ -128,7 +150,8 @@ fork_example = (
   commits_b (first_result b),
   fork_has_none,
   fork_is_no_run,
-  λ ring steps answers runs unforged. fork_is_no_run (runs_refine (four KvStore) ring (0 ∷ 1 ∷ 2 ∷ []) steps answers forked_world three_replicas runs unforged),
+  λ ring steps answers runs unforged. fork_is_no_run
+      (runs_refine (four KvStore) ring (0 ∷ 1 ∷ 2 ∷ []) steps answers forked_world three_replicas runs unforged),
 )
 
 -- ---- replies
@@ -138,12 +161,15 @@ unfolding commits_of
 wrong_block_has_no_ledger result wrong ledger is =
     let ran = is.replies 1 8 (record { replica = 1; entries = commits a a result }) (runs_block result) refl refl in
     let there : slice_get ledger 0 ≡ Some a =
-    committed_in (commits_of (four KvStore) 1 (commits a a result)) ledger 0 a (is.each 1 (record { replica = 1; entries = commits a a result }) refl) (ap (λ vs. slice_get vs 0) (commits_a result)) in
+    committed_in (commits_of (four KvStore) 1 (commits a a result)) ledger 0 a
+    (is.each 1 (record { replica = 1; entries = commits a a result }) refl) (ap (λ vs. slice_get vs 0) (commits_a result)) in
     let same : ran.0 ≡ a = same_some (ran.0) a (sym (ran.1) ∙ there) in
     wrong (ran.2 ∙ ap (block_reply KvStore []) same)
 
 pub wrong_query_has_no_ledger : WrongQueryHasNoLedger
-unfolding commits_of decided_of log_of log_after notes_of statements_made statements_sent own_ack held_values holds statement_bytes body_bytes frame_bytes reading body_reading statement_at report_at lock_at ack_at proof_at signed_at place_at positive_at flag_at value_at txs_at tx_at list_at values_at signature_at
+unfolding commits_of decided_of log_of log_after notes_of statements_made statements_sent own_ack held_values holds statement_bytes
+    body_bytes frame_bytes reading body_reading statement_at report_at lock_at ack_at proof_at signed_at place_at positive_at flag_at
+    value_at txs_at tx_at list_at values_at signature_at
 wrong_query_has_no_ledger key given wrong ledger is =
     let m : History = record { replica = 1; entries = commits a a (first_result a) ++ answers_query key given ∷ [] } in
     let on : given ≡ query_reply KvStore (take 1 ledger) key 0 = is.replies 1 9 m (answers_query key given) refl refl in
@@ -152,7 +178,8 @@ wrong_query_has_no_ledger key given wrong ledger is =
 
 pub wrong_code_has_no_ledger : WrongCodeHasNoLedger
 unfolding commits_of
-wrong_code_has_no_ledger config tx code wrong ledger is = wrong (is.replies 2 0 (record { replica = 2; entries = rejects tx code ∷ [] }) (rejects tx code) refl refl)
+wrong_code_has_no_ledger config tx code wrong ledger is =
+    wrong (is.replies 2 0 (record { replica = 2; entries = rejects tx code ∷ [] }) (rejects tx code) refl refl)
 
 -- ---- another value than the common proposal
 
@@ -177,11 +204,16 @@ unproposed_batch_example = (
 -- ---- without a fault
 
 commits_too : (result : BlockResult) → commits_of (four KvStore) 2 (commits a a result) ≡ a ∷ []
-unfolding commits_of decided_of log_of log_after notes_of statements_made statements_sent own_ack held_values holds statement_bytes body_bytes frame_bytes reading body_reading statement_at report_at lock_at ack_at proof_at signed_at place_at positive_at flag_at value_at txs_at tx_at list_at values_at signature_at
+unfolding commits_of decided_of log_of log_after notes_of statements_made statements_sent own_ack held_values holds statement_bytes
+    body_bytes frame_bytes reading body_reading statement_at report_at lock_at ack_at proof_at signed_at place_at positive_at flag_at
+    value_at txs_at tx_at list_at values_at signature_at
 commits_too result = refl
 
-commits_asked : (key : List ℕ) (given : Result QueryAnswer NotHeld) → commits_of (four KvStore) 1 (commits a a (first_result a) ++ answers_query key given ∷ []) ≡ a ∷ []
-unfolding commits_of decided_of log_of log_after notes_of statements_made statements_sent own_ack held_values holds statement_bytes body_bytes frame_bytes reading body_reading statement_at report_at lock_at ack_at proof_at signed_at place_at positive_at flag_at value_at txs_at tx_at list_at values_at signature_at
+commits_asked : (key : List ℕ) (given : Result QueryAnswer NotHeld)
+    → commits_of (four KvStore) 1 (commits a a (first_result a) ++ answers_query key given ∷ []) ≡ a ∷ []
+unfolding commits_of decided_of log_of log_after notes_of statements_made statements_sent own_ack held_values holds statement_bytes
+    body_bytes frame_bytes reading body_reading statement_at report_at lock_at ack_at proof_at signed_at place_at positive_at flag_at
+    value_at txs_at tx_at list_at values_at signature_at
 commits_asked key given = refl
 
 module _ (key : List ℕ) where
@@ -196,18 +228,23 @@ module _ (key : List ℕ) where
   committed r entries i = length (commits_of (four KvStore) r (take i entries))
 
   -- the reply of the entry at a place is that of the application
-  same_reply : (r : ℕ) (entries : List Entry) (i : ℕ) (x e : Entry) → Some x ≡ Some e → IsReplyOn (four KvStore) (a ∷ []) (committed r entries i) x.event x.reply
+  same_reply : (r : ℕ) (entries : List Entry) (i : ℕ) (x e : Entry) → Some x ≡ Some e
+      → IsReplyOn (four KvStore) (a ∷ []) (committed r entries i) x.event x.reply
       → IsReplyOn (four KvStore) (a ∷ []) (committed r entries i) e.event e.reply
-  same_reply r entries i x e at is = subst (λ (y : Entry). IsReplyOn (four KvStore) (a ∷ []) (committed r entries i) y.event y.reply) (same_some x e at) is
+  same_reply r entries i x e at is =
+      subst (λ (y : Entry). IsReplyOn (four KvStore) (a ∷ []) (committed r entries i) y.event y.reply) (same_some x e at) is
 
   abbrev Replies : ℕ → List Entry → Type 0
-  Replies r entries = (i : ℕ) (e : Entry) → slice_get entries i ≡ Some e → IsReplyOn (four KvStore) (a ∷ []) (committed r entries i) e.event e.reply
+  Replies r entries = (i : ℕ) (e : Entry) → slice_get entries i ≡ Some e
+      → IsReplyOn (four KvStore) (a ∷ []) (committed r entries i) e.event e.reply
 
   replies_0 : Replies 0 []
   replies_0 i e at = cc
 
   replies_1 : Replies 1 asked
-  unfolding commits_of decided_of log_of log_after notes_of statements_made statements_sent own_ack held_values holds statement_bytes body_bytes frame_bytes reading body_reading statement_at report_at lock_at ack_at proof_at signed_at place_at positive_at flag_at value_at txs_at tx_at list_at values_at signature_at
+  unfolding commits_of decided_of log_of log_after notes_of statements_made statements_sent own_ack held_values holds statement_bytes
+      body_bytes frame_bytes reading body_reading statement_at report_at lock_at ack_at proof_at signed_at place_at positive_at flag_at
+      value_at txs_at tx_at list_at values_at signature_at
   replies_1 zero e at = same_reply 1 asked 0 _ e at tt
   replies_1 (suc zero) e at = same_reply 1 asked 1 _ e at tt
   replies_1 (suc (suc zero)) e at = same_reply 1 asked 2 _ e at tt
@@ -234,7 +271,8 @@ module _ (key : List ℕ) where
   replies_2 (suc (suc (suc (suc (suc (suc (suc (suc (suc i))))))))) e at = cc
 
   -- what is true of each of the three histories is true of any of them
-  each_of : (P : ℕ → History → Type 0) → P 0 (record { replica = 0; entries = [] }) → P 1 (record { replica = 1; entries = asked }) → P 2 (record { replica = 2; entries = commits a a (first_result a) })
+  each_of : (P : ℕ → History → Type 0) → P 0 (record { replica = 0; entries = [] }) → P 1 (record { replica = 1; entries = asked })
+      → P 2 (record { replica = 2; entries = commits a a (first_result a) })
       → (r : ℕ) (m : History) → history_of agreed r ≡ Some m → P r m
   each_of P at_0 at_1 at_2 r m found = elim (replica_of_three _ _ _ r (ap is_some found)) [
     | Is_0 at ↦ subst (λ x. P x m) at (subst (P 0) (same_some _ m (subst (λ x. history_of agreed x ≡ Some m) (sym at) found)) at_0)

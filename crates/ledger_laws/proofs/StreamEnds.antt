@@ -1,5 +1,6 @@
--- Each stream of bytes is frames and then less than one, or breaks off behind them.
-use Rattle.std.proofs.Common.{◌≡◌, ℕ, zero, suc, ◌+◌, ◌≤◌, ◌⊎◌, inl, inr, List, [], ◌∷◌, ◌++◌, length, take, drop, Option, Some, None, refl, sym, ap, ◌∙◌, append_assoc, arith}
+-- Each stream of bytes consists of frames, followed by less than a whole frame or by a break.
+use Rattle.std.proofs.Common.{◌≡◌, ℕ, zero, suc, ◌+◌, ◌≤◌, ◌⊎◌, inl, inr, List, [], ◌∷◌, ◌++◌, length, take, drop, Option, Some, None, refl}
+use Rattle.std.proofs.Common.{sym, ap, ◌∙◌, append_assoc, arith}
 use Rattle.std.specs.List.{flat_map}
 use Rattle.std.specs.Int.{w32, to_be_bytes}
 use Rattle.std.proofs.lemmas.Bool.{cases_lt}
@@ -11,10 +12,13 @@ use Rattle.ledger_model.specs.Streams.{announced}
 use Rattle.ledger_model.specs.GrammarLaws.{IsBytes, Ends, EveryStreamEnds}
 use Rattle.ledger_model.proofs.Readers.{IsBytes-take, IsBytes-drop, wide32}
 use Rattle.ledger_model.proofs.FrameReading.{body_reading-spells}
+use Rattle.ledger_model.specs.Limits.{max_body_len}
 
 -- a body that is there in whole and is read is that of a frame
-pub frame_first : (bytes : List ℕ) (s : SignedStatement) → IsBytes bytes → 4 + announced bytes ≤ length bytes → announced bytes ≤ 150000
-    → body_reading (take (announced bytes) (drop 4 bytes)) ≡ Some s → IsFrame s × (bytes ≡ frame_bytes s ++ drop (announced bytes) (drop 4 bytes))
+pub frame_first : (bytes : List ℕ) (s : SignedStatement) → IsBytes bytes → 4 + announced bytes ≤ length bytes
+    → announced bytes ≤ max_body_len
+    → body_reading (take (announced bytes) (drop 4 bytes)) ≡ Some s
+    → IsFrame s × (bytes ≡ frame_bytes s ++ drop (announced bytes) (drop 4 bytes))
 unfolding frame_bytes
 frame_first bytes s fits whole short e =
     let n = announced bytes in
@@ -23,7 +27,8 @@ frame_first bytes s fits whole short e =
     let is = body_reading-spells body s (IsBytes-take n (drop 4 bytes) (IsBytes-drop 4 bytes fits)) e in
     let len : length body ≡ n = omega (arith, length-take n (drop 4 bytes), length-drop 4 bytes) in
     let same : length (body_bytes s) ≡ n = ap length (sym is.2) ∙ len in
-    let lead : to_be_bytes w32 n ≡ take 4 bytes = wide32.back (take 4 bytes) (omega (arith, length-take 4 bytes)) (IsBytes-take 4 bytes fits) in
+    let lead : to_be_bytes w32 n ≡ take 4 bytes =
+    wide32.back (take 4 bytes) (omega (arith, length-take 4 bytes)) (IsBytes-take 4 bytes fits) in
     let parts : bytes ≡ (to_be_bytes w32 (length (body_bytes s)) ++ body_bytes s) ++ rest =
     sym (take-append-drop 4 bytes) ∙ ap (λ (t : List ℕ). take 4 bytes ++ t) (sym (take-append-drop n (drop 4 bytes)))
     ∙ ap (λ (t : List ℕ). t ++ (body ++ rest)) (sym lead ∙ ap (to_be_bytes w32) (sym same))
@@ -31,14 +36,18 @@ frame_first bytes s fits whole short e =
     ∙ sym (append_assoc (to_be_bytes w32 (length (body_bytes s))) (body_bytes s) rest) in
     (record { statement = is.0; signature = is.1; short = omega arith }, parts)
 
-frames_more : (s : SignedStatement) (bytes rest tail : List ℕ) (frames : List SignedStatement) → IsFrame s → bytes ≡ frame_bytes s ++ rest → Frames rest frames tail → Frames bytes (s ∷ frames) tail
+frames_more : (s : SignedStatement) (bytes rest tail : List ℕ) (frames : List SignedStatement) → IsFrame s → bytes ≡ frame_bytes s ++ rest
+    → Frames rest frames tail → Frames bytes (s ∷ frames) tail
 frames_more s bytes rest tail frames is parts f =
     ((is, f.0), parts ∙ ap (λ (t : List ℕ). frame_bytes s ++ t) f.1 ∙ sym (append_assoc (frame_bytes s) (flat_map frame_bytes frames) tail))
 
-ends_more : (s : SignedStatement) (bytes rest : List ℕ) (frames : List SignedStatement) → IsFrame s → bytes ≡ frame_bytes s ++ rest → Ends rest frames → Ends bytes (s ∷ frames)
+ends_more : (s : SignedStatement) (bytes rest : List ℕ) (frames : List SignedStatement) → IsFrame s → bytes ≡ frame_bytes s ++ rest
+    → Ends rest frames → Ends bytes (s ∷ frames)
 ends_more s bytes rest frames is parts (inl split) = inl (split.0, (frames_more s bytes rest split.0 frames is parts split.1.0, split.1.1))
-ends_more s bytes rest frames is parts (inr (inl broken)) = inr (inl (broken.0, (frames_more s bytes rest broken.0 frames is parts broken.1.0, broken.1.1)))
-ends_more s bytes rest frames is parts (inr (inr broken)) = inr (inr (broken.0, (frames_more s bytes rest broken.0 frames is parts broken.1.0, broken.1.1)))
+ends_more s bytes rest frames is parts (inr (inl broken)) =
+    inr (inl (broken.0, (frames_more s bytes rest broken.0 frames is parts broken.1.0, broken.1.1)))
+ends_more s bytes rest frames is parts (inr (inr broken)) =
+    inr (inr (broken.0, (frames_more s bytes rest broken.0 frames is parts broken.1.0, broken.1.1)))
 
 found_or_not : {A : Type 0} (o : Option A) → (o ≡ None) ⊎ ((x : A) × (o ≡ Some x))
 found_or_not None = inl refl
@@ -50,7 +59,7 @@ ends_within (suc n) bytes le fits =
     let len = announced bytes in
     elim (cases_lt (length bytes) 4) [
       | inl few ↦ ([], inl (bytes, ((tt, refl), inl few)))
-      | inr four ↦ elim (cases_lt 150000 len) [
+      | inr four ↦ elim (cases_lt max_body_len len) [
         | inl long ↦ ([], inr (inl (bytes, ((tt, refl), (four, long)))))
         | inr short ↦ elim (cases_lt (length bytes) (4 + len)) [
           | inl less ↦ ([], inl (bytes, ((tt, refl), inr (short, less))))
@@ -59,7 +68,8 @@ ends_within (suc n) bytes le fits =
             | inr some ↦
                 let rest = drop len (drop 4 bytes) in
                 let first = frame_first bytes some.0 fits whole short some.1 in
-                let later = ends_within n rest (omega (arith, length-drop len (drop 4 bytes), length-drop 4 bytes)) (IsBytes-drop len (drop 4 bytes) (IsBytes-drop 4 bytes fits)) in
+                let later = ends_within n rest (omega (arith, length-drop len (drop 4 bytes), length-drop 4 bytes))
+                (IsBytes-drop len (drop 4 bytes) (IsBytes-drop 4 bytes fits)) in
                 (some.0 ∷ later.0, ends_more some.0 bytes rest later.0 first.0 first.1 later.1)
           ]
         ]

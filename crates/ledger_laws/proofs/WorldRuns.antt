@@ -1,5 +1,6 @@
--- A world after a run is told by one list of what was added, the first first.
-use Rattle.std.proofs.Common.{◌≡◌, ℕ, zero, suc, ◌+◌, ◌<◌, true, false, cond, inl, inr, ◌&&◌, List, [], ◌∷◌, ◌++◌, length, map, take, drop, refl, sym, ap, subst, ◌∙◌, append_assoc, arith}
+-- A run of a world, as one list of what was added, oldest first.
+use Rattle.std.proofs.Common.{◌≡◌, ℕ, zero, suc, ◌+◌, ◌<◌, true, false, cond, inl, inr, ◌&&◌, List, [], ◌∷◌, ◌++◌, length, map, take, drop}
+use Rattle.std.proofs.Common.{refl, sym, ap, subst, ◌∙◌, append_assoc, arith}
 use Rattle.std.specs.Prelude.{nat_eq, nat_lt, nat_le, Option, Some, None, Result, Ok, Err, slice_get}
 use Rattle.std.specs.List.{count_by}
 use Rattle.std.specs.Option.{option_map}
@@ -23,10 +24,13 @@ use Rattle.ledger_model.specs.Notes.{Has}
 use Rattle.ledger_model.specs.Rules.{Ring}
 use Rattle.ledger_model.specs.Lawful.{Lawful}
 use Rattle.ledger_model.specs.Groups.{is_correct}
-use Rattle.ledger_model.specs.Worlds.{World, beginning, entries_in, frames_sent, entry_added, with_entry, asks, passes, event_of, StepsBy, Runs, cut_to, world_at, IsUnforged, NoForgery, IsLedger, Refines}
-use Rattle.ledger_model.specs.Timelines.{Added, entries_at, histories_at, AcceptsUnforged, RunsFrom, UnforgedFrom, AreReplicas, RefinesLedger}
+use Rattle.ledger_model.specs.Worlds.{World, beginning, entries_in, frames_sent, entry_added, with_entry, asks, passes, event_of, StepsBy}
+use Rattle.ledger_model.specs.Worlds.{Runs, cut_to, world_at, IsUnforged, NoForgery, IsLedger, Refines}
+use Rattle.ledger_model.specs.Timelines.{Added, entries_at, histories_at, AcceptsUnforged, RunsFrom, UnforgedFrom, AreReplicas}
+use Rattle.ledger_model.specs.Timelines.{RefinesLedger}
 use Rattle.ledger_model.proofs.Goodness.{match_cases}
 use Rattle.ledger_laws.proofs.Backing.{its_history, history_is, same_correct, entries_at-append, refines}
+use Rattle.ledger_model.specs.Limits.{max_history_len}
 
 abbrev pub replicas_of : List Added → List ℕ
 replicas_of timeline = map (λ (a : Added). a.replica) timeline
@@ -36,24 +40,28 @@ abbrev pub world_of : List ℕ → List Added → World
 world_of correct timeline = record { histories = histories_at correct timeline; order = replicas_of timeline }
 
 -- a world with one entry more is that of the timeline with one more
-entry_more : (timeline : List Added) (a : Added) (x : ℕ) → entry_added a.replica a.entry (its_history timeline x) ≡ its_history (timeline ++ a ∷ []) x
+entry_more : (timeline : List Added) (a : Added) (x : ℕ)
+    → entry_added a.replica a.entry (its_history timeline x) ≡ its_history (timeline ++ a ∷ []) x
 entry_more timeline a x =
     let es = entries_at-append timeline (a ∷ []) x in
     elim (cases_Bool (nat_eq x a.replica)) [
       | inl same ↦
           let other_way : nat_eq a.replica x ≡ true = eq-eqb a.replica x (sym (eqb-true x a.replica same)) in
-          let e : entries_at (timeline ++ a ∷ []) x ≡ entries_at timeline x ++ a.entry ∷ [] = es ∙ ap (λ b. entries_at timeline x ++ (cond b (a.entry ∷ []) [] ++ [])) other_way in
+          let e : entries_at (timeline ++ a ∷ []) x ≡ entries_at timeline x ++ a.entry ∷ [] =
+          es ∙ ap (λ b. entries_at timeline x ++ (cond b (a.entry ∷ []) [] ++ [])) other_way in
           simp same (ap (λ l. record { replica = x; entries = l }) (sym e))
       | inr differs ↦
           let other_way : nat_eq a.replica x ≡ false = elim (cases_Bool (nat_eq a.replica x)) [
             | inl is ↦ absurd (let here = eq-eqb x a.replica (sym (eqb-true a.replica x is)) in cc)
             | inr it_does ↦ it_does
           ] in
-          let e : entries_at (timeline ++ a ∷ []) x ≡ entries_at timeline x ++ [] = es ∙ ap (λ b. entries_at timeline x ++ (cond b (a.entry ∷ []) [] ++ [])) other_way in
+          let e : entries_at (timeline ++ a ∷ []) x ≡ entries_at timeline x ++ [] =
+          es ∙ ap (λ b. entries_at timeline x ++ (cond b (a.entry ∷ []) [] ++ [])) other_way in
           simp differs (ap (λ l. record { replica = x; entries = l }) (sym (e ∙ append-nil (entries_at timeline x))))
     ]
 
-histories_more : (correct : List ℕ) (timeline : List Added) (a : Added) → map (entry_added a.replica a.entry) (histories_at correct timeline) ≡ histories_at correct (timeline ++ a ∷ [])
+histories_more : (correct : List ℕ) (timeline : List Added) (a : Added)
+    → map (entry_added a.replica a.entry) (histories_at correct timeline) ≡ histories_at correct (timeline ++ a ∷ [])
 histories_more [] timeline a = refl
 histories_more (x ∷ xs) timeline a =
     let first = entry_more timeline a x in
@@ -64,7 +72,8 @@ replicas_more : (timeline : List Added) (a : Added) → replicas_of timeline ++ 
 replicas_more [] a = refl
 replicas_more (x ∷ xs) a = ap (λ l. x.replica ∷ l) (replicas_more xs a)
 
-pub world_more : (correct : List ℕ) (timeline : List Added) (a : Added) → with_entry (world_of correct timeline) a.replica a.entry ≡ world_of correct (timeline ++ a ∷ [])
+pub world_more : (correct : List ℕ) (timeline : List Added) (a : Added)
+    → with_entry (world_of correct timeline) a.replica a.entry ≡ world_of correct (timeline ++ a ∷ [])
 world_more correct timeline a =
     let h = histories_more correct timeline a in
     let o = replicas_more timeline a in
@@ -78,7 +87,8 @@ counted x (r ∷ rs) = cond (nat_eq r x) (1 + counted x rs) (counted x rs)
 counted_at : (timeline : List Added) (x : ℕ) → counted x (replicas_of timeline) ≡ length (entries_at timeline x)
 counted_at [] x = refl
 counted_at (a ∷ timeline) x =
-    elim (nat_eq a.replica x) as (λ b. cond b (1 + counted x (replicas_of timeline)) (counted x (replicas_of timeline)) ≡ length (cond b (a.entry ∷ []) [] ++ entries_at timeline x)) [
+    elim (nat_eq a.replica x) as (λ b. cond b (1 + counted x (replicas_of timeline)) (counted x (replicas_of timeline))
+    ≡ length (cond b (a.entry ∷ []) [] ++ entries_at timeline x)) [
       | true ↦ omega (arith, counted_at timeline x)
       | false ↦ counted_at timeline x
     ]
@@ -86,7 +96,8 @@ counted_at (a ∷ timeline) x =
 count_at : (timeline : List Added) (x : ℕ) → count_by (λ r. nat_eq r x) (replicas_of timeline) ≡ length (entries_at timeline x)
 count_at timeline x = sym (is_count_by (counted x) (λ r. nat_eq r x) refl (λ _ _. refl) (replicas_of timeline)) ∙ counted_at timeline x
 
-entries_cut : (timeline : List Added) (n x : ℕ) → take (count_by (λ r. nat_eq r x) (take n (replicas_of timeline))) (entries_at timeline x) ≡ entries_at (take n timeline) x
+entries_cut : (timeline : List Added) (n x : ℕ)
+    → take (count_by (λ r. nat_eq r x) (take n (replicas_of timeline))) (entries_at timeline x) ≡ entries_at (take n timeline) x
 entries_cut timeline n x =
     let count : count_by (λ r. nat_eq r x) (take n (replicas_of timeline)) ≡ length (entries_at (take n timeline) x) =
     ap (count_by (λ r. nat_eq r x)) (take-map (λ (a : Added). a.replica) n timeline) ∙ count_at (take n timeline) x in
@@ -96,22 +107,26 @@ entries_cut timeline n x =
     ∙ ap (take (length (entries_at (take n timeline) x))) parts
     ∙ take-append_seam (entries_at (take n timeline) x) (entries_at (drop n timeline) x)
 
-histories_cut : (correct : List ℕ) (timeline : List Added) (n : ℕ) → map (cut_to (take n (replicas_of timeline))) (histories_at correct timeline) ≡ histories_at correct (take n timeline)
+histories_cut : (correct : List ℕ) (timeline : List Added) (n : ℕ)
+    → map (cut_to (take n (replicas_of timeline))) (histories_at correct timeline) ≡ histories_at correct (take n timeline)
 histories_cut [] timeline n = refl
 histories_cut (x ∷ xs) timeline n =
-    let first : cut_to (take n (replicas_of timeline)) (its_history timeline x) ≡ its_history (take n timeline) x = ap (λ l. record { replica = x; entries = l }) (entries_cut timeline n x) in
+    let first : cut_to (take n (replicas_of timeline)) (its_history timeline x) ≡ its_history (take n timeline) x =
+    ap (λ l. record { replica = x; entries = l }) (entries_cut timeline n x) in
     let rest = histories_cut xs timeline n in
     cc
 
 -- the world as it was is that of the timeline's beginning
-pub world_then : (correct : List ℕ) (timeline : List Added) (n : ℕ) → world_at (world_of correct timeline) n ≡ world_of correct (take n timeline)
+pub world_then : (correct : List ℕ) (timeline : List Added) (n : ℕ)
+    → world_at (world_of correct timeline) n ≡ world_of correct (take n timeline)
 unfolding world_at
 world_then correct timeline n =
     let h = histories_cut correct timeline n in
     let o = take-map (λ (a : Added). a.replica) n timeline in
     cc
 
-pub entries_told : (correct : List ℕ) (timeline : List Added) (r : ℕ) → is_correct (histories_at correct timeline) r ≡ true → entries_in (world_of correct timeline) r ≡ entries_at timeline r
+pub entries_told : (correct : List ℕ) (timeline : List Added) (r : ℕ) → is_correct (histories_at correct timeline) r ≡ true
+    → entries_in (world_of correct timeline) r ≡ entries_at timeline r
 entries_told correct timeline r is = simp (history_is correct timeline r is)
 
 abbrev named_of : Result (ℕ × Event) WorldRefusal → ℕ
@@ -133,13 +148,15 @@ abbrev pub frame_to : ℕ → Option (List ℕ) → Result (ℕ × Event) WorldR
 frame_to to None = Err refused.NoSuchFrame
 frame_to to (Some bytes) = Ok (to, event.Deliver bytes)
 
-passed : (config : Config) (w : World) (from index to r : ℕ) (e : Event) → passes config w from index to ≡ Ok (r, e) → is_correct w.histories r ≡ true
+passed : (config : Config) (w : World) (from index to r : ℕ) (e : Event) → passes config w from index to ≡ Ok (r, e)
+    → is_correct w.histories r ≡ true
 passed config w from index to r e ok =
     elim (cases_Bool (nat_lt from config.replicas && nat_lt to config.replicas)) [
       | inr far ↦ absurd (let no = simp far at ok in cc)
       | inl near ↦ elim (cases_Bool (is_correct w.histories from && is_correct w.histories to)) [
         | inr liar ↦ absurd (let no = simp (near, liar) at ok in cc)
-        | inl are ↦ frame (slice_get (frames_sent (entries_in w from)) index) ((and_parts (is_correct w.histories from) (is_correct w.histories to) are).1) (simp (near, are) at ok)
+        | inl are ↦ frame (slice_get (frames_sent (entries_in w from)) index)
+            ((and_parts (is_correct w.histories from) (is_correct w.histories to) are).1) (simp (near, are) at ok)
       ]
     ]
   where
@@ -147,7 +164,8 @@ passed config w from index to r e ok =
     frame None is given = cc
     frame (Some bytes) is given = let to_is : to ≡ r = ap named_of given in ap (is_correct w.histories) (sym to_is) ∙ is
 
-pub names_correct : (config : Config) (w : World) (s : WorldStep) (r : ℕ) (e : Event) → event_of config w s ≡ Ok (r, e) → is_correct w.histories r ≡ true
+pub names_correct : (config : Config) (w : World) (s : WorldStep) (r : ℕ) (e : Event) → event_of config w s ≡ Ok (r, e)
+    → is_correct w.histories r ≡ true
 unfolding event_of
 names_correct config w (step.Submit x bytes) r e ok = asked config w x r (event.Submit bytes) e ok
 names_correct config w (step.Propose x h) r e ok = asked config w x r (event.Propose h) e ok
@@ -161,7 +179,8 @@ get_seam : {X : Type 0} → (xs : List X) (y : X) (ys : List X) → slice_get (x
 get_seam [] y ys = refl
 get_seam (x ∷ xs) y ys = get_seam xs y ys
 
-entries_at-own : (front : List Added) (a : Added) (more : List Added) → entries_at (front ++ a ∷ more) a.replica ≡ entries_at front a.replica ++ a.entry ∷ entries_at more a.replica
+entries_at-own : (front : List Added) (a : Added) (more : List Added)
+    → entries_at (front ++ a ∷ more) a.replica ≡ entries_at front a.replica ++ a.entry ∷ entries_at more a.replica
 entries_at-own front a more =
     entries_at-append front (a ∷ more) a.replica
     ∙ ap (λ b. entries_at front a.replica ++ (cond b (a.entry ∷ []) [] ++ entries_at more a.replica)) (eq-eqb a.replica a.replica refl)
@@ -185,21 +204,24 @@ module _ (config : Config) (ring : Ring) (correct : List ℕ) where
   data Stepped (timeline : List Added) (s : WorldStep) (new : World) : Type 0 where
     Left : new ≡ world_of correct timeline → Stepped timeline s new
     Grown : (a : Added) → event_of config (world_of correct timeline) s ≡ Ok (a.replica, a.entry.event)
-        → is_correct (histories_at correct timeline) a.replica ≡ true → Lawful config ring a.replica (entries_at timeline a.replica) a.entry.event a.entry.reply
+        → is_correct (histories_at correct timeline) a.replica ≡ true
+        → Lawful config ring a.replica (entries_at timeline a.replica) a.entry.event a.entry.reply
         → new ≡ world_of correct (timeline ++ a ∷ []) → Stepped timeline s new
 
-  stepped : (timeline : List Added) (s : WorldStep) (o : Result (ℕ × Event) WorldRefusal) (answered : WorldReply) (new : World) → event_of config (world_of correct timeline) s ≡ o
+  stepped : (timeline : List Added) (s : WorldStep) (o : Result (ℕ × Event) WorldRefusal) (answered : WorldReply) (new : World)
+      → event_of config (world_of correct timeline) s ≡ o
       → StepsBy config ring (world_of correct timeline) o answered new → Stepped timeline s new
   stepped timeline s (Err f) answered new is by = Left (by.1)
   stepped timeline s (Ok (r, e)) answered new is by =
-      elim (match_cases (nat_le 65536 (length (entries_in (world_of correct timeline) r))) _ _ by) [
+      elim (match_cases (nat_le max_history_len (length (entries_in (world_of correct timeline) r))) _ _ by) [
         | inl full ↦ Left (full.1.1)
         | inr room ↦ elim (room.1) [
           | inr none ↦ Left (none.1)
           | inl added ↦
               let a : Added = record { replica = r; entry = record { event = e; reply = added.0 } } in
               let here = names_correct config (world_of correct timeline) s r e is in
-              Grown a is here (subst (λ es. Lawful config ring r es e (added.0)) (entries_told correct timeline r here) (added.1)) (added.3 ∙ world_more correct timeline a)
+              Grown a is here (subst (λ es. Lawful config ring r es e (added.0)) (entries_told correct timeline r here) (added.1))
+              (added.3 ∙ world_more correct timeline a)
         ]
       ]
 
@@ -213,23 +235,27 @@ module _ (config : Config) (ring : Ring) (correct : List ℕ) where
   AreCaused steps front (a ∷ more) = IsCaused steps front a × AreCaused steps (front ++ a ∷ []) more
 
   -- what a run adds
-  pub record Told (steps : List WorldStep) (front : List Added) (new : World) : Type 0 where
+  pub record Extends (steps : List WorldStep) (front : List Added) (new : World) : Type 0 where
     pub more : List Added
     pub runs : RunsFrom config ring correct front more
     pub caused : AreCaused steps front more
     pub is : new ≡ world_of correct (front ++ more)
 
-  told_from : (all : List WorldStep) (front : List Added) (steps : List WorldStep) (answers : List WorldReply) (new : World) → ((s : WorldStep) → Has steps s → Has all s)
-      → Runs config ring (world_of correct front) steps answers new → Told all front new
+  told_from : (all : List WorldStep) (front : List Added) (steps : List WorldStep) (answers : List WorldReply) (new : World)
+      → ((s : WorldStep) → Has steps s → Has all s)
+      → Runs config ring (world_of correct front) steps answers new → Extends all front new
   unfolding Runs RunsFrom AreCaused
-  told_from all front [] [] new among runs = record { more = []; runs = tt; caused = tt; is = runs ∙ ap (world_of correct) (sym (append-nil front)) }
+  told_from all front [] [] new among runs =
+      record { more = []; runs = tt; caused = tt; is = runs ∙ ap (world_of correct) (sym (append-nil front)) }
   told_from all front [] (a ∷ answers) new among runs = absurd runs
   told_from all front (s ∷ steps) [] new among runs = absurd runs
   told_from all front (s ∷ steps) (x ∷ answers) new among runs =
       elim (stepped front s (event_of config (world_of correct front) s) x (runs.0) refl (runs.1)) [
-        | Left same ↦ told_from all front steps answers new (λ t has. among t (inr has)) (subst (λ w. Runs config ring w steps answers new) same (runs.2))
+        | Left same ↦ told_from all front steps answers new (λ t has. among t (inr has))
+            (subst (λ w. Runs config ring w steps answers new) same (runs.2))
         | Grown a asks is lawful grown ↦
-            let rest = told_from all (front ++ a ∷ []) steps answers new (λ t has. among t (inr has)) (subst (λ w. Runs config ring w steps answers new) grown (runs.2)) in
+            let rest = told_from all (front ++ a ∷ []) steps answers new (λ t has. among t (inr has))
+            (subst (λ w. Runs config ring w steps answers new) grown (runs.2)) in
             record {
               more = a ∷ rest.more;
               runs = (is, lawful, rest.runs);
@@ -238,25 +264,33 @@ module _ (config : Config) (ring : Ring) (correct : List ℕ) where
             }
       ]
 
-  pub told : (steps : List WorldStep) (answers : List WorldReply) (new : World) → Runs config ring (beginning correct) steps answers new → Told steps [] new
+  pub told : (steps : List WorldStep) (answers : List WorldReply) (new : World) → Runs config ring (beginning correct) steps answers new
+      → Extends steps [] new
   told steps answers new runs = told_from steps [] steps answers new (λ s has. has) runs
 
   -- where an entry is in the world of its timeline, and that world as it was before the entry
   pub record EntryPlace (front more : List Added) (a : Added) : Type 0 where
     pub then : world_at (world_of correct (front ++ a ∷ more)) (length front) ≡ world_of correct front
     pub order : slice_get (replicas_of (front ++ a ∷ more)) (length front) ≡ Some a.replica
-    pub entry : slice_get (entries_in (world_of correct (front ++ a ∷ more)) a.replica) (length (entries_in (world_at (world_of correct (front ++ a ∷ more)) (length front)) a.replica)) ≡ Some a.entry
+    pub entry : slice_get (entries_in (world_of correct (front ++ a ∷ more)) a.replica)
+        (length (entries_in (world_at (world_of correct (front ++ a ∷ more)) (length front)) a.replica)) ≡ Some a.entry
 
-  pub entry_place : (front more : List Added) (a : Added) → is_correct (histories_at correct front) a.replica ≡ true → EntryPlace front more a
+  pub entry_place : (front more : List Added) (a : Added) → is_correct (histories_at correct front) a.replica ≡ true
+      → EntryPlace front more a
   entry_place front more a is =
       let n : ℕ = length front in
-      let then : world_at (world_of correct (front ++ a ∷ more)) n ≡ world_of correct front = world_then correct (front ++ a ∷ more) n ∙ ap (world_of correct) (take-append_seam front (a ∷ more)) in
-      let now : entries_in (world_of correct (front ++ a ∷ more)) a.replica ≡ entries_at front a.replica ++ a.entry ∷ entries_at more a.replica =
-      entries_told correct (front ++ a ∷ more) a.replica (same_correct config ring correct (front ++ a ∷ more) front a.replica ∙ is) ∙ entries_at-own front a more in
-      let before : entries_in (world_at (world_of correct (front ++ a ∷ more)) n) a.replica ≡ entries_at front a.replica = ap (λ w. entries_in w a.replica) then ∙ entries_told correct front a.replica is in
+      let then : world_at (world_of correct (front ++ a ∷ more)) n ≡ world_of correct front =
+      world_then correct (front ++ a ∷ more) n ∙ ap (world_of correct) (take-append_seam front (a ∷ more)) in
+      let now : entries_in (world_of correct (front ++ a ∷ more)) a.replica ≡ entries_at front a.replica ++ a.entry
+      ∷ entries_at more a.replica =
+      entries_told correct (front ++ a ∷ more) a.replica (same_correct config ring correct (front ++ a ∷ more) front a.replica ∙ is)
+      ∙ entries_at-own front a more in
+      let before : entries_in (world_at (world_of correct (front ++ a ∷ more)) n) a.replica ≡ entries_at front a.replica =
+      ap (λ w. entries_in w a.replica) then ∙ entries_told correct front a.replica is in
       record {
         then = then;
-        order = slice_get-map (λ (y : Added). y.replica) (front ++ a ∷ more) n ∙ ap (option_map (λ (y : Added). y.replica)) (get_seam front a more);
+        order = slice_get-map (λ (y : Added). y.replica) (front ++ a ∷ more) n
+            ∙ ap (option_map (λ (y : Added). y.replica)) (get_seam front a more);
         entry =
             ap (λ l. slice_get (entries_in (world_of correct (front ++ a ∷ more)) a.replica) (length l)) before
             ∙ ap (λ l. slice_get l (length (entries_at front a.replica))) now
@@ -264,19 +298,23 @@ module _ (config : Config) (ring : Ring) (correct : List ℕ) where
       }
 
   -- what was accepted in the world was unforged then
-  accepted : (front more : List Added) (a : Added) → is_correct (histories_at correct front) a.replica ≡ true → NoForgery config ring (world_of correct (front ++ a ∷ more))
+  accepted : (front more : List Added) (a : Added) → is_correct (histories_at correct front) a.replica ≡ true
+      → NoForgery config ring (world_of correct (front ++ a ∷ more))
       → (e : Event) (r : Reply) → a.entry ≡ record { event = e; reply = r } → AcceptsUnforged config ring (histories_at correct front) e r
   accepted front more a is none (event.Deliver bytes) (reply.Delivered (Ok u)) same = λ s spelled.
       let at = entry_place front more a is in
-      subst (λ w. IsUnforged config ring (w.histories) s) at.then (none (length front) a.replica bytes u s at.order (at.entry ∙ ap Some same) spelled)
+      subst (λ w. IsUnforged config ring (w.histories) s) at.then
+      (none (length front) a.replica bytes u s at.order (at.entry ∙ ap Some same) spelled)
   accepted front more a is none e r same = tt
 
-  unforged : (front more : List Added) → RunsFrom config ring correct front more → NoForgery config ring (world_of correct (front ++ more)) → UnforgedFrom config ring correct front more
+  unforged : (front more : List Added) → RunsFrom config ring correct front more → NoForgery config ring (world_of correct (front ++ more))
+      → UnforgedFrom config ring correct front more
   unfolding RunsFrom UnforgedFrom
   unforged front [] runs none = tt
   unforged front (a ∷ more) runs none = (
     accepted front more a (runs.0) none (a.entry.event) (a.entry.reply) refl,
-    unforged (front ++ a ∷ []) more (runs.2) (subst (λ t. NoForgery config ring (world_of correct t)) (sym (append_assoc front (a ∷ []) more)) none),
+    unforged (front ++ a ∷ []) more (runs.2)
+        (subst (λ t. NoForgery config ring (world_of correct t)) (sym (append_assoc front (a ∷ []) more)) none),
   )
 
   -- a timeline's ledgers are its world's
@@ -287,7 +325,8 @@ module _ (config : Config) (ring : Ring) (correct : List ℕ) where
         let one : n + 1 ≡ suc n = omega arith in
         let e = next_at n timeline (omega (arith, length-map timeline (λ (a : Added). a.replica))) in
         given.grows (take n timeline) (e.rest) (e.here) ((at n).0) ((at (n + 1)).0) (e.is) ((at n).1)
-        (subst (λ t. IsLedger config (histories_at correct t) ((at (n + 1)).0)) (ap (λ k. take k timeline) one ∙ e.longer) ((at (n + 1)).1));
+        (subst (λ t. IsLedger config (histories_at correct t) ((at (n + 1)).0)) (ap (λ k. take k timeline) one ∙ e.longer)
+        ((at (n + 1)).1));
     is_ledger = λ n le. subst (λ w. IsLedger config (w.histories) ((at n).0)) (sym (world_then correct timeline n)) ((at n).1);
   }
     where
@@ -300,16 +339,19 @@ runs_refine config ring correct steps answers w replicas runs none =
     let t = told config ring correct steps answers w runs in
     subst (Refines config) (sym (t.is))
     (refined config ring correct (t.more)
-    (refines config ring correct replicas (t.more) (t.runs) (unforged config ring correct [] (t.more) (t.runs) (subst (NoForgery config ring) (t.is) none))))
+    (refines config ring correct replicas (t.more) (t.runs)
+    (unforged config ring correct [] (t.more) (t.runs) (subst (NoForgery config ring) (t.is) none))))
 
 -- a run that goes on is one run
 pub runs_append : (config : Config) (ring : Ring) (w mid new : World) (steps more : List WorldStep) (answers others : List WorldReply)
-    → Runs config ring w steps answers mid → Runs config ring mid more others new → Runs config ring w (steps ++ more) (answers ++ others) new
+    → Runs config ring w steps answers mid → Runs config ring mid more others new
+    → Runs config ring w (steps ++ more) (answers ++ others) new
 unfolding Runs
 runs_append config ring w mid new [] more [] others first next = subst (λ v. Runs config ring v more others new) first next
 runs_append config ring w mid new [] more (a ∷ answers) others first next = absurd first
 runs_append config ring w mid new (s ∷ steps) more [] others first next = absurd first
-runs_append config ring w mid new (s ∷ steps) more (a ∷ answers) others first next = (first.0, first.1, runs_append config ring (first.0) mid new steps more answers others (first.2) next)
+runs_append config ring w mid new (s ∷ steps) more (a ∷ answers) others first next =
+    (first.0, first.1, runs_append config ring (first.0) mid new steps more answers others (first.2) next)
 
 -- after as many entries as there are, the world of a run is as it is now
 pub world_now : (config : Config) (ring : Ring) (correct : List ℕ) (steps : List WorldStep) (answers : List WorldReply) (w : World)

@@ -1,4 +1,4 @@
--- Worked examples. A letter as a value is the batch of one transaction, the letter and =1.
+-- Worked examples. A letter that names a value is the batch of one transaction, which is the letter followed by =1.
 use Rattle.std.proofs.Common.{lit≤}
 use Rattle.std.specs.Prelude.{◌≡◌, ℕ, Bool, true, false, List, [], ◌∷◌, ◌++◌, length, replicate, Some, None, Ok, Err}
 use Rattle.ledger_model.specs.declared.config.Config.{Config}
@@ -22,7 +22,7 @@ use Rattle.ledger_model.specs.declared.world.WorldReply.{WorldReply}
 use Rattle.ledger_model.specs.declared.world.WorldReply.TheVariants as answer
 use Rattle.ledger_model.specs.declared.world.WorldRefusal.TheVariants as refused
 use Rattle.ledger_model.specs.Values.{Value, value_bytes}
-use Rattle.ledger_model.specs.Notes.{Note, Proposed, Round, Made, Read}
+use Rattle.ledger_model.specs.Notes.{Note, Proposed, Round, OwnStatement, Read}
 use Rattle.ledger_model.specs.Locks.{decided_of, held_values}
 use Rattle.ledger_model.specs.Logs.{log_of}
 use Rattle.ledger_model.specs.Proper.{is_all_proper, proper_values}
@@ -71,28 +71,37 @@ x = one 0x78
 abbrev pub y : Value
 y = one 0x79
 
--- ---- proper values, at replica 0 of four as phase 2 opens, by its own value and what it read in phase 1
+-- ---- the proper values of replica 0 of four as phase 2 opens, by its own value and what it read in phase 1
 
--- a report of the signer was read: its initial value, whether it names every value, and those that it names
+-- the note of a report that was read: its signer, its initial value, whether it names every value, and the values that it lists
 abbrev pub reads : ℕ → Value → Bool → List Value → Note
 reads signer initial all proper = Read 1 (record {
-  statement = statement.Report (record { height = 1; phase = 1; signer = signer; all = all; initial = initial; proper = proper; locked = [] });
+  statement = statement.Report (record {
+    height = 1;
+    phase = 1;
+    signer = signer;
+    all = all;
+    initial = initial;
+    proper = proper;
+    locked =
+        [];
+  });
   signature = [];
 })
 
--- the log of a replica that proposed the value and opened round 1, and what it read there
+-- the log of a replica that proposed the value, opened round 1 and read these reports
 abbrev pub opened : Value → List Note → List Note
 opened own reports = Proposed own ∷ Round 1 ∷ reports
 
--- the values that are proper by name for replica 0 as phase 2 opens, in such a log
+-- the values that are proper by name for replica 0 as phase 2 opens, given these reports
 abbrev pub proper_of : Value → List Note → List Value
 proper_of own reports = proper_values (four KvStore) 0 (opened own reports) 2 own
 
--- whether every value is proper there
+-- whether every value is proper for replica 0 as phase 2 opens, given these reports
 abbrev pub all_of : Value → List Note → Bool
 all_of own reports = is_all_proper (four KvStore) 0 (opened own reports) 2 own
 
--- two others name y
+-- two others name y, so y is proper
 abbrev pub TwoNameOne : Type 0
 TwoNameOne =
     let reports = reads 1 x false (x ∷ []) ∷ reads 2 y false (y ∷ []) ∷ reads 3 y false (y ∷ []) ∷ [] in
@@ -102,48 +111,53 @@ TwoNameOne =
 abbrev pub ThreeDiffer : Type 0
 ThreeDiffer = all_of a (reads 1 b false (b ∷ []) ∷ reads 2 c false (c ∷ []) ∷ []) ≡ true
 
--- three initial values, two of them the same
+-- three initial values, two of them the same: not every value is proper
 abbrev pub TwoAgree : Type 0
 TwoAgree =
     let reports = reads 1 a false (a ∷ []) ∷ reads 2 b false (b ∷ []) ∷ [] in
     (proper_of a reports ≡ a ∷ []) × (all_of a reports ≡ false)
 
--- the own report lists d, and two others name every value: d isn't proper by name; it is where one of the two lists it
+-- The own report lists d, and two others report that every value is proper. Then d isn't proper by name, but it is if
+-- one of the two lists it.
 abbrev pub OwnListingIsNoOthers : Type 0
 OwnListingIsNoOthers =
     let own_lists = reads 0 a false (d ∷ []) ∷ reads 1 a true (a ∷ []) ∷ reads 2 a true (a ∷ []) ∷ [] in
     let other_lists = reads 1 a true (d ∷ []) ∷ reads 2 a true (a ∷ []) ∷ [] in
     (proper_of a own_lists ≡ a ∷ []) × (all_of a own_lists ≡ true) × (proper_of a other_lists ≡ a ∷ d ∷ [])
 
--- two others name every value
+-- two others report that every value is proper
 abbrev pub TwoNameAll : Type 0
 TwoNameAll = all_of a (reads 1 a true (a ∷ []) ∷ reads 2 a true (a ∷ []) ∷ []) ≡ true
 
--- five values would be proper: the own one and the least three others are
+-- five values would be proper; the own one and the three least of the others are
 abbrev pub CutToFour : Type 0
 CutToFour =
     let reports = reads 1 m false (a ∷ b ∷ c ∷ d ∷ []) ∷ reads 2 m false (a ∷ b ∷ c ∷ d ∷ []) ∷ [] in
     (proper_of m reports ≡ a ∷ b ∷ c ∷ m ∷ []) × (all_of m reports ≡ false)
 
--- ---- locks and decisions, at replica 1 of four, which owns phase 1
+-- ---- the locks and decisions of replica 1 of four, which owns phase 1
 
--- a lock of this phase and signer on the value, without its proof
+-- a lock on the value, of this phase and signer, with no proof
 abbrev pub a_lock : ℕ → ℕ → Value → Lock
 a_lock phase signer v = record { height = 1; phase = phase; signer = signer; value = v; proof = [] }
 
--- such a lock was read in the round
+-- the note that such a lock was read in the round
 abbrev pub reads_lock : ℕ → ℕ → ℕ → Value → Note
 reads_lock round phase signer v = Read round (record { statement = statement.Lock (a_lock phase signer v); signature = [] })
 
--- an acknowledgement of [a=1] was read at place 3 of phase 1
+-- the note that the signer's acknowledgement of a lock on [a=1] was read at place 3 of phase 1
 abbrev pub reads_ack : ℕ → Note
-reads_ack signer = Read 3 (record { statement = statement.Ack (record { height = 1; phase = 1; signer = signer; value = a }); signature = [] })
+reads_ack signer = Read 3 (record {
+  statement = statement.Ack (record { height = 1; phase = 1; signer = signer; value = a });
+  signature =
+      [];
+})
 
--- it made a lock on a in phase 1, and opened round 3
+-- the log of replica 1 after it made a lock on a in phase 1 and opened round 3
 abbrev pub to_round_3 : List Note
-to_round_3 = Proposed a ∷ Round 1 ∷ Round 2 ∷ Made 2 (statement.Lock (a_lock 1 1 a)) ∷ reads_lock 2 1 1 a ∷ Round 3 ∷ []
+to_round_3 = Proposed a ∷ Round 1 ∷ Round 2 ∷ OwnStatement 2 (statement.Lock (a_lock 1 1 a)) ∷ reads_lock 2 1 1 a ∷ Round 3 ∷ []
 
--- three acknowledgements decide as the round is closed and not before; two don't, and two of one signer count as one
+-- Three acknowledgements decide as the round closes, and not before. Two don't decide, and two of the same signer count as one.
 abbrev pub ThreeAcksDecide : Type 0
 ThreeAcksDecide =
     let decided = λ (notes : List Note). decided_of (four KvStore) (to_round_3 ++ notes) in
@@ -152,7 +166,8 @@ ThreeAcksDecide =
     × (decided (reads_ack 0 ∷ reads_ack 1 ∷ Round 4 ∷ []) ≡ None)
     × (decided (reads_ack 0 ∷ reads_ack 1 ∷ reads_ack 0 ∷ Round 4 ∷ []) ≡ None)
 
--- the lock on a of phase 1 is released by one on b of that phase that is read at place 4, and kept by one on a and by one on b of phase 2
+-- The lock on a of phase 1 is released by a lock on b of phase 1 that is read at place 4, but neither by a lock on a
+-- nor by one on b of phase 2.
 abbrev pub LockReleased : Type 0
 LockReleased =
     let held = λ (notes : List Note). held_values (to_round_3 ++ Round 4 ∷ notes) in
@@ -161,17 +176,17 @@ LockReleased =
     × (held (reads_lock 4 1 1 a ∷ []) ≡ a ∷ [])
     × (held (reads_lock 4 2 2 b ∷ []) ≡ a ∷ [])
 
--- a lock that is taken later doesn't release the first: two are held
+-- a lock that is taken later doesn't release the first: both are held
 abbrev pub TwoLocksHeld : Type 0
 TwoLocksHeld = held_values (to_round_3 ++ Round 4 ∷ Round 5 ∷ Round 6 ∷ reads_lock 6 2 2 b ∷ []) ≡ a ∷ b ∷ []
 
--- ---- spelling
+-- ---- encoding
 
 -- the report of replica 0 on a, at height 1 and phase 1
 abbrev pub first_report : Report
 first_report = record { height = 1; phase = 1; signer = 0; all = false; initial = a; proper = a ∷ []; locked = [] }
 
--- the first report of replica 0 that proposed [a=1] has these 23 bytes
+-- the first report of replica 0, which proposed [a=1], has these 23 bytes
 abbrev pub ReportSpelled : Type 0
 ReportSpelled =
     (report_bytes first_report
@@ -183,15 +198,19 @@ ReportSpelled =
 abbrev pub signed_report : SignedStatement
 signed_report = record { statement = statement.Report first_report; signature = 5 ∷ 6 ∷ [] }
 
--- a lock whose proof is the reports of replicas 0 to 2
+-- the report of this signer on a, with a signature of one byte
 abbrev pub by_signer : ℕ → SignedReport
 by_signer signer = record { report = record first_report { signer = signer }; signature = 7 ∷ [] }
 
 -- a lock on [a=1] with this proof
 abbrev pub signed_lock : List SignedReport → SignedStatement
-signed_lock proof = record { statement = statement.Lock (record { height = 1; phase = 1; signer = 1; value = a; proof = proof }); signature = [] }
+signed_lock proof = record {
+  statement =
+      statement.Lock (record { height = 1; phase = 1; signer = 1; value = a; proof = proof });
+  signature = [];
+}
 
--- frames are read back; one byte more isn't read, nor is a proof whose signers don't ascend
+-- frames are read back; one more byte, or a proof whose signers don't ascend, and nothing is read
 abbrev pub FramesReadBack : Type 0
 FramesReadBack =
     let lock = signed_lock (by_signer 0 ∷ by_signer 1 ∷ by_signer 2 ∷ []) in
@@ -200,7 +219,7 @@ FramesReadBack =
     × (reading (frame_bytes signed_report ++ 0 ∷ []) ≡ None)
     × (reading (frame_bytes (signed_lock (by_signer 0 ∷ by_signer 2 ∷ by_signer 1 ∷ []))) ≡ None)
 
--- the longest batch, 16 transactions of 64 bytes, is encoded in 1041 bytes, and a batch of 17 isn't read
+-- the longest batch, 16 transactions of 64 bytes, has 1041 bytes, and a batch of 17 transactions is not read
 abbrev pub BatchLimits : Type 0
 BatchLimits =
     (length (value_bytes (replicate 16 (replicate 64 0x61))) ≡ 1041)
@@ -224,7 +243,7 @@ DigitsAndChecksums =
 
 -- ---- applications
 
--- a counter takes 0, 1 and 2, and then counts 3
+-- a counter accepts 0, 1 and 2, and then its count is 3
 abbrev pub CounterCounts : Type 0
 CounterCounts =
     let block = (0x00 ∷ []) ∷ (0x01 ∷ []) ∷ (0x02 ∷ []) ∷ [] in
@@ -232,7 +251,8 @@ CounterCounts =
     × (query_reply Counter (block ∷ []) (0x63 ∷ 0x6f ∷ 0x75 ∷ 0x6e ∷ 0x74 ∷ []) 0
     ≡ Ok (record { height = 1; value = Some (0 ∷ 0 ∷ 0 ∷ 0 ∷ 0 ∷ 0 ∷ 0 ∷ 3 ∷ []) }))
 
--- after the block of 0, a number below the count is refused, nine bytes are too many, and a pool keeps of 0, 0 in two bytes and 1 the last alone
+-- After the block of 0, a number below the count and a transaction of nine bytes are refused. Of 0, 0 in two bytes, and
+-- 1, the pool keeps only 1.
 abbrev pub CounterChecks : Type 0
 CounterChecks =
     let block = (0x00 ∷ []) ∷ [] in
@@ -240,7 +260,7 @@ CounterChecks =
     × (check_reply Counter (block ∷ []) (replicate 9 0) ≡ 1)
     × (pool_after_block (four Counter) (block ∷ []) block ((0x00 ∷ []) ∷ (0x00 ∷ 0x00 ∷ []) ∷ (0x01 ∷ []) ∷ []) ≡ (0x01 ∷ []) ∷ [])
 
--- a transfer of 5 from account 0 to 1 is taken once, and account 0 then has 995 and nonce 1
+-- a transfer of 5 from account 0 to account 1 is accepted once; then account 0 has 995 and nonce 1
 abbrev pub PursePays : Type 0
 PursePays =
     let transfer = 0x00 ∷ 0x01 ∷ 0x00 ∷ 0x00 ∷ 0x00 ∷ 0x05 ∷ 0x00 ∷ 0x00 ∷ 0x00 ∷ 0x00 ∷ [] in
@@ -255,7 +275,7 @@ PursePays =
 abbrev pub tx_a : List ℕ
 tx_a = 0x61 ∷ 0x3d ∷ 0x31 ∷ []
 
--- at replica 0: a transaction is handed in twice and proposed, height 1 is opened again, height 5 too early, and nothing is decided
+-- at replica 0: a transaction is submitted twice and proposed; height 1 is opened again and height 5 too early; nothing is decided
 abbrev pub first_entries : List Entry
 first_entries =
     record { event = event.Submit tx_a; reply = reply.Submitted (Ok tt) }
@@ -274,7 +294,7 @@ FirstEntriesReplay = Replay (four KvStore) [] 0 first_entries
 abbrev pub first_frame : List ℕ
 first_frame = frame_bytes signed_report
 
--- the frame of a signer that is no replica
+-- the frame of a signer that is not in the cluster
 abbrev pub strange_frame : List ℕ
 strange_frame = frame_bytes (record { statement = statement.Report (record first_report { signer = 200 }); signature = 5 ∷ 6 ∷ [] })
 
@@ -282,12 +302,12 @@ strange_frame = frame_bytes (record { statement = statement.Report (record first
 abbrev pub quiet_end : Entry
 quiet_end = record { event = event.RoundEnd; reply = reply.RoundEnded (Ok (record { mute = false; frames = [] })) }
 
--- a frame is ignored for this cause
+-- the entry of bytes that are ignored for this cause
 abbrev pub ignores : List ℕ → Ignored → Entry
 ignores bytes why = record { event = event.Deliver bytes; reply = reply.Delivered (Err why) }
 
--- at replica 0, whose ring has no key: round 1 is opened with no height open; what isn't a frame, a stranger's frame and one of an unopened
--- height come; height 1 is opened in mid phase, and then that frame's signature doesn't verify
+-- at replica 0, whose ring has no key: round 1 opens while no height is open; bytes that are no frame, a stranger's frame and a
+-- frame of an unopened height arrive; height 1 is opened within the phase, and then that frame's signature doesn't verify
 abbrev pub round_entries : List Entry
 round_entries =
     quiet_end ∷ ignores (7 ∷ []) cause.Malformed ∷ ignores strange_frame cause.Signer ∷ ignores first_frame cause.NoRow
@@ -297,7 +317,7 @@ round_entries =
 abbrev pub RoundEntriesReplay : Type 0
 RoundEntriesReplay = Replay (four KvStore) [] 0 round_entries
 
--- what was proposed and opened and which report was read stands in the log of its height, and in no other
+-- what was proposed and opened, and which report was read, is in the log of its height and in no other log
 abbrev pub LogOfARound : Type 0
 LogOfARound =
     let entries = record { event = event.Propose 1; reply = reply.Proposed (Ok a) } ∷ quiet_end
@@ -305,23 +325,23 @@ LogOfARound =
     (log_of (four KvStore) 2 1 entries ≡ Proposed a ∷ Round 1 ∷ Read 1 signed_report ∷ [])
     × (log_of (four KvStore) 2 2 entries ≡ Round 1 ∷ [])
 
--- a lock that was taken is sent on as it was read
+-- a lock that was taken is sent on exactly as it was read
 abbrev pub LockSentOn : Type 0
 LockSentOn = held_locks (to_round_3 ++ Round 4 ∷ []) ≡ record { statement = statement.Lock (a_lock 1 1 a); signature = [] } ∷ []
 
 -- ---- a world of replicas 0, 2 and 3, where replica 1 lies
 
--- replica 4 doesn't exist, replica 1 is a liar's, nothing was sent yet; then a transaction is handed in, and a liar's byte comes
+-- replica 4 doesn't exist, replica 1 is a liar, nothing was sent yet; then a transaction is submitted, and a liar's byte arrives
 abbrev pub world_steps : List WorldStep
 world_steps = step.Submit 4 tx_a ∷ step.Submit 1 tx_a ∷ step.Pass 0 0 2 ∷ step.Submit 0 tx_a ∷ step.Inject 2 (7 ∷ []) ∷ []
 
--- what these steps are answered
+-- the replies to these steps
 abbrev pub world_answers : List WorldReply
 world_answers =
     answer.Refused refused.NoSuchReplica ∷ answer.Refused refused.Liar ∷ answer.Refused refused.NoSuchFrame
     ∷ answer.Done 0 0 ∷ answer.Done 2 0 ∷ []
 
--- the world after them
+-- the world after these steps
 abbrev pub world_after : World
 world_after = record {
   histories = record { replica = 0; entries = record { event = event.Submit tx_a; reply = reply.Submitted (Ok tt) } ∷ [] }
@@ -329,6 +349,6 @@ world_after = record {
   order = 0 ∷ 2 ∷ [];
 }
 
--- this is a run
+-- these steps, with these replies, are a run that ends in this world
 abbrev pub WorldRuns : Type 0
 WorldRuns = Runs (four KvStore) [] (beginning (0 ∷ 2 ∷ 3 ∷ [])) world_steps world_answers world_after

@@ -1,5 +1,5 @@
--- The laws exclude something: there are histories that no ledger explains. Their premise can be met: there are runs in which nothing is forged. The examples have a cluster of
--- four, of which the replicas 0, 1 and 2 are correct.
+-- The laws are not vacuous. They exclude something: there are histories that no ledger explains. Their premises can be met:
+-- there are runs in which nothing is forged. The examples have a cluster of four, of which the replicas 0, 1 and 2 are correct.
 use Rattle.std.specs.Prelude.{◌≡◌, ℕ, ◌+◌, ◌<◌, false, List, [], ◌∷◌, ◌++◌, length, replicate, Result, Some, Ok, Err, slice_get}
 use Rattle.ledger_model.specs.declared.config.Config.{Config}
 use Rattle.ledger_model.specs.declared.config.AppKind.TheVariants.{KvStore}
@@ -33,7 +33,7 @@ use Rattle.ledger_laws.specs.Examples.{four, a, b, by_signer, quiet_end}
 abbrev pub NoLedger : Config → List History → Type 0
 NoLedger config histories = (ledger : List Value) → IsLedger config histories ledger → ⊥
 
--- if the histories of a world have no ledger after all of its entries, the world is not the run of a ledger
+-- if the histories of a world after all of its entries have no ledger, the world is not the run of a ledger
 abbrev pub NoRunWithoutLedger : Type 0
 NoRunWithoutLedger =
     (config : Config) (w : World) → world_at w (length w.order) ≡ w → NoLedger config w.histories → Refines config w → ⊥
@@ -57,7 +57,14 @@ LedgerIsUnique =
 -- the lock of replica 1 on the value, in phase 1 of height 1
 abbrev pub lock_on : Value → SignedStatement
 lock_on v = record {
-  statement = statement.Lock (record { height = 1; phase = 1; signer = 1; value = v; proof = by_signer 0 ∷ by_signer 1 ∷ by_signer 2 ∷ [] });
+  statement = statement.Lock (record {
+    height = 1;
+    phase = 1;
+    signer = 1;
+    value = v;
+    proof =
+        by_signer 0 ∷ by_signer 1 ∷ by_signer 2 ∷ [];
+  });
   signature = [];
 }
 
@@ -69,47 +76,52 @@ ack_on v signer = record { statement = statement.Ack (record { height = 1; phase
 abbrev pub proposes : Value → Entry
 proposes v = record { event = event.Propose 1; reply = reply.Proposed (Ok v) }
 
--- a round ends, and the frame of the statement goes to all
+-- a round ends, and a frame of the statement goes to all
 abbrev pub sends : SignedStatement → Entry
 sends s = record {
   event = event.RoundEnd;
   reply = reply.RoundEnded (Ok (record { mute = false; frames = record { addressee = addressee.All; frame = frame_bytes s } ∷ [] }));
 }
 
--- the frame of the statement comes and is accepted
+-- a frame of the statement arrives and is accepted
 abbrev pub accepts : SignedStatement → Entry
 accepts s = record { event = event.Deliver (frame_bytes s); reply = reply.Delivered (Ok tt) }
 
--- the next block is run, with this result
+-- the next block is run with this result
 abbrev pub runs_block : BlockResult → Entry
 runs_block result = record { event = event.Execute; reply = reply.Executed (Ok result) }
 
--- the application is asked for a key at the last height, and answers this
+-- the application answers this to a query for the key at its last height
 abbrev pub answers_query : List ℕ → Result QueryAnswer NotHeld → Entry
 answers_query key given = record { event = event.Query key 0; reply = reply.Queried given }
 
--- a transaction is refused with this code of the application
+-- the application refuses a transaction with this code
 abbrev pub rejects : List ℕ → ℕ → Entry
 rejects tx code = record { event = event.Submit tx; reply = reply.Submitted (Err (refusal.Rejected code)) }
 
--- a replica proposes the first value, makes a lock on the second, reads three acknowledgements of it, decides it as round 4 opens, and runs the block
+-- A replica proposes the first value, makes a lock on the second, reads three acknowledgements of that lock, decides it
+-- as round 4 opens, and runs the block.
 abbrev pub commits : Value → Value → BlockResult → List Entry
 commits own v result =
     proposes own ∷ quiet_end ∷ sends (lock_on v) ∷ quiet_end
     ∷ accepts (ack_on v 0) ∷ accepts (ack_on v 2) ∷ accepts (ack_on v 3) ∷ quiet_end
     ∷ runs_block result ∷ []
 
--- what the application run alone gives for the first block
+-- the result of the application run alone for the first block
 abbrev pub first_result : Value → BlockResult
 first_result v = block_reply KvStore [] v
 
 -- the histories of the correct replicas 0, 1 and 2
 abbrev pub three : List Entry → List Entry → List Entry → List History
-three of_0 of_1 of_2 = record { replica = 0; entries = of_0 } ∷ record { replica = 1; entries = of_1 } ∷ record { replica = 2; entries = of_2 } ∷ []
+three of_0 of_1 of_2 = record { replica = 0; entries = of_0 } ∷ record { replica = 1; entries = of_1 } ∷ record {
+  replica = 2;
+  entries =
+      of_2;
+} ∷ []
 
 -- ---- a fork
 
--- two correct replicas that committed different batches at one place have no ledger
+-- if two correct replicas committed different batches at one height, their histories have no ledger
 abbrev pub ForkHasNoLedger : Type 0
 ForkHasNoLedger =
     (config : Config) (histories : List History) (r q i : ℕ) (m n : History) (v w : Value)
@@ -125,7 +137,8 @@ forked = three [] (commits a a (first_result a)) (commits b b (first_result b))
 abbrev pub forked_world : World
 forked_world = record { histories = forked; order = replicate 9 1 ++ replicate 9 2 }
 
--- the two committed different batches, so the histories have no ledger, their world is not the run of one, and no run in which nothing that was accepted was forged ends in it
+-- The two committed different batches, so the histories have no ledger and their world is not the run of one. No run in
+-- which nothing that was accepted was forged ends in that world.
 abbrev pub ForkExample : Type 0
 ForkExample =
     (commits_of (four KvStore) 1 (commits a a (first_result a)) ≡ a ∷ [])
@@ -137,12 +150,13 @@ ForkExample =
 
 -- ---- a wrong reply
 
--- replicas 1 and 2 commit [a=1], and replica 1 answers any other result than that of the application run alone: another code, hash or height
+-- Replicas 1 and 2 commit [a=1], but replica 1 returns another result than the application run alone: another code, hash or height.
 abbrev pub WrongBlockHasNoLedger : Type 0
 WrongBlockHasNoLedger =
-    (result : BlockResult) → (result ≡ first_result a → ⊥) → NoLedger (four KvStore) (three [] (commits a a result) (commits a a (first_result a)))
+    (result : BlockResult) → (result ≡ first_result a → ⊥)
+    → NoLedger (four KvStore) (three [] (commits a a result) (commits a a (first_result a)))
 
--- replicas 1 and 2 commit [a=1], and replica 1 answers a query with anything other than what the application run alone holds then
+-- Replicas 1 and 2 commit [a=1], but replica 1 answers a query otherwise than the application run alone would then.
 abbrev pub WrongQueryHasNoLedger : Type 0
 WrongQueryHasNoLedger =
     (key : List ℕ) (given : Result QueryAnswer NotHeld) → (given ≡ query_reply KvStore (a ∷ []) key 0 → ⊥)
@@ -151,11 +165,12 @@ WrongQueryHasNoLedger =
 -- replica 2 refuses a transaction with another code than the application run alone
 abbrev pub WrongCodeHasNoLedger : Type 0
 WrongCodeHasNoLedger =
-    (config : Config) (tx : List ℕ) (code : ℕ) → (code ≡ check_reply config.kind [] tx → ⊥) → NoLedger config (three [] [] (rejects tx code ∷ []))
+    (config : Config) (tx : List ℕ) (code : ℕ) → (code ≡ check_reply config.kind [] tx → ⊥)
+    → NoLedger config (three [] [] (rejects tx code ∷ []))
 
 -- ---- another value than the common proposal
 
--- a batch that was committed at a height at which all correct replicas proposed another has no ledger
+-- a committed batch that differs from the one that all correct replicas proposed for its height excludes every ledger
 abbrev pub UnproposedBatchHasNoLedger : Type 0
 UnproposedBatchHasNoLedger =
     (config : Config) (histories : List History) (r h : ℕ) (m : History) (v w : Value)
@@ -169,9 +184,10 @@ UnproposedBatchExample =
     (commits_of (four KvStore) 1 (commits a b (first_result b)) ≡ b ∷ [])
     × NoLedger (four KvStore) (three (proposes a ∷ []) (commits a b (first_result b)) (proposes a ∷ []))
 
--- ---- such histories without a fault
+-- ---- similar histories without a fault
 
--- the replicas 1 and 2 propose and commit [a=1], with the application's own result, and replica 1 answers a query as the application does: [a=1] alone is their ledger
+-- Replicas 1 and 2 propose and commit [a=1], with the application's own result, and replica 1 answers a query as the
+-- application does. Then their ledger is [a=1].
 abbrev pub AgreementHasLedger : Type 0
 AgreementHasLedger =
     (key : List ℕ)
@@ -179,19 +195,21 @@ AgreementHasLedger =
     (three [] (commits a a (first_result a) ++ answers_query key (query_reply KvStore (a ∷ []) key 0) ∷ []) (commits a a (first_result a)))
     (a ∷ [])
 
--- ---- what can be forged
+-- ---- what liars can forge
 
--- nothing that was accepted of the bytes that some step injects was forged
+-- no bytes that a step injects and a correct replica accepts are forged
 abbrev pub NoInjectedForgery : Config → Ring → List WorldStep → World → Type 0
 NoInjectedForgery config ring steps w =
     (n r : ℕ) (bytes : List ℕ) (u : Unit {0}) (s : SignedStatement)
     → Has steps (step.Inject r bytes)
     → slice_get w.order n ≡ Some r
-    → slice_get (entries_in w r) (length (entries_in (world_at w n) r)) ≡ Some (record { event = event.Deliver bytes; reply = reply.Delivered (Ok u) })
+    → slice_get (entries_in w r) (length (entries_in (world_at w n) r))
+    ≡ Some (record { event = event.Deliver bytes; reply = reply.Delivered (Ok u) })
     → reading bytes ≡ Some s
     → IsUnforged config ring (world_at w n).histories s
 
--- what correct replicas send is never forged: if nothing that was accepted of the injected bytes was forged, nothing that was accepted was forged
+-- What correct replicas send is never forged: if nothing forged was accepted among the injected bytes, nothing forged
+-- was accepted at all.
 abbrev pub OnlyInjectionsForge : Type 0
 OnlyInjectionsForge =
     (config : Config) (ring : Ring) (correct : List ℕ) (steps : List WorldStep) (answers : List WorldReply) (w : World)

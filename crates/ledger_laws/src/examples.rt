@@ -1,27 +1,27 @@
-//! Worked examples, which the definitions compute.
+//! Worked examples: each is a fact that the definitions compute.
 ghost use Rattle.ledger_laws.specs.Examples.{TwoNameOne, ThreeDiffer, TwoAgree, TwoNameAll, CutToFour, ThreeAcksDecide, LockReleased, TwoLocksHeld, ReportSpelled, FramesReadBack, BatchLimits, DigitsAndChecksums, CounterCounts, CounterChecks, PursePays, FirstEntriesReplay, OwnListingIsNoOthers, LogOfARound, LockSentOn, RoundEntriesReplay, WorldRuns};
 
-/// What more than t others name is proper, beside the own value.
+/// The own value is proper, and so is a value that more than t others name.
 pub fn two_name_one()
     ensures { TwoNameOne }
 {}
 
-/// Where 2t+1 initial values are known and none is that of t+1 replicas, every value is proper.
+/// If 2t+1 initial values are known and none of them is that of t+1 replicas, every value is proper.
 pub fn three_differ()
     ensures { ThreeDiffer }
 {}
 
-/// Where one initial value is that of t+1 replicas, they don't make every value proper.
+/// If one initial value is that of t+1 replicas, the initial values don't make every value proper.
 pub fn two_agree()
     ensures { TwoAgree }
 {}
 
-/// Where more than t others name every value, every value is proper.
+/// If more than t others report that every value is proper, every value is proper.
 pub fn two_name_all()
     ensures { TwoNameAll }
 {}
 
-/// A value that the own report alone lists isn't proper by name, although more than t others name every value.
+/// A value that only the own report lists isn't proper by name, although more than t others report that every value is proper.
 pub fn own_listing_is_no_others()
     ensures { OwnListingIsNoOthers }
 {}
@@ -31,18 +31,18 @@ pub fn cut_to_four()
     ensures { CutToFour }
 {}
 
-/// The owner decides where 2t+1 replicas acknowledged its lock, as place 3 is closed.
+/// The owner decides if 2t+1 replicas acknowledged its lock by the time that place 3 closes.
 pub fn three_acks_decide()
     ensures { ThreeAcksDecide }
 {}
 
-/// A held lock is released by one on another value that is read at place 4, of a phase from the held
-/// lock's to the current one.
+/// A held lock is released by a lock on another value that is read at place 4 and whose phase is from the held lock's
+/// phase to the current one.
 pub fn lock_released()
     ensures { LockReleased }
 {}
 
-/// Locks on two values may be held.
+/// A replica may hold locks on two values.
 pub fn two_locks_held()
     ensures { TwoLocksHeld }
 {}
@@ -52,13 +52,12 @@ pub fn report_spelled()
     ensures { ReportSpelled }
 {}
 
-/// Frames are read back from their bytes. With a byte more, or with signers that don't ascend, nothing
-/// is read.
+/// Frames are read back from their bytes. One more byte, or signers that don't ascend, and nothing is read.
 pub fn frames_read_back()
     ensures { FramesReadBack }
 {}
 
-/// The longest batch has 1041 bytes, and one of 17 transactions is not read.
+/// The longest batch has 1041 bytes, and a batch of 17 transactions is not read.
 pub fn batch_limits()
     ensures { BatchLimits }
 {}
@@ -68,17 +67,17 @@ pub fn digits_and_checksums()
     ensures { DigitsAndChecksums }
 {}
 
-/// A counter takes the numbers from 0 on, each in its turn.
+/// A counter accepts the numbers from 0 on, in order.
 pub fn counter_counts()
     ensures { CounterCounts }
 {}
 
-/// What a counter refuses to take into the pool, and what the pool keeps after a block.
+/// The codes with which a counter refuses transactions for the pool, and what the pool keeps after a block.
 pub fn counter_checks()
     ensures { CounterChecks }
 {}
 
-/// A purse pays a transfer once.
+/// A purse accepts the same transfer only once.
 pub fn purse_pays()
     ensures { PursePays }
 {}
@@ -88,7 +87,7 @@ pub fn first_entries_replay()
     ensures { FirstEntriesReplay }
 {}
 
-/// What was proposed, opened and read at a height stands in the log of that height alone.
+/// What a replica proposed, opened and read at a height is in the log of that height, and in no other log.
 pub fn log_of_a_round()
     ensures { LogOfARound }
 {}
@@ -98,14 +97,14 @@ pub fn lock_sent_on()
     ensures { LockSentOn }
 {}
 
-/// A round is opened with nothing to send; bytes that aren't a frame, a stranger's frame and one of an unopened height are
-/// ignored by their causes, and so is a report without a key for it.
+/// A round is opened with nothing to send. Bytes that are no frame, a stranger's frame and a frame of an unopened
+/// height are each ignored with their cause, and so is a report for which the ring has no key.
 pub fn round_entries_replay()
     ensures { RoundEntriesReplay }
 {}
 
-/// Steps of a world: a replica that isn't there, a liar and a frame that nobody sent are refused; an event and a liar's bytes
-/// each add an entry.
+/// Steps of a world: a replica that doesn't exist, a liar and a frame that nobody sent are refused; a submit and a
+/// liar's bytes each add an entry.
 pub fn world_runs()
     ensures { WorldRuns }
 {}

@@ -1,4 +1,4 @@
-//! What holds of every run of the definitions, and worked examples of them.
+//! The laws: what holds of every run, proved from the definitions alone, and worked examples of the definitions.
 #![tactic(auto)]
 
 pub mod examples;

@@ -1,4 +1,4 @@
--- The test of neighbours tells whether values ascend.
+-- Comparing neighbours tests whether values ascend.
 use Rattle.std.proofs.Common.{◌≡◌, ℕ, zero, suc, ◌+◌, ◌<◌, Bool, true, false, List, [], ◌∷◌, length, get_or, refl, sym, arith, add-one}
 use Rattle.std.specs.List.{IsAllAdjacentAnswer, AllAdjacentBelow}
 use Rattle.std.proofs.lemmas.Bool.{and_from}
@@ -15,7 +15,8 @@ all_below (v ∷ w ∷ vs) h =
     (all_below (w ∷ vs) (λ k d lt. rw add-one (let next = h (suc k) d (omega arith) in rw add-one at next)))
 
 -- one that isn't
-some_not_below : (k : ℕ) (vs : List Value) → k + 1 < length vs → ((d : Value) → false ≡ is_below (get_or vs k d) (get_or vs (k + 1) d)) → are_ascending vs ≡ false
+some_not_below : (k : ℕ) (vs : List Value) → k + 1 < length vs → ((d : Value) → false ≡ is_below (get_or vs k d) (get_or vs (k + 1) d))
+    → are_ascending vs ≡ false
 some_not_below k [] lt h = absurd (omega arith)
 some_not_below k (v ∷ []) lt h = absurd (omega arith)
 some_not_below zero (v ∷ w ∷ vs) lt h = rw (sym (h [])) refl

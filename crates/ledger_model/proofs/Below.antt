@@ -1,4 +1,4 @@
--- The order of values is strict and total, and what puts values in order.
+-- The order of values is strict and total, and what sorts values.
 use Rattle.std.proofs.Common.{◌≡◌, true, false, inl, inr, List, [], ◌∷◌, refl, sym, ap, subst, ◌∙◌}
 use Rattle.std.specs.declared.cmp.Ordering.{Ordering}
 use Rattle.std.specs.declared.cmp.Ordering.TheVariants.{Less, Equal, Greater}
@@ -50,19 +50,27 @@ pub below_other : (v w : Value) → is_below v w ≡ true → is_below w v ≡ f
 below_other v w e = elim (side v w) [ Same a b ↦ b | Below a b c ↦ c | Above a b c ↦ absurd (false≢true (sym b ∙ e)) ]
 
 pub below_or : (v w : Value) → same_value v w ≡ false → is_below v w ≡ false → is_below w v ≡ true
-below_or v w e f = elim (side v w) [ Same a b ↦ absurd (false≢true (sym e ∙ a)) | Below a b c ↦ absurd (false≢true (sym f ∙ b)) | Above a b c ↦ c ]
+below_or v w e f = elim (side v w) [
+  | Same a b ↦ absurd (false≢true (sym e ∙ a))
+  | Below a b c ↦
+      absurd (false≢true (sym f ∙ b))
+  | Above a b c ↦ c
+]
 
 -- ---- what `with_value` and `ascending` give ascends
 
 -- w below v, and in front of a list that ascends: w stands below what the list has once v is in it
-before_with : (w v : Value) (ws : List Value) → is_below w v ≡ true → are_ascending (w ∷ ws) ≡ true → are_ascending (with_value v ws) ≡ true → are_ascending (w ∷ with_value v ws) ≡ true
+before_with : (w v : Value) (ws : List Value) → is_below w v ≡ true → are_ascending (w ∷ ws) ≡ true
+    → are_ascending (with_value v ws) ≡ true → are_ascending (w ∷ with_value v ws) ≡ true
 before_with w v [] lt h rest = and_from (is_below w v) true lt refl
 before_with w v (x ∷ xs) lt h rest =
     elim (cases_Bool (same_value v x)) [
       | inl same ↦ simp same h
       | inr other ↦ elim (cases_Bool (is_below v x)) [
         | inl below ↦ simp (other, below, lt) ((and_parts (is_below w x) (are_ascending (x ∷ xs)) h).1)
-        | inr above ↦ (let g : are_ascending (x ∷ with_value v xs) ≡ true = simp (other, above) at rest in simp (other, above) (and_from (is_below w x) (are_ascending (x ∷ with_value v xs)) ((and_parts (is_below w x) (are_ascending (x ∷ xs)) h).0) g))
+        | inr above ↦ (let g : are_ascending (x ∷ with_value v xs) ≡ true =
+            simp (other, above) at rest in simp (other, above)
+            (and_from (is_below w x) (are_ascending (x ∷ with_value v xs)) ((and_parts (is_below w x) (are_ascending (x ∷ xs)) h).0) g))
       ]
     ]
 
@@ -112,6 +120,14 @@ one_list (v ∷ vs) (w ∷ ws) a b f g =
       ]
     ] in
     let rest : vs ≡ ws = one_list vs ws (tail_ascends v vs a) (tail_ascends w ws b)
-    (λ x h. elim (f x (inr h)) [ inl e ↦ absurd (not_below_itself v (subst (λ y. is_below v y ≡ true) (sym e ∙ sym first) (above_all v vs a x h))) | inr k ↦ k ])
-    (λ x h. elim (g x (inr h)) [ inl e ↦ absurd (not_below_itself w (subst (λ y. is_below w y ≡ true) (sym e ∙ first) (above_all w ws b x h))) | inr k ↦ k ]) in
+    (λ x h. elim (f x (inr h)) [
+      | inl e ↦
+          absurd (not_below_itself v (subst (λ y. is_below v y ≡ true) (sym e ∙ sym first) (above_all v vs a x h)))
+      | inr k ↦ k
+    ])
+    (λ x h. elim (g x (inr h)) [
+      | inl e ↦
+          absurd (not_below_itself w (subst (λ y. is_below w y ≡ true) (sym e ∙ first) (above_all w ws b x h)))
+      | inr k ↦ k
+    ]) in
     cc

@@ -1,5 +1,6 @@
--- Statements and signatures are read as they are spelled.
-use Rattle.std.proofs.Common.{◌≡◌, ℕ, zero, suc, ◌^◌, ◌<◌, ◌≤◌, Bool, true, false, ◌&&◌, cond, List, [], ◌∷◌, ◌++◌, length, Option, Some, None, refl, sym, ap, subst, ◌∙◌, append_assoc, arith, leb, eqb}
+-- Statements and signatures are read back from their encoding.
+use Rattle.std.proofs.Common.{◌≡◌, ℕ, zero, suc, ◌^◌, ◌<◌, ◌≤◌, Bool, true, false, ◌&&◌, cond, List, [], ◌∷◌, ◌++◌, length, Option, Some}
+use Rattle.std.proofs.Common.{None, refl, sym, ap, subst, ◌∙◌, append_assoc, arith, leb, eqb}
 use Rattle.std.specs.List.{flat_map, AllByRecursion}
 use Rattle.std.specs.Int.{w16, w32, to_be_bytes}
 use Rattle.std.proofs.lemmas.Bool.{and_parts, and_from, leb-true, le-leb, eqb-true}
@@ -11,11 +12,15 @@ use Rattle.ledger_model.specs.declared.statement.Statement.{Statement}
 use Rattle.ledger_model.specs.declared.statement.Statement.TheVariants as statement
 use Rattle.ledger_model.specs.Values.{value_bytes}
 use Rattle.ledger_model.specs.Validity.{ascends_within, signers_of}
-use Rattle.ledger_model.specs.Spelling.{IsPlace, IsReport, IsSignature, IsSigned, IsLock, IsAck, IsStatement, list_bytes, report_bytes, signature_bytes, signed_bytes, lock_bytes, ack_bytes, statement_bytes}
+use Rattle.ledger_model.specs.Spelling.{IsPlace, IsReport, IsSignature, IsSigned, IsLock, IsAck, IsStatement, list_bytes, report_bytes}
+use Rattle.ledger_model.specs.Spelling.{signature_bytes, signed_bytes, lock_bytes, ack_bytes, statement_bytes}
 use Rattle.ledger_model.specs.GrammarLaws.{IsBytes}
-use Rattle.ledger_model.specs.Reading.{◌>>=◌, only_if, guarded, bytes_at, byte_at, number_at, signature_at, positive_at, flag_at, Place, place_at, value_at, list_at, report_at, signed_at, proof_at, lock_at, ack_at, statement_at}
-use Rattle.ledger_model.proofs.Readers.{bind_some, bind_then, only_if-some, guarded-some, some_is, each_byte, IsReader, many_takes, many_again, IsBytes-tail, byte_takes, bytes_take, bytes_again, wide16, wide32, number_reader}
+use Rattle.ledger_model.specs.Reading.{◌>>=◌, only_if, guarded, bytes_at, byte_at, number_at, signature_at, positive_at, flag_at, Header}
+use Rattle.ledger_model.specs.Reading.{place_at, value_at, list_at, report_at, signed_at, proof_at, lock_at, ack_at, statement_at}
+use Rattle.ledger_model.proofs.Readers.{bind_some, bind_then, only_if-some, guarded-some, some_is, each_byte, IsReader, many_takes}
+use Rattle.ledger_model.proofs.Readers.{many_again, IsBytes-tail, byte_takes, bytes_take, bytes_again, wide16, wide32, number_reader}
 use Rattle.ledger_model.proofs.ValueReading.{value_reader, list_reader}
+use Rattle.ledger_model.specs.Limits.{max_signature_len}
 
 -- ---- signatures
 
@@ -23,24 +28,26 @@ pub signature_takes : (bytes signature rest : List ℕ) → IsBytes bytes → si
     → (bytes ≡ signature_bytes signature ++ rest) × IsSignature signature × IsBytes rest
 unfolding signature_at
 signature_takes bytes signature rest fits e =
-    let a = bind_some (number_at w16 bytes) (λ len. guarded (leb len.0 2508) (bytes_at len.0 len.1)) (signature, rest) e in
-    let g = guarded-some (leb a.0.0 2508) (bytes_at a.0.0 a.0.1) (signature, rest) a.2 in
-    let short : a.0.0 ≤ 2508 = leb-true a.0.0 2508 g.0 in
+    let a = bind_some (number_at w16 bytes) (λ len. guarded (leb len.0 max_signature_len) (bytes_at len.0 len.1)) (signature, rest) e in
+    let g = guarded-some (leb a.0.0 max_signature_len) (bytes_at a.0.0 a.0.1) (signature, rest) a.2 in
+    let short : a.0.0 ≤ max_signature_len = leb-true a.0.0 max_signature_len g.0 in
     let first = (number_reader w16 (2 ^ 16) wide16).takes bytes a.0.0 a.0.1 fits a.1 in
     let text = bytes_take a.0.0 a.0.1 signature rest first.2 g.1 in
     let len : length signature ≡ a.0.0 = text.3 in
     let parts : bytes ≡ (to_be_bytes w16 (length signature) ++ signature) ++ rest =
     first.0 ∙ ap (λ (t : List ℕ). to_be_bytes w16 a.0.0 ++ t) text.0 ∙ ap (λ (k : ℕ). to_be_bytes w16 k ++ (signature ++ rest)) (sym len)
     ∙ sym (append_assoc (to_be_bytes w16 (length signature)) signature rest) in
-    (parts, record { short = subst (λ (k : ℕ). k ≤ 2508) (sym len) short; bytes = each_byte signature text.1 }, text.2)
+    (parts, record { short = subst (λ (k : ℕ). k ≤ max_signature_len) (sym len) short; bytes = each_byte signature text.1 }, text.2)
 
-pub signature_again : (signature rest : List ℕ) → IsSignature signature → signature_at (signature_bytes signature ++ rest) ≡ Some (signature, rest)
+pub signature_again : (signature rest : List ℕ) → IsSignature signature
+    → signature_at (signature_bytes signature ++ rest) ≡ Some (signature, rest)
 unfolding signature_at
 signature_again signature rest is =
-    let short : length signature ≤ 2508 = is.short in
-    let test : leb (length signature) 2508 ≡ true = le-leb _ _ short in
+    let short : length signature ≤ max_signature_len = is.short in
+    let test : leb (length signature) max_signature_len ≡ true = le-leb _ _ short in
     ap signature_at (append_assoc (to_be_bytes w16 (length signature)) signature rest)
-    ∙ rw ((number_reader w16 (2 ^ 16) wide16).again (length signature) (signature ++ rest) (omega arith), test, bytes_again signature rest) refl
+    ∙ rw ((number_reader w16 (2 ^ 16) wide16).again (length signature) (signature ++ rest) (omega arith), test, bytes_again signature rest)
+    refl
 
 pub signature_reader : IsReader signature_bytes IsSignature signature_at
 signature_reader = record { takes = signature_takes; again = signature_again }
@@ -57,7 +64,8 @@ positive_reader = record {
       let a = bind_some (number_at w32 bytes) (λ p. only_if (leb 1 p.0) p) (n, rest) e in
       let o = only_if-some (leb 1 a.0.0) a.0 (n, rest) a.2 in
       let first = (number_reader w32 (2 ^ 32) wide32).takes bytes a.0.0 a.0.1 fits a.1 in
-      subst (λ (p : ℕ × List ℕ). (bytes ≡ to_be_bytes w32 p.0 ++ p.1) × IsPositive p.0 × IsBytes p.1) o.1 (first.0, (leb-true 1 a.0.0 o.0, first.1), first.2);
+      subst (λ (p : ℕ × List ℕ). (bytes ≡ to_be_bytes w32 p.0 ++ p.1) × IsPositive p.0 × IsBytes p.1) o.1
+      (first.0, (leb-true 1 a.0.0 o.0, first.1), first.2);
   again = λ n rest is.
       rw ((number_reader w32 (2 ^ 32) wide32).again n rest is.1, le-leb 1 n is.0) refl;
 }
@@ -69,13 +77,16 @@ flag_bytes flag = cond flag 1 0 ∷ []
 abbrev pub IsFlag : Bool → Type 0
 IsFlag flag = Unit {0}
 
-pub flag_takes : (bytes : List ℕ) (flag : Bool) (rest : List ℕ) → IsBytes bytes → flag_at bytes ≡ Some (flag, rest) → (bytes ≡ flag_bytes flag ++ rest) × IsFlag flag × IsBytes rest
+pub flag_takes : (bytes : List ℕ) (flag : Bool) (rest : List ℕ) → IsBytes bytes → flag_at bytes ≡ Some (flag, rest)
+    → (bytes ≡ flag_bytes flag ++ rest) × IsFlag flag × IsBytes rest
 unfolding flag_at
 flag_takes [] flag rest fits e = absurd cc
 flag_takes (zero ∷ bytes) flag rest fits e =
-    subst (λ (p : Bool × List ℕ). (0 ∷ bytes ≡ flag_bytes p.0 ++ p.1) × IsFlag p.0 × IsBytes p.1) (some_is (false, bytes) (flag, rest) e) (refl, tt, IsBytes-tail 0 bytes fits)
+    subst (λ (p : Bool × List ℕ). (0 ∷ bytes ≡ flag_bytes p.0 ++ p.1) × IsFlag p.0 × IsBytes p.1) (some_is (false, bytes) (flag, rest) e)
+    (refl, tt, IsBytes-tail 0 bytes fits)
 flag_takes (suc zero ∷ bytes) flag rest fits e =
-    subst (λ (p : Bool × List ℕ). (1 ∷ bytes ≡ flag_bytes p.0 ++ p.1) × IsFlag p.0 × IsBytes p.1) (some_is (true, bytes) (flag, rest) e) (refl, tt, IsBytes-tail 1 bytes fits)
+    subst (λ (p : Bool × List ℕ). (1 ∷ bytes ≡ flag_bytes p.0 ++ p.1) × IsFlag p.0 × IsBytes p.1) (some_is (true, bytes) (flag, rest) e)
+    (refl, tt, IsBytes-tail 1 bytes fits)
 flag_takes (suc (suc b) ∷ bytes) flag rest fits e = absurd cc
 
 pub flag_again : (flag : Bool) (rest : List ℕ) → IsFlag flag → flag_at (flag_bytes flag ++ rest) ≡ Some (flag, rest)
@@ -88,33 +99,45 @@ flag_reader = record { takes = flag_takes; again = flag_again }
 
 -- ---- places
 
-abbrev pub place_bytes : Place → List ℕ
+abbrev pub place_bytes : Header → List ℕ
 place_bytes p = to_be_bytes w32 p.height ++ to_be_bytes w32 p.phase ++ p.signer ∷ []
 
-abbrev pub IsPlaced : Place → Type 0
+abbrev pub IsPlaced : Header → Type 0
 IsPlaced p = IsPlace p.height p.phase p.signer
 
-pub place_takes : (bytes : List ℕ) (p : Place) (rest : List ℕ) → IsBytes bytes → place_at bytes ≡ Some (p, rest) → (bytes ≡ place_bytes p ++ rest) × IsPlaced p × IsBytes rest
+pub place_takes : (bytes : List ℕ) (p : Header) (rest : List ℕ) → IsBytes bytes → place_at bytes ≡ Some (p, rest)
+    → (bytes ≡ place_bytes p ++ rest) × IsPlaced p × IsBytes rest
 unfolding place_at
 place_takes bytes p rest fits e =
-    let a = bind_some (positive_at bytes) (λ height. positive_at height.1 >>= λ phase. byte_at phase.1 >>= λ signer. Some (record { height = height.0; phase = phase.0; signer = signer.0 }, signer.1)) (p, rest) e in
-    let b = bind_some (positive_at a.0.1) (λ phase. byte_at phase.1 >>= λ signer. Some (record { height = a.0.0; phase = phase.0; signer = signer.0 }, signer.1)) (p, rest) a.2 in
-    let c = bind_some (byte_at b.0.1) (λ signer. Some (record { height = a.0.0; phase = b.0.0; signer = signer.0 }, signer.1)) (p, rest) b.2 in
+    let a = bind_some (positive_at bytes)
+    (λ height. positive_at height.1 >>= λ phase. byte_at phase.1 >>= λ signer. Some
+    (record { height = height.0; phase = phase.0; signer = signer.0 }, signer.1)) (p, rest) e in
+    let b = bind_some (positive_at a.0.1)
+    (λ phase. byte_at phase.1 >>= λ signer. Some (record { height = a.0.0; phase = phase.0; signer = signer.0 }, signer.1)) (p, rest)
+    a.2 in
+    let c = bind_some (byte_at b.0.1) (λ signer. Some (record { height = a.0.0; phase = b.0.0; signer = signer.0 }, signer.1)) (p, rest)
+    b.2 in
     let height = positive_reader.takes bytes a.0.0 a.0.1 fits a.1 in
     let phase = positive_reader.takes a.0.1 b.0.0 b.0.1 height.2 b.1 in
     let signer = byte_takes b.0.1 c.0.0 c.0.1 phase.2 c.1 in
-    let made : Place × List ℕ = (record { height = a.0.0; phase = b.0.0; signer = c.0.0 }, c.0.1) in
+    let made : Header × List ℕ = (record { height = a.0.0; phase = b.0.0; signer = c.0.0 }, c.0.1) in
     let parts : bytes ≡ place_bytes made.0 ++ made.1 =
-    height.0 ∙ ap (λ (t : List ℕ). to_be_bytes w32 a.0.0 ++ t) (phase.0 ∙ ap (λ (t : List ℕ). to_be_bytes w32 b.0.0 ++ t) signer.0) ∙ simp append_assoc in
-    subst (λ (q : Place × List ℕ). (bytes ≡ place_bytes q.0 ++ q.1) × IsPlaced q.0 × IsBytes q.1) (some_is made (p, rest) c.2)
+    height.0 ∙ ap (λ (t : List ℕ). to_be_bytes w32 a.0.0 ++ t) (phase.0 ∙ ap (λ (t : List ℕ). to_be_bytes w32 b.0.0 ++ t) signer.0)
+    ∙ simp append_assoc in
+    subst (λ (q : Header × List ℕ). (bytes ≡ place_bytes q.0 ++ q.1) × IsPlaced q.0 × IsBytes q.1) (some_is made (p, rest) c.2)
     (parts, record { heights = height.1; phases = phase.1; signers = signer.1 }, signer.2)
 
-pub place_again : (p : Place) (rest : List ℕ) → IsPlaced p → place_at (place_bytes p ++ rest) ≡ Some (p, rest)
+pub place_again : (p : Header) (rest : List ℕ) → IsPlaced p → place_at (place_bytes p ++ rest) ≡ Some (p, rest)
 unfolding place_at
 place_again p rest is =
-    let regrouped : place_bytes p ++ rest ≡ to_be_bytes w32 p.height ++ (to_be_bytes w32 p.phase ++ (p.signer ∷ rest)) = simp append_assoc in
+    let regrouped : place_bytes p ++ rest ≡ to_be_bytes w32 p.height ++ (to_be_bytes w32 p.phase ++ (p.signer ∷ rest)) =
+    simp append_assoc in
     ap place_at regrouped
-    ∙ rw (positive_reader.again p.height (to_be_bytes w32 p.phase ++ (p.signer ∷ rest)) is.heights, positive_reader.again p.phase (p.signer ∷ rest) is.phases) refl
+    ∙ rw (
+      positive_reader.again p.height (to_be_bytes w32 p.phase ++ (p.signer ∷ rest)) is.heights,
+      positive_reader.again p.phase
+          (p.signer ∷ rest) is.phases,
+    ) refl
 
 pub place_reader : IsReader place_bytes IsPlaced place_at
 place_reader = record { takes = place_takes; again = place_again }
@@ -127,39 +150,121 @@ report_tail r =
     to_be_bytes w32 r.height ++ to_be_bytes w32 r.phase ++ (r.signer ∷ cond r.all 1 0 ∷ [])
     ++ value_bytes r.initial ++ list_bytes r.proper ++ list_bytes r.locked
 
-report_regroup : (h p v l m rest : List ℕ) (s f : ℕ) → (h ++ p ++ s ∷ []) ++ ((f ∷ []) ++ (v ++ (l ++ (m ++ rest)))) ≡ (h ++ p ++ (s ∷ f ∷ []) ++ v ++ l ++ m) ++ rest
+report_regroup : (h p v l m rest : List ℕ) (s f : ℕ)
+    → (h ++ p ++ s ∷ []) ++ ((f ∷ []) ++ (v ++ (l ++ (m ++ rest)))) ≡ (h ++ p ++ (s ∷ f ∷ []) ++ v ++ l ++ m) ++ rest
 report_regroup h p v l m rest s f = simp append_assoc
 
-pub report_takes : (bytes : List ℕ) (r : Report) (rest : List ℕ) → IsBytes bytes → report_at bytes ≡ Some (r, rest) → (bytes ≡ report_tail r ++ rest) × IsReport r × IsBytes rest
+pub report_takes : (bytes : List ℕ) (r : Report) (rest : List ℕ) → IsBytes bytes → report_at bytes ≡ Some (r, rest)
+    → (bytes ≡ report_tail r ++ rest) × IsReport r × IsBytes rest
 unfolding report_at
 report_takes bytes r rest fits e =
-    bind_then (place_at bytes) (λ place. flag_at place.1 >>= λ all. value_at all.1 >>= λ initial. list_at initial.1 >>= λ proper. guarded (leb 1 (length proper.0)) (list_at proper.1) >>= λ locked. Some (record { height = place.0.height; phase = place.0.phase; signer = place.0.signer; all = all.0; initial = initial.0; proper = proper.0; locked = locked.0 }, locked.1)) (r, rest) e (λ place place_is after_place.
-    bind_then (flag_at place.1) (λ all. value_at all.1 >>= λ initial. list_at initial.1 >>= λ proper. guarded (leb 1 (length proper.0)) (list_at proper.1) >>= λ locked. Some (record { height = place.0.height; phase = place.0.phase; signer = place.0.signer; all = all.0; initial = initial.0; proper = proper.0; locked = locked.0 }, locked.1)) (r, rest) after_place (λ all all_is after_all.
-    bind_then (value_at all.1) (λ initial. list_at initial.1 >>= λ proper. guarded (leb 1 (length proper.0)) (list_at proper.1) >>= λ locked. Some (record { height = place.0.height; phase = place.0.phase; signer = place.0.signer; all = all.0; initial = initial.0; proper = proper.0; locked = locked.0 }, locked.1)) (r, rest) after_all (λ initial initial_is after_initial.
-    bind_then (list_at initial.1) (λ proper. guarded (leb 1 (length proper.0)) (list_at proper.1) >>= λ locked. Some (record { height = place.0.height; phase = place.0.phase; signer = place.0.signer; all = all.0; initial = initial.0; proper = proper.0; locked = locked.0 }, locked.1)) (r, rest) after_initial (λ proper proper_is after_proper.
-    bind_then (guarded (leb 1 (length proper.0)) (list_at proper.1)) (λ locked. Some (record { height = place.0.height; phase = place.0.phase; signer = place.0.signer; all = all.0; initial = initial.0; proper = proper.0; locked = locked.0 }, locked.1)) (r, rest) after_proper (λ locked locked_is after_locked.
+    bind_then (place_at bytes) (λ place. flag_at place.1 >>= λ all. value_at all.1 >>= λ initial. list_at initial.1 >>= λ proper. guarded
+    (leb 1 (length proper.0)) (list_at proper.1) >>= λ locked. Some (
+      record {
+        height = place.0.height;
+        phase = place.0.phase;
+        signer = place.0.signer;
+        all = all.0;
+        initial = initial.0;
+        proper =
+            proper.0;
+        locked = locked.0;
+      },
+      locked.1,
+    )) (r, rest) e (λ place place_is after_place.
+    bind_then (flag_at place.1) (λ all. value_at all.1 >>= λ initial. list_at initial.1 >>= λ proper. guarded (leb 1 (length proper.0))
+    (list_at proper.1) >>= λ locked. Some (
+      record {
+        height = place.0.height;
+        phase = place.0.phase;
+        signer = place.0.signer;
+        all = all.0;
+        initial = initial.0;
+        proper =
+            proper.0;
+        locked = locked.0;
+      },
+      locked.1,
+    )) (r, rest) after_place (λ all all_is after_all.
+    bind_then (value_at all.1) (λ initial. list_at initial.1 >>= λ proper. guarded (leb 1 (length proper.0)) (list_at proper.1) >>=
+    λ locked. Some (
+      record {
+        height = place.0.height;
+        phase = place.0.phase;
+        signer = place.0.signer;
+        all = all.0;
+        initial =
+            initial.0;
+        proper = proper.0;
+        locked = locked.0;
+      },
+      locked.1,
+    )) (r, rest) after_all (λ initial initial_is after_initial.
+    bind_then (list_at initial.1) (λ proper. guarded (leb 1 (length proper.0)) (list_at proper.1) >>= λ locked. Some (
+      record {
+        height = place.0.height;
+        phase = place.0.phase;
+        signer = place.0.signer;
+        all = all.0;
+        initial = initial.0;
+        proper =
+            proper.0;
+        locked = locked.0;
+      },
+      locked.1,
+    )) (r, rest) after_initial (λ proper proper_is after_proper.
+    bind_then (guarded (leb 1 (length proper.0)) (list_at proper.1))
+    (λ locked. Some (
+      record {
+        height = place.0.height;
+        phase = place.0.phase;
+        signer = place.0.signer;
+        all = all.0;
+        initial =
+            initial.0;
+        proper = proper.0;
+        locked = locked.0;
+      },
+      locked.1,
+    )) (r, rest) after_proper (λ locked locked_is after_locked.
     let g = guarded-some (leb 1 (length proper.0)) (list_at proper.1) locked locked_is in
     let a = place_reader.takes bytes place.0 place.1 fits place_is in
     let b = flag_reader.takes place.1 all.0 all.1 a.2 all_is in
     let c = value_reader.takes all.1 initial.0 initial.1 b.2 initial_is in
     let d = list_reader.takes initial.1 proper.0 proper.1 c.2 proper_is in
     let f = list_reader.takes proper.1 locked.0 locked.1 d.2 g.1 in
-    let made : Report × List ℕ = (record { height = place.0.height; phase = place.0.phase; signer = place.0.signer; all = all.0; initial = initial.0; proper = proper.0; locked = locked.0 }, locked.1) in
+    let made : Report × List ℕ = (
+      record {
+        height = place.0.height;
+        phase = place.0.phase;
+        signer = place.0.signer;
+        all = all.0;
+        initial =
+            initial.0;
+        proper = proper.0;
+        locked = locked.0;
+      },
+      locked.1,
+    ) in
     let parts : bytes ≡ report_tail made.0 ++ made.1 =
-    a.0 ∙ ap (λ (t : List ℕ). place_bytes place.0 ++ t) (b.0 ∙ ap (λ (t : List ℕ). flag_bytes all.0 ++ t) (c.0 ∙ ap (λ (t : List ℕ). value_bytes initial.0 ++ t) (d.0 ∙ ap (λ (t : List ℕ). list_bytes proper.0 ++ t) f.0)))
-    ∙ report_regroup (to_be_bytes w32 place.0.height) (to_be_bytes w32 place.0.phase) (value_bytes initial.0) (list_bytes proper.0) (list_bytes locked.0) locked.1 place.0.signer (cond all.0 1 0) in
+    a.0 ∙ ap (λ (t : List ℕ). place_bytes place.0 ++ t)
+    (b.0 ∙ ap (λ (t : List ℕ). flag_bytes all.0 ++ t)
+    (c.0 ∙ ap (λ (t : List ℕ). value_bytes initial.0 ++ t) (d.0 ∙ ap (λ (t : List ℕ). list_bytes proper.0 ++ t) f.0)))
+    ∙ report_regroup (to_be_bytes w32 place.0.height) (to_be_bytes w32 place.0.phase) (value_bytes initial.0) (list_bytes proper.0)
+    (list_bytes locked.0) locked.1 place.0.signer (cond all.0 1 0) in
     subst (λ (q : Report × List ℕ). (bytes ≡ report_tail q.0 ++ q.1) × IsReport q.0 × IsBytes q.1) (some_is made (r, rest) after_locked)
     (parts, record { place = a.1; initial = c.1; proper = d.1; some = leb-true 1 (length proper.0) g.0; locked = f.1 }, f.2))))))
 
 pub report_again : (r : Report) (rest : List ℕ) → IsReport r → report_at (report_tail r ++ rest) ≡ Some (r, rest)
 unfolding report_at
 report_again r rest is =
-    let place : Place = record { height = r.height; phase = r.phase; signer = r.signer } in
+    let place : Header = record { height = r.height; phase = r.phase; signer = r.signer } in
     let after_proper = list_bytes r.locked ++ rest in
     let after_initial = list_bytes r.proper ++ after_proper in
     let after_flag = value_bytes r.initial ++ after_initial in
     let after_place = flag_bytes r.all ++ after_flag in
-    ap report_at (sym (report_regroup (to_be_bytes w32 r.height) (to_be_bytes w32 r.phase) (value_bytes r.initial) (list_bytes r.proper) (list_bytes r.locked) rest r.signer (cond r.all 1 0)))
+    ap report_at (sym (report_regroup (to_be_bytes w32 r.height) (to_be_bytes w32 r.phase) (value_bytes r.initial) (list_bytes r.proper)
+    (list_bytes r.locked) rest r.signer (cond r.all 1 0)))
     ∙ rw (
       place_reader.again place after_place is.place,
       flag_reader.again r.all after_flag tt,
@@ -174,12 +279,18 @@ report_reader = record { takes = report_takes; again = report_again }
 
 -- ---- signed reports and proofs
 
-pub signed_takes : (bytes : List ℕ) (s : SignedReport) (rest : List ℕ) → IsBytes bytes → signed_at bytes ≡ Some (s, rest) → (bytes ≡ signed_bytes s ++ rest) × IsSigned s × IsBytes rest
+pub signed_takes : (bytes : List ℕ) (s : SignedReport) (rest : List ℕ) → IsBytes bytes → signed_at bytes ≡ Some (s, rest)
+    → (bytes ≡ signed_bytes s ++ rest) × IsSigned s × IsBytes rest
 unfolding signed_at
 signed_takes bytes s rest fits e =
-    let a = bind_some (byte_at bytes) (λ kind. guarded (eqb kind.0 1) (report_at kind.1) >>= λ report. signature_at report.1 >>= λ signature. Some (record { report = report.0; signature = signature.0 }, signature.1)) (s, rest) e in
-    let b = bind_some (guarded (eqb a.0.0 1) (report_at a.0.1)) (λ report. signature_at report.1 >>= λ signature. Some (record { report = report.0; signature = signature.0 }, signature.1)) (s, rest) a.2 in
-    let c = bind_some (signature_at b.0.1) (λ signature. Some (record { report = b.0.0; signature = signature.0 }, signature.1)) (s, rest) b.2 in
+    let a = bind_some (byte_at bytes)
+    (λ kind. guarded (eqb kind.0 1) (report_at kind.1) >>= λ report. signature_at report.1 >>= λ signature. Some
+    (record { report = report.0; signature = signature.0 }, signature.1)) (s, rest) e in
+    let b = bind_some (guarded (eqb a.0.0 1) (report_at a.0.1))
+    (λ report. signature_at report.1 >>= λ signature. Some (record { report = report.0; signature = signature.0 }, signature.1))
+    (s, rest) a.2 in
+    let c = bind_some (signature_at b.0.1) (λ signature. Some (record { report = b.0.0; signature = signature.0 }, signature.1)) (s, rest)
+    b.2 in
     let g = guarded-some (eqb a.0.0 1) (report_at a.0.1) b.0 b.1 in
     let kind = byte_takes bytes a.0.0 a.0.1 fits a.1 in
     let is_one : a.0.0 ≡ 1 = eqb-true a.0.0 1 g.0 in
@@ -188,7 +299,8 @@ signed_takes bytes s rest fits e =
     let made : SignedReport × List ℕ = (record { report = b.0.0; signature = c.0.0 }, c.0.1) in
     let parts : bytes ≡ signed_bytes made.0 ++ made.1 =
     kind.0 ∙ ap (λ (k : ℕ). k ∷ a.0.1) is_one
-    ∙ ap (λ (t : List ℕ). 1 ∷ t) (report.0 ∙ ap (λ (t : List ℕ). report_tail b.0.0 ++ t) signature.0 ∙ sym (append_assoc (report_tail b.0.0) (signature_bytes c.0.0) c.0.1)) in
+    ∙ ap (λ (t : List ℕ). 1 ∷ t) (report.0 ∙ ap (λ (t : List ℕ). report_tail b.0.0 ++ t) signature.0
+    ∙ sym (append_assoc (report_tail b.0.0) (signature_bytes c.0.0) c.0.1)) in
     subst (λ (q : SignedReport × List ℕ). (bytes ≡ signed_bytes q.0 ++ q.1) × IsSigned q.0 × IsBytes q.1) (some_is made (s, rest) c.2)
     (parts, record { report = report.1; signature = signature.1 }, signature.2)
 
@@ -196,17 +308,23 @@ pub signed_again : (s : SignedReport) (rest : List ℕ) → IsSigned s → signe
 unfolding signed_at
 signed_again s rest is =
     ap (λ (t : List ℕ). signed_at (1 ∷ t)) (append_assoc (report_tail s.report) (signature_bytes s.signature) rest)
-    ∙ rw (report_reader.again s.report (signature_bytes s.signature ++ rest) is.report, signature_reader.again s.signature rest is.signature) refl
+    ∙ rw (
+      report_reader.again s.report (signature_bytes s.signature ++ rest) is.report,
+      signature_reader.again s.signature rest
+          is.signature,
+    ) refl
 
 pub signed_reader : IsReader signed_bytes IsSigned signed_at
 signed_reader = record { takes = signed_takes; again = signed_again }
 
-pub proof_takes : (n : ℕ) (bytes : List ℕ) (proof : List SignedReport) (rest : List ℕ) → IsBytes bytes → proof_at n bytes ≡ Some (proof, rest)
+pub proof_takes : (n : ℕ) (bytes : List ℕ) (proof : List SignedReport) (rest : List ℕ) → IsBytes bytes
+    → proof_at n bytes ≡ Some (proof, rest)
     → (bytes ≡ flat_map signed_bytes proof ++ rest) × AllByRecursion IsSigned proof × IsBytes rest × (length proof ≡ n)
 unfolding proof_at
 proof_takes = many_takes signed_reader proof_at (λ bytes. refl) (λ n bytes. refl)
 
-pub proof_again : (proof : List SignedReport) (rest : List ℕ) → AllByRecursion IsSigned proof → proof_at (length proof) (flat_map signed_bytes proof ++ rest) ≡ Some (proof, rest)
+pub proof_again : (proof : List SignedReport) (rest : List ℕ) → AllByRecursion IsSigned proof
+    → proof_at (length proof) (flat_map signed_bytes proof ++ rest) ≡ Some (proof, rest)
 unfolding proof_at
 proof_again = many_again signed_reader proof_at (λ bytes. refl) (λ n bytes. refl)
 
@@ -218,21 +336,77 @@ lock_tail l =
     to_be_bytes w32 l.height ++ to_be_bytes w32 l.phase ++ (l.signer ∷ []) ++ value_bytes l.value
     ++ (length l.proof ∷ []) ++ flat_map signed_bytes l.proof
 
-lock_regroup : (h p v f rest : List ℕ) (s n : ℕ) → (h ++ p ++ s ∷ []) ++ (v ++ (n ∷ (f ++ rest))) ≡ (h ++ p ++ (s ∷ []) ++ v ++ (n ∷ []) ++ f) ++ rest
+lock_regroup : (h p v f rest : List ℕ) (s n : ℕ)
+    → (h ++ p ++ s ∷ []) ++ (v ++ (n ∷ (f ++ rest))) ≡ (h ++ p ++ (s ∷ []) ++ v ++ (n ∷ []) ++ f) ++ rest
 lock_regroup h p v f rest s n = simp append_assoc
 
-pub lock_takes : (bytes : List ℕ) (l : Lock) (rest : List ℕ) → IsBytes bytes → lock_at bytes ≡ Some (l, rest) → (bytes ≡ lock_tail l ++ rest) × IsLock l × IsBytes rest
+pub lock_takes : (bytes : List ℕ) (l : Lock) (rest : List ℕ) → IsBytes bytes → lock_at bytes ≡ Some (l, rest)
+    → (bytes ≡ lock_tail l ++ rest) × IsLock l × IsBytes rest
 unfolding lock_at
 lock_takes bytes l rest fits e =
-    bind_then (place_at bytes) (λ place. value_at place.1 >>= λ value. byte_at value.1 >>= λ count. guarded (leb 3 count.0 && leb count.0 12) (proof_at count.0 count.1) >>= λ reports. only_if (ascends_within 0 256 (signers_of reports.0)) (record { height = place.0.height; phase = place.0.phase; signer = place.0.signer; value = value.0; proof = reports.0 }, reports.1)) (l, rest) e (λ place place_is after_place.
-    bind_then (value_at place.1) (λ value. byte_at value.1 >>= λ count. guarded (leb 3 count.0 && leb count.0 12) (proof_at count.0 count.1) >>= λ reports. only_if (ascends_within 0 256 (signers_of reports.0)) (record { height = place.0.height; phase = place.0.phase; signer = place.0.signer; value = value.0; proof = reports.0 }, reports.1)) (l, rest) after_place (λ value value_is after_value.
-    bind_then (byte_at value.1) (λ count. guarded (leb 3 count.0 && leb count.0 12) (proof_at count.0 count.1) >>= λ reports. only_if (ascends_within 0 256 (signers_of reports.0)) (record { height = place.0.height; phase = place.0.phase; signer = place.0.signer; value = value.0; proof = reports.0 }, reports.1)) (l, rest) after_value (λ count count_is after_count.
-    bind_then (guarded (leb 3 count.0 && leb count.0 12) (proof_at count.0 count.1)) (λ reports. only_if (ascends_within 0 256 (signers_of reports.0)) (record { height = place.0.height; phase = place.0.phase; signer = place.0.signer; value = value.0; proof = reports.0 }, reports.1)) (l, rest) after_count (λ reports reports_is after_reports.
+    bind_then (place_at bytes) (λ place. value_at place.1 >>= λ value. byte_at value.1 >>= λ count. guarded
+    (leb 3 count.0 && leb count.0 12) (proof_at count.0 count.1) >>= λ reports. only_if (ascends_within 0 256 (signers_of reports.0)) (
+      record {
+        height = place.0.height;
+        phase = place.0.phase;
+        signer = place.0.signer;
+        value = value.0;
+        proof =
+            reports.0;
+      },
+      reports.1,
+    )) (l, rest) e (λ place place_is after_place.
+    bind_then (value_at place.1) (λ value. byte_at value.1 >>= λ count. guarded (leb 3 count.0 && leb count.0 12)
+    (proof_at count.0 count.1) >>= λ reports. only_if (ascends_within 0 256 (signers_of reports.0)) (
+      record {
+        height = place.0.height;
+        phase = place.0.phase;
+        signer = place.0.signer;
+        value = value.0;
+        proof =
+            reports.0;
+      },
+      reports.1,
+    )) (l, rest) after_place (λ value value_is after_value.
+    bind_then (byte_at value.1) (λ count. guarded (leb 3 count.0 && leb count.0 12) (proof_at count.0 count.1) >>= λ reports. only_if
+    (ascends_within 0 256 (signers_of reports.0)) (
+      record {
+        height = place.0.height;
+        phase = place.0.phase;
+        signer = place.0.signer;
+        value = value.0;
+        proof =
+            reports.0;
+      },
+      reports.1,
+    )) (l, rest) after_value (λ count count_is after_count.
+    bind_then (guarded (leb 3 count.0 && leb count.0 12) (proof_at count.0 count.1))
+    (λ reports. only_if (ascends_within 0 256 (signers_of reports.0)) (
+      record {
+        height = place.0.height;
+        phase = place.0.phase;
+        signer = place.0.signer;
+        value = value.0;
+        proof =
+            reports.0;
+      },
+      reports.1,
+    )) (l, rest) after_count (λ reports reports_is after_reports.
     let g = guarded-some (leb 3 count.0 && leb count.0 12) (proof_at count.0 count.1) reports reports_is in
     let ends = and_parts (leb 3 count.0) (leb count.0 12) g.0 in
     let least : 3 ≤ count.0 = leb-true 3 count.0 ends.0 in
     let most : count.0 ≤ 12 = leb-true count.0 12 ends.1 in
-    let made : Lock × List ℕ = (record { height = place.0.height; phase = place.0.phase; signer = place.0.signer; value = value.0; proof = reports.0 }, reports.1) in
+    let made : Lock × List ℕ = (
+      record {
+        height = place.0.height;
+        phase = place.0.phase;
+        signer = place.0.signer;
+        value = value.0;
+        proof =
+            reports.0;
+      },
+      reports.1,
+    ) in
     let o = only_if-some (ascends_within 0 256 (signers_of reports.0)) made (l, rest) after_reports in
     let a = place_reader.takes bytes place.0 place.1 fits place_is in
     let b = value_reader.takes place.1 value.0 value.1 a.2 value_is in
@@ -243,20 +417,40 @@ lock_takes bytes l rest fits e =
     c.0 ∙ ap (λ (t : List ℕ). count.0 ∷ t) d.0 ∙ ap (λ (k : ℕ). k ∷ (flat_map signed_bytes reports.0 ++ reports.1)) len in
     let parts : bytes ≡ lock_tail made.0 ++ made.1 =
     a.0 ∙ ap (λ (t : List ℕ). place_bytes place.0 ++ t) (b.0 ∙ ap (λ (t : List ℕ). value_bytes value.0 ++ t) spelled)
-    ∙ lock_regroup (to_be_bytes w32 place.0.height) (to_be_bytes w32 place.0.phase) (value_bytes value.0) (flat_map signed_bytes reports.0) reports.1 place.0.signer (length reports.0) in
-    subst (λ (q : Lock × List ℕ). (bytes ≡ lock_tail q.0 ++ q.1) × IsLock q.0 × IsBytes q.1) o.1
-    (parts, record { place = a.1; value = b.1; count = (subst (λ (k : ℕ). 3 ≤ k) len least, subst (λ (k : ℕ). k ≤ 12) len most); each = d.1; signers = o.0 }, d.2)))))
+    ∙ lock_regroup (to_be_bytes w32 place.0.height) (to_be_bytes w32 place.0.phase) (value_bytes value.0) (flat_map signed_bytes reports.0)
+    reports.1 place.0.signer (length reports.0) in
+    subst (λ (q : Lock × List ℕ). (bytes ≡ lock_tail q.0 ++ q.1) × IsLock q.0 × IsBytes q.1) o.1 (
+      parts,
+      record {
+        place = a.1;
+        value = b.1;
+        count = (subst (λ (k : ℕ). 3 ≤ k) len least, subst (λ (k : ℕ). k ≤ 12) len most);
+        each =
+            d.1;
+        signers = o.0;
+      },
+      d.2,
+    )))))
 
 pub lock_again : (l : Lock) (rest : List ℕ) → IsLock l → lock_at (lock_tail l ++ rest) ≡ Some (l, rest)
 unfolding lock_at
 lock_again l rest is =
-    let place : Place = record { height = l.height; phase = l.phase; signer = l.signer } in
+    let place : Header = record { height = l.height; phase = l.phase; signer = l.signer } in
     let after_count = flat_map signed_bytes l.proof ++ rest in
     let after_value = length l.proof ∷ after_count in
     let after_place = value_bytes l.value ++ after_value in
-    let test : (leb 3 (length l.proof) && leb (length l.proof) 12) ≡ true = and_from (leb 3 (length l.proof)) (leb (length l.proof) 12) (le-leb _ _ is.count.0) (le-leb _ _ is.count.1) in
-    ap lock_at (sym (lock_regroup (to_be_bytes w32 l.height) (to_be_bytes w32 l.phase) (value_bytes l.value) (flat_map signed_bytes l.proof) rest l.signer (length l.proof)))
-    ∙ rw (place_reader.again place after_place is.place, value_reader.again l.value after_value is.value, test, proof_again l.proof rest is.each, is.signers) refl
+    let test : (leb 3 (length l.proof) && leb (length l.proof) 12) ≡ true =
+    and_from (leb 3 (length l.proof)) (leb (length l.proof) 12) (le-leb _ _ is.count.0) (le-leb _ _ is.count.1) in
+    ap lock_at (sym (lock_regroup (to_be_bytes w32 l.height) (to_be_bytes w32 l.phase) (value_bytes l.value)
+    (flat_map signed_bytes l.proof) rest l.signer (length l.proof)))
+    ∙ rw (
+      place_reader.again place after_place is.place,
+      value_reader.again l.value after_value is.value,
+      test,
+      proof_again l.proof rest
+          is.each,
+      is.signers,
+    ) refl
 
 pub lock_reader : IsReader lock_tail IsLock lock_at
 lock_reader = record { takes = lock_takes; again = lock_again }
@@ -270,11 +464,15 @@ ack_tail a = to_be_bytes w32 a.height ++ to_be_bytes w32 a.phase ++ (a.signer �
 ack_regroup : (h p v rest : List ℕ) (s : ℕ) → (h ++ p ++ s ∷ []) ++ (v ++ rest) ≡ (h ++ p ++ (s ∷ []) ++ v) ++ rest
 ack_regroup h p v rest s = simp append_assoc
 
-pub ack_takes : (bytes : List ℕ) (a : Ack) (rest : List ℕ) → IsBytes bytes → ack_at bytes ≡ Some (a, rest) → (bytes ≡ ack_tail a ++ rest) × IsAck a × IsBytes rest
+pub ack_takes : (bytes : List ℕ) (a : Ack) (rest : List ℕ) → IsBytes bytes → ack_at bytes ≡ Some (a, rest)
+    → (bytes ≡ ack_tail a ++ rest) × IsAck a × IsBytes rest
 unfolding ack_at
 ack_takes bytes x rest fits e =
-    let a = bind_some (place_at bytes) (λ place. value_at place.1 >>= λ v. Some (record { height = place.0.height; phase = place.0.phase; signer = place.0.signer; value = v.0 }, v.1)) (x, rest) e in
-    let b = bind_some (value_at a.0.1) (λ v. Some (record { height = a.0.0.height; phase = a.0.0.phase; signer = a.0.0.signer; value = v.0 }, v.1)) (x, rest) a.2 in
+    let a = bind_some (place_at bytes)
+    (λ place. value_at place.1 >>= λ v. Some
+    (record { height = place.0.height; phase = place.0.phase; signer = place.0.signer; value = v.0 }, v.1)) (x, rest) e in
+    let b = bind_some (value_at a.0.1)
+    (λ v. Some (record { height = a.0.0.height; phase = a.0.0.phase; signer = a.0.0.signer; value = v.0 }, v.1)) (x, rest) a.2 in
     let place = place_reader.takes bytes a.0.0 a.0.1 fits a.1 in
     let value = value_reader.takes a.0.1 b.0.0 b.0.1 place.2 b.1 in
     let made : Ack × List ℕ = (record { height = a.0.0.height; phase = a.0.0.phase; signer = a.0.0.signer; value = b.0.0 }, b.0.1) in
@@ -287,7 +485,7 @@ ack_takes bytes x rest fits e =
 pub ack_again : (a : Ack) (rest : List ℕ) → IsAck a → ack_at (ack_tail a ++ rest) ≡ Some (a, rest)
 unfolding ack_at
 ack_again a rest is =
-    let place : Place = record { height = a.height; phase = a.phase; signer = a.signer } in
+    let place : Header = record { height = a.height; phase = a.phase; signer = a.signer } in
     ap ack_at (sym (ack_regroup (to_be_bytes w32 a.height) (to_be_bytes w32 a.phase) (value_bytes a.value) rest a.signer))
     ∙ rw (place_reader.again place (value_bytes a.value ++ rest) is.place, value_reader.again a.value rest is.value) refl
 
@@ -307,7 +505,8 @@ abbrev as_ack : Ack × List ℕ → Option (Statement × List ℕ)
 as_ack a = Some (statement.Ack a.0, a.1)
 
 -- what a statement's first byte says of the rest
-kind_takes : (kind : ℕ) (bytes : List ℕ) (s : Statement) (rest : List ℕ) (one two three : Bool) → eqb kind 1 ≡ one → eqb kind 2 ≡ two → eqb kind 3 ≡ three → IsBytes bytes
+kind_takes : (kind : ℕ) (bytes : List ℕ) (s : Statement) (rest : List ℕ) (one two three : Bool) → eqb kind 1 ≡ one → eqb kind 2 ≡ two
+    → eqb kind 3 ≡ three → IsBytes bytes
     → cond one (report_at bytes >>= as_report)
     (cond two (lock_at bytes >>= as_lock)
     (cond three (ack_at bytes >>= as_ack) None)) ≡ Some (s, rest)
@@ -316,21 +515,28 @@ unfolding statement_bytes
 kind_takes kind bytes s rest true two three is_one is_two is_three fits e =
     let a = bind_some (report_at bytes) as_report (s, rest) e in
     let t = report_takes bytes a.0.0 a.0.1 fits a.1 in
-    let parts : kind ∷ bytes ≡ report_bytes a.0.0 ++ a.0.1 = ap (λ (k : ℕ). k ∷ bytes) (eqb-true kind 1 is_one) ∙ ap (λ (x : List ℕ). 1 ∷ x) t.0 in
-    subst (λ (q : Statement × List ℕ). (kind ∷ bytes ≡ statement_bytes q.0 ++ q.1) × IsStatement q.0 × IsBytes q.1) (some_is (statement.Report a.0.0, a.0.1) (s, rest) a.2) (parts, t.1, t.2)
+    let parts : kind ∷ bytes ≡ report_bytes a.0.0 ++ a.0.1 =
+    ap (λ (k : ℕ). k ∷ bytes) (eqb-true kind 1 is_one) ∙ ap (λ (x : List ℕ). 1 ∷ x) t.0 in
+    subst (λ (q : Statement × List ℕ). (kind ∷ bytes ≡ statement_bytes q.0 ++ q.1) × IsStatement q.0 × IsBytes q.1)
+    (some_is (statement.Report a.0.0, a.0.1) (s, rest) a.2) (parts, t.1, t.2)
 kind_takes kind bytes s rest false true three is_one is_two is_three fits e =
     let a = bind_some (lock_at bytes) as_lock (s, rest) e in
     let t = lock_takes bytes a.0.0 a.0.1 fits a.1 in
-    let parts : kind ∷ bytes ≡ lock_bytes a.0.0 ++ a.0.1 = ap (λ (k : ℕ). k ∷ bytes) (eqb-true kind 2 is_two) ∙ ap (λ (x : List ℕ). 2 ∷ x) t.0 in
-    subst (λ (q : Statement × List ℕ). (kind ∷ bytes ≡ statement_bytes q.0 ++ q.1) × IsStatement q.0 × IsBytes q.1) (some_is (statement.Lock a.0.0, a.0.1) (s, rest) a.2) (parts, t.1, t.2)
+    let parts : kind ∷ bytes ≡ lock_bytes a.0.0 ++ a.0.1 =
+    ap (λ (k : ℕ). k ∷ bytes) (eqb-true kind 2 is_two) ∙ ap (λ (x : List ℕ). 2 ∷ x) t.0 in
+    subst (λ (q : Statement × List ℕ). (kind ∷ bytes ≡ statement_bytes q.0 ++ q.1) × IsStatement q.0 × IsBytes q.1)
+    (some_is (statement.Lock a.0.0, a.0.1) (s, rest) a.2) (parts, t.1, t.2)
 kind_takes kind bytes s rest false false true is_one is_two is_three fits e =
     let a = bind_some (ack_at bytes) as_ack (s, rest) e in
     let t = ack_takes bytes a.0.0 a.0.1 fits a.1 in
-    let parts : kind ∷ bytes ≡ ack_bytes a.0.0 ++ a.0.1 = ap (λ (k : ℕ). k ∷ bytes) (eqb-true kind 3 is_three) ∙ ap (λ (x : List ℕ). 3 ∷ x) t.0 in
-    subst (λ (q : Statement × List ℕ). (kind ∷ bytes ≡ statement_bytes q.0 ++ q.1) × IsStatement q.0 × IsBytes q.1) (some_is (statement.Ack a.0.0, a.0.1) (s, rest) a.2) (parts, t.1, t.2)
+    let parts : kind ∷ bytes ≡ ack_bytes a.0.0 ++ a.0.1 =
+    ap (λ (k : ℕ). k ∷ bytes) (eqb-true kind 3 is_three) ∙ ap (λ (x : List ℕ). 3 ∷ x) t.0 in
+    subst (λ (q : Statement × List ℕ). (kind ∷ bytes ≡ statement_bytes q.0 ++ q.1) × IsStatement q.0 × IsBytes q.1)
+    (some_is (statement.Ack a.0.0, a.0.1) (s, rest) a.2) (parts, t.1, t.2)
 kind_takes kind bytes s rest false false false is_one is_two is_three fits e = absurd cc
 
-pub statement_takes : (bytes : List ℕ) (s : Statement) (rest : List ℕ) → IsBytes bytes → statement_at bytes ≡ Some (s, rest) → (bytes ≡ statement_bytes s ++ rest) × IsStatement s × IsBytes rest
+pub statement_takes : (bytes : List ℕ) (s : Statement) (rest : List ℕ) → IsBytes bytes → statement_at bytes ≡ Some (s, rest)
+    → (bytes ≡ statement_bytes s ++ rest) × IsStatement s × IsBytes rest
 unfolding statement_at
 statement_takes bytes s rest fits e =
     let a = bind_some (byte_at bytes) (λ kind. cond (eqb kind.0 1) (report_at kind.1 >>= as_report)

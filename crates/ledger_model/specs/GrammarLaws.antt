@@ -1,4 +1,4 @@
--- What is read is what is spelled, each spelling is of one thing, and none begins another.
+-- The laws of the grammar: reading inverts encoding, each encoding is of one thing, and no encoding is a proper prefix of another.
 use Rattle.std.specs.Prelude.{◌≡◌, ◌⊎◌, ℕ, ◌<◌, List, ◌++◌, slice_index, Some}
 use Rattle.ledger_model.specs.declared.statement.SignedStatement.{SignedStatement}
 use Rattle.ledger_model.specs.declared.statement.Statement.{Statement}
@@ -6,59 +6,59 @@ use Rattle.ledger_model.specs.Spelling.{IsStatement, IsSignature, IsFrame, state
 use Rattle.ledger_model.specs.Reading.{reading, statement_reading, body_reading}
 use Rattle.ledger_model.specs.Streams.{SplitsTo, BreaksOff, BeginsTooLong, BeginsMalformed}
 
--- each number is one of a byte
+-- each number is a byte
 abbrev pub IsBytes : List ℕ → Type 0
 IsBytes bytes = (i : ℕ) → slice_index bytes i < 256
 
--- what is read of bytes is what they spell
+-- bytes that read as a frame are that frame's encoding
 abbrev pub FramesReadAreSpelled : Type 0
 FramesReadAreSpelled = (bytes : List ℕ) (s : SignedStatement) → IsBytes bytes → reading bytes ≡ Some s → SpellsFrame bytes s
 
--- the same of statements
+-- bytes that read as a statement are that statement's encoding
 abbrev pub StatementsReadAreSpelled : Type 0
 StatementsReadAreSpelled = (bytes : List ℕ) (s : Statement) → IsBytes bytes → statement_reading bytes ≡ Some s → Spells bytes s
 
--- and of the bodies of frames
+-- bytes that read as a frame's body are that body's encoding
 abbrev pub BodiesReadAreSpelled : Type 0
 BodiesReadAreSpelled =
     (bytes : List ℕ) (s : SignedStatement) → IsBytes bytes → body_reading bytes ≡ Some s
     → IsStatement s.statement × IsSignature s.signature × (bytes ≡ body_bytes s)
 
--- and what has a spelling is read from it
+-- a frame is read back from its encoding
 abbrev pub FramesSpelledAreRead : Type 0
 FramesSpelledAreRead = (s : SignedStatement) → IsFrame s → reading (frame_bytes s) ≡ Some s
 
--- the same of statements
+-- a statement is read back from its encoding
 abbrev pub StatementsSpelledAreRead : Type 0
 StatementsSpelledAreRead = (s : Statement) → IsStatement s → statement_reading (statement_bytes s) ≡ Some s
 
--- and of the bodies of frames
+-- a frame's body is read back from its encoding
 abbrev pub BodiesSpelledAreRead : Type 0
 BodiesSpelledAreRead = (s : SignedStatement) → IsStatement s.statement → IsSignature s.signature → body_reading (body_bytes s) ≡ Some s
 
--- no frame's spelling begins another's
+-- if the same bytes start with two frames, the frames are equal: no frame's encoding is a proper prefix of another's
 abbrev pub FramesPart : Type 0
 FramesPart =
     (a b : SignedStatement) (rest more : List ℕ) → IsFrame a → IsFrame b
     → frame_bytes a ++ rest ≡ frame_bytes b ++ more → (a ≡ b) × (rest ≡ more)
 
--- no statement's spelling begins another's
+-- if the same bytes start with two statements, the statements are equal
 abbrev pub StatementsPart : Type 0
 StatementsPart =
     (s t : Statement) (rest more : List ℕ) → IsStatement s → IsStatement t
     → statement_bytes s ++ rest ≡ statement_bytes t ++ more → (s ≡ t) × (rest ≡ more)
 
--- bytes spell one statement at most
+-- bytes encode at most one statement
 abbrev pub OneStatement : Type 0
 OneStatement = (s t : Statement) → IsStatement s → IsStatement t → statement_bytes s ≡ statement_bytes t → s ≡ t
 
--- a stream splits in one way
+-- a stream splits into frames in one way
 abbrev pub OneSplit : Type 0
 OneSplit =
     (bytes : List ℕ) (frames others : List SignedStatement) (rest more : List ℕ)
     → SplitsTo bytes frames rest → SplitsTo bytes others more → (frames ≡ others) × (rest ≡ more)
 
--- a stream that breaks off does so behind the same frames, in one manner
+-- a stream that breaks off does so after the same frames and for the same reason
 abbrev pub OneBreak : Type 0
 OneBreak =
     (bytes : List ℕ) (frames others : List SignedStatement)
@@ -66,17 +66,17 @@ OneBreak =
     × (BreaksOff BeginsMalformed bytes frames → BreaksOff BeginsMalformed bytes others → frames ≡ others)
     × (BreaksOff BeginsTooLong bytes frames → BreaksOff BeginsMalformed bytes others → ⊥)
 
--- what splits doesn't break off
+-- a stream that splits doesn't break off
 abbrev pub SplitOrBreak : Type 0
 SplitOrBreak =
     (bytes : List ℕ) (frames others : List SignedStatement) (rest : List ℕ) → SplitsTo bytes frames rest
     → (BreaksOff BeginsTooLong bytes others → ⊥) × (BreaksOff BeginsMalformed bytes others → ⊥)
 
--- the bytes are these frames, and behind them less than one or what no frame begins with
+-- the bytes are these frames, followed by less than a whole frame or by bytes that no frame starts with
 abbrev pub Ends : List ℕ → List SignedStatement → Type 0
 Ends bytes frames =
     ((rest : List ℕ) × SplitsTo bytes frames rest) ⊎ (BreaksOff BeginsTooLong bytes frames ⊎ BreaksOff BeginsMalformed bytes frames)
 
--- each stream splits or breaks off
+-- every stream either splits or breaks off
 abbrev pub EveryStreamEnds : Type 0
 EveryStreamEnds = (bytes : List ℕ) → IsBytes bytes → (frames : List SignedStatement) × Ends bytes frames

@@ -12,11 +12,10 @@ pub mod Streams
 pub mod GrammarLaws
 pub mod Signatures
 pub mod Proper
-pub mod Tallies
-pub mod Phases
-pub mod LockTables
 pub mod Logs
 pub mod Rules
+pub mod Causes
+pub mod Places
 pub mod Applications
 pub mod Replies
 pub mod Pools

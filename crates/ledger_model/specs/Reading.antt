@@ -1,6 +1,7 @@
--- What bytes spell, if they spell anything. That this is the spelling is a law.
-use Rattle.std.specs.Prelude.{ℕ, zero, suc, ◌==◌, nat_le, Bool, true, false, ◌&&◌, List, [], ◌∷◌, length, take, drop, Option, Some, None, if◌then◌else◌}
-use Rattle.ledger_model.specs.Limits.{max_tx_len, max_batch_len, max_signature_len}
+-- What bytes read as, if anything. That reading inverts encoding is a law.
+use Rattle.std.specs.Prelude.{ℕ, zero, suc, ◌==◌, nat_le, Bool, true, false, ◌&&◌, List, [], ◌∷◌, length, take, drop, Option, Some, None}
+use Rattle.std.specs.Prelude.{if◌then◌else◌}
+use Rattle.ledger_model.specs.Limits.{max_tx_len, max_batch_len, max_signature_len, max_body_len}
 use Rattle.std.specs.Int.{Width, w16, w32, byte_len, from_be_bytes}
 use Rattle.ledger_model.specs.declared.statement.Report.{Report}
 use Rattle.ledger_model.specs.declared.statement.Lock.{Lock}
@@ -13,30 +14,30 @@ use Rattle.ledger_model.specs.Values.{Value}
 use Rattle.ledger_model.specs.Validity.{ascends_within, signers_of}
 use Rattle.ledger_model.specs.Spelling.{are_ascending}
 
--- what f reads on from what was read, if anything was
+-- runs f on what was read, if anything was
 infixl 10 ◌>>=◌
 abbrev pub ◌>>=◌ : {A B : Type 0} → Option A → (A → Option B) → Option B
 (Some x) >>= f = f x
 None >>= f = None
 
--- x, where the test holds
+-- x, if the test is true
 abbrev pub only_if : {A : Type 0} → Bool → A → Option A
 only_if test x = if test then Some x else None
 
--- what is read, where the test holds
+-- what was read, if the test is true
 abbrev pub guarded : {A : Type 0} → Bool → Option A → Option A
 guarded test read = if test then read else None
 
--- the first n bytes, and those behind them
+-- the first n bytes, and the rest
 abbrev pub bytes_at : ℕ → List ℕ → Option (List ℕ × List ℕ)
 bytes_at n bytes = only_if (nat_le n (length bytes)) (take n bytes, drop n bytes)
 
--- the first byte, and those behind it
+-- the first byte, and the rest
 abbrev pub byte_at : List ℕ → Option (ℕ × List ℕ)
 byte_at [] = None
 byte_at (b ∷ bytes) = Some (b, bytes)
 
--- a number of this width, its highest byte first
+-- a number of this width, big-endian
 abbrev pub number_at : Width → List ℕ → Option (ℕ × List ℕ)
 number_at w bytes = do
   n ← bytes_at (byte_len w) bytes
@@ -48,7 +49,7 @@ tx_at bytes = do
   len ← byte_at bytes
   guarded (nat_le 1 len.0 && nat_le len.0 max_tx_len) (bytes_at len.0 len.1)
 
--- so many transactions
+-- n transactions
 unfoldable pub txs_at : ℕ → List ℕ → Option (Value × List ℕ)
 txs_at zero bytes = Some ([], bytes)
 txs_at (suc n) bytes = do
@@ -56,13 +57,13 @@ txs_at (suc n) bytes = do
   rest ← txs_at n tx.1
   Some (tx.0 ∷ rest.0, rest.1)
 
--- a value: how many transactions, 0 to 16, and those
+-- a value: the number of its transactions, 0 to 16, and the transactions
 unfoldable pub value_at : List ℕ → Option (Value × List ℕ)
 value_at bytes = do
   count ← byte_at bytes
   guarded (nat_le count.0 max_batch_len) (txs_at count.0 count.1)
 
--- so many values
+-- n values
 unfoldable pub values_at : ℕ → List ℕ → Option (List Value × List ℕ)
 values_at zero bytes = Some ([], bytes)
 values_at (suc n) bytes = do
@@ -77,7 +78,7 @@ list_at bytes = do
   vs ← guarded (nat_le count.0 4) (values_at count.0 count.1)
   only_if (are_ascending vs.0) vs
 
--- at most 2508 bytes
+-- a signature: its length, at most 2508, and its bytes
 unfoldable pub signature_at : List ℕ → Option (List ℕ × List ℕ)
 signature_at bytes = do
   len ← number_at w16 bytes
@@ -96,21 +97,21 @@ flag_at (zero ∷ bytes) = Some (false, bytes)
 flag_at (suc zero ∷ bytes) = Some (true, bytes)
 flag_at (suc (suc b) ∷ bytes) = None
 
--- what stands behind the first byte of a report, a lock or an acknowledgement: height, phase and signer
-pub record Place : Type 0 where
+-- the fields of every statement that follow its first byte: height, phase and signer
+pub record Header : Type 0 where
   pub height : ℕ
   pub phase : ℕ
   pub signer : ℕ
 
--- its height, its phase and its signer
-unfoldable pub place_at : List ℕ → Option (Place × List ℕ)
+-- a height, a phase and a signer
+unfoldable pub place_at : List ℕ → Option (Header × List ℕ)
 place_at bytes = do
   height ← positive_at bytes
   phase ← positive_at height.1
   signer ← byte_at phase.1
   Some (record { height = height.0; phase = phase.0; signer = signer.0 }, signer.1)
 
--- a report, from behind its first byte on
+-- a report, without its first byte
 unfoldable pub report_at : List ℕ → Option (Report × List ℕ)
 report_at bytes = do
   place ← place_at bytes
@@ -118,9 +119,21 @@ report_at bytes = do
   initial ← value_at all.1
   proper ← list_at initial.1
   locked ← guarded (nat_le 1 (length proper.0)) (list_at proper.1)
-  Some (record { height = place.0.height; phase = place.0.phase; signer = place.0.signer; all = all.0; initial = initial.0; proper = proper.0; locked = locked.0 }, locked.1)
+  Some (
+    record {
+      height = place.0.height;
+      phase = place.0.phase;
+      signer = place.0.signer;
+      all = all.0;
+      initial = initial.0;
+      proper =
+          proper.0;
+      locked = locked.0;
+    },
+    locked.1,
+  )
 
--- a signed report, from its first byte on
+-- a signed report, with its first byte
 unfoldable pub signed_at : List ℕ → Option (SignedReport × List ℕ)
 signed_at bytes = do
   kind ← byte_at bytes
@@ -128,7 +141,7 @@ signed_at bytes = do
   signature ← signature_at report.1
   Some (record { report = report.0; signature = signature.0 }, signature.1)
 
--- so many signed reports
+-- n signed reports
 unfoldable pub proof_at : ℕ → List ℕ → Option (List SignedReport × List ℕ)
 proof_at zero bytes = Some ([], bytes)
 proof_at (suc n) bytes = do
@@ -136,7 +149,7 @@ proof_at (suc n) bytes = do
   rest ← proof_at n first.1
   Some (first.0 ∷ rest.0, rest.1)
 
--- a lock, from behind its first byte on: 3 to 12 reports whose signers ascend
+-- a lock, without its first byte: 3 to 12 reports, whose signers ascend
 unfoldable pub lock_at : List ℕ → Option (Lock × List ℕ)
 lock_at bytes = do
   place ← place_at bytes
@@ -146,14 +159,14 @@ lock_at bytes = do
   only_if (ascends_within 0 256 (signers_of reports.0))
       (record { height = place.0.height; phase = place.0.phase; signer = place.0.signer; value = v.0; proof = reports.0 }, reports.1)
 
--- an acknowledgement, from behind its first byte on
+-- an acknowledgement, without its first byte
 unfoldable pub ack_at : List ℕ → Option (Ack × List ℕ)
 ack_at bytes = do
   place ← place_at bytes
   v ← value_at place.1
   Some (record { height = place.0.height; phase = place.0.phase; signer = place.0.signer; value = v.0 }, v.1)
 
--- a statement: its first byte says of which kind it is
+-- a statement, whose first byte is its kind
 unfoldable pub statement_at : List ℕ → Option (Statement × List ℕ)
 statement_at bytes = byte_at bytes >>= (λ kind.
     if kind.0 == 1 then report_at kind.1 >>= (λ r. Some (statement.Report r.0, r.1))
@@ -161,21 +174,21 @@ statement_at bytes = byte_at bytes >>= (λ kind.
     else if kind.0 == 3 then ack_at kind.1 >>= (λ a. Some (statement.Ack a.0, a.1))
     else None)
 
--- the statement that the bytes are, if they are one
+-- the statement that all of the bytes are, if they are one
 unfoldable pub statement_reading : List ℕ → Option Statement
 statement_reading bytes = do
   s ← statement_at bytes
   only_if (length s.1 == 0) s.0
 
--- a statement and its signature, which are all of the bytes
+-- the statement and the signature that all of the bytes are, if they are both
 unfoldable pub body_reading : List ℕ → Option SignedStatement
 body_reading bytes = do
   s ← statement_at bytes
   signature ← signature_at s.1
   only_if (length signature.1 == 0) (record { statement = s.0; signature = signature.0 })
 
--- the frame that the bytes are, if they are one
+-- the frame that all of the bytes are, if they are one
 unfoldable pub reading : List ℕ → Option SignedStatement
 reading bytes = do
   len ← number_at w32 bytes
-  guarded ((length len.1 == len.0) && nat_le len.0 150000) (body_reading len.1)
+  guarded ((length len.1 == len.0) && nat_le len.0 max_body_len) (body_reading len.1)

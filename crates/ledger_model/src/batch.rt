@@ -53,10 +53,11 @@ impl Tx {
     /// The most bytes of a transaction.
     pub const MAX_LEN: usize = 64;
 
-    /// The most transactions that wait for a block.
+    /// The most transactions that a pool holds while they wait for a block.
     pub const MAX_WAITING: usize = 1024;
 
-    /// The transaction of these bytes, of which there are 1 to 64.
+    /// A transaction of these 1 to 64 bytes. `Empty` comes exactly if there is no byte, `TooLong` exactly if there are
+    /// more than 64.
     pub fn new(bytes: Vec<u8>) -> Result<Self, TxFault>
         ensures ok { IfOk result (λ tx. tx ≡ bytes.items) }
         ensures spelled { IfOk result (λ tx. IsTx tx) }
@@ -82,7 +83,7 @@ impl Tx {
         self.bytes.as_slice()
     }
 
-    /// The same transaction once more.
+    /// A copy of the transaction. The only error is allocation failure.
     pub fn copy(&self) -> Result<Self, AllocError>
         ensures same { IfOk result (λ tx. tx ≡ self.now) }
         ensures spelled { IfOk result (λ tx. IsTx tx) }
@@ -135,7 +136,7 @@ impl Batch {
     /// The most transactions of a batch.
     pub const MAX_LEN: usize = 16;
 
-    /// The batch of these transactions, of which there are at most 16.
+    /// A batch of these transactions, in this order. `TooMany` comes exactly if there are more than 16.
     pub fn new(transactions: Vec<Tx>) -> Result<Self, BatchFault>
         ensures ok { IfOk result (λ batch. batch ≡ transactions.items) }
         ensures spelled { IfOk result (λ batch. IsValue batch) }
@@ -157,7 +158,7 @@ impl Batch {
         self.transactions.as_slice()
     }
 
-    /// The same batch once more.
+    /// A copy of the batch. The only error is allocation failure.
     pub fn copy(&self) -> Result<Self, AllocError>
         ensures same { IfOk result (λ batch. batch ≡ self.now) }
         ensures spelled { IfOk result (λ batch. IsValue batch) }
@@ -168,7 +169,8 @@ impl Batch {
     }
 }
 
-/// Shows that each is spelled, as a transaction keeps of itself. It does nothing at run time but to pass them by.
+/// Shows that each transaction has 1 to 64 bytes, which is an invariant of its type. At run time it visits each
+/// transaction and reads no byte.
 fn show_spelled(transactions: &[Tx])
     ensures { AllByRecursion IsTx transactions.now }
 {
@@ -187,7 +189,7 @@ fn copy_all(alloc: Global, transactions: &[Tx]) -> Result<Vec<Tx>, AllocError>
     Ok(copied)
 }
 
-/// What is asked of an application: 0 to 64 bytes.
+/// The key of a query to an application: 0 to 64 bytes.
 #[derive(Debug, Drop)]
 pub struct Key {
     name: Vec<u8>,
@@ -215,7 +217,7 @@ impl Key {
     /// The most bytes of a key.
     pub const MAX_LEN: usize = 64;
 
-    /// The key of these bytes, of which there are at most 64.
+    /// A key of these bytes. `TooLong` comes exactly if there are more than 64.
     pub fn new(bytes: Vec<u8>) -> Result<Self, KeyFault>
         ensures ok { IfOk result (λ key. key ≡ bytes.items) }
         ensures too_long { IsErrOf result KeyFault.TooLong ↔ (max_key_len < vec_len bytes) }
@@ -233,7 +235,7 @@ impl Key {
         self.name.as_slice()
     }
 
-    /// The same key once more.
+    /// A copy of the key. The only error is allocation failure.
     pub fn copy(&self) -> Result<Self, AllocError>
         ensures { IfOk result (λ key. key ≡ self.now) }
     {

@@ -23,16 +23,16 @@ pub struct Config {
     ghost tolerant: { 1 ≤ faults },
 }
 
-/// Why no cluster has such a size.
+/// Why no cluster can have such a size.
 #[derive(Clone, Copy, Debug, PartialEq, Eq, Error)]
 pub enum ConfigFault {
-    /// Fewer than three times the faults, and one more.
+    /// Fewer than `3 * faults + 1` replicas.
     #[error("a cluster needs more than three times as many replicas as may lie")]
     TooFew,
-    /// More than 13.
+    /// More than 13 replicas.
     #[error("a cluster has at most 13 replicas")]
     TooMany,
-    /// No replica may lie.
+    /// The size lets no replica lie.
     #[error("at least one replica may lie")]
     NoFault,
 }
@@ -41,9 +41,8 @@ impl Config {
     /// The most replicas that a cluster has.
     pub const MAX_REPLICAS: u8 = 13;
 
-    /// A cluster of `replicas`, of which `faults` may lie: `3 * faults + 1 <= replicas <= 13` and
-    /// `1 <= faults` (Dwork, Lynch and Stockmeyer 1988, Algorithm 2). The refusals are tested in the
-    /// order of `ConfigFault`.
+    /// A cluster of `replicas`, of which `faults` may lie: `3 * faults + 1 <= replicas <= 13` and `1 <= faults` (Dwork, Lynch
+    /// and Stockmeyer 1988, Algorithm 2). If several refusals fit, the first in the order of `ConfigFault` is returned.
     pub fn new(replicas: u8, faults: u8, kind: AppKind) -> Result<Self, ConfigFault>
         ensures made { IfOk result (λ c. (c.replicas ≡ replicas) × (c.faults ≡ faults) × (c.kind ≡ kind)) }
         ensures too_few { IsErrOf result TooFew ↔ (replicas < 3 * faults + 1) }

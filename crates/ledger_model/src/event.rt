@@ -1,29 +1,29 @@
-//! The events that a replica takes; `specs/Lawful` says what each is answered.
+//! The events that a replica takes. `specs/Lawful` defines the lawful replies to each.
 use crate::{Height, Key};
 use bytes::Bytes;
 use std::alloc::AllocError;
 
-/// What a replica is asked to do.
+/// An event at a replica.
 #[derive(Drop)]
 pub enum Event {
-    /// A client hands in a transaction.
+    /// A client submits a transaction.
     Submit(Bytes),
-    /// The height is opened, with what the pool holds.
+    /// The replica opens the height with a batch from its pool.
     Propose(Height),
-    /// Bytes came from the network.
+    /// Bytes arrive from the network.
     Deliver(Bytes),
     /// The round ends, and the next begins.
     RoundEnd,
-    /// The application is to run the next decided block.
+    /// The application runs the next decided block.
     Execute,
-    /// A client asks the application for a key. Height 0 means the last.
+    /// A client queries the application for a key. Height 0 asks for the latest state.
     Query(Key, Height),
 }
 
 impl Event {
     ghost use Rattle.std.specs.Prelude.{◌≡◌, IfOk};
 
-    /// The same event once more. Delivered bytes are shared.
+    /// A copy of the event, which shares the bytes. The only error is allocation failure.
     pub fn copy(&self) -> Result<Self, AllocError>
         ensures { IfOk result (λ event. event ≡ self.now) }
     {

@@ -2,14 +2,14 @@
 use crate::{Event, ReplicaId, Reply};
 use std::marker::Model;
 
-/// An event and what was answered to it.
+/// An event and the reply to it.
 #[derive(Drop)]
 pub struct Entry {
     pub event: Event,
     pub reply: Reply,
 }
 
-/// What happened at a replica, the first first.
+/// The entries of a history, oldest first.
 #[derive(Drop)]
 pub struct Entries {
     entries: Vec<Entry>,
@@ -24,7 +24,7 @@ impl Model for Entries {
     ghost view = { λ e. e.entries.items };
 }
 
-/// A replica and what happened at it.
+/// A replica and its history.
 #[derive(Drop)]
 pub struct History {
     pub replica: ReplicaId,
@@ -37,14 +37,14 @@ impl Entries {
     /// The most entries of a history.
     pub const MAX_LEN: usize = 65_536;
 
-    /// The entries, the first first.
+    /// The history with these entries, oldest first.
     pub fn new(entries: Vec<Entry>) -> Self
         ensures { result ≡ entries.items }
     {
         Entries { entries }
     }
 
-    /// The entries, the first first.
+    /// The entries, oldest first.
     pub fn as_slice(&self) -> &[Entry]
         ensures { result.now ≡ self.now }
     {

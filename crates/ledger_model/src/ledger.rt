@@ -1,9 +1,9 @@
-//! The ledger: the batches that were committed, one a height.
+//! The ledger: the committed batches, one for each height.
 use crate::Batch;
 use std::alloc::{AllocError, Global};
 use std::marker::Model;
 
-/// The sequential ledger that a cluster amounts to: a list of batches that only grows.
+/// The sequential ledger that a cluster is equivalent to: a list of batches that only grows.
 #[derive(Drop)]
 pub struct Ledger {
     blocks: Vec<Batch>,
@@ -29,7 +29,7 @@ impl Ledger {
         }
     }
 
-    /// Adds a block at the end. Want of memory leaves the ledger as it was.
+    /// Appends a block. The only error is allocation failure, which leaves the ledger as it was.
     pub fn append(&mut self, block: Batch) -> Result<(), AllocError>
         ensures ok { OnOk result (self.new ≡ self.old ++ block ∷ []) }
         ensures err { OnErr result (self.new ≡ self.old) }
@@ -38,7 +38,7 @@ impl Ledger {
         Ok(())
     }
 
-    /// Its blocks, the first first.
+    /// Its blocks, from height 1 on.
     pub fn blocks(&self) -> &[Batch]
         ensures { result.now ≡ self.now }
     {

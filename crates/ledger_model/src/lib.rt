@@ -10,6 +10,7 @@ mod ledger;
 mod order;
 mod quorums;
 mod reply;
+mod rounds;
 mod statement;
 mod world;
 
@@ -24,6 +25,7 @@ pub use reply::{
     Addressee, BlockResult, Codes, Ignored, LastRound, NotHeld, NothingDecided, ProposeRefusal,
     QueryAnswer, Reply, RoundEnded, Sent, SentFrames, SubmitRefusal,
 };
+pub use rounds::{Place, has_phase, has_place, phase_of, place_of};
 pub use statement::{
     Ack, Batches, Lock, LockProof, Report, Signature, SignedReport, SignedStatement, Statement,
 };

@@ -13,7 +13,7 @@ impl Eq for Tx {
     ghost laws = { nat_list_eq_equiv };
 }
 
-/// The shorter transaction comes first, and of one length the first byte that differs decides.
+/// The shorter transaction comes first. If both have the same length, the first byte that differs decides.
 impl Ord for Tx {
     ghost cmp = { tx_cmp };
 
@@ -43,8 +43,8 @@ impl Eq for Batch {
     ghost laws = { same_value-equiv };
 }
 
-/// The batch of fewer transactions comes first, and of as many the first transaction that differs
-/// decides: the byte order of encodings.
+/// The batch of fewer transactions comes first. If both have the same number, the first transaction that differs
+/// decides. This is the byte order of encodings.
 impl Ord for Batch {
     ghost cmp = { value_cmp };
 
@@ -70,7 +70,7 @@ impl PartialOrd for Batch {
     }
 }
 
-/// Whether each batch is below the next, as the lists of a report are spelled.
+/// Whether the batches ascend strictly, as the lists in a report must.
 pub fn are_ascending(values: &[Batch]) -> bool
     ensures { result ≡ are_ascending values.now }
 {

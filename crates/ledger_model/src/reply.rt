@@ -8,18 +8,18 @@ use std::error::Error;
 use std::fmt;
 use std::marker::Model;
 
-/// Why a transaction is not taken into the pool.
+/// Why the pool refuses a transaction.
 #[derive(Clone, Copy, Debug, PartialEq, Eq)]
 pub enum SubmitRefusal {
     Empty,
     TooLong,
     Duplicate,
     Full,
-    /// By the application, with its code.
+    /// The application's CheckTx returned this code, which isn't 0.
     Rejected(u32),
 }
 
-/// Why a height is not opened.
+/// Why a replica doesn't open a height.
 #[derive(Clone, Copy, Debug, PartialEq, Eq)]
 pub enum ProposeRefusal {
     TooFar,
@@ -27,36 +27,62 @@ pub enum ProposeRefusal {
     Closed,
 }
 
-/// Why a delivered frame changes nothing: the first cause that fits. Each shows its number and its name.
+/// Why a replica ignores a delivered frame, which then changes nothing: the first cause that fits. `Display` shows its
+/// number and its name.
 #[derive(Clone, Copy, Debug, PartialEq, Eq)]
 pub enum Ignored {
     /// The bytes are not exactly one frame.
     Malformed,
     /// The signer is no replica of the cluster.
     Signer,
-    /// The height is not open here.
+    /// This replica has not opened the height.
     NoRow,
-    /// The statement does not belong to the open round.
+    /// Statements of this kind are not read in the open round.
     WrongRound,
-    /// The statement is of another phase, or a lock sent on is of a later one.
+    /// The statement is of another phase than the open round; in a lock-release round, a lock of a later phase.
     WrongPhase,
     /// The lock's signer does not own its phase.
     NotOwner,
-    /// One such statement was read already.
+    /// This round already read such a statement: a report or an acknowledgement of the same signer, or in a lock round any lock.
     Repeated,
     /// The signature does not verify.
     BadSignature,
     /// The lock's reports do not support it.
     BadProof,
-    /// Locks on four other values are held.
+    /// The replica holds locks on four other values.
     TableFull,
     /// The acknowledgement is of a lock that this replica did not make.
     NotMine,
 }
 
-impl fmt::Display for Ignored {
-    fn fmt<W: fmt::Write>(&self, f: &mut fmt::Formatter<W>) -> fmt::Result {
-        f.write_str(match self {
+impl Ignored {
+    ghost use Rattle.std.specs.Prelude.{◌≡◌};
+    ghost use Rattle.ledger_model.specs.Causes.{cause_number, cause_text};
+
+    /// The number of the cause, from 1 on, in the order in which causes are looked for.
+    pub fn number(self) -> u8
+        ensures { result ≡ cause_number self }
+    {
+        match self {
+            Ignored::Malformed => 1,
+            Ignored::Signer => 2,
+            Ignored::NoRow => 3,
+            Ignored::WrongRound => 4,
+            Ignored::WrongPhase => 5,
+            Ignored::NotOwner => 6,
+            Ignored::Repeated => 7,
+            Ignored::BadSignature => 8,
+            Ignored::BadProof => 9,
+            Ignored::TableFull => 10,
+            Ignored::NotMine => 11,
+        }
+    }
+
+    /// The number and the name of the cause, as `7 Repeated`.
+    pub fn text(self) -> &'static str
+        ensures { result.now ≡ cause_text self }
+    {
+        match self {
             Ignored::Malformed => "1 Malformed",
             Ignored::Signer => "2 Signer",
             Ignored::NoRow => "3 NoRow",
@@ -68,13 +94,19 @@ impl fmt::Display for Ignored {
             Ignored::BadProof => "9 BadProof",
             Ignored::TableFull => "10 TableFull",
             Ignored::NotMine => "11 NotMine",
-        })
+        }
+    }
+}
+
+impl fmt::Display for Ignored {
+    fn fmt<W: fmt::Write>(&self, f: &mut fmt::Formatter<W>) -> fmt::Result {
+        f.write_str(self.text())
     }
 }
 
 impl Error for Ignored {}
 
-/// No round is left.
+/// The last round is open, and no other follows.
 #[derive(Clone, Copy, Debug, PartialEq, Eq)]
 pub struct LastRound;
 
@@ -87,11 +119,11 @@ impl LastRound {
 #[derive(Clone, Copy, Debug, PartialEq, Eq)]
 pub struct NothingDecided;
 
-/// The application does not hold the height that was asked for.
+/// The application doesn't hold the state of the requested height.
 #[derive(Clone, Copy, Debug, PartialEq, Eq)]
 pub struct NotHeld;
 
-/// Who is to get a frame.
+/// To whom a frame goes.
 #[derive(Clone, Copy, Debug, PartialEq, Eq)]
 pub enum Addressee {
     /// All other replicas.
@@ -99,14 +131,14 @@ pub enum Addressee {
     One(ReplicaId),
 }
 
-/// A frame to be sent.
+/// A frame and its addressee.
 #[derive(Drop)]
 pub struct Sent {
     pub addressee: Addressee,
     pub frame: Bytes,
 }
 
-/// The frames of a round end, in order.
+/// The frames that a round end sends, in order.
 #[derive(Drop)]
 pub struct SentFrames {
     frames: Vec<Sent>,
@@ -124,7 +156,7 @@ impl Model for SentFrames {
 impl Sent {
     ghost use Rattle.std.specs.Prelude.{◌≡◌, IfOk};
 
-    /// The same once more. The frame's bytes are shared.
+    /// A copy that shares the frame's bytes. The only error is allocation failure.
     pub fn copy(&self) -> Result<Self, AllocError>
         ensures { IfOk result (λ sent. sent ≡ self.now) }
     {
@@ -148,7 +180,7 @@ fn copy_frames(alloc: Global, frames: &[Sent]) -> Result<Vec<Sent>, AllocError>
 impl SentFrames {
     ghost use Rattle.std.specs.Prelude.{◌≡◌, IfOk};
 
-    /// The frames, in order.
+    /// A list of these frames, in order.
     pub fn new(frames: Vec<Sent>) -> Self
         ensures { result ≡ frames.items }
     {
@@ -162,7 +194,7 @@ impl SentFrames {
         self.frames.as_slice()
     }
 
-    /// The same frames once more.
+    /// A copy that shares the bytes of the frames. The only error is allocation failure.
     pub fn copy(&self) -> Result<Self, AllocError>
         ensures { IfOk result (λ frames. frames ≡ self.now) }
     {
@@ -172,10 +204,10 @@ impl SentFrames {
     }
 }
 
-/// What a round end answers.
+/// The reply to a round end that opened the next round.
 #[derive(Drop)]
 pub struct RoundEnded {
-    /// Whether the replica makes no statement any more.
+    /// Whether the replica is mute: it makes no further statement.
     pub mute: bool,
     pub frames: SentFrames,
 }
@@ -197,7 +229,7 @@ impl Model for Codes {
 impl Codes {
     ghost use Rattle.std.specs.Prelude.{◌≡◌, IfOk};
 
-    /// The codes, in order.
+    /// A list of these codes, in order.
     pub fn new(codes: Vec<u32>) -> Self
         ensures { result ≡ codes.items }
     {
@@ -211,7 +243,7 @@ impl Codes {
         self.codes.as_slice()
     }
 
-    /// The same codes once more.
+    /// A copy of the codes. The only error is allocation failure.
     pub fn copy(&self) -> Result<Self, AllocError>
         ensures { IfOk result (λ codes. codes ≡ self.now) }
     {
@@ -221,7 +253,7 @@ impl Codes {
     }
 }
 
-/// What running a block gave.
+/// The result of running a block.
 #[derive(Debug, Drop)]
 pub struct BlockResult {
     pub height: Height,
@@ -229,7 +261,7 @@ pub struct BlockResult {
     pub hash: [u8; 32],
 }
 
-/// What an application answers of a key.
+/// An application's answer to a query.
 #[derive(Drop)]
 pub struct QueryAnswer {
     pub height: Height,
@@ -239,7 +271,7 @@ pub struct QueryAnswer {
 impl BlockResult {
     ghost use Rattle.std.specs.Prelude.{◌≡◌, IfOk};
 
-    /// The same result once more.
+    /// A copy of the result. The only error is allocation failure.
     pub fn copy(&self) -> Result<Self, AllocError>
         ensures { IfOk result (λ block. block ≡ self.now) }
     {
@@ -254,7 +286,7 @@ impl BlockResult {
 impl QueryAnswer {
     ghost use Rattle.std.specs.Prelude.{◌≡◌, IfOk};
 
-    /// The same answer once more. The value's bytes are shared.
+    /// A copy of the answer, which shares the value's bytes. The only error is allocation failure.
     pub fn copy(&self) -> Result<Self, AllocError>
         ensures { IfOk result (λ answer. answer ≡ self.now) }
     {
@@ -269,7 +301,7 @@ impl QueryAnswer {
     }
 }
 
-/// What a replica answers to an event.
+/// A replica's reply to an event.
 #[derive(Drop)]
 pub enum Reply {
     Submitted(Result<(), SubmitRefusal>),
@@ -283,7 +315,7 @@ pub enum Reply {
 impl Reply {
     ghost use Rattle.std.specs.Prelude.{◌≡◌, IfOk};
 
-    /// The same reply once more. The bytes of frames and values are shared.
+    /// A copy of the reply, which shares the bytes of frames and values. The only error is allocation failure.
     pub fn copy(&self) -> Result<Self, AllocError>
         ensures { IfOk result (λ reply. reply ≡ self.now) }
     {

@@ -1,4 +1,4 @@
-//! What replicas tell each other: reports, locks and acknowledgements.
+//! The statements that replicas send to each other: reports, locks and acknowledgements.
 ghost use Rattle.std.specs.Prelude.{◌≡◌, IfOk};
 ghost use Rattle.std.specs.List.{list_any, list_all};
 ghost use Rattle.ledger_model.specs.Values.{same_value};
@@ -7,7 +7,7 @@ use crate::{Batch, Height, Phase, ReplicaId};
 use std::alloc::{AllocError, Global};
 use std::marker::Model;
 
-/// A list of batches, as a report names them.
+/// A list of batches, as a report contains it.
 #[derive(Debug, Drop)]
 pub struct Batches {
     batches: Vec<Batch>,
@@ -40,7 +40,7 @@ impl Batches {
         })
     }
 
-    /// The batches, in order. Takes no memory.
+    /// The batches, in order. Allocates nothing.
     pub fn into_vec(self) -> Vec<Batch>
         ensures { result.items ≡ self }
     {
@@ -54,7 +54,7 @@ impl Batches {
         self.batches.as_slice()
     }
 
-    /// The same list once more.
+    /// A copy of the list. The only error is allocation failure.
     pub fn copy(&self) -> Result<Self, AllocError>
         ensures { IfOk result (λ list. list ≡ self.now) }
     {
@@ -91,7 +91,7 @@ impl Model for Signature {
 impl Signature {
     ghost use Rattle.std.specs.Prelude.{◌≡◌, IfOk};
 
-    /// The most bytes of a signature: those of RFC 8554's signatures under the parameter sets in use have no more.
+    /// The most bytes of a signature: the longest RFC 8554 signature under the parameter sets in use.
     pub const MAX_LEN: usize = 2508;
 
     /// A signature of these bytes.
@@ -108,7 +108,7 @@ impl Signature {
         self.bytes.as_slice()
     }
 
-    /// The same signature once more.
+    /// A copy of the signature. The only error is allocation failure.
     pub fn copy(&self) -> Result<Self, AllocError>
         ensures { IfOk result (λ signature. signature ≡ self.now) }
     {
@@ -118,7 +118,8 @@ impl Signature {
     }
 }
 
-/// What a replica tells of a height as a phase opens.
+/// A replica's report on a height as a phase opens: its initial value, the values that it finds proper, and those that
+/// it holds locks on.
 #[derive(Debug)]
 pub struct Report {
     pub height: Height,
@@ -131,7 +132,7 @@ pub struct Report {
     pub locked: Batches,
 }
 
-// It is dropped by a function of its own, so that whoever owns one drops it by a single call.
+// An own `Drop` keeps proofs short: an owner drops it by one call. See docs/WORKING.md.
 impl Drop for Report {
     fn drop(self) {
         let Report {
@@ -162,21 +163,21 @@ impl Report {
     ghost use Rattle.std.specs.Prelude.{◌≡◌, IfOk};
     ghost use Rattle.ledger_model.specs.Locks.{names, finds};
 
-    /// Whether the report names the value.
+    /// Whether the report names the value: the report lists it as proper, or reports that every batch is.
     pub fn names(&self, value: &Batch) -> bool
         ensures { result ≡ names self.now value.now }
     {
         self.all || holds_value(self.proper.as_slice(), value)
     }
 
-    /// Whether the report finds the value: it names it, and holds a lock on no other.
+    /// Whether the report finds the value: it names the value, and every lock that it lists is on that value.
     pub fn finds(&self, value: &Batch) -> bool
         ensures { result ≡ finds self.now value.now }
     {
         self.names(value) && holds_only(self.locked.as_slice(), value)
     }
 
-    /// The same report once more.
+    /// A copy of the report. The only error is allocation failure.
     pub fn copy(&self) -> Result<Self, AllocError>
         ensures { IfOk result (λ report. report ≡ self.now) }
     {
@@ -199,7 +200,7 @@ pub struct SignedReport {
     pub signature: Signature,
 }
 
-// It is dropped by a function of its own, so that whoever owns one drops it by a single call.
+// An own `Drop` keeps proofs short: an owner drops it by one call. See docs/WORKING.md.
 impl Drop for SignedReport {
     fn drop(self) {
         let SignedReport {
@@ -212,7 +213,7 @@ impl Drop for SignedReport {
 impl SignedReport {
     ghost use Rattle.std.specs.Prelude.{◌≡◌, IfOk};
 
-    /// The same signed report once more.
+    /// A copy of the signed report. The only error is allocation failure.
     pub fn copy(&self) -> Result<Self, AllocError>
         ensures { IfOk result (λ signed. signed ≡ self.now) }
     {
@@ -241,7 +242,7 @@ impl Model for LockProof {
 impl LockProof {
     ghost use Rattle.std.specs.Prelude.{◌≡◌};
 
-    /// The proof that these reports are, in order.
+    /// A proof of these reports, in order.
     pub fn new(reports: Vec<SignedReport>) -> Self
         ensures { result ≡ reports.items }
     {
@@ -256,7 +257,7 @@ impl LockProof {
     }
 }
 
-/// The choice of a phase's owner.
+/// A lock: the value that a phase's owner chose, with the reports that allow it.
 #[derive(Debug)]
 pub struct Lock {
     pub height: Height,
@@ -266,7 +267,7 @@ pub struct Lock {
     pub proof: LockProof,
 }
 
-// It is dropped by a function of its own, so that whoever owns one drops it by a single call.
+// An own `Drop` keeps proofs short: an owner drops it by one call. See docs/WORKING.md.
 impl Drop for Lock {
     fn drop(self) {
         let Lock {
@@ -279,7 +280,7 @@ impl Drop for Lock {
     }
 }
 
-/// That a replica took the lock of a phase.
+/// A replica's acknowledgement that it took the lock of a phase.
 #[derive(Debug, Drop)]
 pub struct Ack {
     pub height: Height,
@@ -288,7 +289,7 @@ pub struct Ack {
     pub value: Batch,
 }
 
-/// What replicas sign and send.
+/// A statement, as replicas sign and send it.
 #[derive(Debug, Drop)]
 pub enum Statement {
     Report(Report),
@@ -302,7 +303,7 @@ impl Statement {
     ghost use Rattle.ledger_model.specs.Logs.{height_of};
     ghost use Rattle.ledger_model.specs.Rules.{phase_in};
 
-    /// Who makes the statement.
+    /// The replica that made the statement.
     pub fn signer(&self) -> ReplicaId
         ensures { result ≡ signer_of self.now }
     {
@@ -324,7 +325,7 @@ impl Statement {
         }
     }
 
-    /// The phase that the statement is of.
+    /// The phase that the statement belongs to.
     pub fn phase(&self) -> Phase
         ensures { result ≡ phase_in self.now }
     {
@@ -336,7 +337,7 @@ impl Statement {
     }
 }
 
-/// A statement and its signer's signature: what a frame spells.
+/// A statement and its signer's signature, as a frame encodes them.
 #[derive(Debug, Drop)]
 pub struct SignedStatement {
     pub statement: Statement,

@@ -1,5 +1,6 @@
 -- Chains step by step.
-use Rattle.std.proofs.Common.{◌≡◌, ◌≤◌, ℕ, zero, suc, ◌+◌, ◌%◌, List, [], ◌∷◌, ◌++◌, length, take, drop, map, slice_index, refl, sym, ap, ◌∙◌, arith}
+use Rattle.std.proofs.Common.{◌≡◌, ◌≤◌, ℕ, zero, suc, ◌+◌, ◌%◌, List, [], ◌∷◌, ◌++◌, length, take, drop, map, slice_index, refl, sym, ap}
+use Rattle.std.proofs.Common.{◌∙◌, arith}
 use Rattle.std.proofs.lemmas.List.{take_at, drop_at, get_or_at, drop_more, take-append-drop, length-append, length-take-le, append_assoc}
 use Rattle.std.specs.Int.{w16, w32, to_be_bytes}
 use Rattle.std.specs.List.{flat_map, range_with_len}
@@ -11,7 +12,8 @@ use Rattle.ledger_model.specs.Signatures.{chain, chain_start}
 use Rattle.lm_ots.specs.Steps.{place_in, step_in, value_in, rest_of, walk, stepped, IsNext}
 
 -- steps after steps
-pub chain-append : (id : List ℕ) (q i j m n : ℕ) (value : List ℕ) → chain id q i (j + m) n (chain id q i j m value) ≡ chain id q i j (m + n) value
+pub chain-append : (id : List ℕ) (q i j m n : ℕ) (value : List ℕ)
+    → chain id q i (j + m) n (chain id q i j m value) ≡ chain id q i j (m + n) value
 unfolding chain
 chain-append id q i j zero n value =
     let e : j + 0 ≡ j = omega arith in
@@ -29,17 +31,20 @@ length-chain id q i j zero value whole = whole
 length-chain id q i j (suc n) value whole = length-chain id q i (j + 1) n _ (length-sha256 _)
 
 -- steps over the bytes that name a chain, none of which comes after step 255, are steps of that chain
-pub walk-chain : (id : List ℕ) (q i j n : ℕ) (value : List ℕ) → j + n ≤ 256 → walk (id ++ to_be_bytes w32 q ++ to_be_bytes w16 i) j n value ≡ chain id q i j n value
+pub walk-chain : (id : List ℕ) (q i j n : ℕ) (value : List ℕ) → j + n ≤ 256
+    → walk (id ++ to_be_bytes w32 q ++ to_be_bytes w16 i) j n value ≡ chain id q i j n value
 unfolding walk chain
 walk-chain id q i j zero value inside = refl
 walk-chain id q i j (suc zero) value inside = refl
 walk-chain id q i j (suc (suc n)) value inside =
     let next : (j + 1) % 256 ≡ j + 1 = omega arith in
-    ap (λ k. walk (id ++ to_be_bytes w32 q ++ to_be_bytes w16 i) k (suc n) (stepped (id ++ to_be_bytes w32 q ++ to_be_bytes w16 i) j value)) next
+    ap (λ k. walk (id ++ to_be_bytes w32 q ++ to_be_bytes w16 i) k (suc n)
+    (stepped (id ++ to_be_bytes w32 q ++ to_be_bytes w16 i) j value)) next
     ∙ walk-chain id q i (j + 1) (suc n) _ (omega arith)
 
 -- steps from the one that makes the chain's beginning of the seed
-pub walk-begun : (id seed : List ℕ) (q i n : ℕ) → n ≤ 255 → walk (id ++ to_be_bytes w32 q ++ to_be_bytes w16 i) 255 (n + 1) seed ≡ chain id q i 0 n (chain_start id seed q i)
+pub walk-begun : (id seed : List ℕ) (q i n : ℕ) → n ≤ 255
+    → walk (id ++ to_be_bytes w32 q ++ to_be_bytes w16 i) 255 (n + 1) seed ≡ chain id q i 0 n (chain_start id seed q i)
 unfolding walk chain_start
 walk-begun id seed q i n inside =
     let place = id ++ to_be_bytes w32 q ++ to_be_bytes w16 i in
@@ -49,7 +54,8 @@ walk-begun id seed q i n inside =
 -- a message is its place, its step and its value
 message-parts : (m : List ℕ) → length m ≡ 55 → place_in m ++ (step_in m ∷ []) ++ value_in m ≡ m
 message-parts m whole =
-    append_assoc (take 22 m) (slice_index m 22 ∷ []) (drop 23 m) ∙ ap (λ zs. take 22 m ++ zs) (sym (drop_more m 22 0 (omega arith))) ∙ take-append-drop 22 m
+    append_assoc (take 22 m) (slice_index m 22 ∷ []) (drop 23 m) ∙ ap (λ zs. take 22 m ++ zs) (sym (drop_more m 22 0 (omega arith)))
+    ∙ take-append-drop 22 m
 
 -- one step less is left in the next message
 pub rest-next : (before after : List ℕ) (n : ℕ) → IsNext before after → rest_of after n ≡ rest_of before (suc n)
@@ -73,13 +79,9 @@ rest-made place value j n long =
     let e = append_assoc place (j ∷ []) value in
     let at = place-made place value j long in
     let step : step_in (place ++ (j ∷ []) ++ value) ≡ j = ap (λ m. slice_index m 22) e ∙ get_or_at place j value 0 22 long in
-    let behind : value_in (place ++ (j ∷ []) ++ value) ≡ value = drop_at (place ++ (j ∷ [])) value 23 (omega (arith, length-append place (j ∷ []))) in
+    let behind : value_in (place ++ (j ∷ []) ++ value) ≡ value =
+    drop_at (place ++ (j ∷ [])) value 23 (omega (arith, length-append place (j ∷ []))) in
     (λ i. walk (at i) (step i) n (behind i))
-
--- one number more in a range
-pub range-more : (a n : ℕ) → range_with_len a (suc n) ≡ range_with_len a n ++ (a + n) ∷ []
-range-more a zero = let e : a + 0 ≡ a = omega arith in rw e
-range-more a (suc n) = let e : a + 1 + n ≡ a + suc n = omega arith in ap (λ zs. a ∷ zs) (range-more (a + 1) n ∙ ap (λ k. range_with_len (a + 1) n ++ k ∷ []) e)
 
 -- strings that a function gives, joined
 pub flat_map-map : {X Y : Type 0} (f : X → List Y) → (xs : List X) → flat_map (λ (end : List Y). end) (map f xs) ≡ flat_map f xs
@@ -91,7 +93,8 @@ pub rest-begun : (id seed : List ℕ) (q i n : ℕ) → length id ≡ 16 → n �
     → rest_of (id ++ to_be_bytes w32 q ++ to_be_bytes w16 i ++ (255 ∷ []) ++ seed) (n + 1) ≡ chain id q i 0 n (chain_start id seed q i)
 rest-begun id seed q i n named inside =
     let place = id ++ to_be_bytes w32 q ++ to_be_bytes w16 i in
-    let long : length place ≡ 22 = omega (arith, length-append (id ++ to_be_bytes w32 q) (to_be_bytes w16 i), length-append id (to_be_bytes w32 q)) in
+    let long : length place ≡ 22 =
+    omega (arith, length-append (id ++ to_be_bytes w32 q) (to_be_bytes w16 i), length-append id (to_be_bytes w32 q)) in
     rest-made place seed 255 (n + 1) long ∙ walk-begun id seed q i n inside
 
 -- the message of a chain's next step

@@ -57,15 +57,19 @@ mod-small : (x : ℕ) → x < 65536 → x % 65536 ≡ x
 mod-small x below = omega arith
 
 -- the sum of what the digits lack, shifted, is the checksum
-pub checksum-is : (p : Params) (s : List ℕ) (sum count shift : ℕ) → count ≡ 256 / bits_of p.width → shift ≡ shift_of p.width → sum ≤ (2 ^ bits_of p.width - 1) * count → sum ≡ sum_up (λ i. 2 ^ bits_of p.width - 1 - coef s i (bits_of p.width)) count → sum * 2 ^ shift % 65536 ≡ checksum (numbers_of p) s
+pub checksum-is : (p : Params) (s : List ℕ) (sum count shift : ℕ) → count ≡ 256 / bits_of p.width → shift ≡ shift_of p.width
+    → sum ≤ (2 ^ bits_of p.width - 1) * count → sum ≡ sum_up (λ i. 2 ^ bits_of p.width - 1 - coef s i (bits_of p.width)) count
+    → sum * 2 ^ shift % 65536 ≡ checksum (numbers_of p) s
 unfolding checksum
 checksum-is p s sum count shift all shifted bounded total =
     let fits = checksum-fits p.width sum count all bounded in
     let small : sum * 2 ^ shift % 65536 ≡ sum * 2 ^ shift = rw shifted (mod-small (sum * 2 ^ shift_of p.width) fits) in
-    small ∙ ap (λ n. n * 2 ^ shift) (total ∙ ap (sum_up (λ i. 2 ^ bits_of p.width - 1 - coef s i (bits_of p.width))) all) ∙ ap (λ k. sum_up (λ i. 2 ^ bits_of p.width - 1 - coef s i (bits_of p.width)) (256 / bits_of p.width) * 2 ^ k) shifted
+    small ∙ ap (λ n. n * 2 ^ shift) (total ∙ ap (sum_up (λ i. 2 ^ bits_of p.width - 1 - coef s i (bits_of p.width))) all)
+    ∙ ap (λ k. sum_up (λ i. 2 ^ bits_of p.width - 1 - coef s i (bits_of p.width)) (256 / bits_of p.width) * 2 ^ k) shifted
 
 -- the sum of the digits in the bytes of a digest and its checksum
-pub digits-sum : (p given : Params) (s bytes : List ℕ) (count : ℕ) → given ≡ p → bytes ≡ s ++ to_be_bytes w16 (checksum (numbers_of p) s) → sum_up (λ i. coef bytes i (bits_of given.width)) count ≡ sum_up (digit (numbers_of p) s) count
+pub digits-sum : (p given : Params) (s bytes : List ℕ) (count : ℕ) → given ≡ p → bytes ≡ s ++ to_be_bytes w16 (checksum (numbers_of p) s)
+    → sum_up (λ i. coef bytes i (bits_of given.width)) count ≡ sum_up (digit (numbers_of p) s) count
 unfolding digit
 digits-sum p given s bytes count same is =
     ap (λ (u : Params). sum_up (λ i. coef bytes i (bits_of u.width)) count) same

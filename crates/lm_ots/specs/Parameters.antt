@@ -12,7 +12,7 @@ abbrev pub bits_of : Width → ℕ
 bits_of W4 = 4
 bits_of W8 = 8
 
--- how many chains
+-- the number of chains
 abbrev pub chains_of : Width → ℕ
 chains_of W4 = 67
 chains_of W8 = 34

@@ -2,7 +2,7 @@
 use Rattle.std.specs.Prelude.{◌≡◌, ℕ, zero, suc, ◌+◌, ◌%◌, List, [], ◌∷◌, ◌++◌, length, take, drop, slice_index}
 use Rattle.sha2.specs.Sha256.{sha256}
 
--- the bytes that name the chain, `I || u32(q) || u16(i)`
+-- the bytes that identify the chain, `I || u32(q) || u16(i)`
 abbrev pub place_in : List ℕ → List ℕ
 place_in message = take 22 message
 
@@ -10,24 +10,24 @@ place_in message = take 22 message
 abbrev pub step_in : List ℕ → ℕ
 step_in message = slice_index message 22
 
--- the value that the step begins with
+-- the value that the step starts from
 abbrev pub value_in : List ℕ → List ℕ
 value_in message = drop 23 message
 
--- the step j of the chain at a place
+-- step j of the chain identified by `place`
 abbrev pub stepped : List ℕ → ℕ → List ℕ → List ℕ
 stepped place j value = sha256 (place ++ (j ∷ []) ++ value)
 
--- n steps of the chain at a place, from step j on. Step 0 comes after step 255, which makes the chain's beginning of the seed
+-- n steps of the chain identified by `place`, from step j on; step 0 follows step 255, which makes the chain's start from the seed
 unfoldable pub walk : List ℕ → ℕ → ℕ → List ℕ → List ℕ
 walk place j zero value = value
 walk place j (suc n) value = walk place ((j + 1) % 256) n (stepped place j value)
 
--- the value after n steps, of which the first hashes this message
+-- the value after n steps, the first of which hashes this message
 abbrev pub rest_of : List ℕ → ℕ → List ℕ
 rest_of message n = walk (place_in message) (step_in message) n (value_in message)
 
--- the message of a chain's next step, after that of a step
+-- `after` is the message of the step that follows the one whose message is `before`
 pub record IsNext (before after : List ℕ) : Type 0 where
   pub whole : length before ≡ 55
   pub place : place_in after ≡ place_in before

@@ -1,4 +1,4 @@
-//! What one step of a chain hashes, which is one block of SHA-256; and eight such steps side by side.
+//! The message that one step of a chain hashes, which is one block of SHA-256; and eight such steps in parallel.
 ghost use Rattle.std.specs.Prelude.{◌≡◌, ℕ, ◌+◌, ◌%◌, ◌<◌, ◌++◌, [], ◌∷◌, length, take, slice_index_or};
 ghost use Rattle.std.specs.Int.{w16, w32, to_be_bytes};
 ghost use Rattle.lm_ots.specs.Steps.{place_in, value_in, rest_of};
@@ -6,13 +6,13 @@ ghost use Rattle.lm_ots.specs.Steps.{place_in, value_in, rest_of};
 use crate::Identifier;
 use sha_lanes::take_turns;
 
-/// How many chains take a step side by side.
+/// The number of chains that take a step in parallel.
 pub(crate) const LANES: usize = 8;
 
-/// The number of the step that makes the beginning of a chain of the seed (RFC 8554, Appendix A). Step 0 comes next.
+/// The number of the step that makes the start of a chain from the seed (RFC 8554, Appendix A). Step 0 follows it.
 pub(crate) const SEED_STEP: u8 = 255;
 
-/// The bytes of a step's message that name the leaf, with no more behind them.
+/// A step's message with the leaf filled in, and zeros after it.
 fn leaf_message(identifier: &Identifier, leaf: u32) -> [u8; 55]
     ensures leaf { take 20 result ≡ identifier.now ++ to_be_bytes w32 leaf }
     ensures whole { length result ≡ 55 }
@@ -24,7 +24,7 @@ fn leaf_message(identifier: &Identifier, leaf: u32) -> [u8; 55]
     message
 }
 
-/// What a step of a chain hashes: `I || u32(q) || u16(i) || u8(j) || tmp` (RFC 8554, section 4.3).
+/// The message that a step of a chain hashes: `I || u32(q) || u16(i) || u8(j) || tmp` (RFC 8554, section 4.3).
 pub(crate) fn step_message(
     identifier: &Identifier,
     leaf: u32,
@@ -43,7 +43,7 @@ pub(crate) fn step_message(
     message
 }
 
-/// The value that the step of a message begins with.
+/// The value that a step starts from, taken from its message.
 pub(crate) fn value_in(message: &[u8; 55]) -> &[u8]
     ensures value { result.now ≡ value_in message.now }
     ensures whole { length result.now ≡ 32 }
@@ -51,7 +51,7 @@ pub(crate) fn value_in(message: &[u8; 55]) -> &[u8]
     &message[23..]
 }
 
-/// Takes `count` steps of each chain.
+/// Takes `count` steps of each chain, in parallel.
 pub(crate) fn steps_each(messages: &mut [[u8; 55]; LANES], count: u16)
     ensures rest { (k n : ℕ) → k < 8
         → rest_of (slice_index_or messages.new k []) n ≡ rest_of (slice_index_or messages.old k []) (count + n) }

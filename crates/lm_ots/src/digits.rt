@@ -6,7 +6,7 @@ ghost use Rattle.lm_ots.specs.Parameters.{numbers_of, chains_of, bits_of};
 
 use crate::{Params, Width};
 
-/// The digits that are signed, those of a digest and of its checksum (RFC 8554, section 4.4).
+/// The digits that are signed: those of a digest, followed by those of its checksum (RFC 8554, section 4.4).
 #[derive(Drop)]
 pub(crate) struct Digits {
     params: Params,
@@ -26,7 +26,7 @@ impl Digits {
         Digits { params, bytes }
     }
 
-    /// The digit that the chain `index` signs.
+    /// The digit that chain `index` signs.
     pub(crate) fn at(&self, index: u16) -> u8
         requires { index < chains_of self.now.params.width }
         ensures { result ≡ coef self.now.bytes index (bits_of self.now.params.width) }

@@ -1,4 +1,4 @@
-//! The ends of a leaf's chains: those of a key, those that a signature shows, and those that it leads to.
+//! The ends of a leaf's chains: for its key, and for a signature that is made or checked.
 ghost use Rattle.std.specs.Prelude.{◌≡◌, ◌*◌, ◌-◌, map, length, take};
 ghost use Rattle.std.specs.List.{range_with_len};
 ghost use Rattle.ledger_model.specs.Signatures.{chain, chain_start, digit, last_step, part, public_value};
@@ -29,7 +29,7 @@ pub(crate) fn key_ends(
     chains.ends()
 }
 
-/// The values of the chains that the signature of a digest shows (RFC 8554, section 4.5).
+/// The values of the chains that the signature of a digest contains (RFC 8554, section 4.5).
 pub(crate) fn signed_ends(
     params: Params,
     identifier: &Identifier,
@@ -49,7 +49,7 @@ pub(crate) fn signed_ends(
     chains.ends()
 }
 
-/// The ends of the chains from the values of a signature on, each from its digit on (RFC 8554, section 4.6).
+/// The ends of the chains that the values of a signature lead to, each from its digit on (RFC 8554, section 4.6).
 pub(crate) fn climbed_ends(
     params: Params,
     identifier: &Identifier,

@@ -13,8 +13,7 @@ pub(crate) const D_PBLC: u16 = 0x8080;
 /// Marks the hash of a message (RFC 8554, section 4.5).
 const D_MESG: u16 = 0x8181;
 
-/// A hasher of what begins with `I || u32(number) || u16(mark)`, as the messages, keys and nodes
-/// of RFC 8554 do.
+/// A hasher that has taken `I || u32(number) || u16(mark)`, with which the messages, keys and nodes of RFC 8554 start.
 pub fn hasher_at(identifier: &Identifier, number: u32, mark: u16) -> Sha256
     ensures { Holds256 result (identifier.now ++ to_be_bytes w32 number ++ to_be_bytes w16 mark) }
 {
@@ -25,7 +24,7 @@ pub fn hasher_at(identifier: &Identifier, number: u32, mark: u16) -> Sha256
     hasher
 }
 
-/// What is signed in place of a message (RFC 8554, section 4.5).
+/// The digest that is signed for a message (RFC 8554, section 4.5).
 pub(crate) fn message_digest(
     identifier: &Identifier,
     leaf: u32,
@@ -40,8 +39,7 @@ pub(crate) fn message_digest(
     hasher.finalize()
 }
 
-/// The number that the first 4 bytes spell, the highest byte first: `strTou32` of RFC 8554
-/// (section 3.1.2).
+/// The number that the first 4 bytes encode, big-endian: `strTou32` of RFC 8554 (section 3.1.2).
 pub fn read_u32(bytes: &[u8]) -> u32
     requires { 4 ≤ length bytes.now }
     ensures { result ≡ from_be_bytes w32 (take 4 bytes.now) }

@@ -1,4 +1,4 @@
-//! The chains of a leaf, each on its way from a value to its end, eight side by side.
+//! The chains of a leaf, each on its way from a value to its end, eight of them in parallel.
 use crate::block::{LANES, SEED_STEP, step_message, steps_each, value_in};
 use crate::waiting::Waiting;
 use crate::{Identifier, Seed};
@@ -6,16 +6,16 @@ use crate::{Identifier, Seed};
 /// The greatest number of chains that a leaf has.
 pub(crate) const CHAINS: usize = 67;
 
-/// The chains of a leaf. One that has not been begun has no steps left.
+/// The chains of a leaf. A chain that has not been started has no steps left.
 #[derive(Drop)]
 pub(crate) struct Chains {
     identifier: Identifier,
     leaf: u32,
-    /// The value that each chain has come to.
+    /// The current value of each chain.
     values: [[u8; 32]; CHAINS],
-    /// The number of its next step.
+    /// The number of each chain's next step.
     next: [u8; CHAINS],
-    /// How many steps it has left.
+    /// The number of steps that each chain has left.
     left: [u16; CHAINS],
 }
 
@@ -24,7 +24,7 @@ impl Chains {
     ghost use Rattle.ledger_model.specs.Signatures.{chain, chain_start};
     ghost use Rattle.lm_ots.specs.Ends.{end_of, message_of};
 
-    /// The chains of a leaf, none of which has been begun.
+    /// The chains of a leaf, none of which has been started.
     pub(crate) fn new(identifier: &Identifier, leaf: u32) -> Self
         ensures identifier { result.identifier ≡ identifier.now }
         ensures leaf { result.leaf ≡ leaf }
@@ -38,7 +38,7 @@ impl Chains {
         }
     }
 
-    /// Puts a chain at a value, with the number of its next step and how many it has left.
+    /// Sets the value of a chain, the number of its next step, and the number of steps that it has left.
     fn set(&mut self, index: u16, next: u8, left: u16, value: &[u8])
         requires index { index < 67 }
         requires whole { length value.now ≡ 32 }
@@ -56,7 +56,7 @@ impl Chains {
         self.left[index] = left;
     }
 
-    /// Begins a chain with the seed (RFC 8554, Appendix A). It is to take `steps` steps from its beginning on.
+    /// Starts a chain from the seed (RFC 8554, Appendix A). It will take `steps` steps from its start.
     pub(crate) fn begin(&mut self, index: u16, seed: &Seed, steps: u8)
         requires { index < 67 }
         ensures identifier { self.new.identifier ≡ self.old.identifier }
@@ -68,7 +68,7 @@ impl Chains {
         self.set(index, SEED_STEP, u16::from(steps) + 1, seed.as_bytes());
     }
 
-    /// Begins a chain with the value that it has come to before the step `from`. It is to go on up to the step `to`.
+    /// Starts a chain from its value before the step `from`. It will take the steps up to `to`.
     pub(crate) fn resume(&mut self, index: u16, from: u8, to: u8, value: &[u8])
         requires index { index < 67 }
         requires forward { from ≤ to }
@@ -82,7 +82,7 @@ impl Chains {
         self.set(index, from, u16::from(to - from), value);
     }
 
-    /// The values of the chains, once each has taken the steps that it has left.
+    /// The values of the chains after each has taken the steps that it has left.
     pub(crate) fn ends(mut self) -> [[u8; 32]; CHAINS]
         ensures many { length result ≡ 67 }
         ensures ends { (i : ℕ) → i < 67 → slice_index_or result i [] ≡ end_of self i }
@@ -92,7 +92,7 @@ impl Chains {
         self.values()
     }
 
-    /// The values that the chains have come to.
+    /// The current values of the chains.
     fn values(&self) -> [[u8; 32]; CHAINS]
         ensures values { result ≡ self.now.values }
         ensures many { length result ≡ 67 }
@@ -100,7 +100,7 @@ impl Chains {
         self.values
     }
 
-    /// Walks the chains in turns, eight at a time, those with the most steps left first.
+    /// Walks the chains in turns, eight at a time, starting with those that have the most steps left.
     fn walk(&mut self)
         ensures { (i : ℕ) → i < 67 → end_of self.new i ≡ end_of self.old i }
     {
@@ -116,7 +116,8 @@ impl Chains {
         }
     }
 
-    /// Walks each chain that is not at its end, one by one. [`Chains::walk`] is to leave none: a matter of time alone.
+    /// Walks each chain that is not at its end, one by one. [`Chains::walk`] should have left none, but that is not
+    /// proved: it matters only for time.
     fn finish(&mut self)
         ensures ends { (i : ℕ) → i < 67 → end_of self.new i ≡ end_of self.old i }
         ensures none_left { (i : ℕ) → i < 67 → slice_index self.new.left i ≡ 0 }
@@ -129,7 +130,7 @@ impl Chains {
         }
     }
 
-    /// Takes `count` steps of each chain in `picks`, side by side. A chain may be picked more than once.
+    /// Takes `count` steps of each chain in `picks`, in parallel. A chain may be picked more than once.
     fn turn(&mut self, picks: [u16; LANES], count: u16)
         requires picks { (k : ℕ) → k < 8 → slice_index picks k < 67 }
         requires count { (k : ℕ) → k < 8 → count ≤ slice_index self.old.left (slice_index picks k) }
@@ -147,7 +148,7 @@ impl Chains {
         }
     }
 
-    /// What the next step of a chain hashes.
+    /// The message that the next step of a chain hashes.
     fn message(&self, index: u16) -> [u8; 55]
         requires { index < 67 }
         ensures message { result ≡ message_of self.now index }
@@ -163,7 +164,7 @@ impl Chains {
         )
     }
 
-    /// What the next steps of eight chains hash.
+    /// The messages that the next steps of eight chains hash.
     fn messages(&self, picks: &[u16; LANES]) -> [[u8; 55]; LANES]
         requires { (k : ℕ) → k < 8 → slice_index picks.now k < 67 }
         ensures messages { (k : ℕ) → k < 8
@@ -177,7 +178,7 @@ impl Chains {
         messages
     }
 
-    /// How many steps a chain has left.
+    /// The number of steps that a chain has left.
     fn left_of(&self, index: u16) -> u16
         requires { index < 67 }
         ensures { result ≡ slice_index self.now.left index }
@@ -185,7 +186,7 @@ impl Chains {
         self.left[usize::from(index)]
     }
 
-    /// How many steps eight chains have left after `count` more.
+    /// The number of steps that each of eight chains has left after `count` more.
     fn lefts_after(&self, picks: &[u16; LANES], count: u16) -> [u16; LANES]
         requires { (k : ℕ) → k < 8 → slice_index picks.now k < 67 }
         ensures { (k : ℕ) → k < 8
@@ -198,7 +199,7 @@ impl Chains {
         lefts
     }
 
-    /// The fewest steps that one of eight chains has left.
+    /// The least number of steps that any of eight chains has left.
     fn least_left(&self, picks: &[u16; LANES]) -> u16
         requires { (k : ℕ) → k < 8 → slice_index picks.now k < 67 }
         ensures { (k : ℕ) → k < 8 → result ≤ slice_index self.now.left (slice_index picks.now k) }
@@ -210,7 +211,7 @@ impl Chains {
         least
     }
 
-    /// The chain of eight with the most steps left.
+    /// The chain with the most steps left, among eight.
     fn longest(&self, picks: &[u16; LANES]) -> u16
         requires { (k : ℕ) → k < 8 → slice_index picks.now k < 67 }
         ensures { result < 67 }
@@ -224,8 +225,8 @@ impl Chains {
         longest
     }
 
-    /// The chains of the next turn: in place of each that is at its end the next that waits, or else one that is picked
-    /// already.
+    /// The chains of the next turn: each chain that is at its end is replaced by the next waiting one, or else by one
+    /// that is already picked.
     fn next_picks(&self, picks: [u16; LANES], waiting: &mut Waiting) -> [u16; LANES]
         requires { (k : ℕ) → k < 8 → slice_index picks k < 67 }
         ensures { (k : ℕ) → k < 8 → slice_index result k < 67 }
@@ -239,7 +240,7 @@ impl Chains {
         self.doubled(next)
     }
 
-    /// These chains, with the one that has the most steps left in place of each that is at its end.
+    /// These chains, with each one that is at its end replaced by the one with the most steps left.
     fn doubled(&self, picks: [u16; LANES]) -> [u16; LANES]
         requires { (k : ℕ) → k < 8 → slice_index picks k < 67 }
         ensures { (k : ℕ) → k < 8 → slice_index result k < 67 }

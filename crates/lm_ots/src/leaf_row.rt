@@ -1,4 +1,4 @@
-//! The public values of eight leaves in a row, whose chains are walked side by side.
+//! The public values of eight consecutive leaves, whose chains are walked in parallel.
 ghost use Rattle.std.specs.Prelude.{◌≡◌, ◌≢◌, ℕ, ◌+◌, ◌*◌, ◌^◌, ◌<◌, ◌≤◌, ◌++◌, [], ◌∷◌, length, slice_index_or};
 ghost use Rattle.std.specs.Int.{w16, w32, to_be_bytes};
 ghost use Rattle.ledger_model.specs.Signatures.{chain, chain_start, last_step, leaf_key};
@@ -10,12 +10,12 @@ use crate::ends::public_value;
 use crate::leaf_chains::CHAINS;
 use crate::{Identifier, Params, Seed};
 
-/// How many ends the chains of eight leaves have, at most.
+/// The most ends that the chains of eight leaves have.
 const ENDS: usize = LANES * CHAINS;
 
-/// The public values of eight leaves in a row, of which this is the first, each as [`crate::public_hash`] gives it.
+/// The public values of eight consecutive leaves, from `first` on, each as [`crate::public_hash`] returns it.
 ///
-/// They take half the time of one after another, and no memory.
+/// This takes half the time of computing them one after another. Allocates nothing.
 pub fn public_hashes(
     params: Params,
     identifier: &Identifier,
@@ -37,7 +37,7 @@ pub fn public_hashes(
     keys
 }
 
-/// The ends of the chains of eight leaves in a row: those of the leaf `first + k` stand from place `67 * k` on.
+/// The ends of the chains of eight consecutive leaves. Those of leaf `first + k` start at index `67 * k`.
 fn all_ends(params: Params, identifier: &Identifier, first: u32, seed: &Seed) -> [[u8; 32]; ENDS]
     requires { first + 8 ≤ 2 ^ 32 }
     ensures many { length result ≡ 536 }
@@ -53,7 +53,7 @@ fn all_ends(params: Params, identifier: &Identifier, first: u32, seed: &Seed) ->
     ends
 }
 
-/// Puts the end of a chain of each of eight leaves in its place.
+/// Stores the end of one chain of each of eight leaves at its index.
 fn put_each(ends: &mut [[u8; 32]; ENDS], index: usize, values: &[[u8; 32]; LANES])
     requires { index < 67 }
     ensures many { length ends.old ≡ 536 }
@@ -67,7 +67,7 @@ fn put_each(ends: &mut [[u8; 32]; ENDS], index: usize, values: &[[u8; 32]; LANES
     }
 }
 
-/// The ends of a chain of eight leaves in a row (RFC 8554, section 4.3).
+/// The ends of one chain of eight consecutive leaves (RFC 8554, section 4.3).
 fn row_ends(
     params: Params,
     identifier: &Identifier,
@@ -85,7 +85,7 @@ fn row_ends(
     values_in(&messages)
 }
 
-/// What makes the beginnings of a chain of eight leaves in a row (RFC 8554, Appendix A).
+/// The messages that make the starts of one chain of eight consecutive leaves (RFC 8554, Appendix A).
 fn seed_messages(identifier: &Identifier, first: u32, index: u16, seed: &Seed) -> [[u8; 55]; LANES]
     requires { first + 8 ≤ 2 ^ 32 }
     ensures messages { (k : ℕ) → k < 8 → slice_index_or result k []
@@ -100,7 +100,7 @@ fn seed_messages(identifier: &Identifier, first: u32, index: u16, seed: &Seed) -
     messages
 }
 
-/// The values that the steps of eight messages begin with.
+/// The values that the steps of eight messages start from.
 fn values_in(messages: &[[u8; 55]; LANES]) -> [[u8; 32]; LANES]
     ensures { (k : ℕ) → k < 8
         → slice_index_or result k [] ≡ value_in (slice_index_or messages.now k []) }

@@ -1,7 +1,8 @@
 //! One-time signatures with SHA-256 (LM-OTS, RFC 8554, section 4), at widths 4 and 8, n = 32.
 //!
-//! A leaf's key pair comes from a seed: [`public_hash`] is its public value ([`public_hashes`] gives those of eight), [`sign`] signs a message
-//! with it, and [`candidate`] is the public value that a signature leads to. [`signed_steps`] counts what a signature costs.
+//! A leaf's key pair comes from a seed. [`public_hash`] returns its public value, and [`public_hashes`] those of eight
+//! leaves. [`sign`] signs a message with the leaf, [`candidate`] returns the public value that a signature leads to,
+//! and [`signed_steps`] counts the steps that a signature takes.
 #![tactic(auto)]
 
 mod block;

@@ -12,12 +12,12 @@ use crate::{Identifier, Params, Seed};
 use sha2::{Digest, Sha256};
 use std::alloc::{AllocError, Global};
 
-/// The number of the chain that the randomizer of a leaf is derived at.
+/// The chain number at which the randomizer of a leaf is derived.
 const RANDOMIZER: u16 = 0xfffd;
 
 /// The public value of a leaf (RFC 8554, section 4.3, with the secrets of Appendix A).
 ///
-/// It takes no memory.
+/// Allocates nothing.
 pub fn public_hash(params: Params, identifier: &Identifier, leaf: u32, seed: &Seed) -> [u8; 32]
     ensures { result ≡ leaf_key (numbers_of params) identifier.now seed.now leaf }
 {
@@ -29,10 +29,9 @@ pub fn public_hash(params: Params, identifier: &Identifier, leaf: u32, seed: &Se
     )
 }
 
-/// The signature of a message with a leaf (RFC 8554, section 4.5), whose randomizer is derived from
-/// the seed.
+/// The signature of a message with a leaf (RFC 8554, section 4.5). Its randomizer is derived from the seed.
 ///
-/// All room is made before anything is hashed. A leaf is to sign one message alone.
+/// Allocates all memory before it hashes anything. A leaf must sign only one message.
 pub fn sign(
     alloc: Global,
     params: Params,
@@ -49,8 +48,7 @@ pub fn sign(
     Ok(signature)
 }
 
-/// Appends the signature of a message with a leaf, as [`sign`] makes it, to bytes that have room for it. It takes no
-/// memory.
+/// Appends the signature of a message with a leaf, as [`sign`] makes it, to bytes that have room for it. Allocates nothing.
 pub fn append_signature(
     signature: &mut Vec<u8>,
     params: Params,
@@ -72,7 +70,7 @@ pub fn append_signature(
     append_each(signature, &ends[..usize::from(params.width.chains())]);
 }
 
-/// The randomizer of a leaf's signature, which is derived from the seed as the beginnings of the chains are.
+/// The randomizer of a leaf's signature, which is derived from the seed like the starts of the chains.
 fn randomizer(identifier: &Identifier, leaf: u32, seed: &Seed) -> [u8; 32]
     ensures { result ≡ randomizer identifier.now seed.now leaf }
 {
@@ -105,8 +103,7 @@ fn append(bytes: &mut Vec<u8>, part: &[u8])
 
 /// The public value that a signature of a message leads to (RFC 8554, section 4.6).
 ///
-/// `None` where the signature's length or its type code is not the parameter set's.
-/// It takes no memory.
+/// `None` if the signature's length or its type code is not the parameter set's. Allocates nothing.
 pub fn candidate(
     params: Params,
     identifier: &Identifier,
@@ -134,10 +131,10 @@ pub fn candidate(
     ))
 }
 
-/// How many steps the chains have taken in all to the values that a signature shows: the sum of the digits of its
-/// message's digest and of the checksum (RFC 8554, section 4.5). A verification takes the steps that are left.
+/// The number of steps that all chains together took to the values that a signature contains: the sum of the digits of
+/// its message's digest and of the checksum (RFC 8554, section 4.5). A verification takes the remaining steps.
 ///
-/// It takes no memory.
+/// Allocates nothing.
 pub fn signed_steps(
     params: Params,
     identifier: &Identifier,

@@ -1,6 +1,6 @@
 //! The parameter sets: W4 or W8 with H5 or H10.
 
-/// The width of a digit: how many bits of a digest one chain signs.
+/// The width of a digit: the number of bits of a digest that one chain signs.
 #[derive(Clone, Copy, Debug, PartialEq, Eq)]
 pub enum Width {
     /// 4 bits: `LMOTS_SHA256_N32_W4`.
@@ -51,7 +51,7 @@ impl Width {
         }
     }
 
-    /// By how many bits the checksum is shifted left.
+    /// The number of bits by which the checksum is shifted left.
     pub const fn checksum_shift(self) -> u8
         ensures { result ≡ shift_of self }
     {

@@ -1,7 +1,7 @@
 //! The secret seed of a key pair.
 use std::marker::Model;
 
-/// The secret that all chains begin from, 32 bytes (RFC 8554, Appendix A).
+/// The secret that all chains start from, 32 bytes (RFC 8554, Appendix A).
 ///
 /// It can't be copied, compared or printed. Its bytes are not wiped from memory when it is dropped.
 #[derive(Drop)]

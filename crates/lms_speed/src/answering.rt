@@ -1,4 +1,4 @@
-//! What is answered to a request.
+//! Answers requests.
 ghost use Rattle.std.specs.Prelude.{◌≡◌, IfOk, codes, string_bytes, if◌then◌else◌};
 ghost use Rattle.hex.specs.Hex.{encode_lower};
 ghost use Rattle.ledger_model.specs.Signatures.{public_key, signature_of, verifies};
@@ -13,7 +13,7 @@ use std::alloc::{AllocError, Global};
 use std::io::{self, ErrorKind};
 use std::time::Clock;
 
-/// The answer where nothing is asked for.
+/// The answer to a line that requests nothing.
 const BAD: &str = "bad";
 
 /// The public key of a key pair, 56 bytes in hexadecimal digits (RFC 8554, section 5.3).
@@ -42,8 +42,8 @@ pub fn signature_text(alloc: Global, request: SignRequest) -> Result<String, All
     hex::encode(alloc, signature.as_slice())
 }
 
-/// Whether the bytes of a signature are one of the message under the key of these bytes. Bytes that are no public key of
-/// the four parameter sets verify nothing.
+/// Whether the signature is valid for the message under the public key. Bytes that are no public key of the four
+/// parameter sets verify nothing.
 fn is_verified(key: &[u8], message: &[u8], signature: &[u8]) -> bool
     ensures { result ≡ verifies key.now message.now signature.now }
 {
@@ -53,7 +53,7 @@ fn is_verified(key: &[u8], message: &[u8], signature: &[u8]) -> bool
     }
 }
 
-/// `true` where the signature verifies (RFC 8554, section 5.4.2), else `false`.
+/// `true` if the signature verifies (RFC 8554, section 5.4.2), else `false`.
 pub fn verdict_text(request: &VerifyRequest) -> &'static str
     ensures { result.now ≡ (if verifies request.now.key.items request.now.message.items request.now.signature.items
         then codes "true" else codes "false") }
@@ -65,7 +65,7 @@ pub fn verdict_text(request: &VerifyRequest) -> &'static str
     }
 }
 
-/// What is answered to a request.
+/// The answer to a request.
 fn reply<C: Clock>(clock: &C, alloc: Global, request: Request) -> io::Result<String>
     ensures { IfOk result (λ text. IsAnswer request (string_bytes text)) }
 {
@@ -77,7 +77,7 @@ fn reply<C: Clock>(clock: &C, alloc: Global, request: Request) -> io::Result<Str
     }
 }
 
-/// The answer to a line, without its end: what it asks for, or `bad` where it asks for nothing.
+/// The answer to a line, without its line feed: the answer to its request, or `bad` if it requests nothing.
 pub fn answer<C: Clock>(clock: &C, alloc: Global, line: &[u8]) -> io::Result<String> {
     match parse(alloc, line) {
         Ok(request) => reply(clock, alloc, request),

@@ -2,6 +2,9 @@
 #![tactic(auto)]
 
 mod answering;
+#[cfg(test)]
+mod block_tests;
+mod blocks;
 mod checks;
 mod output;
 mod parsing;
@@ -18,7 +21,7 @@ use std::env;
 use std::io::{self, BufReader};
 use std::process::ExitCode;
 
-/// The exit status where the words themselves could not be read.
+/// The exit status if the words themselves could not be read.
 const STOPPED: u8 = 3;
 
 fn main(rt: HostRuntime) -> ExitCode {

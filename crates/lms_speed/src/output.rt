@@ -1,4 +1,4 @@
-//! Lines that are passed on at once.
+//! Writes lines, and flushes them at once.
 use std::io::{self, Write};
 
 /// Writes a text and an end of line.

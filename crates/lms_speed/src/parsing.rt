@@ -1,4 +1,4 @@
-//! A line of the protocol, as it is read: words parted by one space.
+//! Parses a line of the protocol: words separated by single spaces.
 
 use crate::request::{KeyPair, Operation, RateRequest, Request, SignRequest, VerifyRequest};
 use hex::{FromHex, FromHexError};
@@ -6,10 +6,10 @@ use lm_ots::{Identifier, Params, Seed, TreeHeight, Width};
 use plain_text::decimal;
 use std::alloc::{AllocError, Global};
 
-/// Why nothing was read from a line.
+/// Why a line gave no request.
 #[derive(Clone, Copy)]
 pub enum LineFault {
-    /// It asks for nothing.
+    /// The line is no request.
     Unspelled,
     NoMemory,
 }
@@ -56,7 +56,7 @@ fn key_pair(width: &str, height: &str, identifier: &str, seed: &str) -> Option<K
     })
 }
 
-/// The bytes that a word spells in hexadecimal digits; `-` spells none.
+/// The bytes that a word encodes in hexadecimal digits; `-` encodes no bytes.
 fn bytes(alloc: Global, word: &str) -> Result<Vec<u8>, LineFault> {
     match word {
         "" => Err(LineFault::Unspelled),
@@ -75,7 +75,7 @@ fn operation(name: &str) -> Option<Operation> {
     }
 }
 
-/// What the operands of `public` ask for.
+/// The request that the operands of `public` encode.
 fn public_request(operands: &[&str]) -> Option<KeyPair> {
     let [width, height, identifier, seed] = operands else {
         return None;
@@ -83,7 +83,7 @@ fn public_request(operands: &[&str]) -> Option<KeyPair> {
     key_pair(width, height, identifier, seed)
 }
 
-/// What the operands of `sign` ask for, if the leaf is one of the tree.
+/// The request that the operands of `sign` encode, if the tree has the leaf.
 fn sign_request(alloc: Global, operands: &[&str]) -> Result<SignRequest, LineFault> {
     let [width, height, identifier, seed, leaf, message] = operands else {
         return Err(LineFault::Unspelled);
@@ -104,7 +104,7 @@ fn sign_request(alloc: Global, operands: &[&str]) -> Result<SignRequest, LineFau
     })
 }
 
-/// What the operands of `verify` ask for.
+/// The request that the operands of `verify` encode.
 fn verify_request(alloc: Global, operands: &[&str]) -> Result<VerifyRequest, LineFault> {
     let [key, message, signature] = operands else {
         return Err(LineFault::Unspelled);
@@ -116,7 +116,7 @@ fn verify_request(alloc: Global, operands: &[&str]) -> Result<VerifyRequest, Lin
     })
 }
 
-/// The milliseconds of a number of seconds, which has up to three digits behind a point, or the most there are.
+/// The milliseconds of a number of seconds with up to three digits after the point; a greater number gives the greatest one.
 fn milliseconds(text: &str) -> Option<u32> {
     let (whole, fraction) = text.split_once('.').unwrap_or((text, "0"));
     let unit = match fraction.len() {
@@ -129,7 +129,7 @@ fn milliseconds(text: &str) -> Option<u32> {
     Some(whole.saturating_add(decimal(fraction)?.saturating_mul(unit)))
 }
 
-/// What the operands of `rate` ask for: a time from 0.001 to 60 seconds.
+/// The request that the operands of `rate` encode: a time from 0.001 to 60 seconds.
 fn rate_request(operands: &[&str]) -> Option<RateRequest> {
     let [name, width, height, seconds] = operands else {
         return None;
@@ -147,7 +147,7 @@ fn rate_request(operands: &[&str]) -> Option<RateRequest> {
     })
 }
 
-/// What the words of a line ask for.
+/// The request that the words of a line encode.
 fn request(alloc: Global, words: &[&str]) -> Result<Request, LineFault> {
     let Some((name, operands)) = words.split_first() else {
         return Err(LineFault::Unspelled);
@@ -165,7 +165,7 @@ fn request(alloc: Global, words: &[&str]) -> Result<Request, LineFault> {
     }
 }
 
-/// What a line asks for, without its end. A line that is no text asks for nothing.
+/// The request that a line encodes, given without its line feed. A line that is no text encodes none.
 pub fn parse(alloc: Global, line: &[u8]) -> Result<Request, LineFault> {
     let Ok(text) = str::from_utf8(line) else {
         return Err(LineFault::Unspelled);

@@ -1,4 +1,4 @@
-//! What an operation costs.
+//! Measures what an operation costs.
 use crate::request::RateRequest;
 use crate::timing::measure;
 use crate::work::{Keys, OneBlockDigests};
@@ -13,7 +13,7 @@ pub struct Cost {
     pub operation: f64,
 }
 
-/// How many slices a time is cut into, at most.
+/// The most slices that a time is cut into.
 const SLICES: u32 = 8;
 
 /// Measures a slice of blocks and a slice of an operation.
@@ -24,9 +24,9 @@ fn slice_cost<C: Clock>(clock: &C, keys: &mut Keys, slice: Duration) -> io::Resu
     Ok(Cost { block, operation })
 }
 
-/// The least that a block and an operation cost, in slices of both in turn, for at least the time in all.
+/// The least cost of a block and of an operation. Measures slices of both in turn, for at least `time` in all.
 ///
-/// A machine that does other things too, or doesn't keep its pace, is slower at some moments and never faster.
+/// A machine that does other things too, or changes its pace, is slower at some moments and never faster.
 pub fn measure_cost<C: Clock>(clock: &C, keys: &mut Keys, time: Duration) -> io::Result<Cost> {
     let start = Instant::now(clock)?;
     let slice = time / (2 * SLICES);
@@ -51,7 +51,7 @@ fn measure_request<C: Clock>(clock: &C, alloc: Global, request: &RateRequest) ->
     measure(clock, &mut keys, time)
 }
 
-/// Operations a second, as a request wants them.
+/// The operations per second, as a request asks for them.
 pub fn rate_text<C: Clock>(clock: &C, alloc: Global, request: &RateRequest) -> io::Result<String> {
     let rate = 1e9 / measure_request(clock, alloc, request)?;
     Ok(format!(in alloc; "{rate:.1}")?)

@@ -1,10 +1,10 @@
-//! What a line of the protocol asks for.
+//! The requests of the protocol.
 ghost use Rattle.std.specs.Prelude.{◌<◌, ◌≤◌, ◌^◌};
 ghost use Rattle.lm_ots.specs.Parameters.{levels_of};
 
 use lm_ots::{Identifier, Params, Seed};
 
-/// What a key pair is made of.
+/// The parts of a key pair.
 #[derive(Drop)]
 pub struct KeyPair {
     pub params: Params,
@@ -29,7 +29,7 @@ pub struct VerifyRequest {
     pub signature: Vec<u8>,
 }
 
-/// What is measured.
+/// The operation that is measured.
 #[derive(Clone, Copy)]
 pub enum Operation {
     Verification,
@@ -48,7 +48,7 @@ impl Operation {
     }
 }
 
-/// A measurement of so many milliseconds, 1 to 60,000.
+/// A measurement that lasts 1 to 60,000 milliseconds.
 #[derive(Drop)]
 pub struct RateRequest {
     pub operation: Operation,
@@ -58,7 +58,7 @@ pub struct RateRequest {
     ghost few: { milliseconds ≤ 60000 },
 }
 
-/// What a line asks for.
+/// The request of a line.
 #[derive(Drop)]
 pub enum Request {
     Public(KeyPair),

@@ -10,17 +10,17 @@ use std::time::{Clock, Duration};
 
 /// All was done.
 const DONE: u8 = 0;
-/// An operation answered what it never may.
+/// An operation returned something that it never may.
 const WRONG: u8 = 1;
 /// The words are no command line.
 const BAD_USAGE: u8 = 2;
 /// Memory ran out, or a stream or the clock failed.
 const STOPPED: u8 = 3;
 
-/// How many seconds each figure of the table is measured, where the words don't say it.
+/// The seconds for which each figure of the table is measured, if the words don't give them.
 const SECONDS: u32 = 2;
 
-/// The most seconds that they may say.
+/// The most seconds that the words may give.
 const MAX_SECONDS: u32 = 60;
 
 const USAGE: &str = "\
@@ -28,8 +28,8 @@ usage: lms_speed [table [SECONDS]], SECONDS from 0 to 60
 Without a word it answers lines of standard input: 'public W H I SEED', 'sign W H I SEED LEAF MESSAGE',
 'verify KEY MESSAGE SIGNATURE' and 'rate verify|sign|keygen W H SECONDS', SECONDS from 0.001 to 60.";
 
-/// Runs the program on its words, of which the first is its name, and answers its exit status: 0 done, 1 an operation that
-/// is wrong, 2 bad usage, 3 no memory or a failed stream or clock.
+/// Runs the program on its words, of which the first is its name, and returns its exit status: 0 done, 1 an operation
+/// is wrong, 2 bad usage, 3 out of memory, or a failed stream or clock.
 pub fn run<C: Clock, R: BufRead, W: Write, F: Write>(
     clock: &C,
     alloc: Global,
@@ -55,7 +55,7 @@ pub fn run<C: Clock, R: BufRead, W: Write, F: Write>(
     }
 }
 
-/// The exit status after an error: one of the kind `Other` is of a wrong answer.
+/// The exit status after an error. An error of the kind `Other` is a wrong result.
 fn status_of(kind: ErrorKind) -> u8 {
     match kind {
         ErrorKind::Other => WRONG,
@@ -66,9 +66,9 @@ fn status_of(kind: ErrorKind) -> u8 {
 /// What the words ask for.
 #[derive(Clone, Copy)]
 enum Asked {
-    /// An answer to each line.
+    /// To answer each line.
     Answers,
-    /// The table of figures, each measured for at least this time.
+    /// To write the table of figures, each measured for at least this time.
     Table(Duration),
 }
 

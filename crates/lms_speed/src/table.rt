@@ -1,11 +1,11 @@
 //! The table of figures.
+use crate::blocks::{blocks, key_generation_blocks, signature_blocks};
 use crate::output::write_line;
 use crate::rates::{Cost, measure_cost};
 use crate::request::Operation;
 use crate::timing::measure;
 use crate::work::{IDENTIFIER, Keys, LONG_MESSAGE, LongDigests, MESSAGE, OneBlockDigests};
 use lm_ots::{Identifier, Params, TreeHeight, Width};
-use lms_blocks::{blocks, key_generation_blocks, signature_blocks};
 use std::alloc::{AllocError, Global};
 use std::io::{self, Write};
 use std::num::nearest_u64_to_f64;
@@ -38,7 +38,7 @@ const OPERATIONS: &[Operation] = &[
     Operation::Verification,
 ];
 
-/// The blocks that the operation hashes; for a signature and its verification the mean over those that are measured.
+/// The number of blocks that the operation hashes; for a signature and its verification, the mean of those that are measured.
 fn blocks_hashed(keys: &Keys) -> f64 {
     let identifier = Identifier::new(IDENTIFIER);
     let mut sum = 0.0;
@@ -54,7 +54,7 @@ fn blocks_hashed(keys: &Keys) -> f64 {
     sum / nearest_u64_to_f64(keys.signatures.len() as u64)
 }
 
-/// The nanoseconds of each block of a long message.
+/// The nanoseconds for each block of a long message.
 fn long_block<C: Clock>(clock: &C, alloc: Global, time: Duration) -> io::Result<f64> {
     let mut work = LongDigests {
         message: vec![in alloc; 0u8; LONG_MESSAGE]?,
@@ -74,7 +74,7 @@ fn keys_name(params: Params) -> &'static str {
     }
 }
 
-/// The lines above those of the operations, of the nanoseconds of a block alone and in a long message.
+/// The lines above the operations: the nanoseconds of a block alone, and of one in a long message.
 fn heading(alloc: Global, block: f64, long: f64) -> Result<String, AllocError> {
     format!(in alloc;
         "\
@@ -98,7 +98,7 @@ fn row(alloc: Global, keys: &Keys, cost: Cost) -> Result<String, AllocError> {
     )
 }
 
-/// Measures and writes the lines above those of the operations.
+/// Measures and writes the lines above the operations.
 fn write_heading<C: Clock, W: Write>(
     clock: &C,
     alloc: Global,
@@ -111,7 +111,7 @@ fn write_heading<C: Clock, W: Write>(
     write_line(writer, &text)
 }
 
-/// Measures the operation of the keys beside one block, and writes its line.
+/// Measures the operation of the keys and one block in turn, and writes the line.
 fn write_row<C: Clock, W: Write>(
     clock: &C,
     alloc: Global,
@@ -140,9 +140,9 @@ fn write_rows<C: Clock, W: Write>(
     Ok(())
 }
 
-/// Measures and writes the table: how many operations of each kind are done a second, and how many blocks of SHA-256 each
-/// takes, by its time and by what it hashes: the time is less where blocks are hashed side by side. Each figure is the least
-/// of slices, of a block and of the operation in turn, for at least the time, since a machine doesn't keep its pace.
+/// Measures and writes the table: for each kind of operation, how many are done per second, and how many SHA-256 blocks one takes,
+/// both by its time and by what it hashes. The time is less if blocks are hashed in parallel. Each figure is the least of many
+/// slices, in which a block and the operation are measured in turn for at least `time`, because a machine changes its pace.
 pub fn write_table<C: Clock, W: Write>(
     clock: &C,
     alloc: Global,

@@ -1,15 +1,15 @@
-//! How long an operation takes, by the machine's clock.
+//! Measures how long an operation takes, in wall-clock time.
 use std::io;
 use std::num::nearest_u64_to_f64;
 use std::time::{Clock, Duration, Instant};
 
-/// An operation that can be done again and again.
+/// An operation that can be repeated.
 pub trait Work {
-    /// Does it a fixed number of times, and says how many.
+    /// Does the operation a fixed number of times, and returns that number.
     fn repeat(&mut self) -> io::Result<u64>;
 }
 
-/// Does the work for at least the time, and once at least, and answers how many nanoseconds once takes.
+/// Does the work for at least the given time, and at least once. Returns how many nanoseconds doing it once takes.
 pub fn measure<C: Clock, W: Work>(clock: &C, work: &mut W, time: Duration) -> io::Result<f64> {
     let start = Instant::now(clock)?;
     let mut times = 0u64;

@@ -17,7 +17,7 @@ pub const IDENTIFIER: [u8; 16] = [5; 16];
 /// The seed of the first key that is measured.
 const SEED: [u8; 32] = [7; 32];
 
-/// How many digests of one block are made between two readings of the clock.
+/// The number of digests of one block that are made between two readings of the clock.
 const DIGESTS: u64 = 1000;
 
 /// The length in bytes of a message of many blocks.
@@ -68,7 +68,7 @@ impl Keys {
         })
     }
 
-    /// Generates a key pair, from the root of the one before.
+    /// Generates a key pair, whose seed comes from the root of the previous one.
     fn generate(&mut self) -> io::Result<u64> {
         let tree = tree_of(self.alloc, self.params, self.next_seed)?;
         self.next_seed
@@ -109,7 +109,7 @@ impl Work for Keys {
     }
 }
 
-/// Digests of 55 bytes, one padded block of SHA-256, each of the one before.
+/// Digests of 55 bytes, which are one padded block of SHA-256. Each hashes the previous digest.
 #[derive(Drop)]
 pub struct OneBlockDigests {
     pub block: [u8; 55],
@@ -125,7 +125,7 @@ impl Work for OneBlockDigests {
     }
 }
 
-/// Digests of a long message, each with the one before at its front.
+/// Digests of a long message. Each has the previous digest at its front.
 #[derive(Drop)]
 pub struct LongDigests {
     pub message: Vec<u8>,

@@ -1,4 +1,4 @@
-//! Answers that an operation never may give. Each is an error of the kind `Other`, which no stream and no clock gives.
+//! Results that an operation may never return. Each is an error of the kind `Other`, which no stream and no clock returns.
 use std::io;
 
 pub const ROOT: &str = "the public key is not the one of RFC 8554, Appendix F";
@@ -11,7 +11,7 @@ pub const FORGED: &str = "a signature verifies for another message";
 
 pub const EXHAUSTED: &str = "a key pair that is not used up doesn't sign";
 
-/// The error that says what is wrong, where something isn't so.
+/// The error that names what is wrong, if `holds` is false.
 pub fn ensure(holds: bool, wrong: &str) -> io::Result<()> {
     if holds {
         Ok(())

@@ -18,7 +18,9 @@ pub four_parts : {X : Type 0} (a b k l m n o : ℕ) (ws xs ys zs pad ws' xs' ys'
 four_parts a b k l m n o ws xs ys zs pad ws' xs' ys' zs' long_w long_x long_y at_a at_b past e f g h =
     let two = put_mid-next k l ws pad xs long_w in
     let three = put_mid-next a m (ws ++ xs) (drop l pad) ys (omega (arith, length-append ws xs)) in
-    let four = put_mid-next b o (ws ++ xs ++ ys) (drop m (drop l pad)) zs (omega (arith, length-append ws xs, length-append (ws ++ xs) ys)) in
+    let four = put_mid-next b o (ws ++ xs ++ ys) (drop m (drop l pad)) zs (omega (arith, length-append ws xs, length-append (ws ++ xs) ys))
+    in
     ap (λ vs. put_mid b o (put_mid a m vs ys) zs) two ∙ ap (λ vs. put_mid b o vs zs) three ∙ four
     ∙ ap (λ vs. ws ++ xs ++ ys ++ zs ++ vs) past ∙ append-nil (ws ++ xs ++ ys ++ zs)
-    ∙ ap (λ vs. vs ++ xs ++ ys ++ zs) e ∙ ap (λ vs. ws' ++ vs ++ ys ++ zs) f ∙ ap (λ vs. ws' ++ xs' ++ vs ++ zs) g ∙ ap (λ vs. ws' ++ xs' ++ ys' ++ vs) h
+    ∙ ap (λ vs. vs ++ xs ++ ys ++ zs) e ∙ ap (λ vs. ws' ++ vs ++ ys ++ zs) f ∙ ap (λ vs. ws' ++ xs' ++ vs ++ zs) g
+    ∙ ap (λ vs. ws' ++ xs' ++ ys' ++ vs) h

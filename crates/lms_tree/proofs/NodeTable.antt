@@ -1,5 +1,6 @@
 -- The table of nodes.
-use Rattle.std.proofs.Common.{◌≡◌, ℕ, zero, suc, ◌+◌, ◌-◌, ◌*◌, ◌/◌, ◌^◌, ◌<◌, ◌≤◌, List, [], length, get_or, set, refl, sym, ap, subst, ◌∙◌, arith, inl, inr}
+use Rattle.std.proofs.Common.{◌≡◌, ℕ, zero, suc, ◌+◌, ◌-◌, ◌*◌, ◌/◌, ◌^◌, ◌<◌, ◌≤◌, List, [], length, get_or, set, refl, sym, ap, subst}
+use Rattle.std.proofs.Common.{◌∙◌, arith, inl, inr}
 use Rattle.std.proofs.lemmas.List.{get_or-set_same, get_or-set_other, length-set}
 use Rattle.std.proofs.lemmas.Bool.{cases_eq, cases_lt}
 use Rattle.std.proofs.lemmas.Grind.{pow_more}
@@ -22,19 +23,22 @@ length-node p id seed zero r = length-sha256 _
 length-node p id seed (suc n) r = length-sha256 _
 
 -- the leaf number q
-pub node-leaf : (p : Params) (id seed : List ℕ) (q : ℕ) → leaf_hash id (2 ^ p.height + q) (leaf_key p id seed q) ≡ node p id seed 0 (2 ^ p.height + q)
+pub node-leaf : (p : Params) (id seed : List ℕ) (q : ℕ)
+    → leaf_hash id (2 ^ p.height + q) (leaf_key p id seed q) ≡ node p id seed 0 (2 ^ p.height + q)
 unfolding node
 node-leaf p id seed q =
     let e : 2 ^ p.height + q - 2 ^ p.height ≡ q = omega arith in
     rw e
 
 -- a node of the two below it
-pub node-inner : (p : Params) (id seed : List ℕ) (n r : ℕ) → node p id seed (suc n) r ≡ node_hash id r (node p id seed n (2 * r)) (node p id seed n (2 * r + 1))
+pub node-inner : (p : Params) (id seed : List ℕ) (n r : ℕ)
+    → node p id seed (suc n) r ≡ node_hash id r (node p id seed n (2 * r)) (node p id seed n (2 * r + 1))
 unfolding node
 node-inner p id seed n r = refl
 
 -- once all leaves are there, so are the nodes from the first leaf on
-pub keeps-leaves : (p : Params) (id seed : List ℕ) (leaves : ℕ) (nodes : List (List ℕ)) → leaves ≡ 2 ^ p.height → length nodes ≡ 2 * leaves → ((q : ℕ) → q < leaves → get_or nodes (leaves + q) [] ≡ node p id seed 0 (leaves + q)) → KeepsNodes p id seed leaves nodes
+pub keeps-leaves : (p : Params) (id seed : List ℕ) (leaves : ℕ) (nodes : List (List ℕ)) → leaves ≡ 2 ^ p.height → length nodes ≡ 2 * leaves
+    → ((q : ℕ) → q < leaves → get_or nodes (leaves + q) [] ≡ node p id seed 0 (leaves + q)) → KeepsNodes p id seed leaves nodes
 keeps-leaves p id seed leaves nodes first long all = record {
   whole = omega (arith, long);
   hashes = λ n d r level low high from.
@@ -50,7 +54,9 @@ keeps-leaves p id seed leaves nodes first long all = record {
 }
 
 -- the hash of two that are there is that of the node above them
-made : (p : Params) (id seed : List ℕ) (r : ℕ) (nodes : List (List ℕ)) → 1 ≤ r → r < 2 ^ p.height → KeepsNodes p id seed (r + 1) nodes → (n d : ℕ) → n + d ≡ p.height → 2 ^ d ≤ r → r < 2 ^ (d + 1) → node_hash id r (get_or nodes (2 * r) []) (get_or nodes (2 * r + 1) []) ≡ node p id seed n r
+made : (p : Params) (id seed : List ℕ) (r : ℕ) (nodes : List (List ℕ)) → 1 ≤ r → r < 2 ^ p.height → KeepsNodes p id seed (r + 1) nodes
+    → (n d : ℕ) → n + d ≡ p.height → 2 ^ d ≤ r → r < 2 ^ (d + 1)
+    → node_hash id r (get_or nodes (2 * r) []) (get_or nodes (2 * r + 1) []) ≡ node p id seed n r
 made p id seed r nodes some inner kept zero d level low high =
     let e : d ≡ p.height = omega arith in
     absurd (omega (arith, ap (λ k. 2 ^ k) e))
@@ -64,7 +70,9 @@ made p id seed r nodes some inner kept (suc n) d level low high =
     ∙ sym (node-inner p id seed n r)
 
 -- one node more, above two that are there
-pub keeps-more : (p : Params) (id seed : List ℕ) (r : ℕ) (nodes : List (List ℕ)) (hash : List ℕ) → 1 ≤ r → r < 2 ^ p.height → KeepsNodes p id seed (r + 1) nodes → hash ≡ node_hash id r (get_or nodes (2 * r) []) (get_or nodes (2 * r + 1) []) → KeepsNodes p id seed r (set nodes r hash)
+pub keeps-more : (p : Params) (id seed : List ℕ) (r : ℕ) (nodes : List (List ℕ)) (hash : List ℕ) → 1 ≤ r → r < 2 ^ p.height
+    → KeepsNodes p id seed (r + 1) nodes → hash ≡ node_hash id r (get_or nodes (2 * r) []) (get_or nodes (2 * r + 1) [])
+    → KeepsNodes p id seed r (set nodes r hash)
 keeps-more p id seed r nodes hash some inner kept is = record {
   whole = length-set nodes r hash ∙ kept.whole;
   hashes = λ n d s level low high from.
@@ -113,7 +121,8 @@ leaves-more p id seed leaves leaf nodes after keys first kept put are others q b
           let on : leaf + k ≡ q = omega arith in
           let at : leaves + leaf + k ≡ leaves + q = omega arith in
           let P : ℕ → Type 0 = λ r. get_or after r [] ≡ leaf_hash id r (leaf_key p id seed q) in
-          let made = ap (λ r. leaf_hash id (r + q) (leaf_key p id seed q)) first ∙ node-leaf p id seed q ∙ ap (λ r. node p id seed 0 (r + q)) (sym first) in
+          let made = ap (λ r. leaf_hash id (r + q) (leaf_key p id seed q)) first ∙ node-leaf p id seed q
+          ∙ ap (λ r. node p id seed 0 (r + q)) (sym first) in
           subst P at (put k low ∙ ap (leaf_hash id (leaves + leaf + k)) (are k low ∙ ap (leaf_key p id seed) on)) ∙ made
     ]
 
@@ -124,7 +133,8 @@ pub record IsBeside (levels level r s : ℕ) : Type 0 where
   pub inside : s < 2 * 2 ^ levels
   pub some : 1 ≤ s
 
-pub beside : (levels level r : ℕ) → level < levels → 2 ^ (levels - level) ≤ r → r < 2 ^ (levels - level + 1) → IsBeside levels level r (sibling r)
+pub beside : (levels level r : ℕ) → level < levels → 2 ^ (levels - level) ≤ r → r < 2 ^ (levels - level + 1)
+    → IsBeside levels level r (sibling r)
 beside levels level r below low high =
     let d = levels - level - 1 in
     let e : levels - level ≡ d + 1 = omega arith in

@@ -1,4 +1,4 @@
--- What holds of signatures of a tree, over the definitions alone.
+-- Laws of the signatures of a tree, proved from the definitions alone.
 use Rattle.std.specs.Prelude.{◌≡◌, ◌<◌, ◌^◌, ℕ, List, length, true}
 use Rattle.ledger_model.specs.Signatures.{public_key, signature_of, verifies}
 use Rattle.lm_ots.specs.declared.params.Params.{Params}

@@ -3,8 +3,7 @@ use lm_ots::{Identifier, Params, read_u32};
 use std::marker::Model;
 use thiserror::Error;
 
-/// The public key of a tree: its two type codes, its identifier and its root, 56 bytes
-/// (RFC 8554, section 5.3).
+/// The public key of a tree: its two type codes, its identifier and its root, 56 bytes (RFC 8554, section 5.3).
 ///
 /// Its type codes are always those of one of the four parameter sets.
 #[derive(Clone, Copy, Debug, PartialEq, Eq)]
@@ -15,10 +14,10 @@ pub struct PublicKey {
 /// Why bytes are no public key.
 #[derive(Clone, Copy, Debug, PartialEq, Eq, Error)]
 pub enum KeyFault {
-    /// They are not 56.
+    /// The number of bytes is not 56.
     #[error("a public key has 56 bytes")]
     Length,
-    /// Their type codes of LMS and LM-OTS are of none of the four parameter sets.
+    /// The type codes of LMS and LM-OTS belong to none of the four parameter sets.
     #[error("the type codes are of no known parameter set")]
     Scheme,
 }
@@ -45,10 +44,9 @@ impl PublicKey {
     /// The length of a public key in bytes.
     pub const LEN: usize = 56;
 
-    /// The public key that these bytes spell.
+    /// The public key with these bytes.
     ///
-    /// `Length` where they are not 56, else `Scheme` where their type codes are of none of the
-    /// four parameter sets.
+    /// `Length` comes if there are not 56. Otherwise `Scheme` comes if the type codes belong to none of the four parameter sets.
     pub fn from_bytes(bytes: &[u8]) -> Result<Self, KeyFault>
         ensures ok { IfOk result (λ key. key ≡ bytes.now) }
         ensures length { IsErrOf result KeyFault.Length ↔ (length bytes.now ≢ 56) }

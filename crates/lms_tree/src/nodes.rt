@@ -11,7 +11,7 @@ const D_LEAF: u16 = 0x8282;
 /// Marks the hash of an inner node (RFC 8554, section 5.3).
 const D_INTR: u16 = 0x8383;
 
-/// The hash at the leaf with this node number, of its one-time public value.
+/// The hash of the leaf with this node number, computed from its one-time public value.
 pub(crate) fn leaf_hash(identifier: &Identifier, number: u32, key: &[u8; 32]) -> [u8; 32]
     ensures { result ≡ leaf_hash identifier.now number key.now }
 {
@@ -20,7 +20,7 @@ pub(crate) fn leaf_hash(identifier: &Identifier, number: u32, key: &[u8; 32]) ->
     hasher.finalize()
 }
 
-/// Puts the hashes at eight leaves in a row, the first of which has this node number, in their places among all nodes.
+/// Stores the hashes of eight consecutive leaves, the first of which has this node number, at their indices among all nodes.
 pub(crate) fn put_leaves(
     nodes: &mut Vec<[u8; 32]>,
     identifier: &Identifier,
@@ -41,7 +41,7 @@ pub(crate) fn put_leaves(
     }
 }
 
-/// The hash at the inner node with this number, of the hashes below it.
+/// The hash of the inner node with this number, computed from its two children.
 pub(crate) fn node_hash(identifier: &Identifier, number: u32, left: &[u8], right: &[u8]) -> [u8; 32]
     ensures { result ≡ node_hash identifier.now number left.now right.now }
 {
@@ -51,7 +51,7 @@ pub(crate) fn node_hash(identifier: &Identifier, number: u32, left: &[u8], right
     hasher.finalize()
 }
 
-/// The node beside a node.
+/// The sibling of a node.
 pub(crate) fn sibling(number: u32) -> u32
     requires { number < 2 ^ 31 }
     ensures { result ≡ sibling number }
@@ -63,7 +63,7 @@ pub(crate) fn sibling(number: u32) -> u32
     }
 }
 
-/// The hash above a node, of its own hash and of that beside it.
+/// The hash of a node's parent, computed from the node's hash and its sibling's.
 pub(crate) fn parent_hash(
     identifier: &Identifier,
     number: u32,

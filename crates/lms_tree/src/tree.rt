@@ -1,17 +1,16 @@
-//! A tree over all leaves of a key pair, with the hash at each node.
+//! A tree over all leaves of a key pair, with the hash of each node.
 use crate::PublicKey;
 use crate::nodes::{node_hash, put_leaves, sibling};
 use lm_ots::{Identifier, Params, Seed, append_signature, public_hashes};
 use std::alloc::{AllocError, Global};
 use std::marker::Model;
 
-/// How many leaves are hashed side by side.
+/// The number of leaves that are hashed in parallel.
 const ROW: u32 = 8;
 
-/// A tree over the one-time keys of a seed, with the hash of each node computed once
-/// (RFC 8554, section 5.3).
+/// A tree over the one-time keys of a seed. The hash of each node is computed once (RFC 8554, section 5.3).
 ///
-/// It holds the secret seed: it can't be copied or printed.
+/// A tree contains the secret seed, so it can't be copied or printed.
 pub struct Tree {
     params: Params,
     identifier: Identifier,
@@ -19,7 +18,7 @@ pub struct Tree {
     nodes: Vec<[u8; 32]>,
 }
 
-// It is dropped by a function of its own, so that whoever owns one drops it by a single call.
+// An own `Drop` keeps proofs short: an owner drops it by one call. See docs/WORKING.md.
 impl Drop for Tree {
     fn drop(self) {
         let Tree {
@@ -50,8 +49,8 @@ impl Tree {
     ghost use Rattle.ledger_model.specs.Signatures.{public_key, path, signature_of, verifies};
     ghost use Rattle.lm_ots.specs.Parameters.{numbers_of};
 
-    /// The tree of a seed, under an identifier, both of which are to serve one parameter set alone: the chains of both
-    /// widths begin at the same secrets.
+    /// The tree of a seed under an identifier. Use a seed and an identifier for one parameter set only, because the
+    /// chains of both widths start at the same secrets. The only error is allocation failure.
     pub fn build(
         alloc: Global,
         params: Params,
@@ -101,7 +100,7 @@ impl Tree {
         PublicKey::new(self.params, &self.identifier, &self.nodes[1])
     }
 
-    /// The hashes beside the way from a leaf up to the root, 32 bytes each (RFC 8554, section 5.4).
+    /// The hashes of the siblings along the path from a leaf up to the root, 32 bytes each (RFC 8554, section 5.4).
     pub fn path(&self, alloc: Global, leaf: u32) -> Result<Vec<u8>, AllocError>
         requires { leaf < 2 ^ (numbers_of self.now.params).height }
         ensures { IfOk result (λ p. p.items
@@ -114,7 +113,7 @@ impl Tree {
         Ok(path)
     }
 
-    /// Appends the path of a leaf to bytes; where memory runs out, a part of it may stand there.
+    /// Appends the path of a leaf to bytes. If memory runs out, part of the path may have been appended.
     fn append_path(&self, bytes: &mut Vec<u8>, leaf: u32) -> Result<(), AllocError>
         requires { leaf < 2 ^ (numbers_of self.now.params).height }
         ensures { IfOk result (λ _. bytes.new.items ≡ bytes.old.items
@@ -133,7 +132,7 @@ impl Tree {
 
     /// The signature of a message with a leaf (RFC 8554, section 5.4).
     ///
-    /// All room is made before anything is hashed. A leaf is to sign one message alone.
+    /// Allocates all memory before it hashes anything. A leaf must sign only one message.
     pub fn sign(&self, alloc: Global, leaf: u32, message: &[u8]) -> Result<Vec<u8>, AllocError>
         requires { leaf < 2 ^ (numbers_of self.now.params).height }
         ensures signature { IfOk result (λ signature. signature.items

@@ -1,4 +1,4 @@
-//! The verification of a signature.
+//! Verifies a signature.
 ghost use Rattle.std.specs.Prelude.{◌≡◌, ◌+◌, ◌*◌, length, take, drop};
 ghost use Rattle.std.specs.Int.{w32, from_be_bytes};
 ghost use Rattle.ledger_model.specs.Signatures.{ots_len, root_above, signature_len, verifies};
@@ -8,9 +8,9 @@ use crate::PublicKey;
 use crate::nodes::{leaf_hash, parent_hash};
 use lm_ots::{Identifier, Params, TreeHeight, candidate, read_u32};
 
-/// Whether the signature is one of the message under the key (RFC 8554, section 5.4.2).
+/// Whether the signature is valid for the message under the key (RFC 8554, section 5.4.2).
 ///
-/// Its length, its two type codes and its leaf number have to be the key's own. It takes no memory.
+/// Its length, its two type codes and its leaf number must fit the key. Allocates nothing.
 pub fn verify(key: &PublicKey, message: &[u8], signature: &[u8]) -> bool
     ensures { result ≡ verifies key.now message.now signature.now }
 {
@@ -63,7 +63,7 @@ fn cut<'a>(params: Params, signature: &'a [u8]) -> Parts<'a>
     }
 }
 
-/// The root above a leaf's node, by the hashes of a path (RFC 8554, section 5.4.2).
+/// The root that a leaf's hash and the hashes of a path lead to (RFC 8554, section 5.4.2).
 fn root_above(
     identifier: &Identifier,
     height: TreeHeight,

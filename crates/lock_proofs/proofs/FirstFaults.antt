@@ -1,4 +1,4 @@
--- Where no fault fits, the lock is valid, and where it is valid by its own signatures, none fits.
+-- If no fault applies, the lock is valid; if it is valid by its own signatures, none applies.
 use Rattle.std.proofs.Common.{◌≡◌, Bool, true, false, List, [], ◌∷◌, refl}
 use Rattle.std.specs.Prelude.{nat_eq, not, ◌&&◌, Ok}
 use Rattle.std.proofs.lemmas.Bool.{and_parts, and_from, eqb-true, eq-eqb}
@@ -6,7 +6,7 @@ use Rattle.ledger_model.specs.declared.config.Config.{Config}
 use Rattle.ledger_model.specs.Rounds.{owner_of}
 use Rattle.ledger_model.specs.Rules.{Ring, first_of, is_signed, with_signature}
 use Rattle.ledger_model.specs.Validity.{ValidLock, is_quorate, is_supporting}
-use Rattle.ledger_model.specs.LockTables.{SignedLock, as_statement}
+use Rattle.lock_proofs.specs.LockTables.{SignedLock, as_statement}
 use Rattle.ledger_model.proofs.Lists.{all_has, all_from}
 use Rattle.lock_proofs.specs.declared.fault.LockFault.TheVariants as fault
 use Rattle.lock_proofs.specs.Faults.{faults, are_signed, IsBacked, IsSigned}
@@ -21,12 +21,14 @@ passes true c cs e h = h
 passes false c cs e h = cc
 
 -- what no fault fits is valid
-pub valid : (config : Config) (ring : Ring) (s : SignedLock) → first_of (faults config ring s) ≡ Ok tt → ValidLock (IsBacked ring) config s.lock
+pub valid : (config : Config) (ring : Ring) (s : SignedLock) → first_of (faults config ring s) ≡ Ok tt
+    → ValidLock (IsBacked ring) config s.lock
 valid config ring s h =
     let l = s.lock in
     let supporting = (not (is_supporting l), fault.NotSupporting) ∷ [] in
     let proof = is_quorate config l && are_signed ring l.proof in
-    let own = passed (nat_eq l.signer (owner_of config l.phase)) fault.NotOwner ((not (is_signed ring (as_statement s)), fault.BadSignature) ∷ (not proof, fault.BadProof) ∷ supporting) h in
+    let own = passed (nat_eq l.signer (owner_of config l.phase)) fault.NotOwner
+    ((not (is_signed ring (as_statement s)), fault.BadSignature) ∷ (not proof, fault.BadProof) ∷ supporting) h in
     let signed = passed (is_signed ring (as_statement s)) fault.BadSignature ((not proof, fault.BadProof) ∷ supporting) (own.1) in
     let proved = passed proof fault.BadProof supporting (signed.1) in
     let parts = and_parts (is_quorate config l) (are_signed ring l.proof) (proved.0) in
@@ -39,13 +41,15 @@ valid config ring s h =
     }
 
 -- no fault fits what is valid by its own signatures
-pub accepted : (config : Config) (ring : Ring) (s : SignedLock) → IsSigned ring s → ValidLock (IsBacked ring) config s.lock → first_of (faults config ring s) ≡ Ok tt
+pub accepted : (config : Config) (ring : Ring) (s : SignedLock) → IsSigned ring s → ValidLock (IsBacked ring) config s.lock
+    → first_of (faults config ring s) ≡ Ok tt
 accepted config ring s signed v =
     let l = s.lock in
     let supporting = (not (is_supporting l), fault.NotSupporting) ∷ [] in
     let proof = is_quorate config l && are_signed ring l.proof in
     let all_signed = all_from (λ x. is_signed ring (with_signature x)) l.proof signed.reports in
-    passes (nat_eq l.signer (owner_of config l.phase)) fault.NotOwner ((not (is_signed ring (as_statement s)), fault.BadSignature) ∷ (not proof, fault.BadProof) ∷ supporting)
+    passes (nat_eq l.signer (owner_of config l.phase)) fault.NotOwner
+    ((not (is_signed ring (as_statement s)), fault.BadSignature) ∷ (not proof, fault.BadProof) ∷ supporting)
     (eq-eqb l.signer (owner_of config l.phase) v.owner)
     (passes (is_signed ring (as_statement s)) fault.BadSignature ((not proof, fault.BadProof) ∷ supporting) signed.own
     (passes proof fault.BadProof supporting (and_from (is_quorate config l) (are_signed ring l.proof) v.quorate all_signed)

@@ -1,5 +1,6 @@
 -- Which locks a log holds, and the table of them.
-use Rattle.std.proofs.Common.{◌≡◌, ℕ, zero, suc, ◌<◌, Bool, true, false, not, ◌&&◌, inl, inr, List, [], ◌∷◌, length, cond, refl, sym, ap, subst, ◌∙◌, arith}
+use Rattle.std.proofs.Common.{◌≡◌, ℕ, zero, suc, ◌<◌, Bool, true, false, not, ◌&&◌, inl, inr, List, [], ◌∷◌, length, cond, refl, sym, ap}
+use Rattle.std.proofs.Common.{subst, ◌∙◌, arith}
 use Rattle.std.specs.Prelude.{map, filter, nat_eq, Option, Some}
 use Rattle.std.specs.List.{list_any, filter_map}
 use Rattle.std.proofs.Math.Dec.{leb, ltb}
@@ -9,11 +10,11 @@ use Rattle.ledger_model.specs.declared.statement.Statement.{Statement}
 use Rattle.ledger_model.specs.declared.statement.SignedStatement.{SignedStatement}
 use Rattle.ledger_model.specs.Values.{Value, same_value, ascending}
 use Rattle.ledger_model.specs.Spelling.{are_ascending}
-use Rattle.ledger_model.specs.Rounds.{phase_of, round_at}
-use Rattle.ledger_model.specs.Notes.{Note, Proposed, Round, Made, Read, Has, clock_of, is_lock, was_read}
+use Rattle.ledger_model.specs.Rounds.{phase_of, round_at, lock_place}
+use Rattle.ledger_model.specs.Notes.{Note, Proposed, Round, OwnStatement, Read, Has, clock_of, is_lock, was_read}
 use Rattle.ledger_model.specs.Locks.{took, last_taken, phase_taken, releases, holds, held_values, value_read}
 use Rattle.ledger_model.specs.Lawful.{lock_read, first_some, held_locks}
-use Rattle.ledger_model.specs.LockTables.{SignedLock, as_statement}
+use Rattle.lock_proofs.specs.LockTables.{SignedLock, as_statement}
 use Rattle.ledger_model.proofs.Lists.{filter_has, has_filter, has_filter_map, has_ascending, same_value-refl, same_value-equal}
 use Rattle.ledger_model.proofs.Below.{ascending_ascends}
 use Rattle.ledger_model.proofs.LockSafety.{has_read, lock_has, took_tells}
@@ -26,7 +27,7 @@ use Rattle.lock_proofs.proofs.ValueLists.{has_value}
 -- ---- the lock on a value that was taken last
 
 abbrev pub lock_taken : List Note → Value → Option SignedStatement
-lock_taken log v = first_some (filter_map (lock_read v (round_at 2 (phase_taken log v))) log)
+lock_taken log v = first_some (filter_map (lock_read v (round_at lock_place (phase_taken log v))) log)
 
 -- what comes first is a lock on v that was read in round d
 pub record IsLockRead (log : List Note) (d : ℕ) (v : Value) (first : Option SignedStatement) : Type 0 where
@@ -35,7 +36,8 @@ pub record IsLockRead (log : List Note) (d : ℕ) (v : Value) (first : Option Si
   pub value : v ≡ lock.lock.value
   pub read : Has log (Read d (as_statement lock))
 
-further : {log : List Note} {d : ℕ} {v : Value} {first : Option SignedStatement} (n : Note) → IsLockRead log d v first → IsLockRead (n ∷ log) d v first
+further : {log : List Note} {d : ℕ} {v : Value} {first : Option SignedStatement} (n : Note) → IsLockRead log d v first
+    → IsLockRead (n ∷ log) d v first
 further n r = record { lock = r.lock; is = r.is; value = r.value; read = inr r.read }
 
 abbrev pub is_lock_on : Value → Statement → Bool
@@ -44,12 +46,13 @@ is_lock_on v = is_lock (λ l. same_value v l.value)
 signed : Statement → List ℕ → SignedStatement
 signed s signature = record { statement = s; signature = signature }
 
-first_lock : (v : Value) (d : ℕ) (log : List Note) → was_read log d (is_lock_on v) ≡ true → IsLockRead log d v (first_some (filter_map (lock_read v d) log))
+first_lock : (v : Value) (d : ℕ) (log : List Note) → was_read log d (is_lock_on v) ≡ true
+    → IsLockRead log d v (first_some (filter_map (lock_read v d) log))
 unfolding signed
 first_lock v d [] h = cc
 first_lock v d (Proposed w ∷ log) h = further (Proposed w) (first_lock v d log h)
 first_lock v d (Round c ∷ log) h = further (Round c) (first_lock v d log h)
-first_lock v d (Made c s ∷ log) h = further (Made c s) (first_lock v d log h)
+first_lock v d (OwnStatement c s ∷ log) h = further (OwnStatement c s) (first_lock v d log h)
 first_lock v d (Read c s ∷ log) h =
     elim (cases_Bool (nat_eq c d && is_lock_on v s.statement)) [
       | inl here ↦
@@ -79,17 +82,20 @@ last_taken-took log v (suc n) some =
 
 pub holds_some : (log : List Note) (v : Value) → holds log v ≡ true → 0 < phase_taken log v
 unfolding holds
-holds_some log v h = ltb-true 0 (phase_taken log v) ((and_parts (ltb 0 (phase_taken log v)) (not (list_any (releases v (phase_taken log v)) log)) h).0)
+holds_some log v h = ltb-true 0 (phase_taken log v)
+    ((and_parts (ltb 0 (phase_taken log v)) (not (list_any (releases v (phase_taken log v)) log)) h).0)
 
 holds_took : (log : List Note) (v : Value) → holds log v ≡ true → took log v (phase_taken log v) ≡ true
 holds_took log v h = last_taken-took log v (phase_of (clock_of log)) (holds_some log v h)
 
-pub held_lock : (log : List Note) (v : Value) → holds log v ≡ true → IsLockRead log (round_at 2 (phase_taken log v)) v (lock_taken log v)
+pub held_lock : (log : List Note) (v : Value) → holds log v ≡ true
+    → IsLockRead log (round_at lock_place (phase_taken log v)) v (lock_taken log v)
 held_lock log v h =
     let p = phase_taken log v in
     let t = took_tells log v p (holds_took log v h) in
-    let passes : is_lock_on v t.signed.statement ≡ true = ap (is_lock_on v) t.is ∙ subst (λ w. same_value v w ≡ true) t.value (same_value-refl v) in
-    first_lock v (round_at 2 p) log (has_read log (round_at 2 p) (is_lock_on v) t.signed t.read passes)
+    let passes : is_lock_on v t.signed.statement ≡ true =
+    ap (is_lock_on v) t.is ∙ subst (λ w. same_value v w ≡ true) t.value (same_value-refl v) in
+    first_lock v (round_at lock_place p) log (has_read log (round_at lock_place p) (is_lock_on v) t.signed t.read passes)
 
 pub held_has : (log : List Note) (v : Value) → Has (held_values log) v → holds log v ≡ true
 unfolding held_values
@@ -100,7 +106,9 @@ unfolding held_values
 has_held log v h =
     let l = held_lock log v h in
     has_filter (holds log) (ascending (filter_map value_read log)) v
-    (has_ascending (filter_map value_read log) v (has_filter_map value_read log (Read (round_at 2 (phase_taken log v)) (as_statement l.lock)) v l.read (ap Some (sym l.value))))
+    (has_ascending (filter_map value_read log) v
+    (has_filter_map value_read log (Read (round_at lock_place (phase_taken log v)) (as_statement l.lock)) v l.read
+    (ap Some (sym l.value))))
     h
 
 pub held_ascends : (log : List Note) → are_ascending (held_values log) ≡ true
@@ -117,7 +125,8 @@ pub record Stands (log : List Note) (table : List SignedLock) : Type 0 where
   pub values : values_of table ≡ held_values log
   pub locks : (m : SignedLock) → Has table m → lock_taken log m.lock.value ≡ Some (as_statement m)
 
-pub stands_held : (log : List Note) (table : List SignedLock) → Stands log table → (m : SignedLock) → Has table m → holds log m.lock.value ≡ true
+pub stands_held : (log : List Note) (table : List SignedLock) → Stands log table → (m : SignedLock) → Has table m
+    → holds log m.lock.value ≡ true
 stands_held log table s m h = held_has log m.lock.value (subst (λ vs. Has vs m.lock.value) s.values (has_value table m h))
 
 record IsSplit (f : Value → Option SignedStatement) (vs : List Value) (table : List SignedLock) : Type 0 where
@@ -169,11 +178,15 @@ pub values_are_held : ValuesAreHeld
 values_are_held log table e = (stands_from log table e).values
 
 others_alike : (v : Value) (table : List SignedLock)
-    → length (filter (λ (m : SignedLock). not (same_value v m.lock.value)) table) ≡ length (filter (λ w. not (same_value v w)) (values_of table))
+    → length (filter (λ (m : SignedLock). not (same_value v m.lock.value)) table)
+    ≡ length (filter (λ w. not (same_value v w)) (values_of table))
 others_alike v [] = refl
 others_alike v (m ∷ ms) =
-    elim (not (same_value v m.lock.value)) as (λ b. length (cond b (m ∷ filter (λ (x : SignedLock). not (same_value v x.lock.value)) ms) (filter (λ (x : SignedLock). not (same_value v x.lock.value)) ms))
-    ≡ length (cond b (m.lock.value ∷ filter (λ w. not (same_value v w)) (values_of ms)) (filter (λ w. not (same_value v w)) (values_of ms)))) [
+    elim (not (same_value v m.lock.value))
+    as (λ b. length (cond b (m ∷ filter (λ (x : SignedLock). not (same_value v x.lock.value)) ms)
+    (filter (λ (x : SignedLock). not (same_value v x.lock.value)) ms))
+    ≡ length (cond b (m.lock.value ∷ filter (λ w. not (same_value v w)) (values_of ms))
+    (filter (λ w. not (same_value v w)) (values_of ms)))) [
       | true ↦ ap suc (others_alike v ms)
       | false ↦ others_alike v ms
     ]

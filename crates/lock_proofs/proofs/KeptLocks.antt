@@ -1,4 +1,4 @@
--- A note that reads no lock leaves the held ones.
+-- A note that reads no lock leaves the held locks unchanged.
 use Rattle.std.proofs.Common.{◌≡◌, ℕ, Bool, false, not, ◌&&◌, inl, inr, List, [], ◌∷◌, refl, sym, ap, ◌∙◌}
 use Rattle.std.specs.Prelude.{nat_eq, Option, None}
 use Rattle.std.specs.List.{filter_map, cons_option}
@@ -8,8 +8,8 @@ use Rattle.ledger_model.specs.declared.statement.Lock.{Lock}
 use Rattle.ledger_model.specs.declared.statement.Statement.{Statement}
 use Rattle.ledger_model.specs.declared.statement.Statement.TheVariants as statement
 use Rattle.ledger_model.specs.Values.{Value, same_value}
-use Rattle.ledger_model.specs.Rounds.{place_of, round_at}
-use Rattle.ledger_model.specs.Notes.{Note, Proposed, Round, Made, Read, Has, is_lock}
+use Rattle.ledger_model.specs.Rounds.{place_of, round_at, lock_place, release_place}
+use Rattle.ledger_model.specs.Notes.{Note, Proposed, Round, OwnStatement, Read, Has, is_lock}
 use Rattle.ledger_model.specs.Locks.{phase_taken, releases, holds, held_values, value_read, lock_value}
 use Rattle.ledger_model.specs.Lawful.{held_locks}
 use Rattle.lock_proofs.specs.Laws.{IsTimely, KeepsLocks}
@@ -23,25 +23,29 @@ is_no_lock test (statement.Report r) e = refl
 is_no_lock test (statement.Ack a) e = refl
 
 any_passes : (log : List Note) (n : Note) (v : Value) → IsTimely log → value_read n ≡ None → Passes log n v
-any_passes log (Read c s) v timely e = read_passes log (Read c s) v (λ p some. and_right (nat_eq c (round_at 2 p)) (is_lock_on v s.statement) (is_no_lock (λ l. same_value v l.value) s.statement e)) refl
+any_passes log (Read c s) v timely e =
+    read_passes log (Read c s) v (λ p some. and_right (nat_eq c (round_at lock_place p)) (is_lock_on v s.statement)
+    (is_no_lock (λ l. same_value v l.value) s.statement e)) refl
 any_passes log (Proposed w) v timely e = read_passes log (Proposed w) v (λ p some. refl) refl
-any_passes log (Made c s) v timely e = read_passes log (Made c s) v (λ p some. refl) refl
+any_passes log (OwnStatement c s) v timely e = read_passes log (OwnStatement c s) v (λ p some. refl) refl
 any_passes log (Round c) v timely e = round_passes log c v timely
 
 releases_none : (n : Note) (v : Value) (p : ℕ) → value_read n ≡ None → releases v p n ≡ false
-releases_none (Read c s) v p e = and_right (nat_eq (place_of c) 4) _ (is_no_lock _ s.statement e)
+releases_none (Read c s) v p e = and_right (nat_eq (place_of c) release_place) _ (is_no_lock _ s.statement e)
 releases_none (Proposed w) v p e = refl
-releases_none (Made c s) v p e = refl
+releases_none (OwnStatement c s) v p e = refl
 releases_none (Round c) v p e = refl
 
 filter_map_same : {X Y : Type 0} (f g : X → Option Y) (xs : List X) → ((x : X) → Has xs x → f x ≡ g x) → filter_map f xs ≡ filter_map g xs
 filter_map_same f g [] same = refl
-filter_map_same f g (x ∷ xs) same = rw (same x (inl refl)) (ap (λ ys. cons_option (g x) ys) (filter_map_same f g xs (λ y h. same y (inr h))))
+filter_map_same f g (x ∷ xs) same =
+    rw (same x (inl refl)) (ap (λ ys. cons_option (g x) ys) (filter_map_same f g xs (λ y h. same y (inr h))))
 
 module _ (log : List Note) (n : Note) (timely : IsTimely log) (none : value_read n ≡ None) where
   same_holds : (v : Value) → holds (with_note log n) v ≡ holds log v
   same_holds v =
-      holds_more log n v (any_passes log n v timely none) ∙ ap (λ b. holds log v && not b) (releases_none n v (phase_taken log v) none) ∙ and-true (holds log v)
+      holds_more log n v (any_passes log n v timely none) ∙ ap (λ b. holds log v && not b) (releases_none n v (phase_taken log v) none)
+      ∙ and-true (holds log v)
 
   same_values : held_values (with_note log n) ≡ held_values log
   same_values =

@@ -1,4 +1,4 @@
--- A table stays one, and where a lock stands in it.
+-- A table stays a table, and the index of a lock in it.
 use Rattle.std.proofs.Common.{◌≡◌, ℕ, suc, ◌+◌, ◌<◌, ◌≤◌, Bool, true, false, List, [], ◌∷◌, length, refl, sym, ap, subst, ◌∙◌, cond, arith}
 use Rattle.std.specs.Prelude.{map, not, ◌&&◌, filter, take_while, slice_get, slice_set}
 use Rattle.std.specs.List.{insert, prefix_len}
@@ -9,7 +9,7 @@ use Rattle.std.proofs.lemmas.List.{length-take}
 use Rattle.std.proofs.lemmas.List.Edits.{length-insert}
 use Rattle.ledger_model.specs.Values.{Value, same_value, is_below}
 use Rattle.ledger_model.specs.Spelling.{are_ascending}
-use Rattle.ledger_model.specs.LockTables.{SignedLock, with_lock, has_four_others}
+use Rattle.lock_proofs.specs.LockTables.{SignedLock, with_lock, has_four_others}
 use Rattle.ledger_model.proofs.Lists.{same_value-equal}
 use Rattle.lock_proofs.specs.Tables.{IsTable, values_of}
 use Rattle.ledger_model.proofs.Below.{Same, Below, Above, side, below_trans, below_differs, tail_ascends}
@@ -17,7 +17,8 @@ use Rattle.ledger_model.proofs.Below.{Same, Below, Above, side, below_trans, bel
 -- ---- the order
 
 -- a lower value in the first place
-ascends_from_lower : {X : Type 0} (key : X → Value) (w x : Value) (t : List X) → is_below w x ≡ true → are_ascending (x ∷ map key t) ≡ true → are_ascending (w ∷ map key t) ≡ true
+ascends_from_lower : {X : Type 0} (key : X → Value) (w x : Value) (t : List X) → is_below w x ≡ true → are_ascending (x ∷ map key t) ≡ true
+    → are_ascending (w ∷ map key t) ≡ true
 ascends_from_lower key w x [] below h = refl
 ascends_from_lower key w x (m ∷ ms) below h =
     let y = key m in
@@ -44,7 +45,8 @@ ascends_behind w s (m ∷ ms) below h =
           (ascends_behind x s ms above (parts.1)))
     ]
 
-with_lock-ascends : (s : SignedLock) (t : List SignedLock) → are_ascending (values_of t) ≡ true → are_ascending (values_of (with_lock s t)) ≡ true
+with_lock-ascends : (s : SignedLock) (t : List SignedLock) → are_ascending (values_of t) ≡ true
+    → are_ascending (values_of (with_lock s t)) ≡ true
 with_lock-ascends s [] h = refl
 with_lock-ascends s (m ∷ ms) h =
     let v = s.lock.value in
@@ -57,7 +59,8 @@ with_lock-ascends s (m ∷ ms) h =
     ]
 
 -- what stands in front is below what is left of the others
-filter-ascends_behind : {X : Type 0} (key : X → Value) (p : X → Bool) (w : Value) (t : List X) → are_ascending (w ∷ map key t) ≡ true → are_ascending (w ∷ map key (filter p t)) ≡ true
+filter-ascends_behind : {X : Type 0} (key : X → Value) (p : X → Bool) (w : Value) (t : List X) → are_ascending (w ∷ map key t) ≡ true
+    → are_ascending (w ∷ map key (filter p t)) ≡ true
 filter-ascends_behind key p w [] h = refl
 filter-ascends_behind key p w (m ∷ ms) h =
     let x = key m in
@@ -67,7 +70,8 @@ filter-ascends_behind key p w (m ∷ ms) h =
       | false ↦ filter-ascends_behind key p w ms (ascends_from_lower key w x ms (parts.0) (parts.1))
     ]
 
-pub filter-ascends : {X : Type 0} (key : X → Value) (p : X → Bool) (t : List X) → are_ascending (map key t) ≡ true → are_ascending (map key (filter p t)) ≡ true
+pub filter-ascends : {X : Type 0} (key : X → Value) (p : X → Bool) (t : List X) → are_ascending (map key t) ≡ true
+    → are_ascending (map key (filter p t)) ≡ true
 filter-ascends key p [] h = refl
 filter-ascends key p (m ∷ ms) h =
     elim (p m) as (λ b. are_ascending (map key (cond b (m ∷ filter p ms) (filter p ms))) ≡ true) [
@@ -78,7 +82,8 @@ filter-ascends key p (m ∷ ms) h =
 -- ---- how many
 
 -- all are on other values than one below the first
-none_same : (v : Value) (t : List SignedLock) → are_ascending (v ∷ values_of t) ≡ true → length (filter (λ m. not (same_value v m.lock.value)) t) ≡ length t
+none_same : (v : Value) (t : List SignedLock) → are_ascending (v ∷ values_of t) ≡ true
+    → length (filter (λ m. not (same_value v m.lock.value)) t) ≡ length t
 none_same v [] h = refl
 none_same v (m ∷ ms) h =
     let x = m.lock.value in
@@ -113,7 +118,11 @@ with_lock-table s t table room = record {
 }
 
 pub filter-table : (p : SignedLock → Bool) (t : List SignedLock) → IsTable t → IsTable (filter p t)
-filter-table p t table = record { ascends = filter-ascends (λ m. m.lock.value) p t table.ascends; few = let both = length-filter_both p (λ m. not (p m)) (λ m. refl) t in let few = table.few in omega arith }
+filter-table p t table = record {
+  ascends = filter-ascends (λ m. m.lock.value) p t table.ascends;
+  few = let both =
+      length-filter_both p (λ m. not (p m)) (λ m. refl) t in let few = table.few in omega arith;
+}
 
 -- ---- where a lock stands
 
@@ -124,7 +133,8 @@ abbrev pub is_held_at : Value → List SignedLock → ℕ → Bool
 is_held_at v t place = option_map_or (λ m. same_value v m.lock.value) (slice_get t place) false
 
 -- the locks in front, where the first is on a lower value
-place_of-behind : (v : Value) (m : SignedLock) (ms : List SignedLock) → is_below m.lock.value v ≡ true → place_of v (m ∷ ms) ≡ suc (place_of v ms)
+place_of-behind : (v : Value) (m : SignedLock) (ms : List SignedLock) → is_below m.lock.value v ≡ true
+    → place_of v (m ∷ ms) ≡ suc (place_of v ms)
 place_of-behind v m ms above =
     let one_more : 1 + prefix_len (λ x. is_below x.lock.value v) ms ≡ suc (prefix_len (λ x. is_below x.lock.value v) ms) = omega arith in
     rw (above, one_more) refl
@@ -137,7 +147,9 @@ replaced s (m ∷ ms) held =
     elim (side v m.lock.value) [
       | Same same not_above ↦ rw (same, not_above) refl
       | Below differs under not_above ↦ absurd (false≢true (sym differs ∙ rw not_above at held))
-      | Above differs not_under above ↦ rw (differs, not_under, place_of-behind v m ms above) (ap (λ rest. m ∷ rest) (replaced s ms (rw (place_of-behind v m ms above) at held)))
+      | Above differs not_under above ↦
+          rw (differs, not_under, place_of-behind v m ms above)
+          (ap (λ rest. m ∷ rest) (replaced s ms (rw (place_of-behind v m ms above) at held)))
     ]
 
 inserted : (s : SignedLock) (t : List SignedLock) → is_held_at s.lock.value t (place_of s.lock.value t) ≡ false
@@ -148,7 +160,9 @@ inserted s (m ∷ ms) free =
     elim (side v m.lock.value) [
       | Same same not_above ↦ absurd (true≢false (sym same ∙ rw not_above at free))
       | Below differs under not_above ↦ rw (differs, under, not_above) refl
-      | Above differs not_under above ↦ rw (differs, not_under, place_of-behind v m ms above) (ap (λ rest. m ∷ rest) (inserted s ms (rw (place_of-behind v m ms above) at free)))
+      | Above differs not_under above ↦
+          rw (differs, not_under, place_of-behind v m ms above)
+          (ap (λ rest. m ∷ rest) (inserted s ms (rw (place_of-behind v m ms above) at free)))
     ]
 
 -- ---- what `put` does

@@ -3,7 +3,7 @@ use Rattle.std.proofs.Common.{◌≡◌, true, false, ◌⊎◌, inl, inr, List,
 use Rattle.ledger_model.specs.Notes.{Has}
 use Rattle.ledger_model.specs.Values.{same_value, is_below, with_value}
 use Rattle.ledger_model.specs.Spelling.{are_ascending}
-use Rattle.ledger_model.specs.LockTables.{SignedLock, with_lock}
+use Rattle.lock_proofs.specs.LockTables.{SignedLock, with_lock}
 use Rattle.ledger_model.proofs.Lists.{same_value-equal}
 use Rattle.ledger_model.proofs.Below.{Same, Below, Above, side, below_trans, below_differs, tail_ascends, above_all}
 use Rattle.lock_proofs.specs.Tables.{values_of}
@@ -39,7 +39,11 @@ with_lock_has s (x ∷ xs) a m h =
     elim (side v w) [
       | Same same not_above ↦ elim (let g : Has (s ∷ xs) m = rw same at h in g) [
         | inl e ↦ inl e
-        | inr k ↦ inr (inr k, below_differs v m.lock.value (subst (λ y. is_below y m.lock.value ≡ true) (sym (same_value-equal v w same)) (above k)))
+        | inr k ↦ inr (
+          inr k,
+          below_differs v m.lock.value
+              (subst (λ y. is_below y m.lock.value ≡ true) (sym (same_value-equal v w same)) (above k)),
+        )
       ]
       | Below differs under not_above ↦ elim (let g : Has (s ∷ x ∷ xs) m = rw (differs, under) at h in g) [
         | inl e ↦ inl e

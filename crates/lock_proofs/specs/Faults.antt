@@ -1,4 +1,4 @@
--- Why a lock isn't valid, and what counts as signed.
+-- Why a lock isn't valid, and when a statement counts as signed.
 use Rattle.std.specs.Prelude.{◌==◌, ℕ, Bool, not, ◌&&◌, IsTrue, List, [], ◌∷◌, Result, Ok, Err, slice_get}
 use Rattle.std.specs.List.{list_all}
 use Rattle.ledger_model.specs.declared.config.Config.{Config}
@@ -8,20 +8,20 @@ use Rattle.ledger_model.specs.Rounds.{owner_of}
 use Rattle.ledger_model.specs.Notes.{Has}
 use Rattle.ledger_model.specs.Rules.{Ring, is_signed, is_signed_by, with_signature}
 use Rattle.ledger_model.specs.Validity.{is_quorate, is_supporting}
-use Rattle.ledger_model.specs.LockTables.{SignedLock, as_statement}
-use Rattle.signed_frames.specs.Lending.{Lent}
+use Rattle.lock_proofs.specs.LockTables.{SignedLock, as_statement}
+use Rattle.signed_frames.specs.Lending.{LentReportView}
 use Rattle.lock_proofs.specs.declared.fault.LockFault.{LockFault}
 use Rattle.lock_proofs.specs.declared.fault.LockFault.TheVariants as fault
 
--- the reports of a proof carry their signers' signatures
+-- the reports of the proof have their signers' signatures
 abbrev pub are_signed : Ring → List SignedReport → Bool
 are_signed ring proof = list_all (λ p. is_signed ring (with_signature p)) proof
 
--- a report that a frame lends carries its signer's signature
-abbrev pub is_lent_signed : Ring → Lent → Bool
+-- a report borrowed from a frame has its signer's signature
+abbrev pub is_lent_signed : Ring → LentReportView → Bool
 is_lent_signed ring l = is_signed_by (slice_get ring l.signer) l.bytes l.signature
 
--- the faults in order, each with whether it fits
+-- the faults in order, each with whether it applies
 abbrev pub faults : Config → Ring → SignedLock → List (Bool × LockFault)
 faults config ring s =
     (not (s.lock.signer == owner_of config s.lock.phase), fault.NotOwner)
@@ -34,12 +34,12 @@ faults config ring s =
 abbrev pub IsBacked : Ring → Statement → Type 0
 IsBacked ring s = (signature : List ℕ) × IsTrue (is_signed ring (record { statement = s; signature = signature }))
 
--- the signatures that stand in the lock verify: its own, and those of its proof
+-- the signatures in the lock verify: its own, and those of the reports in its proof
 pub record IsSigned (ring : Ring) (s : SignedLock) : Type 0 where
   pub own : IsTrue (is_signed ring (as_statement s))
   pub reports : (p : SignedReport) → Has s.lock.proof p → IsTrue (is_signed ring (with_signature p))
 
--- an answer without the lock
+-- the result without the lock
 abbrev pub without_lock : Result SignedLock LockFault → Result (Unit {0}) LockFault
 without_lock (Ok s) = Ok tt
 without_lock (Err f) = Err f

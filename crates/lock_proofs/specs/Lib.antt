@@ -1,3 +1,4 @@
+pub mod LockTables
 pub mod LockFrames
 pub mod Faults
 pub mod Tables

@@ -1,17 +1,17 @@
--- A lock's frame, seen as the lock and its owner's signature.
+-- A lock's frame, as the lock and its owner's signature.
 use Rattle.std.specs.Prelude.{true, IsTrue, []}
 use Rattle.ledger_model.specs.declared.statement.Lock.{Lock}
 use Rattle.ledger_model.specs.declared.statement.SignedStatement.{SignedStatement}
 use Rattle.ledger_model.specs.declared.statement.Statement.{Statement}
 use Rattle.ledger_model.specs.declared.statement.Statement.TheVariants as statement
 use Rattle.ledger_model.specs.Notes.{is_lock}
-use Rattle.ledger_model.specs.LockTables.{SignedLock}
+use Rattle.lock_proofs.specs.LockTables.{SignedLock}
 
--- the frame is a lock's
+-- the frame is that of a lock
 abbrev pub IsLockFrame : SignedStatement → Type 0
 IsLockFrame s = IsTrue (is_lock (λ l. true) s.statement)
 
--- the lock that a statement is; what is none has an empty one
+-- the lock that the statement is; for other statements, an empty lock
 abbrev pub lock_of : Statement → Lock
 lock_of (statement.Lock l) = l
 lock_of (statement.Report r) = record { height = 0; phase = 0; signer = 0; value = []; proof = [] }

@@ -1,6 +1,6 @@
--- Tables of locks: at most four, of ascending values.
+-- Tables of locks: at most four locks, on ascending values.
 use Rattle.std.specs.Prelude.{◌≤◌, IsTrue, List, map, length}
-use Rattle.ledger_model.specs.LockTables.{SignedLock}
+use Rattle.lock_proofs.specs.LockTables.{SignedLock}
 use Rattle.ledger_model.specs.Values.{Value}
 use Rattle.ledger_model.specs.Spelling.{are_ascending}
 
@@ -8,7 +8,7 @@ use Rattle.ledger_model.specs.Spelling.{are_ascending}
 abbrev pub values_of : List SignedLock → List Value
 values_of table = map (λ s. s.lock.value) table
 
--- a lock at most for each value, in the byte order of the values' encodings, and four at most
+-- at most one lock for each value, at most four locks, in the byte order of the values' encodings
 pub record IsTable (table : List SignedLock) : Type 0 where
   pub ascends : IsTrue (are_ascending (values_of table))
   pub few : length table ≤ 4

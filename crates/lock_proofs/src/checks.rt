@@ -1,4 +1,4 @@
-//! What a lock has to be, its signatures aside.
+//! The tests that a lock must pass, apart from its signatures.
 
 ghost use Rattle.std.specs.Prelude.{◌≡◌, ◌==◌, ◌&&◌};
 ghost use Rattle.std.specs.List.{list_all};
@@ -14,7 +14,7 @@ pub fn is_of_owner(config: &Config, lock: &Lock) -> bool
     lock.signer == config.owner_of(lock.phase)
 }
 
-/// Whether the signers ascend, below the number of replicas.
+/// Whether the signers ascend strictly, below the number of replicas.
 fn do_signers_ascend(config: &Config, reports: &[SignedReport]) -> bool
     ensures { result ≡ ascends_within 0 config.now.replicas (signers_of reports.now) }
 {
@@ -37,7 +37,7 @@ fn are_of_its_phase(lock: &Lock, reports: &[SignedReport]) -> bool
         && signed.report.phase == lock.phase)
 }
 
-/// Whether the lock's proof has N-t reports, of different replicas and of its height and phase.
+/// Whether the lock's proof has exactly N-t reports, of different replicas and of the lock's height and phase.
 pub fn is_quorate(config: &Config, lock: &Lock) -> bool
     ensures { result ≡ is_quorate config.now lock.now }
 {
@@ -47,7 +47,7 @@ pub fn is_quorate(config: &Config, lock: &Lock) -> bool
         && are_of_its_phase(lock, reports)
 }
 
-/// Whether each report of the lock's proof finds its value.
+/// Whether each report of the lock's proof finds the lock's value.
 pub fn is_supporting(lock: &Lock) -> bool
     ensures { result ≡ is_supporting lock.now }
 {

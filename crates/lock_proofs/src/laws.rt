@@ -1,37 +1,37 @@
-//! The table of held locks keeps step with the log of a replica.
+//! The laws by which the table of held locks keeps step with the replica's log.
 ghost use Rattle.lock_proofs.specs.Laws.{BeginsEmpty, TakesALock, ReleasesLocks, KeepsLocks, ValuesAreHeld, FullAlike, StaysTimely, LogsAreTimely};
 
-/// A log begins with no lock held.
+/// An empty log holds no lock.
 pub fn begins_empty()
     ensures { BeginsEmpty }
 {}
 
-/// The first lock that is read in the lock round of its own phase goes into the table, in place of one on its value.
+/// The first lock that is read in the lock round of its own phase goes into the table, and replaces one on the same value.
 pub fn takes_a_lock()
     ensures { TakesALock }
 {}
 
-/// A lock that is read in the lock-release round of a phase ends the hold of others as the table does.
+/// A lock that is read in the lock-release round of a phase releases the same locks in the log as in the table.
 pub fn releases_locks()
     ensures { ReleasesLocks }
 {}
 
-/// What reads no lock leaves the held ones, and so does the opening of a round.
+/// A note that reads no lock leaves the held locks unchanged; the opening of a round is such a note.
 pub fn keeps_locks()
     ensures { KeepsLocks }
 {}
 
-/// The values of the table are those that a report gives as locked.
+/// The values of the table are the values that a report lists as locked.
 pub fn values_are_held()
     ensures { ValuesAreHeld }
 {}
 
-/// The table is full for a value just where the log has four locks on others.
+/// The table is full for a value exactly if the log holds locks on four others.
 pub fn full_alike()
     ensures { FullAlike }
 {}
 
-/// A log to which a replica adds only what the open round lets in stays timely.
+/// A log stays timely as the replica adds notes of what it reads in the open round, of that round's phase.
 pub fn stays_timely()
     ensures { StaysTimely }
 {}

@@ -1,7 +1,7 @@
-//! The frames of locks, the check whether one is valid, and the table of the locks that a replica holds.
+//! The frames of locks, the check whether a lock is valid, and the table of the locks that a replica holds.
 //!
-//! A lock is valid if it is of its phase's owner and has a proof: signed reports of its height and phase, of all replicas but
-//! as many as may lie, each of which finds its value (Dwork, Lynch and Stockmeyer 1988, Algorithm 2).
+//! A lock is valid if the owner of its phase made it and it has a proof: signed reports of its height and phase from a
+//! quorum (N-t replicas), each of which finds its value (Dwork, Lynch and Stockmeyer 1988, Algorithm 2).
 #![tactic(auto)]
 
 mod checks;

@@ -1,8 +1,8 @@
-//! The frame of a lock, and its check: the owner's signature, and the proof (a certificate of N-t signed reports).
+//! The frame of a lock, and its check: the owner's signature, and the proof, a certificate of N-t signed reports.
 ghost use Rattle.std.specs.Prelude.{◌≡◌, IfOk, IsOk};
 ghost use Rattle.ledger_model.specs.Validity.{ValidLock};
 ghost use Rattle.ledger_model.specs.Rules.{first_of};
-ghost use Rattle.ledger_model.specs.LockTables.{as_statement};
+ghost use Rattle.lock_proofs.specs.LockTables.{as_statement};
 ghost use Rattle.lock_proofs.specs.LockFrames.{IsLockFrame, lock_in};
 ghost use Rattle.lock_proofs.specs.Faults.{faults, IsBacked, IsSigned, without_lock};
 
@@ -14,14 +14,14 @@ use ledger_model::{Batch, Config, Lock, Phase, Statement};
 use signed_frames::Frame;
 use std::marker::Model;
 
-/// The frame of a lock, and what is read off it. Contracts see the lock and its signature. Whether the lock is valid is
-/// no matter of this type: [`check_lock`] says it of those that it answers.
+/// The frame of a lock, with the parts that were read from it. Contracts see the lock and its signature. The type
+/// doesn't say whether the lock is valid: [`check_lock`] ensures it of the locks that it returns.
 #[derive(Debug)]
 pub struct LockFrame {
     frame: Frame,
 }
 
-// It is dropped by a function of its own, so that whoever owns one drops it by a single call.
+// An own `Drop` keeps proofs short: an owner drops it by one call. See docs/WORKING.md.
 impl Drop for LockFrame {
     fn drop(self) {
         let LockFrame { frame: _frame } = self;
@@ -29,7 +29,7 @@ impl Drop for LockFrame {
 }
 
 impl Model for LockFrame {
-    ghost use Rattle.ledger_model.specs.LockTables.{SignedLock};
+    ghost use Rattle.lock_proofs.specs.LockTables.{SignedLock};
     ghost use Rattle.lock_proofs.specs.LockFrames.{IsLockFrame, lock_in};
 
     ghost Value = { SignedLock };
@@ -41,10 +41,10 @@ impl Model for LockFrame {
 
 impl LockFrame {
     ghost use Rattle.std.specs.Prelude.{◌≡◌};
-    ghost use Rattle.ledger_model.specs.LockTables.{as_statement};
+    ghost use Rattle.lock_proofs.specs.LockTables.{as_statement};
     ghost use Rattle.lock_proofs.specs.LockFrames.{IsLockFrame};
 
-    /// The frame of the lock that this replica made itself. Nothing is checked: whoever makes a lock answers for it.
+    /// The frame of a lock that this replica made itself. Nothing is checked: the caller answers for the lock.
     pub fn of_own(frame: Frame) -> Self
         requires { IsLockFrame frame }
         ensures { as_statement result ≡ frame }
@@ -69,7 +69,7 @@ impl LockFrame {
         &self.lock().value
     }
 
-    /// The phase that it is of.
+    /// The phase of the lock.
     pub fn phase(&self) -> Phase
         ensures { result ≡ self.now.lock.phase }
     {
@@ -84,7 +84,7 @@ impl LockFrame {
     }
 }
 
-/// The first fault that fits the lock of a frame, if one does.
+/// Returns the first fault of the lock in the frame, if it has one.
 fn examine(config: &Config, ring: &KeyRing, frame: &Frame) -> Result<(), LockFault>
     requires { IsLockFrame frame.now }
     ensures { result ≡ first_of (faults config.now ring.now (lock_in frame.now)) }
@@ -107,20 +107,20 @@ fn examine(config: &Config, ring: &KeyRing, frame: &Frame) -> Result<(), LockFau
     Ok(())
 }
 
-/// Checks a lock's frame, which is kept in what it answers. It takes no memory.
+/// Checks the lock in a frame, and returns it with its frame. Allocates nothing.
 ///
-/// The faults are tested in the order of [`LockFault`]. The signature of each report in the proof is one over the report's
-/// bytes as they stand in the frame.
+/// The faults are tested in the order of [`LockFault`]. The signature of each report in the proof is checked against
+/// the report's bytes in the frame.
 pub fn check_lock(config: &Config, ring: &KeyRing, frame: Frame) -> Result<LockFrame, LockFault>
     requires { IsLockFrame frame }
-    // The first fault that fits is told, and where none fits, the lock of the frame.
+    // Returns the first fault that applies and, if none does, the lock of the frame.
     ensures fault { without_lock result ≡ first_of (faults config.now ring.now (lock_in frame)) }
     ensures lock { IfOk result (λ lock. as_statement lock ≡ frame) }
 
-    // A lock that is answered is valid.
+    // A lock that is returned is valid.
     ensures valid { IfOk result (λ lock. ValidLock (IsBacked ring.now) config.now lock.lock) }
 
-    // A valid lock whose own signatures verify is answered.
+    // A valid lock whose own signatures verify is returned.
     ensures only { IsSigned ring.now (lock_in frame) → ValidLock (IsBacked ring.now) config.now (lock_in frame).lock
         → IsOk result }
 {

@@ -1,4 +1,4 @@
-//! Which signatures of a lock's frame verify.
+//! Checks the signatures in a lock's frame.
 
 ghost use Rattle.std.specs.Prelude.{◌≡◌};
 ghost use Rattle.std.specs.List.{list_all};
@@ -9,7 +9,7 @@ ghost use Rattle.lock_proofs.specs.Faults.{are_signed, is_lent_signed};
 use key_ring::KeyRing;
 use signed_frames::{Frame, LentReports};
 
-/// Whether a frame's signature is its signer's.
+/// Whether the frame's signature is its signer's.
 pub fn is_signed(ring: &KeyRing, frame: &Frame) -> bool
     ensures { result ≡ is_signed ring.now frame.now }
 {
@@ -17,7 +17,7 @@ pub fn is_signed(ring: &KeyRing, frame: &Frame) -> bool
     ring.verifies(signer, frame.statement_bytes(), frame.signature())
 }
 
-/// Whether each report of a lock's frame is signed by its signer, over the report's bytes as they stand in the frame.
+/// Whether each report in a lock's frame is signed by its signer, over the report's bytes in the frame.
 pub fn are_signed(ring: &KeyRing, frame: &Frame) -> bool
     ensures { result ≡ are_signed ring.now (proof_of frame.now.statement) }
 {

@@ -2,14 +2,14 @@
 ghost use Rattle.std.specs.Prelude.{◌≡◌, ◌≤◌, false, not, length, filter, take_while, slice_get, vec_capacity};
 ghost use Rattle.std.specs.Option.{option_map_or};
 ghost use Rattle.ledger_model.specs.Values.{same_value, is_below};
-ghost use Rattle.ledger_model.specs.LockTables.{with_lock, ends_hold};
+ghost use Rattle.lock_proofs.specs.LockTables.{with_lock, ends_hold};
 
 use crate::{LockFrame, TableFull};
 use ledger_model::{Batch, Lock, Phase};
 use std::alloc::{AllocError, Global};
 use std::marker::Model;
 
-/// The locks that a replica holds at one height: at most one a value, and at most four, by ascending value.
+/// The locks that a replica holds at one height: at most one for each value, at most four, in ascending order of values.
 #[derive(Debug, Drop)]
 pub struct LockTable {
     locks: Vec<LockFrame>,
@@ -17,7 +17,7 @@ pub struct LockTable {
 
 impl Model for LockTable {
     ghost use Rattle.std.specs.Prelude.{◌≤◌, List, vec_capacity};
-    ghost use Rattle.ledger_model.specs.LockTables.{SignedLock};
+    ghost use Rattle.lock_proofs.specs.LockTables.{SignedLock};
     ghost use Rattle.lock_proofs.specs.Tables.{IsTable};
 
     ghost Value = { List SignedLock };
@@ -29,13 +29,13 @@ impl Model for LockTable {
 
 impl LockTable {
     ghost use Rattle.std.specs.Prelude.{◌≡◌, ◌≤◌, [], length, not, is_err, IfOk, OnOk, OnErr};
-    ghost use Rattle.ledger_model.specs.LockTables.{with_lock, has_four_others, released};
+    ghost use Rattle.lock_proofs.specs.LockTables.{with_lock, has_four_others, released};
     ghost use Rattle.lock_proofs.specs.Tables.{IsTable};
 
-    /// The most locks that are held at once.
+    /// The most locks that a replica holds at a time.
     pub const MAX_LEN: usize = 4;
 
-    /// A table with no locks, and with room for all that it can hold.
+    /// An empty table, which has room for all locks that it can ever hold.
     pub fn new(alloc: Global) -> Result<Self, AllocError>
         ensures { IfOk result (λ table. table ≡ []) }
     {
@@ -44,15 +44,16 @@ impl LockTable {
         })
     }
 
-    /// Whether [`LockTable::take`] takes a lock on this value: locks on at most three others are held. It takes no memory.
+    /// Whether [`LockTable::take`] takes a lock on this value: whether locks on at most three other values are held.
+    /// Allocates nothing.
     pub fn has_room_for(&self, value: &Batch) -> bool
         ensures { result ≡ not (has_four_others value.now self.now) }
     {
         number_of_others(&self.locks, value) < Self::MAX_LEN
     }
 
-    /// Takes the lock, in place of one on the same value. Refused exactly where there is no room for its value. It takes
-    /// no memory.
+    /// Takes the lock; it replaces a lock on the same value. `TableFull` comes exactly if there is no room for its
+    /// value. Allocates nothing.
     pub fn take(&mut self, lock: LockFrame) -> Result<(), TableFull>
         ensures full { is_err result ≡ has_four_others lock.lock.value self.old }
         ensures taken { OnOk result (self.new ≡ with_lock lock self.old) }
@@ -65,8 +66,8 @@ impl LockTable {
         Ok(())
     }
 
-    /// A lock was read in the lock-release round of phase `now`: locks on other values are held no longer, if they
-    /// are of no later phase than that lock, and that is of no later phase than `now`. It takes no memory.
+    /// Releases locks by a lock that was read in the lock-release round of phase `now`: every lock on another value
+    /// whose phase is not after that of the read lock, if the read lock's phase is not after `now`. Allocates nothing.
     pub fn release(&mut self, read: &LockFrame, now: Phase)
         ensures { self.new ≡ released now read.now.lock self.old }
     {
@@ -74,7 +75,7 @@ impl LockTable {
         self.locks.retain(|held| !ends_hold(now, read, held.lock()));
     }
 
-    /// The locks, by ascending value, each with its frame.
+    /// The locks in ascending order of values, each with its frame.
     pub fn held(&self) -> &[LockFrame]
         ensures locks { result.now ≡ self.now }
         ensures table { IsTable self.now }
@@ -83,7 +84,7 @@ impl LockTable {
     }
 }
 
-/// Puts the lock in place of one on the same value, or else where the order has it. There is room for it.
+/// Replaces the lock on the same value, or else inserts the lock in order. There is room for it.
 fn put(locks: &mut Vec<LockFrame>, lock: LockFrame)
     requires { length (with_lock lock locks.old.items) ≤ vec_capacity locks.old }
     ensures items { locks.new.items ≡ with_lock lock locks.old.items }
@@ -97,28 +98,28 @@ fn put(locks: &mut Vec<LockFrame>, lock: LockFrame)
     }
 }
 
-/// How many locks are on other values.
+/// The number of locks on other values.
 fn number_of_others(locks: &[LockFrame], value: &Batch) -> usize
     ensures { result ≡ length (filter (λ m. not (same_value value.now m.lock.value)) locks.now) }
 {
     locks.iter().filter(|held| value != held.value()).count()
 }
 
-/// How many locks on lower values stand in front: the place of one on this value.
+/// The number of locks on lower values, which is the index for a lock on this value.
 fn place_for(locks: &[LockFrame], value: &Batch) -> usize
     ensures { result ≡ length (take_while (λ m. is_below m.lock.value value.now) locks.now) }
 {
     locks.iter().take_while(|held| held.value() < value).count()
 }
 
-/// Whether the lock at this place is on the value.
+/// Whether the lock at this index is on the value.
 fn is_held_at(locks: &[LockFrame], place: usize, value: &Batch) -> bool
     ensures { result ≡ option_map_or (λ m. same_value value.now m.lock.value) (slice_get locks.now place) false }
 {
     locks.get(place).is_some_and(|held| value == held.value())
 }
 
-/// Whether a lock that was read in the lock-release round of phase `now` ends the hold of another.
+/// Whether a lock that was read in the lock-release round of phase `now` releases the held lock.
 fn ends_hold(now: Phase, read: &Lock, held: &Lock) -> bool
     ensures { result ≡ ends_hold now read.now held.now }
 {

@@ -1,2 +1,2 @@
-pub mod Replicas
+pub mod States
 pub mod Views

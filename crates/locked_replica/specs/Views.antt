@@ -1,4 +1,4 @@
--- What the lent parts of an entry say.
+-- The events, replies and frames that borrowed views show.
 use Rattle.std.specs.Prelude.{Ok, Err}
 use Rattle.ledger_model.specs.declared.event.Event.{Event}
 use Rattle.ledger_model.specs.declared.event.Event.TheVariants as event
@@ -11,7 +11,7 @@ use Rattle.locked_replica.specs.declared.event_view.EventView.TheVariants as len
 use Rattle.locked_replica.specs.declared.reply_view.ReplyView.{ReplyView}
 use Rattle.locked_replica.specs.declared.reply_view.ReplyView.TheVariants as lent_reply
 
--- the event that is lent
+-- the event that is borrowed
 abbrev pub event_lent : EventView → Event
 event_lent (lent_event.Submit bytes) = event.Submit bytes.now
 event_lent (lent_event.Propose height) = event.Propose height
@@ -20,7 +20,7 @@ event_lent lent_event.RoundEnd = event.RoundEnd
 event_lent lent_event.Execute = event.Execute
 event_lent (lent_event.Query key height) = event.Query key.now height
 
--- the reply that is lent
+-- the reply that is borrowed
 abbrev pub reply_lent : ReplyView → Reply
 reply_lent (lent_reply.Submitted r) = reply.Submitted r
 reply_lent (lent_reply.Proposed (Ok batch)) = reply.Proposed (Ok batch.now)
@@ -32,6 +32,6 @@ reply_lent (lent_reply.Executed (Err nothing)) = reply.Executed (Err nothing)
 reply_lent (lent_reply.Queried (Ok answer)) = reply.Queried (Ok answer.now)
 reply_lent (lent_reply.Queried (Err refusal)) = reply.Queried (Err refusal)
 
--- the frame that is lent, to its addressee
+-- the frame that is borrowed, with its addressee
 abbrev pub sent_lent : SentView → Sent
 sent_lent sent = record { addressee = sent.addressee; frame = sent.frame.now }

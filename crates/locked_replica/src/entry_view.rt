@@ -1,10 +1,10 @@
-//! An entry of a history, as it is lent.
+//! A borrowed view of an entry of a history.
 use crate::event_view::EventView;
 use crate::reply_view::{ReplyView, RoundEndView};
 use ledger_model::{Entry, Event, Reply};
 use std::marker::Model;
 
-/// An event of a history and what was answered to it. Contracts see the entry.
+/// A borrowed entry: an event and the reply to it. Contracts see an `Entry`.
 #[derive(Drop)]
 pub struct EntryView<'a> {
     entry: &'a Entry,
@@ -42,7 +42,7 @@ impl<'a> EntryView<'a> {
         }
     }
 
-    /// What was answered to it.
+    /// The reply to the event.
     pub fn reply(&self) -> ReplyView<'a>
         ensures { reply_lent result ≡ self.now.reply }
     {

@@ -1,17 +1,17 @@
-//! Why a replica takes no event.
+//! Why a replica doesn't take an event.
 ghost use Rattle.std.specs.Prelude.{◌≡◌};
 ghost use Rattle.locked_replica.specs.declared.fault.ApplyFault.TheVariants.{NoMemory};
 
 use std::alloc::AllocError;
 use thiserror::Error;
 
-/// Why an event was not taken.
+/// Why [`State::apply`](crate::State::apply) added no entry.
 #[derive(Clone, Copy, Debug, PartialEq, Eq, Error)]
 pub enum ApplyFault {
-    /// The history has 65,536 entries. Nothing changed.
+    /// The history already has 65,536 entries. Nothing changed.
     #[error("the history is full")]
     HistoryFull,
-    /// Memory ran out. Nothing changed, but a round end may have used leaves.
+    /// Memory ran out. Nothing changed, except that a round end may have used leaves.
     #[error("out of memory")]
     NoMemory,
 }

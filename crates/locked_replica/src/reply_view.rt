@@ -1,4 +1,4 @@
-//! A reply of a history, as it is lent.
+//! A borrowed view of a reply of a history.
 use bytes::Bytes;
 use ledger_model::{
     Addressee, Batch, BlockResult, Ignored, LastRound, NotHeld, NothingDecided, ProposeRefusal,
@@ -6,7 +6,7 @@ use ledger_model::{
 };
 use std::marker::Model;
 
-/// What was answered to an event. Its parts are lent.
+/// The reply to an event, with its parts borrowed.
 #[derive(Drop)]
 pub enum ReplyView<'a> {
     Submitted(Result<(), SubmitRefusal>),
@@ -17,13 +17,13 @@ pub enum ReplyView<'a> {
     Queried(Result<&'a QueryAnswer, NotHeld>),
 }
 
-/// What a round end answered: its frames one by one, and whether the replica was mute. Contracts see a `RoundEnded`.
+/// The reply to a round end: its frames one by one, and whether the replica is mute. Contracts see a `RoundEnded`.
 #[derive(Drop)]
 pub struct RoundEndView<'a> {
     ended: &'a RoundEnded,
 }
 
-/// A frame that was sent, and to whom.
+/// A frame that was sent, and its addressee.
 #[derive(Drop)]
 pub struct SentView<'a> {
     pub addressee: Addressee,
@@ -48,28 +48,28 @@ impl<'a> RoundEndView<'a> {
         RoundEndView { ended }
     }
 
-    /// Whether the replica made no statement any more.
+    /// Whether the replica is mute: it makes no further statement.
     pub fn is_mute(&self) -> bool
         ensures { result ≡ self.now.mute }
     {
         self.ended.mute
     }
 
-    /// How many frames were sent.
+    /// The number of frames that were sent.
     pub fn len(&self) -> usize
         ensures { result ≡ length self.now.frames }
     {
         self.ended.frames.as_slice().len()
     }
 
-    /// Whether none was.
+    /// Whether no frame was sent.
     pub fn is_empty(&self) -> bool
         ensures { result ≡ (length self.now.frames == 0) }
     {
         self.ended.frames.as_slice().is_empty()
     }
 
-    /// The frame of an index, in the order in which they were sent.
+    /// The frame with this index, in the order of sending; `None` if fewer frames were sent.
     pub fn frame(&self, index: usize) -> Option<SentView<'a>>
         ensures { option_map sent_lent result ≡ slice_get self.now.frames index }
     {

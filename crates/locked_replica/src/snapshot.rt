@@ -1,11 +1,11 @@
-//! A history that is taken from its replica.
+//! A copy of a replica's history, for an audit.
 ghost use Rattle.std.specs.Prelude.{◌≡◌, IfOk};
 
 use key_ring::KeyRing;
 use ledger_model::{Config, Entries, Entry, History};
 use std::alloc::{AllocError, Global};
 
-/// A replica's history, with the cluster and the public keys under which it was made.
+/// A copy of a replica's history, with the replica's configuration and the public keys that signatures verify under.
 #[derive(Drop)]
 pub struct Snapshot {
     pub config: Config,
@@ -22,7 +22,7 @@ fn copied(entry: &Entry) -> Result<Entry, AllocError>
     })
 }
 
-/// The same entries once more.
+/// Copies of the entries, in order. The only error is allocation failure.
 pub(crate) fn copy_entries(alloc: Global, entries: &[Entry]) -> Result<Entries, AllocError>
     ensures { IfOk result (λ copied. copied ≡ entries.now) }
 {

@@ -1,4 +1,4 @@
-//! A replica: its history and what it keeps of it, changed by one event at a time.
+//! A replica: its history and the core that goes with it, changed by one event at a time.
 ghost use Rattle.std.specs.Prelude.{◌≡◌, ◌<◌, ◌∷◌, ◌++◌, [], vec_len, vec_capacity};
 
 use crate::entry_view::EntryView;
@@ -6,25 +6,25 @@ use crate::fault::ApplyFault;
 use crate::snapshot::{Snapshot, copy_entries};
 use abci::{Application, Info};
 use key_ring::{KeyRing, Signer};
-use ledger_model::{Batch, Config, Entry, Event, Height, History, ReplicaId, Reply};
+use ledger_model::{Batch, Config, Entries, Entry, Event, Height, History, ReplicaId, Reply};
 use replica_core::Core;
 use std::alloc::{AllocError, Global};
 use std::hash::RandomState;
 use std::marker::Model;
 
 /// The most entries of a history.
-pub const MAX_ENTRIES: usize = 65_536;
+pub const MAX_ENTRIES: usize = Entries::MAX_LEN;
 
-/// A replica: its history, and what it keeps of it.
+/// A replica: its history, and the core that acts on it.
 ///
-/// Its type keeps that the history is a replay, each entry lawful after those before it and each signature in a reply
-/// verified, that what is kept is what the history makes of it, and that it is mute only because too few leaves were left.
+/// The invariants of the type: the history is a replay, each entry lawful after those before it and each signature in a
+/// reply verified; the core is what the history makes of it; and the replica is mute only if too few leaves were left.
 pub struct State<A: Application> {
     core: Core<A>,
     entries: Vec<Entry>,
 }
 
-// It is dropped by a function of its own, so that whoever owns one drops it by a single call.
+// An own `Drop` keeps proofs short: an owner drops it by one call. See docs/WORKING.md.
 impl<A: Application> Drop for State<A> {
     fn drop(self) {
         let State {
@@ -35,9 +35,9 @@ impl<A: Application> Drop for State<A> {
 }
 
 impl<A: Application> Model for State<A> {
-    ghost use Rattle.locked_replica.specs.Replicas.{Replica, replica_of, IsReplica};
+    ghost use Rattle.locked_replica.specs.States.{StateView, replica_of, IsReplica};
 
-    ghost Value = { Replica };
+    ghost Value = { StateView };
 
     ghost view = { λ s. replica_of s.core.held s.core.keys s.entries.items };
 
@@ -45,23 +45,22 @@ impl<A: Application> Model for State<A> {
 }
 
 impl<A: Application> State<A> {
-    ghost use Rattle.std.specs.Prelude.{◌≡◌, ◌≢◌, ◌<◌, ◌≤◌, ◌+◌, ◌↔◌, ◌∷◌, ◌++◌, [], length, slice_get, Some, IfOk, OnErr, OnOk, IsErrOf, IsTrue, ◌==◌};
+    ghost use Rattle.std.specs.Prelude.{◌≡◌, ◌<◌, ◌≤◌, ◌+◌, ◌↔◌, ◌∷◌, ◌++◌, [], false, length, slice_get, Some, IfOk, OnErr, OnOk, IsErrOf, IsTrue, ◌==◌};
     ghost use Rattle.std.specs.Option.{option_copied};
-    ghost use Rattle.ledger_model.specs.declared.event.Event.TheVariants as events;
     ghost use Rattle.ledger_model.specs.declared.reply.Reply.{Reply};
-    ghost use Rattle.ledger_model.specs.Limits.{max_height};
+    ghost use Rattle.ledger_model.specs.Limits.{max_height, max_history_len};
     ghost use Rattle.ledger_model.specs.Applications.{run};
     ghost use Rattle.ledger_model.specs.Commits.{commits_of, decided_at};
     ghost use Rattle.ledger_model.specs.Lawful.{Lawful, Replay, clock_at, is_signed_reply};
     ghost use Rattle.ledger_model.specs.Logs.{is_mute};
     ghost use Rattle.key_ring.specs.Signers.{key_of, leaves_of};
     ghost use Rattle.replica_core.specs.Steps.{UsesLeaves};
-    ghost use Rattle.replica_core.specs.Telling.{block_at, info_reply};
-    ghost use Rattle.locked_replica.specs.Replicas.{Replica, IsMember, AccountsForLeaves, RunsAlone, UsesAsSigned, due_next, is_mute_after, keys_in};
+    ghost use Rattle.replica_core.specs.Facts.{block_at, info_reply};
+    ghost use Rattle.locked_replica.specs.States.{StateView, IsMember, AccountsForLeaves, RunsAlone, UsesAsSigned, due_next, is_mute_after, keys_in, new_state, signs_at};
 
-    /// A replica with no history. The application is in its opening state, of the configured kind; the ring has the public keys
-    /// of the replicas by number. The first random keys are those of the pool's hashes; the second are for what a replica finds
-    /// by content beside them, of which there is nothing yet. The only error is want of memory.
+    /// A replica with an empty history. The application must be in its opening state, of the configured kind. The ring
+    /// has the public keys of the replicas by number. The pool hashes with the first of the random keys; the second is
+    /// reserved for a further index and not used. The only error is allocation failure.
     pub fn new(
         alloc: Global,
         config: Config,
@@ -73,7 +72,7 @@ impl<A: Application> State<A> {
     ) -> Result<Self, AllocError>
         requires member { IsMember config id ring signer.secret }
         requires opening { A.machine app ≡ run config.kind [] }
-        ensures { IfOk result (λ state. state ≡ record { config = config; id = id; ring = ring; secret = signer.secret; used = signer.used; entries = []; machine = run config.kind [] }) }
+        ensures { IfOk result (λ state. state ≡ new_state config id ring signer) }
     {
         let [pool_random, _] = randoms;
         Ok(State {
@@ -82,41 +81,41 @@ impl<A: Application> State<A> {
         })
     }
 
-    /// The number of the replica.
+    /// The number of this replica.
     pub fn id(&self) -> ReplicaId
         ensures id { result ≡ self.now.id }
         ensures member { self.now.id < self.now.config.replicas }
-        // The ring has its own key at its number.
+        // The ring has this replica's own key at its number.
         ensures own_key { slice_get self.now.ring self.now.id ≡ Some (key_of self.now.secret) }
     {
         self.core.id()
     }
 
-    /// The cluster that it is of.
+    /// The configuration of its cluster.
     pub fn config(&self) -> &Config
         ensures { result.now ≡ self.now.config }
     {
         self.core.config()
     }
 
-    /// How many entries the history has, at most 65,536.
+    /// The number of entries of the history, at most 65,536.
     pub fn len(&self) -> usize
         ensures len { result ≡ length self.now.entries }
-        ensures few { result ≤ 65536 }
+        ensures few { result ≤ max_history_len }
         // Each entry is lawful after those before it.
         ensures replay { Replay self.now.config self.now.ring self.now.id self.now.entries }
     {
         self.entries.len()
     }
 
-    /// Whether nothing happened yet.
+    /// Whether the history is empty.
     pub fn is_empty(&self) -> bool
         ensures { result ≡ (length self.now.entries == 0) }
     {
         self.entries.is_empty()
     }
 
-    /// The entry of an index.
+    /// The entry with this index, from 0 for the oldest; `None` if there are fewer.
     pub fn entry(&self, index: usize) -> Option<EntryView<'_>>
         ensures entry { result ≡ slice_get self.now.entries index }
         ensures replay { Replay self.now.config self.now.ring self.now.id self.now.entries }
@@ -127,7 +126,7 @@ impl<A: Application> State<A> {
         }
     }
 
-    /// A copy of the history, as whoever audits it takes it; the bytes of frames are shared. The only error is want of memory.
+    /// A copy of the history for an audit, which shares the bytes of frames. The only error is allocation failure.
     pub fn history(&self) -> Result<Snapshot, AllocError>
         ensures history { IfOk result (λ s. s.history ≡ record { replica = self.now.id; entries = self.now.entries }) }
         ensures config { IfOk result (λ s. s.config ≡ self.now.config) }
@@ -144,66 +143,66 @@ impl<A: Application> State<A> {
         })
     }
 
-    /// The round that is open: 0 before the first.
+    /// The number of the open round, 0 before the first.
     pub fn clock(&self) -> u32
         ensures { result ≡ clock_at self.now.entries }
     {
         self.core.clock()
     }
 
-    /// Whether it is mute: it signs nothing, ever again.
+    /// Whether the replica is mute: it will never sign a statement again.
     pub fn is_mute(&self) -> bool
         ensures mute { result ≡ is_mute self.now.entries }
-        // It is so only because too few leaves were left.
+        // It is mute only because too few leaves were left.
         ensures account { AccountsForLeaves self.now }
     {
         self.core.is_mute()
     }
 
-    /// How many more statements it can sign.
+    /// The number of statements that the replica can still sign.
     pub fn leaves_left(&self) -> u32
         ensures { self.now.used + result ≡ leaves_of self.now.secret }
     {
         self.core.leaves_left()
     }
 
-    /// The committed height.
-    #[tactic(auto, unfolding(crate::specs::Replicas::RunsAlone))]
+    /// The committed height: the number of blocks that the replica committed.
+    #[tactic(auto, unfolding(crate::specs::States::RunsAlone))]
     pub fn height(&self) -> u32
         ensures height { result ≡ length (commits_of self.now.config self.now.id self.now.entries) }
         ensures most { result ≤ max_height }
-        // The application is what it is run alone on the committed blocks.
+        // The application is in the state that it reaches when it runs alone on the committed blocks.
         ensures machine { RunsAlone self.now }
     {
         self.core.height()
     }
 
-    /// How many blocks the application committed, and the hash of its state (ABCI's Info).
+    /// The number of blocks that the application committed, and the hash of its state (ABCI's Info).
     pub fn info(&self) -> Info
         ensures { result ≡ info_reply self.now.config.kind (commits_of self.now.config self.now.id self.now.entries) }
     {
         self.core.info()
     }
 
-    /// The committed batch of a height: none at 0, and none above the committed height.
+    /// The committed batch of a height; `None` at height 0 and above the committed height.
     pub fn block(&self, height: Height) -> Option<&Batch>
         ensures { option_copied result ≡ block_at (commits_of self.now.config self.now.id self.now.entries) height }
     {
         self.core.block(height)
     }
 
-    /// The batch that was decided at a height, committed or not.
+    /// The batch that was decided at a height, committed or not; `None` if none was.
     pub fn decided_at(&self, height: Height) -> Option<&Batch>
         ensures { option_copied result ≡ decided_at self.now.config self.now.id self.now.entries height }
     {
         self.core.decided_at(height)
     }
 
-    /// Takes one event: the atomic step. Answers the index of the new entry, which holds the event and its reply.
+    /// Takes one event: the atomic step. Returns the index of the new entry, which contains the event and the reply to it.
     ///
-    /// `HistoryFull` comes exactly with 65,536 entries, and changes nothing. After `NoMemory` all is as before, but a round end
-    /// may have used leaves.
-    #[tactic(auto, unfolding(crate::specs::Replicas::RunsAlone))]
+    /// `HistoryFull` comes exactly if the history has 65,536 entries, and nothing changes. After `NoMemory` everything
+    /// is as before, except that a round end may have used leaves.
+    #[tactic(auto, unfolding(crate::specs::States::RunsAlone))]
     pub fn apply(&mut self, event: Event) -> Result<usize, ApplyFault>
         ensures index { IfOk result (λ index. index ≡ length self.old.entries) }
         ensures added { OnOk result ((reply : Reply)
@@ -211,29 +210,30 @@ impl<A: Application> State<A> {
             × Lawful self.old.config self.old.ring self.old.id self.old.entries event reply
             × IsTrue (is_signed_reply self.old.ring reply)
             × UsesLeaves (keys_in self.old) (clock_at self.old.entries) reply (keys_in self.new))) }
-        ensures full { IsErrOf result ApplyFault.HistoryFull ↔ (65536 ≤ length self.old.entries) }
+        ensures full { IsErrOf result ApplyFault.HistoryFull ↔ (max_history_len ≤ length self.old.entries) }
         ensures history_stays { OnErr result (self.new.entries ≡ self.old.entries) }
         ensures rest_stays { self.new ≡ record self.old { used = self.new.used; entries = self.new.entries; machine = self.new.machine } }
         ensures leaves { self.old.used ≤ self.new.used }
         ensures refused { IsErrOf result ApplyFault.HistoryFull → self.new ≡ self.old }
-        // A fault spends leaves at a round end alone.
-        ensures spared { OnErr result (event ≢ events.RoundEnd → self.new ≡ self.old) }
-        // And then no more of them than the round end had statements to sign.
+        // A fault spends leaves only where the event opens a round and the replica isn't mute then.
+        ensures spared { OnErr result (signs_at self.old event ≡ false → self.new ≡ self.old) }
+        // It uses at most as many of them as the round end had statements to sign.
         ensures within { OnErr result (self.new.used ≤ self.old.used + due_next self.old) }
-        // It is mute exactly where it was, or where the event opened a round for whose statements too few leaves were left.
+        // The replica is mute exactly if it was before, or if the event opened a round and fewer leaves were left than
+        // it had statements to sign.
         ensures mute { OnOk result (is_mute self.new.entries ≡ is_mute_after self.old event) }
         // Each statement of its own that the reply sends used one leaf, and nothing else did.
         ensures signed { OnOk result (UsesAsSigned self.old self.new) }
         ensures account { AccountsForLeaves self.new }
         ensures replay { Replay self.new.config self.new.ring self.new.id self.new.entries }
-        // The application is what it is run alone on the committed blocks.
+        // The application is in the state that it reaches when it runs alone on the committed blocks.
         ensures machine { RunsAlone self.new }
     {
         let index = self.entries.len();
         if index >= MAX_ENTRIES {
             return Err(ApplyFault::HistoryFull);
         }
-        // What is due by what is kept is due by the history: this is read for the proof.
+        // This call shows the proof that the statements which the core finds due are those which the history makes due.
         let _ = self.core.is_mute();
         let alloc = *self.entries.allocator();
         self.entries.reserve(1)?;
@@ -243,7 +243,7 @@ impl<A: Application> State<A> {
     }
 }
 
-/// Stores an entry behind those of a history, for which there is room.
+/// Appends an entry to the history, which has room for it.
 fn store(entries: &mut Vec<Entry>, event: Event, reply: Reply)
     requires { vec_len entries.old < vec_capacity entries.old }
     ensures { entries.new.items ≡ entries.old.items ++ record { event = event; reply = reply } ∷ [] }

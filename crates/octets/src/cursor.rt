@@ -1,4 +1,4 @@
-//! Numbers and bytes from the front of a slice.
+//! A cursor, which takes numbers and bytes from the front of a slice.
 ghost use Rattle.std.specs.Prelude.{◌≡◌, ◌<◌, ◌↔◌, ◌==◌, [], ◌∷◌, length, take, drop, IfOk, IsErr, OnOk, OnErr};
 ghost use Rattle.std.specs.Int.{w16, w32, from_be_bytes};
 
@@ -6,12 +6,12 @@ use byteorder::{BigEndian, ByteOrder};
 use std::marker::Model;
 use thiserror::Error;
 
-/// Fewer bytes are left than were asked for.
+/// Fewer bytes are left than the call needs.
 #[derive(Clone, Copy, Debug, PartialEq, Eq, Error)]
 #[error("too few bytes are left")]
 pub struct Short;
 
-/// A place in a slice of bytes. Contracts see the bytes from there on.
+/// A position in a slice of bytes. Contracts see the bytes from there on.
 #[derive(Debug, Drop)]
 pub struct Cursor<'a> {
     bytes: &'a [u8],
@@ -26,7 +26,7 @@ impl<'a> Model for Cursor<'a> {
 }
 
 impl<'a> Cursor<'a> {
-    /// Stands at the first byte.
+    /// A cursor at the first byte.
     pub fn new(bytes: &'a [u8]) -> Self
         ensures { result ≡ bytes.now }
     {
@@ -40,7 +40,7 @@ impl<'a> Cursor<'a> {
         self.bytes
     }
 
-    /// How many bytes are left.
+    /// The number of bytes that are left.
     pub fn len(&self) -> usize
         ensures { result ≡ length self.now }
     {
@@ -54,7 +54,7 @@ impl<'a> Cursor<'a> {
         self.rest().is_empty()
     }
 
-    /// Takes the next `count` bytes. Where fewer are left, stays where it was.
+    /// Takes the next `count` bytes. If fewer are left, the cursor doesn't move.
     pub fn take_bytes(&mut self, count: usize) -> Result<&'a [u8], Short>
         ensures ok { IfOk result (λ front. front.now ≡ take count self.old) }
         ensures rest { OnOk result (self.new ≡ drop count self.old) }
@@ -69,7 +69,7 @@ impl<'a> Cursor<'a> {
         Ok(front)
     }
 
-    /// Takes the next byte. Where none is left, stays where it was.
+    /// Takes the next byte. If none is left, the cursor doesn't move.
     pub fn take_u8(&mut self) -> Result<u8, Short>
         ensures ok { IfOk result (λ byte. self.old ≡ byte ∷ self.new) }
         ensures short { IsErr result ↔ (self.old ≡ []) }
@@ -84,7 +84,7 @@ impl<'a> Cursor<'a> {
         }
     }
 
-    /// Takes a number of two bytes. Where fewer are left, stays where it was.
+    /// Takes a number of two bytes. If fewer are left, the cursor doesn't move.
     pub fn take_u16(&mut self) -> Result<u16, Short>
         ensures ok { IfOk result (λ number. number ≡ from_be_bytes w16 (take 2 self.old)) }
         ensures rest { OnOk result (self.new ≡ drop 2 self.old) }
@@ -95,7 +95,7 @@ impl<'a> Cursor<'a> {
         Ok(BigEndian::read_u16(front))
     }
 
-    /// Takes a number of four bytes. Where fewer are left, stays where it was.
+    /// Takes a number of four bytes. If fewer are left, the cursor doesn't move.
     pub fn take_u32(&mut self) -> Result<u32, Short>
         ensures ok { IfOk result (λ number. number ≡ from_be_bytes w32 (take 4 self.old)) }
         ensures rest { OnOk result (self.new ≡ drop 4 self.old) }

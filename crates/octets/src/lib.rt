@@ -1,4 +1,4 @@
-//! Octets from the front of a slice, and at the end of a vector. Numbers are big-endian.
+//! Reads octets from the front of a slice, and appends octets to a vector. Numbers are big-endian.
 #![tactic(auto)]
 
 mod cursor;

@@ -1,11 +1,11 @@
-//! Numbers and bytes at the end of a vector.
+//! Appends numbers and bytes to a vector.
 ghost use Rattle.std.specs.Prelude.{◌≡◌, [], ◌∷◌, ◌++◌, OnOk, OnErr};
 ghost use Rattle.std.specs.Int.{w16, w32, to_be_bytes};
 
 use byteorder::{BigEndian, ByteOrder};
 use std::alloc::AllocError;
 
-/// Puts a byte at the end. An error changes nothing.
+/// Appends a byte. An error changes nothing.
 pub fn put_u8(out: &mut Vec<u8>, byte: u8) -> Result<(), AllocError>
     ensures ok { OnOk result (out.new.items ≡ out.old.items ++ byte ∷ []) }
     ensures err { OnErr result (out.new.items ≡ out.old.items) }
@@ -14,7 +14,7 @@ pub fn put_u8(out: &mut Vec<u8>, byte: u8) -> Result<(), AllocError>
     Ok(())
 }
 
-/// Puts bytes at the end. An error changes nothing.
+/// Appends bytes. An error changes nothing.
 pub fn put_bytes(out: &mut Vec<u8>, bytes: &[u8]) -> Result<(), AllocError>
     ensures ok { OnOk result (out.new.items ≡ out.old.items ++ bytes.now) }
     ensures err { OnErr result (out.new.items ≡ out.old.items) }
@@ -22,7 +22,7 @@ pub fn put_bytes(out: &mut Vec<u8>, bytes: &[u8]) -> Result<(), AllocError>
     out.extend_from_slice(bytes)
 }
 
-/// Puts a number of two bytes at the end. An error changes nothing.
+/// Appends a number of two bytes. An error changes nothing.
 pub fn put_u16(out: &mut Vec<u8>, number: u16) -> Result<(), AllocError>
     ensures ok { OnOk result (out.new.items ≡ out.old.items ++ to_be_bytes w16 number) }
     ensures err { OnErr result (out.new.items ≡ out.old.items) }
@@ -32,7 +32,7 @@ pub fn put_u16(out: &mut Vec<u8>, number: u16) -> Result<(), AllocError>
     out.extend_from_slice(&bytes)
 }
 
-/// Puts a number of four bytes at the end. An error changes nothing.
+/// Appends a number of four bytes. An error changes nothing.
 pub fn put_u32(out: &mut Vec<u8>, number: u32) -> Result<(), AllocError>
     ensures ok { OnOk result (out.new.items ≡ out.old.items ++ to_be_bytes w32 number) }
     ensures err { OnErr result (out.new.items ≡ out.old.items) }

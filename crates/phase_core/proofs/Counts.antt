@@ -1,20 +1,22 @@
--- Counting reports with and without their signatures, and what more of them find.
+-- Counting reports with and without their signatures, and what more reports find.
 use Rattle.std.proofs.Common.{◌≡◌, suc, ◌<◌, Bool, true, false, inl, inr, List, [], ◌∷◌, refl, ap, arith}
 use Rattle.std.proofs.lemmas.Bool.{cases_Bool}
 use Rattle.ledger_model.specs.declared.statement.Report.{Report}
 use Rattle.ledger_model.specs.declared.statement.SignedReport.{SignedReport}
 use Rattle.ledger_model.specs.Notes.{Has}
-use Rattle.ledger_model.specs.Tallies.{count_where}
-use Rattle.ledger_model.specs.Phases.{reports_of}
+use Rattle.tally.specs.Tallies.{count_where}
+use Rattle.tally.specs.Readings.{reports_of}
 
-pub count_signed : (test : Report → Bool) (signed : List SignedReport) → count_where (λ s. test s.report) signed ≡ count_where test (reports_of signed)
+pub count_signed : (test : Report → Bool) (signed : List SignedReport)
+    → count_where (λ s. test s.report) signed ≡ count_where test (reports_of signed)
 count_signed test [] = refl
 count_signed test (s ∷ signed) =
     let rest = count_signed test signed in
     elim (cases_Bool (test s.report)) [ inl e ↦ simp e (ap suc rest) | inr e ↦ simp e rest ]
 
 -- where more pass one test than another, some element passes the one alone
-pub passes_alone : {X : Type 0} (p q : X → Bool) (xs : List X) → count_where q xs < count_where p xs → (x : X) × (Has xs x × ((p x ≡ true) × (q x ≡ false)))
+pub passes_alone : {X : Type 0} (p q : X → Bool) (xs : List X) → count_where q xs < count_where p xs
+    → (x : X) × (Has xs x × ((p x ≡ true) × (q x ≡ false)))
 passes_alone p q [] h = absurd (omega arith)
 passes_alone p q (x ∷ xs) h =
     elim (cases_Bool (p x)) [

@@ -1,17 +1,18 @@
 -- The least value found one by one is the first of the ascending list.
-use Rattle.std.proofs.Common.{◌≡◌, ℕ, ◌+◌, ◌<◌, length, drop, get_or, Bool, true, false, inl, inr, List, [], ◌∷◌, ◌++◌, refl, sym, ap, subst, ◌∙◌}
+use Rattle.std.proofs.Common.{◌≡◌, ℕ, ◌+◌, ◌<◌, length, drop, get_or, Bool, true, false, inl, inr, List, [], ◌∷◌, ◌++◌, refl, sym, ap}
+use Rattle.std.proofs.Common.{subst, ◌∙◌}
 use Rattle.std.specs.Prelude.{filter, Option, Some, None, if◌then◌else◌}
 use Rattle.std.proofs.lemmas.List.{drop_more}
 use Rattle.std.proofs.lemmas.Bool.{false≢true, and_parts, and_from, cases_Bool}
 use Rattle.ledger_model.specs.Values.{Value, same_value, is_below, with_value, ascending}
 use Rattle.ledger_model.specs.Spelling.{are_ascending}
-use Rattle.ledger_model.specs.Phases.{first_value}
+use Rattle.phase_core.specs.Choices.{first_value}
 use Rattle.ledger_model.proofs.Lists.{same_value-refl, same_value-equal}
 use Rattle.ledger_model.proofs.Below.{below_trans, below_itself, below_other, below_or, ascending_ascends, tail_ascends}
 use Rattle.ledger_model.specs.declared.statement.SignedReport.{SignedReport}
-use Rattle.ledger_model.specs.Tallies.{all_read}
-use Rattle.ledger_model.specs.Phases.{reports_of}
-use Rattle.phase_core.specs.Least.{least_with, least_of, values_told}
+use Rattle.tally.specs.Tallies.{all_read}
+use Rattle.tally.specs.Readings.{reports_of}
+use Rattle.phase_core.specs.Least.{least_with, least_of, values_named}
 
 -- the lesser of two that may be there
 abbrev least_both : Option Value → Option Value → Option Value
@@ -19,7 +20,8 @@ least_both found None = found
 least_both found (Some v) = least_with found v
 
 -- the same step in both orders
-both_orders : (found : Option Value) (v : Value) (b : Option Value) → least_both (least_with found v) b ≡ least_both found (least_both (Some v) b)
+both_orders : (found : Option Value) (v : Value) (b : Option Value)
+    → least_both (least_with found v) b ≡ least_both found (least_both (Some v) b)
 both_orders None v None = refl
 both_orders None v (Some u) = elim (cases_Bool (is_below u v)) [ inl e ↦ simp e refl | inr e ↦ simp e refl ]
 both_orders (Some w) v None = refl
@@ -47,13 +49,16 @@ both_orders (Some w) v (Some u) =
         ]
 
 -- the first that passes of a list that w stands below is above w
-above : (test : Value → Bool) (w : Value) (ws : List Value) (u : Value) → are_ascending (w ∷ ws) ≡ true → first_value (filter test ws) ≡ Some u → is_below w u ≡ true
+above : (test : Value → Bool) (w : Value) (ws : List Value) (u : Value) → are_ascending (w ∷ ws) ≡ true
+    → first_value (filter test ws) ≡ Some u → is_below w u ≡ true
 above test w [] u h e = cc
 above test w (x ∷ xs) u h e =
     let parts = and_parts (is_below w x) (are_ascending (x ∷ xs)) h in
     elim (cases_Bool (test x)) [
-      | inl passes ↦ (let g : Some x ≡ Some u = simp passes at e in let same : x ≡ u = cc in subst (λ y. is_below w y ≡ true) same (parts.0))
-      | inr fails ↦ (let g : first_value (filter test xs) ≡ Some u = simp fails at e in below_trans w x u (parts.0) (above test x xs u (parts.1) g))
+      | inl passes ↦ (let g : Some x ≡ Some u = simp passes at e in let same : x ≡ u =
+          cc in subst (λ y. is_below w y ≡ true) same (parts.0))
+      | inr fails ↦ (let g : first_value (filter test xs) ≡ Some u =
+          simp fails at e in below_trans w x u (parts.0) (above test x xs u (parts.1) g))
     ]
 
 -- the lesser of v and what stands behind v is v
@@ -75,16 +80,20 @@ in_place test v ws =
     let itself = below_itself v in
     elim (cases_Bool (test v)) [ inl e ↦ simp (same, e, itself) refl | inr e ↦ simp (same, e) refl ]
 
-in_front : (test : Value → Bool) (v w : Value) (ws : List Value) → same_value v w ≡ false → is_below v w ≡ true → are_ascending (w ∷ ws) ≡ true
+in_front : (test : Value → Bool) (v w : Value) (ws : List Value) → same_value v w ≡ false → is_below v w ≡ true
+    → are_ascending (w ∷ ws) ≡ true
     → first_passing test (with_value v (w ∷ ws)) ≡ first_with_too test v (w ∷ ws)
 in_front test v w ws other below h =
     elim (cases_Bool (test v)) [
-      | inl e ↦ simp (other, below, e) (first_stays v (first_passing test (w ∷ ws)) (λ u g. above test v (w ∷ ws) u (and_from (is_below v w) (are_ascending (w ∷ ws)) below h) g))
+      | inl e ↦ simp (other, below, e)
+          (first_stays v (first_passing test (w ∷ ws))
+          (λ u g. above test v (w ∷ ws) u (and_from (is_below v w) (are_ascending (w ∷ ws)) below h) g))
       | inr e ↦ simp (other, below, e) refl
     ]
 
 behind : (test : Value → Bool) (v w : Value) (ws : List Value) → same_value v w ≡ false → is_below v w ≡ false
-    → first_passing test (with_value v ws) ≡ first_with_too test v ws → first_passing test (with_value v (w ∷ ws)) ≡ first_with_too test v (w ∷ ws)
+    → first_passing test (with_value v ws) ≡ first_with_too test v ws
+    → first_passing test (with_value v (w ∷ ws)) ≡ first_with_too test v (w ∷ ws)
 behind test v w ws other later rest =
     let back = below_or v w other later in
     elim (cases_Bool (test w)) [
@@ -93,11 +102,13 @@ behind test v w ws other later rest =
     ]
 
 -- the first that passes of an ascending list, once v is in it
-first_with : (test : Value → Bool) (v : Value) (ws : List Value) → are_ascending ws ≡ true → first_passing test (with_value v ws) ≡ first_with_too test v ws
+first_with : (test : Value → Bool) (v : Value) (ws : List Value) → are_ascending ws ≡ true
+    → first_passing test (with_value v ws) ≡ first_with_too test v ws
 first_with test v [] h = elim (cases_Bool (test v)) [ inl e ↦ simp e refl | inr e ↦ simp e refl ]
 first_with test v (w ∷ ws) h =
     elim (cases_Bool (same_value v w)) [
-      | inl same ↦ subst (λ x. first_passing test (with_value v (x ∷ ws)) ≡ first_with_too test v (x ∷ ws)) (same_value-equal v w same) (in_place test v ws)
+      | inl same ↦ subst (λ x. first_passing test (with_value v (x ∷ ws)) ≡ first_with_too test v (x ∷ ws)) (same_value-equal v w same)
+          (in_place test v ws)
       | inr other ↦ elim (cases_Bool (is_below v w)) [
         | inl below ↦ in_front test v w ws other below h
         | inr later ↦ behind test v w ws other later (first_with test v ws (tail_ascends w ws h))
@@ -105,19 +116,23 @@ first_with test v (w ∷ ws) h =
     ]
 
 -- the least found one by one is the first that passes of the ascending list
-pub least_is_first : (test : Value → Bool) (found : Option Value) (vs : List Value) → least_of test found vs ≡ least_both found (first_passing test (ascending vs))
+pub least_is_first : (test : Value → Bool) (found : Option Value) (vs : List Value)
+    → least_of test found vs ≡ least_both found (first_passing test (ascending vs))
 least_is_first test found [] = refl
 least_is_first test found (v ∷ vs) =
     let first = first_with test v (ascending vs) (ascending_ascends vs) in
     elim (cases_Bool (test v)) [
-      | inl e ↦ (let g : first_passing test (with_value v (ascending vs)) ≡ least_both (Some v) (first_passing test (ascending vs)) = simp e at first in
-          simp e (least_is_first test (least_with found v) vs ∙ both_orders found v (first_passing test (ascending vs)) ∙ ap (least_both found) (sym g)))
+      | inl e ↦ (let g : first_passing test (with_value v (ascending vs)) ≡ least_both (Some v) (first_passing test (ascending vs)) =
+          simp e at first in
+          simp e (least_is_first test (least_with found v) vs ∙ both_orders found v (first_passing test (ascending vs))
+          ∙ ap (least_both found) (sym g)))
       | inr e ↦ (let g : first_passing test (with_value v (ascending vs)) ≡ first_passing test (ascending vs) = simp e at first in
           simp e (least_is_first test found vs ∙ ap (least_both found) (sym g)))
     ]
 
 -- as many lists as one
-pub least_of-append : (test : Value → Bool) (found : Option Value) (vs ws : List Value) → least_of test found (vs ++ ws) ≡ least_of test (least_of test found vs) ws
+pub least_of-append : (test : Value → Bool) (found : Option Value) (vs ws : List Value)
+    → least_of test found (vs ++ ws) ≡ least_of test (least_of test found vs) ws
 least_of-append test found [] ws = refl
 least_of-append test found (v ∷ vs) ws = least_of-append test (if test v then least_with found v else found) vs ws
 
@@ -132,14 +147,18 @@ least_from_none test vs = least_is_first test None vs ∙ none_both (first_passi
 -- ---- reports one by one
 
 -- what is found by the report at a place, and then by those behind it
-pub told_more : (test : Value → Bool) (found : Option Value) (places : List (Option SignedReport)) (i : ℕ) (signed : SignedReport) → i < length places → Some signed ≡ get_or places i (Some signed)
-    → least_of test found (values_told (reports_of (all_read (drop i places))))
-    ≡ least_of test (least_of test (least_of test found signed.report.proper) signed.report.locked) (values_told (reports_of (all_read (drop (i + 1) places))))
+pub told_more : (test : Value → Bool) (found : Option Value) (places : List (Option SignedReport)) (i : ℕ) (signed : SignedReport)
+    → i < length places → Some signed ≡ get_or places i (Some signed)
+    → least_of test found (values_named (reports_of (all_read (drop i places))))
+    ≡ least_of test (least_of test (least_of test found signed.report.proper) signed.report.locked)
+    (values_named (reports_of (all_read (drop (i + 1) places))))
 told_more test found places i signed lt is =
-    let rest = values_told (reports_of (all_read (drop (i + 1) places))) in
-    ap (λ ps. least_of test found (values_told (reports_of (all_read ps)))) (drop_more places i (Some signed) lt ∙ ap (λ p. p ∷ drop (i + 1) places) (sym is))
+    let rest = values_named (reports_of (all_read (drop (i + 1) places))) in
+    ap (λ ps. least_of test found (values_named (reports_of (all_read ps))))
+    (drop_more places i (Some signed) lt ∙ ap (λ p. p ∷ drop (i + 1) places) (sym is))
     ∙ least_of-append test found (signed.report.proper ++ signed.report.locked) rest
     ∙ ap (λ o. least_of test o rest) (least_of-append test found signed.report.proper signed.report.locked)
 
-pub told_none : (places : List (Option SignedReport)) (i : ℕ) → i < length places → None ≡ get_or places i None → all_read (drop i places) ≡ all_read (drop (i + 1) places)
+pub told_none : (places : List (Option SignedReport)) (i : ℕ) → i < length places → None ≡ get_or places i None
+    → all_read (drop i places) ≡ all_read (drop (i + 1) places)
 told_none places i lt is = ap all_read (drop_more places i None lt ∙ ap (λ p. p ∷ drop (i + 1) places) (sym is))

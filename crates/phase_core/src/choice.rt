@@ -1,16 +1,17 @@
-//! The value that the owner of a phase locks.
+//! How the owner of a phase chooses the value that it locks.
 ghost use Rattle.std.specs.Prelude.{◌≡◌, true, false, Some, None, ◌++◌, option_copied, IfOk, IfSome, IfNone};
 ghost use Rattle.std.specs.List.{flat_map};
 ghost use Rattle.ledger_model.specs.Values.{Value};
-ghost use Rattle.ledger_model.specs.Tallies.{all_read};
-ghost use Rattle.ledger_model.specs.Phases.{reports_of, is_found_by, chosen};
-ghost use Rattle.phase_core.specs.Least.{least_with, least_of, values_told};
+ghost use Rattle.tally.specs.Tallies.{all_read};
+ghost use Rattle.tally.specs.Readings.{reports_of};
+ghost use Rattle.phase_core.specs.Choices.{is_found_by, chosen};
+ghost use Rattle.phase_core.specs.Least.{least_with, least_of, values_named};
 
 use ledger_model::{Batch, Config, SignedReport};
 use std::alloc::AllocError;
 use tally::Tally;
 
-/// Whether enough reports find the value for a lock on it.
+/// Whether a quorum's reports find the value, as a lock on it needs.
 fn is_found(config: &Config, reports: &Tally<SignedReport>, value: &Batch) -> bool
     ensures { result ≡ is_found_by config.now (reports_of (all_read reports.now)) value.now }
 {
@@ -18,7 +19,7 @@ fn is_found(config: &Config, reports: &Tally<SignedReport>, value: &Batch) -> bo
     count >= usize::from(config.quorum())
 }
 
-/// The lesser of the two.
+/// The lesser of the two values.
 fn lesser<'a>(least: Option<&'a Batch>, value: &'a Batch) -> &'a Batch
     ensures { Some result.now ≡ least_with (option_copied least.entry) value.now }
 {
@@ -28,7 +29,7 @@ fn lesser<'a>(least: Option<&'a Batch>, value: &'a Batch) -> &'a Batch
     }
 }
 
-/// The least value that enough reports find, of the one found before and the listed ones.
+/// The least value that a quorum's reports find, among the one found before and the listed ones.
 fn least_listed<'a>(
     config: &Config,
     reports: &Tally<SignedReport>,
@@ -46,10 +47,10 @@ fn least_listed<'a>(
     least
 }
 
-/// The least value that enough reports find, of those that reports name or hold locks on.
-fn least_told<'a>(config: &Config, reports: &'a Tally<SignedReport>) -> Option<&'a Batch>
+/// The least value that a quorum's reports find, among the values that reports list as proper or as locked.
+fn least_named<'a>(config: &Config, reports: &'a Tally<SignedReport>) -> Option<&'a Batch>
     ensures { option_copied result ≡ least_of (is_found_by config.now (reports_of (all_read reports.now))) None
-        (values_told (reports_of (all_read reports.now))) }
+        (values_named (reports_of (all_read reports.now))) }
 {
     let mut least = None;
     for place in reports.places() {
@@ -61,25 +62,24 @@ fn least_told<'a>(config: &Config, reports: &'a Tally<SignedReport>) -> Option<&
     least
 }
 
-/// The value that the owner of a phase locks by the reports that it read in it, one of each replica: its own initial value if
-/// enough of them find it, else the least that enough find, in the byte order of encodings. It takes no memory.
-///
-/// Enough are N-t (a quorum).
+/// The value that the owner of a phase locks, given the reports of that phase that it read, one of each replica. This
+/// is its own initial value if a quorum (N-t reports) finds it, and otherwise the least value that a quorum finds, in
+/// the byte order of encodings. Allocates nothing.
 pub fn chosen_value<'a>(
     config: &Config,
     reports: &'a Tally<SignedReport>,
     own: &'a Batch,
 ) -> Option<&'a Batch>
     ensures chosen { option_copied result ≡ chosen config.now (reports_of (all_read reports.now)) own.now }
-    // What is chosen is found by enough.
+    // A quorum's reports find the value.
     ensures found { IfSome (option_copied result) (λ v. is_found_by config.now (reports_of (all_read reports.now)) v ≡ true) }
-    // Nothing is chosen only where no value at all is found by enough.
+    // If no value is chosen, no quorum's reports find any value.
     ensures none { IfNone (option_copied result) ((v : Value) → is_found_by config.now (reports_of (all_read reports.now)) v ≡ false) }
 {
     if is_found(config, reports, own) {
         return Some(own);
     }
-    least_told(config, reports)
+    least_named(config, reports)
 }
 
 /// A copy of the value that the owner of a phase locks ([`chosen_value`]).
@@ -89,9 +89,9 @@ pub fn choose(
     own: &Batch,
 ) -> Result<Option<Batch>, AllocError>
     ensures chosen { IfOk result (λ value. value ≡ chosen config.now (reports_of (all_read reports.now)) own.now) }
-    // What is chosen is found by enough.
+    // A quorum's reports find the value.
     ensures found { IfOk result (λ value. IfSome value (λ v. is_found_by config.now (reports_of (all_read reports.now)) v ≡ true)) }
-    // Nothing is chosen only where no value at all is found by enough.
+    // If no value is chosen, no quorum's reports find any value.
     ensures none { IfOk result (λ value. IfNone value ((v : Value) → is_found_by config.now (reports_of (all_read reports.now)) v ≡ false)) }
 {
     match chosen_value(config, reports, own) {

@@ -1,22 +1,23 @@
 //! Whether the acknowledgements of a lock decide its value.
 ghost use Rattle.std.specs.Prelude.{◌≡◌};
-ghost use Rattle.ledger_model.specs.Tallies.{all_read};
+ghost use Rattle.tally.specs.Tallies.{all_read};
 ghost use Rattle.ledger_model.specs.declared.statement.Lock.{Lock};
-ghost use Rattle.ledger_model.specs.Phases.{is_decided_by};
+ghost use Rattle.phase_core.specs.Choices.{is_decided_by};
 
 use ledger_model::{Ack, Batch, Config, Lock, Phase};
 use tally::Tally;
 
-/// Whether at least 2t+1 replicas acknowledged a lock of this phase on this value. It takes no memory.
+/// Whether at least 2t+1 replicas acknowledged a lock of this phase on this value. Allocates nothing.
 pub fn is_acknowledged(config: &Config, acks: &Tally<Ack>, phase: Phase, value: &Batch) -> bool
-    // Every such lock is decided by the acknowledgements, or none is.
+    // The acknowledgements decide every such lock, or none.
     ensures { (lock : Lock) → lock.phase ≡ phase → lock.value ≡ value.now → result ≡ is_decided_by config.now (all_read acks.now) lock }
 {
     let count = acks.count_where(|ack| ack.phase == phase && *value == ack.value);
     count >= usize::from(config.deciding())
 }
 
-/// Whether the owner of a lock decides its value: at least 2t+1 replicas acknowledged it, by the lock's phase and value. It takes no memory.
+/// Whether the owner of a lock decides its value: whether at least 2t+1 replicas acknowledged a lock of that phase and
+/// value. Allocates nothing.
 pub fn decides(config: &Config, acks: &Tally<Ack>, lock: &Lock) -> bool
     ensures { result ≡ is_decided_by config.now (all_read acks.now) lock.now }
 {

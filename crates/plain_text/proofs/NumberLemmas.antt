@@ -1,12 +1,14 @@
--- Numbers as they are written.
-use Rattle.std.proofs.Common.{◌≡◌, ◌∙◌, ℕ, ◌<◌, ◌≤◌, ◌^◌, zero, suc, true, false, List, [], ◌∷◌, length, get_or, IsTrue, refl, sym, ap, subst, eq-eqb, rules, arith}
+-- Numbers in their printed form.
+use Rattle.std.proofs.Common.{◌≡◌, ◌∙◌, ℕ, ◌<◌, ◌≤◌, ◌^◌, zero, suc, true, false, List, [], ◌∷◌, length, get_or, IsTrue, refl, sym, ap}
+use Rattle.std.proofs.Common.{subst, eq-eqb, rules, arith}
 use Rattle.std.specs.Prelude.{Result, Ok, Err, Option, Some, None, IfSome, IfNone, not, ◌==◌}
 use Rattle.std.specs.Result.{result_ok}
 use Rattle.std.specs.List.{list_all}
 use Rattle.std.specs.Str.Parse.{ParsesUnsigned, digits_value}
 use Rattle.std.specs.Fmt.{decimal}
 use Rattle.std.proofs.lemmas.Bool.{and_parts, ne_eqb}
-use Rattle.std.proofs.lemmas.Fmt.{decimal-digits_value, decimal_digit, first_decimal, digits_decimal, decimal_nonempty, digits_value-decimal, decimal_injective}
+use Rattle.std.proofs.lemmas.Fmt.{decimal-digits_value, decimal_digit, first_decimal, digits_decimal, decimal_nonempty}
+use Rattle.std.proofs.lemmas.Fmt.{digits_value-decimal, decimal_injective}
 use Rattle.std.proofs.lemmas.Str.Parse.{IsDigitsTest, IsNumeralModel, numerals_by_value, parse_digits}
 use Rattle.plain_text.specs.Numbers.{is_digit, is_decimal, has_needless_zero, number_text}
 
@@ -18,7 +20,8 @@ some_length zero h = absurd cc
 some_length (suc n) h = omega (arith)
 
 -- a decimal text that is no number of 32 bits is too large for one
-pub too_large : {E : Type 0} (t : List ℕ) (r : Result ℕ E) → ParsesUnsigned 32 10 t r → IfNone (result_ok r) (IsTrue (is_decimal t) → 4294967296 ≤ digits_value 10 t)
+pub too_large : {E : Type 0} (t : List ℕ) (r : Result ℕ E) → ParsesUnsigned 32 10 t r
+    → IfNone (result_ok r) (IsTrue (is_decimal t) → 4294967296 ≤ digits_value 10 t)
 too_large t (Ok n) h = tt
 too_large t (Err e) h = λ yes.
     let parts = and_parts (not (length t == 0)) (list_all is_digit t) yes in
@@ -36,7 +39,8 @@ alone (b ∷ []) bare is_zero some = refl
 alone (b ∷ c ∷ t) bare is_zero some = let bad : true ≡ false = sym (eq-eqb b 48 is_zero) ∙ bare in absurd cc
 
 -- decimal digits without needless zeros are the text of their value
-pub number_text_of : (t : List ℕ) (n : ℕ) → has_needless_zero t ≡ false → IsTrue (is_decimal t) → digits_value 10 t ≡ n → n < 2 ^ 32 → t ≡ number_text n
+pub number_text_of : (t : List ℕ) (n : ℕ) → has_needless_zero t ≡ false → IsTrue (is_decimal t) → digits_value 10 t ≡ n → n < 2 ^ 32
+    → t ≡ number_text n
 unfolding number_text
 number_text_of t n bare is value small =
     let parts = and_parts (not (length t == 0)) (list_all is_digit t) is in
@@ -53,7 +57,8 @@ number_text-bare n small = by_case n small (decimal n) refl
     by_case : (n : ℕ) → n < 2 ^ 32 → (t : List ℕ) → decimal n ≡ t → has_needless_zero t ≡ false
     by_case n small [] e = refl
     by_case n small (b ∷ []) e = refl
-    by_case zero small (b ∷ c ∷ t) e = let bad : decimal 0 ≡ b ∷ c ∷ t = e in let one : decimal 0 ≡ 48 ∷ [] = decimal_digit 0 (omega arith) in absurd cc
+    by_case zero small (b ∷ c ∷ t) e = let bad : decimal 0 ≡ b ∷ c ∷ t = e in let one : decimal 0 ≡ 48 ∷ [] =
+        decimal_digit 0 (omega arith) in absurd cc
     by_case (suc n) small (b ∷ c ∷ t) e =
         let high : 48 < get_or (decimal (suc n)) 0 0 = first_decimal (suc n) (omega arith) (omega arith) in
         let first : 48 < b = subst (λ (r : List ℕ). 48 < get_or r 0 0) e high in
@@ -79,7 +84,8 @@ number_text-injective m n fits small e = decimal_injective m n (omega arith) (om
 
 -- the decimal digits of a number below 2^32 were read
 pub read_number : (t : List ℕ) (n : ℕ) (r : Option ℕ) → n < 2 ^ 32 → t ≡ number_text n
-    → IfSome r (λ m. IsTrue (is_decimal t) × (digits_value 10 t ≡ m)) → IfNone r (IsTrue (is_decimal t) → 2 ^ 32 ≤ digits_value 10 t) → r ≡ Some n
+    → IfSome r (λ m. IsTrue (is_decimal t) × (digits_value 10 t ≡ m)) → IfNone r (IsTrue (is_decimal t) → 2 ^ 32 ≤ digits_value 10 t)
+    → r ≡ Some n
 read_number t n (Some m) small e value none =
     let is : digits_value 10 t ≡ n = ap (digits_value 10) e ∙ digits_value-number_text n small in
     let same : m ≡ n = sym value.1 ∙ is in

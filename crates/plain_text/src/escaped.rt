@@ -1,11 +1,11 @@
-//! Bytes printed as they are written.
+//! Prints bytes as transactions are written.
 ghost use Rattle.std.specs.Prelude.{Some};
 ghost use Rattle.plain_text.specs.Transactions.{byte_text, bytes_text};
 
 use crate::transactions::is_plain;
 use std::fmt;
 
-/// A byte as it is written.
+/// A byte in its printed form.
 #[derive(Clone, Copy)]
 struct EscapedByte(u8);
 
@@ -24,8 +24,8 @@ impl fmt::Display for EscapedByte {
     }
 }
 
-/// Bytes that show as transactions are written: each as itself, or as a backslash with two lower-case hexadecimal
-/// digits. [`written`](crate::written) reads what it shows.
+/// Bytes in the printed form of transactions: each byte as itself, or as a backslash with two lower-case hexadecimal
+/// digits. [`written`](crate::written) reads this form.
 #[derive(Clone, Copy, Debug)]
 pub struct Escaped<'a>(pub &'a [u8]);
 

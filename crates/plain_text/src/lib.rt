@@ -1,4 +1,4 @@
-//! Numbers and transactions as words spell them, on a command line or in a text.
+//! Numbers and transactions as words, on a command line or in a text.
 #![tactic(auto)]
 
 mod escaped;

@@ -23,7 +23,7 @@ fn is_decimal(text: &str) -> bool
     !bytes.is_empty() && are_digits(bytes)
 }
 
-/// The decimal number that the text is, if it is one below 2^32. Zeros in front are taken; a sign is not.
+/// The decimal number that the text is, if it is below 2^32. Leading zeros are allowed, a sign is not.
 pub fn decimal(text: &str) -> Option<u32>
     ensures value { IfSome result (λ n. IsTrue (is_decimal text.now) × (digits_value 10 text.now ≡ n)) }
     ensures none { IfNone result (IsTrue (is_decimal text.now) → 2 ^ 32 ≤ digits_value 10 text.now) }
@@ -34,14 +34,14 @@ pub fn decimal(text: &str) -> Option<u32>
     text.parse::<u32>().ok()
 }
 
-/// Whether more digits follow a zero at the head.
+/// Whether the word has a leading zero that is not its only digit.
 fn has_needless_zero(word: &[u8]) -> bool
     ensures { result ≡ has_needless_zero word.now }
 {
     matches!(word, [b'0', _, ..])
 }
 
-/// The number below 2^32 whose decimal digits the word is, without needless zeros: as a `u32` is printed.
+/// The number below 2^32 that the word is, in decimal digits without needless leading zeros: as a `u32` is printed.
 pub fn number(word: &str) -> Option<u32>
     ensures value { IfSome result (λ n. word.now ≡ number_text n) }
     ensures found { (n : ℕ) → n < 2 ^ 32 → word.now ≡ number_text n → result ≡ Some n }

@@ -1,4 +1,4 @@
-//! Why a text spells no transaction.
+//! Why a text encodes no transaction.
 ghost use Rattle.std.specs.Prelude.{◌≡◌};
 ghost use Rattle.plain_text.specs.declared.spelling_fault.SpellingFault.TheVariants.{NoMemory};
 
@@ -6,14 +6,14 @@ use std::alloc::{AllocError, AllocFailed};
 use std::error::Error;
 use std::fmt;
 
-/// Why a text spells no transaction; of several faults the first.
+/// Why a text encodes no transaction; if there are several faults, the first.
 #[derive(Clone, Copy, Debug, PartialEq, Eq)]
 pub enum SpellingFault {
-    /// This byte stands bare, and has to be escaped.
+    /// This byte is not escaped, but must be.
     Bare(u8),
-    /// This byte is escaped, and stands for itself.
+    /// This byte is escaped, but must not be.
     NeedlessEscape(u8),
-    /// A backslash without two lower-case hexadecimal digits behind it.
+    /// A backslash is not followed by two lower-case hexadecimal digits.
     BadEscape,
     /// Memory ran out.
     NoMemory,

@@ -1,4 +1,4 @@
-//! Transactions as they are written: byte by byte, bare or escaped, and each in one way only.
+//! Transactions in their printed form: byte by byte, plain or escaped, and each byte in only one way.
 ghost use Rattle.std.specs.Prelude.{◌≡◌, ◌⊎◌, ℕ, List, ◌<◌, IfSome, IfOk, IfErr, option_map};
 ghost use Rattle.plain_text.specs.Transactions.{is_plain, nibble, first_byte, fault_at, Misspells, StandsFor};
 ghost use Rattle.plain_text.specs.declared.spelling_fault.SpellingFault.TheVariants.{NoMemory};
@@ -25,7 +25,7 @@ fn nibble(byte: u8) -> Option<u8>
     }
 }
 
-/// The byte that the text begins with, plain or as a backslash with two digits, and the text after it.
+/// The byte at the start of the text, plain or as a backslash with two digits, and the text after it.
 fn first_byte(text: &[u8]) -> Option<(u8, &[u8])>
     ensures { option_map (λ x. (x.0, x.1.now)) result ≡ first_byte text.now }
 {
@@ -45,7 +45,7 @@ fn first_byte(text: &[u8]) -> Option<(u8, &[u8])>
     }
 }
 
-/// What is wrong at the beginning of a text that begins with no byte.
+/// What is wrong at the start of a text that starts with no byte.
 fn fault_at(text: &[u8]) -> SpellingFault
     ensures { result ≡ fault_at text.now }
 {
@@ -59,7 +59,7 @@ fn fault_at(text: &[u8]) -> SpellingFault
     }
 }
 
-/// The bytes that the text stands for, if it is written as a transaction is.
+/// The bytes that the text encodes, if it is in the printed form of transactions.
 pub fn written(alloc: Global, text: &str) -> Result<Vec<u8>, SpellingFault>
     ensures some { IfOk result (λ bytes. StandsFor text.now bytes.items) }
     ensures told { IfErr result (λ fault. (fault ≡ NoMemory) ⊎ Misspells text.now fault) }

@@ -10,16 +10,16 @@ use Rattle.ledger_model.specs.declared.reply.Reply.TheVariants as reply
 use Rattle.ledger_model.specs.declared.history.Entry.{Entry}
 use Rattle.ledger_model.specs.Lawful.{Lawful, Replay, clock_at, is_signed_reply}
 use Rattle.replica_core.specs.Steps.{UsesLeaves}
-use Rattle.locked_replica.specs.Replicas.{Replica, AccountsForLeaves, UsesAsSigned, keys_in}
+use Rattle.locked_replica.specs.States.{StateView, AccountsForLeaves, UsesAsSigned, keys_in}
 use Rattle.program.specs.Lines.{lines_of, reply_text}
 use Rattle.program.specs.Answering.{Answers, AnswersSome, Refuses}
 
 -- the replica is the same but for what events change
-abbrev pub IsSame : Replica → Replica → Type 0
+abbrev pub IsSame : StateView → StateView → Type 0
 IsSame old new = new ≡ record old { used = new.used; entries = new.entries; machine = new.machine }
 
 -- no event
-pub answers_none : (a : Replica) → Answers a [] [] a
+pub answers_none : (a : StateView) → Answers a [] [] a
 answers_none a = record {
   added = [];
   grown = record { entries = sym (append-nil a.entries); same = refl; replay = λ x. x; signed = refl; account = λ x. x };
@@ -28,12 +28,17 @@ answers_none a = record {
 }
 
 -- an event that is not taken
-pub refuses : (old new : Replica) → new.entries ≡ old.entries → IsSame old new → Refuses old new
-refuses old new stays same = record { same = same ∙ ap (λ (es : List Entry). record old { used = new.used; entries = es; machine = new.machine }) stays }
+pub refuses : (old new : StateView) → new.entries ≡ old.entries → IsSame old new → Refuses old new
+refuses old new stays same = record {
+  same =
+      same ∙ ap (λ (es : List Entry). record old { used = new.used; entries = es; machine = new.machine }) stays;
+}
 
 -- one event
-pub answers_one : (old new : Replica) (e : Event) (r : Reply) (text : List ℕ) → new.entries ≡ old.entries ++ record { event = e; reply = r } ∷ []
-    → IsSame old new → Replay new.config new.ring new.id new.entries → UsesAsSigned old new → AccountsForLeaves new → reply_text r ≡ text → Answers old (e ∷ []) text new
+pub answers_one : (old new : StateView) (e : Event) (r : Reply) (text : List ℕ)
+    → new.entries ≡ old.entries ++ record { event = e; reply = r } ∷ []
+    → IsSame old new → Replay new.config new.ring new.id new.entries → UsesAsSigned old new → AccountsForLeaves new → reply_text r ≡ text
+    → Answers old (e ∷ []) text new
 answers_one old new e r text grown same replay signed account line = record {
   added = record { event = e; reply = r } ∷ [];
   grown = record { entries = grown; same = same; replay = λ _. replay; signed = signed; account = λ _. account };
@@ -42,30 +47,34 @@ answers_one old new e r text grown same replay signed account line = record {
 }
 
 -- events, and then others
-pub answers_both : (a b c : Replica) (xs ys : List Event) (s t : List ℕ) → Answers a xs s b → Answers b ys t c → Answers a (xs ++ ys) (s ++ t) c
+pub answers_both : (a b c : StateView) (xs ys : List Event) (s t : List ℕ) → Answers a xs s b → Answers b ys t c
+    → Answers a (xs ++ ys) (s ++ t) c
 answers_both a b c xs ys s t first second = record {
   added = first.added ++ second.added;
   grown = record {
     entries = second.grown.entries ∙ ap (λ l. l ++ second.added) first.grown.entries ∙ append_assoc a.entries first.added second.added;
-    same = second.grown.same ∙ ap (λ (r : Replica). record r { used = c.used; entries = c.entries; machine = c.machine }) first.grown.same;
+    same = second.grown.same ∙ ap (λ (r : StateView). record r { used = c.used; entries = c.entries; machine = c.machine })
+        first.grown.same;
     replay = λ x. second.grown.replay (first.grown.replay x);
     signed = (let one = first.grown.signed in let two = second.grown.signed in omega (arith, one, two));
     account = λ x. second.grown.account (first.grown.account x);
   };
-  these = map-append _ first.added second.added ∙ ap (λ l. l ++ map (λ (e : Entry). e.event) second.added) first.these ∙ ap (λ l. xs ++ l) second.these;
+  these = map-append _ first.added second.added ∙ ap (λ l. l ++ map (λ (e : Entry). e.event) second.added) first.these
+      ∙ ap (λ l. xs ++ l) second.these;
   lines = flat_map-append _ first.added second.added ∙ ap (λ l. l ++ lines_of second.added) first.lines ∙ ap (λ l. s ++ l) second.lines;
 }
 
 -- all of the events are the first of them
-pub some_all : (a b : Replica) (xs : List Event) (s : List ℕ) → Answers a xs s b → AnswersSome a xs s b
+pub some_all : (a b : StateView) (xs : List Event) (s : List ℕ) → Answers a xs s b → AnswersSome a xs s b
 some_all a b xs s all = record { taken = xs; later = []; split = append-nil xs; last = b; answers = all; refused = record { same = refl } }
 
 -- none is, of any events
-pub some_none : (a b : Replica) (xs : List Event) → Refuses a b → AnswersSome a xs [] b
+pub some_none : (a b : StateView) (xs : List Event) → Refuses a b → AnswersSome a xs [] b
 some_none a b xs none = record { taken = []; later = xs; split = refl; last = a; answers = answers_none a; refused = none }
 
 -- events, and then the first of others
-pub some_after : (a b c : Replica) (xs ys : List Event) (s t : List ℕ) → Answers a xs s b → AnswersSome b ys t c → AnswersSome a (xs ++ ys) (s ++ t) c
+pub some_after : (a b c : StateView) (xs ys : List Event) (s t : List ℕ) → Answers a xs s b → AnswersSome b ys t c
+    → AnswersSome a (xs ++ ys) (s ++ t) c
 some_after a b c xs ys s t first second = record {
   taken = xs ++ second.taken;
   later = second.later;
@@ -76,7 +85,7 @@ some_after a b c xs ys s t first second = record {
 }
 
 -- the first of some events are the first of more
-pub some_longer : (a b : Replica) (xs ys : List Event) (s : List ℕ) → AnswersSome a xs s b → AnswersSome a (xs ++ ys) s b
+pub some_longer : (a b : StateView) (xs ys : List Event) (s : List ℕ) → AnswersSome a xs s b → AnswersSome a (xs ++ ys) s b
 some_longer a b xs ys s some = record {
   taken = some.taken;
   later = some.later ++ ys;
@@ -87,7 +96,8 @@ some_longer a b xs ys s some = record {
 }
 
 -- what is answered to other events than deliveries prints nothing
-pub submit_silent : (a : Replica) (bytes : List ℕ) (r : Reply) → Lawful a.config a.ring a.id a.entries (event.Submit bytes) r → reply_text r ≡ []
+pub submit_silent : (a : StateView) (bytes : List ℕ) (r : Reply) → Lawful a.config a.ring a.id a.entries (event.Submit bytes) r
+    → reply_text r ≡ []
 submit_silent a bytes (reply.Submitted r) lawful = refl
 submit_silent a bytes (reply.Proposed r) lawful = refl
 submit_silent a bytes (reply.Delivered r) lawful = absurd lawful
@@ -95,7 +105,7 @@ submit_silent a bytes (reply.RoundEnded r) lawful = refl
 submit_silent a bytes (reply.Executed r) lawful = refl
 submit_silent a bytes (reply.Queried r) lawful = refl
 
-pub propose_silent : (a : Replica) (h : ℕ) (r : Reply) → Lawful a.config a.ring a.id a.entries (event.Propose h) r → reply_text r ≡ []
+pub propose_silent : (a : StateView) (h : ℕ) (r : Reply) → Lawful a.config a.ring a.id a.entries (event.Propose h) r → reply_text r ≡ []
 propose_silent a h (reply.Submitted r) lawful = refl
 propose_silent a h (reply.Proposed r) lawful = refl
 propose_silent a h (reply.Delivered r) lawful = absurd lawful
@@ -103,7 +113,7 @@ propose_silent a h (reply.RoundEnded r) lawful = refl
 propose_silent a h (reply.Executed r) lawful = refl
 propose_silent a h (reply.Queried r) lawful = refl
 
-pub round_end_silent : (a : Replica) (r : Reply) → Lawful a.config a.ring a.id a.entries event.RoundEnd r → reply_text r ≡ []
+pub round_end_silent : (a : StateView) (r : Reply) → Lawful a.config a.ring a.id a.entries event.RoundEnd r → reply_text r ≡ []
 round_end_silent a (reply.Submitted r) lawful = refl
 round_end_silent a (reply.Proposed r) lawful = refl
 round_end_silent a (reply.Delivered r) lawful = absurd lawful
@@ -112,10 +122,13 @@ round_end_silent a (reply.Executed r) lawful = refl
 round_end_silent a (reply.Queried r) lawful = refl
 
 -- an event that prints nothing, taken or not
-pub taken_silently : {E F : Type 0} (old new : Replica) (e : Event) (outcome : Result ℕ E) (result : Result (Unit {0}) F) → is_ok result ≡ is_ok outcome
-    → OnOk outcome ((r : Reply) × ((new.entries ≡ old.entries ++ record { event = e; reply = r } ∷ []) × Lawful old.config old.ring old.id old.entries e r
+pub taken_silently : {E F : Type 0} (old new : StateView) (e : Event) (outcome : Result ℕ E) (result : Result (Unit {0}) F)
+    → is_ok result ≡ is_ok outcome
+    → OnOk outcome ((r : Reply) × ((new.entries ≡ old.entries ++ record { event = e; reply = r } ∷ [])
+    × Lawful old.config old.ring old.id old.entries e r
     × IsTrue (is_signed_reply old.ring r) × UsesLeaves (keys_in old) (clock_at old.entries) r (keys_in new)))
-    → OnErr outcome (new.entries ≡ old.entries) → IsSame old new → Replay new.config new.ring new.id new.entries → OnOk outcome (UsesAsSigned old new) → AccountsForLeaves new
+    → OnErr outcome (new.entries ≡ old.entries) → IsSame old new → Replay new.config new.ring new.id new.entries
+    → OnOk outcome (UsesAsSigned old new) → AccountsForLeaves new
     → ((r : Reply) → Lawful old.config old.ring old.id old.entries e r → reply_text r ≡ [])
     → MatchResult result (λ _. Answers old (e ∷ []) [] new) (λ _. Refuses old new)
 taken_silently old new e (Ok index) (Ok u) alike added stays same replay signed account silent =

@@ -14,7 +14,11 @@ different_few : (xs : List ℕ) → different xs ≤ length xs
 different_few [] = omega arith
 different_few (x ∷ xs) =
     let rest = different_few xs in
-    elim (list_any (λ y. nat_eq y x) xs) as (λ b. cond b 0 1 + different xs ≤ suc (length xs)) [ true ↦ omega (arith, rest) | false ↦ omega (arith, rest) ]
+    elim (list_any (λ y. nat_eq y x) xs) as (λ b. cond b 0 1 + different xs ≤ suc (length xs)) [
+      | true ↦ omega (arith, rest)
+      | false ↦
+          omega (arith, rest)
+    ]
 
 -- the liars of a scenario may lie
 pub may_lie : (s : Scenario) → IsPlan (plan_of s) → MayLie s.setup.config s.setup.liars.items

@@ -6,14 +6,14 @@ use Rattle.std.proofs.KnownBytes.{Appends-trans, Consumes-trans}
 use Rattle.std.proofs.lemmas.List.{map-append}
 use Rattle.ledger_model.specs.declared.statement.SignedStatement.{SignedStatement}
 use Rattle.signed_frames.specs.declared.fault.FrameFault.{FrameFault}
-use Rattle.signed_frames.specs.Reader.{Reader, HandsOut, Leaves, Tells}
+use Rattle.signed_frames.specs.Reader.{FrameReaderView, HandsOut, Leaves, Tells}
 use Rattle.signed_frames.proofs.Joined.{longer}
-use Rattle.locked_replica.specs.Replicas.{Replica}
+use Rattle.locked_replica.specs.States.{StateView}
 use Rattle.program.specs.declared.stream_end.StreamFault.{StreamFault}
 use Rattle.program.specs.declared.stream_end.StreamEnd.TheVariants.{Fault}
 use Rattle.program.specs.Answering.{Answers, AnswersSome, Printed, PrintedSome, deliveries}
 use Rattle.program.specs.Streams.{Ended, GoesBehind, GoesOn, IsTold, Stopped, UnderWay}
-use Rattle.program_streams.proofs.WritingLemmas.{all_some, then_some}
+use Rattle.byte_streams.proofs.WritingLemmas.{all_some, then_some}
 use Rattle.program.proofs.AnsweringLemmas.{answers_both, some_after, some_all}
 use Rattle.program.proofs.PrintingLemmas.{printed_all}
 use Rattle.program.proofs.StreamLemmas.{frames_left, more_given, told_after}
@@ -22,18 +22,21 @@ use Rattle.program.proofs.StreamLemmas.{frames_left, more_given, told_after}
 pub deliveries-append : (xs ys : List SignedStatement) → deliveries xs ++ deliveries ys ≡ deliveries (xs ++ ys)
 deliveries-append xs ys = sym (map-append _ xs ys)
 
-module _ (start state new : Replica) (unread now left before out after : Option (List ℕ)) (reader : Reader) (piece : List ℕ)
+module _ (start state new : StateView) (unread now left before out after : Option (List ℕ)) (reader : FrameReaderView) (piece : List ℕ)
     (so_far : UnderWay start unread now before out state reader) (read : Consumes now left piece) where
   -- the frames that were handed out of the piece join those before
-  given_now : (found : List SignedStatement) (next : Reader) → HandsOut reader piece found next → Leaves (so_far.input ++ piece) (so_far.frames ++ found) next
+  given_now : (found : List SignedStatement) (next : FrameReaderView) → HandsOut reader piece found next
+      → Leaves (so_far.input ++ piece) (so_far.frames ++ found) next
   given_now found next handed =
-      more_given so_far.input so_far.kept piece so_far.frames found next so_far.given (subst (λ r. HandsOut r piece found next) so_far.reading handed)
+      more_given so_far.input so_far.kept piece so_far.frames found next so_far.given
+      (subst (λ r. HandsOut r piece found next) so_far.reading handed)
 
   read_now : Consumes unread left (so_far.input ++ piece)
   read_now = Consumes-trans unread now left so_far.input piece so_far.read read
 
   -- it goes on behind the frames, or a fault stands there
-  pub piece_goes : (found : List SignedStatement) (next last : Reader) (fault : Option StreamFault) → HandsOut reader piece found next
+  pub piece_goes : (found : List SignedStatement) (next last : FrameReaderView) (fault : Option StreamFault)
+      → HandsOut reader piece found next
       → Printed state (deliveries found) new out after
       → ((bytes : List ℕ) (frames : List SignedStatement) → Leaves bytes frames next → GoesBehind bytes frames last fault)
       → GoesOn start unread left before after new last fault
@@ -63,7 +66,8 @@ module _ (start state new : Replica) (unread now left before out after : Option 
   }
 
   -- it stops within the frames, or behind them
-  pub piece_stops : (found : List SignedStatement) (next : Reader) → HandsOut reader piece found next → PrintedSome state (deliveries found) new out after
+  pub piece_stops : (found : List SignedStatement) (next : FrameReaderView) → HandsOut reader piece found next
+      → PrintedSome state (deliveries found) new out after
       → Stopped start unread left before after new
   piece_stops found next handed printed =
       let (rest, frames) = frames_left (so_far.input ++ piece) (so_far.frames ++ found) next (given_now found next handed) in record {
@@ -79,22 +83,26 @@ module _ (start state new : Replica) (unread now left before out after : Option 
       }
 
   -- either of both
-  pub piece_behind : {E : Type 0} → (found : List SignedStatement) (next last : Reader) (r : Result (Option StreamFault) E) → HandsOut reader piece found next
+  pub piece_behind : {E : Type 0} → (found : List SignedStatement) (next last : FrameReaderView) (r : Result (Option StreamFault) E)
+      → HandsOut reader piece found next
       → Printed state (deliveries found) new out after
       → ((bytes : List ℕ) (frames : List SignedStatement) → Leaves bytes frames next → IfOk r (GoesBehind bytes frames last))
       → MatchResult r (GoesOn start unread left before after new last) (λ _. Stopped start unread left before after new)
   piece_behind found next last (Ok fault) handed printed behind = piece_goes found next last fault handed printed behind
-  piece_behind found next last (Err e) handed printed behind = piece_stops found next handed (printed_all state new (deliveries found) out after printed)
+  piece_behind found next last (Err e) handed printed behind =
+      piece_stops found next handed (printed_all state new (deliveries found) out after printed)
 
   -- a fault stands there, with no frame before it
-  pub piece_told : (fault : FrameFault) (next : Reader) (found : StreamFault) → Tells reader piece fault next → IsTold fault found → Ended start unread left before out state (Fault found)
+  pub piece_told : (fault : FrameFault) (next : FrameReaderView) (found : StreamFault) → Tells reader piece fault next → IsTold fault found
+      → Ended start unread left before out state (Fault found)
   piece_told fault next found tells is = record {
     input = so_far.input ++ piece;
     frames = so_far.frames;
     text = so_far.text;
     read = read_now;
     found = tt;
-    stands = told_after so_far.input so_far.kept piece so_far.frames fault next found so_far.given (subst (λ r. Tells r piece fault next) so_far.reading tells) is;
+    stands = told_after so_far.input so_far.kept piece so_far.frames fault next found so_far.given
+        (subst (λ r. Tells r piece fault next) so_far.reading tells) is;
     answers = so_far.answers;
     written = so_far.written;
   }

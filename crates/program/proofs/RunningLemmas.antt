@@ -1,4 +1,4 @@
--- From what was done to what the program answers.
+-- From what was done to the exit status of the program.
 use Rattle.std.proofs.Common.{◌≡◌, ℕ, ◌≤◌, List, [], refl, sym, subst, ◌∙◌, inl, inr, arith}
 use Rattle.std.specs.Prelude.{◌⊎◌, Option, Result, Ok, Err, MatchResult}
 use Rattle.std.specs.Io.KnownBytes.{Appends, Keeps}
@@ -9,15 +9,15 @@ use Rattle.settings.specs.declared.Settings.TheVariants.{Sign, Deliver, Simulate
 use Rattle.settings.specs.declared.sign.SignSettings.{SignSettings}
 use Rattle.settings.specs.declared.deliver.DeliverSettings.{DeliverSettings}
 use Rattle.settings.specs.declared.simulate.SimulateSettings.{SimulateSettings}
-use Rattle.frame_signing.specs.Statements.{signed}
+use Rattle.program.specs.Statements.{signed}
 use Rattle.command_line.specs.declared.usage_fault.UsageFault.{UsageFault}
 use Rattle.command_line.specs.declared.usage_fault.UsageFault.TheVariants as fault
 use Rattle.command_line.specs.Faults.{AskForHelp, AskForHelpAlone, IsRightFault}
 use Rattle.command_line.proofs.FaultLemmas.{asked, not_alone}
 use Rattle.command_line.specs.Options.{AsksForText, IsRefused, IsSet, WantsMemory}
-use Rattle.program_streams.specs.Responding.{Responds}
-use Rattle.program_streams.specs.Writing.{AppendsSome}
-use Rattle.program_streams.proofs.RespondingLemmas.{responds_some}
+use Rattle.byte_streams.specs.Responding.{Responds}
+use Rattle.byte_streams.specs.Writing.{AppendsSome}
+use Rattle.byte_streams.proofs.RespondingLemmas.{responds_some}
 use Rattle.program.specs.declared.stream_end.StreamEnd.{StreamEnd}
 use Rattle.program.specs.declared.stream_end.StreamEnd.TheVariants as stream
 use Rattle.program.specs.Streams.{DeliversStream, DeliversStreamSome}
@@ -31,33 +31,53 @@ use Rattle.program.specs.declared.outcome.Piped.TheVariants as piped
 use Rattle.program.specs.Doing.{Begins, Done, Halted, IfEnded, IfHanded, IsHanded, Performs, settings_of, status_of_stream, status_of_text}
 
 -- the frame was written
-pub signed_done : (x : Piped) (s : SignSettings) (unread before after : Option (List ℕ)) → x ≡ piped.Sign s → Appends before after (frame_bytes (signed s)) → Done (settings_of x) 0 unread unread before after
+pub signed_done : (x : Piped) (s : SignSettings) (unread before after : Option (List ℕ)) → x ≡ piped.Sign s
+    → Appends before after (frame_bytes (signed s)) → Done (settings_of x) 0 unread unread before after
 signed_done x s unread before after is written =
-    subst (λ y. Done (settings_of y) 0 unread unread before after) (sym is) (refl, record { input = []; text = frame_bytes (signed s); goes_with = (refl, refl); read = Consumes-nil unread; written = written })
+    subst (λ y. Done (settings_of y) 0 unread unread before after) (sym is) (
+      refl,
+      record {
+        input = [];
+        text = frame_bytes (signed s);
+        goes_with = (refl, refl);
+        read = Consumes-nil unread;
+        written =
+            written;
+      },
+    )
 
 -- a beginning of it was
-pub signed_halted : (x : Piped) (s : SignSettings) (unread before after : Option (List ℕ)) → x ≡ piped.Sign s → AppendsSome before after (frame_bytes (signed s)) → Halted (settings_of x) unread unread before after
+pub signed_halted : (x : Piped) (s : SignSettings) (unread before after : Option (List ℕ)) → x ≡ piped.Sign s
+    → AppendsSome before after (frame_bytes (signed s)) → Halted (settings_of x) unread unread before after
 signed_halted x s unread before after is written =
-    subst (λ y. Halted (settings_of y) unread unread before after) (sym is) (record { input = []; text = frame_bytes (signed s); goes_with = (refl, refl); read = Consumes-nil unread; written = written })
+    subst (λ y. Halted (settings_of y) unread unread before after) (sym is)
+    (record { input = []; text = frame_bytes (signed s); goes_with = (refl, refl); read = Consumes-nil unread; written = written })
 
 -- a stream was delivered
-pub delivered_done : (x : Piped) (s : DeliverSettings) (end : StreamEnd) (status : ℕ) (unread left before after : Option (List ℕ)) → x ≡ piped.Deliver s → status ≡ status_of_stream end
+pub delivered_done : (x : Piped) (s : DeliverSettings) (end : StreamEnd) (status : ℕ) (unread left before after : Option (List ℕ))
+    → x ≡ piped.Deliver s → status ≡ status_of_stream end
     → DeliversStream s end unread left before after → Done (settings_of x) status unread left before after
-delivered_done x s end status unread left before after is answered done = subst (λ y. Done (settings_of y) status unread left before after) (sym is) (end, (answered, done))
+delivered_done x s end status unread left before after is answered done =
+    subst (λ y. Done (settings_of y) status unread left before after) (sym is) (end, (answered, done))
 
-pub delivered_halted : (x : Piped) (s : DeliverSettings) (unread left before after : Option (List ℕ)) → x ≡ piped.Deliver s → DeliversStreamSome s unread left before after → Halted (settings_of x) unread left before after
+pub delivered_halted : (x : Piped) (s : DeliverSettings) (unread left before after : Option (List ℕ)) → x ≡ piped.Deliver s
+    → DeliversStreamSome s unread left before after → Halted (settings_of x) unread left before after
 delivered_halted x s unread left before after is some = subst (λ y. Halted (settings_of y) unread left before after) (sym is) some
 
 -- a text was played
-pub played_done : (x : Piped) (s : SimulateSettings) (end : TextEnd) (status : ℕ) (unread left before after : Option (List ℕ)) → x ≡ piped.Simulate s → status ≡ status_of_text end
+pub played_done : (x : Piped) (s : SimulateSettings) (end : TextEnd) (status : ℕ) (unread left before after : Option (List ℕ))
+    → x ≡ piped.Simulate s → status ≡ status_of_text end
     → PlaysText s end unread left before after → Done (settings_of x) status unread left before after
-played_done x s end status unread left before after is answered done = subst (λ y. Done (settings_of y) status unread left before after) (sym is) (end, (answered, done))
+played_done x s end status unread left before after is answered done =
+    subst (λ y. Done (settings_of y) status unread left before after) (sym is) (end, (answered, done))
 
-pub played_halted : (x : Piped) (s : SimulateSettings) (unread left before after : Option (List ℕ)) → x ≡ piped.Simulate s → PlaysTextSome s unread left before after → Halted (settings_of x) unread left before after
+pub played_halted : (x : Piped) (s : SimulateSettings) (unread left before after : Option (List ℕ)) → x ≡ piped.Simulate s
+    → PlaysTextSome s unread left before after → Halted (settings_of x) unread left before after
 played_halted x s unread left before after is some = subst (λ y. Halted (settings_of y) unread left before after) (sym is) some
 
 -- all was written, and then flushed
-responds_kept : (P : List ℕ → List ℕ → Type 0) (unread left before mid after : Option (List ℕ)) → Responds P unread left before mid → Keeps mid after → Responds P unread left before after
+responds_kept : (P : List ℕ → List ℕ → Type 0) (unread left before mid after : Option (List ℕ)) → Responds P unread left before mid
+    → Keeps mid after → Responds P unread left before after
 responds_kept P unread left before mid after done keeps = record {
   input = done.input;
   text = done.text;
@@ -66,16 +86,24 @@ responds_kept P unread left before mid after done keeps = record {
   written = Appends-kept before mid after done.text done.written keeps;
 }
 
-pub done_flushed : (x : Piped) (status : ℕ) (unread left before mid after : Option (List ℕ)) → Done (settings_of x) status unread left before mid → Keeps mid after → Done (settings_of x) status unread left before after
-done_flushed (piped.Sign s) status unread left before mid after (is, done) keeps = (is, responds_kept _ unread left before mid after done keeps)
-done_flushed (piped.Deliver s) status unread left before mid after (end, (is, (to_end, done))) keeps = (end, (is, (to_end, responds_kept _ unread left before mid after done keeps)))
-done_flushed (piped.Simulate s) status unread left before mid after (end, (is, done)) keeps = (end, (is, responds_kept _ unread left before mid after done keeps))
+pub done_flushed : (x : Piped) (status : ℕ) (unread left before mid after : Option (List ℕ))
+    → Done (settings_of x) status unread left before mid → Keeps mid after → Done (settings_of x) status unread left before after
+done_flushed (piped.Sign s) status unread left before mid after (is, done) keeps =
+    (is, responds_kept _ unread left before mid after done keeps)
+done_flushed (piped.Deliver s) status unread left before mid after (end, (is, (to_end, done))) keeps =
+    (end, (is, (to_end, responds_kept _ unread left before mid after done keeps)))
+done_flushed (piped.Simulate s) status unread left before mid after (end, (is, done)) keeps =
+    (end, (is, responds_kept _ unread left before mid after done keeps))
 
 -- all was written, and then a flush failed
-pub done_halted : (x : Piped) (status : ℕ) (unread left before mid after : Option (List ℕ)) → Done (settings_of x) status unread left before mid → Keeps mid after → Halted (settings_of x) unread left before after
-done_halted (piped.Sign s) status unread left before mid after (is, done) keeps = responds_some _ _ unread left before mid after (λ input text does. does) done keeps
-done_halted (piped.Deliver s) status unread left before mid after (end, (is, (to_end, done))) keeps = responds_some _ _ unread left before mid after (λ input text does. inr (end, does)) done keeps
-done_halted (piped.Simulate s) status unread left before mid after (end, (is, done)) keeps = responds_some _ _ unread left before mid after (λ input text does. (does.1.0, inr (end, does.1.1))) done keeps
+pub done_halted : (x : Piped) (status : ℕ) (unread left before mid after : Option (List ℕ))
+    → Done (settings_of x) status unread left before mid → Keeps mid after → Halted (settings_of x) unread left before after
+done_halted (piped.Sign s) status unread left before mid after (is, done) keeps =
+    responds_some _ _ unread left before mid after (λ input text does. does) done keeps
+done_halted (piped.Deliver s) status unread left before mid after (end, (is, (to_end, done))) keeps =
+    responds_some _ _ unread left before mid after (λ input text does. inr (end, does)) done keeps
+done_halted (piped.Simulate s) status unread left before mid after (end, (is, done)) keeps =
+    responds_some _ _ unread left before mid after (λ input text does. (does.1.0, inr (end, does.1.1))) done keeps
 
 -- a status of what was done is 0 or 1
 stream_small : (end : StreamEnd) → status_of_stream end ≤ 1
@@ -96,7 +124,8 @@ done_small (Serve s) status unread left before after done = absurd done
 
 -- what was done for settings, and the status of it
 abbrev pub Settled : Settings → ℕ → Option (List ℕ) → Option (List ℕ) → Option (List ℕ) → Option (List ℕ) → Type 0 → Type 0
-Settled s status unread left before after Quiet = (Quiet × Done s status unread left before after) ⊎ ((status ≡ 3) × Halted s unread left before after)
+Settled s status unread left before after Quiet =
+    (Quiet × Done s status unread left before after) ⊎ ((status ≡ 3) × Halted s unread left before after)
 
 -- the status of what was done
 pub settled : {E Q : Type 0} (s x : Settings) (r : Result ℕ E) (status : ℕ) (unread left before after : Option (List ℕ)) → s ≡ x
@@ -107,7 +136,8 @@ settled s x (Ok found) status unread left before after same done is =
 settled s x (Err e) status unread left before after same halted is = inr (is, subst (λ y. Halted y unread left before after) same halted)
 
 module _ (words : List (List ℕ)) (s : Settings) (set : IsSet words s) (status : ℕ) (unread left before after : Option (List ℕ)) where
-  pub settled_finishes : (Q : Type 0) → Settled s status unread left before after Q → (status ≡ 0) ⊎ (status ≡ 1) → Performs words status unread left before after
+  pub settled_finishes : (Q : Type 0) → Settled s status unread left before after Q → (status ≡ 0) ⊎ (status ≡ 1)
+      → Performs words status unread left before after
   settled_finishes Q (inl (quiet, done)) small = record { settings = s; set = set; done = done }
   settled_finishes Q (inr (is, halted)) (inl zero) = absurd (omega (arith, zero, is))
   settled_finishes Q (inr (is, halted)) (inr one) = absurd (omega (arith, one, is))
@@ -118,11 +148,13 @@ module _ (words : List (List ℕ)) (s : Settings) (set : IsSet words s) (status 
   settled_quiet Q (inr (is, halted)) (inr one) = absurd (omega (arith, one, is))
 
   pub settled_refuses : (Q P : Type 0) → Settled s status unread left before after Q → status ≡ 2 → P
-  settled_refuses Q P (inl (quiet, done)) two = let small = done_small s status unread left before after done in absurd (omega (arith, small, two))
+  settled_refuses Q P (inl (quiet, done)) two = let small =
+      done_small s status unread left before after done in absurd (omega (arith, small, two))
   settled_refuses Q P (inr (is, halted)) two = absurd (omega (arith, two, is))
 
   pub settled_stops : (Q : Type 0) → Settled s status unread left before after Q → status ≡ 3 → Begins words unread left before after
-  settled_stops Q (inl (quiet, done)) three = let small = done_small s status unread left before after done in absurd (omega (arith, small, three))
+  settled_stops Q (inl (quiet, done)) three = let small =
+      done_small s status unread left before after done in absurd (omega (arith, small, three))
   settled_stops Q (inr (is, halted)) three = record { settings = s; set = set; halted = halted }
 
   pub settled_known : (Q : Type 0) → Settled s status unread left before after Q → status ≤ 3
@@ -130,8 +162,10 @@ module _ (words : List (List ℕ)) (s : Settings) (set : IsSet words s) (status 
   settled_known Q (inr (is, halted)) = omega (arith, is)
 
 -- what was told of words that set nothing: the help or the version, or what is wrong with them
-abbrev pub Told : UsageFault → ℕ → Type 0 → Type 0 → Type 0
-Told f status Quiet Kept = (AsksForText f × (((status ≡ 0) × Quiet) ⊎ (status ≡ 3))) ⊎ (((AsksForText f → ⊥) × Kept) × (((status ≡ 2) × (WantsMemory f → ⊥)) ⊎ (status ≡ 3)))
+abbrev pub HelpOrFault : UsageFault → ℕ → Type 0 → Type 0 → Type 0
+HelpOrFault f status Quiet Refuses =
+    (AsksForText f × (((status ≡ 0) × Quiet) ⊎ (status ≡ 3)))
+    ⊎ (((AsksForText f → ⊥) × Refuses) × (((status ≡ 2) × (WantsMemory f → ⊥)) ⊎ (status ≡ 3)))
 
 -- who asks for the help or the version doesn't want memory
 asks_no_memory : (f : UsageFault) → AsksForText f → WantsMemory f → ⊥
@@ -151,8 +185,9 @@ asks_no_memory (fault.Missing option) asks wants = asks
 asks_no_memory fault.NoSubcommand asks wants = asks
 asks_no_memory fault.NoMemory asks wants = asks
 
-module _ (words : List (List ℕ)) (f : UsageFault) (status : ℕ) (Q K : Type 0) (right : IsRightFault words f) (refused : (WantsMemory f → ⊥) → IsRefused words) where
-  pub told_finishes : Told f status Q K → (status ≡ 0) ⊎ (status ≡ 1) → IsRefused words × (AskForHelp words × (status ≡ 0))
+module _ (words : List (List ℕ)) (f : UsageFault) (status : ℕ) (Q K : Type 0) (right : IsRightFault words f)
+    (refused : (WantsMemory f → ⊥) → IsRefused words) where
+  pub told_finishes : HelpOrFault f status Q K → (status ≡ 0) ⊎ (status ≡ 1) → IsRefused words × (AskForHelp words × (status ≡ 0))
   told_finishes (inl (asks, inl (zero, quiet))) small = (refused (asks_no_memory f asks), (asked words f right asks, zero))
   told_finishes (inl (asks, inr three)) (inl zero) = absurd (omega (arith, zero, three))
   told_finishes (inl (asks, inr three)) (inr one) = absurd (omega (arith, one, three))
@@ -161,7 +196,7 @@ module _ (words : List (List ℕ)) (f : UsageFault) (status : ℕ) (Q K : Type 0
   told_finishes (inr (kept, inr three)) (inl zero) = absurd (omega (arith, zero, three))
   told_finishes (inr (kept, inr three)) (inr one) = absurd (omega (arith, one, three))
 
-  pub told_quiet : Told f status Q K → (status ≡ 0) ⊎ (status ≡ 1) → Q
+  pub told_quiet : HelpOrFault f status Q K → (status ≡ 0) ⊎ (status ≡ 1) → Q
   told_quiet (inl (asks, inl (zero, quiet))) small = quiet
   told_quiet (inl (asks, inr three)) (inl zero) = absurd (omega (arith, zero, three))
   told_quiet (inl (asks, inr three)) (inr one) = absurd (omega (arith, one, three))
@@ -170,17 +205,17 @@ module _ (words : List (List ℕ)) (f : UsageFault) (status : ℕ) (Q K : Type 0
   told_quiet (inr (kept, inr three)) (inl zero) = absurd (omega (arith, zero, three))
   told_quiet (inr (kept, inr three)) (inr one) = absurd (omega (arith, one, three))
 
-  pub told_refuses : Told f status Q K → status ≡ 2 → IsRefused words × ((AskForHelpAlone words → ⊥) × K)
+  pub told_refuses : HelpOrFault f status Q K → status ≡ 2 → IsRefused words × ((AskForHelpAlone words → ⊥) × K)
   told_refuses (inl (asks, inl (zero, quiet))) is = absurd (omega (arith, is, zero))
   told_refuses (inl (asks, inr three)) is = absurd (omega (arith, is, three))
   told_refuses (inr ((other, kept), inl (two, enough))) is = (refused enough, (not_alone words f right other enough, kept))
   told_refuses (inr (kept, inr three)) is = absurd (omega (arith, is, three))
 
-  pub told_stops : Told f status Q K → status ≡ 3 → K ⊎ (IsRefused words × AskForHelp words)
+  pub told_stops : HelpOrFault f status Q K → status ≡ 3 → K ⊎ (IsRefused words × AskForHelp words)
   told_stops (inl (asks, told)) is = inr (refused (asks_no_memory f asks), asked words f right asks)
   told_stops (inr ((other, kept), told)) is = inl kept
 
-  pub told_known : Told f status Q K → status ≤ 3
+  pub told_known : HelpOrFault f status Q K → status ≤ 3
   told_known (inl (asks, inl (zero, quiet))) = omega (arith, zero)
   told_known (inl (asks, inr three)) = omega (arith, three)
   told_known (inr (kept, inl (two, enough))) = omega (arith, two)

@@ -1,11 +1,12 @@
 -- From the commands that are played to what `abft simulate` prints.
-use Rattle.std.proofs.Common.{◌≡◌, ℕ, ◌≤◌, Bool, true, false, not, List, [], ◌++◌, length, take, refl, sym, subst, ◌∙◌, inl, inr, append-nil, arith, lit≤}
+use Rattle.std.proofs.Common.{◌≡◌, ℕ, ◌≤◌, Bool, true, false, not, List, [], ◌++◌, length, take, refl, sym, subst, ◌∙◌, inl, inr}
+use Rattle.std.proofs.Common.{append-nil, arith, lit≤}
 use Rattle.std.proofs.lemmas.List.{length-take}
 use Rattle.std.specs.Prelude.{◌⊎◌, Option, if◌then◌else◌}
 use Rattle.std.specs.Io.KnownBytes.{Appends, Consumes, IsAtEnd}
 use Rattle.std.proofs.KnownBytes.{Appends-trans, Consumes-trans}
 use Rattle.ledger_model.specs.declared.config.Config.{Config}
-use Rattle.adversary_net.specs.Clusters.{AllAccountForLeaves, HasRun}
+use Rattle.adversary_net.specs.WorldViews.{AllAccountForLeaves, HasRun}
 use Rattle.adversary_net.specs.Headline.{IsUnforged, IsOneLedger}
 use Rattle.scenario_texts.specs.declared.fault.TextFault.{TextFault}
 use Rattle.scenario_texts.specs.declared.fault.TextFault.TheVariants as fault
@@ -13,27 +14,32 @@ use Rattle.scenario_texts.specs.declared.scenario.Scenario.{Scenario}
 use Rattle.scenario_texts.specs.Lines.{Spells, IsBadAt, IsTooLarge}
 use Rattle.scenario_texts.specs.Plans.{Plan}
 use Rattle.scenario_texts.proofs.Sizes.{bad_anyway, large_spells_none}
-use Rattle.simulation.specs.Playing.{Simulated, PlaysAll}
+use Rattle.simulation.specs.Playing.{SimulationView, PlaysAll}
 use Rattle.settings.specs.declared.simulate.SimulateSettings.{SimulateSettings}
-use Rattle.program_streams.specs.Writing.{AppendsSome}
+use Rattle.byte_streams.specs.Writing.{AppendsSome}
 use Rattle.program.specs.declared.scenario_input.ScenarioInput.{ScenarioInput}
 use Rattle.program.specs.declared.scenario_input.ScenarioInput.TheVariants as input
 use Rattle.program.specs.declared.text_end.TextEnd.TheVariants.{Whole, BadLine}
-use Rattle.program.specs.Simulating.{IsBadAnyway, IsConfigOf, IsRead, IsReadInTime, Played, PlayedSome, PlaysText, PlaysTextSome, PlaysWritten, PlaysWrittenSome, bad_line, histories_of, if_wanted, opening}
-use Rattle.program_streams.proofs.WritingLemmas.{nothing_some, then_some}
+use Rattle.program.specs.Simulating.{IsBadAnyway, IsConfigOf, IsRead, IsReadInTime, Played, PlayedSome, PlaysText, PlaysTextSome}
+use Rattle.program.specs.Simulating.{PlaysWritten, PlaysWrittenSome, bad_line, histories_of, if_wanted, opening}
+use Rattle.byte_streams.proofs.WritingLemmas.{nothing_some, then_some}
 use Rattle.program.proofs.SimulatingLemmas.{written_nothing}
 
 -- the lines, or none of them, and then nothing, or the histories
 text_written : (h : Bool) (lines histories : List ℕ) (before mid after : Option (List ℕ))
-    → Appends before mid (if_wanted (not h) lines) → Appends mid after (if h then histories else []) → Appends before after (if h then histories else lines)
+    → Appends before mid (if_wanted (not h) lines) → Appends mid after (if h then histories else [])
+    → Appends before after (if h then histories else lines)
 text_written true lines histories before mid after first last = Appends-trans before mid after [] histories first last
-text_written false lines histories before mid after first last = subst (Appends before after) (append-nil lines) (Appends-trans before mid after lines [] first last)
+text_written false lines histories before mid after first last =
+    subst (Appends before after) (append-nil lines) (Appends-trans before mid after lines [] first last)
 
 -- a beginning of them
 text_begun : (h : Bool) (lines histories : List ℕ) (before mid after : Option (List ℕ))
-    → Appends before mid (if_wanted (not h) lines) → AppendsSome mid after (if h then histories else []) → AppendsSome before after (if h then histories else lines)
+    → Appends before mid (if_wanted (not h) lines) → AppendsSome mid after (if h then histories else [])
+    → AppendsSome before after (if h then histories else lines)
 text_begun true lines histories before mid after first last = then_some before mid after [] histories first last
-text_begun false lines histories before mid after first last = subst (AppendsSome before after) (append-nil lines) (then_some before mid after lines [] first last)
+text_begun false lines histories before mid after first last =
+    subst (AppendsSome before after) (append-nil lines) (then_some before mid after lines [] first last)
 
 -- the text of a plan that was played was written
 abbrev pub PlayedWritten : SimulateSettings → Plan → Option (List ℕ) → Option (List ℕ) → Type 0
@@ -45,7 +51,8 @@ PlayedBegun s p before after = (text : List ℕ) × ((PlayedSome s p text ⊎ Pl
 
 module _ (s : SimulateSettings) (p : Plan) (config : Config) (sized : IsConfigOf p config) where
   -- all commands were played
-  played_of : (a b : Simulated) (lines : List ℕ) → a ≡ opening s.seed config p → PlaysAll a p.commands lines b → HasRun b.cluster → (IsUnforged b.cluster → IsOneLedger b.cluster) → AllAccountForLeaves b.cluster
+  played_of : (a b : SimulationView) (lines : List ℕ) → a ≡ opening s.seed config p → PlaysAll a p.commands lines b → HasRun b.cluster
+      → (IsUnforged b.cluster → IsOneLedger b.cluster) → AllAccountForLeaves b.cluster
       → Played s p (if s.histories then histories_of b.cluster else lines)
   played_of a b lines opens plays since one_ledger account = record {
     config = config;
@@ -60,56 +67,86 @@ module _ (s : SimulateSettings) (p : Plan) (config : Config) (sized : IsConfigOf
   }
 
   -- and what is wanted was written
-  pub played_whole : (a b : Simulated) (before mid after : Option (List ℕ)) → a ≡ opening s.seed config p → PlaysWritten (not s.histories) a p.commands b before mid
-      → HasRun b.cluster → (IsUnforged b.cluster → IsOneLedger b.cluster) → AllAccountForLeaves b.cluster → Appends mid after (if s.histories then histories_of b.cluster else []) → PlayedWritten s p before after
+  pub played_whole : (a b : SimulationView) (before mid after : Option (List ℕ)) → a ≡ opening s.seed config p
+      → PlaysWritten (not s.histories) a p.commands b before mid
+      → HasRun b.cluster → (IsUnforged b.cluster → IsOneLedger b.cluster) → AllAccountForLeaves b.cluster
+      → Appends mid after (if s.histories then histories_of b.cluster else []) → PlayedWritten s p before after
   played_whole a b before mid after opens (lines, (plays, first)) since one_ledger account last = (
     if s.histories then histories_of b.cluster else lines,
-    (played_of a b lines opens plays since one_ledger account, text_written s.histories lines (histories_of b.cluster) before mid after first last),
+    (
+      played_of a b lines opens plays since one_ledger account,
+      text_written s.histories lines (histories_of b.cluster) before mid after
+          first last,
+    ),
   )
 
   -- or a beginning of it
-  pub played_begun : (a b : Simulated) (before mid after : Option (List ℕ)) → a ≡ opening s.seed config p → PlaysWritten (not s.histories) a p.commands b before mid
-      → HasRun b.cluster → (IsUnforged b.cluster → IsOneLedger b.cluster) → AllAccountForLeaves b.cluster → AppendsSome mid after (if s.histories then histories_of b.cluster else []) → PlayedBegun s p before after
+  pub played_begun : (a b : SimulationView) (before mid after : Option (List ℕ)) → a ≡ opening s.seed config p
+      → PlaysWritten (not s.histories) a p.commands b before mid
+      → HasRun b.cluster → (IsUnforged b.cluster → IsOneLedger b.cluster) → AllAccountForLeaves b.cluster
+      → AppendsSome mid after (if s.histories then histories_of b.cluster else []) → PlayedBegun s p before after
   played_begun a b before mid after opens (lines, (plays, first)) since one_ledger account last = (
     if s.histories then histories_of b.cluster else lines,
-    (inr (played_of a b lines opens plays since one_ledger account), text_begun s.histories lines (histories_of b.cluster) before mid after first last),
+    (
+      inr (played_of a b lines opens plays since one_ledger account),
+      text_begun s.histories lines (histories_of b.cluster) before mid after
+          first last,
+    ),
   )
 
   -- the first commands were played
-  pub played_part : (a : Simulated) (before after : Option (List ℕ)) → a ≡ opening s.seed config p → PlaysWrittenSome (not s.histories) a p.commands before after → PlayedBegun s p before after
+  pub played_part : (a : SimulationView) (before after : Option (List ℕ)) → a ≡ opening s.seed config p
+      → PlaysWrittenSome (not s.histories) a p.commands before after → PlayedBegun s p before after
   played_part a before after opens part =
       let (lines, (some, written)) = subst (λ x. PlaysWrittenSome (not s.histories) x p.commands before after) opens part in
       (if_wanted (not s.histories) lines, (inl (config, (sized, (lines, (some, refl)))), written))
 
   -- none was
   pub played_nothing : (before : Option (List ℕ)) → PlayedBegun s p before before
-  played_nothing before = played_part (opening s.seed config p) before before refl (written_nothing (not s.histories) (opening s.seed config p) p.commands before)
+  played_nothing before = played_part (opening s.seed config p) before before refl
+      (written_nothing (not s.histories) (opening s.seed config p) p.commands before)
 
-module _ (s : SimulateSettings) (input : List ℕ) (unread left before after : Option (List ℕ)) (read : Consumes unread left input) (in_time : IsReadInTime input) where
+module _ (s : SimulateSettings) (input : List ℕ) (unread left before after : Option (List ℕ)) (read : Consumes unread left input)
+    (in_time : IsReadInTime input) where
   -- the plan of the text was played
   pub simulated : (p : Plan) → Spells input p → IsAtEnd left → PlayedWritten s p before after → PlaysText s Whole unread left before after
-  simulated p spells to_end (text, (played, written)) = record { input = input; text = text; goes_with = (to_end, (in_time, (p, (spells, played)))); read = read; written = written }
+  simulated p spells to_end (text, (played, written)) =
+      record { input = input; text = text; goes_with = (to_end, (in_time, (p, (spells, played)))); read = read; written = written }
 
   -- or begun
   pub simulated_part : (p : Plan) → Spells input p → PlayedBegun s p before after → PlaysTextSome s unread left before after
-  simulated_part p spells (text, (inl some, written)) = record { input = input; text = text; goes_with = (in_time, inl (inr (p, (spells, some)))); read = read; written = written }
-  simulated_part p spells (text, (inr played, written)) = record { input = input; text = text; goes_with = (in_time, inr (Whole, (p, (spells, played)))); read = read; written = written }
+  simulated_part p spells (text, (inl some, written)) =
+      record { input = input; text = text; goes_with = (in_time, inl (inr (p, (spells, some)))); read = read; written = written }
+  simulated_part p spells (text, (inr played, written)) =
+      record { input = input; text = text; goes_with = (in_time, inr (Whole, (p, (spells, played)))); read = read; written = written }
 
   -- its first bad line was told
-  pub told_bad : (n : ℕ) → IsBadAt input n → IsAtEnd left ⊎ IsBadAnyway input n → Appends before after (bad_line n) → PlaysText s (BadLine n) unread left before after
-  told_bad n bad shown written = record { input = input; text = bad_line n; goes_with = (shown, (in_time, (bad, refl))); read = read; written = written }
+  pub told_bad : (n : ℕ) → IsBadAt input n → IsAtEnd left ⊎ IsBadAnyway input n → Appends before after (bad_line n)
+      → PlaysText s (BadLine n) unread left before after
+  told_bad n bad shown written =
+      record { input = input; text = bad_line n; goes_with = (shown, (in_time, (bad, refl))); read = read; written = written }
 
   pub told_part : (n : ℕ) → IsBadAt input n → AppendsSome before after (bad_line n) → PlaysTextSome s unread left before after
-  told_part n bad written = record { input = input; text = bad_line n; goes_with = (in_time, inr (BadLine n, (bad, refl))); read = read; written = written }
+  told_part n bad written = record {
+    input = input;
+    text = bad_line n;
+    goes_with = (in_time, inr (BadLine n, (bad, refl)));
+    read =
+        read;
+    written = written;
+  }
 
 -- a text is read on
-pub read_on : (unread now left : Option (List ℕ)) (text piece : List ℕ) (n : ℕ) → Consumes unread now text → Consumes now left (take n piece) → Consumes unread left (text ++ take n piece)
+pub read_on : (unread now left : Option (List ℕ)) (text piece : List ℕ) (n : ℕ) → Consumes unread now text
+    → Consumes now left (take n piece) → Consumes unread left (text ++ take n piece)
 read_on unread now left text piece n so_far read = Consumes-trans unread now left text (take n piece) so_far read
 
 -- it was read to its end
-pub read_none : (unread now left : Option (List ℕ)) (text piece : List ℕ) (n : ℕ) → Consumes unread now text → Consumes now left (take n piece) → n ≡ 0 → Consumes unread left text
+pub read_none : (unread now left : Option (List ℕ)) (text piece : List ℕ) (n : ℕ) → Consumes unread now text
+    → Consumes now left (take n piece) → n ≡ 0 → Consumes unread left text
 read_none unread now left text piece n so_far read none =
-    subst (Consumes unread left) (append-nil text) (Consumes-trans unread now left text [] so_far (subst (λ k. Consumes now left (take k piece)) none read))
+    subst (Consumes unread left) (append-nil text)
+    (Consumes-trans unread now left text [] so_far (subst (λ k. Consumes now left (take k piece)) none read))
 
 -- of a text that isn't too large no piece was needed
 pub all_in_time : (text : List ℕ) → (IsTooLarge text → ⊥) → IsReadInTime text
@@ -117,10 +154,12 @@ all_in_time text fits = record { before = text; piece = []; split = sym (append-
 
 -- and so is one more piece
 pub piece_in_time : (text piece : List ℕ) (n : ℕ) → (IsTooLarge text → ⊥) → length piece ≤ 8192 → IsReadInTime (text ++ take n piece)
-piece_in_time text piece n fits short = record { before = text; piece = take n piece; split = refl; fits = fits; short = omega (arith, short, length-take n piece) }
+piece_in_time text piece n fits short =
+    record { before = text; piece = take n piece; split = refl; fits = fits; short = omega (arith, short, length-take n piece) }
 
 -- a text that was read to its end, or is too large, has its first bad line there or anyway
-pub bad_shown : (text : List ℕ) (left : Option (List ℕ)) (n : ℕ) → IsAtEnd left ⊎ IsTooLarge text → IsBadAt text n → IsAtEnd left ⊎ IsBadAnyway text n
+pub bad_shown : (text : List ℕ) (left : Option (List ℕ)) (n : ℕ) → IsAtEnd left ⊎ IsTooLarge text → IsBadAt text n
+    → IsAtEnd left ⊎ IsBadAnyway text n
 bad_shown text left n (inl to_end) bad = inl to_end
 bad_shown text left n (inr large) bad = inr (λ more. bad_anyway text more n large bad)
 
@@ -130,15 +169,19 @@ spelled_whole text left p (inl to_end) spells = to_end
 spelled_whole text left p (inr large) spells = absurd (large_spells_none text p large spells)
 
 -- what was read, where it is a scenario, and where it isn't
-pub scenario_read : (found : ScenarioInput) (scenario : Scenario) (unread left : Option (List ℕ)) → found ≡ input.Scenario scenario → IsRead found unread left → IsRead (input.Scenario scenario) unread left
+pub scenario_read : (found : ScenarioInput) (scenario : Scenario) (unread left : Option (List ℕ)) → found ≡ input.Scenario scenario
+    → IsRead found unread left → IsRead (input.Scenario scenario) unread left
 scenario_read found scenario unread left is read = subst (λ f. IsRead f unread left) is read
 
-pub bad_read : (found : ScenarioInput) (n : ℕ) (unread left : Option (List ℕ)) → found ≡ input.BadLine n → IsRead found unread left → IsRead (input.BadLine n) unread left
+pub bad_read : (found : ScenarioInput) (n : ℕ) (unread left : Option (List ℕ)) → found ≡ input.BadLine n → IsRead found unread left
+    → IsRead (input.BadLine n) unread left
 bad_read found n unread left is read = subst (λ f. IsRead f unread left) is read
 
 -- nothing was written
-pub read_only : (s : SimulateSettings) (input : List ℕ) (unread left before : Option (List ℕ)) → Consumes unread left input → IsReadInTime input → PlaysTextSome s unread left before before
-read_only s input unread left before read in_time = record { input = input; text = []; goes_with = (in_time, inl (inl refl)); read = read; written = nothing_some before [] }
+pub read_only : (s : SimulateSettings) (input : List ℕ) (unread left before : Option (List ℕ)) → Consumes unread left input
+    → IsReadInTime input → PlaysTextSome s unread left before before
+read_only s input unread left before read in_time =
+    record { input = input; text = []; goes_with = (in_time, inl (inl refl)); read = read; written = nothing_some before [] }
 
 -- the first bad line has one number
 pub bad_at : (why : TextFault) (n : ℕ) (text : List ℕ) → why ≡ fault.BadLine n

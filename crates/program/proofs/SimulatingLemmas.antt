@@ -4,11 +4,11 @@ use Rattle.std.specs.Prelude.{Option}
 use Rattle.std.specs.Io.KnownBytes.{Appends}
 use Rattle.std.proofs.KnownBytes.{Appends-nil, Appends-trans}
 use Rattle.scenario_texts.specs.declared.command.Command.{Command}
-use Rattle.simulation.specs.Playing.{Simulated, Plays}
+use Rattle.simulation.specs.Playing.{SimulationView, Plays}
 use Rattle.simulation.proofs.StepLemmas.{plays_append, plays_none, plays_one}
-use Rattle.program_streams.specs.Writing.{AppendsSome}
+use Rattle.byte_streams.specs.Writing.{AppendsSome}
 use Rattle.program.specs.Simulating.{PlaysWritten, PlaysWrittenSome, if_wanted}
-use Rattle.program_streams.proofs.WritingLemmas.{nothing_some, then_some}
+use Rattle.byte_streams.proofs.WritingLemmas.{nothing_some, then_some}
 
 -- the lines of both
 wanted_append : (w : Bool) (text more : List ℕ) → if_wanted w text ++ if_wanted w more ≡ if_wanted w (text ++ more)
@@ -31,33 +31,39 @@ pub unwanted : (w : Bool) (text : List ℕ) (p : Option (List ℕ)) → w ≡ fa
 unwanted w text p is = subst (λ b. Appends p p (if_wanted b text)) (sym is) (Appends-nil p)
 
 -- no command
-pub written_none : (w : Bool) (a : Simulated) (p : Option (List ℕ)) → PlaysWritten w a [] a p p
+pub written_none : (w : Bool) (a : SimulationView) (p : Option (List ℕ)) → PlaysWritten w a [] a p p
 written_none w a p = ([], (plays_none a, subst (Appends p p) (sym (wanted_nil w)) (Appends-nil p)))
 
 -- one command
-pub written_one : (w : Bool) (a b : Simulated) (c : Command) (text : List ℕ) (p q : Option (List ℕ)) → Plays a c text b → Appends p q (if_wanted w text) → PlaysWritten w a (c ∷ []) b p q
+pub written_one : (w : Bool) (a b : SimulationView) (c : Command) (text : List ℕ) (p q : Option (List ℕ)) → Plays a c text b
+    → Appends p q (if_wanted w text) → PlaysWritten w a (c ∷ []) b p q
 written_one w a b c text p q plays written = (text, (plays_one a b c text plays, written))
 
 -- a beginning of its lines
-pub written_part : (w : Bool) (a b : Simulated) (c : Command) (text : List ℕ) (p q : Option (List ℕ)) → Plays a c text b → AppendsSome p q (if_wanted w text) → PlaysWrittenSome w a (c ∷ []) p q
-written_part w a b c text p q plays written = (text, (record { taken = c ∷ []; later = []; split = refl; new = b; plays = plays_one a b c text plays }, written))
+pub written_part : (w : Bool) (a b : SimulationView) (c : Command) (text : List ℕ) (p q : Option (List ℕ)) → Plays a c text b
+    → AppendsSome p q (if_wanted w text) → PlaysWrittenSome w a (c ∷ []) p q
+written_part w a b c text p q plays written =
+    (text, (record { taken = c ∷ []; later = []; split = refl; new = b; plays = plays_one a b c text plays }, written))
 
 -- none of the commands
-pub written_nothing : (w : Bool) (a : Simulated) (cs : List Command) (p : Option (List ℕ)) → PlaysWrittenSome w a cs p p
+pub written_nothing : (w : Bool) (a : SimulationView) (cs : List Command) (p : Option (List ℕ)) → PlaysWrittenSome w a cs p p
 written_nothing w a cs p = ([], (record { taken = []; later = cs; split = refl; new = a; plays = plays_none a }, nothing_some p _))
 
 -- commands, and then others
-pub written_both : (w : Bool) (a b c : Simulated) (xs ys : List Command) (p q r : Option (List ℕ)) → PlaysWritten w a xs b p q → PlaysWritten w b ys c q r → PlaysWritten w a (xs ++ ys) c p r
+pub written_both : (w : Bool) (a b c : SimulationView) (xs ys : List Command) (p q r : Option (List ℕ)) → PlaysWritten w a xs b p q
+    → PlaysWritten w b ys c q r → PlaysWritten w a (xs ++ ys) c p r
 written_both w a b c xs ys p q r first second = (
   first.0 ++ second.0,
   (
     plays_append a b c xs ys first.0 second.0 first.1.0 second.1.0,
-    subst (Appends p r) (wanted_append w first.0 second.0) (Appends-trans p q r (if_wanted w first.0) (if_wanted w second.0) first.1.1 second.1.1),
+    subst (Appends p r) (wanted_append w first.0 second.0)
+        (Appends-trans p q r (if_wanted w first.0) (if_wanted w second.0) first.1.1 second.1.1),
   ),
 )
 
 -- commands, and then the first of others
-pub written_after : (w : Bool) (a b : Simulated) (xs ys : List Command) (p q r : Option (List ℕ)) → PlaysWritten w a xs b p q → PlaysWrittenSome w b ys q r → PlaysWrittenSome w a (xs ++ ys) p r
+pub written_after : (w : Bool) (a b : SimulationView) (xs ys : List Command) (p q r : Option (List ℕ)) → PlaysWritten w a xs b p q
+    → PlaysWrittenSome w b ys q r → PlaysWrittenSome w a (xs ++ ys) p r
 written_after w a b xs ys p q r first (text, (some, written)) = (
   first.0 ++ text,
   (
@@ -73,7 +79,8 @@ written_after w a b xs ys p q r first (text, (some, written)) = (
 )
 
 -- the first of some commands are the first of more
-pub written_longer : (w : Bool) (a : Simulated) (xs ys : List Command) (p q : Option (List ℕ)) → PlaysWrittenSome w a xs p q → PlaysWrittenSome w a (xs ++ ys) p q
+pub written_longer : (w : Bool) (a : SimulationView) (xs ys : List Command) (p q : Option (List ℕ)) → PlaysWrittenSome w a xs p q
+    → PlaysWrittenSome w a (xs ++ ys) p q
 written_longer w a xs ys p q (text, (some, written)) = (
   text,
   (

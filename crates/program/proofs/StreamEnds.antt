@@ -1,22 +1,23 @@
--- A stream that begins, ends or fails.
+-- A stream that starts, ends or fails.
 use Rattle.std.proofs.Common.{◌≡◌, ℕ, List, [], ◌∷◌, take, refl, sym, ap, subst, ◌∙◌, append-nil, inl, lit<, arith}
 use Rattle.std.specs.Prelude.{Option, Some, None}
 use Rattle.std.specs.Io.KnownBytes.{Consumes, Keeps}
 use Rattle.std.proofs.KnownBytes.{Appends-nil, Consumes-nil, Consumes-trans, Consumes-kept}
 use Rattle.ledger_model.specs.declared.statement.SignedStatement.{SignedStatement}
 use Rattle.ledger_model.specs.Streams.{SplitsTo}
-use Rattle.signed_frames.specs.Reader.{Reader, Reading, Found, Failed}
-use Rattle.locked_replica.specs.Replicas.{Replica}
+use Rattle.signed_frames.specs.Reader.{FrameReaderView, Reading, Found, Failed}
+use Rattle.locked_replica.specs.States.{StateView}
 use Rattle.program.specs.declared.stream_end.StreamEnd.{StreamEnd}
 use Rattle.program.specs.declared.stream_end.StreamEnd.TheVariants.{Whole, Cut, Fault}
 use Rattle.program.specs.declared.stream_end.StreamFault.{StreamFault}
 use Rattle.program.specs.Answering.{deliveries}
 use Rattle.program.specs.Streams.{Ended, GoesOn, IsReadTo, Stands, Stopped, UnderWay}
-use Rattle.program_streams.proofs.WritingLemmas.{all_some}
+use Rattle.byte_streams.proofs.WritingLemmas.{all_some}
 use Rattle.program.proofs.AnsweringLemmas.{answers_none, some_all}
 
 -- nothing was read yet
-pub begun : (start : Replica) (unread before : Option (List ℕ)) (reader : Reader) → reader ≡ Reading [] → UnderWay start unread unread before before start reader
+pub begun : (start : StateView) (unread before : Option (List ℕ)) (reader : FrameReaderView) → reader ≡ Reading []
+    → UnderWay start unread unread before before start reader
 begun start unread before reader reading = record {
   input = [];
   frames = [];
@@ -30,16 +31,19 @@ begun start unread before reader reading = record {
 }
 
 -- nothing was left to read
-pub ended_of : (start state : Replica) (unread now left before out : Option (List ℕ)) (reader : Reader) (end : StreamEnd) (n : ℕ) (piece : List ℕ)
+pub ended_of : (start state : StateView) (unread now left before out : Option (List ℕ)) (reader : FrameReaderView) (end : StreamEnd)
+    (n : ℕ) (piece : List ℕ)
     → UnderWay start unread now before out state reader → Consumes now left (take n piece) → n ≡ 0 → IsReadTo end left
-    → ((input : List ℕ) (given : List SignedStatement) (kept : List ℕ) → reader ≡ Reading kept → SplitsTo input given kept → Stands input given end)
+    → ((input : List ℕ) (given : List SignedStatement) (kept : List ℕ) → reader ≡ Reading kept → SplitsTo input given kept
+    → Stands input given end)
     → Ended start unread left before out state end
 ended_of start state unread now left before out reader end n piece so_far read none to_end stands =
     let nothing : Consumes now left [] = subst (λ k. Consumes now left (take k piece)) none read in record {
       input = so_far.input;
       frames = so_far.frames;
       text = so_far.text;
-      read = subst (λ l. Consumes unread left l) (append-nil so_far.input) (Consumes-trans unread now left so_far.input [] so_far.read nothing);
+      read = subst (λ l. Consumes unread left l) (append-nil so_far.input)
+          (Consumes-trans unread now left so_far.input [] so_far.read nothing);
       found = to_end;
       stands = stands so_far.input so_far.frames so_far.kept so_far.reading so_far.given;
       answers = so_far.answers;
@@ -47,17 +51,22 @@ ended_of start state unread now left before out reader end n piece so_far read n
     }
 
 -- a fault was found
-pub ends_at : (start state : Replica) (unread left before after : Option (List ℕ)) (reader : Reader) (found : Option StreamFault) (fault : StreamFault) → found ≡ Some fault
+pub ends_at : (start state : StateView) (unread left before after : Option (List ℕ)) (reader : FrameReaderView)
+    (found : Option StreamFault) (fault : StreamFault) → found ≡ Some fault
     → GoesOn start unread left before after state reader found → Ended start unread left before after state (Fault fault)
-ends_at start state unread left before after reader found fault is goes = subst (λ f. GoesOn start unread left before after state reader f) is goes
+ends_at start state unread left before after reader found fault is goes =
+    subst (λ f. GoesOn start unread left before after state reader f) is goes
 
 -- none was found
-pub goes_on : (start state : Replica) (unread left before after : Option (List ℕ)) (reader : Reader) (found : Option StreamFault) → found ≡ None
+pub goes_on : (start state : StateView) (unread left before after : Option (List ℕ)) (reader : FrameReaderView)
+    (found : Option StreamFault) → found ≡ None
     → GoesOn start unread left before after state reader found → UnderWay start unread left before after state reader
-goes_on start state unread left before after reader found is goes = subst (λ f. GoesOn start unread left before after state reader f) is goes
+goes_on start state unread left before after reader found is goes =
+    subst (λ f. GoesOn start unread left before after state reader f) is goes
 
 -- nothing more could be read
-pub stopped_of : (start state : Replica) (unread now left before out : Option (List ℕ)) (reader : Reader) → UnderWay start unread now before out state reader → Keeps now left
+pub stopped_of : (start state : StateView) (unread now left before out : Option (List ℕ)) (reader : FrameReaderView)
+    → UnderWay start unread now before out state reader → Keeps now left
     → Stopped start unread left before out state
 stopped_of start state unread now left before out reader so_far keeps = record {
   input = so_far.input;
@@ -71,18 +80,20 @@ stopped_of start state unread now left before out reader so_far keeps = record {
 }
 
 -- what a reader keeps
-kept_of : Reader → List ℕ
+kept_of : FrameReaderView → List ℕ
 kept_of (Reading kept) = kept
 kept_of (Found found) = []
 kept_of Failed = []
 
 -- a stream of whole frames
-pub whole_stands : (reader : Reader) (input kept : List ℕ) (given : List SignedStatement) → reader ≡ Reading [] → reader ≡ Reading kept → SplitsTo input given kept → Stands input given Whole
+pub whole_stands : (reader : FrameReaderView) (input kept : List ℕ) (given : List SignedStatement) → reader ≡ Reading []
+    → reader ≡ Reading kept → SplitsTo input given kept → Stands input given Whole
 unfolding kept_of
 whole_stands reader input kept given between reading splits =
     let none : kept ≡ [] = ap kept_of (sym reading ∙ between) in subst (λ k. SplitsTo input given k) none splits
 
 -- a stream that breaks off within a frame
-pub cut_stands : (reader : Reader) (input kept : List ℕ) (given : List SignedStatement) → (reader ≡ Reading [] → ⊥) → reader ≡ Reading kept → SplitsTo input given kept → Stands input given Cut
+pub cut_stands : (reader : FrameReaderView) (input kept : List ℕ) (given : List SignedStatement) → (reader ≡ Reading [] → ⊥)
+    → reader ≡ Reading kept → SplitsTo input given kept → Stands input given Cut
 cut_stands reader input [] given within reading splits = absurd (within reading)
 cut_stands reader input (b ∷ bs) given within reading splits = (b ∷ bs, (splits, omega arith))

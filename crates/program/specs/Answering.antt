@@ -1,4 +1,4 @@
--- What a replica answers to events, one after the other, and which text is printed of its replies.
+-- A replica's replies to events in order, and the text that is printed for them.
 use Rattle.std.specs.Prelude.{◌≡◌, ℕ, List, [], ◌∷◌, ◌++◌, map, replicate, Option, Result, MatchResult}
 use Rattle.ledger_model.specs.declared.event.Event.{Event}
 use Rattle.ledger_model.specs.declared.event.Event.TheVariants as event
@@ -7,70 +7,63 @@ use Rattle.ledger_model.specs.declared.statement.SignedStatement.{SignedStatemen
 use Rattle.ledger_model.specs.Spelling.{frame_bytes}
 use Rattle.ledger_model.specs.Applications.{run}
 use Rattle.ledger_model.specs.Lawful.{Replay}
-use Rattle.cluster_keys.specs.Keys.{ring_of, secret_of}
-use Rattle.locked_replica.specs.Replicas.{Replica, AccountsForLeaves, UsesAsSigned}
+use Rattle.cluster_keys.specs.Keys.{ring_of, secret_of, unused}
+use Rattle.locked_replica.specs.States.{StateView, AccountsForLeaves, UsesAsSigned, new_state}
 use Rattle.settings.specs.declared.deliver.DeliverSettings.{DeliverSettings}
 use Rattle.program.specs.Lines.{lines_of}
-use Rattle.program_streams.specs.Writing.{AppendsSome}
+use Rattle.byte_streams.specs.Writing.{AppendsSome}
 use Rattle.std.specs.Io.KnownBytes.{Appends}
 
--- these entries were added to the replica's history, which stays a replay, and it is the same replica; each statement of its own
--- that they send took one leaf, and it is mute only because too few leaves were left
-pub record Grows (old : Replica) (added : List Entry) (new : Replica) : Type 0 where
+-- These entries were added to the history of the same replica, and the history stays a replay. Each statement of its
+-- own that the entries send used one leaf, and the replica is mute only if too few leaves were left.
+pub record Grows (old : StateView) (added : List Entry) (new : StateView) : Type 0 where
   pub entries : new.entries ≡ old.entries ++ added
   pub same : new ≡ record old { used = new.used; entries = new.entries; machine = new.machine }
   pub replay : Replay old.config old.ring old.id old.entries → Replay new.config new.ring new.id new.entries
   pub signed : UsesAsSigned old new
   pub account : AccountsForLeaves old → AccountsForLeaves new
 
--- the replica took no event, but leaves may be used
-pub record Refuses (old new : Replica) : Type 0 where
+-- the replica took no event, but it may have used leaves
+pub record Refuses (old new : StateView) : Type 0 where
   pub same : new ≡ record old { used = new.used; machine = new.machine }
 
 -- the replica took these events, in order; the text is the lines of its replies
-pub record Answers (old : Replica) (events : List Event) (text : List ℕ) (new : Replica) : Type 0 where
+pub record Answers (old : StateView) (events : List Event) (text : List ℕ) (new : StateView) : Type 0 where
   pub added : List Entry
   pub grown : Grows old added new
   pub these : map (λ e. e.event) added ≡ events
   pub lines : lines_of added ≡ text
 
 -- the replica took the first of these events, and may have refused the next one; the text is the lines of its replies
-pub record AnswersSome (old : Replica) (events : List Event) (text : List ℕ) (new : Replica) : Type 0 where
+pub record AnswersSome (old : StateView) (events : List Event) (text : List ℕ) (new : StateView) : Type 0 where
   pub taken : List Event
   pub later : List Event
   pub split : taken ++ later ≡ events
-  pub last : Replica
+  pub last : StateView
   pub answers : Answers old taken text last
   pub refused : Refuses last new
 
 -- the replica took these events, and the lines of its replies were written
-abbrev pub Printed : Replica → List Event → Replica → Option (List ℕ) → Option (List ℕ) → Type 0
+abbrev pub Printed : StateView → List Event → StateView → Option (List ℕ) → Option (List ℕ) → Type 0
 Printed old events new before after = (text : List ℕ) × (Answers old events text new × Appends before after text)
 
--- the replica took the first of these events, and a beginning of the lines of its replies was written
-abbrev pub PrintedSome : Replica → List Event → Replica → Option (List ℕ) → Option (List ℕ) → Type 0
+-- the replica took the first of these events, and a prefix of the lines of its replies was written
+abbrev pub PrintedSome : StateView → List Event → StateView → Option (List ℕ) → Option (List ℕ) → Type 0
 PrintedSome old events new before after = (text : List ℕ) × (AnswersSome old events text new × AppendsSome before after text)
 
--- all of that, or some where there is a fault
-abbrev pub Prints : {T E : Type 0} → Result T E → Replica → List Event → Replica → Option (List ℕ) → Option (List ℕ) → Type 0
-Prints result old events new before after = MatchResult result (λ _. Printed old events new before after) (λ _. PrintedSome old events new before after)
+-- the replica took all events and all lines were written, or, after a fault, only some
+abbrev pub Prints : {T E : Type 0} → Result T E → StateView → List Event → StateView → Option (List ℕ) → Option (List ℕ) → Type 0
+Prints result old events new before after =
+    MatchResult result (λ _. Printed old events new before after) (λ _. PrintedSome old events new before after)
 
 -- the deliveries of frames
 abbrev pub deliveries : List SignedStatement → List Event
 deliveries frames = map (λ f. event.Deliver (frame_bytes f)) frames
 
--- the replica of the settings, to which nothing happened
-abbrev pub fresh : DeliverSettings → Replica
-fresh s = record {
-  config = s.cluster.config;
-  id = s.replica;
-  ring = ring_of s.cluster;
-  secret = secret_of s.cluster s.replica;
-  used = 0;
-  entries = [];
-  machine = run s.cluster.config.kind [];
-}
+-- the replica of the settings, with an empty history
+abbrev pub fresh : DeliverSettings → StateView
+fresh s = new_state s.cluster.config s.replica (ring_of s.cluster) (unused (secret_of s.cluster s.replica))
 
--- what happens before the first frame is delivered: the value is submitted, the height proposed, the rounds end
+-- what happens before the first frame is delivered: the value is submitted, the height is proposed, and the rounds end
 abbrev pub starting : DeliverSettings → List Event
 starting s = event.Submit s.value ∷ event.Propose s.height ∷ replicate s.rounds event.RoundEnd

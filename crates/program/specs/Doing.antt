@@ -1,12 +1,12 @@
--- What the program does, for the words that it is given and the bytes that it reads.
+-- What the program does for the words of the command line and the bytes that it reads.
 use Rattle.std.specs.Prelude.{◌≡◌, ℕ, List, [], Option, ⊤}
 use Rattle.ledger_model.specs.Spelling.{frame_bytes}
 use Rattle.settings.specs.declared.Settings.{Settings}
 use Rattle.settings.specs.declared.Settings.TheVariants as settings
 use Rattle.settings.specs.declared.sign.SignSettings.{SignSettings}
 use Rattle.command_line.specs.Options.{IsSet}
-use Rattle.frame_signing.specs.Statements.{signed}
-use Rattle.program_streams.specs.Responding.{Responds, RespondsSome}
+use Rattle.program.specs.Statements.{signed}
+use Rattle.byte_streams.specs.Responding.{Responds, RespondsSome}
 use Rattle.program.specs.declared.stream_end.StreamEnd.{StreamEnd}
 use Rattle.program.specs.declared.stream_end.StreamEnd.TheVariants as stream
 use Rattle.program.specs.Streams.{DeliversStream, DeliversStreamSome}
@@ -18,7 +18,7 @@ use Rattle.program.specs.declared.outcome.Outcome.TheVariants as outcome
 use Rattle.program.specs.declared.outcome.Piped.{Piped}
 use Rattle.program.specs.declared.outcome.Piped.TheVariants as piped
 
--- the exit status: 0 where nothing was wrong with standard input, or it wasn't read, and 1 where something was
+-- the exit status: 0 if the input was right, 1 if something was wrong with it
 abbrev pub status_of_stream : StreamEnd → ℕ
 status_of_stream stream.Whole = 0
 status_of_stream stream.Cut = 1
@@ -28,21 +28,23 @@ abbrev pub status_of_text : TextEnd → ℕ
 status_of_text scenario.Whole = 0
 status_of_text (scenario.BadLine n) = 1
 
--- of no bytes the frame of the settings is printed
+-- the program reads nothing, and prints the frame of the settings
 abbrev pub Signs : SignSettings → List ℕ → List ℕ → Type 0
 Signs s input text = (input ≡ []) × (text ≡ frame_bytes (signed s))
 
--- these settings were done over streams alone, with this status: `abft sign` wrote its frame, `abft deliver` read to the end of the
--- stream and wrote a line for each frame, `abft simulate` read to the end of the text and wrote what its scenario comes to, or as far as the
--- first bad line is the same one however the text goes on
+-- The settings, which need only streams, were done with this status. `abft sign` wrote its frame. `abft deliver` read
+-- the stream as far as its end or its first fault, and wrote a line for each frame. `abft simulate` read the text to
+-- its end and wrote what its scenario gives, or read it as far as its first bad line is certain.
 abbrev pub Done : Settings → ℕ → Option (List ℕ) → Option (List ℕ) → Option (List ℕ) → Option (List ℕ) → Type 0
 Done (settings.Sign s) status unread left before after = (status ≡ 0) × Responds (Signs s) unread left before after
-Done (settings.Deliver s) status unread left before after = (end : StreamEnd) × ((status ≡ status_of_stream end) × DeliversStream s end unread left before after)
-Done (settings.Simulate s) status unread left before after = (end : TextEnd) × ((status ≡ status_of_text end) × PlaysText s end unread left before after)
+Done (settings.Deliver s) status unread left before after =
+    (end : StreamEnd) × ((status ≡ status_of_stream end) × DeliversStream s end unread left before after)
+Done (settings.Simulate s) status unread left before after =
+    (end : TextEnd) × ((status ≡ status_of_text end) × PlaysText s end unread left before after)
 Done (settings.Cluster s) status unread left before after = ⊥
 Done (settings.Serve s) status unread left before after = ⊥
 
--- they were begun: some of that was read, and a beginning of what is printed of it was written
+-- the settings were begun: part of the input was read, and a prefix of the text for it was written
 abbrev pub Halted : Settings → Option (List ℕ) → Option (List ℕ) → Option (List ℕ) → Option (List ℕ) → Type 0
 Halted (settings.Sign s) unread left before after = RespondsSome (Signs s) unread left before after
 Halted (settings.Deliver s) unread left before after = DeliversStreamSome s unread left before after
@@ -50,37 +52,37 @@ Halted (settings.Simulate s) unread left before after = PlaysTextSome s unread l
 Halted (settings.Cluster s) unread left before after = ⊥
 Halted (settings.Serve s) unread left before after = ⊥
 
--- settings of the words were done, with this status
+-- settings that the words ask for were done, with this status
 pub record Performs (words : List (List ℕ)) (status : ℕ) (unread left before after : Option (List ℕ)) : Type 0 where
   pub settings : Settings
   pub set : IsSet words settings
   pub done : Done settings status unread left before after
 
--- settings of the words were begun
+-- settings that the words ask for were begun
 pub record Begins (words : List (List ℕ)) (unread left before after : Option (List ℕ)) : Type 0 where
   pub settings : Settings
   pub set : IsSet words settings
   pub halted : Halted settings unread left before after
 
--- this holds of the exit status, if the program ended
+-- the exit status satisfies this, if the program ended
 abbrev pub IfEnded : Outcome → (ℕ → Type 0) → Type 0
 IfEnded (outcome.Ended status) Holds = Holds status
 IfEnded (outcome.Cluster s) Holds = ⊤
 IfEnded (outcome.Serve s) Holds = ⊤
 
--- this holds of the settings that were handed back, if some were
+-- the settings that were returned satisfy this, if some were
 abbrev pub IfHanded : Outcome → (Settings → Type 0) → Type 0
 IfHanded (outcome.Ended status) Holds = ⊤
 IfHanded (outcome.Cluster s) Holds = Holds (settings.Cluster s)
 IfHanded (outcome.Serve s) Holds = Holds (settings.Serve s)
 
--- these settings were handed back
+-- these settings were returned
 abbrev pub IsHanded : Settings → Outcome → Type 0
 IsHanded x (outcome.Ended status) = ⊥
 IsHanded x (outcome.Cluster s) = x ≡ settings.Cluster s
 IsHanded x (outcome.Serve s) = x ≡ settings.Serve s
 
--- what is done over streams, as settings
+-- what needs only streams, as settings
 abbrev pub settings_of : Piped → Settings
 settings_of (piped.Sign s) = settings.Sign s
 settings_of (piped.Deliver s) = settings.Deliver s

@@ -4,3 +4,4 @@ pub mod Answering
 pub mod Streams
 pub mod Simulating
 pub mod Doing
+pub mod Statements

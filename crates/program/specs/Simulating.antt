@@ -1,11 +1,12 @@
--- What `abft simulate` writes of a scenario.
-use Rattle.std.specs.Prelude.{◌≡◌, ◌⊎◌, ℕ, ◌≤◌, Bool, not, List, [], ◌∷◌, ◌++◌, length, codes, decimal, Option, Result, MatchResult, unwrap_or, if◌then◌else◌}
+-- What `abft simulate` writes for a scenario.
+use Rattle.std.specs.Prelude.{◌≡◌, ◌⊎◌, ℕ, ◌≤◌, Bool, not, List, [], ◌∷◌, ◌++◌, length, codes, decimal, Option, Result, MatchResult}
+use Rattle.std.specs.Prelude.{unwrap_or, if◌then◌else◌}
 use Rattle.std.specs.List.{flat_map}
 use Rattle.std.specs.Io.KnownBytes.{Appends, Consumes, IsAtEnd}
 use Rattle.ledger_model.specs.declared.config.Config.{Config}
-use Rattle.cluster_keys.specs.declared.cluster.Cluster.{Cluster}
+use Rattle.cluster_keys.specs.declared.cluster_seed.ClusterSeed.{ClusterSeed}
 use Rattle.cluster_keys.specs.Keys.{secret_of}
-use Rattle.adversary_net.specs.Clusters.{RunningCluster, AllAccountForLeaves, HasRun, world_of}
+use Rattle.adversary_net.specs.WorldViews.{WorldView, AllAccountForLeaves, HasRun, world_of}
 use Rattle.adversary_net.specs.Headline.{IsUnforged, IsOneLedger}
 use Rattle.adversary_net.specs.Openings.{new_cluster}
 use Rattle.history_bytes.specs.Histories.{history_bytes}
@@ -13,44 +14,44 @@ use Rattle.scenario_texts.specs.declared.command.Command.{Command}
 use Rattle.scenario_texts.specs.Lawful.{IsPlan}
 use Rattle.scenario_texts.specs.Plans.{Plan, plan_of, small_keys}
 use Rattle.scenario_texts.specs.Lines.{Spells, IsBadAt, IsTooLarge}
-use Rattle.simulation.specs.Playing.{Simulated, PlaysAll}
+use Rattle.simulation.specs.Playing.{SimulationView, PlaysAll}
 use Rattle.settings.specs.declared.simulate.SimulateSettings.{SimulateSettings}
-use Rattle.program_streams.specs.Writing.{AppendsSome}
-use Rattle.program_streams.specs.Responding.{Responds, RespondsSome}
+use Rattle.byte_streams.specs.Writing.{AppendsSome}
+use Rattle.byte_streams.specs.Responding.{Responds, RespondsSome}
 use Rattle.program.specs.declared.scenario_input.ScenarioInput.{ScenarioInput}
 use Rattle.program.specs.declared.scenario_input.ScenarioInput.TheVariants as input
 use Rattle.program.specs.declared.text_end.TextEnd.{TextEnd}
 use Rattle.program.specs.declared.text_end.TextEnd.TheVariants.{Whole, BadLine}
 
--- the configuration is that of a plan
+-- the configuration is the one of the plan
 pub record IsConfigOf (p : Plan) (config : Config) : Type 0 where
   pub replicas : config.replicas ≡ p.replicas
   pub faults : config.faults ≡ p.faults
   pub kind : config.kind ≡ p.kind
 
--- the cluster of a plan of this configuration, whose keys come from this seed
-abbrev pub cluster_of : List ℕ → Config → Plan → Cluster
+-- the cluster of the plan with this configuration, whose keys come from this seed
+abbrev pub cluster_of : List ℕ → Config → Plan → ClusterSeed
 cluster_of seed config p = record { config = config; params = unwrap_or p.keys small_keys; seed = seed }
 
--- the cluster as it begins, and no lie
-abbrev pub opening : List ℕ → Config → Plan → Simulated
+-- the cluster at its start, with no lie
+abbrev pub opening : List ℕ → Config → Plan → SimulationView
 opening seed config p = record { cluster = new_cluster config (secret_of (cluster_of seed config p)) p.liars; lies = [] }
 
--- the histories of the correct replicas as bytes, by ascending numbers
-abbrev pub histories_of : RunningCluster → List ℕ
+-- the histories of the correct replicas as bytes, in ascending order of their numbers
+abbrev pub histories_of : WorldView → List ℕ
 histories_of c = flat_map history_bytes (world_of c).histories
 
--- lines, where they are wanted
+-- the lines, if they are wanted
 abbrev pub if_wanted : Bool → List ℕ → List ℕ
 if_wanted wanted lines = if wanted then lines else []
 
--- the commands of a plan were played: it was a run from the beginning, one sequential ledger where nothing was forged, in which
--- each correct replica is mute only because too few leaves were left; and the text is its lines, or the histories of its end
+-- The commands of the plan were played in a run from the start, which is a run of one sequential ledger if nothing was forged. Each
+-- correct replica is mute only if too few leaves were left. The text is the lines of the commands, or the histories at the end.
 pub record Played (s : SimulateSettings) (p : Plan) (text : List ℕ) : Type 0 where
   pub config : Config
   pub sized : IsConfigOf p config
   pub lines : List ℕ
-  pub final : Simulated
+  pub final : SimulationView
   pub plays : PlaysAll (opening s.seed config p) p.commands lines final
   pub since : HasRun final.cluster
   pub one_ledger : IsUnforged final.cluster → IsOneLedger final.cluster
@@ -58,35 +59,37 @@ pub record Played (s : SimulateSettings) (p : Plan) (text : List ℕ) : Type 0 w
   pub written : text ≡ if s.histories then histories_of final.cluster else lines
 
 -- the first commands of a list were played, with these lines
-pub record PlaysSome (old : Simulated) (commands : List Command) (lines : List ℕ) : Type 0 where
+pub record PlaysSome (old : SimulationView) (commands : List Command) (lines : List ℕ) : Type 0 where
   pub taken : List Command
   pub later : List Command
   pub split : taken ++ later ≡ commands
-  pub new : Simulated
+  pub new : SimulationView
   pub plays : PlaysAll old taken lines new
 
--- the first commands of a plan were played, and the text is their lines, where lines are wanted
+-- the first commands of the plan were played, and the text is their lines, if lines are wanted
 abbrev pub PlayedSome : SimulateSettings → Plan → List ℕ → Type 0
-PlayedSome s p text = (config : Config) × (IsConfigOf p config × ((lines : List ℕ) × (PlaysSome (opening s.seed config p) p.commands lines × (text ≡ if_wanted (not s.histories) lines))))
+PlayedSome s p text = (config : Config)
+    × (IsConfigOf p config × ((lines : List ℕ)
+    × (PlaysSome (opening s.seed config p) p.commands lines × (text ≡ if_wanted (not s.histories) lines))))
 
--- the line that tells the number of a bad line
+-- the line with the number of a bad line
 abbrev pub bad_line : ℕ → List ℕ
 bad_line n = codes "line " ++ decimal n ++ codes " bad" ++ 10 ∷ []
 
--- what is printed of a text: what a plan that it spells comes to, or its first bad line
+-- what is printed for an input: the text of the plan that it encodes, or its first bad line
 abbrev pub Simulates : SimulateSettings → List ℕ → TextEnd → List ℕ → Type 0
 Simulates s input Whole text = (p : Plan) × (Spells input p × Played s p text)
 Simulates s input (BadLine n) text = IsBadAt input n × (text ≡ bad_line n)
 
--- the same as far as it came
+-- a part of what is printed for an input: nothing, or the lines of the first commands
 abbrev pub SimulatesSome : SimulateSettings → List ℕ → List ℕ → Type 0
 SimulatesSome s input text = (text ≡ []) ⊎ ((p : Plan) × (Spells input p × PlayedSome s p text))
 
--- line n is the first bad one however the text goes on
+-- line n is the first bad one, however the text continues
 abbrev pub IsBadAnyway : List ℕ → ℕ → Type 0
 IsBadAnyway input n = (more : List ℕ) → IsBadAt (input ++ more) n
 
--- no more than one piece of 8,192 bytes was read after the text had become too large for a scenario
+-- at most one piece of 8,192 bytes was read after the text had become too large for a scenario
 pub record IsReadInTime (text : List ℕ) : Type 0 where
   pub before : List ℕ
   pub piece : List ℕ
@@ -94,37 +97,44 @@ pub record IsReadInTime (text : List ℕ) : Type 0 where
   pub fits : IsTooLarge before → ⊥
   pub short : length piece ≤ 8192
 
--- to find a scenario all that there is was read; where a line is bad anyway some may be left
+-- for a scenario the whole input was read; for a bad line, the rest may be unread if the line is bad however the text continues
 abbrev pub IsReadFor : TextEnd → List ℕ → Option (List ℕ) → Type 0
 IsReadFor Whole input left = IsAtEnd left
 IsReadFor (BadLine n) input left = IsAtEnd left ⊎ IsBadAnyway input n
 
--- a text was read as far as its end shows, and what is printed of it was written
+-- a text was read as far as its result needs, and what is printed for it was written
 abbrev pub PlaysText : SimulateSettings → TextEnd → Option (List ℕ) → Option (List ℕ) → Option (List ℕ) → Option (List ℕ) → Type 0
-PlaysText s end unread left before after = Responds (λ input text. IsReadFor end input left × (IsReadInTime input × Simulates s input end text)) unread left before after
+PlaysText s end unread left before after =
+    Responds (λ input text. IsReadFor end input left × (IsReadInTime input × Simulates s input end text)) unread left before after
 
--- some of it was read, and a beginning of what is printed of that was written
+-- part of the input was read, and a prefix of what is printed for it was written
 abbrev pub PlaysTextSome : SimulateSettings → Option (List ℕ) → Option (List ℕ) → Option (List ℕ) → Option (List ℕ) → Type 0
 PlaysTextSome s unread left before after =
-    RespondsSome (λ input text. IsReadInTime input × (SimulatesSome s input text ⊎ ((end : TextEnd) × Simulates s input end text))) unread left before after
+    RespondsSome (λ input text. IsReadInTime input × (SimulatesSome s input text ⊎ ((end : TextEnd) × Simulates s input end text))) unread
+    left before after
 
--- ---- what calls say
+-- ---- the results of calls
 
--- what was read of a stream is a scenario, or its first bad line has this number
+-- what was read of the stream is a scenario, or its first bad line has this number
 abbrev pub IsRead : ScenarioInput → Option (List ℕ) → Option (List ℕ) → Type 0
 IsRead (input.Scenario scenario) unread left =
-    (text : List ℕ) × (Consumes unread left text × (IsReadInTime text × (IsAtEnd left × (Spells text (plan_of scenario) × IsPlan (plan_of scenario)))))
-IsRead (input.BadLine n) unread left = (text : List ℕ) × (Consumes unread left text × (IsReadInTime text × ((IsAtEnd left ⊎ IsBadAnyway text n) × IsBadAt text n)))
+    (text : List ℕ) × (Consumes unread left text
+    × (IsReadInTime text × (IsAtEnd left × (Spells text (plan_of scenario) × IsPlan (plan_of scenario)))))
+IsRead (input.BadLine n) unread left =
+    (text : List ℕ) × (Consumes unread left text × (IsReadInTime text × ((IsAtEnd left ⊎ IsBadAnyway text n) × IsBadAt text n)))
 
--- commands were played, and their lines written, if they are wanted
-abbrev pub PlaysWritten : Bool → Simulated → List Command → Simulated → Option (List ℕ) → Option (List ℕ) → Type 0
-PlaysWritten wanted old commands new before after = (lines : List ℕ) × (PlaysAll old commands lines new × Appends before after (if_wanted wanted lines))
+-- the commands were played, and their lines were written if they are wanted
+abbrev pub PlaysWritten : Bool → SimulationView → List Command → SimulationView → Option (List ℕ) → Option (List ℕ) → Type 0
+PlaysWritten wanted old commands new before after =
+    (lines : List ℕ) × (PlaysAll old commands lines new × Appends before after (if_wanted wanted lines))
 
--- the first of them were played, and a beginning of their lines was written
-abbrev pub PlaysWrittenSome : Bool → Simulated → List Command → Option (List ℕ) → Option (List ℕ) → Type 0
-PlaysWrittenSome wanted old commands before after = (lines : List ℕ) × (PlaysSome old commands lines × AppendsSome before after (if_wanted wanted lines))
+-- the first commands were played, and a prefix of their lines was written
+abbrev pub PlaysWrittenSome : Bool → SimulationView → List Command → Option (List ℕ) → Option (List ℕ) → Type 0
+PlaysWrittenSome wanted old commands before after =
+    (lines : List ℕ) × (PlaysSome old commands lines × AppendsSome before after (if_wanted wanted lines))
 
--- a plan was played, in whole or in part, and what is printed of it was written, or a beginning of that
+-- The plan was played and what is printed for it was written; or, after a fault, it was played in whole or in part, and
+-- a prefix was written.
 abbrev pub PlansWritten : {T E : Type 0} → Result T E → SimulateSettings → Plan → Option (List ℕ) → Option (List ℕ) → Type 0
 PlansWritten result s p before after = MatchResult result
     (λ _. (text : List ℕ) × (Played s p text × Appends before after text))

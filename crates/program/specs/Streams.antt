@@ -1,4 +1,4 @@
--- A stream of frames that are delivered: where it ends, and what is printed.
+-- A stream whose frames are delivered: how it ends, and what is printed.
 use Rattle.std.specs.Prelude.{◌≡◌, ◌⊎◌, ℕ, ◌≤◌, List, [], ◌++◌, length, map, Option, Some, None, ⊤}
 use Rattle.std.specs.Io.KnownBytes.{Appends, Consumes, IsAtEnd}
 use Rattle.ledger_model.specs.declared.event.Event.{Event}
@@ -9,11 +9,11 @@ use Rattle.ledger_model.specs.Lawful.{Replay}
 use Rattle.ledger_model.specs.Streams.{BeginsTooLong, BeginsMalformed, SplitsTo, BreaksOff}
 use Rattle.signed_frames.specs.declared.fault.FrameFault.{FrameFault}
 use Rattle.signed_frames.specs.declared.fault.FrameFault.TheVariants as told
-use Rattle.signed_frames.specs.Reader.{Reader, Reading, Leaves}
+use Rattle.signed_frames.specs.Reader.{FrameReaderView, Reading, Leaves}
 use Rattle.key_ring.specs.Signers.{leaves_of}
 use Rattle.cluster_keys.specs.Keys.{ring_of, secret_of}
 use Rattle.replica_core.specs.Leaves.{IsMuteForWant}
-use Rattle.locked_replica.specs.Replicas.{Replica}
+use Rattle.locked_replica.specs.States.{StateView}
 use Rattle.settings.specs.declared.deliver.DeliverSettings.{DeliverSettings}
 use Rattle.program.specs.declared.stream_end.StreamFault.{StreamFault}
 use Rattle.program.specs.declared.stream_end.StreamFault.TheVariants.{TooLong, Malformed}
@@ -22,61 +22,63 @@ use Rattle.program.specs.declared.stream_end.StreamEnd.TheVariants.{Whole, Cut, 
 use Rattle.program.specs.Lines.{lines_of, last_line}
 use Rattle.program_streams.specs.declared.program_fault.ProgramFault.{ProgramFault}
 use Rattle.program_streams.specs.declared.program_fault.ProgramFault.TheVariants as fault
-use Rattle.program_streams.specs.Writing.{AppendsSome}
-use Rattle.program_streams.specs.Responding.{Responds, RespondsSome}
+use Rattle.byte_streams.specs.Writing.{AppendsSome}
+use Rattle.byte_streams.specs.Responding.{Responds, RespondsSome}
 use Rattle.program.specs.Answering.{Answers, AnswersSome, deliveries, starting}
+use Rattle.ledger_model.specs.Limits.{max_history_len}
 
--- behind these frames stands what begins no frame
+-- after these frames come bytes that no frame starts with
 abbrev pub Breaks : StreamFault → List ℕ → List SignedStatement → Type 0
 Breaks TooLong input frames = BreaksOff BeginsTooLong input frames
 Breaks Malformed input frames = BreaksOff BeginsMalformed input frames
 
--- the bytes of a stream are these frames, and end so behind them
+-- the bytes of the stream are these frames, followed by this end
 abbrev pub Stands : List ℕ → List SignedStatement → StreamEnd → Type 0
 Stands input frames Whole = SplitsTo input frames []
 Stands input frames Cut = (rest : List ℕ) × (SplitsTo input frames rest × (1 ≤ length rest))
 Stands input frames (Fault fault) = Breaks fault input frames
 
--- to find such an end all that there is was read; of what is behind a fault some may be left
+-- to find this end the whole stream was read; after a fault, the rest may be unread
 abbrev pub IsReadTo : StreamEnd → Option (List ℕ) → Type 0
 IsReadTo Whole left = IsAtEnd left
 IsReadTo Cut left = IsAtEnd left
 IsReadTo (Fault fault) left = Unit {0}
 
--- a reader's fault as that of the stream
+-- the fault of the stream for a fault of the frame reader
 abbrev pub IsTold : FrameFault → StreamFault → Type 0
 IsTold told.TooLong fault = fault ≡ TooLong
 IsTold told.Malformed fault = fault ≡ Malformed
 IsTold told.Failed fault = ⊥
 IsTold told.NoMemory fault = ⊥
 
--- the reader keeps these bytes, which are a beginning of a frame
-abbrev pub IsReading : Reader → Type 0
+-- the reader has found no fault, and has the first bytes of the next frame, if any
+abbrev pub IsReading : FrameReaderView → Type 0
 IsReading reader = (kept : List ℕ) × (reader ≡ Reading kept)
 
--- the reader has handed out frames, and failed at nothing
-abbrev pub IsFed : Reader → Type 0
+-- the reader has returned frames, and has not failed
+abbrev pub IsFed : FrameReaderView → Type 0
 IsFed reader = (bytes : List ℕ) × ((frames : List SignedStatement) × Leaves bytes frames reader)
 
--- the bytes are these frames and what the reader keeps, or a fault stands behind the frames
-abbrev pub GoesBehind : List ℕ → List SignedStatement → Reader → Option StreamFault → Type 0
+-- the bytes are these frames, followed by the bytes that the reader has; or a fault follows the frames
+abbrev pub GoesBehind : List ℕ → List SignedStatement → FrameReaderView → Option StreamFault → Type 0
 GoesBehind bytes frames reader None = (kept : List ℕ) × ((reader ≡ Reading kept) × SplitsTo bytes frames kept)
 GoesBehind bytes frames reader (Some fault) = Breaks fault bytes frames
 
--- since the start these bytes were read of the stream, their frames were delivered, and the lines of the replies were written
-pub record UnderWay (start : Replica) (unread left before after : Option (List ℕ)) (now : Replica) (reader : Reader) : Type 0 where
-  pub input : List ℕ
-  pub frames : List SignedStatement
-  pub text : List ℕ
-  pub read : Consumes unread left input
-  pub kept : List ℕ
-  pub reading : reader ≡ Reading kept
-  pub given : SplitsTo input frames kept
-  pub answers : Answers start (deliveries frames) text now
-  pub written : Appends before after text
+-- since the start, these bytes were read from the stream, their frames were delivered, and the lines of the replies were written
+pub record UnderWay (start : StateView) (unread left before after : Option (List ℕ)) (now : StateView) (reader : FrameReaderView) : Type 0
+  where
+    pub input : List ℕ
+    pub frames : List SignedStatement
+    pub text : List ℕ
+    pub read : Consumes unread left input
+    pub kept : List ℕ
+    pub reading : reader ≡ Reading kept
+    pub given : SplitsTo input frames kept
+    pub answers : Answers start (deliveries frames) text now
+    pub written : Appends before after text
 
--- the same, and the stream ends so behind the frames
-pub record Ended (start : Replica) (unread left before after : Option (List ℕ)) (now : Replica) (end : StreamEnd) : Type 0 where
+-- the same, and the stream has this end after the frames
+pub record Ended (start : StateView) (unread left before after : Option (List ℕ)) (now : StateView) (end : StreamEnd) : Type 0 where
   pub input : List ℕ
   pub frames : List SignedStatement
   pub text : List ℕ
@@ -86,8 +88,8 @@ pub record Ended (start : Replica) (unread left before after : Option (List ℕ)
   pub answers : Answers start (deliveries frames) text now
   pub written : Appends before after text
 
--- the same as far as it came before something failed
-pub record Stopped (start : Replica) (unread left before after : Option (List ℕ)) (now : Replica) : Type 0 where
+-- the same, as far as it came before something failed
+pub record Stopped (start : StateView) (unread left before after : Option (List ℕ)) (now : StateView) : Type 0 where
   pub input : List ℕ
   pub frames : List SignedStatement
   pub rest : List ℕ
@@ -97,18 +99,19 @@ pub record Stopped (start : Replica) (unread left before after : Option (List �
   pub answers : AnswersSome start (deliveries frames) text now
   pub written : AppendsSome before after text
 
--- the stream goes on, or a fault was found
-abbrev pub GoesOn : Replica → Option (List ℕ) → Option (List ℕ) → Option (List ℕ) → Option (List ℕ) → Replica → Reader → Option StreamFault → Type 0
+-- the stream continues, or a fault was found
+abbrev pub GoesOn : StateView → Option (List ℕ) → Option (List ℕ) → Option (List ℕ) → Option (List ℕ) → StateView → FrameReaderView
+    → Option StreamFault → Type 0
 GoesOn start unread left before after now reader None = UnderWay start unread left before after now reader
 GoesOn start unread left before after now reader (Some fault) = Ended start unread left before after now (Fault fault)
 
--- the replica of the settings is mute after these entries only where the leaves of its key pair were too few for the statements
--- of its own that it had sent and those that were due
+-- The replica of the settings is mute after these entries only if its key pair had too few leaves for the statements of
+-- its own that it had sent and those that were due.
 abbrev pub IsMuteOnlySpent : DeliverSettings → List Entry → Type 0
 IsMuteOnlySpent s entries = IsMuteForWant s.cluster.config s.replica (leaves_of (secret_of s.cluster s.replica)) 0 entries
 
--- what `abft deliver` prints of these bytes: the replica of the settings, with the keys of its cluster, had these events, and
--- its lawful replies to them have these lines; the last line says what is wrong with the stream
+-- What `abft deliver` prints for these bytes. The replica of the settings, with the keys of its cluster, took these
+-- events, and its lawful replies have these lines; the last line reports what is wrong with the stream.
 pub record Delivers (s : DeliverSettings) (input : List ℕ) (end : StreamEnd) (text : List ℕ) : Type 0 where
   pub frames : List SignedStatement
   pub stands : Stands input frames end
@@ -118,7 +121,7 @@ pub record Delivers (s : DeliverSettings) (input : List ℕ) (end : StreamEnd) (
   pub mute : IsMuteOnlySpent s entries
   pub lines : lines_of entries ++ last_line end ≡ text
 
--- the same as far as it came: the first of these events, of the first frames of these bytes
+-- the same, as far as it came: the replica took the first of these events, for the first frames of the bytes
 pub record DeliversSome (s : DeliverSettings) (input : List ℕ) (text : List ℕ) : Type 0 where
   pub frames : List SignedStatement
   pub rest : List ℕ
@@ -130,23 +133,25 @@ pub record DeliversSome (s : DeliverSettings) (input : List ℕ) (text : List �
   pub mute : IsMuteOnlySpent s entries
   pub lines : lines_of entries ≡ text
 
--- a stream was read as far as its end shows, and what is printed of it was written
+-- the stream was read as far as its end needs, and what is printed for it was written
 abbrev pub DeliversStream : DeliverSettings → StreamEnd → Option (List ℕ) → Option (List ℕ) → Option (List ℕ) → Option (List ℕ) → Type 0
-DeliversStream s end unread left before after = IsReadTo end left × Responds (λ input text. Delivers s input end text) unread left before after
+DeliversStream s end unread left before after =
+    IsReadTo end left × Responds (λ input text. Delivers s input end text) unread left before after
 
--- some of it was read, and a beginning of what is printed of that was written
+-- part of the stream was read, and a prefix of what is printed for it was written
 abbrev pub DeliversStreamSome : DeliverSettings → Option (List ℕ) → Option (List ℕ) → Option (List ℕ) → Option (List ℕ) → Type 0
 DeliversStreamSome s unread left before after =
     RespondsSome (λ input text. DeliversSome s input text ⊎ ((end : StreamEnd) × Delivers s input end text)) unread left before after
 
--- the same, and the replica's history had all the entries that a history takes
+-- the same, and the replica's history was full
 abbrev pub FillsHistory : DeliverSettings → Option (List ℕ) → Option (List ℕ) → Option (List ℕ) → Option (List ℕ) → Type 0
-FillsHistory s unread left before after = RespondsSome (λ input text. (some : DeliversSome s input text) × (65536 ≤ length some.entries)) unread left before after
+FillsHistory s unread left before after =
+    RespondsSome (λ input text. (some : DeliversSome s input text) × (max_history_len ≤ length some.entries)) unread left before after
 
--- `abft deliver` stopped since memory ran out, a stream failed, or the history was full
+-- why `abft deliver` stopped: memory ran out, a stream failed, or the history was full
 abbrev pub StopsDelivery : DeliverSettings → Option (List ℕ) → Option (List ℕ) → Option (List ℕ) → Option (List ℕ) → ProgramFault → Type 0
 StopsDelivery s unread left before after fault.NoMemory = ⊤
-StopsDelivery s unread left before after (fault.Stream error) = ⊤
+StopsDelivery s unread left before after (fault.Refused resource error) = ⊤
 StopsDelivery s unread left before after fault.HistoryFull = FillsHistory s unread left before after
 StopsDelivery s unread left before after (fault.NoListener port error) = ⊥
 StopsDelivery s unread left before after fault.NoThread = ⊥

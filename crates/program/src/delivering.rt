@@ -1,4 +1,4 @@
-//! `abft deliver`: a replica, and the frames of a stream that are delivered to it.
+//! `abft deliver`: delivers the frames of a stream to a replica.
 ghost use Rattle.std.specs.Prelude.{◌≡◌, IfErr, MatchResult};
 ghost use Rattle.program.specs.Answering.{fresh};
 ghost use Rattle.program.specs.Streams.{DeliversStream, DeliversStreamSome, StopsDelivery};
@@ -16,7 +16,8 @@ use std::alloc::Global;
 use std::io::{Read, Write};
 use std::random::RandomSource;
 
-/// Starts the replica, delivers the frames of a stream to it, and writes their lines and the last one.
+/// Starts the replica, delivers the frames of a stream to it, and writes a line for each frame, and a last one if the
+/// stream ends badly.
 fn deliver_to<R: Read, W: Write>(
     alloc: Global,
     settings: &DeliverSettings,
@@ -37,8 +38,8 @@ fn deliver_to<R: Read, W: Write>(
     Ok(end)
 }
 
-/// Delivers the frames of a stream to the replica of the settings, and writes a line for each; the last line says what is
-/// wrong with the stream, if anything is. The random bytes are the keys of the replica's hashes.
+/// Delivers the frames of a stream to the replica of the settings, and writes a line for each. The last line reports
+/// what is wrong with the stream, if anything is. The random bytes are the keys of the replica's hashes.
 pub fn deliver<S: RandomSource, R: Read, W: Write>(
     source: &S,
     alloc: Global,

@@ -1,13 +1,14 @@
-//! `abft deliver`: the frames of a stream at one replica.
+//! `abft deliver`: takes the frames of a stream to one replica, piece by piece.
 ghost use Rattle.std.specs.Prelude.{◌≡◌, ◌≢◌, ◌∷◌, ℕ, List, [], IfErr, IfOk, MatchResult, Option};
 ghost use Rattle.std.specs.Io.KnownBytes.{Consumes, IsAtEnd};
 ghost use Rattle.ledger_model.specs.Streams.{SplitsTo};
 ghost use Rattle.ledger_model.specs.declared.statement.SignedStatement.{SignedStatement};
 ghost use Rattle.signed_frames.specs.declared.fault.FrameFault.TheVariants as faults;
 ghost use Rattle.signed_frames.specs.Reader.{Leaves, Reading};
-ghost use Rattle.locked_replica.specs.Replicas.{Replica};
+ghost use Rattle.locked_replica.specs.States.{StateView};
 ghost use Rattle.program.specs.Answering.{Prints, deliveries};
-ghost use Rattle.program.specs.Faults.{IsMemoryOrStream, StopsAt};
+ghost use Rattle.program_streams.specs.Faults.{IsMemoryOrRefusal};
+ghost use Rattle.program.specs.Faults.{StopsAt};
 ghost use Rattle.program.specs.Streams.{Ended, GoesBehind, GoesOn, IsFed, IsReadTo, IsReading, IsTold, Stands, Stopped, UnderWay};
 
 use crate::line::Line;
@@ -17,12 +18,12 @@ use crate::replica::answer;
 use crate::stream_end::{StreamEnd, StreamFault};
 use app_kinds::AnyKind;
 use locked_replica::State;
-use program_streams::ProgramFault;
+use program_streams::{ProgramFault, Resource};
 use signed_frames::{Frame, FrameFault, FrameReader};
 use std::alloc::Global;
 use std::io::{self, ErrorKind, Read, Write};
 
-/// Delivers a frame, and writes the line of the answer.
+/// Delivers a frame, and writes the line of the reply.
 fn deliver_frame<W: Write>(
     alloc: Global,
     state: &mut State<AnyKind>,
@@ -52,11 +53,11 @@ fn deliver_all<W: Write>(
     Ok(())
 }
 
-/// The fault of the stream that a reader tells. The only error is want of memory.
+/// The stream's fault, from the fault that the frame reader returned. The only error is allocation failure.
 fn fault_of(fault: FrameFault) -> Result<StreamFault, ProgramFault>
     requires { fault ≢ faults.Failed }
     ensures told { IfOk result (λ found. IsTold fault found) }
-    ensures memory { IfErr result IsMemoryOrStream }
+    ensures memory { IfErr result IsMemoryOrRefusal }
 {
     match fault {
         FrameFault::TooLong => Ok(StreamFault::TooLong),
@@ -66,12 +67,12 @@ fn fault_of(fault: FrameFault) -> Result<StreamFault, ProgramFault>
     }
 }
 
-/// The fault behind the frames that were handed out, if one stands there. The only error is want of memory.
+/// The fault after the frames that the reader has returned, if there is one. The only error is allocation failure.
 fn fault_behind(frames: &mut FrameReader) -> Result<Option<StreamFault>, ProgramFault>
     requires { IsFed frames.old }
     ensures behind { (bytes : List ℕ) (given : List SignedStatement) → Leaves bytes given frames.old
         → IfOk result (λ found. GoesBehind bytes given frames.new found) }
-    ensures memory { IfErr result IsMemoryOrStream }
+    ensures memory { IfErr result IsMemoryOrRefusal }
 {
     match frames.feed(&[]) {
         Ok(_) => Ok(None),
@@ -79,7 +80,7 @@ fn fault_behind(frames: &mut FrameReader) -> Result<Option<StreamFault>, Program
     }
 }
 
-/// Delivers the frames that a piece of the stream completes. Answers the fault behind them, if one stands there.
+/// Delivers the frames that a piece of the stream completes. Returns the fault that follows them, if one does.
 fn deliver_piece<W: Write>(
     alloc: Global,
     state: &mut State<AnyKind>,
@@ -88,7 +89,7 @@ fn deliver_piece<W: Write>(
     writer: &mut W,
 ) -> Result<Option<StreamFault>, ProgramFault>
     requires { IsReading frames.old }
-    ensures goes { (start : Replica) (unread now left before : Option (List ℕ))
+    ensures goes { (start : StateView) (unread now left before : Option (List ℕ))
         → UnderWay start unread now before (W.contents writer.old) state.old frames.old → Consumes now left piece.now
         → MatchResult result
         (λ found. GoesOn start unread left before (W.contents writer.new) state.new frames.new found)
@@ -104,7 +105,7 @@ fn deliver_piece<W: Write>(
     }
 }
 
-/// The end of a stream of which all was read, without a fault.
+/// How a stream ended that was read to its end without a fault.
 fn end_of(frames: &FrameReader) -> StreamEnd
     requires { IsReading frames.now }
     ensures stands { (input : List ℕ) (given : List SignedStatement) (kept : List ℕ) → frames.now ≡ Reading kept
@@ -142,5 +143,5 @@ pub(crate) fn deliver_pieces<R: Read, W: Write>(
             return Ok(StreamEnd::Fault(fault));
         }
     }
-    Err(ProgramFault::Stream(io::Error::from(ErrorKind::TimedOut)))
+    Err(ProgramFault::Refused(Resource::Input, io::Error::from(ErrorKind::TimedOut)))
 }

@@ -1,5 +1,6 @@
-//! The program over any streams: its subcommands by their words, and its exit statuses. `abft deliver` delivers the frames of a
-//! stream to a replica, and `abft simulate` plays a scenario text on a whole cluster; both print lines of what happened.
+//! The program over any streams: its subcommands, chosen by the words of the command line, and its exit statuses.
+//! `abft deliver` delivers the frames of a stream to a replica, and `abft simulate` plays a scenario text on a whole
+//! cluster. Both write lines about what happened.
 #![tactic(auto)]
 
 mod delivering;
@@ -9,18 +10,20 @@ mod line_printing;
 mod opening;
 mod outcome;
 mod playing;
-mod printing;
 mod reading;
 mod replica;
 mod running;
 mod scenario_input;
+mod signing;
 mod simulating;
+mod statement;
 mod stream_end;
 mod text_end;
 
 pub use delivering::deliver;
 pub use outcome::Outcome;
 pub use running::{finish, refuse_words, run};
+pub use signing::signed_frame;
 pub use simulating::simulate;
 pub use stream_end::{StreamEnd, StreamFault};
 pub use text_end::TextEnd;

@@ -1,10 +1,9 @@
-//! The lines of frames, and of what is wrong with a stream.
+//! The lines of `abft deliver`: for frames, and for what is wrong with a stream.
 ghost use Rattle.std.specs.Prelude.{◌≡◌, Some};
 ghost use Rattle.program.specs.Lines.{line_of, line_text};
 
 use crate::stream_end::StreamFault;
 use ledger_model::Ignored;
-use reply_lines::cause_name;
 use std::fmt;
 
 /// A line of `abft deliver`.
@@ -14,14 +13,14 @@ pub(crate) enum Line {
     Accepted,
     /// The frame was ignored.
     Ignored(Ignored),
-    /// No frame stands there.
+    /// The bytes are no frame.
     Fault(StreamFault),
     /// The stream ends within a frame.
     Cut,
 }
 
 impl Line {
-    /// The line of an answer to a frame.
+    /// The line for the reply to a frame.
     pub(crate) fn of(answer: Result<(), Ignored>) -> Line
         ensures { result ≡ line_of answer }
     {
@@ -38,7 +37,7 @@ impl fmt::Display for Line {
     fn fmt<W: fmt::Write>(&self, f: &mut fmt::Formatter<W>) -> fmt::Result {
         match self {
             Line::Accepted => write!(f, "accepted"),
-            Line::Ignored(cause) => write!(f, "ignored {}", cause_name(*cause)),
+            Line::Ignored(cause) => write!(f, "ignored {}", cause.text()),
             Line::Fault(StreamFault::TooLong) => write!(f, "fault 1 TooLong"),
             Line::Fault(StreamFault::Malformed) => write!(f, "fault 2 Malformed"),
             Line::Cut => write!(f, "cut"),

@@ -1,39 +1,38 @@
-//! The lines of `abft deliver`, each printed by one write if the writer takes it whole.
+//! Prints the lines of `abft deliver`, each with one write if the writer takes it whole.
 ghost use Rattle.std.specs.Prelude.{IfErr};
-ghost use Rattle.program.specs.Faults.{IsMemoryOrStream};
+ghost use Rattle.program_streams.specs.Faults.{IsMemoryOrRefusal};
 ghost use Rattle.program.specs.Lines.{ended, last_line};
-ghost use Rattle.program_streams.specs.Writing.{Writes};
+ghost use Rattle.byte_streams.specs.Writing.{Writes};
 
 use crate::line::Line;
-use crate::printing::write_bytes;
 use crate::stream_end::StreamEnd;
-use program_streams::ProgramFault;
+use program_streams::{ProgramFault, write_output};
 use std::alloc::Global;
 use std::io::Write;
 
-/// Writes a line and its end.
+/// Writes a line and a line feed.
 pub(crate) fn print_line<W: Write>(
     alloc: Global,
     writer: &mut W,
     line: Line,
 ) -> Result<(), ProgramFault>
     ensures written { Writes result (W.contents writer.old) (W.contents writer.new) (ended line) }
-    ensures fault { IfErr result IsMemoryOrStream }
+    ensures fault { IfErr result IsMemoryOrRefusal }
 {
     let Ok(text) = format!(in alloc; "{line}\n") else {
         return Err(ProgramFault::NoMemory);
     };
-    write_bytes(writer, text.as_bytes())
+    write_output(writer, text.as_bytes())
 }
 
-/// Writes the line that says what is wrong with the stream, if anything is.
+/// Writes the line that reports what is wrong with the stream, if anything is.
 pub(crate) fn print_end<W: Write>(
     alloc: Global,
     writer: &mut W,
     end: StreamEnd,
 ) -> Result<(), ProgramFault>
     ensures written { Writes result (W.contents writer.old) (W.contents writer.new) (last_line end) }
-    ensures fault { IfErr result IsMemoryOrStream }
+    ensures fault { IfErr result IsMemoryOrRefusal }
 {
     match end {
         StreamEnd::Whole => Ok(()),

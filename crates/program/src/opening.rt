@@ -1,15 +1,16 @@
-//! The cluster of a scenario, as it begins.
-ghost use Rattle.std.specs.Prelude.{◌≡◌, [], vec_len, All, IfOk};
+//! The cluster of a scenario at its start.
+ghost use Rattle.std.specs.Prelude.{◌≡◌, [], vec_len, All, IfOk, IfErr};
 ghost use Rattle.ledger_model.specs.Applications.{run};
 ghost use Rattle.app_kinds.specs.Chosen.{machine_of};
 ghost use Rattle.scenario_texts.specs.Lawful.{IsPlan};
 ghost use Rattle.scenario_texts.specs.Plans.{plan_of};
+ghost use Rattle.program_streams.specs.Faults.{IsMemoryOrRefusal};
 ghost use Rattle.program.specs.Simulating.{opening};
 
 use crate::replica::new_keys;
 use adversary_net::{WorldFault, count_correct};
 use app_kinds::AnyKind;
-use cluster_keys::Cluster;
+use cluster_keys::ClusterSeed;
 use ledger_model::AppKind;
 use program_streams::ProgramFault;
 use scenario_texts::Scenario;
@@ -19,7 +20,7 @@ use std::alloc::{AllocError, Global};
 use std::hash::RandomState;
 use std::random::RandomSource;
 
-/// So many applications of a kind, each in its opening state.
+/// `count` applications of a kind, each in its opening state.
 fn new_apps(alloc: Global, kind: AppKind, count: usize) -> Result<Vec<AnyKind>, AllocError>
     ensures count { IfOk result (λ apps. vec_len apps ≡ count) }
     ensures opening { IfOk result (λ apps. All (λ app. machine_of app ≡ run kind []) apps.items) }
@@ -31,13 +32,14 @@ fn new_apps(alloc: Global, kind: AppKind, count: usize) -> Result<Vec<AnyKind>, 
     Ok(apps)
 }
 
-/// The random keys of so many replicas.
+/// The random keys for `count` replicas.
 fn new_randoms<S: RandomSource>(
     source: &S,
     alloc: Global,
     count: usize,
 ) -> Result<Vec<[RandomState; 2]>, ProgramFault>
-    ensures { IfOk result (λ randoms. vec_len randoms ≡ count) }
+    ensures count { IfOk result (λ randoms. vec_len randoms ≡ count) }
+    ensures fault { IfErr result IsMemoryOrRefusal }
 {
     let mut randoms = Vec::with_capacity(alloc, count)?;
     for _ in 0..count {
@@ -46,7 +48,7 @@ fn new_randoms<S: RandomSource>(
     Ok(randoms)
 }
 
-/// The cluster of a scenario, as it begins.
+/// The cluster of a scenario at its start.
 pub(crate) fn new_simulation<S: RandomSource>(
     source: &S,
     alloc: Global,
@@ -54,10 +56,11 @@ pub(crate) fn new_simulation<S: RandomSource>(
     scenario: &Scenario,
 ) -> Result<Simulation<AnyKind>, ProgramFault>
     requires { IsPlan (plan_of scenario.now) }
-    ensures { IfOk result (λ simulation. simulation ≡ opening settings.now.seed scenario.now.setup.config (plan_of scenario.now)) }
+    ensures opening { IfOk result (λ simulation. simulation ≡ opening settings.now.seed scenario.now.setup.config (plan_of scenario.now)) }
+    ensures fault { IfErr result IsMemoryOrRefusal }
 {
     let setup = &scenario.setup;
-    let cluster = Cluster {
+    let cluster = ClusterSeed {
         config: setup.config,
         params: setup.params(),
         seed: settings.seed,

@@ -1,4 +1,4 @@
-//! What the program comes to on its words.
+//! How far the program came by itself.
 ghost use Rattle.std.specs.Prelude.{◌≡◌, MatchResult};
 ghost use Rattle.program.specs.Doing.{IsHanded, settings_of};
 
@@ -6,18 +6,18 @@ use settings::{
     ClusterSettings, DeliverSettings, ServeSettings, Settings, SignSettings, SimulateSettings,
 };
 
-/// What became of what the words ask for.
+/// How far the program came with what its words ask for.
 #[derive(Drop)]
 pub enum Outcome {
-    /// All was done that could be: the exit status.
+    /// It did all that it could; this is the exit status.
     Ended(u8),
-    /// They ask for a cluster that runs, which takes threads: nothing was done yet.
+    /// The words ask for a running cluster, which takes threads; nothing was done yet.
     Cluster(ClusterSettings),
-    /// They ask for one with clients: nothing was done yet.
+    /// The words ask for a running cluster with clients; nothing was done yet.
     Serve(ServeSettings),
 }
 
-/// What is done over the streams of the program alone.
+/// The subcommands that need only the streams of the program.
 #[derive(Drop)]
 pub(crate) enum Piped {
     Sign(SignSettings),
@@ -26,7 +26,7 @@ pub(crate) enum Piped {
 }
 
 impl Piped {
-    /// The settings, if they ask for what is done over streams alone, or else what is handed back.
+    /// The settings, if they need only streams; otherwise the outcome that returns them to the caller.
     pub(crate) fn of(settings: Settings) -> Result<Piped, Outcome>
         ensures { MatchResult result (λ piped. settings_of piped ≡ settings) (λ outcome. IsHanded settings outcome) }
     {

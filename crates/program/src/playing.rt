@@ -1,10 +1,11 @@
-//! A scenario's commands, played one by one, and what is written of them.
-ghost use Rattle.std.specs.Prelude.{[], ◌∷◌, not, MatchResult, if◌then◌else◌};
+//! Plays the commands of a scenario one by one, and writes the lines of each.
+ghost use Rattle.std.specs.Prelude.{[], ◌∷◌, not, MatchResult, if◌then◌else◌, IfErr};
 ghost use Rattle.std.specs.List.{flat_map};
 ghost use Rattle.history_bytes.specs.Histories.{history_bytes};
 ghost use Rattle.scenario_texts.specs.Lawful.{IsPlan};
 ghost use Rattle.scenario_texts.specs.Plans.{plan_of};
-ghost use Rattle.program_streams.specs.Writing.{Writes};
+ghost use Rattle.byte_streams.specs.Writing.{Writes};
+ghost use Rattle.program_streams.specs.Faults.{IsMemoryOrRefusal};
 ghost use Rattle.program.specs.Simulating.{PlansWritten, PlaysWritten, PlaysWrittenSome, histories_of};
 
 use crate::opening::new_simulation;
@@ -12,7 +13,7 @@ use adversary_net::World;
 use app_kinds::AnyKind;
 use history_bytes::history_bytes;
 use ledger_model::History;
-use program_streams::{ProgramFault, write_whole};
+use program_streams::{ProgramFault, write_output};
 use scenario_texts::{Command, Scenario};
 use settings::SimulateSettings;
 use simulation::Simulation;
@@ -20,34 +21,36 @@ use std::alloc::Global;
 use std::io::Write;
 use std::random::RandomSource;
 
-/// Plays a command, and writes its lines, if they are wanted.
+/// Plays a command, and writes its lines if they are wanted.
 fn play_command<W: Write>(
     simulation: &mut Simulation<AnyKind>,
     command: &Command,
     has_lines: bool,
     writer: &mut W,
 ) -> Result<(), ProgramFault>
-    ensures { MatchResult result
+    ensures plays { MatchResult result
         (λ _. PlaysWritten has_lines simulation.old (command.now ∷ []) simulation.new (W.contents writer.old) (W.contents writer.new))
         (λ _. PlaysWrittenSome has_lines simulation.old (command.now ∷ []) (W.contents writer.old) (W.contents writer.new)) }
+    ensures fault { IfErr result IsMemoryOrRefusal }
 {
     let lines = simulation.play(command)?;
     if has_lines {
-        write_whole(writer, lines.as_bytes())?;
+        write_output(writer, lines.as_bytes())?;
     }
     Ok(())
 }
 
-/// Plays the commands in order, and writes the lines of each, if they are wanted.
+/// Plays the commands in order, and writes the lines of each if they are wanted.
 fn play_all<W: Write>(
     simulation: &mut Simulation<AnyKind>,
     commands: &[Command],
     has_lines: bool,
     writer: &mut W,
 ) -> Result<(), ProgramFault>
-    ensures { MatchResult result
+    ensures plays { MatchResult result
         (λ _. PlaysWritten has_lines simulation.old commands.now simulation.new (W.contents writer.old) (W.contents writer.new))
         (λ _. PlaysWrittenSome has_lines simulation.old commands.now (W.contents writer.old) (W.contents writer.new)) }
+    ensures fault { IfErr result IsMemoryOrRefusal }
 {
     for command in commands {
         play_command(simulation, command, has_lines, writer)?;
@@ -55,29 +58,31 @@ fn play_all<W: Write>(
     Ok(())
 }
 
-/// Writes histories, each as its bytes.
+/// Writes each history as its bytes.
 fn write_histories<W: Write>(
     alloc: Global,
     histories: &[History],
     writer: &mut W,
 ) -> Result<(), ProgramFault>
-    ensures { Writes result (W.contents writer.old) (W.contents writer.new) (flat_map history_bytes histories.now) }
+    ensures written { Writes result (W.contents writer.old) (W.contents writer.new) (flat_map history_bytes histories.now) }
+    ensures fault { IfErr result IsMemoryOrRefusal }
 {
     for history in histories {
         let bytes = history_bytes(alloc, history)?;
-        write_whole(writer, &bytes)?;
+        write_output(writer, &bytes)?;
     }
     Ok(())
 }
 
-/// Writes the histories of the correct replicas, if they are wanted.
+/// Writes the histories of the correct replicas if they are wanted.
 fn write_end<W: Write>(
     alloc: Global,
     world: &World<AnyKind>,
     has_histories: bool,
     writer: &mut W,
 ) -> Result<(), ProgramFault>
-    ensures { Writes result (W.contents writer.old) (W.contents writer.new) (if has_histories then histories_of world.now else []) }
+    ensures written { Writes result (W.contents writer.old) (W.contents writer.new) (if has_histories then histories_of world.now else []) }
+    ensures fault { IfErr result IsMemoryOrRefusal }
 {
     if !has_histories {
         return Ok(());
@@ -86,7 +91,7 @@ fn write_end<W: Write>(
     write_histories(alloc, &histories, writer)
 }
 
-/// Plays a scenario, and writes its lines, or the histories that it comes to.
+/// Plays a scenario, and writes either its lines, or the histories at its end.
 pub(crate) fn play<S: RandomSource, W: Write>(
     source: &S,
     alloc: Global,
@@ -95,7 +100,8 @@ pub(crate) fn play<S: RandomSource, W: Write>(
     writer: &mut W,
 ) -> Result<(), ProgramFault>
     requires { IsPlan (plan_of scenario.now) }
-    ensures { PlansWritten result settings.now (plan_of scenario.now) (W.contents writer.old) (W.contents writer.new) }
+    ensures plays { PlansWritten result settings.now (plan_of scenario.now) (W.contents writer.old) (W.contents writer.new) }
+    ensures fault { IfErr result IsMemoryOrRefusal }
 {
     let mut simulation = new_simulation(source, alloc, settings, scenario)?;
     play_all(

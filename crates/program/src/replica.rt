@@ -1,10 +1,12 @@
-//! The replica of `abft deliver`: how it is made, and what happens to it.
+//! The replica of `abft deliver`: how it is made, and which events it takes.
 ghost use Rattle.std.specs.Prelude.{◌≡◌, ◌≤◌, List, [], ◌∷◌, length, replicate, is_ok, IfOk, IfErr, IsErrOf, MatchResult};
 ghost use Rattle.ledger_model.specs.declared.history.Entry.{Entry};
 ghost use Rattle.ledger_model.specs.declared.event.Event.TheVariants as event;
 ghost use Rattle.program.specs.Lines.{ended};
 ghost use Rattle.program.specs.Answering.{Answers, AnswersSome, Refuses, fresh, starting};
-ghost use Rattle.program.specs.Faults.{IsMemoryOrStream, StopsAt};
+ghost use Rattle.program_streams.specs.Faults.{IsMemoryOrRefusal};
+ghost use Rattle.program.specs.Faults.{StopsAt};
+ghost use Rattle.ledger_model.specs.Limits.{max_history_len};
 
 use crate::line::Line;
 use app_kinds::AnyKind;
@@ -12,37 +14,37 @@ use bytes::Bytes;
 use cluster_keys::signer_and_ring;
 use ledger_model::{Event, Height};
 use locked_replica::{ApplyFault, ReplyView, State};
-use program_streams::ProgramFault;
+use program_streams::{ProgramFault, Resource};
 use settings::DeliverSettings;
 use std::alloc::Global;
 use std::hash::RandomState;
 use std::random::RandomSource;
 
-/// Random keys of hashes.
+/// A random key for hashes.
 fn new_key<S: RandomSource>(source: &S) -> Result<RandomState, ProgramFault>
-    ensures { IfErr result IsMemoryOrStream }
+    ensures { IfErr result IsMemoryOrRefusal }
 {
     match RandomState::new(source) {
         Ok(key) => Ok(key),
-        Err(error) => Err(ProgramFault::Stream(error)),
+        Err(error) => Err(ProgramFault::Refused(Resource::Random, error)),
     }
 }
 
-/// The random keys of a replica's hashes.
+/// The two random keys of a replica.
 pub(crate) fn new_keys<S: RandomSource>(source: &S) -> Result<[RandomState; 2], ProgramFault>
-    ensures { IfErr result IsMemoryOrStream }
+    ensures { IfErr result IsMemoryOrRefusal }
 {
     Ok([new_key(source)?, new_key(source)?])
 }
 
-/// The replica of the settings, to which nothing happened. The random bytes are the keys of its hashes.
+/// The replica of the settings, with an empty history. The random bytes are the keys of its hashes.
 pub(crate) fn new_replica<S: RandomSource>(
     source: &S,
     alloc: Global,
     settings: &DeliverSettings,
 ) -> Result<State<AnyKind>, ProgramFault>
     ensures fresh { IfOk result (λ state. state ≡ fresh settings.now) }
-    ensures fault { IfErr result IsMemoryOrStream }
+    ensures fault { IfErr result IsMemoryOrRefusal }
 {
     let randoms = new_keys(source)?;
     let config = settings.cluster.config;
@@ -56,9 +58,9 @@ pub(crate) fn new_replica<S: RandomSource>(
     }
 }
 
-/// What stops the program where the replica took no event.
+/// Why the program stops if the replica took no event.
 fn stopped_by(fault: ApplyFault) -> ProgramFault
-    ensures { (entries : List Entry) → (fault ≡ ApplyFault.HistoryFull → 65536 ≤ length entries) → StopsAt entries result }
+    ensures { (entries : List Entry) → (fault ≡ ApplyFault.HistoryFull → max_history_len ≤ length entries) → StopsAt entries result }
 {
     match fault {
         ApplyFault::HistoryFull => ProgramFault::HistoryFull,
@@ -66,10 +68,10 @@ fn stopped_by(fault: ApplyFault) -> ProgramFault
     }
 }
 
-/// Whether an event was taken, or what stops the program.
+/// Whether an event was taken, or why the program stops.
 fn taken(outcome: Result<usize, ApplyFault>) -> Result<(), ProgramFault>
     ensures same { is_ok result ≡ is_ok outcome }
-    ensures cause { (entries : List Entry) → (IsErrOf outcome ApplyFault.HistoryFull → 65536 ≤ length entries) → IfErr result (StopsAt entries) }
+    ensures cause { (entries : List Entry) → (IsErrOf outcome ApplyFault.HistoryFull → max_history_len ≤ length entries) → IfErr result (StopsAt entries) }
 {
     match outcome {
         Ok(_) => Ok(()),
@@ -77,7 +79,7 @@ fn taken(outcome: Result<usize, ApplyFault>) -> Result<(), ProgramFault>
     }
 }
 
-/// Lets the replica submit bytes.
+/// Submits bytes to the replica.
 fn submit(state: &mut State<AnyKind>, bytes: Bytes) -> Result<(), ProgramFault>
     ensures answers { MatchResult result
         (λ _. Answers state.old (event.Submit bytes ∷ []) [] state.new)
@@ -88,7 +90,7 @@ fn submit(state: &mut State<AnyKind>, bytes: Bytes) -> Result<(), ProgramFault>
     taken(outcome)
 }
 
-/// Lets it propose a height.
+/// Lets the replica propose a height.
 fn propose(state: &mut State<AnyKind>, height: Height) -> Result<(), ProgramFault>
     ensures answers { MatchResult result
         (λ _. Answers state.old (event.Propose height ∷ []) [] state.new)
@@ -110,7 +112,7 @@ fn end_round(state: &mut State<AnyKind>) -> Result<(), ProgramFault>
     taken(outcome)
 }
 
-/// Ends so many rounds.
+/// Ends `rounds` rounds.
 fn end_rounds(state: &mut State<AnyKind>, rounds: u32) -> Result<(), ProgramFault>
     ensures answers { MatchResult result
         (λ _. Answers state.old (replicate rounds event.RoundEnd) [] state.new)
@@ -123,7 +125,7 @@ fn end_rounds(state: &mut State<AnyKind>, rounds: u32) -> Result<(), ProgramFaul
     Ok(())
 }
 
-/// What happens before the first frame is delivered: the value is submitted, the height proposed, the rounds end.
+/// What happens before the first frame is delivered: the value is submitted, the height is proposed, and the rounds end.
 pub(crate) fn start(
     alloc: Global,
     settings: &DeliverSettings,
@@ -142,7 +144,7 @@ pub(crate) fn start(
     end_rounds(state, settings.rounds)
 }
 
-/// Delivers bytes to the replica, and gives the line of its answer.
+/// Delivers bytes to the replica, and returns the line of its reply.
 pub(crate) fn answer(state: &mut State<AnyKind>, bytes: Bytes) -> Result<Line, ProgramFault>
     ensures answers { MatchResult result
         (λ line. Answers state.old (event.Deliver bytes ∷ []) (ended line) state.new)

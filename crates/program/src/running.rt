@@ -1,42 +1,42 @@
-//! The program on its words: which subcommand runs, and the exit status.
+//! Runs the subcommand that the words ask for, and returns the exit status.
 ghost use Rattle.std.specs.Prelude.{◌≡◌, ◌⊎◌, ◌≤◌, map, IfOk, MatchResult};
 ghost use Rattle.std.specs.IoError.{error_kind};
 ghost use Rattle.std.specs.Io.KnownBytes.{Keeps};
 ghost use Rattle.ledger_model.specs.Spelling.{frame_bytes};
 ghost use Rattle.command_line.specs.Faults.{AskForHelp, AskForHelpAlone};
 ghost use Rattle.command_line.specs.Options.{AsksForText, IsRefused, IsSet, WantsMemory};
-ghost use Rattle.frame_signing.specs.Statements.{signed};
-ghost use Rattle.program_streams.specs.Writing.{Writes};
+ghost use Rattle.program.specs.Statements.{signed};
+ghost use Rattle.byte_streams.specs.Writing.{Writes};
 ghost use Rattle.program.specs.Doing.{Begins, Done, Halted, IfEnded, IfHanded, Performs, settings_of, status_of_stream, status_of_text};
 
 use crate::delivering::deliver;
 use crate::outcome::{Outcome, Piped};
-use crate::printing::{complain, print, write_bytes};
+use crate::signing::signed_frame;
 use crate::simulating::simulate;
 use crate::stream_end::StreamEnd;
 use crate::text_end::TextEnd;
+use byte_streams::write_whole;
 use command_line::{UsageFault, settings};
-use frame_signing::signed_frame;
-use program_streams::{ProgramFault, write_whole};
+use program_streams::{
+    ProgramFault, Resource, STOPPED, complain, flush_output, print, write_output,
+};
 use settings::{Settings, SignSettings};
 use std::alloc::Global;
 use std::io::{self, ErrorKind, Read, Write};
 use std::random::RandomSource;
 
-/// All was done.
+/// Everything was done.
 const DONE: u8 = 0;
-/// The input was cut, no stream of frames, or no scenario.
+/// The input was cut, or is no stream of frames, or is no scenario.
 const BAD_INPUT: u8 = 1;
 /// The words are no command line.
 const BAD_USAGE: u8 = 2;
-/// Memory ran out, a history is full, or a stream failed.
-const STOPPED: u8 = 3;
 
-/// Runs the program on its words, of which the first is its name, and answers its exit status: 0 done, 1 bad input, 2 bad
-/// usage, 3 no memory, a full history or a failed stream. At 2 and 3 it writes to `faults` what is wrong. The random bytes
-/// of `source` are the keys of hashes. Settings of a cluster that runs are handed back: for them nothing is done here.
+/// Runs the program on its words, of which the first is its name, and returns its exit status: 0 done, 1 bad input, 2 bad
+/// usage, 3 out of memory, a full history or a failed stream. At 2 and 3 it writes to `faults` what is wrong. The random bytes
+/// of `source` are the keys of hashes. If the words ask for a running cluster, it does nothing and returns the settings.
 ///
-/// What stdin gives and stdout takes no clause can say; at readers and writers over memory each byte is known.
+/// No clause can speak of the real stdin and stdout. The contract holds for every reader and writer whose bytes a clause can name.
 pub fn run<S: RandomSource, R: Read, W: Write, F: Write>(
     source: &S,
     alloc: Global,
@@ -45,35 +45,35 @@ pub fn run<S: RandomSource, R: Read, W: Write, F: Write>(
     writer: &mut W,
     faults: &mut F,
 ) -> Outcome
-    // What the words set was done, or they set nothing and ask for the help or the version.
+    // What the words ask for was done, or they ask only for the help or the version.
     ensures finishes { IfEnded result (λ status. (status ≡ 0) ⊎ (status ≡ 1)
         → Performs (map (λ w. w.now) words.entry.now) status (R.remaining reader.old) (R.remaining reader.new) (W.contents writer.old) (W.contents writer.new)
         ⊎ (IsRefused (map (λ w. w.now) words.entry.now) × AskForHelp (map (λ w. w.now) words.entry.now)
         × (status ≡ 0) × Keeps (R.remaining reader.old) (R.remaining reader.new))) }
     ensures quiet { IfEnded result (λ status. (status ≡ 0) ⊎ (status ≡ 1) → Keeps (F.contents faults.old) (F.contents faults.new)) }
-    // The words are no command line, or set nothing, and not because they ask for the help or the version.
+    // The words are no command line, or set nothing, and don't ask for the help or the version.
     ensures refuses { IfEnded result (λ status. status ≡ 2 → IsRefused (map (λ w. w.now) words.entry.now)
         × (AskForHelpAlone (map (λ w. w.now) words.entry.now) → ⊥)
         × Keeps (R.remaining reader.old) (R.remaining reader.new) × Keeps (W.contents writer.old) (W.contents writer.new)) }
-    // What the words set was begun, or nothing was, or the help or the version could not be written.
+    // What the words ask for was begun, or nothing was, or the help or the version could not be written.
     ensures stops { IfEnded result (λ status. status ≡ 3
         → Begins (map (λ w. w.now) words.entry.now) (R.remaining reader.old) (R.remaining reader.new) (W.contents writer.old) (W.contents writer.new)
         ⊎ (Keeps (R.remaining reader.old) (R.remaining reader.new)
         × (Keeps (W.contents writer.old) (W.contents writer.new)
         ⊎ (IsRefused (map (λ w. w.now) words.entry.now) × AskForHelp (map (λ w. w.now) words.entry.now))))) }
     ensures known { IfEnded result (λ status. status ≤ 3) }
-    // They are those that the words set, and no stream was touched.
+    // The settings are those of the words, and no stream was touched.
     ensures hands_back { IfHanded result (λ settings. IsSet (map (λ w. w.now) words.entry.now) settings
         × Keeps (R.remaining reader.old) (R.remaining reader.new) × Keeps (W.contents writer.old) (W.contents writer.new)
         × Keeps (F.contents faults.old) (F.contents faults.new)) }
 {
     match settings(alloc, words) {
         Ok(settings) => run_settings(source, alloc, settings, reader, writer, faults),
-        Err(fault) => Outcome::Ended(tell(alloc, &fault, writer, faults)),
+        Err(fault) => Outcome::Ended(write_fault(alloc, &fault, writer, faults)),
     }
 }
 
-/// Does what the settings ask for, and answers the exit status; or hands them back, if that takes threads.
+/// Does what the settings ask for, and returns the exit status; or returns the settings, if that takes threads.
 fn run_settings<S: RandomSource, R: Read, W: Write, F: Write>(
     source: &S,
     alloc: Global,
@@ -98,8 +98,8 @@ fn run_settings<S: RandomSource, R: Read, W: Write, F: Write>(
     }
 }
 
-/// Shows the help or the version if the words ask for it, or else writes what is wrong with them. Answers the exit status.
-fn tell<W: Write, F: Write>(
+/// Shows the help or the version if the words ask for it, and otherwise writes what is wrong with them. Returns the exit status.
+fn write_fault<W: Write, F: Write>(
     alloc: Global,
     fault: &UsageFault<'_>,
     writer: &mut W,
@@ -120,7 +120,7 @@ fn tell<W: Write, F: Write>(
     }
 }
 
-/// Writes why the words of the command line could not be read, and answers the exit status.
+/// Writes why the words of the command line could not be read, and returns the exit status.
 pub fn refuse_words<F: Write>(alloc: Global, error: io::Error, faults: &mut F) -> u8
     ensures { ((error_kind error ≡ ErrorKind.InvalidData) × (result ≡ 2)) ⊎ (result ≡ 3) }
 {
@@ -128,10 +128,15 @@ pub fn refuse_words<F: Write>(alloc: Global, error: io::Error, faults: &mut F) -
         let _ = write_whole(faults, b"error: a word of the command line is not UTF-8\n");
         return BAD_USAGE;
     }
-    finish(alloc, Err(ProgramFault::Stream(error)), faults)
+    let fault = if error.kind() == ErrorKind::OutOfMemory {
+        ProgramFault::NoMemory
+    } else {
+        ProgramFault::Refused(Resource::Words, error)
+    };
+    finish(alloc, Err(fault), faults)
 }
 
-/// Does what the settings ask for, but for the flush, and answers the exit status.
+/// Does what the settings ask for, except for the flush, and returns the exit status.
 fn perform<S: RandomSource, R: Read, W: Write>(
     source: &S,
     alloc: Global,
@@ -159,7 +164,7 @@ fn perform<S: RandomSource, R: Read, W: Write>(
     }
 }
 
-/// Does what the settings ask for, and answers the exit status.
+/// Does what the settings ask for, flushes the writer, and returns the exit status.
 fn perform_whole<S: RandomSource, R: Read, W: Write>(
     source: &S,
     alloc: Global,
@@ -172,7 +177,7 @@ fn perform_whole<S: RandomSource, R: Read, W: Write>(
         (λ _. Halted (settings_of settings.now) (R.remaining reader.old) (R.remaining reader.new) (W.contents writer.old) (W.contents writer.new)) }
 {
     let status = perform(source, alloc, settings, reader, writer)?;
-    writer.flush()?;
+    flush_output(writer)?;
     Ok(status)
 }
 
@@ -205,10 +210,10 @@ fn sign<W: Write>(
     ensures { Writes result (W.contents writer.old) (W.contents writer.new) (frame_bytes (signed settings.now)) }
 {
     let frame = signed_frame(alloc, settings)?;
-    write_bytes(writer, frame.as_bytes())
+    write_output(writer, frame.as_bytes())
 }
 
-/// Writes the help or the version that the words ask for, and answers the exit status.
+/// Writes the help or the version that the words ask for, and returns the exit status.
 fn show<W: Write>(
     alloc: Global,
     asked_for: &UsageFault<'_>,
@@ -217,11 +222,11 @@ fn show<W: Write>(
     ensures { IfOk result (λ status. status ≡ 0) }
 {
     print(alloc, writer, asked_for)?;
-    writer.flush()?;
+    flush_output(writer)?;
     Ok(DONE)
 }
 
-/// The exit status of what was done. Writes why the program could not go on, if it couldn't.
+/// The exit status of what was done. If the program stopped, writes why.
 pub fn finish<F: Write>(alloc: Global, done: Result<u8, ProgramFault>, faults: &mut F) -> u8
     ensures { MatchResult done (λ status. (result ≡ status) × Keeps (F.contents faults.old) (F.contents faults.new)) (λ _. result ≡ 3) }
 {

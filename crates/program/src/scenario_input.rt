@@ -1,16 +1,17 @@
-//! The scenario of a stream, which is read no further than it can be one.
-ghost use Rattle.std.specs.Prelude.{◌⊎◌, ℕ, List, MatchResult};
+//! Reads a scenario from a stream, and no further than the text can still be one.
+ghost use Rattle.std.specs.Prelude.{◌⊎◌, ℕ, List, MatchResult, IfErr};
 ghost use Rattle.std.specs.Io.KnownBytes.{Consumes, IsAtEnd};
 ghost use Rattle.scenario_texts.specs.Lines.{IsTooLarge};
+ghost use Rattle.program_streams.specs.Faults.{IsMemoryOrRefusal};
 ghost use Rattle.program.specs.Simulating.{IsRead, IsReadInTime};
 
 use crate::reading::{PIECE_LEN, read_piece};
-use program_streams::ProgramFault;
+use program_streams::{ProgramFault, Resource};
 use scenario_texts::{LineCount, Scenario, TextFault, read};
 use std::alloc::Global;
 use std::io::{self, ErrorKind, Read};
 
-/// What a stream turned out to hold.
+/// What the stream contained.
 #[derive(Drop)]
 pub(crate) enum ScenarioInput {
     /// A scenario.
@@ -19,12 +20,13 @@ pub(crate) enum ScenarioInput {
     BadLine(u32),
 }
 
-/// The text of a stream, to its end, or until it is too large for a scenario.
+/// The text of a stream, to its end, or until the text is too large for a scenario.
 fn read_text<R: Read>(alloc: Global, reader: &mut R) -> Result<Vec<u8>, ProgramFault>
-    ensures { MatchResult result
+    ensures read { MatchResult result
         (λ text. Consumes (R.remaining reader.old) (R.remaining reader.new) text.items
         × (IsReadInTime text.items × (IsAtEnd (R.remaining reader.new) ⊎ IsTooLarge text.items)))
         (λ _. (input : List ℕ) × (Consumes (R.remaining reader.old) (R.remaining reader.new) input × IsReadInTime input)) }
+    ensures fault { IfErr result IsMemoryOrRefusal }
 {
     let mut text = Vec::new(alloc);
     let mut lines = LineCount::new();
@@ -39,17 +41,18 @@ fn read_text<R: Read>(alloc: Global, reader: &mut R) -> Result<Vec<u8>, ProgramF
             return Ok(text);
         }
     }
-    Err(ProgramFault::Stream(io::Error::from(ErrorKind::TimedOut)))
+    Err(ProgramFault::Refused(Resource::Input, io::Error::from(ErrorKind::TimedOut)))
 }
 
-/// The scenario of a stream, or its first bad line. The text is gone when the scenario is there.
+/// The scenario of a stream, or the number of its first bad line. The text is dropped before the scenario is returned.
 pub(crate) fn read_scenario<R: Read>(
     alloc: Global,
     reader: &mut R,
 ) -> Result<ScenarioInput, ProgramFault>
-    ensures { MatchResult result
+    ensures read { MatchResult result
         (λ found. IsRead found (R.remaining reader.old) (R.remaining reader.new))
         (λ _. (input : List ℕ) × (Consumes (R.remaining reader.old) (R.remaining reader.new) input × IsReadInTime input)) }
+    ensures fault { IfErr result IsMemoryOrRefusal }
 {
     let text = read_text(alloc, reader)?;
     match read(alloc, &text) {

@@ -1,21 +1,21 @@
 //! How a stream of frames ends.
 
-/// What stands where a frame should begin.
+/// What is wrong at the place where a frame should start.
 #[derive(Clone, Copy, Debug, PartialEq, Eq)]
 pub enum StreamFault {
     /// A length that no frame has.
     TooLong,
-    /// A body that is not spelled.
+    /// A body that encodes nothing.
     Malformed,
 }
 
-/// What stands behind the last frame of a stream.
+/// What follows the last frame of a stream.
 #[derive(Clone, Copy, Debug, PartialEq, Eq)]
 pub enum StreamEnd {
     /// Nothing.
     Whole,
-    /// A beginning of a frame, and nothing more.
+    /// Part of a frame.
     Cut,
-    /// What begins no frame.
+    /// Bytes that no frame starts with.
     Fault(StreamFault),
 }

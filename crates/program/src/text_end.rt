@@ -3,8 +3,8 @@
 /// Whether a text is a scenario.
 #[derive(Clone, Copy, Debug, PartialEq, Eq)]
 pub enum TextEnd {
-    /// It is, and was played.
+    /// The text is a scenario, and was played.
     Whole,
-    /// It isn't: a line of this number, from 1 on, stands in no scenario there.
+    /// The text is no scenario: the line with this number, from 1 on, is bad.
     BadLine(u32),
 }

@@ -1,8 +1,12 @@
-//! What the subcommands of the program share: what stops it, and texts that are written to streams which may fail.
+//! What stops the program.
 #![tactic(auto)]
 
+mod printing;
 mod program_fault;
-mod writing;
+mod resource;
+mod standard_streams;
 
-pub use program_fault::ProgramFault;
-pub use writing::write_whole;
+pub use printing::{complain, flush_output, print, write_output};
+pub use program_fault::{ProgramFault, STOPPED};
+pub use resource::Resource;
+pub use standard_streams::require_open;

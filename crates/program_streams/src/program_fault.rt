@@ -1,18 +1,25 @@
-//! What stops the program.
+//! Why the program stops.
+ghost use Rattle.std.specs.Prelude.{◌≡◌};
+ghost use Rattle.program_streams.specs.declared.program_fault.ProgramFault.TheVariants.{NoMemory};
+
+use crate::resource::Resource;
 use std::alloc::{AllocError, AllocFailed};
 use std::io;
 use thiserror::Error;
 
-/// Why the program could not go on.
+/// The exit status of a program that a fault stopped.
+pub const STOPPED: u8 = 3;
+
+/// Why the program stops.
 #[derive(Debug, Drop, Error)]
 pub enum ProgramFault {
     /// Memory ran out.
     #[error("error: out of memory")]
     NoMemory,
-    /// A read of standard input or a write of standard output failed.
-    #[error("error: {0}")]
-    Stream(io::Error),
-    /// The history of a replica takes no more entries.
+    /// The system refused a standard stream, or another resource.
+    #[error("error: {0}: {1}")]
+    Refused(Resource, io::Error),
+    /// The history of a replica is full.
     #[error("error: the history is full")]
     HistoryFull,
     /// A port of 127.0.0.1 can't be listened at.
@@ -24,19 +31,17 @@ pub enum ProgramFault {
 }
 
 impl From<AllocError> for ProgramFault {
+    ghost from_gives = { λ _ fault. fault ≡ NoMemory };
+
     fn from(_error: AllocError) -> ProgramFault {
         ProgramFault::NoMemory
     }
 }
 
 impl<T: Drop> From<AllocFailed<T>> for ProgramFault {
+    ghost from_gives = { λ _ fault. fault ≡ NoMemory };
+
     fn from(_error: AllocFailed<T>) -> ProgramFault {
         ProgramFault::NoMemory
-    }
-}
-
-impl From<io::Error> for ProgramFault {
-    fn from(error: io::Error) -> ProgramFault {
-        ProgramFault::Stream(error)
     }
 }

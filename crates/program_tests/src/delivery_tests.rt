@@ -1,10 +1,9 @@
 //! `abft deliver` over streams.
 use crate::streams::{Case, Sink, Source};
-use cluster_keys::Cluster;
-use frame_signing::signed_frame;
+use cluster_keys::ClusterSeed;
 use ledger_model::{AppKind, Config, Height, Phase, ReplicaId, Tx};
 use lm_ots::{Params, TreeHeight, Width};
-use program::{StreamEnd, deliver};
+use program::{StreamEnd, deliver, signed_frame};
 use program_streams::ProgramFault;
 use settings::{DeliverSettings, SignSettings, What};
 use std::alloc::{AllocError, Global};
@@ -12,8 +11,8 @@ use std::random::RandomSource;
 use std::test::Fail;
 
 /// Four replicas, one of which may lie, with the keys of the seed of 32 zeros.
-fn cluster() -> Result<Cluster, Fail> {
-    Ok(Cluster {
+fn cluster() -> Result<ClusterSeed, Fail> {
+    Ok(ClusterSeed {
         config: Config::new(4, 1, AppKind::KvStore)?,
         params: Params {
             width: Width::W4,
@@ -23,7 +22,7 @@ fn cluster() -> Result<Cluster, Fail> {
     })
 }
 
-/// What signs a report of replica 0 at height 1 in phase 1.
+/// The settings that sign a report of replica 0 at height 1 in phase 1.
 fn sign_settings(alloc: Global) -> Result<SignSettings, Fail> {
     let cluster = cluster()?;
     if cluster.config.replicas == 0 {
@@ -50,7 +49,7 @@ fn report_twice(alloc: Global) -> Result<Vec<u8>, Fail> {
     Ok(twice(alloc, &settings)?)
 }
 
-/// How a stream ended, or the fault, as text.
+/// How a stream ended, or the fault, as a text.
 fn text_of(alloc: Global, ended: Result<StreamEnd, ProgramFault>) -> Result<String, Fail> {
     Ok(match ended {
         Ok(end) => format!(in alloc; "{end:?}")?,
@@ -58,7 +57,7 @@ fn text_of(alloc: Global, ended: Result<StreamEnd, ProgramFault>) -> Result<Stri
     })
 }
 
-/// What replica 1 of `abft deliver` delivers for, and ends one round.
+/// The settings with which replica 1 of `abft deliver` ends one round before it takes frames.
 fn deliver_settings(alloc: Global) -> Result<DeliverSettings, Fail> {
     let cluster = cluster()?;
     if cluster.config.replicas <= 1 {
@@ -73,7 +72,7 @@ fn deliver_settings(alloc: Global) -> Result<DeliverSettings, Fail> {
     })
 }
 
-/// What replica 1 of `abft deliver` says of a stream: how the stream ended, or the fault.
+/// How `abft deliver` at replica 1 finds that a stream ended, or the fault.
 fn told<S: RandomSource>(
     source: &S,
     alloc: Global,
@@ -88,7 +87,7 @@ fn told<S: RandomSource>(
     )
 }
 
-/// Whether `abft deliver` makes that of the stream.
+/// Whether `abft deliver` does with the stream what the case says.
 fn delivers<S: RandomSource>(source: &S, alloc: Global, case: &Case<'_>) -> Result<bool, Fail> {
     let mut output = Sink::new(alloc, case.room);
     let told = told(source, alloc, case, &mut output)?;
@@ -112,7 +111,7 @@ fn each_line_is_one_write_until_the_delivery_stops(rt: HostRuntime) -> Result<()
             text: &frames,
             fails: false,
             room: 12,
-            told: "error: failed to write whole buffer",
+            told: "error: standard output: failed to write whole buffer",
             output: b"accepted\nign",
             writes: 3,
         },
@@ -120,7 +119,7 @@ fn each_line_is_one_write_until_the_delivery_stops(rt: HostRuntime) -> Result<()
             text: b"\x00\x00\x09\x45",
             fails: true,
             room: 99,
-            told: "error: timed out",
+            told: "error: standard input: timed out",
             output: b"",
             writes: 0,
         },

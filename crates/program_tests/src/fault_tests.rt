@@ -1,11 +1,11 @@
-//! Faults of the program: each has a status, and a text that is written at once.
+//! Faults of the program: each has a status, and a text that is written with one write.
 use crate::streams::{Sink, Source};
 use program::{Outcome, refuse_words, run};
 use std::alloc::Global;
 use std::io::{self, ErrorKind};
 use std::random::RandomSource;
 
-/// What the program comes to on these words, with nothing to read but a fault; what it writes to standard error is added.
+/// The outcome of the program on these words, if reading fails at once. Appends what it writes to standard error.
 fn outcome_of<S: RandomSource>(
     source: &S,
     alloc: Global,
@@ -23,7 +23,7 @@ fn outcome_of<S: RandomSource>(
     )
 }
 
-/// Whether the program ends with this status, and tells why by one write.
+/// Whether the program ends with this status, and writes why with one write.
 fn ends_at_once<S: RandomSource>(
     source: &S,
     alloc: Global,
@@ -41,7 +41,7 @@ fn each_fault_is_one_write(rt: HostRuntime) {
     for subcommand in ["deliver", "simulate"] {
         let mut faults = Sink::new(alloc, 99);
         let is_told = ends_at_once(&rt, alloc, subcommand, 3, &mut faults)
-            && faults.text.as_slice() == b"error: timed out\n".as_slice();
+            && faults.text.as_slice() == b"error: standard input: timed out\n".as_slice();
         assert!(rt; is_told, "at {subcommand}");
     }
 }
@@ -54,7 +54,7 @@ fn bad_usage_is_told_at_once(rt: HostRuntime) {
     assert!(rt; is_told && faults.text.ends_with(b"\n"));
 }
 
-/// Whether words that this error keeps from being read are refused with this status and text.
+/// Whether the program refuses words that this error keeps it from reading, with this status and text.
 fn refuses(alloc: Global, kind: ErrorKind, status: u8, text: &[u8]) -> bool {
     let mut faults = Vec::new(alloc);
     refuse_words(alloc, io::Error::from(kind), &mut faults) == status && faults.as_slice() == text

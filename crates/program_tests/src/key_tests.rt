@@ -1,6 +1,6 @@
-//! Keys of a cluster, against values of another implementation of RFC 8554 and of `docs/FORMATS.md`. Its frames are compared in
-//! `tests/end_to_end.sh`.
-use cluster_keys::{Cluster, key_pair, signer_and_ring};
+//! Keys of a cluster, against values of another implementation of RFC 8554 and of `docs/FORMATS.md`.
+//! `tests/end_to_end.sh` compares frames of these keys.
+use cluster_keys::{ClusterSeed, key_pair, signer_and_ring};
 use hex::FromHex;
 use key_ring::{KeyRing, Signer};
 use ledger_model::{AppKind, Config, ReplicaId};
@@ -21,25 +21,25 @@ const PUBLIC_KEYS: [&str; 4] = [
 const WIDE_KEY: &str =
     "000000050000000458df850afd9e2a98cc5fcec571730c3495ae9979226326196dafa0409b6154875dec60117d0e5b0e11743d66f2ffebbe";
 
-fn cluster<R: Abort>(rt: &R, width: Width, seed: [u8; 32]) -> Cluster {
+fn cluster<R: Abort>(rt: &R, width: Width, seed: [u8; 32]) -> ClusterSeed {
     let config = Config::new(4, 1, AppKind::KvStore).expect(rt, "4 replicas, 1 of which may lie");
     let params = Params {
         width,
         height: TreeHeight::H5,
     };
-    Cluster {
+    ClusterSeed {
         config,
         params,
         seed,
     }
 }
 
-/// Whether these are the bytes of the key.
+/// Whether the key has these bytes.
 fn is_spelled(key: &PublicKey, digits: &str) -> bool {
     <[u8; 56] as FromHex>::from_hex(digits) == Ok(*key.as_bytes())
 }
 
-/// The first of four replicas whose key in the ring is another.
+/// The first of four replicas whose key in the ring differs.
 fn first_other(ring: &KeyRing) -> Option<u8> {
     for replica in 0..4u8 {
         match ring.key(ReplicaId::new(replica)) {
@@ -48,11 +48,6 @@ fn first_other(ring: &KeyRing) -> Option<u8> {
         }
     }
     None
-}
-
-/// Whether the ring has the four keys, and no fifth.
-fn has_four_keys(ring: &KeyRing) -> bool {
-    first_other(ring).is_none() && ring.key(ReplicaId::new(4)).is_none()
 }
 
 /// Whether the signer has replica 1's key, and all of its leaves.
@@ -64,7 +59,8 @@ fn is_replica_1(signer: &Signer) -> bool {
 fn a_ring_has_the_key_of_each_replica(rt: HostRuntime) -> Result<(), Fail> {
     let cluster = cluster(&rt, Width::W4, [0; 32]);
     let (signer, ring) = signer_and_ring(rt.alloc(), &cluster, ReplicaId::new(1))?;
-    assert!(rt; has_four_keys(&ring) && is_replica_1(&signer));
+    assert_eq!(rt; first_other(&ring), None);
+    assert!(rt; ring.key(ReplicaId::new(4)).is_none() && is_replica_1(&signer));
     Ok(())
 }
 

@@ -1,6 +1,6 @@
-//! Scenario texts, what words spell and set, keys and frames; the program on its words: its exit statuses, and what it says of faults;
-//! and its subcommands over streams, of which some fail. This crate has tests alone; what the built program shows is in
-//! `tests/end_to_end.sh`.
+//! Tests of scenario texts, of words and the settings that they give, of keys and frames; of the program on its words:
+//! its exit statuses, and what it writes about faults; and of its subcommands over streams, of which some fail.
+//! `tests/end_to_end.sh` tests the built program.
 #![tactic(auto)]
 
 #[cfg(test)]

@@ -1,12 +1,13 @@
-//! What the words of `abft cluster` and `abft serve` set. What is told of words that set nothing is in `tests/end_to_end.sh`.
-use cluster_keys::Cluster;
+//! The settings that the words of `abft cluster` and `abft serve` give. `tests/end_to_end.sh` tests the faults of words
+//! that give none.
+use cluster_keys::ClusterSeed;
 use command_line::settings;
 use settings::{ClusterSettings, ServeSettings, Settings};
 use std::alloc::{AllocError, Global};
 
-/// The options of a cluster, as a line: how many replicas, how many of them may lie, the application, bits and leaves of keys, and the
-/// seed's last byte.
-fn cluster_line(alloc: Global, cluster: &Cluster) -> Result<String, AllocError> {
+/// The options of a cluster, as a line: the number of replicas, how many of them may lie, the application, bits and
+/// leaves of keys, and the seed's last byte.
+fn cluster_line(alloc: Global, cluster: &ClusterSeed) -> Result<String, AllocError> {
     let config = cluster.config;
     let params = cluster.params;
     let width = params.width;
@@ -36,7 +37,7 @@ fn serving_line(alloc: Global, serve: &ServeSettings) -> Result<String, AllocErr
     )
 }
 
-/// What the words set, as a line.
+/// The settings that the words give, as a line.
 fn told(alloc: Global, words: &[&str]) -> Result<String, AllocError> {
     match settings(alloc, words) {
         Ok(Settings::Cluster(running)) => running_line(alloc, &running),
@@ -46,7 +47,7 @@ fn told(alloc: Global, words: &[&str]) -> Result<String, AllocError> {
     }
 }
 
-/// Whether that is said of the words.
+/// Whether the words give these settings.
 fn is_told(alloc: Global, words: &[&str], text: &str) -> bool {
     match told(alloc, words) {
         Ok(line) => line.as_str() == text,
@@ -54,7 +55,7 @@ fn is_told(alloc: Global, words: &[&str], text: &str) -> bool {
     }
 }
 
-/// Whether that is said of the words of a line.
+/// Whether the words of a line give these settings.
 fn is_told_of(alloc: Global, line: &str, text: &str) -> bool {
     let words: Result<Vec<&str>, AllocError> = line.split(' ').collect(alloc);
     match words {

@@ -9,7 +9,7 @@ use std::test::Fail;
 /// A scenario of two lines, each of which prints one.
 const TEXT: &[u8] = b"config 4 1 1\nend 0\nexecute 0\n";
 
-/// What `abft simulate` says of a stream: how its text ended, or the fault.
+/// How `abft simulate` finds that the text of a stream ended, or the fault.
 fn told<S: RandomSource>(
     source: &S,
     alloc: Global,
@@ -29,14 +29,14 @@ fn told<S: RandomSource>(
     )
 }
 
-/// Whether `abft simulate` makes that of the stream.
+/// Whether `abft simulate` does with the stream what the case says.
 fn plays<S: RandomSource>(source: &S, alloc: Global, case: &Case<'_>) -> Result<bool, Fail> {
     let mut output = Sink::new(alloc, case.room);
     let told = told(source, alloc, case, &mut output)?;
     Ok(case.is(&told, &output))
 }
 
-/// A scenario that is played, one whose second line is written in part, one that cannot be read whole, and one with a bad line.
+/// A scenario that is played, one whose second line is only partly written, one that cannot be read whole, and one with a bad line.
 const SCENARIOS: [Case<'static>; 4] = [
     Case {
         text: TEXT,
@@ -50,7 +50,7 @@ const SCENARIOS: [Case<'static>; 4] = [
         text: TEXT,
         fails: false,
         room: 20,
-        told: "error: failed to write whole buffer",
+        told: "error: standard output: failed to write whole buffer",
         output: b"end 0 1 sent 0\nexecu",
         writes: 3,
     },
@@ -58,7 +58,7 @@ const SCENARIOS: [Case<'static>; 4] = [
         text: TEXT,
         fails: true,
         room: 99,
-        told: "error: timed out",
+        told: "error: standard input: timed out",
         output: b"",
         writes: 0,
     },

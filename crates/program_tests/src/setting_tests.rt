@@ -1,10 +1,11 @@
-//! What the words of a command line set. What those of `abft sign` set, and which words are refused, is in `tests/end_to_end.sh`.
+//! The settings that the words of a command line give. `tests/end_to_end.sh` tests those of `abft sign`, and the words
+//! that are refused.
 use command_line::settings;
 use ledger_model::AppKind;
 use settings::Settings;
 use std::alloc::Global;
 
-/// What the words set, if they set anything. What clap makes of the words is kept out of the tests' proofs by this.
+/// The settings that the words give, if they give any. It has no `ensures`, which keeps clap out of the tests' proofs.
 fn set(alloc: Global, words: &[&str]) -> Option<Settings> {
     settings(alloc, words).ok()
 }
@@ -17,7 +18,7 @@ fn kind_in(settings: &Settings) -> Option<AppKind> {
     }
 }
 
-/// The application of this number, if it is one's.
+/// The application with this number, if there is one.
 fn kind_of(alloc: Global, word: &str) -> Option<AppKind> {
     let settings = set(alloc, &["abft", "sign", "ack", "--kind", word])?;
     kind_in(&settings)
@@ -69,7 +70,7 @@ fn the_words_of_deliver_set_each_option(rt: HostRuntime) {
     assert!(rt; is_deliver_set(&settings));
 }
 
-/// Thirty-two bytes 1, as a word of the command line has them.
+/// Thirty-two bytes 1, as a word of the command line.
 const ONES: &str = "--seed=0101010101010101010101010101010101010101010101010101010101010101";
 
 /// Whether these are the settings of `abft simulate` with the words below.

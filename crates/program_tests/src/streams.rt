@@ -1,8 +1,8 @@
-//! Streams that may fail, of one type for each direction: what a program ensures is proved once for each type.
+//! Streams that may fail, with one type for each direction, because the contract of the program is proved once for each type.
 use std::alloc::Global;
 use std::io::{self, ErrorKind, Read, Write};
 
-/// A stream that gives its bytes, and then ends or fails.
+/// A stream that returns its bytes, and then ends or fails.
 #[derive(Drop)]
 pub(crate) struct Source<'a> {
     text: &'a [u8],
@@ -10,7 +10,7 @@ pub(crate) struct Source<'a> {
 }
 
 impl<'a> Source<'a> {
-    /// A stream of the text, behind which a read fails or finds the end.
+    /// A stream of the text, after which a read fails or finds the end.
     pub(crate) fn new(text: &'a [u8], fails: bool) -> Self {
         Source { text, fails }
     }
@@ -28,7 +28,7 @@ impl Read for Source<'_> {
     }
 }
 
-/// A stream that has room for so many bytes, and counts the writes, and how many of them end a line.
+/// A stream that has room for a number of bytes, and counts the writes, and how many of them end a line.
 #[derive(Drop)]
 pub(crate) struct Sink {
     room: usize,
@@ -38,7 +38,7 @@ pub(crate) struct Sink {
 }
 
 impl Sink {
-    /// An empty stream with room for so many bytes.
+    /// An empty stream with room for `room` bytes.
     pub(crate) fn new(alloc: Global, room: usize) -> Self {
         Sink {
             room,
@@ -66,25 +66,25 @@ impl Write for Sink {
     }
 }
 
-/// A stream that a subcommand reads, and what it makes of it.
+/// A stream that a subcommand reads, and what the subcommand does with it.
 #[derive(Clone, Copy)]
 pub(crate) struct Case<'a> {
     /// What is read.
     pub(crate) text: &'a [u8],
-    /// Whether the read behind that fails.
+    /// Whether the read after the text fails.
     pub(crate) fails: bool,
-    /// How many bytes the output takes.
+    /// The number of bytes that the output takes.
     pub(crate) room: usize,
     /// How the stream ended, or the fault.
     pub(crate) told: &'a str,
     /// What the output took.
     pub(crate) output: &'a [u8],
-    /// How many writes there were, each to the end of a line.
+    /// The number of writes, each of which ends a line.
     pub(crate) writes: u32,
 }
 
 impl Case<'_> {
-    /// Whether this was told, and that was written.
+    /// Whether the subcommand returned this, and wrote that.
     pub(crate) fn is(&self, told: &str, output: &Sink) -> bool {
         told == self.told
             && output.text.as_slice() == self.output

@@ -1,10 +1,10 @@
-//! Each line of a step.
+//! Each kind of command line in a scenario.
 use crate::texts::seen_step;
 use ledger_model::Tx;
 use scenario_texts::{Command, Towards};
 use std::alloc::Global;
 
-/// The name of a step with bytes, its number, and whether these are the bytes.
+/// The name of a command with bytes, its number, and whether these are the bytes.
 fn bytes_of(step: &Command, spelled: &[u8]) -> (&'static str, u32, bool) {
     match step {
         Command::Submit { replica, bytes } => ("submit", *replica, bytes.as_slice() == spelled),
@@ -14,11 +14,11 @@ fn bytes_of(step: &Command, spelled: &[u8]) -> (&'static str, u32, bool) {
     }
 }
 
-fn says_bytes(alloc: Global, line: &[u8], spelled: &[u8]) -> Option<(&'static str, u32, bool)> {
+fn bytes_in(alloc: Global, line: &[u8], spelled: &[u8]) -> Option<(&'static str, u32, bool)> {
     seen_step(alloc, line, |step| bytes_of(step, spelled))
 }
 
-/// Lines of steps with bytes, the name of each, its number and its bytes.
+/// Lines of commands with bytes, and the name, the number and the bytes of each.
 const BYTES: [(&[u8], &str, u32, &[u8]); 7] = [
     (b"submit 0 a=1", "submit", 0, b"a=1"),
     (b"submit 300 \\20\\ff\\5b", "submit", 300, b" \xff["),
@@ -32,12 +32,12 @@ const BYTES: [(&[u8], &str, u32, &[u8]); 7] = [
 #[test]
 fn bytes_of_submit_inject_and_query(rt: HostRuntime) {
     for (line, name, number, spelled) in &BYTES {
-        let said = says_bytes(rt.alloc(), line, spelled);
-        assert!(rt; said == Some((*name, *number, true)), "{name} {number}");
+        let found = bytes_in(rt.alloc(), line, spelled);
+        assert!(rt; found == Some((*name, *number, true)), "{name} {number}");
     }
 }
 
-/// The name of another step, and its numbers, 0 for those that it hasn't.
+/// The name of another command, and its numbers, 0 for those that it doesn't have.
 fn numbers_of(step: &Command) -> (&'static str, [u32; 3]) {
     match step {
         Command::Propose { replica, height } => ("propose", [*replica, height.number(), 0]),
@@ -65,7 +65,11 @@ fn numbers_of_other_steps(rt: HostRuntime) {
         (b"silent", ("silent", [0, 0, 0])),
         (b"round", ("round", [0, 0, 0])),
     ] {
-        assert!(rt; seen_step(rt.alloc(), line, numbers_of) == Some(wanted));
+        assert!(rt;
+            seen_step(rt.alloc(), line, numbers_of) == Some(wanted),
+            "{}",
+            wanted.0
+        );
     }
 }
 
@@ -79,7 +83,7 @@ fn are_spelled(transactions: &[Tx], spelled: &[&[u8]]) -> bool {
     transactions.len() == spelled.len()
 }
 
-/// What a lie is, its height and its phase, and whether it is of replica 1, with these transactions and to this addressee.
+/// The name of a lie, its height and its phase, and whether it is of replica 1, with these transactions and to this addressee.
 fn lie_of(step: &Command, spelled: &[&[u8]], to: Towards) -> (&'static str, (u32, u32), bool) {
     let (name, lie) = match step {
         Command::LieReport(lie) => ("report", lie),
@@ -87,13 +91,13 @@ fn lie_of(step: &Command, spelled: &[&[u8]], to: Towards) -> (&'static str, (u32
         Command::LieAck(lie) => ("ack", lie),
         _ => return ("", (0, 0), false),
     };
-    let is_told = lie.liar.number() == 1
+    let is_same = lie.liar.number() == 1
         && lie.to == to
         && are_spelled(lie.batch.transactions(), spelled);
-    (name, (lie.height.number(), lie.phase.number()), is_told)
+    (name, (lie.height.number(), lie.phase.number()), is_same)
 }
 
-fn says_lie(
+fn lie_in(
     alloc: Global,
     line: &[u8],
     spelled: &[&[u8]],
@@ -105,15 +109,15 @@ fn says_lie(
 #[test]
 fn lies(rt: HostRuntime) {
     let alloc = rt.alloc();
-    let said = says_lie(
+    let found = lie_in(
         alloc,
         b"lie-report 1 2 3 [a=1,b\\0a] all",
         &[b"a=1", b"b\n"],
         Towards::All,
     );
-    assert!(rt; said == Some(("report", (2, 3), true)));
-    let said = says_lie(alloc, b"lie-lock 1 1 1 [x] 3", &[b"x"], Towards::One(3));
-    assert!(rt; said == Some(("lock", (1, 1), true)));
-    let said = says_lie(alloc, b"lie-ack 1 4 5 [] 0", &[], Towards::One(0));
-    assert!(rt; said == Some(("ack", (4, 5), true)));
+    assert!(rt; found == Some(("report", (2, 3), true)));
+    let found = lie_in(alloc, b"lie-lock 1 1 1 [x] 3", &[b"x"], Towards::One(3));
+    assert!(rt; found == Some(("lock", (1, 1), true)));
+    let found = lie_in(alloc, b"lie-ack 1 4 5 [] 0", &[], Towards::One(0));
+    assert!(rt; found == Some(("ack", (4, 5), true)));
 }

@@ -1,7 +1,7 @@
-//! Bytes and numbers as they are written.
+//! Bytes and numbers in their printed form.
 use plain_text::{Escaped, number};
 
-/// Bytes, and how they are written.
+/// Bytes, and their printed form.
 const WRITTEN: [(&[u8], &str); 6] = [
     (b"", ""),
     (b"a=1", "a=1"),
@@ -16,7 +16,7 @@ fn bytes_are_shown_as_they_are_written(rt: HostRuntime) {
     for (bytes, wanted) in &WRITTEN {
         let shown = Escaped(bytes);
         let shown = format!(in rt.alloc(); "{shown}").expect(&rt, "memory");
-        assert!(rt; shown.as_str() == *wanted);
+        assert!(rt; shown.as_str() == *wanted, "at '{wanted}'");
     }
 }
 

@@ -1,4 +1,4 @@
-//! The lines before the steps, and how a fault is shown.
+//! The lines before the commands, and how a fault is shown.
 use crate::texts::seen;
 use ledger_model::AppKind;
 use lm_ots::{TreeHeight, Width};
@@ -51,7 +51,10 @@ fn clusters_and_keys(rt: HostRuntime) {
             (4, 1, 8, TreeHeight::H5, 1),
         ),
     ] {
-        assert!(rt; seen(alloc, text, purses) == Some(Some(wanted)));
+        assert!(rt;
+            seen(alloc, text, purses) == Some(Some(wanted)),
+            "{wanted:?}"
+        );
     }
     let text = b"config 13 4 3\nliar 12\nliar 0\nliar 3\nliar 7\nsilent\n";
     assert!(rt; has_liars(alloc, text, &[12, 0, 3, 7]) == Some(true));
@@ -65,6 +68,6 @@ fn faults_are_shown(rt: HostRuntime) {
         (TextFault::NoMemory, "out of memory"),
     ] {
         let shown = format!(in rt.alloc(); "{fault}").expect(&rt, "memory");
-        assert!(rt; shown.as_str() == wanted);
+        assert!(rt; shown.as_str() == wanted, "at '{wanted}'");
     }
 }

@@ -1,8 +1,8 @@
-//! What the tests read of a scenario text. Which texts are bad, and at which line, is in `tests/scenarios.sh`.
+//! Reads scenario texts for the tests. `tests/scenarios.sh` tests which texts are bad, and at which line.
 use scenario_texts::{Command, Scenario, read};
 use std::alloc::{AllocError, Global};
 
-/// What is seen of the scenario of the text, if it is one.
+/// What `look` finds in the scenario of the text, if it is one.
 pub(crate) fn seen<T, F: FnOnce(&Scenario) -> T>(alloc: Global, text: &[u8], look: F) -> Option<T>
     requires { F.IsAlwaysCallable look }
 {
@@ -12,7 +12,7 @@ pub(crate) fn seen<T, F: FnOnce(&Scenario) -> T>(alloc: Global, text: &[u8], loo
     }
 }
 
-/// The text of four replicas, of which 1 lies, with this line behind.
+/// The text of four replicas, of which replica 1 lies, followed by this line.
 fn text_of_line(alloc: Global, line: &[u8]) -> Result<Vec<u8>, AllocError> {
     let mut text = Vec::from_slice(alloc, b"config 4 1 1\nliar 1\n")?;
     text.extend_from_slice(line)?;
@@ -20,7 +20,7 @@ fn text_of_line(alloc: Global, line: &[u8]) -> Result<Vec<u8>, AllocError> {
     Ok(text)
 }
 
-/// What is seen of the step that the line says there, if it is the one step.
+/// What `look` finds in the command of this line in that text, if it is the only command.
 pub(crate) fn seen_step<T, F: FnOnce(&Command) -> T>(
     alloc: Global,
     line: &[u8],

@@ -1,4 +1,4 @@
-//! What words spell. Which spell no transaction, and why, is in `tests/end_to_end.sh`.
+//! What words encode. `tests/end_to_end.sh` tests which words encode no transaction, and why.
 use plain_text::{decimal, written};
 use std::alloc::Global;
 
@@ -19,7 +19,7 @@ fn decimals_are_digits_alone(rt: HostRuntime) {
     }
 }
 
-/// Whether a text writes these bytes.
+/// Whether a text encodes these bytes.
 fn is_written(alloc: Global, text: &str, bytes: &[u8]) -> bool {
     match written(alloc, text) {
         Ok(read) => read.as_slice() == bytes,

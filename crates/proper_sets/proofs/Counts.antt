@@ -1,5 +1,6 @@
--- What is counted of the reports with their signatures, and of those without.
-use Rattle.std.proofs.Common.{◌≡◌, ℕ, suc, ◌+◌, ◌<◌, Bool, true, false, not, ◌&&◌, List, [], ◌∷◌, ◌++◌, length, take, get_or, refl, sym, ap, ◌∙◌, cond, arith, append-nil}
+-- Counting reports with their signatures and without them.
+use Rattle.std.proofs.Common.{◌≡◌, ℕ, suc, ◌+◌, ◌<◌, Bool, true, false, not, ◌&&◌, List, [], ◌∷◌, ◌++◌, length, take, get_or, refl, sym, ap}
+use Rattle.std.proofs.Common.{◌∙◌, cond, arith, append-nil}
 use Rattle.std.specs.Prelude.{map, filter, nat_eq, Option, Some, None, ◌==◌}
 use Rattle.std.specs.Int.{from_bool}
 use Rattle.std.specs.List.{list_all, flat_map, cons_option}
@@ -11,30 +12,36 @@ use Rattle.ledger_model.specs.declared.statement.Report.{Report}
 use Rattle.ledger_model.specs.declared.statement.SignedReport.{SignedReport}
 use Rattle.ledger_model.specs.Values.{Value}
 use Rattle.ledger_model.specs.Proper.{listed_by_other}
-use Rattle.ledger_model.specs.Tallies.{Places, all_read, count_where}
-use Rattle.ledger_model.specs.Phases.{reports_of, others_where, initials}
+use Rattle.tally.specs.Tallies.{Places, all_read, count_where}
+use Rattle.tally.specs.Readings.{reports_of}
+use Rattle.proper_sets.specs.Propriety.{others_where, initials}
 use Rattle.tally.proofs.Readings.{all_read_more}
 
 -- ---- counts
 
-pub count_where-map : {X Y : Type 0} (f : X → Y) (test : Y → Bool) (xs : List X) → count_where test (map f xs) ≡ count_where (λ x. test (f x)) xs
+pub count_where-map : {X Y : Type 0} (f : X → Y) (test : Y → Bool) (xs : List X)
+    → count_where test (map f xs) ≡ count_where (λ x. test (f x)) xs
 count_where-map f test [] = refl
 count_where-map f test (x ∷ xs) =
     let rest = count_where-map f test xs in
-    elim (test (f x)) as (λ b. length (cond b (f x ∷ filter test (map f xs)) (filter test (map f xs))) ≡ length (cond b (x ∷ filter (λ y. test (f y)) xs) (filter (λ y. test (f y)) xs))) [
+    elim (test (f x)) as (λ b. length (cond b (f x ∷ filter test (map f xs)) (filter test (map f xs)))
+    ≡ length (cond b (x ∷ filter (λ y. test (f y)) xs) (filter (λ y. test (f y)) xs))) [
       | true ↦ ap suc rest
       | false ↦ rest
     ]
 
-pub count_where-filter : {X : Type 0} (kept test : X → Bool) (xs : List X) → count_where test (filter kept xs) ≡ count_where (λ x. kept x && test x) xs
+pub count_where-filter : {X : Type 0} (kept test : X → Bool) (xs : List X)
+    → count_where test (filter kept xs) ≡ count_where (λ x. kept x && test x) xs
 count_where-filter kept test [] = refl
 count_where-filter kept test (x ∷ xs) =
     let rest = count_where-filter kept test xs in
-    elim (kept x) as (λ b. length (filter test (cond b (x ∷ filter kept xs) (filter kept xs))) ≡ length (cond (b && test x) (x ∷ filter (λ y. kept y && test y) xs) (filter (λ y. kept y && test y) xs))) [
-      | true ↦ elim (test x) as (λ t. length (cond t (x ∷ filter test (filter kept xs)) (filter test (filter kept xs))) ≡ length (cond t (x ∷ filter (λ y. kept y && test y) xs) (filter (λ y. kept y && test y) xs))) [
-        | true ↦ ap suc rest
-        | false ↦ rest
-      ]
+    elim (kept x) as (λ b. length (filter test (cond b (x ∷ filter kept xs) (filter kept xs)))
+    ≡ length (cond (b && test x) (x ∷ filter (λ y. kept y && test y) xs) (filter (λ y. kept y && test y) xs))) [
+      | true ↦ elim (test x) as (λ t. length (cond t (x ∷ filter test (filter kept xs)) (filter test (filter kept xs)))
+          ≡ length (cond t (x ∷ filter (λ y. kept y && test y) xs) (filter (λ y. kept y && test y) xs))) [
+            | true ↦ ap suc rest
+            | false ↦ rest
+          ]
       | false ↦ rest
     ]
 
@@ -42,13 +49,15 @@ count_where-filter kept test (x ∷ xs) =
 all_by_count : {X : Type 0} (test : X → Bool) (xs : List X) → list_all test xs ≡ nat_eq (count_where (λ x. not (test x)) xs) 0
 all_by_count test [] = refl
 all_by_count test (x ∷ xs) =
-    elim (test x) as (λ b. (b && list_all test xs) ≡ nat_eq (length (cond (not b) (x ∷ filter (λ y. not (test y)) xs) (filter (λ y. not (test y)) xs))) 0) [
+    elim (test x) as (λ b. (b && list_all test xs)
+    ≡ nat_eq (length (cond (not b) (x ∷ filter (λ y. not (test y)) xs) (filter (λ y. not (test y)) xs))) 0) [
       | true ↦ all_by_count test xs
       | false ↦ sym (ne_eqb (suc (count_where (λ y. not (test y)) xs)) 0 (λ e. omega arith))
     ]
 
 pub others_counted : (own : ℕ) (test : Report → Bool) (places : Places SignedReport)
-    → others_where own test (reports_of (all_read places)) ≡ count_where (λ s. not (s.report.signer == own) && test s.report) (all_read places)
+    → others_where own test (reports_of (all_read places))
+    ≡ count_where (λ s. not (s.report.signer == own) && test s.report) (all_read places)
 others_counted own test places = count_where-map (λ s. s.report) (λ p. not (p.signer == own) && test p) (all_read places)
 
 -- ---- initial values
@@ -57,9 +66,14 @@ others_counted own test places = count_where-map (λ s. s.report) (λ p. not (p.
 pub initials_where : (own : ℕ) (initial : Value) (test : Value → Bool) (reports : List Report)
     → count_where test (initials own initial reports) ≡ from_bool (test initial) + others_where own (λ p. test p.initial) reports
 initials_where own initial test reports =
-    let others : count_where test (map (λ p. p.initial) (filter (λ p. not (p.signer == own)) reports)) ≡ others_where own (λ p. test p.initial) reports
-    = count_where-map (λ p. p.initial) test (filter (λ p. not (p.signer == own)) reports) ∙ count_where-filter (λ p. not (p.signer == own)) (λ p. test p.initial) reports in
-    elim (test initial) as (λ b. length (cond b (initial ∷ filter test (map (λ p. p.initial) (filter (λ p. not (p.signer == own)) reports))) (filter test (map (λ p. p.initial) (filter (λ p. not (p.signer == own)) reports)))) ≡ from_bool b + others_where own (λ p. test p.initial) reports) [
+    let others : count_where test (map (λ p. p.initial) (filter (λ p. not (p.signer == own)) reports))
+    ≡ others_where own (λ p. test p.initial) reports
+    = count_where-map (λ p. p.initial) test (filter (λ p. not (p.signer == own)) reports)
+    ∙ count_where-filter (λ p. not (p.signer == own)) (λ p. test p.initial) reports in
+    elim (test initial) as (λ b. length
+    (cond b (initial ∷ filter test (map (λ p. p.initial) (filter (λ p. not (p.signer == own)) reports)))
+    (filter test (map (λ p. p.initial) (filter (λ p. not (p.signer == own)) reports))))
+    ≡ from_bool b + others_where own (λ p. test p.initial) reports) [
       | true ↦ omega (arith, others)
       | false ↦ omega (arith, others)
     ]
@@ -68,7 +82,8 @@ pub initials_counted : (own : ℕ) (initial : Value) (test : Value → Bool) (pl
     → count_where test (initials own initial (reports_of (all_read places)))
     ≡ from_bool (test initial) + count_where (λ s. not (s.report.signer == own) && test s.report.initial) (all_read places)
 initials_counted own initial test places =
-    initials_where own initial test (reports_of (all_read places)) ∙ ap (λ n. from_bool (test initial) + n) (others_counted own (λ p. test p.initial) places)
+    initials_where own initial test (reports_of (all_read places))
+    ∙ ap (λ n. from_bool (test initial) + n) (others_counted own (λ p. test p.initial) places)
 
 pub initials_known : (own : ℕ) (initial : Value) (places : Places SignedReport)
     → length (initials own initial (reports_of (all_read places))) ≡ count_where (λ s. not (s.report.signer == own)) (all_read places) + 1
@@ -96,14 +111,17 @@ abbrev pub listed_at : ℕ → Option SignedReport → List Value
 listed_at own None = []
 listed_at own (Some s) = listed_by_other own s.report
 
-pub listed_more : (own : ℕ) (test : Value → Bool) (places : Places SignedReport) (i : ℕ) (place : Option SignedReport) → i < length places → place ≡ get_or places i place
+pub listed_more : (own : ℕ) (test : Value → Bool) (places : Places SignedReport) (i : ℕ) (place : Option SignedReport) → i < length places
+    → place ≡ get_or places i place
     → filter test (flat_map (listed_by_other own) (reports_of (all_read (take (i + 1) places))))
     ≡ filter test (flat_map (listed_by_other own) (reports_of (all_read (take i places)))) ++ filter test (listed_at own place)
 listed_more own test places i place h is =
     ap (λ signed. filter test (flat_map (listed_by_other own) (reports_of signed))) (all_read_more places i place h is)
-    ∙ ap (λ reports. filter test (flat_map (listed_by_other own) reports)) (map-append (λ s. s.report) (all_read (take i places)) (cons_option place []))
+    ∙ ap (λ reports. filter test (flat_map (listed_by_other own) reports))
+    (map-append (λ s. s.report) (all_read (take i places)) (cons_option place []))
     ∙ ap (filter test) (flat_map-append (listed_by_other own) (reports_of (all_read (take i places))) (reports_of (cons_option place [])))
-    ∙ filter-append test (flat_map (listed_by_other own) (reports_of (all_read (take i places)))) (flat_map (listed_by_other own) (reports_of (cons_option place [])))
+    ∙ filter-append test (flat_map (listed_by_other own) (reports_of (all_read (take i places))))
+    (flat_map (listed_by_other own) (reports_of (cons_option place [])))
     ∙ ap (λ vs. filter test (flat_map (listed_by_other own) (reports_of (all_read (take i places)))) ++ filter test vs) (alone place)
   where
     alone : (place : Option SignedReport) → flat_map (listed_by_other own) (reports_of (cons_option place [])) ≡ listed_at own place
@@ -113,4 +131,5 @@ listed_more own test places i place h is =
 pub filter_more : {X : Type 0} (test : X → Bool) (xs : List X) (i : ℕ) (x : X) → i < length xs → x ≡ get_or xs i x
     → filter test (take (i + 1) xs) ≡ filter test (take i xs) ++ filter test (x ∷ [])
 filter_more test xs i x h is =
-    ap (filter test) (take_more xs i x h) ∙ filter-append test (take i xs) (get_or xs i x ∷ []) ∙ ap (λ y. filter test (take i xs) ++ filter test (y ∷ [])) (sym is)
+    ap (filter test) (take_more xs i x h) ∙ filter-append test (take i xs) (get_or xs i x ∷ [])
+    ∙ ap (λ y. filter test (take i xs) ++ filter test (y ∷ [])) (sym is)

@@ -9,8 +9,9 @@ use Rattle.ledger_model.specs.Notes.{Note}
 use Rattle.ledger_model.specs.Rounds.{number_of}
 use Rattle.ledger_model.specs.Validity.{ascends_within}
 use Rattle.ledger_model.specs.Proper.{others_reported}
-use Rattle.ledger_model.specs.Phases.{AreReadIn, others_where}
-use Rattle.ledger_model.proofs.Tallying.{of_number, counted_once}
+use Rattle.tally.specs.Readings.{AreReadIn}
+use Rattle.proper_sets.specs.Propriety.{others_where}
+use Rattle.tally.proofs.Tallying.{of_number, counted_once}
 
 and_or : (a b c : Bool) → (a && (b || c)) ≡ ((a && b) || (a && c))
 and_or true b c = refl
@@ -32,10 +33,12 @@ number_tested q test r (p ∷ ps) =
     ]
 
 -- those others that reported what passes a test in a phase
-pub others_are : (config : Config) (id : ℕ) (log : List Note) (k : ℕ) (reports : List Report) → AreReadIn config log k reports → (test : Report → Bool)
+pub others_are : (config : Config) (id : ℕ) (log : List Note) (k : ℕ) (reports : List Report) → AreReadIn config log k reports
+    → (test : Report → Bool)
     → others_reported config id log k test ≡ others_where id test reports
 others_are config id log k reports read test =
     let end : config.replicas ≡ 0 + config.replicas = omega arith in
     (λ i. number_of config (λ r. not (r == id) && read.same (λ p. (p.signer == r) && test p) i))
     ∙ (λ i. number_of config (λ r. number_tested (λ s. not (s == id)) test r reports i))
-    ∙ counted_once (λ p. p.signer) (λ p. not (p.signer == id) && test p) config.replicas 0 reports (subst (λ e. ascends_within 0 e (map (λ p. p.signer) reports) ≡ true) end read.signers)
+    ∙ counted_once (λ p. p.signer) (λ p. not (p.signer == id) && test p) config.replicas 0 reports
+    (subst (λ e. ascends_within 0 e (map (λ p. p.signer) reports) ≡ true) end read.signers)

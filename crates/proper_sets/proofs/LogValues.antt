@@ -7,12 +7,13 @@ use Rattle.ledger_model.specs.declared.config.Config.{Config}
 use Rattle.ledger_model.specs.declared.statement.Report.{Report}
 use Rattle.ledger_model.specs.declared.statement.Statement.{Statement}
 use Rattle.ledger_model.specs.declared.statement.Statement.TheVariants as statement
-use Rattle.ledger_model.specs.Rounds.{round_at}
-use Rattle.ledger_model.specs.Notes.{Note, Proposed, Round, Made, Read, Has, is_report, was_read}
+use Rattle.ledger_model.specs.Rounds.{round_at, report_place}
+use Rattle.ledger_model.specs.Notes.{Note, Proposed, Round, OwnStatement, Read, Has, is_report, was_read}
 use Rattle.ledger_model.specs.Values.{Value, same_value}
 use Rattle.ledger_model.specs.Proper.{values_in}
-use Rattle.ledger_model.specs.Phases.{AreReadIn}
-use Rattle.ledger_model.proofs.Lists.{any_has, has_any, has_left, has_right, has_cases, flat_map_has, has_flat_map, same_value-refl, same_value-equal}
+use Rattle.tally.specs.Readings.{AreReadIn}
+use Rattle.ledger_model.proofs.Lists.{any_has, has_any, has_left, has_right, has_cases, flat_map_has, has_flat_map, same_value-refl}
+use Rattle.ledger_model.proofs.Lists.{same_value-equal}
 
 module _ (part : Report → List Value) (k : ℕ) where
   abbrev lists : Value → Report → Bool
@@ -25,51 +26,67 @@ module _ (part : Report → List Value) (k : ℕ) where
   lists_has v p e = let y = any_has (same_value v) (part p) e in subst (Has (part p)) (sym (same_value-equal v y.0 y.1.1)) y.1.0
 
   -- a value in the notes was read
-  read_note : (c : ℕ) (s : Statement) (signature : List ℕ) (log : List Note) (v : Value) → (Has (values_in part k log) v → was_read log (round_at 1 k) (is_report (lists v)) ≡ true)
+  read_note : (c : ℕ) (s : Statement) (signature : List ℕ) (log : List Note) (v : Value)
+      → (Has (values_in part k log) v → was_read log (round_at report_place k) (is_report (lists v)) ≡ true)
       → Has (values_in part k (Read c (record { statement = s; signature = signature }) ∷ log)) v
-      → was_read (Read c (record { statement = s; signature = signature }) ∷ log) (round_at 1 k) (is_report (lists v)) ≡ true
+      → was_read (Read c (record { statement = s; signature = signature }) ∷ log) (round_at report_place k) (is_report (lists v)) ≡ true
   read_note c (statement.Report p) signature log v rest h =
-      (elim (nat_eq c (round_at 1 k)) as (λ b. Has (cond b (part p) [] ++ values_in part k log) v → (b && lists v p || was_read log (round_at 1 k) (is_report (lists v))) ≡ true) [
+      (elim (nat_eq c (round_at report_place k))
+      as (λ b. Has (cond b (part p) [] ++ values_in part k log) v
+      → (b && lists v p || was_read log (round_at report_place k) (is_report (lists v))) ≡ true) [
         | true ↦ λ x. elim (has_cases (part p) (values_in part k log) v x) [
-          | inl here ↦ or_left (lists v p) (was_read log (round_at 1 k) (is_report (lists v))) (lists_from v p here)
-          | inr later ↦ or_right (lists v p) (was_read log (round_at 1 k) (is_report (lists v))) (rest later)
+          | inl here ↦ or_left (lists v p) (was_read log (round_at report_place k) (is_report (lists v))) (lists_from v p here)
+          | inr later ↦ or_right (lists v p) (was_read log (round_at report_place k) (is_report (lists v))) (rest later)
         ]
         | false ↦ rest
       ]) h
   read_note c (statement.Lock l) signature log v rest h =
-      (elim (nat_eq c (round_at 1 k)) as (λ b. Has (cond b [] [] ++ values_in part k log) v → (b && false || was_read log (round_at 1 k) (is_report (lists v))) ≡ true) [ true ↦ rest | false ↦ rest ]) h
+      (elim (nat_eq c (round_at report_place k))
+      as (λ b. Has (cond b [] [] ++ values_in part k log) v
+      → (b && false || was_read log (round_at report_place k) (is_report (lists v))) ≡ true) [ true ↦ rest | false ↦ rest ]) h
   read_note c (statement.Ack a) signature log v rest h =
-      (elim (nat_eq c (round_at 1 k)) as (λ b. Has (cond b [] [] ++ values_in part k log) v → (b && false || was_read log (round_at 1 k) (is_report (lists v))) ≡ true) [ true ↦ rest | false ↦ rest ]) h
+      (elim (nat_eq c (round_at report_place k))
+      as (λ b. Has (cond b [] [] ++ values_in part k log) v
+      → (b && false || was_read log (round_at report_place k) (is_report (lists v))) ≡ true) [ true ↦ rest | false ↦ rest ]) h
 
-  in_read : (log : List Note) (v : Value) → Has (values_in part k log) v → was_read log (round_at 1 k) (is_report (lists v)) ≡ true
+  in_read : (log : List Note) (v : Value) → Has (values_in part k log) v
+      → was_read log (round_at report_place k) (is_report (lists v)) ≡ true
   in_read [] v h = absurd h
   in_read (Proposed w ∷ log) v h = in_read log v h
   in_read (Round c ∷ log) v h = in_read log v h
-  in_read (Made c s ∷ log) v h = in_read log v h
+  in_read (OwnStatement c s ∷ log) v h = in_read log v h
   in_read (Read c s ∷ log) v h = read_note c s.statement s.signature log v (in_read log v) h
 
   -- and what was read is in the notes
-  note_read : (c : ℕ) (s : Statement) (signature : List ℕ) (log : List Note) (v : Value) → (was_read log (round_at 1 k) (is_report (lists v)) ≡ true → Has (values_in part k log) v)
-      → was_read (Read c (record { statement = s; signature = signature }) ∷ log) (round_at 1 k) (is_report (lists v)) ≡ true
+  note_read : (c : ℕ) (s : Statement) (signature : List ℕ) (log : List Note) (v : Value)
+      → (was_read log (round_at report_place k) (is_report (lists v)) ≡ true → Has (values_in part k log) v)
+      → was_read (Read c (record { statement = s; signature = signature }) ∷ log) (round_at report_place k) (is_report (lists v)) ≡ true
       → Has (values_in part k (Read c (record { statement = s; signature = signature }) ∷ log)) v
   note_read c (statement.Report p) signature log v rest h =
-      (elim (nat_eq c (round_at 1 k)) as (λ b. (b && lists v p || was_read log (round_at 1 k) (is_report (lists v))) ≡ true → Has (cond b (part p) [] ++ values_in part k log) v) [
-        | true ↦ λ x. elim (or_cases (lists v p) (was_read log (round_at 1 k) (is_report (lists v))) x) [
+      (elim (nat_eq c (round_at report_place k))
+      as (λ b. (b && lists v p || was_read log (round_at report_place k) (is_report (lists v))) ≡ true
+      → Has (cond b (part p) [] ++ values_in part k log) v) [
+        | true ↦ λ x. elim (or_cases (lists v p) (was_read log (round_at report_place k) (is_report (lists v))) x) [
           | inl here ↦ has_left (part p) (values_in part k log) v (lists_has v p here)
           | inr later ↦ has_right (part p) (values_in part k log) v (rest later)
         ]
         | false ↦ rest
       ]) h
   note_read c (statement.Lock l) signature log v rest h =
-      (elim (nat_eq c (round_at 1 k)) as (λ b. (b && false || was_read log (round_at 1 k) (is_report (lists v))) ≡ true → Has (cond b [] [] ++ values_in part k log) v) [ true ↦ rest | false ↦ rest ]) h
+      (elim (nat_eq c (round_at report_place k))
+      as (λ b. (b && false || was_read log (round_at report_place k) (is_report (lists v))) ≡ true
+      → Has (cond b [] [] ++ values_in part k log) v) [ true ↦ rest | false ↦ rest ]) h
   note_read c (statement.Ack a) signature log v rest h =
-      (elim (nat_eq c (round_at 1 k)) as (λ b. (b && false || was_read log (round_at 1 k) (is_report (lists v))) ≡ true → Has (cond b [] [] ++ values_in part k log) v) [ true ↦ rest | false ↦ rest ]) h
+      (elim (nat_eq c (round_at report_place k))
+      as (λ b. (b && false || was_read log (round_at report_place k) (is_report (lists v))) ≡ true
+      → Has (cond b [] [] ++ values_in part k log) v) [ true ↦ rest | false ↦ rest ]) h
 
-  was_in : (log : List Note) (v : Value) → was_read log (round_at 1 k) (is_report (lists v)) ≡ true → Has (values_in part k log) v
+  was_in : (log : List Note) (v : Value) → was_read log (round_at report_place k) (is_report (lists v)) ≡ true
+      → Has (values_in part k log) v
   was_in [] v h = absurd (false≢true h)
   was_in (Proposed w ∷ log) v h = was_in log v h
   was_in (Round c ∷ log) v h = was_in log v h
-  was_in (Made c s ∷ log) v h = was_in log v h
+  was_in (OwnStatement c s ∷ log) v h = was_in log v h
   was_in (Read c s ∷ log) v h = note_read c s.statement s.signature log v (was_in log v) h
 
   module _ (config : Config) (log : List Note) (reports : List Report) (read : AreReadIn config log k reports) where

@@ -1,5 +1,6 @@
 -- Ascending values are one list for each set of values.
-use Rattle.std.proofs.Common.{◌≡◌, ℕ, zero, suc, ◌+◌, Bool, true, false, inl, inr, List, [], ◌∷◌, ◌++◌, refl, sym, ap, subst, ◌∙◌, cond, not, ◌≤◌, length, append-nil, arith}
+use Rattle.std.proofs.Common.{◌≡◌, ℕ, zero, suc, ◌+◌, Bool, true, false, inl, inr, List, [], ◌∷◌, ◌++◌, refl, sym, ap, subst, ◌∙◌, cond}
+use Rattle.std.proofs.Common.{not, ◌≤◌, length, append-nil, arith}
 use Rattle.std.specs.Prelude.{take, filter, unwrap_or}
 use Rattle.std.specs.List.{list_any, insert, position, position_or_len}
 use Rattle.std.proofs.lemmas.List.Sums.{prefix_len-le-length}
@@ -11,11 +12,13 @@ use Rattle.ledger_model.specs.Values.{Value, same_value, is_below, with_value, a
 use Rattle.ledger_model.specs.OrderLaws.{same_value-equiv}
 use Rattle.ledger_model.specs.Spelling.{are_ascending}
 use Rattle.ledger_model.proofs.Below.{tail_ascends, with_value_ascends, ascending_ascends, above_all, one_list}
-use Rattle.ledger_model.proofs.Lists.{any_has, filter_has, take_has, with_value_has, ascending_has, has_ascending, same_value-equal, has_with, has_with_other, has_left, has_right, has_cases}
+use Rattle.ledger_model.proofs.Lists.{any_has, filter_has, take_has, with_value_has, ascending_has, has_ascending, same_value-equal}
+use Rattle.ledger_model.proofs.Lists.{has_with, has_with_other, has_left, has_right, has_cases}
 
 -- ---- values that ascend
 
-pub ascends_by : (v : Value) (vs : List Value) → ((w : Value) → Has vs w → is_below v w ≡ true) → are_ascending vs ≡ true → are_ascending (v ∷ vs) ≡ true
+pub ascends_by : (v : Value) (vs : List Value) → ((w : Value) → Has vs w → is_below v w ≡ true) → are_ascending vs ≡ true
+    → are_ascending (v ∷ vs) ≡ true
 ascends_by v [] h a = refl
 ascends_by v (x ∷ xs) h a = and_from (is_below v x) (are_ascending (x ∷ xs)) (h x (inl refl)) a
 
@@ -37,7 +40,8 @@ take-ascends (suc n) (v ∷ vs) a =
 -- ---- which values
 
 -- so `ascending` tells only which values are in the list
-pub ascending_same : (vs ws : List Value) → ((x : Value) → Has vs x → Has ws x) → ((x : Value) → Has ws x → Has vs x) → ascending vs ≡ ascending ws
+pub ascending_same : (vs ws : List Value) → ((x : Value) → Has vs x → Has ws x) → ((x : Value) → Has ws x → Has vs x)
+    → ascending vs ≡ ascending ws
 ascending_same vs ws f g =
     one_list (ascending vs) (ascending ws) (ascending_ascends vs) (ascending_ascends ws)
     (λ x h. has_ascending ws x (f x (ascending_has vs x h))) (λ x h. has_ascending vs x (g x (ascending_has ws x h)))
@@ -55,7 +59,8 @@ with_value-there v ws a h =
     (λ x k. has_with_other v ws x k)
 
 -- another goes in front of the first one above it
-pub with_value-new : (v : Value) (ws : List Value) → list_any (λ w. same_value w v) ws ≡ false → with_value v ws ≡ insert ws (position_or_len (is_below v) ws) v
+pub with_value-new : (v : Value) (ws : List Value) → list_any (λ w. same_value w v) ws ≡ false
+    → with_value v ws ≡ insert ws (position_or_len (is_below v) ws) v
 with_value-new v [] h = refl
 with_value-new v (w ∷ ws) h =
     let parts = or_parts (same_value w v) (list_any (λ x. same_value x v) ws) h in
@@ -68,11 +73,13 @@ with_value-new v (w ∷ ws) h =
     ]
 
 -- the place that is sought is the first above, or the end
-pub place_sought : {X : Type 0} (p : X → Bool) (xs : List X) (place : ℕ) → place ≡ unwrap_or (position p xs) (length xs) → place ≡ position_or_len p xs
+pub place_sought : {X : Type 0} (p : X → Bool) (xs : List X) (place : ℕ) → place ≡ unwrap_or (position p xs) (length xs)
+    → place ≡ position_or_len p xs
 place_sought p xs place e =
     e ∙ elim (cases_Bool (ltb (position_or_len p xs) (length xs))) [
       | inl inside ↦ rw inside refl
-      | inr past ↦ let le = prefix_len-le-length (λ x. not (p x)) xs in let ge = ltb-false (position_or_len p xs) (length xs) past in rw past (omega arith)
+      | inr past ↦ let le = prefix_len-le-length (λ x. not (p x)) xs in let ge =
+          ltb-false (position_or_len p xs) (length xs) past in rw past (omega arith)
     ]
 
 pub with_value-few : (v : Value) (ws : List Value) → length (with_value v ws) ≤ length ws + 1
@@ -104,17 +111,23 @@ with_values-ascending (v ∷ vs) ws a =
     ])
     (λ x h. elim (has_cases ws (v ∷ vs) x h) [
       | inl k ↦ has_left (with_value v ws) vs x (has_with_other v ws x k)
-      | inr k ↦ elim k [ inl e ↦ has_left (with_value v ws) vs x (subst (Has (with_value v ws)) e (has_with v ws)) | inr r ↦ has_right (with_value v ws) vs x r ]
+      | inr k ↦ elim k [
+        | inl e ↦ has_left (with_value v ws) vs x (subst (Has (with_value v ws)) e (has_with v ws))
+        | inr r ↦
+            has_right (with_value v ws) vs x r
+      ]
     ])
 
 -- ---- as the code puts one
 
-pub with_value-found : (v : Value) (ws : List Value) → are_ascending ws ≡ true → list_any (λ w. same_value w v) ws ≡ true → with_value v ws ≡ ws
+pub with_value-found : (v : Value) (ws : List Value) → are_ascending ws ≡ true → list_any (λ w. same_value w v) ws ≡ true
+    → with_value v ws ≡ ws
 with_value-found v ws a found =
     let there = any_has (λ w. same_value w v) ws found in
     with_value-there v ws a (subst (Has ws) (same_value-equal there.0 v there.1.1) there.1.0)
 
-pub with_value-placed : (v : Value) (ws : List Value) (place : ℕ) → list_any (λ w. same_value w v) ws ≡ false → place ≡ unwrap_or (position (is_below v) ws) (length ws)
+pub with_value-placed : (v : Value) (ws : List Value) (place : ℕ) → list_any (λ w. same_value w v) ws ≡ false
+    → place ≡ unwrap_or (position (is_below v) ws) (length ws)
     → with_value v ws ≡ insert ws place v
 with_value-placed v ws place missing sought =
     with_value-new v ws missing ∙ ap (λ i. insert ws i v) (sym (place_sought (is_below v) ws place sought))

@@ -1,3 +1,4 @@
-pub mod Known
+pub mod Propriety
+pub mod ProperViews
 pub mod Puts
 pub mod Laws

@@ -26,7 +26,7 @@ impl Model for Ascending {
 }
 
 impl Ascending {
-    /// No batches.
+    /// The empty list.
     pub(crate) fn new(alloc: Global) -> Self
         ensures { result ≡ [] }
     {
@@ -50,7 +50,7 @@ impl Ascending {
         self.values.iter().any(|held| value == held)
     }
 
-    /// The same batches once more.
+    /// A copy of the list. The only error is allocation failure.
     pub(crate) fn copy(&self) -> Result<Self, AllocError>
         ensures ok { IfOk result (λ copied. copied ≡ self.now) }
         ensures ascend { IsTrue (are_ascending self.now) }
@@ -61,7 +61,7 @@ impl Ascending {
         })
     }
 
-    /// Puts a copy of the batch in its place, unless it is there.
+    /// Inserts a copy of the batch in order, unless the list has it.
     pub(crate) fn put(&mut self, value: &Batch) -> Result<(), AllocError>
         ensures ok { OnOk result (self.new ≡ with_value value.now self.old) }
         ensures err { OnErr result (self.new ≡ self.old) }
@@ -74,7 +74,7 @@ impl Ascending {
         Ok(())
     }
 
-    /// Keeps the least batches that differ from this one, at most so many.
+    /// Keeps only the `count` least batches that differ from this one.
     pub(crate) fn keep_least_others(&mut self, value: &Batch, count: usize)
         ensures { self.new ≡ take count (filter (λ v. not (same_value value.now v)) self.old) }
     {
@@ -83,7 +83,7 @@ impl Ascending {
     }
 }
 
-/// The first place whose batch is above the value, if there is one.
+/// The index of the first batch above the value, if there is one.
 fn first_above(values: &[Batch], value: &Batch) -> Option<usize>
     ensures { result ≡ position (is_below value.now) values.now }
 {

@@ -1,7 +1,7 @@
-//! What is proper for a replica at one height: the values that it may report.
+//! The proper values of a replica at one height: the values that it may report.
 //!
-//! A [`Proper`] begins with the replica's own initial value alone, and takes in the reports of one phase at a time (Dwork, Lynch
-//! and Stockmeyer 1988, Algorithm 2).
+//! A [`Proper`] starts with only the replica's own initial value, and absorbs the reports of one phase at a time
+//! (Dwork, Lynch and Stockmeyer 1988, Algorithm 2).
 #![tactic(auto)]
 
 mod ascending;

@@ -1,4 +1,4 @@
-//! What is proper for a replica: its own initial value, others by name, or all.
+//! The proper values of a replica: its own initial value, others by name, or all.
 use crate::ascending::Ascending;
 use crate::reported::PhaseReports;
 use ledger_model::{Batch, Config, ReplicaId, SignedReport};
@@ -6,7 +6,7 @@ use std::alloc::{AllocError, Global};
 use std::marker::Model;
 use tally::Tally;
 
-/// What is proper for a replica at one height: its own initial value, and what the reports that it read make proper.
+/// The proper values of a replica at one height: its own initial value, and those that the reports which it read make proper.
 ///
 /// Contracts see the cluster's size and a `ProperSet`.
 pub struct Proper {
@@ -16,7 +16,7 @@ pub struct Proper {
     explicit: Ascending,
 }
 
-// It is dropped by a function of its own, so that whoever owns one drops it by a single call.
+// An own `Drop` keeps proofs short: an owner drops it by one call. See docs/WORKING.md.
 impl Drop for Proper {
     fn drop(self) {
         let Proper {
@@ -29,9 +29,9 @@ impl Drop for Proper {
 }
 
 impl Model for Proper {
-    ghost use Rattle.proper_sets.specs.Known.{Known, IsSmall};
+    ghost use Rattle.proper_sets.specs.ProperViews.{ProperView, IsSmall};
 
-    ghost Value = { Known };
+    ghost Value = { ProperView };
 
     ghost view = { λ p. record { config = p.config; set = record { own = p.own; all = p.all; explicit = p.explicit } } };
 
@@ -43,13 +43,14 @@ impl Proper {
     ghost use Rattle.std.specs.List.{list_any};
     ghost use Rattle.ledger_model.specs.Values.{same_value, IsValue};
     ghost use Rattle.ledger_model.specs.Spelling.{are_ascending};
-    ghost use Rattle.ledger_model.specs.Tallies.{all_read};
-    ghost use Rattle.ledger_model.specs.Phases.{only_own, is_proper, absorbed, reports_of};
+    ghost use Rattle.tally.specs.Tallies.{all_read};
+    ghost use Rattle.proper_sets.specs.Propriety.{only_own, is_proper, absorbed};
+    ghost use Rattle.tally.specs.Readings.{reports_of};
 
     /// The most values that are proper by name.
     pub const MAX_EXPLICIT: usize = 4;
 
-    /// What is proper before the first phase: the own initial value alone.
+    /// The set before the first phase: only the replica's own initial value. The only error is allocation failure.
     pub fn new(alloc: Global, config: &Config, initial: &Batch) -> Result<Self, AllocError>
         ensures config { IfOk result (λ proper. proper.config ≡ config.now) }
         ensures set { IfOk result (λ proper. proper.set ≡ only_own initial.now) }
@@ -65,9 +66,10 @@ impl Proper {
         })
     }
 
-    /// Takes in the reports that were read in one phase. `own` is the number of this replica: its report is none of the others'.
+    /// Absorbs the reports that were read in one phase. `own` is the number of this replica, whose own report doesn't
+    /// count among the others'.
     ///
-    /// Where memory runs out, nothing changes.
+    /// If memory runs out, nothing changes.
     pub fn absorb(
         &mut self,
         own: ReplicaId,
@@ -93,14 +95,14 @@ impl Proper {
         Ok(())
     }
 
-    /// Whether the value is proper. It takes no memory.
+    /// Whether the value is proper. Allocates nothing.
     pub fn has(&self, value: &Batch) -> bool
         ensures { result ≡ is_proper self.now.set value.now }
     {
         self.all || self.explicit.has(value)
     }
 
-    /// The same once more.
+    /// A copy of the set. The only error is allocation failure.
     pub fn copy(&self) -> Result<Self, AllocError>
         ensures { IfOk result (λ proper. proper ≡ self.now) }
     {
@@ -112,7 +114,7 @@ impl Proper {
         })
     }
 
-    /// The own initial value.
+    /// The replica's own initial value.
     pub fn own(&self) -> &Batch
         ensures { result.now ≡ self.now.set.own }
     {
@@ -126,7 +128,7 @@ impl Proper {
         self.all
     }
 
-    /// The values that are proper by name, ascending: the own one and at most three others.
+    /// The values that are proper by name, ascending: the replica's own, and at most three others.
     pub fn explicit(&self) -> &[Batch]
         ensures values { result.now ≡ self.now.set.explicit }
         ensures few { length self.now.set.explicit ≤ 4 }

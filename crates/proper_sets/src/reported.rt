@@ -1,10 +1,11 @@
-//! What the reports of one phase make proper.
+//! Which values the reports of one phase make proper.
 ghost use Rattle.std.specs.Prelude.{◌≡◌, ◌||◌, length, filter, nat_le, OnOk};
 ghost use Rattle.std.specs.List.{list_all};
 ghost use Rattle.ledger_model.specs.Values.{same_value};
-ghost use Rattle.ledger_model.specs.Tallies.{all_read, count_where};
+ghost use Rattle.tally.specs.Tallies.{all_read, count_where};
 ghost use Rattle.ledger_model.specs.Proper.{listed_by_other};
-ghost use Rattle.ledger_model.specs.Phases.{reports_of, is_named_by, are_all_named_by, initials, is_split_among, named_values};
+ghost use Rattle.tally.specs.Readings.{reports_of};
+ghost use Rattle.proper_sets.specs.Propriety.{is_named_by, are_all_named_by, initials, is_split_among, named_values};
 ghost use Rattle.proper_sets.specs.Puts.{with_values};
 
 use crate::ascending::Ascending;
@@ -12,19 +13,19 @@ use ledger_model::{Batch, Config, ReplicaId, Report, SignedReport};
 use std::alloc::AllocError;
 use tally::Tally;
 
-/// The reports that were read in one phase, for the replica that takes them in.
+/// The reports that were read in one phase, for the replica that absorbs them.
 #[derive(Clone, Copy)]
 pub(crate) struct PhaseReports<'a> {
     pub(crate) config: &'a Config,
-    /// The number of the replica: its report is none of the others'.
+    /// The number of the replica, whose own report doesn't count among the others'.
     pub(crate) own: ReplicaId,
-    /// Its initial value.
+    /// The replica's initial value.
     pub(crate) initial: &'a Batch,
     pub(crate) reports: &'a Tally<SignedReport>,
 }
 
 impl PhaseReports<'_> {
-    /// Whether more than t others name the value.
+    /// Whether more than t other replicas name the value.
     fn is_named(&self, value: &Batch) -> bool
         ensures { result ≡ is_named_by self.now.config.now self.now.own (reports_of (all_read self.now.reports.now)) value.now }
     {
@@ -34,7 +35,7 @@ impl PhaseReports<'_> {
         others > usize::from(self.config.faults)
     }
 
-    /// Whether every value is proper once the reports are taken in.
+    /// Whether the reports make every value proper.
     pub(crate) fn make_all_proper(&self) -> bool
         ensures { let reports = reports_of (all_read self.now.reports.now) in
             result ≡ (are_all_named_by self.now.config.now self.now.own reports || is_split_among self.now.config.now (initials self.now.own self.now.initial.now reports)) }
@@ -42,7 +43,7 @@ impl PhaseReports<'_> {
         self.are_all_named() || self.is_split()
     }
 
-    /// Whether more than t others say that every value is proper.
+    /// Whether more than t others report that every value is proper.
     fn are_all_named(&self) -> bool
         ensures { result ≡ are_all_named_by self.now.config.now self.now.own (reports_of (all_read self.now.reports.now)) }
     {
@@ -60,7 +61,7 @@ impl PhaseReports<'_> {
         self.known() > 2 * usize::from(self.config.faults) && self.are_rare()
     }
 
-    /// How many initial values are known: the own one, and those that others report.
+    /// The number of initial values that are known: the replica's own, and those that others report.
     fn known(&self) -> usize
         ensures { result ≡ length (initials self.now.own self.now.initial.now (reports_of (all_read self.now.reports.now))) }
     {
@@ -84,7 +85,7 @@ impl PhaseReports<'_> {
         is_own_rare && common == 0
     }
 
-    /// Whether the value is the initial one of at most t replicas.
+    /// Whether the value is the initial value of at most t replicas.
     fn is_rare(&self, value: &Batch) -> bool
         ensures { result ≡ nat_le (count_where (same_value value.now) (initials self.now.own self.now.initial.now (reports_of (all_read self.now.reports.now)))) self.now.config.now.faults }
     {
@@ -107,7 +108,7 @@ impl PhaseReports<'_> {
         Ok(())
     }
 
-    /// Adds those of the values that another's report lists which more than t others name.
+    /// Adds the values that one other replica's report lists and that more than t others name.
     fn put_named_by(&self, report: &Report, values: &mut Ascending) -> Result<(), AllocError>
         ensures { OnOk result (values.new ≡ with_values (filter (is_named_by self.now.config.now self.now.own (reports_of (all_read self.now.reports.now))) (listed_by_other self.now.own report.now)) values.old) }
     {

@@ -1,4 +1,4 @@
--- A round end at which what is chosen is signed, and a mute one: each is a step.
+-- A round end at which chosen statements are signed, and a mute round end: each is a step.
 use Rattle.std.proofs.Common.{◌≡◌, ℕ, ◌+◌, ◌<◌, Bool, true, false, List, [], ◌∷◌, refl, sym, ap, subst, ◌∙◌}
 use Rattle.std.specs.Prelude.{Some, IsTrue, slice_get}
 use Rattle.std.specs.List.{AllByRecursion}
@@ -12,25 +12,26 @@ use Rattle.ledger_model.specs.Logs.{log_of}
 use Rattle.ledger_model.specs.Rules.{Ring, is_signed, is_signed_by}
 use Rattle.lms_tree.specs.Trees.{Secret}
 use Rattle.key_ring.specs.Signers.{key_of}
-use Rattle.instance.specs.declared.made.Made.{Made}
-use Rattle.instance.specs.declared.made.Made.TheVariants as made
-use Rattle.instance.specs.Rows.{Row}
+use Rattle.instance.specs.declared.round_statement.RoundStatement.{RoundStatement}
+use Rattle.instance.specs.declared.round_statement.RoundStatement.TheVariants as made
+use Rattle.instance.specs.Instances.{InstanceView}
 use Rattle.instance.specs.Plans.{MaySend, chosen_statement}
 use Rattle.instance.specs.Laws.{IsFrameMade}
 use Rattle.instance.proofs.MaySend.{own_if_sent}
 use Rattle.instance.proofs.AtClock.{chooses_at}
-use Rattle.replica_core.specs.Holding.{Held, IsHeld, Matches}
+use Rattle.replica_core.specs.ReplicaStates.{ReplicaStateView, IsWithinLimits, MatchesHistory}
 use Rattle.replica_core.specs.RoundEnds.{AreMade, after_end, SignsFrom}
 use Rattle.replica_core.specs.Steps.{IsStep}
 use Rattle.replica_core.specs.ChosenEnds.{all_mute, IsVerifiedMade, IsFrameUnder, end_reply, MuteEnds, SignedEnds}
-use Rattle.replica_core.proofs.Elements.{each_weaker}
 use Rattle.replica_core.proofs.AscendingRows.{each_found}
 use Rattle.replica_core.proofs.RoundsEnd.{rounds_end}
 use Rattle.replica_core.proofs.UsedLeaves.{mute_leaves, signed_leaves}
+use Rattle.ledger_model.proofs.Lists.{each_weaker}
 
 -- an end at which this may be made after each history that is matched is a step
-end_step : (held : Held) (mute : Bool) (ms : List Made) → IsHeld held → held.clock < last_round → (held.mute ≡ true → mute ≡ true)
-    → ((entries : List Entry) → Matches held entries → AreMade held.ring mute (held.clock + 1) held.rows ms)
+end_step : (held : ReplicaStateView) (mute : Bool) (ms : List RoundStatement) → IsWithinLimits held → held.clock < last_round
+    → (held.mute ≡ true → mute ≡ true)
+    → ((entries : List Entry) → MatchesHistory held entries → AreMade held.ring mute (held.clock + 1) held.rows ms)
     → IsStep held event.RoundEnd (end_reply held mute ms) (after_end held mute ms)
 end_step held mute ms is_held early still are_made entries matches =
     let end = (rounds_end held mute ms entries is_held early matches still (are_made entries matches)).0 in
@@ -39,7 +40,7 @@ end_step held mute ms is_held early still are_made entries matches =
 -- ---- a mute end
 
 -- a mute replica may make nothing
-pub none_made : (ring : Ring) (c : ℕ) (rows : List Row) → AreMade ring true c rows (all_mute rows)
+pub none_made : (ring : Ring) (c : ℕ) (rows : List InstanceView) → AreMade ring true c rows (all_mute rows)
 none_made ring c [] = tt
 none_made ring c (row ∷ rows) = (record { silent = refl; may = tt; own = tt; signed = tt; frame = tt }, none_made ring c rows)
 
@@ -54,7 +55,7 @@ mute_ends held is_held early = (
 
 module _ (ring : Ring) (id : ℕ) (key : List ℕ) (in_ring : slice_get ring id ≡ Some key) (secret : Secret) (c : ℕ) where
   -- the height is the replica's, and what is chosen there may be sent
-  abbrev HasChoice : Row → Type 0
+  abbrev HasChoice : InstanceView → Type 0
   HasChoice row = (row.id ≡ id) × MaySend row c (chosen_statement row c)
 
   -- what verifies under the replica's own key is signed by the ring
@@ -65,7 +66,8 @@ module _ (ring : Ring) (id : ℕ) (key : List ℕ) (in_ring : slice_get ring id 
       ∙ verified
 
   -- what is chosen and signed may be made
-  chosen_made : (leaf : ℕ) (rows : List Row) (ms : List Made) → AllByRecursion HasChoice rows → SignsFrom secret leaf c rows ms
+  chosen_made : (leaf : ℕ) (rows : List InstanceView) (ms : List RoundStatement) → AllByRecursion HasChoice rows
+      → SignsFrom secret leaf c rows ms
       → AllByRecursion (IsFrameUnder key) ms → AreMade ring false c rows ms
   chosen_made leaf [] [] choices signs verified = tt
   chosen_made leaf [] (m ∷ ms) choices signs verified = absurd signs
@@ -83,7 +85,7 @@ module _ (ring : Ring) (id : ℕ) (key : List ℕ) (in_ring : slice_get ring id 
       )
 
 -- what is chosen at each open height may be sent, after each history that is matched
-choices : (held : Held) (entries : List Entry) → IsHeld held → Matches held entries
+choices : (held : ReplicaStateView) (entries : List Entry) → IsWithinLimits held → MatchesHistory held entries
     → AllByRecursion (λ row. (row.id ≡ held.id) × MaySend row (held.clock + 1) (chosen_statement row (held.clock + 1))) held.rows
 choices held entries is_held matches =
     each_found (λ row. (row.id ≡ held.id) × MaySend row (held.clock + 1) (chosen_statement row (held.clock + 1))) held.rows is_held.ascend

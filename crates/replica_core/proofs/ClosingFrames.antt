@@ -2,14 +2,15 @@
 use Rattle.std.proofs.Common.{◌≡◌, ℕ, List, [], ◌∷◌, map, refl}
 use Rattle.std.specs.List.{flat_map}
 use Rattle.ledger_model.specs.declared.config.Config.{Config}
-use Rattle.instance.specs.Rows.{Row}
+use Rattle.instance.specs.Instances.{InstanceView}
 use Rattle.instance.specs.Plans.{ended}
-use Rattle.height_row.specs.declared.closing.Closing.{Closing}
+use Rattle.height_row.specs.declared.round_closing.RoundClosing.{RoundClosing}
 use Rattle.replica_core.specs.RoundEnds.{frames_of}
 use Rattle.replica_core.specs.Sending.{frames_in}
 
 -- where each height ends as it prepares, they are the frames of the heights and of what is made
-pub frames_of-closings : (config : Config) (c : ℕ) (rows : List Row) (closings : List Closing) → map (λ x. x.ending) closings ≡ map (λ row. ended row c) rows
+pub frames_of-closings : (config : Config) (c : ℕ) (rows : List InstanceView) (closings : List RoundClosing)
+    → map (λ x. x.ending) closings ≡ map (λ row. ended row c) rows
     → frames_of config c rows (map (λ x. x.made) closings) ≡ flat_map (frames_in config) closings
 frames_of-closings config c [] [] endings = refl
 frames_of-closings config c [] (x ∷ closings) endings = absurd cc

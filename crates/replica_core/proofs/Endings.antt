@@ -1,4 +1,4 @@
--- What is done at each height as a round opens, as lists in the order of the heights.
+-- How each height closes its round, as lists in the order of heights.
 use Rattle.std.proofs.Common.{◌≡◌, ℕ, ◌+◌, ◌<◌, Bool, true, false, List, [], ◌∷◌, inl, inr, refl, sym, ap, subst, ◌∙◌, arith}
 use Rattle.std.proofs.Math.Dec.{ltb}
 use Rattle.std.proofs.lemmas.Bool.{cases_lt, lt-ltb, le-ltb}
@@ -9,25 +9,25 @@ use Rattle.std.specs.declared.alloc.AllocError.{AllocError}
 use Rattle.ledger_model.specs.declared.event.Event.TheVariants as event
 use Rattle.ledger_model.specs.declared.reply.Reply.TheVariants as reply
 use Rattle.ledger_model.specs.declared.reply.RoundEnded.{RoundEnded}
-use Rattle.key_ring.specs.Signers.{Keys, key_of}
+use Rattle.key_ring.specs.Signers.{SignerView, key_of}
 use Rattle.std.specs.List.{AllByRecursion}
 use Rattle.std.specs.Option.{IfSome}
 use Rattle.ledger_model.specs.declared.statement.Statement.{Statement}
 use Rattle.ledger_model.specs.Notes.{signer_of}
 use Rattle.lms_tree.specs.Trees.{Secret}
-use Rattle.instance.specs.declared.made.Made.{Made}
-use Rattle.instance.specs.declared.made.Made.TheVariants as made
-use Rattle.instance.specs.declared.plan.Plan.{Plan}
-use Rattle.instance.specs.Rows.{Row}
+use Rattle.instance.specs.declared.round_statement.RoundStatement.{RoundStatement}
+use Rattle.instance.specs.declared.round_statement.RoundStatement.TheVariants as made
+use Rattle.instance.specs.declared.round_plan.RoundPlan.{RoundPlan}
+use Rattle.instance.specs.Instances.{InstanceView}
 use Rattle.instance.specs.Plans.{chosen_statement, ended, IsOwnMade, IsOwnStatement}
 use Rattle.instance.proofs.SpelledPlans.{chosen_own_statement}
-use Rattle.height_row.specs.declared.closing.Closing.{Closing}
+use Rattle.height_row.specs.declared.round_closing.RoundClosing.{RoundClosing}
 use Rattle.height_row.specs.Heights.{plan_of}
-use Rattle.replica_core.specs.Holding.{Held, IsHeld}
+use Rattle.replica_core.specs.ReplicaStates.{ReplicaStateView, IsWithinLimits}
 use Rattle.replica_core.specs.RoundEnds.{round_ended, after_end, due, SignsFrom}
 use Rattle.replica_core.specs.Steps.{IsStep, UsesLeaves}
 use Rattle.replica_core.specs.ChosenEnds.{all_mute, end_reply, IsVerifiedMade}
-use Rattle.replica_core.specs.Replicas.{Replica}
+use Rattle.replica_core.specs.Cores.{CoreView}
 use Rattle.replica_core.specs.Signing.{SignsPlans}
 use Rattle.instance.specs.Laws.{IsFrameMade}
 use Rattle.replica_core.proofs.SignedPlans.{signs_from}
@@ -45,19 +45,22 @@ of_images P f [] all = tt
 of_images P f (x ∷ xs) all = (all.0, of_images P f xs all.1)
 
 -- what holds of each holds of each together
-pub all_both : {X : Type 0} (P Q : X → Type 0) (xs : List X) → AllByRecursion P xs → AllByRecursion Q xs → AllByRecursion (λ x. P x × Q x) xs
+pub all_both : {X : Type 0} (P Q : X → Type 0) (xs : List X) → AllByRecursion P xs → AllByRecursion Q xs
+    → AllByRecursion (λ x. P x × Q x) xs
 all_both P Q [] ps qs = tt
 all_both P Q (x ∷ xs) ps qs = ((ps.0, qs.0), all_both P Q xs ps.1 qs.1)
 
 -- each height ends as it is planned
-pub planned_ends : (c : ℕ) (rows : List Row) → map (λ (p : Plan). p.ending) (map (plan_of c) rows) ≡ map (λ row. ended row c) rows
+pub planned_ends : (c : ℕ) (rows : List InstanceView)
+    → map (λ (p : RoundPlan). p.ending) (map (plan_of c) rows) ≡ map (λ row. ended row c) rows
 planned_ends c [] = refl
 planned_ends c (row ∷ rows) = ap (λ es. ended row c ∷ es) (planned_ends c rows)
 
 -- ---- a mute replica
 
 -- it makes nothing at each height
-pub mades_mute : (c : ℕ) (rows : List Row) (closings : List Closing) → map (λ x. x.ending) closings ≡ map (λ row. ended row c) rows
+pub mades_mute : (c : ℕ) (rows : List InstanceView) (closings : List RoundClosing)
+    → map (λ x. x.ending) closings ≡ map (λ row. ended row c) rows
     → AllByRecursion (λ x. x.made ≡ made.Mute) closings → map (λ x. x.made) closings ≡ all_mute rows
 mades_mute c [] [] endings mute = refl
 mades_mute c [] (x ∷ closings) endings mute = absurd cc
@@ -67,18 +70,20 @@ mades_mute c (row ∷ rows) (x ∷ closings) endings mute =
     rw mute.0 (ap (λ ms. made.Mute ∷ ms) (mades_mute c rows closings rest mute.1))
 
 -- nothing is the replica's own
-pub mute_own : (id : ℕ) (closings : List Closing) → AllByRecursion (λ x. x.made ≡ made.Mute) closings → AllByRecursion (λ x. IsOwnMade id x.made) closings
+pub mute_own : (id : ℕ) (closings : List RoundClosing) → AllByRecursion (λ x. x.made ≡ made.Mute) closings
+    → AllByRecursion (λ x. IsOwnMade id x.made) closings
 mute_own id [] mute = tt
 mute_own id (x ∷ closings) mute = (rw mute.0 tt, mute_own id closings mute.1)
 
 -- ---- one that signs
 
 -- what is chosen is the replica's own
-chosen_own : (row : Row) (c id : ℕ) (s : Statement) → row.id ≡ id → chosen_statement row c ≡ Some s → signer_of s ≡ id
+chosen_own : (row : InstanceView) (c id : ℕ) (s : Statement) → row.id ≡ id → chosen_statement row c ≡ Some s → signer_of s ≡ id
 chosen_own row c id s same is = (subst (λ o. IfSome o (IsOwnStatement row)) is (chosen_own_statement row c)).signer ∙ same
 
 -- each statement that is signed is its own
-pub signs_own : (secret : Secret) (leaf c id : ℕ) (rows : List Row) (ms : List Made) → AllByRecursion (λ row. row.id ≡ id) rows → SignsFrom secret leaf c rows ms → AllByRecursion (IsOwnMade id) ms
+pub signs_own : (secret : Secret) (leaf c id : ℕ) (rows : List InstanceView) (ms : List RoundStatement)
+    → AllByRecursion (λ row. row.id ≡ id) rows → SignsFrom secret leaf c rows ms → AllByRecursion (IsOwnMade id) ms
 signs_own secret leaf c id [] [] ids signs = tt
 signs_own secret leaf c id [] (m ∷ ms) ids signs = absurd signs
 signs_own secret leaf c id (row ∷ rows) [] ids signs = absurd signs
@@ -88,25 +93,27 @@ signs_own secret leaf c id (row ∷ rows) (made.Sent f ∷ ms) ids signs =
     (chosen_own row c id f.statement ids.0 signs.0, signs_own secret (leaf + 1) c id rows ms ids.1 signs.2)
 
 -- each open height is the replica's
-pub each_own : (held : Held) → IsHeld held → AllByRecursion (λ row. row.id ≡ held.id) held.rows
+pub each_own : (held : ReplicaStateView) → IsWithinLimits held → AllByRecursion (λ row. row.id ≡ held.id) held.rows
 each_own held is_held = each_found (λ row. row.id ≡ held.id) held.rows is_held.ascend (λ h row at. (is_held.own h row at).id)
 
 -- ---- what is answered
 
 -- the end that is answered is a step
-pub step_told : (held new : Held) (mute : Bool) (ms : List Made) (result : Result RoundEnded AllocError) → IfOk result (λ r. r ≡ round_ended held mute ms)
+pub step_shown : (held new : ReplicaStateView) (mute : Bool) (ms : List RoundStatement) (result : Result RoundEnded AllocError)
+    → IfOk result (λ r. r ≡ round_ended held mute ms)
     → IfOk result (λ _. new ≡ after_end held mute ms) → IsStep held event.RoundEnd (end_reply held mute ms) (after_end held mute ms)
     → IfOk result (λ r. IsStep held event.RoundEnd (reply.RoundEnded (Ok r)) new)
-step_told held new mute ms (Ok r) is after step =
+step_shown held new mute ms (Ok r) is after step =
     subst (λ n. IsStep held event.RoundEnd (reply.RoundEnded (Ok r)) n) (sym after)
     (subst (λ x. IsStep held event.RoundEnd (reply.RoundEnded (Ok x)) (after_end held mute ms)) (sym is) step)
-step_told held new mute ms (Err e) is after step = tt
+step_shown held new mute ms (Err e) is after step = tt
 
 -- and its leaves are used
-pub leaves_told : (held : Held) (keys new : Keys) (mute : Bool) (ms : List Made) (result : Result RoundEnded AllocError) → IfOk result (λ r. r ≡ round_ended held mute ms)
+pub leaves_shown : (held : ReplicaStateView) (keys new : SignerView) (mute : Bool) (ms : List RoundStatement)
+    (result : Result RoundEnded AllocError) → IfOk result (λ r. r ≡ round_ended held mute ms)
     → UsesLeaves keys held.clock (end_reply held mute ms) new → IfOk result (λ r. UsesLeaves keys held.clock (reply.RoundEnded (Ok r)) new)
-leaves_told held keys new mute ms (Ok r) is uses = subst (λ x. UsesLeaves keys held.clock (reply.RoundEnded (Ok x)) new) (sym is) uses
-leaves_told held keys new mute ms (Err e) is uses = tt
+leaves_shown held keys new mute ms (Ok r) is uses = subst (λ x. UsesLeaves keys held.clock (reply.RoundEnded (Ok x)) new) (sym is) uses
+leaves_shown held keys new mute ms (Err e) is uses = tt
 
 -- fewer leaves are left than are due just where the leaves are fewer than those used and those due
 pub short_of : (left due leaves used : ℕ) → used + left ≡ leaves → ltb left due ≡ ltb leaves (used + due)
@@ -117,55 +124,66 @@ short_of left due leaves used all =
     ]
 
 -- no round is left
-pub over : (held : Held) → held.clock ≡ last_round → IsStep held event.RoundEnd (reply.RoundEnded (Err (record {}))) held
+pub over : (held : ReplicaStateView) → held.clock ≡ last_round → IsStep held event.RoundEnd (reply.RoundEnded (Err (record {}))) held
 unfolding notes_of
 over held last entries matches = (
   matches.clock ∙ last,
   refl,
-  unheard held entries (record { event = event.RoundEnd; reply = reply.RoundEnded (Err (record {})) }) matches refl refl refl held.pool refl (λ h. refl),
+  unheard held entries (record { event = event.RoundEnd; reply = reply.RoundEnded (Err (record {})) }) matches refl refl refl held.pool
+      refl (λ h. refl),
 )
 
 -- what is planned, by what is kept
-pub planned_by : (old : Replica) (held : Held) (keys : Keys) (plans : List Plan) → record { held = held; keys = keys } ≡ old
+pub planned_by : (old : CoreView) (held : ReplicaStateView) (keys : SignerView) (plans : List RoundPlan)
+    → record { held = held; keys = keys } ≡ old
     → plans ≡ map (plan_of (old.held.clock + 1)) old.held.rows → plans ≡ map (plan_of (held.clock + 1)) held.rows
-planned_by old held keys plans is planned = subst (λ (x : Replica). plans ≡ map (plan_of (x.held.clock + 1)) x.held.rows) (sym is) planned
+planned_by old held keys plans is planned = subst (λ (x : CoreView). plans ≡ map (plan_of (x.held.clock + 1)) x.held.rows) (sym is) planned
 
 -- what each height is done with, where all is planned so, and signed
-module _ (old : Replica) (held : Held) (keys : Keys) (plans : List Plan) (closings : List Closing)
-    (is : record { held = held; keys = keys } ≡ old) (is_held : IsHeld old.held) (planned : plans ≡ map (plan_of (old.held.clock + 1)) old.held.rows)
-    (signs : SignsPlans keys.secret keys.used plans (map (λ (x : Closing). x.made) closings)) where
-  kept : IsHeld held
-  kept = subst (λ (x : Replica). IsHeld x.held) (sym is) is_held
+module _ (old : CoreView) (held : ReplicaStateView) (keys : SignerView) (plans : List RoundPlan) (closings : List RoundClosing)
+    (is : record { held = held; keys = keys } ≡ old) (is_held : IsWithinLimits old.held)
+    (planned : plans ≡ map (plan_of (old.held.clock + 1)) old.held.rows)
+    (signs : SignsPlans keys.secret keys.used plans (map (λ (x : RoundClosing). x.made) closings)) where
+  kept : IsWithinLimits held
+  kept = subst (λ (x : CoreView). IsWithinLimits x.held) (sym is) is_held
 
-  from : SignsFrom keys.secret keys.used (held.clock + 1) held.rows (map (λ (x : Closing). x.made) closings)
-  from = signs_from keys.secret keys.used (held.clock + 1) held.rows (map (λ (x : Closing). x.made) closings)
-      (subst (λ ps. SignsPlans keys.secret keys.used ps (map (λ (x : Closing). x.made) closings)) (planned_by old held keys plans is planned) signs)
+  from : SignsFrom keys.secret keys.used (held.clock + 1) held.rows (map (λ (x : RoundClosing). x.made) closings)
+  from = signs_from keys.secret keys.used (held.clock + 1) held.rows (map (λ (x : RoundClosing). x.made) closings)
+      (subst (λ ps. SignsPlans keys.secret keys.used ps (map (λ (x : RoundClosing). x.made) closings))
+      (planned_by old held keys plans is planned) signs)
 
   -- each statement is the replica's own
-  pub signed_own : AllByRecursion (λ (x : Closing). IsOwnMade held.id x.made) closings
-  signed_own = of_images (IsOwnMade held.id) (λ (x : Closing). x.made) closings
-      (signs_own keys.secret keys.used (held.clock + 1) held.id held.rows (map (λ (x : Closing). x.made) closings) (each_own held kept) from)
+  pub signed_own : AllByRecursion (λ (x : RoundClosing). IsOwnMade held.id x.made) closings
+  signed_own = of_images (IsOwnMade held.id) (λ (x : RoundClosing). x.made) closings
+      (signs_own keys.secret keys.used (held.clock + 1) held.id held.rows (map (λ (x : RoundClosing). x.made) closings)
+      (each_own held kept) from)
 
   -- the end is a step, and uses a leaf for each
   pub signed_step : old.held.clock < last_round → old.held.mute ≡ false → slice_get held.ring held.id ≡ Some (key_of keys.secret)
-      → AllByRecursion (λ (x : Closing). IsFrameMade x.made) closings → AllByRecursion (λ (x : Closing). IsVerifiedMade (key_of keys.secret) x.made) closings
-      → IsStep held event.RoundEnd (end_reply held false (map (λ (x : Closing). x.made) closings)) (after_end held false (map (λ (x : Closing). x.made) closings))
-      × UsesLeaves keys held.clock (end_reply held false (map (λ (x : Closing). x.made) closings)) (record keys { used = keys.used + due (held.clock + 1) held.rows })
+      → AllByRecursion (λ (x : RoundClosing). IsFrameMade x.made) closings
+      → AllByRecursion (λ (x : RoundClosing). IsVerifiedMade (key_of keys.secret) x.made) closings
+      → IsStep held event.RoundEnd (end_reply held false (map (λ (x : RoundClosing). x.made) closings))
+      (after_end held false (map (λ (x : RoundClosing). x.made) closings))
+      × UsesLeaves keys held.clock (end_reply held false (map (λ (x : RoundClosing). x.made) closings))
+      (record keys { used = keys.used + due (held.clock + 1) held.rows })
   signed_step early loud own_key frames verified =
-      signed_ends held keys (map (λ (x : Closing). x.made) closings) kept (subst (λ (x : Replica). x.held.clock < last_round) (sym is) early)
-      (subst (λ (x : Replica). x.held.mute ≡ false) (sym is) loud) own_key from
-      (all_both IsFrameMade (IsVerifiedMade (key_of keys.secret)) (map (λ (x : Closing). x.made) closings)
-      (all_images IsFrameMade (λ (x : Closing). x.made) closings frames)
-      (all_images (IsVerifiedMade (key_of keys.secret)) (λ (x : Closing). x.made) closings verified))
+      signed_ends held keys (map (λ (x : RoundClosing). x.made) closings) kept
+      (subst (λ (x : CoreView). x.held.clock < last_round) (sym is) early)
+      (subst (λ (x : CoreView). x.held.mute ≡ false) (sym is) loud) own_key from
+      (all_both IsFrameMade (IsVerifiedMade (key_of keys.secret)) (map (λ (x : RoundClosing). x.made) closings)
+      (all_images IsFrameMade (λ (x : RoundClosing). x.made) closings frames)
+      (all_images (IsVerifiedMade (key_of keys.secret)) (λ (x : RoundClosing). x.made) closings verified))
 
 -- the end of a mute replica is a step, and uses no leaf
-pub mute_step : (held : Held) (keys : Keys) (closings : List Closing) → IsHeld held → held.clock < last_round
-    → map (λ (x : Closing). x.ending) closings ≡ map (λ row. ended row (held.clock + 1)) held.rows → AllByRecursion (λ (x : Closing). x.made ≡ made.Mute) closings
-    → IsStep held event.RoundEnd (end_reply held true (map (λ (x : Closing). x.made) closings)) (after_end held true (map (λ (x : Closing). x.made) closings))
-    × UsesLeaves keys held.clock (end_reply held true (map (λ (x : Closing). x.made) closings)) keys
+pub mute_step : (held : ReplicaStateView) (keys : SignerView) (closings : List RoundClosing) → IsWithinLimits held → held.clock < last_round
+    → map (λ (x : RoundClosing). x.ending) closings ≡ map (λ row. ended row (held.clock + 1)) held.rows
+    → AllByRecursion (λ (x : RoundClosing). x.made ≡ made.Mute) closings
+    → IsStep held event.RoundEnd (end_reply held true (map (λ (x : RoundClosing). x.made) closings))
+    (after_end held true (map (λ (x : RoundClosing). x.made) closings))
+    × UsesLeaves keys held.clock (end_reply held true (map (λ (x : RoundClosing). x.made) closings)) keys
 mute_step held keys closings is_held early endings mute =
     let made = mades_mute (held.clock + 1) held.rows closings endings mute in
     let ends = mute_ends held is_held early in (
-      subst (λ (ms : List Made). IsStep held event.RoundEnd (end_reply held true ms) (after_end held true ms)) (sym made) ends.0,
-      subst (λ (ms : List Made). UsesLeaves keys held.clock (end_reply held true ms) keys) (sym made) (ends.1 keys),
+      subst (λ (ms : List RoundStatement). IsStep held event.RoundEnd (end_reply held true ms) (after_end held true ms)) (sym made) ends.0,
+      subst (λ (ms : List RoundStatement). UsesLeaves keys held.clock (end_reply held true ms) keys) (sym made) (ends.1 keys),
     )

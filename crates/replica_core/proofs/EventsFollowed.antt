@@ -1,4 +1,4 @@
--- Each event but the round's end is answered in one lawful way, with which the reply is compared.
+-- Every event but the round end has exactly one lawful reply, with which the given reply is compared.
 use Rattle.std.proofs.Common.{◌≡◌, ℕ, Bool, true, List, ◌∷◌, [], ◌++◌, refl, sym, subst}
 use Rattle.std.specs.Prelude.{◌↔◌, Some, is_some, Result, IfOk, OnOk, OnErr}
 use Rattle.ledger_model.specs.declared.event.Event.TheVariants as event
@@ -17,10 +17,10 @@ use Rattle.ledger_model.specs.Rules.{Ring}
 use Rattle.ledger_model.specs.Commits.{commits_of, submit_reply, propose_reply, execute_reply}
 use Rattle.ledger_model.specs.Replies.{query_reply}
 use Rattle.ledger_model.specs.Lawful.{answer}
-use Rattle.instance.specs.Rows.{Row}
-use Rattle.instance.specs.Matching.{Matches as MatchesAt, only_rounds}
+use Rattle.instance.specs.Instances.{InstanceView}
+use Rattle.instance.specs.Matching.{MatchesLog, only_rounds}
 use Rattle.height_row.specs.Heights.{row_at, AreApart}
-use Rattle.replica_core.specs.Holding.{Held, IsOneCluster}
+use Rattle.replica_core.specs.ReplicaStates.{ReplicaStateView, IsOneCluster}
 use Rattle.replica_core.specs.Steps.{IsStep, submit_held, pool_with, propose_held, execute_held, next_decided, after_execute}
 use Rattle.replica_core.specs.Following.{IsFollowed}
 use Rattle.replica_core.proofs.Followed.{compared}
@@ -29,38 +29,50 @@ use Rattle.replica_core.proofs.Proposes.{proposes}
 use Rattle.replica_core.proofs.Executes.{executes}
 
 -- a transaction is handed in
-pub submit_followed : (held new : Held) (tx : List ℕ) (due told : Result (Unit {0}) SubmitRefusal) (kept : Bool) → (kept ≡ true ↔ due ≡ told) → due ≡ submit_held held tx
-    → new ≡ record held { pool = pool_with held.pool tx due } → IsFollowed held (event.Submit tx) (reply.Submitted told) kept new
-submit_followed held new tx due told kept same is after =
-    compared held new (event.Submit tx) (λ r. reply.Submitted r) (λ entries. submit_reply held.config held.id entries tx) due told kept same (λ entries r lawful. lawful) (λ r. refl)
+pub submit_followed : (held new : ReplicaStateView) (tx : List ℕ) (due shown : Result (Unit {0}) SubmitRefusal) (kept : Bool)
+    → (kept ≡ true ↔ due ≡ shown) → due ≡ submit_held held tx
+    → new ≡ record held { pool = pool_with held.pool tx due } → IsFollowed held (event.Submit tx) (reply.Submitted shown) kept new
+submit_followed held new tx due shown kept same is after =
+    compared held new (event.Submit tx) (λ r. reply.Submitted r) (λ entries. submit_reply held.config held.id entries tx) due shown kept
+    same (λ entries r lawful. lawful) (λ r. refl)
     (subst (IsStep held (event.Submit tx) (reply.Submitted due)) (sym after) (submits held tx due is))
 
 -- a height is opened
-pub propose_followed : (held new : Held) (h : ℕ) (due told : Result Value ProposeRefusal) (kept : Bool) → (kept ≡ true ↔ due ≡ told) → due ≡ propose_held held h
-    → new ≡ record held { rows = new.rows } → OnErr due (new ≡ held) → OnOk due (is_some (row_at new.rows h) ≡ true) → AreApart h held.rows new.rows
-    → IfOk due (λ v. (row : Row) → row_at new.rows h ≡ Some row → (ring : Ring) (log : List Note) → only_rounds log ≡ true → MatchesAt ring row (log ++ Proposed v ∷ []))
-    → IsFollowed held (event.Propose h) (reply.Proposed told) kept new
-propose_followed held new h due told kept same is rest refused there apart opened =
-    compared held new (event.Propose h) (λ r. reply.Proposed r) (λ entries. propose_reply held.config held.id entries h) due told kept same (λ entries r lawful. lawful) (λ r. refl)
+pub propose_followed : (held new : ReplicaStateView) (h : ℕ) (due shown : Result Value ProposeRefusal) (kept : Bool)
+    → (kept ≡ true ↔ due ≡ shown) → due ≡ propose_held held h
+    → new ≡ record held { rows = new.rows } → OnErr due (new ≡ held) → OnOk due (is_some (row_at new.rows h) ≡ true)
+    → AreApart h held.rows new.rows
+    → IfOk due (λ v. (row : InstanceView) → row_at new.rows h ≡ Some row → (ring : Ring) (log : List Note) → only_rounds log ≡ true
+    → MatchesLog ring row (log ++ Proposed v ∷ []))
+    → IsFollowed held (event.Propose h) (reply.Proposed shown) kept new
+propose_followed held new h due shown kept same is rest refused there apart opened =
+    compared held new (event.Propose h) (λ r. reply.Proposed r) (λ entries. propose_reply held.config held.id entries h) due shown kept same
+    (λ entries r lawful. lawful) (λ r. refl)
     (proposes held new h due is rest refused there apart opened)
 
 -- bytes come
-pub deliver_followed : (held new : Held) (bytes : List ℕ) (due told : Result (Unit {0}) Ignored) (kept : Bool) → (kept ≡ true ↔ due ≡ told)
-    → IsStep held (event.Deliver bytes) (reply.Delivered due) new → IsFollowed held (event.Deliver bytes) (reply.Delivered told) kept new
-deliver_followed held new bytes due told kept same step =
-    compared held new (event.Deliver bytes) (λ r. reply.Delivered r) (λ entries. answer held.config held.ring held.id entries (reading bytes)) due told kept same
+pub deliver_followed : (held new : ReplicaStateView) (bytes : List ℕ) (due shown : Result (Unit {0}) Ignored) (kept : Bool)
+    → (kept ≡ true ↔ due ≡ shown)
+    → IsStep held (event.Deliver bytes) (reply.Delivered due) new → IsFollowed held (event.Deliver bytes) (reply.Delivered shown) kept new
+deliver_followed held new bytes due shown kept same step =
+    compared held new (event.Deliver bytes) (λ r. reply.Delivered r)
+    (λ entries. answer held.config held.ring held.id entries (reading bytes)) due shown kept same
     (λ entries r lawful. lawful) (λ r. refl) step
 
 -- the next block is run
-pub execute_followed : (held new : Held) (due told : Result BlockResult NothingDecided) (kept : Bool) → (kept ≡ true ↔ due ≡ told) → IsOneCluster held → due ≡ execute_held held
-    → new ≡ after_execute held (next_decided held) → IsFollowed held event.Execute (reply.Executed told) kept new
-execute_followed held new due told kept same one is after =
-    compared held new event.Execute (λ r. reply.Executed r) (λ entries. execute_reply held.config held.id entries) due told kept same (λ entries r lawful. lawful) (λ r. refl)
+pub execute_followed : (held new : ReplicaStateView) (due shown : Result BlockResult NothingDecided) (kept : Bool)
+    → (kept ≡ true ↔ due ≡ shown) → IsOneCluster held → due ≡ execute_held held
+    → new ≡ after_execute held (next_decided held) → IsFollowed held event.Execute (reply.Executed shown) kept new
+execute_followed held new due shown kept same one is after =
+    compared held new event.Execute (λ r. reply.Executed r) (λ entries. execute_reply held.config held.id entries) due shown kept same
+    (λ entries r lawful. lawful) (λ r. refl)
     (subst (IsStep held event.Execute (reply.Executed due)) (sym after) (executes held due one is))
 
 -- the application is asked
-pub query_followed : (held : Held) (key : List ℕ) (h : ℕ) (due told : Result QueryAnswer NotHeld) (kept : Bool) → (kept ≡ true ↔ due ≡ told)
-    → due ≡ query_reply held.config.kind held.commits key h → IsFollowed held (event.Query key h) (reply.Queried told) kept held
-query_followed held key h due told kept same is =
-    compared held held (event.Query key h) (λ r. reply.Queried r) (λ entries. query_reply held.config.kind (commits_of held.config held.id entries) key h) due told kept same
+pub query_followed : (held : ReplicaStateView) (key : List ℕ) (h : ℕ) (due shown : Result QueryAnswer NotHeld) (kept : Bool)
+    → (kept ≡ true ↔ due ≡ shown)
+    → due ≡ query_reply held.config.kind held.commits key h → IsFollowed held (event.Query key h) (reply.Queried shown) kept held
+query_followed held key h due shown kept same is =
+    compared held held (event.Query key h) (λ r. reply.Queried r)
+    (λ entries. query_reply held.config.kind (commits_of held.config held.id entries) key h) due shown kept same
     (λ entries r lawful. lawful) (λ r. refl) (queries held key h due is)

@@ -1,4 +1,4 @@
--- The next block is run.
+-- The application runs the next block.
 use Rattle.std.proofs.Common.{◌≡◌, ℕ, ◌+◌, List, [], ◌∷◌, ◌++◌, length, refl, sym, ap, subst, ◌∙◌, arith}
 use Rattle.std.specs.Prelude.{Option, Some, None, Result, Ok, Err}
 use Rattle.std.proofs.Math.Bool.{or-false}
@@ -11,9 +11,10 @@ use Rattle.ledger_model.specs.Values.{Value}
 use Rattle.ledger_model.specs.Notes.{clock_of}
 use Rattle.ledger_model.specs.Logs.{log_of, notes_of, is_mute}
 use Rattle.ledger_model.specs.Replies.{block_reply}
-use Rattle.ledger_model.specs.Commits.{executed, decided_at, commits_of, pool_of, pool_step, pool_after_block, last_block, block_of, execute_reply}
-use Rattle.instance.specs.Matching.{Matches as MatchesAt, only_rounds}
-use Rattle.replica_core.specs.Holding.{Held, IsOneCluster, Matches}
+use Rattle.ledger_model.specs.Commits.{executed, decided_at, commits_of, pool_of, pool_step, pool_after_block, last_block, block_of}
+use Rattle.ledger_model.specs.Commits.{execute_reply}
+use Rattle.instance.specs.Matching.{MatchesLog, only_rounds}
+use Rattle.replica_core.specs.ReplicaStates.{ReplicaStateView, IsOneCluster, MatchesHistory}
 use Rattle.replica_core.specs.Steps.{IsStep, next_decided, execute_held, with_block, after_execute}
 use Rattle.replica_core.proofs.Histories.{pool_more, clock_more, mute_more, count_commits, commits_more, blocks_more}
 use Rattle.replica_core.proofs.Quiet.{log_stays, unheard}
@@ -25,7 +26,7 @@ last_of [] v = refl
 last_of (w ∷ []) v = refl
 last_of (w ∷ x ∷ vs) v = last_of (x ∷ vs) v
 
-module _ (held : Held) (one : IsOneCluster held) (entries : List Entry) (matches : Matches held entries) where
+module _ (held : ReplicaStateView) (one : IsOneCluster held) (entries : List Entry) (matches : MatchesHistory held entries) where
   -- the height after the committed ones is decided by what is kept as by the history
   decided_next : next_decided held ≡ decided_at held.config held.id entries (length (commits_of held.config held.id entries) + 1)
   decided_next =
@@ -37,21 +38,23 @@ module _ (held : Held) (one : IsOneCluster held) (entries : List Entry) (matches
   unfolding execute_reply
   answered =
       ap (block_of held.config held.commits) decided_next
-      ∙ ap (λ vs. block_of held.config vs (decided_at held.config held.id entries (length (commits_of held.config held.id entries) + 1))) (sym matches.commits)
+      ∙ ap (λ vs. block_of held.config vs (decided_at held.config held.id entries (length (commits_of held.config held.id entries) + 1)))
+      (sym matches.commits)
 
   -- nothing is decided
-  unchanged : Matches held (entries ++ record { event = event.Execute; reply = reply.Executed (Err (record {})) } ∷ [])
+  unchanged : MatchesHistory held (entries ++ record { event = event.Execute; reply = reply.Executed (Err (record {})) } ∷ [])
   unfolding notes_of
-  unchanged = unheard held entries (record { event = event.Execute; reply = reply.Executed (Err (record {})) }) matches refl refl refl held.pool refl (λ h. refl)
+  unchanged = unheard held entries (record { event = event.Execute; reply = reply.Executed (Err (record {})) }) matches refl refl refl
+      held.pool refl (λ h. refl)
 
   -- a block is run
   with_one : (v : Value) (b : BlockResult) → next_decided held ≡ Some v
-      → Matches (with_block held v) (entries ++ record { event = event.Execute; reply = reply.Executed (Ok b) } ∷ [])
+      → MatchesHistory (with_block held v) (entries ++ record { event = event.Execute; reply = reply.Executed (Ok b) } ∷ [])
   unfolding notes_of
   with_one v b is = record {
     clock = clock_more entries entry ∙ (let c = matches.clock in omega (arith, c));
     clocks = λ h. ap clock_of (same h) ∙ matches.clocks h;
-    opened = λ h row at. subst (λ l. MatchesAt held.ring row l) (sym (same h)) (matches.opened h row at);
+    opened = λ h row at. subst (λ l. MatchesLog held.ring row l) (sym (same h)) (matches.opened h row at);
     unopened = λ h none. ap only_rounds (same h) ∙ matches.unopened h none;
     pool =
         pool_more held.config held.id entries entry
@@ -71,13 +74,14 @@ module _ (held : Held) (one : IsOneCluster held) (entries : List Entry) (matches
       same h = log_stays held entries entry h refl
 
       decided : decided_at held.config held.id entries (executed entries + 1) ≡ Some v
-      decided = ap (λ n. decided_at held.config held.id entries (n + 1)) (sym (count_commits held.config held.id entries matches.blocks)) ∙ sym decided_next ∙ is
+      decided = ap (λ n. decided_at held.config held.id entries (n + 1)) (sym (count_commits held.config held.id entries matches.blocks))
+          ∙ sym decided_next ∙ is
 
       commits : commits_of held.config held.id (entries ++ entry ∷ []) ≡ held.commits ++ v ∷ []
       commits = commits_more held.config held.id entries entry v matches.blocks refl decided ∙ ap (λ vs. vs ++ v ∷ []) matches.commits
 
 -- the next block is run, or nothing is decided
-pub executes : (held : Held) (answer : Result BlockResult NothingDecided) → IsOneCluster held → answer ≡ execute_held held
+pub executes : (held : ReplicaStateView) (answer : Result BlockResult NothingDecided) → IsOneCluster held → answer ≡ execute_held held
     → IsStep held event.Execute (reply.Executed answer) (after_execute held (next_decided held))
 executes held answer one is entries matches = (
   is ∙ answered held one entries matches,
@@ -86,7 +90,10 @@ executes held answer one is entries matches = (
 )
   where
     by : (o : Option Value) → next_decided held ≡ o → (a : Result BlockResult NothingDecided) → a ≡ execute_held held
-        → Matches (after_execute held o) (entries ++ record { event = event.Execute; reply = reply.Executed a } ∷ [])
-    by None none a e = subst (λ x. Matches held (entries ++ record { event = event.Execute; reply = reply.Executed x } ∷ [])) (sym (e ∙ ap (block_of held.config held.commits) none)) (unchanged held one entries matches)
-    by (Some v) some a e = subst (λ x. Matches (with_block held v) (entries ++ record { event = event.Execute; reply = reply.Executed x } ∷ [])) (sym (e ∙ ap (block_of held.config held.commits) some))
+        → MatchesHistory (after_execute held o) (entries ++ record { event = event.Execute; reply = reply.Executed a } ∷ [])
+    by None none a e = subst (λ x. MatchesHistory held (entries ++ record { event = event.Execute; reply = reply.Executed x } ∷ []))
+        (sym (e ∙ ap (block_of held.config held.commits) none)) (unchanged held one entries matches)
+    by (Some v) some a e = subst (λ x. MatchesHistory (with_block held v)
+        (entries ++ record { event = event.Execute; reply = reply.Executed x } ∷ []))
+        (sym (e ∙ ap (block_of held.config held.commits) some))
         (with_one held one entries matches v (block_reply held.config.kind held.commits v) some)

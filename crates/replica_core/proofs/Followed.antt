@@ -1,4 +1,4 @@
--- An entry is taken where its reply is the one that is due.
+-- An entry is taken if its reply is the one that is due.
 use Rattle.std.proofs.Common.{◌≡◌, ℕ, Bool, true, false, List, [], ◌∷◌, ◌++◌, refl, sym, ap, subst, ◌∙◌}
 use Rattle.std.specs.Prelude.{◌↔◌, IsTrue, Option, Some, None, Result}
 use Rattle.ledger_model.specs.declared.event.Event.{Event}
@@ -17,54 +17,59 @@ use Rattle.ledger_model.specs.declared.reply.RoundEnded.{RoundEnded}
 use Rattle.ledger_model.specs.declared.reply.SubmitRefusal.{SubmitRefusal}
 use Rattle.ledger_model.specs.Values.{Value}
 use Rattle.ledger_model.specs.Lawful.{Lawful, is_signed_reply}
-use Rattle.replica_core.specs.Holding.{Held, Matches}
+use Rattle.replica_core.specs.ReplicaStates.{ReplicaStateView, MatchesHistory}
 use Rattle.replica_core.specs.Steps.{IsStep, after_execute}
-use Rattle.replica_core.specs.Following.{KeepsReplay, IsFollowed, IsSameHeld}
+use Rattle.replica_core.specs.Following.{KeepsReplay, IsFollowed, IsSameReplicaState}
 
 -- an entry that keeps no replay one is refused
-pub refused : (old new : Held) (event : Event) (reply : Reply) → ((entries : List Entry) → Matches old entries → KeepsReplay old entries event reply → ⊥) → IsFollowed old event reply false new
+pub refused : (old new : ReplicaStateView) (event : Event) (reply : Reply)
+    → ((entries : List Entry) → MatchesHistory old entries → KeepsReplay old entries event reply → ⊥) → IsFollowed old event reply false new
 refused old new event reply none = record {
   exact = λ entries matches. (λ yes. absurd (cc yes), λ keeps. absurd (none entries matches keeps));
   matches = λ yes entries matches. absurd (cc yes);
 }
 
 -- an answer is compared with the one that is due, where only one is lawful
-pub compared : {R : Type 0} (old new : Held) (event : Event) (wrap : R → Reply) (lawful : List Entry → R) (due told : R) (kept : Bool) → (kept ≡ true ↔ due ≡ told)
-    → ((entries : List Entry) (r : R) → Lawful old.config old.ring old.id entries event (wrap r) → r ≡ lawful entries) → ((r : R) → IsTrue (is_signed_reply old.ring (wrap r)))
-    → IsStep old event (wrap due) new → IsFollowed old event (wrap told) kept new
-compared old new event wrap lawful due told kept same one signed step = record {
+pub compared : {R : Type 0} (old new : ReplicaStateView) (event : Event) (wrap : R → Reply) (lawful : List Entry → R) (due shown : R)
+    (kept : Bool) → (kept ≡ true ↔ due ≡ shown)
+    → ((entries : List Entry) (r : R) → Lawful old.config old.ring old.id entries event (wrap r) → r ≡ lawful entries)
+    → ((r : R) → IsTrue (is_signed_reply old.ring (wrap r)))
+    → IsStep old event (wrap due) new → IsFollowed old event (wrap shown) kept new
+compared old new event wrap lawful due shown kept same one signed step = record {
   exact = λ entries matches. (
     λ yes. record {
       lawful = subst (λ r. Lawful old.config old.ring old.id entries event (wrap r)) (same.0 yes) (step entries matches).0;
-      signed = signed told;
+      signed = signed shown;
     },
-    λ keeps. same.1 (one entries due (step entries matches).0 ∙ sym (one entries told keeps.lawful)),
+    λ keeps. same.1 (one entries due (step entries matches).0 ∙ sym (one entries shown keeps.lawful)),
   );
-  matches = λ yes entries matches. subst (λ r. Matches new (entries ++ record { event = event; reply = wrap r } ∷ [])) (same.0 yes) (step entries matches).2;
+  matches = λ yes entries matches. subst (λ r. MatchesHistory new (entries ++ record { event = event; reply = wrap r } ∷ [])) (same.0 yes)
+      (step entries matches).2;
 }
 
 -- ---- the same replica
 
 -- where nothing changed
-pub same_kept : (old new : Held) → new ≡ old → IsSameHeld old new
+pub same_kept : (old new : ReplicaStateView) → new ≡ old → IsSameReplicaState old new
 same_kept old new is = record { config = ap (λ h. h.config) is; id = ap (λ h. h.id) is; ring = ap (λ h. h.ring) is }
 
 -- where only the heights did
-pub same_rows : (old new : Held) → new ≡ record old { rows = new.rows } → IsSameHeld old new
+pub same_rows : (old new : ReplicaStateView) → new ≡ record old { rows = new.rows } → IsSameReplicaState old new
 same_rows old new is = record { config = ap (λ h. h.config) is; id = ap (λ h. h.id) is; ring = ap (λ h. h.ring) is }
 
 -- where a block was run
-pub same_run : (old new : Held) (block : Option Value) → new ≡ after_execute old block → IsSameHeld old new
+pub same_run : (old new : ReplicaStateView) (block : Option Value) → new ≡ after_execute old block → IsSameReplicaState old new
 same_run old new None is = same_kept old new is
 same_run old new (Some block) is = record { config = ap (λ h. h.config) is; id = ap (λ h. h.id) is; ring = ap (λ h. h.ring) is }
 
 -- ---- each event has replies of its own
 
-module _ (held : Held) (entries : List Entry) where
+module _ (held : ReplicaStateView) (entries : List Entry) where
   abbrev LawfulTo : Event → Reply → Type 0
   LawfulTo event reply = Lawful held.config held.ring held.id entries event reply
 
-  pub submitted_only : (tx : List ℕ) (told : Reply) → ((r : Result (Unit {0}) SubmitRefusal) → told ≡ reply.Submitted r → ⊥) → LawfulTo (event.Submit tx) told → ⊥
+  pub submitted_only : (tx : List ℕ) (shown : Reply) → ((r : Result (Unit {0}) SubmitRefusal) → shown ≡ reply.Submitted r → ⊥)
+      → LawfulTo (event.Submit tx) shown → ⊥
   submitted_only tx (reply.Submitted r) other lawful = other r refl
   submitted_only tx (reply.Proposed r) other lawful = lawful
   submitted_only tx (reply.Delivered r) other lawful = lawful
@@ -72,7 +77,8 @@ module _ (held : Held) (entries : List Entry) where
   submitted_only tx (reply.Executed r) other lawful = lawful
   submitted_only tx (reply.Queried r) other lawful = lawful
 
-  pub proposed_only : (h : ℕ) (told : Reply) → ((r : Result Value ProposeRefusal) → told ≡ reply.Proposed r → ⊥) → LawfulTo (event.Propose h) told → ⊥
+  pub proposed_only : (h : ℕ) (shown : Reply) → ((r : Result Value ProposeRefusal) → shown ≡ reply.Proposed r → ⊥)
+      → LawfulTo (event.Propose h) shown → ⊥
   proposed_only h (reply.Submitted r) other lawful = lawful
   proposed_only h (reply.Proposed r) other lawful = other r refl
   proposed_only h (reply.Delivered r) other lawful = lawful
@@ -80,7 +86,8 @@ module _ (held : Held) (entries : List Entry) where
   proposed_only h (reply.Executed r) other lawful = lawful
   proposed_only h (reply.Queried r) other lawful = lawful
 
-  pub delivered_only : (bytes : List ℕ) (told : Reply) → ((r : Result (Unit {0}) Ignored) → told ≡ reply.Delivered r → ⊥) → LawfulTo (event.Deliver bytes) told → ⊥
+  pub delivered_only : (bytes : List ℕ) (shown : Reply) → ((r : Result (Unit {0}) Ignored) → shown ≡ reply.Delivered r → ⊥)
+      → LawfulTo (event.Deliver bytes) shown → ⊥
   delivered_only bytes (reply.Submitted r) other lawful = lawful
   delivered_only bytes (reply.Proposed r) other lawful = lawful
   delivered_only bytes (reply.Delivered r) other lawful = other r refl
@@ -88,7 +95,8 @@ module _ (held : Held) (entries : List Entry) where
   delivered_only bytes (reply.Executed r) other lawful = lawful
   delivered_only bytes (reply.Queried r) other lawful = lawful
 
-  pub ended_only : (told : Reply) → ((r : Result RoundEnded LastRound) → told ≡ reply.RoundEnded r → ⊥) → LawfulTo event.RoundEnd told → ⊥
+  pub ended_only : (shown : Reply) → ((r : Result RoundEnded LastRound) → shown ≡ reply.RoundEnded r → ⊥) → LawfulTo event.RoundEnd shown
+      → ⊥
   ended_only (reply.Submitted r) other lawful = lawful
   ended_only (reply.Proposed r) other lawful = lawful
   ended_only (reply.Delivered r) other lawful = lawful
@@ -96,7 +104,8 @@ module _ (held : Held) (entries : List Entry) where
   ended_only (reply.Executed r) other lawful = lawful
   ended_only (reply.Queried r) other lawful = lawful
 
-  pub executed_only : (told : Reply) → ((r : Result BlockResult NothingDecided) → told ≡ reply.Executed r → ⊥) → LawfulTo event.Execute told → ⊥
+  pub executed_only : (shown : Reply) → ((r : Result BlockResult NothingDecided) → shown ≡ reply.Executed r → ⊥)
+      → LawfulTo event.Execute shown → ⊥
   executed_only (reply.Submitted r) other lawful = lawful
   executed_only (reply.Proposed r) other lawful = lawful
   executed_only (reply.Delivered r) other lawful = lawful
@@ -104,7 +113,8 @@ module _ (held : Held) (entries : List Entry) where
   executed_only (reply.Executed r) other lawful = other r refl
   executed_only (reply.Queried r) other lawful = lawful
 
-  pub queried_only : (key : List ℕ) (h : ℕ) (told : Reply) → ((r : Result QueryAnswer NotHeld) → told ≡ reply.Queried r → ⊥) → LawfulTo (event.Query key h) told → ⊥
+  pub queried_only : (key : List ℕ) (h : ℕ) (shown : Reply) → ((r : Result QueryAnswer NotHeld) → shown ≡ reply.Queried r → ⊥)
+      → LawfulTo (event.Query key h) shown → ⊥
   queried_only key h (reply.Submitted r) other lawful = lawful
   queried_only key h (reply.Proposed r) other lawful = lawful
   queried_only key h (reply.Delivered r) other lawful = lawful

@@ -1,21 +1,22 @@
--- What is kept once a round is open stays within its limits, whatever is made.
+-- The core state stays within its limits as a round opens, whatever is made.
 use Rattle.std.proofs.Common.{◌≡◌, ℕ, ◌+◌, ◌<◌, inl, inr, Bool, List, [], ◌∷◌, refl, ap, subst, ◌∙◌, arith}
 use Rattle.std.specs.Prelude.{◌==◌, Some}
 use Rattle.std.proofs.lemmas.Bool.{cases_Bool}
 use Rattle.ledger_model.specs.Limits.{last_round}
-use Rattle.instance.specs.declared.made.Made.{Made}
-use Rattle.instance.specs.Rows.{Row}
+use Rattle.instance.specs.declared.round_statement.RoundStatement.{RoundStatement}
+use Rattle.instance.specs.Instances.{InstanceView}
 use Rattle.instance.specs.Reads.{IsSameHeight}
 use Rattle.instance.specs.Plans.{ended, closed}
 use Rattle.instance.proofs.SameHeight.{same_self, same_closed}
 use Rattle.height_row.specs.Heights.{row_at, closed_each}
-use Rattle.replica_core.specs.Holding.{Held, IsHeld}
+use Rattle.replica_core.specs.ReplicaStates.{ReplicaStateView, IsWithinLimits}
 use Rattle.replica_core.specs.RoundEnds.{after_end}
 use Rattle.replica_core.proofs.ClosedRows.{ascend_closed}
 
 -- a height that is open then was open before
-was_open : (c h : ℕ) (rows : List Row) (ms : List Made) (new : Row) → row_at (closed_each c rows ms) h ≡ Some new
-    → (row : Row) × (row_at rows h ≡ Some row) × IsSameHeight row new
+was_open : (c h : ℕ) (rows : List InstanceView) (ms : List RoundStatement) (new : InstanceView)
+    → row_at (closed_each c rows ms) h ≡ Some new
+    → (row : InstanceView) × (row_at rows h ≡ Some row) × IsSameHeight row new
 was_open c h [] ms new found = absurd (cc found)
 was_open c h (row ∷ rows) [] new found = (new, found, same_self new)
 was_open c h (row ∷ rows) (m ∷ ms) new found =
@@ -30,7 +31,8 @@ was_open c h (row ∷ rows) (m ∷ ms) new found =
     ]
 
 -- it stays within its limits
-pub held_end : (held : Held) (mute : Bool) (ms : List Made) → IsHeld held → held.clock < last_round → IsHeld (after_end held mute ms)
+pub held_end : (held : ReplicaStateView) (mute : Bool) (ms : List RoundStatement) → IsWithinLimits held → held.clock < last_round
+    → IsWithinLimits (after_end held mute ms)
 held_end held mute ms is_held early = record {
   member = is_held.member;
   own = λ h new found.

@@ -6,7 +6,6 @@ pub mod Proposes
 pub mod Delivers
 pub mod Executes
 pub mod Machines
-pub mod Elements
 pub mod AscendingRows
 pub mod SentHeights
 pub mod SentFrames
@@ -24,14 +23,14 @@ pub mod SignedPlans
 pub mod ClosingFrames
 pub mod Endings
 pub mod SortedStatements
-pub mod ToldHeights
-pub mod ToldMades
-pub mod ToldEnds
+pub mod ShownHeights
+pub mod ShownMades
+pub mod ShownEnds
 pub mod AlikeFrames
-pub mod ToldClosings
+pub mod ShownClosings
 pub mod JudgedMades
 pub mod Followed
 pub mod EventsFollowed
-pub mod ToldRounds
+pub mod ShownRounds
 pub mod DueLeaves
 pub mod SpentLeaves

@@ -1,4 +1,4 @@
--- The application runs alone on what is committed.
+-- The application, run alone on the committed batches.
 use Rattle.std.proofs.Common.{◌≡◌, ℕ, List, [], ◌∷◌, ◌++◌, length, sym, ap, ◌∙◌}
 use Rattle.std.specs.Prelude.{Result}
 use Rattle.ledger_model.specs.declared.config.AppKind.{AppKind}
@@ -12,9 +12,9 @@ use Rattle.ledger_model.specs.Pools.{submit_answer, left_after}
 use Rattle.ledger_model.specs.Replies.{block_reply, check_reply, query_reply}
 use Rattle.abci.specs.Meaning.{without_work}
 use Rattle.abci.specs.declared.info.Info.{Info}
-use Rattle.abci_executor.specs.Blocks.{AddsBlock, Replies, TellsOfBlocks}
+use Rattle.abci_executor.specs.Blocks.{AddsBlock, Replies, ShowsBlocks}
 use Rattle.batch_pool.specs.Pools.{Answers, Leaves}
-use Rattle.replica_core.specs.Telling.{info_reply}
+use Rattle.replica_core.specs.Facts.{info_reply}
 
 module _ (m : Machine) (kind : AppKind) (batches : List Value) (is : m ≡ run kind batches) where
   -- it is of the kind
@@ -32,13 +32,16 @@ module _ (m : Machine) (kind : AppKind) (batches : List Value) (is : m ≡ run k
   reached = is ∙ ap (λ k. run k batches) (sym kind_is)
 
   -- what is replied to a key
-  pub replied : (key : List ℕ) (height : ℕ) (reply : Result QueryAnswer NotHeld) → Replies m key height reply → reply ≡ query_reply kind batches key height
-  replied key height reply told = told batches reached ∙ ap (λ k. query_reply k batches key height) kind_is
+  pub replied : (key : List ℕ) (height : ℕ) (reply : Result QueryAnswer NotHeld) → Replies m key height reply
+      → reply ≡ query_reply kind batches key height
+  replied key height reply shown = shown batches reached ∙ ap (λ k. query_reply k batches key height) kind_is
 
   -- what is answered to a transaction
-  pub answered : (app : Machine) (pool : Value) (tx : List ℕ) (answer : Result (Unit {0}) SubmitRefusal) → without_work app ≡ m → Answers app pool tx answer
+  pub answered : (app : Machine) (pool : Value) (tx : List ℕ) (answer : Result (Unit {0}) SubmitRefusal) → without_work app ≡ m
+      → Answers app pool tx answer
       → answer ≡ submit_answer pool tx (check_reply kind batches tx)
-  answered app pool tx answer same told = told batches (same ∙ reached_by) ∙ ap (λ k. submit_answer pool tx (check_reply k batches tx)) of_kind
+  answered app pool tx answer same shown =
+      shown batches (same ∙ reached_by) ∙ ap (λ k. submit_answer pool tx (check_reply k batches tx)) of_kind
     where
       of_kind : app.kind ≡ kind
       of_kind = ap (λ (x : Machine). x.kind) same ∙ kind_is
@@ -47,8 +50,10 @@ module _ (m : Machine) (kind : AppKind) (batches : List Value) (is : m ≡ run k
       reached_by = is ∙ ap (λ k. run k batches) (sym of_kind)
 
   -- what a block leaves of the pool
-  pub left : (app : Machine) (block old new : Value) → without_work app ≡ m → Leaves app block old new → new ≡ left_after block (check_reply kind batches) old
-  left app block old new same told = told batches (same ∙ is ∙ ap (λ k. run k batches) (sym of_kind)) ∙ ap (λ k. left_after block (check_reply k batches) old) of_kind
+  pub left : (app : Machine) (block old new : Value) → without_work app ≡ m → Leaves app block old new
+      → new ≡ left_after block (check_reply kind batches) old
+  left app block old new same shown =
+      shown batches (same ∙ is ∙ ap (λ k. run k batches) (sym of_kind)) ∙ ap (λ k. left_after block (check_reply k batches) old) of_kind
     where
       of_kind : app.kind ≡ kind
       of_kind = ap (λ (x : Machine). x.kind) same ∙ kind_is
@@ -62,8 +67,8 @@ module _ (m : Machine) (kind : AppKind) (batches : List Value) (is : m ≡ run k
   led batch block new adds = (adds batches reached).1 ∙ ap (λ k. run k (batches ++ batch ∷ [])) kind_is
 
   -- what it tells of itself
-  pub told : (info : Info) → TellsOfBlocks m info → info ≡ info_reply kind batches
-  told info tells =
-      let height = (tells batches reached).0 in
-      let hash : info.hash ≡ hash_of kind batches = (tells batches reached).1 ∙ ap (λ k. hash_of k batches) kind_is in
+  pub shown : (info : Info) → ShowsBlocks m info → info ≡ info_reply kind batches
+  shown info shows =
+      let height = (shows batches reached).0 in
+      let hash : info.hash ≡ hash_of kind batches = (shows batches reached).1 ∙ ap (λ k. hash_of k batches) kind_is in
       λ i. record { height = height i; hash = hash i }

@@ -1,4 +1,4 @@
--- A height is opened.
+-- The replica opens a height.
 use Rattle.std.proofs.Common.{◌≡◌, ℕ, ◌+◌, Bool, true, false, cond, inl, inr, List, [], ◌∷◌, ◌++◌, length, refl, sym, ap, subst, ◌∙◌, arith}
 use Rattle.std.specs.Prelude.{◌==◌, ◌||◌, nat_lt, take, Option, Some, None, is_some, Result, Ok, Err, OnErr, IfOk, OnOk}
 use Rattle.std.proofs.lemmas.Bool.{cases_eq, eq-eqb, ne_eqb, false≢true}
@@ -14,10 +14,10 @@ use Rattle.ledger_model.specs.Logs.{log_of, notes_of}
 use Rattle.ledger_model.specs.Rules.{Ring}
 use Rattle.ledger_model.specs.Commits.{first_fault, commits_of, propose_reply}
 use Rattle.ledger_model.proofs.Goodness.{clock_of-append}
-use Rattle.instance.specs.Rows.{Row}
-use Rattle.instance.specs.Matching.{Matches as MatchesAt, only_rounds}
+use Rattle.instance.specs.Instances.{InstanceView}
+use Rattle.instance.specs.Matching.{MatchesLog, only_rounds}
 use Rattle.height_row.specs.Heights.{row_at, AreApart}
-use Rattle.replica_core.specs.Holding.{Held, Matches}
+use Rattle.replica_core.specs.ReplicaStates.{ReplicaStateView, MatchesHistory}
 use Rattle.replica_core.specs.Steps.{IsStep, with_value, propose_held}
 use Rattle.replica_core.proofs.Quiet.{log_then, log_stays, quiet, unheard}
 use Rattle.replica_core.proofs.Unopened.{opened_there}
@@ -31,20 +31,29 @@ valued false true c v = refl
 valued false false true v = refl
 valued false false false v = refl
 
-module _ (held : Held) (h : ℕ) (entries : List Entry) (matches : Matches held entries) where
+module _ (held : ReplicaStateView) (h : ℕ) (entries : List Entry) (matches : MatchesHistory held entries) where
   -- what is answered by what is kept is what is answered by the history
   answered : propose_held held h ≡ propose_reply held.config held.id entries h
   unfolding propose_reply
   answered =
-      valued ((h == 0) || nat_lt max_height h) (is_some (row_at held.rows h)) (nat_lt (length held.commits + max_ahead) h) (take max_batch_len held.pool)
-      ∙ ap (λ b. first_fault (((h == 0) || nat_lt max_height h, refusal.Closed) ∷ (b, refusal.AlreadyOpen) ∷ (nat_lt (length held.commits + max_ahead) h, refusal.TooFar) ∷ []) (take max_batch_len held.pool)) (opened_there held entries matches h)
-      ∙ ap (λ vs. first_fault (((h == 0) || nat_lt max_height h, refusal.Closed) ∷ (is_some (initial_of (log_of held.config held.id h entries)), refusal.AlreadyOpen) ∷ (nat_lt (length vs + max_ahead) h, refusal.TooFar) ∷ []) (take max_batch_len held.pool)) (sym matches.commits)
-      ∙ ap (λ p. first_fault (((h == 0) || nat_lt max_height h, refusal.Closed) ∷ (is_some (initial_of (log_of held.config held.id h entries)), refusal.AlreadyOpen) ∷ (nat_lt (length (commits_of held.config held.id entries) + max_ahead) h, refusal.TooFar) ∷ []) (take max_batch_len p)) (sym matches.pool)
+      valued ((h == 0) || nat_lt max_height h) (is_some (row_at held.rows h)) (nat_lt (length held.commits + max_ahead) h)
+      (take max_batch_len held.pool)
+      ∙ ap (λ b. first_fault (((h == 0) || nat_lt max_height h, refusal.Closed) ∷ (b, refusal.AlreadyOpen)
+      ∷ (nat_lt (length held.commits + max_ahead) h, refusal.TooFar) ∷ []) (take max_batch_len held.pool))
+      (opened_there held entries matches h)
+      ∙ ap (λ vs. first_fault (((h == 0) || nat_lt max_height h, refusal.Closed)
+      ∷ (is_some (initial_of (log_of held.config held.id h entries)), refusal.AlreadyOpen)
+      ∷ (nat_lt (length vs + max_ahead) h, refusal.TooFar) ∷ []) (take max_batch_len held.pool)) (sym matches.commits)
+      ∙ ap (λ p. first_fault (((h == 0) || nat_lt max_height h, refusal.Closed)
+      ∷ (is_some (initial_of (log_of held.config held.id h entries)), refusal.AlreadyOpen)
+      ∷ (nat_lt (length (commits_of held.config held.id entries) + max_ahead) h, refusal.TooFar) ∷ []) (take max_batch_len p))
+      (sym matches.pool)
 
   -- a height that is refused
-  refused : (f : ProposeRefusal) → Matches held (entries ++ record { event = event.Propose h; reply = reply.Proposed (Err f) } ∷ [])
+  refused : (f : ProposeRefusal) → MatchesHistory held (entries ++ record { event = event.Propose h; reply = reply.Proposed (Err f) } ∷ [])
   unfolding notes_of
-  refused f = unheard held entries (record { event = event.Propose h; reply = reply.Proposed (Err f) }) matches refl refl refl held.pool refl (λ g. refl)
+  refused f = unheard held entries (record { event = event.Propose h; reply = reply.Proposed (Err f) }) matches refl refl refl held.pool
+      refl (λ g. refl)
 
   module _ (v : Value) where
     -- the entry of a height that is opened
@@ -54,7 +63,8 @@ module _ (held : Held) (h : ℕ) (entries : List Entry) (matches : Matches held 
     -- the log there has the proposal more
     log_here : log_of held.config held.id h (entries ++ entry ∷ []) ≡ log_of held.config held.id h entries ++ Proposed v ∷ []
     unfolding notes_of
-    log_here = log_then held entries entry h ∙ ap (λ b. log_of held.config held.id h entries ++ cond b (Proposed v ∷ []) []) (eq-eqb h h refl)
+    log_here = log_then held entries entry h
+        ∙ ap (λ b. log_of held.config held.id h entries ++ cond b (Proposed v ∷ []) []) (eq-eqb h h refl)
 
     -- the other logs are as before
     log_there : (g : ℕ) → (g ≡ h → ⊥) → log_of held.config held.id g (entries ++ entry ∷ []) ≡ log_of held.config held.id g entries
@@ -62,32 +72,36 @@ module _ (held : Held) (h : ℕ) (entries : List Entry) (matches : Matches held 
     log_there g other = log_stays held entries entry g (ap (λ b. cond b (Proposed v ∷ []) []) (ne_eqb h g (λ same. other (sym same))))
 
     -- what is kept then matches
-    opened_more : (rows : List Row) → is_some (row_at rows h) ≡ true → AreApart h held.rows rows
-        → ((row : Row) → row_at rows h ≡ Some row → (ring : Ring) (log : List Note) → only_rounds log ≡ true → MatchesAt ring row (log ++ Proposed v ∷ []))
+    opened_more : (rows : List InstanceView) → is_some (row_at rows h) ≡ true → AreApart h held.rows rows
+        → ((row : InstanceView) → row_at rows h ≡ Some row → (ring : Ring) (log : List Note) → only_rounds log ≡ true
+        → MatchesLog ring row (log ++ Proposed v ∷ []))
         → is_some (row_at held.rows h) ≡ false
-        → Matches (record held { rows = rows }) (entries ++ entry ∷ [])
+        → MatchesHistory (record held { rows = rows }) (entries ++ entry ∷ [])
     opened_more rows there apart fresh closed =
         quiet held entries entry matches refl refl refl rows held.pool refl clocks opened unopened
       where
         before : only_rounds (log_of held.config held.id h entries) ≡ true
         before = by (row_at held.rows h) refl
           where
-            by : (o : Option Row) → row_at held.rows h ≡ o → only_rounds (log_of held.config held.id h entries) ≡ true
+            by : (o : Option InstanceView) → row_at held.rows h ≡ o → only_rounds (log_of held.config held.id h entries) ≡ true
             by None is = matches.unopened h is
             by (Some row) is = absurd (false≢true (sym closed ∙ ap is_some is))
 
         clocks : (g : ℕ) → clock_of (log_of held.config held.id g (entries ++ entry ∷ [])) ≡ held.clock
         clocks g = elim (cases_eq g h) [
           | inl here ↦ subst (λ x. clock_of (log_of held.config held.id x (entries ++ entry ∷ [])) ≡ held.clock) (sym here)
-              (ap clock_of log_here ∙ clock_of-append (log_of held.config held.id h entries) (Proposed v ∷ []) ∙ (let c = matches.clocks h in omega (arith, c)))
+              (ap clock_of log_here ∙ clock_of-append (log_of held.config held.id h entries) (Proposed v ∷ []) ∙ (let c =
+              matches.clocks h in omega (arith, c)))
           | inr other ↦ ap clock_of (log_there g other) ∙ matches.clocks g
         ]
 
-        opened : (g : ℕ) (row : Row) → row_at rows g ≡ Some row → MatchesAt held.ring row (log_of held.config held.id g (entries ++ entry ∷ []))
+        opened : (g : ℕ) (row : InstanceView) → row_at rows g ≡ Some row
+            → MatchesLog held.ring row (log_of held.config held.id g (entries ++ entry ∷ []))
         opened g row is = elim (cases_eq g h) [
-          | inl here ↦ subst (λ l. MatchesAt held.ring row l) (sym (ap (λ x. log_of held.config held.id x (entries ++ entry ∷ [])) here ∙ log_here))
+          | inl here ↦ subst (λ l. MatchesLog held.ring row l)
+              (sym (ap (λ x. log_of held.config held.id x (entries ++ entry ∷ [])) here ∙ log_here))
               (fresh row (ap (row_at rows) (sym here) ∙ is) held.ring (log_of held.config held.id h entries) before)
-          | inr other ↦ subst (λ l. MatchesAt held.ring row l) (sym (log_there g other)) (matches.opened g row (sym (apart g other) ∙ is))
+          | inr other ↦ subst (λ l. MatchesLog held.ring row l) (sym (log_there g other)) (matches.opened g row (sym (apart g other) ∙ is))
         ]
 
         unopened : (g : ℕ) → row_at rows g ≡ None → only_rounds (log_of held.config held.id g (entries ++ entry ∷ [])) ≡ true
@@ -97,28 +111,34 @@ module _ (held : Held) (h : ℕ) (entries : List Entry) (matches : Matches held 
         ]
 
 -- a height is opened, or refused
-pub proposes : (held new : Held) (h : ℕ) (answer : Result Value ProposeRefusal) → answer ≡ propose_held held h
+pub proposes : (held new : ReplicaStateView) (h : ℕ) (answer : Result Value ProposeRefusal) → answer ≡ propose_held held h
     → new ≡ record held { rows = new.rows } → OnErr answer (new ≡ held)
     → OnOk answer (is_some (row_at new.rows h) ≡ true) → AreApart h held.rows new.rows
-    → IfOk answer (λ v. (row : Row) → row_at new.rows h ≡ Some row → (ring : Ring) (log : List Note) → only_rounds log ≡ true → MatchesAt ring row (log ++ Proposed v ∷ []))
+    → IfOk answer (λ v. (row : InstanceView) → row_at new.rows h ≡ Some row → (ring : Ring) (log : List Note) → only_rounds log ≡ true
+    → MatchesLog ring row (log ++ Proposed v ∷ []))
     → IsStep held (event.Propose h) (reply.Proposed answer) new
 proposes held new h (Ok v) is rest err there apart fresh entries matches = (
   is ∙ answered held h entries matches,
   refl,
-  subst (λ x. Matches x (entries ++ record { event = event.Propose h; reply = reply.Proposed (Ok v) } ∷ [])) (sym rest)
+  subst (λ x. MatchesHistory x (entries ++ record { event = event.Propose h; reply = reply.Proposed (Ok v) } ∷ [])) (sym rest)
       (opened_more held h entries matches v new.rows there apart fresh (was_closed (is_some (row_at held.rows h)) refl)),
 )
   where
     was_closed : (b : Bool) → is_some (row_at held.rows h) ≡ b → is_some (row_at held.rows h) ≡ false
     was_closed false e = e
     was_closed true e = absurd (taken ((h == 0) || nat_lt max_height h) (nat_lt (length held.commits + max_ahead) h)
-        (is ∙ ap (λ b. with_value (first_fault (((h == 0) || nat_lt max_height h, refusal.Closed) ∷ (b, refusal.AlreadyOpen) ∷ (nat_lt (length held.commits + max_ahead) h, refusal.TooFar) ∷ []) tt) (take max_batch_len held.pool)) e))
+        (is ∙ ap (λ b. with_value (first_fault
+        (((h == 0) || nat_lt max_height h, refusal.Closed) ∷ (b, refusal.AlreadyOpen)
+        ∷ (nat_lt (length held.commits + max_ahead) h, refusal.TooFar) ∷ []) tt) (take max_batch_len held.pool)) e))
       where
-        taken : (a c : Bool) → Ok v ≡ with_value (first_fault ((a, refusal.Closed) ∷ (true, refusal.AlreadyOpen) ∷ (c, refusal.TooFar) ∷ []) tt) (take max_batch_len held.pool) → ⊥
+        taken : (a c : Bool) → Ok v ≡ with_value
+            (first_fault ((a, refusal.Closed) ∷ (true, refusal.AlreadyOpen) ∷ (c, refusal.TooFar) ∷ []) tt) (take max_batch_len held.pool)
+            → ⊥
         taken true c e = cc
         taken false c e = cc
 proposes held new h (Err f) is rest err there apart fresh entries matches = (
   is ∙ answered held h entries matches,
   refl,
-  subst (λ x. Matches x (entries ++ record { event = event.Propose h; reply = reply.Proposed (Err f) } ∷ [])) (sym err) (refused held h entries matches f),
+  subst (λ x. MatchesHistory x (entries ++ record { event = event.Propose h; reply = reply.Proposed (Err f) } ∷ [])) (sym err)
+      (refused held h entries matches f),
 )

@@ -1,4 +1,4 @@
--- An entry that opens no round and runs no block: what stays of what a history makes.
+-- An entry that opens no round and runs no block: what it leaves unchanged of what a history makes.
 use Rattle.std.proofs.Common.{◌≡◌, ℕ, ◌+◌, true, false, cond, List, [], ◌∷◌, ◌++◌, sym, ap, subst, ◌∙◌, arith}
 use Rattle.std.specs.Prelude.{◌||◌, Some, None}
 use Rattle.std.proofs.lemmas.List.{append-nil}
@@ -10,13 +10,13 @@ use Rattle.ledger_model.specs.Logs.{log_of, notes_of, is_mute, says_mute}
 use Rattle.ledger_model.specs.Commits.{is_block, pool_of, pool_step}
 use Rattle.ledger_model.specs.Lawful.{clock_at, is_opened}
 use Rattle.ledger_model.proofs.Steps.{log_of-snoc}
-use Rattle.instance.specs.Rows.{Row}
-use Rattle.instance.specs.Matching.{Matches as MatchesAt, only_rounds}
+use Rattle.instance.specs.Instances.{InstanceView}
+use Rattle.instance.specs.Matching.{MatchesLog, only_rounds}
 use Rattle.height_row.specs.Heights.{row_at}
-use Rattle.replica_core.specs.Holding.{Held, Matches}
+use Rattle.replica_core.specs.ReplicaStates.{ReplicaStateView, MatchesHistory}
 use Rattle.replica_core.proofs.Histories.{pool_more, clock_more, mute_more, commits_stay, blocks_stay}
 
-module _ (held : Held) (entries : List Entry) (e : Entry) where
+module _ (held : ReplicaStateView) (entries : List Entry) (e : Entry) where
   -- the log of a height
   abbrev pub log_at : ℕ → List Note
   log_at h = log_of held.config held.id h entries
@@ -34,7 +34,8 @@ module _ (held : Held) (entries : List Entry) (e : Entry) where
   pub log_stays : (h : ℕ) → notes_at h ≡ [] → log_of held.config held.id h (entries ++ e ∷ []) ≡ log_at h
   log_stays h none = log_then h ∙ ap (λ ns. log_at h ++ ns) none ∙ append-nil (log_at h)
 
-  module _ (matches : Matches held entries) (no_round : is_opened e.reply ≡ false) (no_block : is_block e.reply ≡ false) (loud : says_mute e.reply ≡ false) where
+  module _ (matches : MatchesHistory held entries) (no_round : is_opened e.reply ≡ false) (no_block : is_block e.reply ≡ false)
+      (loud : says_mute e.reply ≡ false) where
     -- the pool then
     pub pool_then : pool_of held.config held.id (entries ++ e ∷ []) ≡ pool_step held.config held.commits held.pool e.event e.reply
     pool_then =
@@ -44,12 +45,13 @@ module _ (held : Held) (entries : List Entry) (e : Entry) where
         ∙ ap (λ p. pool_step held.config held.commits p e.event e.reply) matches.pool
 
     -- what is kept then matches, where the heights and the pool do
-    pub quiet : (rows : List Row) (pool : Value)
+    pub quiet : (rows : List InstanceView) (pool : Value)
         → pool_step held.config held.commits held.pool e.event e.reply ≡ pool
         → ((h : ℕ) → clock_of (log_of held.config held.id h (entries ++ e ∷ [])) ≡ held.clock)
-        → ((h : ℕ) (row : Row) → row_at rows h ≡ Some row → MatchesAt held.ring row (log_of held.config held.id h (entries ++ e ∷ [])))
+        → ((h : ℕ) (row : InstanceView) → row_at rows h ≡ Some row
+        → MatchesLog held.ring row (log_of held.config held.id h (entries ++ e ∷ [])))
         → ((h : ℕ) → row_at rows h ≡ None → only_rounds (log_of held.config held.id h (entries ++ e ∷ [])) ≡ true)
-        → Matches (record held { rows = rows; pool = pool }) (entries ++ e ∷ [])
+        → MatchesHistory (record held { rows = rows; pool = pool }) (entries ++ e ∷ [])
     quiet rows pool same_pool clocks opened unopened = record {
       clock = clock_more entries e ∙ ap (λ b. clock_at entries + cond b 1 0) no_round ∙ (let c = matches.clock in omega (arith, c));
       clocks = clocks;
@@ -64,9 +66,9 @@ module _ (held : Held) (entries : List Entry) (e : Entry) where
 
     -- and where nothing is added to any log, with the pool alone
     pub unheard : (pool : Value) → pool_step held.config held.commits held.pool e.event e.reply ≡ pool → ((h : ℕ) → notes_at h ≡ [])
-        → Matches (record held { pool = pool }) (entries ++ e ∷ [])
+        → MatchesHistory (record held { pool = pool }) (entries ++ e ∷ [])
     unheard pool same_pool none =
         quiet held.rows pool same_pool
         (λ h. ap clock_of (log_stays h (none h)) ∙ matches.clocks h)
-        (λ h row is. subst (λ l. MatchesAt held.ring row l) (sym (log_stays h (none h))) (matches.opened h row is))
+        (λ h row is. subst (λ l. MatchesLog held.ring row l) (sym (log_stays h (none h))) (matches.opened h row is))
         (λ h is. ap only_rounds (log_stays h (none h)) ∙ matches.unopened h is)

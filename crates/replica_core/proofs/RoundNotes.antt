@@ -1,4 +1,4 @@
--- What the opening of a round adds to a log, and what stays of what a history makes.
+-- The notes that opening a round adds to a log, and what it leaves unchanged of what a history makes.
 use Rattle.std.proofs.Common.{◌≡◌, ℕ, ◌+◌, Bool, true, false, List, ◌∷◌, ◌++◌, refl, sym, ap, ◌∙◌, arith}
 use Rattle.std.specs.Prelude.{◌||◌, Ok}
 use Rattle.std.specs.List.{flat_map}

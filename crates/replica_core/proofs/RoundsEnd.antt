@@ -1,4 +1,4 @@
--- The end of a round, over all open heights: it is lawful and signed, and what is kept then matches the longer history.
+-- The end of a round, over all open heights: it is lawful and signed, and the state afterwards matches the longer history.
 use Rattle.std.proofs.Common.{◌≡◌, ℕ, ◌+◌, ◌<◌, Bool, true, List, [], ◌∷◌, ◌++◌, refl, sym, ap, subst, ◌∙◌, arith}
 use Rattle.std.specs.Prelude.{nat_eq, map, Option, Some, None, ◌||◌}
 use Rattle.std.specs.List.{AllByRecursion}
@@ -6,19 +6,19 @@ use Rattle.ledger_model.specs.Limits.{last_round}
 use Rattle.ledger_model.specs.declared.history.Entry.{Entry}
 use Rattle.ledger_model.specs.declared.reply.RoundEnded.{RoundEnded}
 use Rattle.ledger_model.specs.declared.statement.SignedStatement.{SignedStatement}
-use Rattle.ledger_model.specs.Rounds.{place_of}
+use Rattle.ledger_model.specs.Rounds.{place_of, release_place}
 use Rattle.ledger_model.specs.Notes.{Note, clock_of}
 use Rattle.ledger_model.specs.Logs.{log_of, statements_sent, statements_made}
 use Rattle.ledger_model.specs.Rules.{MayMake}
 use Rattle.ledger_model.specs.Lawful.{LawfulRoundEnd, held_locks}
-use Rattle.instance.specs.declared.made.Made.{Made}
-use Rattle.instance.specs.Rows.{Row}
-use Rattle.instance.specs.Matching.{Matches as MatchesAt, only_rounds}
+use Rattle.instance.specs.declared.round_statement.RoundStatement.{RoundStatement}
+use Rattle.instance.specs.Instances.{InstanceView}
+use Rattle.instance.specs.Matching.{MatchesLog, only_rounds}
 use Rattle.instance.specs.Plans.{ended, closed}
 use Rattle.instance.specs.Laws.{made_in, opened_by}
 use Rattle.instance.proofs.SameHeight.{same_closed}
 use Rattle.height_row.specs.Heights.{row_at, closed_each}
-use Rattle.replica_core.specs.Holding.{Held, IsHeld, IsOwnRow, Matches}
+use Rattle.replica_core.specs.ReplicaStates.{ReplicaStateView, IsWithinLimits, IsOwnRow, MatchesHistory}
 use Rattle.replica_core.specs.RoundEnds.{AreMade, frames_at, round_ended, after_end, RoundsEnd}
 use Rattle.replica_core.proofs.Histories.{pool_more, clock_more, mute_more, commits_stay, blocks_stay}
 use Rattle.replica_core.proofs.Quiet.{log_then}
@@ -30,7 +30,8 @@ use Rattle.replica_core.proofs.UnopenedEnds.{no_locks, nothing_made, may_nothing
 use Rattle.replica_core.proofs.OpenEnds.{locks_alone, closes_there, made_is, may_there}
 use Rattle.replica_core.proofs.RoundNotes.{end_entry, round_notes, notes_are, clock_then, mute_then}
 
-module _ (held : Held) (mute : Bool) (ms : List Made) (entries : List Entry) (is_held : IsHeld held) (matches : Matches held entries)
+module _ (held : ReplicaStateView) (mute : Bool) (ms : List RoundStatement) (entries : List Entry) (is_held : IsWithinLimits held)
+    (matches : MatchesHistory held entries)
     (are_made : AreMade held.ring mute (held.clock + 1) held.rows ms) where
   -- the round that opens, and the answer to the end of the one before
   abbrev c : ℕ
@@ -63,7 +64,8 @@ module _ (held : Held) (mute : Bool) (ms : List Made) (entries : List Entry) (is
   each_sends : AllByRecursion (IsSentBy held.config held.ring mute c) held.rows
   each_sends =
       each_found (IsSentBy held.config held.ring mute c) held.rows is_held.ascend
-      (λ h row is m is_made. frames_sent held.config held.ring row (log_at h) held.clock (matches.opened h row is) (matches.clocks h) mute m is_made)
+      (λ h row is m is_made. frames_sent held.config held.ring row (log_at h) held.clock (matches.opened h row is) (matches.clocks h) mute
+      m is_made)
 
   -- ---- a height that is not open
 
@@ -89,11 +91,11 @@ module _ (held : Held) (mute : Bool) (ms : List Made) (entries : List Entry) (is
 
   -- ---- an open height
 
-  module _ (h : ℕ) (row : Row) (is : row_at held.rows h ≡ Some row) where
+  module _ (h : ℕ) (row : InstanceView) (is : row_at held.rows h ≡ Some row) where
     own : IsOwnRow held h row
     own = is_held.own h row is
 
-    before : MatchesAt held.ring row (log_at h)
+    before : MatchesLog held.ring row (log_at h)
     before = matches.opened h row is
 
     there : IsMadeThere held.config held.ring mute c h held.rows ms row
@@ -105,25 +107,28 @@ module _ (held : Held) (mute : Bool) (ms : List Made) (entries : List Entry) (is
 
     made_there_is : made_at h ≡ made_in row (log_at h) c there.made
     made_there_is =
-        made_is held.config held.ring row (log_at h) held.clock before (matches.clocks h) mute there.made there.is_made held.id h own.config own.id own.height end refl sent_there
+        made_is held.config held.ring row (log_at h) held.clock before (matches.clocks h) mute there.made there.is_made held.id h
+        own.config own.id own.height end refl sent_there
 
     may_open : MayMakeAt h (made_at h)
     may_open =
         subst (MayMakeAt h) (sym made_there_is)
-        (may_there held.config held.ring row (log_at h) held.clock before (matches.clocks h) mute there.made there.is_made held.id h own.config own.id own.height)
+        (may_there held.config held.ring row (log_at h) held.clock before (matches.clocks h) mute there.made there.is_made held.id h
+        own.config own.id own.height)
 
-    locks_sent : nat_eq (place_of c) 4 ≡ true → statements_sent h end ≡ held_locks (log_at h)
-    locks_sent last = sent_there ∙ locks_alone held.config held.ring row (log_at h) held.clock before (matches.clocks h) mute there.made there.is_made last
+    locks_sent : nat_eq (place_of c) release_place ≡ true → statements_sent h end ≡ held_locks (log_at h)
+    locks_sent last = sent_there ∙ locks_alone held.config held.ring row (log_at h) held.clock before (matches.clocks h) mute there.made
+        there.is_made last
 
     -- what is kept of it then
-    module _ (new : Row) (found : row_at (closed_each c held.rows ms) h ≡ Some new) where
+    module _ (new : InstanceView) (found : row_at (closed_each c held.rows ms) h ≡ Some new) where
       closed_is : closed row c (ended row c) there.made ≡ new
       closed_is = cc (sym there.then ∙ found)
 
-      matches_with : MatchesAt held.ring new (log_with h)
+      matches_with : MatchesLog held.ring new (log_with h)
       matches_with =
-          subst (λ l. MatchesAt held.ring new l) (sym (log_is h (made_in row (log_at h) c there.made) made_there_is))
-          (subst (λ r. MatchesAt held.ring r (opened_by row (log_at h) c there.made)) closed_is
+          subst (λ l. MatchesLog held.ring new l) (sym (log_is h (made_in row (log_at h) c there.made) made_there_is))
+          (subst (λ r. MatchesLog held.ring r (opened_by row (log_at h) c there.made)) closed_is
           (closes_there held.config held.ring row (log_at h) held.clock before (matches.clocks h) mute there.made there.is_made))
 
       own_with : IsOwnRow (after_end held mute ms) h new
@@ -137,14 +142,14 @@ module _ (held : Held) (mute : Bool) (ms : List Made) (entries : List Entry) (is
   makes : (h : ℕ) → MayMakeAt h (made_at h)
   makes h = by (row_at held.rows h) refl
     where
-      by : (o : Option Row) → row_at held.rows h ≡ o → MayMakeAt h (made_at h)
+      by : (o : Option InstanceView) → row_at held.rows h ≡ o → MayMakeAt h (made_at h)
       by None none = may_none h none
       by (Some row) is = may_open h row is
 
-  sends_on : (h : ℕ) → nat_eq (place_of c) 4 ≡ true → statements_sent h end ≡ held_locks (log_at h)
+  sends_on : (h : ℕ) → nat_eq (place_of c) release_place ≡ true → statements_sent h end ≡ held_locks (log_at h)
   sends_on h last = by (row_at held.rows h) refl
     where
-      by : (o : Option Row) → row_at held.rows h ≡ o → statements_sent h end ≡ held_locks (log_at h)
+      by : (o : Option InstanceView) → row_at held.rows h ≡ o → statements_sent h end ≡ held_locks (log_at h)
       by None none = none_held h none
       by (Some row) is = locks_sent h row is last
 
@@ -153,14 +158,15 @@ module _ (held : Held) (mute : Bool) (ms : List Made) (entries : List Entry) (is
     mute = λ was. still (sym matches.mute ∙ was);
     frames = all_right held.config held.ring mute c held.rows ms each_sends are_made;
     order = ascend_sent held.config held.ring mute c held.rows ms is_held.ascend each_sends are_made;
-    makes = λ h. subst (λ n. MayMake held.config held.id h (log_at h) (n + 1) mute (map (λ s. s.statement) (statements_made held.config held.id h (log_at h) (n + 1) end)))
+    makes = λ h. subst (λ n. MayMake held.config held.id h (log_at h) (n + 1) mute
+        (map (λ s. s.statement) (statements_made held.config held.id h (log_at h) (n + 1) end)))
         (sym (matches.clocks h)) (makes h);
-    sends_on = λ h last. sends_on h (subst (λ n. nat_eq (place_of (n + 1)) 4 ≡ true) (matches.clocks h) last);
+    sends_on = λ h last. sends_on h (subst (λ n. nat_eq (place_of (n + 1)) release_place ≡ true) (matches.clocks h) last);
   }
 
   -- ---- what is kept then
 
-  matches_then : (held.mute ≡ true → mute ≡ true) → Matches (after_end held mute ms) (entries ++ end_entry end ∷ [])
+  matches_then : (held.mute ≡ true → mute ≡ true) → MatchesHistory (after_end held mute ms) (entries ++ end_entry end ∷ [])
   matches_then still = record {
     clock = clock_more entries (end_entry end) ∙ ap (λ n. n + 1) matches.clock;
     clocks = λ h. ap clock_of (log_is h (made_at h) refl) ∙ clock_then (log_at h) c (made_at h) ∙ ap (λ n. n + 1) (matches.clocks h);
@@ -173,15 +179,17 @@ module _ (held : Held) (mute : Bool) (ms : List Made) (entries : List Entry) (is
     mute = mute_more entries (end_entry end) ∙ ap (λ b. b || mute) matches.mute ∙ mute_then held.mute mute still;
   }
     where
-      opened : (h : ℕ) (new : Row) → row_at (closed_each c held.rows ms) h ≡ Some new → (o : Option Row) → row_at held.rows h ≡ o → MatchesAt held.ring new (log_with h)
+      opened : (h : ℕ) (new : InstanceView) → row_at (closed_each c held.rows ms) h ≡ Some new → (o : Option InstanceView)
+          → row_at held.rows h ≡ o → MatchesLog held.ring new (log_with h)
       opened h new found None none = absurd (cc (sym (none_closed c h held.rows ms none) ∙ found))
       opened h new found (Some row) is = matches_with h row is new found
 
-      unopened : (h : ℕ) → row_at (closed_each c held.rows ms) h ≡ None → (o : Option Row) → row_at held.rows h ≡ o → only_rounds (log_with h) ≡ true
+      unopened : (h : ℕ) → row_at (closed_each c held.rows ms) h ≡ None → (o : Option InstanceView) → row_at held.rows h ≡ o
+          → only_rounds (log_with h) ≡ true
       unopened h gone None none = rounds_with h none
       unopened h gone (Some row) is = absurd (cc (sym gone ∙ (there h row is).then))
 
-  held_then : held.clock < last_round → IsHeld (after_end held mute ms)
+  held_then : held.clock < last_round → IsWithinLimits (after_end held mute ms)
   held_then early = record {
     member = is_held.member;
     own = λ h new found. owned h new found (row_at held.rows h) refl;
@@ -190,7 +198,8 @@ module _ (held : Held) (mute : Bool) (ms : List Made) (entries : List Entry) (is
     early = omega (arith, early);
   }
     where
-      owned : (h : ℕ) (new : Row) → row_at (closed_each c held.rows ms) h ≡ Some new → (o : Option Row) → row_at held.rows h ≡ o → IsOwnRow (after_end held mute ms) h new
+      owned : (h : ℕ) (new : InstanceView) → row_at (closed_each c held.rows ms) h ≡ Some new → (o : Option InstanceView)
+          → row_at held.rows h ≡ o → IsOwnRow (after_end held mute ms) h new
       owned h new found None none = absurd (cc (sym (none_closed c h held.rows ms none) ∙ found))
       owned h new found (Some row) is = own_with h row is new found
 
@@ -199,7 +208,8 @@ pub rounds_end : RoundsEnd
 rounds_end held mute ms entries is_held early matches still are_made = (
   record {
     lawful = lawful held mute ms entries is_held matches are_made still;
-    signed = all_signed held.config held.ring mute (held.clock + 1) held.rows ms (each_sends held mute ms entries is_held matches are_made) are_made;
+    signed = all_signed held.config held.ring mute (held.clock + 1) held.rows ms (each_sends held mute ms entries is_held matches are_made)
+        are_made;
     matches = matches_then held mute ms entries is_held matches are_made still;
   },
   held_then held mute ms entries is_held matches are_made early,

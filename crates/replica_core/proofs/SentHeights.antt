@@ -18,7 +18,8 @@ at_least a b le = elim (cases_Bool (nat_lt a b)) [
 ]
 
 -- behind those of one height none falls, where each is at least of that height
-pub falls_nowhere : (n : ℕ) (ss ts : List SignedStatement) → AllByRecursion (λ s. height_in s ≡ n) ss → AllByRecursion (λ t. n ≤ height_in t) ts
+pub falls_nowhere : (n : ℕ) (ss ts : List SignedStatement) → AllByRecursion (λ s. height_in s ≡ n) ss
+    → AllByRecursion (λ t. n ≤ height_in t) ts
     → never_falls (map height_in ts) ≡ true → never_falls (map height_in (ss ++ ts)) ≡ true
 falls_nowhere n [] ts same above rest = rest
 falls_nowhere n (s ∷ []) [] same above rest = refl

@@ -1,4 +1,4 @@
--- Events that touch no height: a transaction is handed in, and the application is asked.
+-- Events that touch no height: a transaction is submitted, and the application is queried.
 use Rattle.std.proofs.Common.{◌≡◌, ℕ, List, refl, sym, ap, ◌∙◌}
 use Rattle.std.specs.Prelude.{Result, Ok, Err}
 use Rattle.ledger_model.specs.declared.event.Event.TheVariants as event
@@ -10,31 +10,35 @@ use Rattle.ledger_model.specs.Logs.{notes_of}
 use Rattle.ledger_model.specs.Pools.{submit_answer}
 use Rattle.ledger_model.specs.Commits.{pool_of, pool_step, submit_reply}
 use Rattle.ledger_model.specs.Replies.{check_reply, query_reply}
-use Rattle.replica_core.specs.Holding.{Held}
+use Rattle.replica_core.specs.ReplicaStates.{ReplicaStateView}
 use Rattle.replica_core.specs.Steps.{IsStep, submit_held, pool_with}
 use Rattle.replica_core.proofs.Quiet.{unheard}
 
 -- a transaction that is handed in
-pub submits : (held : Held) (tx : List ℕ) (answer : Result (Unit {0}) SubmitRefusal) → answer ≡ submit_held held tx
+pub submits : (held : ReplicaStateView) (tx : List ℕ) (answer : Result (Unit {0}) SubmitRefusal) → answer ≡ submit_held held tx
     → IsStep held (event.Submit tx) (reply.Submitted answer) (record held { pool = pool_with held.pool tx answer })
 unfolding submit_reply notes_of
 submits held tx answer is entries matches = (
   is ∙ ap (λ p. submit_answer p tx (check_reply held.config.kind held.commits tx)) (sym matches.pool)
       ∙ ap (λ vs. submit_answer (pool_of held.config held.id entries) tx (check_reply held.config.kind vs tx)) (sym matches.commits),
   refl,
-  unheard held entries (record { event = event.Submit tx; reply = reply.Submitted answer }) matches refl refl refl (pool_with held.pool tx answer) (told answer) (λ h. refl),
+  unheard held entries (record { event = event.Submit tx; reply = reply.Submitted answer }) matches refl refl refl
+      (pool_with held.pool tx answer) (shown answer) (λ h. refl),
 )
   where
-    told : (a : Result (Unit {0}) SubmitRefusal) → pool_step held.config held.commits held.pool (event.Submit tx) (reply.Submitted a) ≡ pool_with held.pool tx a
-    told (Ok u) = refl
-    told (Err f) = refl
+    shown : (a : Result (Unit {0}) SubmitRefusal)
+        → pool_step held.config held.commits held.pool (event.Submit tx) (reply.Submitted a) ≡ pool_with held.pool tx a
+    shown (Ok u) = refl
+    shown (Err f) = refl
 
 -- a query
-pub queries : (held : Held) (key : List ℕ) (height : ℕ) (answer : Result QueryAnswer NotHeld) → answer ≡ query_reply held.config.kind held.commits key height
+pub queries : (held : ReplicaStateView) (key : List ℕ) (height : ℕ) (answer : Result QueryAnswer NotHeld)
+    → answer ≡ query_reply held.config.kind held.commits key height
     → IsStep held (event.Query key height) (reply.Queried answer) held
 unfolding notes_of
 queries held key height answer is entries matches = (
   is ∙ ap (λ vs. query_reply held.config.kind vs key height) (sym matches.commits),
   refl,
-  unheard held entries (record { event = event.Query key height; reply = reply.Queried answer }) matches refl refl refl held.pool refl (λ h. refl),
+  unheard held entries (record { event = event.Query key height; reply = reply.Queried answer }) matches refl refl refl held.pool refl
+      (λ h. refl),
 )

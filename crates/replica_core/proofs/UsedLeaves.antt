@@ -1,19 +1,19 @@
--- The leaves that a round end uses: one for each own statement that is sent, in the order of the frames.
+-- The leaves that a round end uses: one for each statement of its own that is sent, in the order of the frames.
 use Rattle.std.proofs.Common.{◌≡◌, ℕ, ◌+◌, inl, inr, true, false, List, [], ◌∷◌, ◌++◌, length, refl, sym, ap, subst, ◌∙◌, arith, append-nil}
 use Rattle.std.specs.Prelude.{nat_eq, map, None, is_some, if◌then◌else◌}
 use Rattle.std.specs.List.{cons_option, AllByRecursion}
 use Rattle.std.proofs.lemmas.Bool.{cases_Bool, eqb-true, ne_eqb}
 use Rattle.ledger_model.specs.declared.config.Config.{Config}
 use Rattle.ledger_model.specs.declared.statement.SignedStatement.{SignedStatement}
-use Rattle.ledger_model.specs.Rounds.{place_of}
+use Rattle.ledger_model.specs.Rounds.{place_of, ack_place, lock_place, release_place, report_place}
 use Rattle.ledger_model.proofs.FrameReading.{reading-again}
-use Rattle.key_ring.specs.Signers.{Keys}
-use Rattle.instance.specs.declared.made.Made.{Made}
-use Rattle.instance.specs.declared.made.Made.TheVariants as made
-use Rattle.instance.specs.Rows.{Row}
+use Rattle.key_ring.specs.Signers.{SignerView}
+use Rattle.instance.specs.declared.round_statement.RoundStatement.{RoundStatement}
+use Rattle.instance.specs.declared.round_statement.RoundStatement.TheVariants as made
+use Rattle.instance.specs.Instances.{InstanceView}
 use Rattle.instance.specs.Plans.{chosen_statement, sent_in}
 use Rattle.instance.specs.Laws.{IsFrameMade}
-use Rattle.replica_core.specs.Holding.{Held}
+use Rattle.replica_core.specs.ReplicaStates.{ReplicaStateView}
 use Rattle.replica_core.specs.RoundEnds.{sent_own, sent_on, frames_at, frames_of, due, SignsFrom}
 use Rattle.replica_core.specs.Steps.{AreSignedFrom, UsesLeaves}
 use Rattle.replica_core.specs.ChosenEnds.{all_mute, end_reply}
@@ -22,20 +22,22 @@ use Rattle.replica_core.proofs.OpenEnds.{none_on}
 
 -- ---- before place 4
 
-module _ (config : Config) (c : ℕ) (early : nat_eq (place_of c) 4 ≡ false) where
+module _ (config : Config) (c : ℕ) (early : nat_eq (place_of c) release_place ≡ false) where
   -- the own statement alone is sent at a height
-  own_frame : (row : Row) (m : Made) → frames_at config c row m ≡ map (sent_own config) (sent_in m)
+  own_frame : (row : InstanceView) (m : RoundStatement) → frames_at config c row m ≡ map (sent_own config) (sent_in m)
   own_frame row m =
-      ap (λ frames. map (sent_own config) (sent_in m) ++ map sent_on frames) (none_on row c early) ∙ append-nil (map (sent_own config) (sent_in m))
+      ap (λ frames. map (sent_own config) (sent_in m) ++ map sent_on frames) (none_on row c early)
+      ∙ append-nil (map (sent_own config) (sent_in m))
 
   -- nothing is sent by a mute replica
-  no_frames : (rows : List Row) → frames_of config c rows (all_mute rows) ≡ []
+  no_frames : (rows : List InstanceView) → frames_of config c rows (all_mute rows) ≡ []
   no_frames [] = refl
   no_frames (row ∷ rows) = ap (λ frames. frames ++ frames_of config c rows (all_mute rows)) (own_frame row made.Mute) ∙ no_frames rows
 
-  module _ (keys : Keys) where
+  module _ (keys : SignerView) where
     -- as many frames are sent as statements are due
-    count_frames : (leaf : ℕ) (rows : List Row) (ms : List Made) → SignsFrom keys.secret leaf c rows ms → length (frames_of config c rows ms) ≡ due c rows
+    count_frames : (leaf : ℕ) (rows : List InstanceView) (ms : List RoundStatement) → SignsFrom keys.secret leaf c rows ms
+        → length (frames_of config c rows ms) ≡ due c rows
     count_frames leaf [] [] signs = refl
     count_frames leaf [] (m ∷ ms) signs = absurd signs
     count_frames leaf (row ∷ rows) [] signs = absurd signs
@@ -50,7 +52,8 @@ module _ (config : Config) (c : ℕ) (early : nat_eq (place_of c) 4 ≡ false) w
         ap (λ frames. length (frames ++ frames_of config c rows ms)) (own_frame row (made.Sent f)) ∙ omega (arith, rest, one)
 
     -- each is signed with the next leaf
-    each_next : (leaf : ℕ) (rows : List Row) (ms : List Made) → SignsFrom keys.secret leaf c rows ms → AllByRecursion IsFrameMade ms
+    each_next : (leaf : ℕ) (rows : List InstanceView) (ms : List RoundStatement) → SignsFrom keys.secret leaf c rows ms
+        → AllByRecursion IsFrameMade ms
         → AreSignedFrom keys leaf (statements_in (frames_of config c rows ms))
     each_next leaf [] [] signs frames = tt
     each_next leaf [] (m ∷ ms) signs frames = absurd signs
@@ -68,17 +71,17 @@ module _ (config : Config) (c : ℕ) (early : nat_eq (place_of c) 4 ≡ false) w
 -- ---- at place 4
 
 -- nothing is chosen
-none_chosen : (row : Row) (c : ℕ) → nat_eq (place_of c) 4 ≡ true → chosen_statement row c ≡ None
+none_chosen : (row : InstanceView) (c : ℕ) → nat_eq (place_of c) release_place ≡ true → chosen_statement row c ≡ None
 unfolding chosen_statement
 none_chosen row c last =
     let place = eqb-true (place_of c) 4 last in
-    let first : nat_eq (place_of c) 1 ≡ false = ne_eqb (place_of c) 1 (λ e. omega (arith, e, place)) in
-    let second : nat_eq (place_of c) 2 ≡ false = ne_eqb (place_of c) 2 (λ e. omega (arith, e, place)) in
-    let third : nat_eq (place_of c) 3 ≡ false = ne_eqb (place_of c) 3 (λ e. omega (arith, e, place)) in
+    let first : nat_eq (place_of c) report_place ≡ false = ne_eqb (place_of c) 1 (λ e. omega (arith, e, place)) in
+    let second : nat_eq (place_of c) lock_place ≡ false = ne_eqb (place_of c) 2 (λ e. omega (arith, e, place)) in
+    let third : nat_eq (place_of c) ack_place ≡ false = ne_eqb (place_of c) 3 (λ e. omega (arith, e, place)) in
     rw (first, second, third) refl
 
 -- nothing is due
-none_due : (c : ℕ) (rows : List Row) → nat_eq (place_of c) 4 ≡ true → due c rows ≡ 0
+none_due : (c : ℕ) (rows : List InstanceView) → nat_eq (place_of c) release_place ≡ true → due c rows ≡ 0
 none_due c [] last = refl
 none_due c (row ∷ rows) last =
     let rest = none_due c rows last in
@@ -88,14 +91,14 @@ none_due c (row ∷ rows) last =
 -- ---- in any round
 
 -- the keys with as many leaves used
-with_used : (keys : Keys) (m n : ℕ) → m ≡ n → record keys { used = m } ≡ record keys { used = n }
+with_used : (keys : SignerView) (m n : ℕ) → m ≡ n → record keys { used = m } ≡ record keys { used = n }
 with_used keys m n same = λ i. record { secret = keys.secret; used = same i }
 
 -- a mute end uses no leaf
-pub mute_leaves : (held : Held) (keys : Keys) → UsesLeaves keys held.clock (end_reply held true (all_mute held.rows)) keys
+pub mute_leaves : (held : ReplicaStateView) (keys : SignerView) → UsesLeaves keys held.clock (end_reply held true (all_mute held.rows)) keys
 mute_leaves held keys =
     let c : ℕ = held.clock + 1 in
-    elim (cases_Bool (nat_eq (place_of c) 4)) [
+    elim (cases_Bool (nat_eq (place_of c) release_place)) [
       | inl last ↦ rw last refl
       | inr early ↦
           let none = no_frames held.config c early held.rows in
@@ -107,11 +110,12 @@ mute_leaves held keys =
     ]
 
 -- an end at which what is chosen is signed uses a leaf for each statement that is due
-pub signed_leaves : (held : Held) (keys : Keys) (ms : List Made) → SignsFrom keys.secret keys.used (held.clock + 1) held.rows ms → AllByRecursion IsFrameMade ms
+pub signed_leaves : (held : ReplicaStateView) (keys : SignerView) (ms : List RoundStatement)
+    → SignsFrom keys.secret keys.used (held.clock + 1) held.rows ms → AllByRecursion IsFrameMade ms
     → UsesLeaves keys held.clock (end_reply held false ms) (record keys { used = keys.used + due (held.clock + 1) held.rows })
 signed_leaves held keys ms signs frames =
     let c : ℕ = held.clock + 1 in
-    elim (cases_Bool (nat_eq (place_of c) 4)) [
+    elim (cases_Bool (nat_eq (place_of c) release_place)) [
       | inl last ↦
           let none = none_due c held.rows last in
           rw last (with_used keys (keys.used + due c held.rows) keys.used (omega (arith, none)))

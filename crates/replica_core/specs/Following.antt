@@ -1,28 +1,29 @@
--- Another replica's history is followed: which entry goes on with a lawful one, and what is known then.
+-- How a history is followed: which entries continue a replay, and the follower's state after them.
 use Rattle.std.specs.Prelude.{◌≡◌, ◌↔◌, Bool, true, IsTrue, List, [], ◌∷◌, ◌++◌}
 use Rattle.ledger_model.specs.declared.event.Event.{Event}
 use Rattle.ledger_model.specs.declared.history.Entry.{Entry}
 use Rattle.ledger_model.specs.declared.reply.Reply.{Reply}
 use Rattle.ledger_model.specs.Lawful.{Lawful, is_signed_reply}
-use Rattle.replica_core.specs.Holding.{Held, Matches}
+use Rattle.replica_core.specs.ReplicaStates.{ReplicaStateView, MatchesHistory}
 
--- what is kept of the entries that were followed, and whether one was refused
-pub record Followed : Type 0 where
-  pub held : Held
+-- the core state after the entries that were followed, and whether one was refused
+pub record FollowerView : Type 0 where
+  pub held : ReplicaStateView
   pub lost : Bool
 
--- the reply is lawful after these entries, and what it sends is signed
-pub record KeepsReplay (held : Held) (entries : List Entry) (event : Event) (reply : Reply) : Type 0 where
+-- the entry continues the replay: its reply is lawful after these entries, and what it sends is signed
+pub record KeepsReplay (held : ReplicaStateView) (entries : List Entry) (event : Event) (reply : Reply) : Type 0 where
   pub lawful : Lawful held.config held.ring held.id entries event reply
   pub signed : IsTrue (is_signed_reply held.ring reply)
 
--- after every history that is matched the entry is taken exactly where it keeps a replay one, which is matched then
-pub record IsFollowed (old : Held) (event : Event) (reply : Reply) (kept : Bool) (new : Held) : Type 0 where
-  pub exact : (entries : List Entry) → Matches old entries → kept ≡ true ↔ KeepsReplay old entries event reply
-  pub matches : kept ≡ true → (entries : List Entry) → Matches old entries → Matches new (entries ++ record { event = event; reply = reply } ∷ [])
+-- for every matched history, the entry is taken exactly if it continues the replay; the new state then matches the longer history
+pub record IsFollowed (old : ReplicaStateView) (event : Event) (reply : Reply) (kept : Bool) (new : ReplicaStateView) : Type 0 where
+  pub exact : (entries : List Entry) → MatchesHistory old entries → kept ≡ true ↔ KeepsReplay old entries event reply
+  pub matches : kept ≡ true → (entries : List Entry) → MatchesHistory old entries
+      → MatchesHistory new (entries ++ record { event = event; reply = reply } ∷ [])
 
--- it is of the same replica
-pub record IsSameHeld (old new : Held) : Type 0 where
+-- both states are of the same replica
+pub record IsSameReplicaState (old new : ReplicaStateView) : Type 0 where
   pub config : new.config ≡ old.config
   pub id : new.id ≡ old.id
   pub ring : new.ring ≡ old.ring

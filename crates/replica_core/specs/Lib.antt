@@ -1,11 +1,11 @@
-pub mod Holding
+pub mod ReplicaStates
 pub mod RoundEnds
 pub mod Steps
 pub mod ChosenEnds
-pub mod Replicas
+pub mod Cores
 pub mod Signing
 pub mod Sending
-pub mod Telling
+pub mod Facts
 pub mod Following
-pub mod ToldEnds
+pub mod ShownEnds
 pub mod Leaves

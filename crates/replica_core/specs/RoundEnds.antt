@@ -1,5 +1,6 @@
 -- What a round end makes and sends, over all open heights.
-use Rattle.std.specs.Prelude.{◌≡◌, ℕ, ◌+◌, ◌<◌, Bool, true, IsTrue, MatchBool, List, [], ◌∷◌, ◌++◌, map, Option, Some, None, is_some, Ok, if◌then◌else◌}
+use Rattle.std.specs.Prelude.{◌≡◌, ℕ, ◌+◌, ◌<◌, Bool, true, IsTrue, MatchBool, List, [], ◌∷◌, ◌++◌, map, Option, Some, None, is_some, Ok}
+use Rattle.std.specs.Prelude.{if◌then◌else◌}
 use Rattle.ledger_model.specs.Limits.{last_round}
 use Rattle.ledger_model.specs.declared.config.Config.{Config}
 use Rattle.ledger_model.specs.declared.event.Event.TheVariants as event
@@ -15,32 +16,32 @@ use Rattle.ledger_model.specs.Rules.{Ring}
 use Rattle.ledger_model.specs.Lawful.{LawfulRoundEnd, addressee_of, is_signed_reply}
 use Rattle.lms_tree.specs.Trees.{Secret}
 use Rattle.key_ring.specs.Signers.{signed_with}
-use Rattle.instance.specs.declared.made.Made.{Made}
-use Rattle.instance.specs.declared.made.Made.TheVariants as made
-use Rattle.instance.specs.Rows.{Row}
+use Rattle.instance.specs.declared.round_statement.RoundStatement.{RoundStatement}
+use Rattle.instance.specs.declared.round_statement.RoundStatement.TheVariants as made
+use Rattle.instance.specs.Instances.{InstanceView}
 use Rattle.instance.specs.Plans.{MaySend, chosen_statement, ended, is_mute_made, sent_in, IsOwnMade}
 use Rattle.instance.specs.Laws.{IsSignedMade, IsFrameMade}
 use Rattle.height_row.specs.Heights.{closed_each}
-use Rattle.replica_core.specs.Holding.{Held, IsHeld, Matches}
+use Rattle.replica_core.specs.ReplicaStates.{ReplicaStateView, IsWithinLimits, MatchesHistory}
 
--- ---- what is made
+-- ---- what the heights make
 
--- the statement of one's own that is sent, if one is
-abbrev pub statement_in : Made → Option Statement
+-- the replica's own statement that is sent, if one is
+abbrev pub statement_in : RoundStatement → Option Statement
 statement_in made.Mute = None
 statement_in made.Unsent = None
 statement_in (made.Sent f) = Some f.statement
 
--- what is made at one height as round c opens: nothing by a mute replica; by another one what may be sent there, signed
-pub record IsMadeAt (ring : Ring) (mute : Bool) (c : ℕ) (row : Row) (m : Made) : Type 0 where
+-- the height may make this as round c opens: nothing if the replica is mute; otherwise what may be sent there, signed
+pub record IsMadeAt (ring : Ring) (mute : Bool) (c : ℕ) (row : InstanceView) (m : RoundStatement) : Type 0 where
   pub silent : is_mute_made m ≡ mute
   pub may : MatchBool mute (Unit {0}) (MaySend row c (statement_in m))
   pub own : IsOwnMade row.id m
   pub signed : IsSignedMade ring m
   pub frame : IsFrameMade m
 
--- at each open height
-abbrev pub AreMade : Ring → Bool → ℕ → List Row → List Made → Type 0
+-- each open height may make its item
+abbrev pub AreMade : Ring → Bool → ℕ → List InstanceView → List RoundStatement → Type 0
 AreMade ring mute c [] [] = Unit {0}
 AreMade ring mute c (row ∷ rows) (m ∷ ms) = IsMadeAt ring mute c row m × AreMade ring mute c rows ms
 AreMade ring mute c [] (m ∷ ms) = ⊥
@@ -48,57 +49,58 @@ AreMade ring mute c (row ∷ rows) [] = ⊥
 
 -- ---- what is sent
 
--- a statement of one's own, to its addressee
+-- a statement of the replica's own, with its addressee
 abbrev pub sent_own : Config → SignedStatement → Sent
 sent_own config s = record { addressee = addressee_of config s.statement; frame = frame_bytes s }
 
--- a lock that is sent on, to all
+-- a lock that is sent on to all replicas
 abbrev pub sent_on : List ℕ → Sent
 sent_on frame = record { addressee = addressee.All; frame = frame }
 
 -- the frames of one height as round c opens
-abbrev pub frames_at : Config → ℕ → Row → Made → List Sent
+abbrev pub frames_at : Config → ℕ → InstanceView → RoundStatement → List Sent
 frames_at config c row m = map (sent_own config) (sent_in m) ++ map sent_on (ended row c).sends_on
 
--- those of all open heights, in order
-abbrev pub frames_of : Config → ℕ → List Row → List Made → List Sent
+-- the frames of all open heights, in order
+abbrev pub frames_of : Config → ℕ → List InstanceView → List RoundStatement → List Sent
 frames_of config c (row ∷ rows) (m ∷ ms) = frames_at config c row m ++ frames_of config c rows ms
 frames_of config c [] ms = []
 frames_of config c (row ∷ rows) [] = []
 
 -- ---- the end of a round
 
--- the answer to it
-abbrev pub round_ended : Held → Bool → List Made → RoundEnded
+-- the reply to the round end
+abbrev pub round_ended : ReplicaStateView → Bool → List RoundStatement → RoundEnded
 round_ended held mute ms = record { mute = mute; frames = frames_of held.config (held.clock + 1) held.rows ms }
 
--- what is kept then
-abbrev pub after_end : Held → Bool → List Made → Held
+-- the core state after the round end
+abbrev pub after_end : ReplicaStateView → Bool → List RoundStatement → ReplicaStateView
 after_end held mute ms = record held { rows = closed_each (held.clock + 1) held.rows ms; clock = held.clock + 1; mute = mute }
 
--- the end is lawful and signed after each history that is matched, and what is kept then matches the longer one
-pub record IsRoundEnd (held : Held) (mute : Bool) (ms : List Made) (entries : List Entry) : Type 0 where
+-- the round end is lawful and signed after the history, and the state after it matches the longer history
+pub record IsRoundEnd (held : ReplicaStateView) (mute : Bool) (ms : List RoundStatement) (entries : List Entry) : Type 0 where
   pub lawful : LawfulRoundEnd held.config held.id entries (round_ended held mute ms)
   pub signed : IsTrue (is_signed_reply held.ring (reply.RoundEnded (Ok (round_ended held mute ms))))
-  pub matches : Matches (after_end held mute ms) (entries ++ record { event = event.RoundEnd; reply = reply.RoundEnded (Ok (round_ended held mute ms)) } ∷ [])
+  pub matches : MatchesHistory (after_end held mute ms)
+      (entries ++ record { event = event.RoundEnd; reply = reply.RoundEnded (Ok (round_ended held mute ms)) } ∷ [])
 
--- whatever may be made at each open height makes it a lawful end
+-- if each open height makes what it may make, the end of the round is lawful
 abbrev pub RoundsEnd : Type 0
 RoundsEnd =
-    (held : Held) (mute : Bool) (ms : List Made) (entries : List Entry)
-    → IsHeld held → held.clock < last_round → Matches held entries → (held.mute ≡ true → mute ≡ true)
+    (held : ReplicaStateView) (mute : Bool) (ms : List RoundStatement) (entries : List Entry)
+    → IsWithinLimits held → held.clock < last_round → MatchesHistory held entries → (held.mute ≡ true → mute ≡ true)
     → AreMade held.ring mute (held.clock + 1) held.rows ms
-    → IsRoundEnd held mute ms entries × IsHeld (after_end held mute ms)
+    → IsRoundEnd held mute ms entries × IsWithinLimits (after_end held mute ms)
 
 -- ---- what a replica chooses
 
--- how many statements are due as round c opens
-abbrev pub due : ℕ → List Row → ℕ
+-- the number of statements that are due as round c opens
+abbrev pub due : ℕ → List InstanceView → ℕ
 due c [] = 0
 due c (row ∷ rows) = (if is_some (chosen_statement row c) then 1 else 0) + due c rows
 
--- each height makes what it chooses, signed with the leaves from this one on, in order
-abbrev pub SignsFrom : Secret → ℕ → ℕ → List Row → List Made → Type 0
+-- each height makes what it chooses, signed with the leaves from `leaf` on, in order
+abbrev pub SignsFrom : Secret → ℕ → ℕ → List InstanceView → List RoundStatement → Type 0
 SignsFrom secret leaf c [] [] = Unit {0}
 SignsFrom secret leaf c (row ∷ rows) (made.Unsent ∷ ms) = (chosen_statement row c ≡ None) × SignsFrom secret leaf c rows ms
 SignsFrom secret leaf c (row ∷ rows) (made.Sent f ∷ ms) =

@@ -1,5 +1,6 @@
--- One event at a replica: what is answered, and what is kept then.
-use Rattle.std.specs.Prelude.{◌≡◌, ℕ, ◌+◌, ◌==◌, IsTrue, MatchBool, List, [], ◌∷◌, ◌++◌, length, take, Option, Some, None, Result, Ok, Err, is_ok, if◌then◌else◌}
+-- One event at a replica: the reply, and the core state after it.
+use Rattle.std.specs.Prelude.{◌≡◌, ℕ, ◌+◌, ◌==◌, IsTrue, MatchBool, List, [], ◌∷◌, ◌++◌, length, take, Option, Some, None, Result, Ok, Err}
+use Rattle.std.specs.Prelude.{is_ok, if◌then◌else◌}
 use Rattle.std.specs.List.{filter_map}
 use Rattle.ledger_model.specs.Limits.{max_batch_len}
 use Rattle.ledger_model.specs.declared.event.Event.{Event}
@@ -12,7 +13,7 @@ use Rattle.ledger_model.specs.declared.reply.Reply.TheVariants as reply
 use Rattle.ledger_model.specs.declared.reply.SubmitRefusal.{SubmitRefusal}
 use Rattle.ledger_model.specs.declared.statement.SignedStatement.{SignedStatement}
 use Rattle.ledger_model.specs.Values.{Value}
-use Rattle.ledger_model.specs.Rounds.{place_of}
+use Rattle.ledger_model.specs.Rounds.{place_of, release_place}
 use Rattle.ledger_model.specs.Spelling.{statement_bytes}
 use Rattle.ledger_model.specs.Reading.{reading}
 use Rattle.ledger_model.specs.Applications.{run}
@@ -20,68 +21,71 @@ use Rattle.ledger_model.specs.Replies.{check_reply}
 use Rattle.ledger_model.specs.Pools.{submit_answer, left_after}
 use Rattle.ledger_model.specs.Commits.{block_of}
 use Rattle.ledger_model.specs.Lawful.{Lawful, is_signed_reply}
-use Rattle.key_ring.specs.Signers.{Keys, signed_with}
+use Rattle.key_ring.specs.Signers.{SignerView, signed_with}
 use Rattle.height_row.specs.Heights.{row_at, decided_in, open_answer}
-use Rattle.replica_core.specs.Holding.{Held, Matches}
+use Rattle.replica_core.specs.ReplicaStates.{ReplicaStateView, MatchesHistory}
 
--- after every history that is matched the reply is lawful and signed, and what is kept then matches that history with this entry
-abbrev pub IsStep : Held → Event → Reply → Held → Type 0
+-- for every history that the old state matches, the reply is lawful and signed, and the new state matches that history
+-- with this entry
+abbrev pub IsStep : ReplicaStateView → Event → Reply → ReplicaStateView → Type 0
 IsStep old event reply new =
-    (entries : List Entry) → Matches old entries
+    (entries : List Entry) → MatchesHistory old entries
     → Lawful old.config old.ring old.id entries event reply × IsTrue (is_signed_reply old.ring reply)
-    × Matches new (entries ++ record { event = event; reply = reply } ∷ [])
+    × MatchesHistory new (entries ++ record { event = event; reply = reply } ∷ [])
 
--- ---- what is answered, by what is kept
+-- ---- the replies, by the core state
 
--- to a transaction
-abbrev pub submit_held : Held → List ℕ → Result (Unit {0}) SubmitRefusal
+-- the reply to a submitted transaction
+abbrev pub submit_held : ReplicaStateView → List ℕ → Result (Unit {0}) SubmitRefusal
 submit_held held tx = submit_answer held.pool tx (check_reply held.config.kind held.commits tx)
 
--- the pool then
+-- the pool after that reply
 abbrev pub pool_with : Value → List ℕ → Result (Unit {0}) SubmitRefusal → Value
 pool_with pool tx answer = if is_ok answer then pool ++ tx ∷ [] else pool
 
--- the answer with this value
+-- the same answer, with this value if it is Ok
 abbrev pub with_value : {X F : Type 0} → Result (Unit {0}) F → X → Result X F
 with_value (Ok u) x = Ok x
 with_value (Err f) x = Err f
 
--- to opening a height
-abbrev pub propose_held : Held → ℕ → Result Value ProposeRefusal
+-- the reply to opening a height
+abbrev pub propose_held : ReplicaStateView → ℕ → Result Value ProposeRefusal
 propose_held held h = with_value (open_answer held.rows (length held.commits) h) (take max_batch_len held.pool)
 
--- what is decided at the height after the committed ones, if something is
-abbrev pub next_decided : Held → Option Value
+-- the batch that is decided for the height after the committed ones, if one is
+abbrev pub next_decided : ReplicaStateView → Option Value
 next_decided held = decided_in (row_at held.rows (length held.commits + 1))
 
--- to running the next block
-abbrev pub execute_held : Held → Result BlockResult NothingDecided
+-- the reply to running the next block
+abbrev pub execute_held : ReplicaStateView → Result BlockResult NothingDecided
 execute_held held = block_of held.config held.commits (next_decided held)
 
--- what is kept once the block of these transactions is run
-abbrev pub with_block : Held → Value → Held
+-- the state after the block of these transactions was run
+abbrev pub with_block : ReplicaStateView → Value → ReplicaStateView
 with_block held block = record held {
   commits = held.commits ++ block ∷ [];
   machine = run held.config.kind (held.commits ++ block ∷ []);
   pool = left_after block (check_reply held.config.kind (held.commits ++ block ∷ [])) held.pool;
 }
 
--- what is kept after running the next block, if there is one
-abbrev pub after_execute : Held → Option Value → Held
+-- the state after running the next block, if there is one
+abbrev pub after_execute : ReplicaStateView → Option Value → ReplicaStateView
 after_execute held None = held
 after_execute held (Some block) = with_block held block
 
--- ---- which leaves are used
+-- ---- the leaves that are used
 
--- each is signed with the leaves from this one on, in order
-abbrev pub AreSignedFrom : Keys → ℕ → List SignedStatement → Type 0
+-- each statement is signed with the leaves from `leaf` on, in order
+abbrev pub AreSignedFrom : SignerView → ℕ → List SignedStatement → Type 0
 AreSignedFrom keys leaf [] = Unit {0}
-AreSignedFrom keys leaf (s ∷ ss) = (s.signature ≡ signed_with keys.secret leaf (statement_bytes s.statement)) × AreSignedFrom keys (leaf + 1) ss
+AreSignedFrom keys leaf (s ∷ ss) =
+    (s.signature ≡ signed_with keys.secret leaf (statement_bytes s.statement)) × AreSignedFrom keys (leaf + 1) ss
 
--- a round end signs each new statement with the next leaf, in the order of the frames; locks that are sent on, in the fourth
--- round of a phase, cost none, and no other event does
-abbrev pub UsesLeaves : Keys → ℕ → Reply → Keys → Type 0
+-- A round end signs each new statement with the next leaf, in the order of the frames. Locks that are sent on, in the
+-- fourth round of a phase, use no leaf, and neither does any other event.
+abbrev pub UsesLeaves : SignerView → ℕ → Reply → SignerView → Type 0
 UsesLeaves old clock (reply.RoundEnded (Ok ended)) new =
-    MatchBool (place_of (clock + 1) == 4) (new ≡ old)
-    ((new ≡ record old { used = old.used + length ended.frames }) × AreSignedFrom old old.used (filter_map (λ f. reading f.frame) ended.frames))
+    MatchBool (place_of (clock + 1) == release_place) (new ≡ old)
+    ((new ≡ record old { used = old.used + length ended.frames })
+    × AreSignedFrom old old.used (filter_map (λ f. reading f.frame) ended.frames))
 UsesLeaves old clock _ new = new ≡ old

@@ -1,104 +1,104 @@
-//! Whether a reply is the one that is due.
+//! Whether another replica's reply is the one that is due.
 ghost use Rattle.std.specs.Prelude.{◌≡◌, ◌↔◌, true, Some};
 ghost use Rattle.ledger_model.specs.GrammarLaws.{IsBytes};
-ghost use Rattle.replica_core.specs.ToldEnds.{IsToldAlike, AreToldAlike};
+ghost use Rattle.replica_core.specs.ShownEnds.{IsShownAlike, AreShownAlike};
 
 use ledger_model::{
     Batch, BlockResult, Ignored, NotHeld, NothingDecided, ProposeRefusal, QueryAnswer, Sent,
     SubmitRefusal,
 };
 
-/// Whether both transactions were taken, or refused for one cause.
+/// Whether both replies take the transaction, or refuse it for the same cause.
 pub(crate) fn is_same_submitted(
     due: &Result<(), SubmitRefusal>,
-    told: &Result<(), SubmitRefusal>,
+    shown: &Result<(), SubmitRefusal>,
 ) -> bool
-    ensures { result ≡ true ↔ due.now ≡ told.now }
+    ensures { result ≡ true ↔ due.now ≡ shown.now }
 {
-    match (due, told) {
+    match (due, shown) {
         (Ok(()), Ok(())) => true,
         (Err(one), Err(other)) => one == other,
         _ => false,
     }
 }
 
-/// Whether both heights were opened with one batch, or refused for one cause.
+/// Whether both replies open the height with the same batch, or refuse it for the same cause.
 pub(crate) fn is_same_proposed(
     due: &Result<Batch, ProposeRefusal>,
-    told: &Result<Batch, ProposeRefusal>,
+    shown: &Result<Batch, ProposeRefusal>,
 ) -> bool
-    ensures { result ≡ true ↔ due.now ≡ told.now }
+    ensures { result ≡ true ↔ due.now ≡ shown.now }
 {
-    match (due, told) {
+    match (due, shown) {
         (Ok(one), Ok(other)) => one == other,
         (Err(one), Err(other)) => one == other,
         _ => false,
     }
 }
 
-/// Whether both frames were read, or ignored for one cause.
-pub(crate) fn is_same_delivered(due: &Result<(), Ignored>, told: &Result<(), Ignored>) -> bool
-    ensures { result ≡ true ↔ due.now ≡ told.now }
+/// Whether both replies read the frame, or ignore it for the same cause.
+pub(crate) fn is_same_delivered(due: &Result<(), Ignored>, shown: &Result<(), Ignored>) -> bool
+    ensures { result ≡ true ↔ due.now ≡ shown.now }
 {
-    match (due, told) {
+    match (due, shown) {
         (Ok(()), Ok(())) => true,
         (Err(one), Err(other)) => one == other,
         _ => false,
     }
 }
 
-/// Whether two blocks gave the same.
-fn is_same_block(due: &BlockResult, told: &BlockResult) -> bool
-    ensures { result ≡ true ↔ due.now ≡ told.now }
+/// Whether two results of a block are equal.
+fn is_same_block(due: &BlockResult, shown: &BlockResult) -> bool
+    ensures { result ≡ true ↔ due.now ≡ shown.now }
 {
-    due.height == told.height
-        && due.codes.as_slice() == told.codes.as_slice()
-        && due.hash == told.hash
+    due.height == shown.height
+        && due.codes.as_slice() == shown.codes.as_slice()
+        && due.hash == shown.hash
 }
 
-/// Whether both blocks were run and gave the same, or neither was decided.
+/// Whether both replies have the same result of a block, or both report that none is decided.
 pub(crate) fn is_same_executed(
     due: &Result<BlockResult, NothingDecided>,
-    told: &Result<BlockResult, NothingDecided>,
+    shown: &Result<BlockResult, NothingDecided>,
 ) -> bool
-    ensures { result ≡ true ↔ due.now ≡ told.now }
+    ensures { result ≡ true ↔ due.now ≡ shown.now }
 {
-    match (due, told) {
+    match (due, shown) {
         (Ok(one), Ok(other)) => is_same_block(one, other),
         (Err(_), Err(_)) => true,
         _ => false,
     }
 }
 
-/// Whether the application gave two answers alike.
-fn is_same_answer(due: &QueryAnswer, told: &QueryAnswer) -> bool
-    ensures { result ≡ true ↔ due.now ≡ told.now }
+/// Whether two answers of the application to a query are equal.
+fn is_same_answer(due: &QueryAnswer, shown: &QueryAnswer) -> bool
+    ensures { result ≡ true ↔ due.now ≡ shown.now }
 {
-    if due.height != told.height {
+    if due.height != shown.height {
         return false;
     }
-    match (&due.value, &told.value) {
+    match (&due.value, &shown.value) {
         (Some(one), Some(other)) => one.as_slice() == other.as_slice(),
         (None, None) => true,
         _ => false,
     }
 }
 
-/// Whether both queries were answered alike, or neither height is held.
+/// Whether both replies have the same answer to a query, or both report that the height is not held.
 pub(crate) fn is_same_queried(
     due: &Result<QueryAnswer, NotHeld>,
-    told: &Result<QueryAnswer, NotHeld>,
+    shown: &Result<QueryAnswer, NotHeld>,
 ) -> bool
-    ensures { result ≡ true ↔ due.now ≡ told.now }
+    ensures { result ≡ true ↔ due.now ≡ shown.now }
 {
-    match (due, told) {
+    match (due, shown) {
         (Ok(one), Ok(other)) => is_same_answer(one, other),
         (Err(_), Err(_)) => true,
         _ => false,
     }
 }
 
-/// All of the bytes. Each is one of a byte.
+/// The same bytes; its contract adds that each is a byte.
 fn whole(bytes: &[u8]) -> &[u8]
     ensures same { result.now ≡ bytes.now }
     ensures bytes { IsBytes result.now }
@@ -115,23 +115,23 @@ fn bytes_of(sent: &Sent) -> &[u8]
 }
 
 /// Whether the same bytes go to the same addressee.
-fn is_same_sent(due: &Sent, told: &Sent) -> bool
-    ensures same { result ≡ true → due.now ≡ told.now }
-    ensures only { IsToldAlike due.now told.now → result ≡ true }
+fn is_same_sent(due: &Sent, shown: &Sent) -> bool
+    ensures same { result ≡ true → due.now ≡ shown.now }
+    ensures only { IsShownAlike due.now shown.now → result ≡ true }
 {
-    due.addressee == told.addressee && bytes_of(due) == bytes_of(told)
+    due.addressee == shown.addressee && bytes_of(due) == bytes_of(shown)
 }
 
-/// Whether these are the same frames, in the same order.
-pub(crate) fn is_same_frames(due: &[Sent], told: &[Sent]) -> bool
-    ensures same { result ≡ true → due.now ≡ told.now }
-    ensures only { AreToldAlike due.now told.now → result ≡ true }
+/// Whether both lists have the same frames, in the same order.
+pub(crate) fn is_same_frames(due: &[Sent], shown: &[Sent]) -> bool
+    ensures same { result ≡ true → due.now ≡ shown.now }
+    ensures only { AreShownAlike due.now shown.now → result ≡ true }
 {
-    if due.len() != told.len() {
+    if due.len() != shown.len() {
         return false;
     }
     for (place, sent) in due.iter().enumerate() {
-        if !is_same_sent(sent, &told[place]) {
+        if !is_same_sent(sent, &shown[place]) {
             return false;
         }
     }

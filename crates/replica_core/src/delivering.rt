@@ -1,5 +1,5 @@
-//! Bytes come from the network.
-use crate::kept::Kept;
+//! Bytes arrive from the network.
+use crate::replica_state::ReplicaState;
 use abci::Application;
 use bytes::Bytes;
 use ledger_model::Ignored;
@@ -7,22 +7,22 @@ use signed_frames::Frame;
 use statements::DecodeFault;
 use std::alloc::{AllocError, Global};
 
-impl<A: Application> Kept<A> {
+impl<A: Application> ReplicaState<A> {
     ghost use Rattle.std.specs.Prelude.{◌≡◌, ◌<◌, ℕ, List, Some, is_some, true, Ok, Err, IfOk, IfErr, OnOk, OnErr};
     ghost use Rattle.ledger_model.specs.declared.event.Event.TheVariants as event;
     ghost use Rattle.ledger_model.specs.declared.reply.Reply.TheVariants as reply;
     ghost use Rattle.ledger_model.specs.Notes.{signer_of};
     ghost use Rattle.ledger_model.specs.Logs.{height_of};
     ghost use Rattle.ledger_model.specs.Reading.{reading};
-    ghost use Rattle.instance.specs.Rows.{Row};
+    ghost use Rattle.instance.specs.Instances.{InstanceView};
     ghost use Rattle.height_row.specs.Heights.{row_at};
     ghost use Rattle.replica_core.specs.Steps.{IsStep};
 
-    /// Why no open height is to judge the frame, if none is: its signer is no replica, or its height is not open.
+    /// Why no open height can judge the frame, if none can: the signer is not in the cluster, or the height is not open.
     fn find_place(&self, frame: &Frame) -> Result<(), Ignored>
         ensures signer { OnOk result (signer_of frame.now.statement < self.now.config.replicas) }
         ensures there { OnOk result (is_some (row_at self.now.rows (height_of frame.now.statement)) ≡ true) }
-        ensures own { OnOk result ((row : Row) → row_at self.now.rows (height_of frame.now.statement) ≡ Some row → row.config ≡ self.now.config) }
+        ensures own { OnOk result ((row : InstanceView) → row_at self.now.rows (height_of frame.now.statement) ≡ Some row → row.config ≡ self.now.config) }
         ensures step { IfErr result (λ cause. (bytes : List ℕ) → reading bytes ≡ Some frame.now
             → IsStep self.now (event.Deliver bytes) (reply.Delivered (Err cause)) self.now) }
     {
@@ -36,11 +36,11 @@ impl<A: Application> Kept<A> {
         }
     }
 
-    /// A frame of an open height comes, whose signer is a replica: it is read, or ignored, which changes nothing.
+    /// Reads or ignores a frame of an open height, whose signer is in the cluster. A frame that is ignored changes nothing.
     fn read(&mut self, alloc: Global, frame: Frame) -> Result<Result<(), Ignored>, AllocError>
         requires signer { signer_of frame.statement < self.old.config.replicas }
         requires there { is_some (row_at self.old.rows (height_of frame.statement)) ≡ true }
-        requires own { (row : Row) → row_at self.old.rows (height_of frame.statement) ≡ Some row → row.config ≡ self.old.config }
+        requires own { (row : InstanceView) → row_at self.old.rows (height_of frame.statement) ≡ Some row → row.config ≡ self.old.config }
         ensures step { IfOk result (λ r. (bytes : List ℕ) → reading bytes ≡ Some frame
             → IsStep self.old (event.Deliver bytes) (reply.Delivered r) self.new) }
         ensures rest { self.new ≡ record self.old { rows = self.new.rows } }
@@ -50,7 +50,7 @@ impl<A: Application> Kept<A> {
         self.rows.read(alloc, &self.ring, frame, self.clock)
     }
 
-    /// A frame comes: it is read, or ignored by the first cause that fits, which changes nothing.
+    /// Reads or ignores a frame; it is ignored with the first cause that applies, and then changes nothing.
     fn take(&mut self, alloc: Global, frame: Frame) -> Result<Result<(), Ignored>, AllocError>
         ensures step { IfOk result (λ r. (bytes : List ℕ) → reading bytes ≡ Some frame
             → IsStep self.old (event.Deliver bytes) (reply.Delivered r) self.new) }
@@ -64,8 +64,8 @@ impl<A: Application> Kept<A> {
         }
     }
 
-    /// Bytes come from the network: a frame that fits is read, and all else is ignored by the first cause that fits, which
-    /// changes nothing.
+    /// Takes bytes from the network. Reads a frame that fits; ignores everything else with the first cause that
+    /// applies, and then changes nothing.
     pub(crate) fn deliver(
         &mut self,
         alloc: Global,

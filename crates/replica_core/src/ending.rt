@@ -1,40 +1,40 @@
 //! A round ends, and the next one opens.
 use crate::closings::make_nothing;
-use crate::kept::Kept;
 use crate::replica::Core;
+use crate::replica_state::ReplicaState;
 use crate::sending::frames_to_send;
 use crate::signing::{count_due, make_all};
 use abci::Application;
-use height_row::Closing;
-use instance::{Ending, Plan};
+use height_row::RoundClosing;
+use instance::{RoundEffects, RoundPlan};
 use ledger_model::{LastRound, RoundEnded, SentFrames};
 use std::alloc::{AllocError, Global};
 
-impl<A: Application> Kept<A> {
+impl<A: Application> ReplicaState<A> {
     ghost use Rattle.std.specs.Prelude.{◌≡◌, ◌<◌, ◌+◌, map, false, true, IfOk, IfSome, OnErr};
     ghost use Rattle.std.specs.List.{AllByRecursion};
     ghost use Rattle.ledger_model.specs.Limits.{last_round};
     ghost use Rattle.ledger_model.specs.Spelling.{IsStatement};
     ghost use Rattle.instance.specs.Plans.{ended, IsOwnMade};
     ghost use Rattle.height_row.specs.Heights.{plan_of};
-    ghost use Rattle.replica_core.specs.Holding.{IsHeld};
+    ghost use Rattle.replica_core.specs.ReplicaStates.{IsWithinLimits};
     ghost use Rattle.replica_core.specs.RoundEnds.{round_ended, after_end};
 
-    /// Prepares the end of the open round at each open height, and chooses no statement.
-    pub(crate) fn prepare_ends(&self, alloc: Global) -> Result<Vec<Ending>, AllocError>
+    /// Prepares the end of the open round at each open height, without choosing a statement.
+    pub(crate) fn prepare_ends(&self, alloc: Global) -> Result<Vec<RoundEffects>, AllocError>
         requires clock { self.now.clock < last_round }
         ensures endings { IfOk result (λ endings. endings.items ≡ map (λ row. ended row (self.now.clock + 1)) self.now.rows) }
-        ensures held { IsHeld self.now }
+        ensures held { IsWithinLimits self.now }
     {
         self.rows.prepare_ends(alloc, self.clock)
     }
 
-    /// Plans the end of the open round at each open height: chooses what to send, and prepares all else.
-    pub(crate) fn plan_ends(&self, alloc: Global) -> Result<Vec<Plan>, AllocError>
+    /// Plans the end of the open round at each open height: chooses the statement to send, and prepares the rest.
+    pub(crate) fn plan_ends(&self, alloc: Global) -> Result<Vec<RoundPlan>, AllocError>
         requires clock { self.now.clock < last_round }
         ensures plans { IfOk result (λ plans. plans.items ≡ map (plan_of (self.now.clock + 1)) self.now.rows) }
         ensures spelled { IfOk result (λ plans. AllByRecursion (λ plan. IfSome plan.statement IsStatement) plans.items) }
-        ensures held { IsHeld self.now }
+        ensures held { IsWithinLimits self.now }
     {
         self.rows.plan_ends(alloc, self.clock)
     }
@@ -42,14 +42,14 @@ impl<A: Application> Kept<A> {
     /// Whether the replica is mute.
     pub(crate) fn is_mute(&self) -> bool
         ensures mute { result ≡ self.now.mute }
-        ensures held { IsHeld self.now }
+        ensures held { IsWithinLimits self.now }
     {
-        // The open heights are read for the proof: they ascend, within their limits.
+        // This call shows the proof that the open heights ascend and are within their limits.
         let _ = self.rows.instances();
         self.mute
     }
 
-    /// Whether no round is left.
+    /// Whether the last round is open.
     pub(crate) fn is_over(&self) -> bool
         ensures over { result ≡ true → self.now.clock ≡ last_round }
         ensures goes_on { result ≡ false → self.now.clock < last_round }
@@ -57,12 +57,12 @@ impl<A: Application> Kept<A> {
         self.clock >= LastRound::NUMBER
     }
 
-    /// Opens the next round, where this is done at each open height: the frames to send, and what is kept then. All memory is
-    /// taken before anything changes.
+    /// Opens the next round, which closes the open round of each height as given. Returns the frames to send. Allocates
+    /// all memory before anything changes.
     pub(crate) fn open_round(
         &mut self,
         alloc: Global,
-        closings: Vec<Closing>,
+        closings: Vec<RoundClosing>,
         mute: bool,
     ) -> Result<RoundEnded, AllocError>
         requires clock { self.old.clock < last_round }
@@ -92,11 +92,11 @@ impl<A: Application> Core<A> {
     ghost use Rattle.ledger_model.specs.Spelling.{IsStatement};
     ghost use Rattle.key_ring.specs.Signers.{leaves_of};
     ghost use Rattle.height_row.specs.Heights.{plan_of};
-    ghost use Rattle.replica_core.specs.Holding.{IsHeld};
+    ghost use Rattle.replica_core.specs.ReplicaStates.{IsWithinLimits};
     ghost use Rattle.replica_core.specs.Steps.{IsStep, UsesLeaves};
-    ghost use Rattle.replica_core.specs.Replicas.{IsSameReplica, due_then, is_mute_next, is_mute_then};
+    ghost use Rattle.replica_core.specs.Cores.{IsSameReplica, due_then, is_mute_next, is_mute_then, leaves_due, signed_next};
 
-    /// A round ends that is not the last one, and leaves the replica mute: it signs nothing, and so chooses no statement.
+    /// Ends a round that is not the last one, and leaves the replica mute: it signs nothing, and so chooses no statement.
     fn end_mute(&mut self, alloc: Global) -> Result<RoundEnded, AllocError>
         requires clock { self.old.held.clock < last_round }
         ensures step { IfOk result (λ r. IsStep self.old.held event.RoundEnd (reply.RoundEnded (Ok r)) self.new.held) }
@@ -111,10 +111,10 @@ impl<A: Application> Core<A> {
         self.kept.open_round(alloc, closings, true)
     }
 
-    /// A round ends at which the replica signs what is due, for which it has the leaves.
-    fn end_signed(&mut self, alloc: Global, plans: Vec<Plan>) -> Result<RoundEnded, AllocError>
+    /// Ends a round at which the replica signs each statement that is due, for which it has the leaves.
+    fn end_signed(&mut self, alloc: Global, plans: Vec<RoundPlan>) -> Result<RoundEnded, AllocError>
         requires clock { self.old.held.clock < last_round }
-        requires held { IsHeld self.old.held }
+        requires held { IsWithinLimits self.old.held }
         requires plans { plans.items ≡ map (plan_of (self.old.held.clock + 1)) self.old.held.rows }
         requires spelled { AllByRecursion (λ plan. IfSome plan.statement IsStatement) plans.items }
         requires loud { self.old.held.mute ≡ false }
@@ -131,18 +131,18 @@ impl<A: Application> Core<A> {
         self.kept.open_round(alloc, closings, false)
     }
 
-    /// What is to be done at each open height as the next round opens.
-    fn plan_ends(&self, alloc: Global) -> Result<Vec<Plan>, AllocError>
+    /// The plan for each open height as the next round opens.
+    fn plan_ends(&self, alloc: Global) -> Result<Vec<RoundPlan>, AllocError>
         requires clock { self.now.held.clock < last_round }
         ensures plans { IfOk result (λ plans. plans.items ≡ map (plan_of (self.now.held.clock + 1)) self.now.held.rows) }
         ensures spelled { IfOk result (λ plans. AllByRecursion (λ plan. IfSome plan.statement IsStatement) plans.items) }
-        ensures held { IsHeld self.now.held }
+        ensures held { IsWithinLimits self.now.held }
     {
         self.kept.plan_ends(alloc)
     }
 
-    /// Whether fewer leaves are left than the plans have statements.
-    fn lacks_leaves(&self, plans: &[Plan]) -> bool
+    /// Whether fewer leaves are left than there are statements in the plans.
+    fn lacks_leaves(&self, plans: &[RoundPlan]) -> bool
         requires plans { plans.now ≡ map (plan_of (self.now.held.clock + 1)) self.now.held.rows }
         ensures lacks { result ≡ nat_lt (leaves_of self.now.keys.secret) (self.now.keys.used + due_then self.now) }
         ensures leaves { result ≡ false → self.now.keys.used + due_then self.now ≤ leaves_of self.now.keys.secret }
@@ -151,7 +151,7 @@ impl<A: Application> Core<A> {
         left < count_due(plans)
     }
 
-    /// Whether no round is left.
+    /// Whether the last round is open.
     fn is_over(&self) -> bool
         ensures over { result ≡ true → self.now.held.clock ≡ last_round }
         ensures goes_on { result ≡ false → self.now.held.clock < last_round }
@@ -159,7 +159,8 @@ impl<A: Application> Core<A> {
         self.kept.is_over()
     }
 
-    /// A round ends that is not the last one, at a replica that is not mute: it signs what is due, or becomes mute.
+    /// Ends a round that is not the last one, at a replica that is not mute: it signs the statements that are due, or
+    /// becomes mute if too few leaves are left.
     fn end_loud(&mut self, alloc: Global) -> Result<RoundEnded, AllocError>
         requires clock { self.old.held.clock < last_round }
         requires loud { self.old.held.mute ≡ false }
@@ -168,7 +169,8 @@ impl<A: Application> Core<A> {
         ensures mute { IfOk result (λ _. self.new.held.mute ≡ is_mute_next self.old) }
         ensures err { OnErr result (self.new ≡ record self.old { keys = self.new.keys }) }
         ensures least { self.old.keys.used ≤ self.new.keys.used }
-        ensures most { self.new.keys.used ≤ self.old.keys.used + due_then self.old }
+        // A replica that is mute then uses none.
+        ensures most { self.new.keys.used ≤ self.old.keys.used + signed_next self.old }
         ensures same { IsSameReplica self.old self.new }
     {
         let plans = self.plan_ends(alloc)?;
@@ -179,7 +181,7 @@ impl<A: Application> Core<A> {
         }
     }
 
-    /// A round ends that is not the last one: the replica signs what is due, or is mute from then on.
+    /// Ends a round that is not the last one: the replica signs the statements that are due, or is mute from now on.
     fn end_open(&mut self, alloc: Global) -> Result<RoundEnded, AllocError>
         requires clock { self.old.held.clock < last_round }
         ensures step { IfOk result (λ r. IsStep self.old.held event.RoundEnd (reply.RoundEnded (Ok r)) self.new.held) }
@@ -187,7 +189,8 @@ impl<A: Application> Core<A> {
         ensures mute { IfOk result (λ _. self.new.held.mute ≡ is_mute_next self.old) }
         ensures err { OnErr result (self.new ≡ record self.old { keys = self.new.keys }) }
         ensures least { self.old.keys.used ≤ self.new.keys.used }
-        ensures most { self.new.keys.used ≤ self.old.keys.used + due_then self.old }
+        // A replica that is mute then uses none.
+        ensures most { self.new.keys.used ≤ self.old.keys.used + signed_next self.old }
         ensures same { IsSameReplica self.old self.new }
     {
         if self.is_mute() {
@@ -197,7 +200,7 @@ impl<A: Application> Core<A> {
         }
     }
 
-    /// A round ends: what is due is signed, or the replica becomes mute, and the next round opens.
+    /// Ends a round and opens the next one: the replica signs the statements that are due, or is mute from now on.
     pub(crate) fn end_round(
         &mut self,
         alloc: Global,
@@ -207,7 +210,7 @@ impl<A: Application> Core<A> {
         ensures mute { IfOk result (λ _. self.new.held.mute ≡ is_mute_then self.old event.RoundEnd) }
         ensures err { OnErr result (self.new ≡ record self.old { keys = self.new.keys }) }
         ensures least { self.old.keys.used ≤ self.new.keys.used }
-        ensures most { self.new.keys.used ≤ self.old.keys.used + due_then self.old }
+        ensures most { self.new.keys.used ≤ self.old.keys.used + leaves_due self.old event.RoundEnd }
         ensures same { IsSameReplica self.old self.new }
     {
         if self.is_over() {

@@ -1,18 +1,18 @@
-//! The next block is run.
-use crate::kept::Kept;
+//! The application runs the next decided block.
+use crate::replica_state::ReplicaState;
 use abci::Application;
 use ledger_model::{Batch, BlockResult, Height, NothingDecided};
 use std::alloc::{AllocError, Global};
 
-impl<A: Application> Kept<A> {
+impl<A: Application> ReplicaState<A> {
     ghost use Rattle.std.specs.Prelude.{◌≡◌, ◌<◌, length, IfOk, IfSome, OnErr};
     ghost use Rattle.std.specs.Option.{option_copied};
     ghost use Rattle.ledger_model.specs.Limits.{max_height};
     ghost use Rattle.ledger_model.specs.Replies.{block_reply};
-    ghost use Rattle.replica_core.specs.Holding.{IsOneCluster};
+    ghost use Rattle.replica_core.specs.ReplicaStates.{IsOneCluster};
     ghost use Rattle.replica_core.specs.Steps.{next_decided, execute_held, with_block, after_execute};
 
-    /// What is decided at the height after the committed ones, if something is.
+    /// The batch that is decided for the height after the committed ones, if one is.
     fn next_decided(&self) -> Option<&Batch>
         ensures decided { option_copied result ≡ next_decided self.now }
         ensures one { IsOneCluster self.now }
@@ -21,7 +21,7 @@ impl<A: Application> Kept<A> {
         self.rows.decided_at(Height::new(self.height() + 1))
     }
 
-    /// Runs a block. The room for it is made first; want of memory in the application leaves what was committed.
+    /// Runs a block. Reserves the room for it first, so that allocation failure in the application leaves what was committed.
     fn run(&mut self, alloc: Global, block: Batch) -> Result<BlockResult, AllocError>
         requires low { length self.old.commits < max_height }
         ensures answer { IfOk result (λ r. r ≡ block_reply self.old.config.kind self.old.commits block) }

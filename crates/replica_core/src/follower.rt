@@ -1,5 +1,5 @@
 //! Another replica's history, followed entry by entry without its secret key.
-use crate::kept::Kept;
+use crate::replica_state::ReplicaState;
 use abci::Application;
 use key_ring::KeyRing;
 use ledger_model::{Batch, Config, Event, Height, ReplicaId, Reply};
@@ -7,18 +7,18 @@ use std::alloc::{AllocError, Global};
 use std::hash::RandomState;
 use std::marker::Model;
 
-/// Follows the history of a replica: of each entry it tells whether its reply is lawful and signed after those before. It has no
-/// secret key, and stores no history. Contracts see a `Followed`.
+/// Follows the history of a replica: for each entry it returns whether the reply is lawful after the entries before it, and
+/// everything that it sends is signed. It needs no secret key, and stores no history. Contracts see a `FollowerView`.
 #[derive(Drop)]
 pub struct Follower<A: Application> {
-    kept: Kept<A>,
+    kept: ReplicaState<A>,
     lost: bool,
 }
 
 impl<A: Application> Model for Follower<A> {
-    ghost use Rattle.replica_core.specs.Following.{Followed};
+    ghost use Rattle.replica_core.specs.Following.{FollowerView};
 
-    ghost Value = { Followed };
+    ghost Value = { FollowerView };
 
     ghost view = { λ f. record { held = f.kept; lost = f.lost } };
 }
@@ -29,13 +29,13 @@ impl<A: Application> Follower<A> {
     ghost use Rattle.ledger_model.specs.declared.history.Entry.{Entry};
     ghost use Rattle.ledger_model.specs.Limits.{max_height, last_round};
     ghost use Rattle.ledger_model.specs.Applications.{run};
-    ghost use Rattle.replica_core.specs.Holding.{nothing_held, Matches};
-    ghost use Rattle.replica_core.specs.Telling.{block_at};
-    ghost use Rattle.replica_core.specs.Following.{KeepsReplay, IsSameHeld};
+    ghost use Rattle.replica_core.specs.ReplicaStates.{new_replica_state, MatchesHistory};
+    ghost use Rattle.replica_core.specs.Facts.{block_at};
+    ghost use Rattle.replica_core.specs.Following.{KeepsReplay, IsSameReplicaState};
 
-    /// Before the first entry of the history of replica `id`. The ring has the keys that signatures are verified under; the
-    /// application is in its opening state, of the configured kind. The random keys are those of the pool's hashes. The only
-    /// error is want of memory.
+    /// A follower of the history of replica `id`, before its first entry. The ring has the keys that signatures are
+    /// verified under. The application must be in its opening state, of the configured kind. The pool hashes with the
+    /// random keys. The only error is allocation failure.
     pub fn new(
         alloc: Global,
         config: Config,
@@ -46,37 +46,37 @@ impl<A: Application> Follower<A> {
     ) -> Result<Self, AllocError>
         requires member { id < config.replicas }
         requires opening { A.machine app ≡ run config.kind [] }
-        ensures new { IfOk result (λ follower. follower ≡ record { held = nothing_held config id ring; lost = false }) }
+        ensures new { IfOk result (λ follower. follower ≡ record { held = new_replica_state config id ring; lost = false }) }
         // It matches the empty history.
-        ensures matches { IfOk result (λ follower. Matches follower.held []) }
+        ensures matches { IfOk result (λ follower. MatchesHistory follower.held []) }
     {
         Ok(Follower {
-            kept: Kept::new(alloc, config, id, ring, app, random)?,
+            kept: ReplicaState::new(alloc, config, id, ring, app, random)?,
             lost: false,
         })
     }
 
-    /// Takes the next entry, and tells whether its reply is lawful after those before, and all that it sends is signed. An entry
-    /// that is refused is the last that counts: each later one is refused too.
+    /// Takes the next entry. Returns whether its reply is lawful after the entries before it, and everything that it sends is
+    /// signed. After the first entry for which that is false, the follower is lost and returns false for every later entry.
     ///
-    /// The only error is want of memory, and it changes nothing: the entry may be taken again.
+    /// The only error is allocation failure. It changes nothing, so the caller may pass the entry again.
     pub fn follow(
         &mut self,
         alloc: Global,
         event: &Event,
         reply: &Reply,
     ) -> Result<bool, AllocError>
-        // It is true exactly where the entry keeps a history that it matches a replay one.
-        ensures exact { IfOk result (λ kept. self.old.lost ≡ false → (entries : List Entry) → Matches self.old.held entries
+        // It returns true exactly if the entry continues each replay that the follower matches.
+        ensures exact { IfOk result (λ kept. self.old.lost ≡ false → (entries : List Entry) → MatchesHistory self.old.held entries
             → kept ≡ true ↔ KeepsReplay self.old.held entries event.now reply.now) }
-        // It then matches the history with this entry.
-        ensures matches { IfOk result (λ kept. kept ≡ true → (entries : List Entry) → Matches self.old.held entries
-            → Matches self.new.held (entries ++ record { event = event.now; reply = reply.now } ∷ [])) }
+        // The follower then matches the history with this entry appended.
+        ensures matches { IfOk result (λ kept. kept ≡ true → (entries : List Entry) → MatchesHistory self.old.held entries
+            → MatchesHistory self.new.held (entries ++ record { event = event.now; reply = reply.now } ∷ [])) }
         ensures lost { IfOk result (λ kept. self.new.lost ≡ not kept) }
-        // What is lost stays so.
+        // A follower that is lost stays lost.
         ensures for_good { IfOk result (λ kept. self.old.lost ≡ true → kept ≡ false) }
         ensures err { OnErr result (self.new ≡ self.old) }
-        ensures same { IsSameHeld self.old.held self.new.held }
+        ensures same { IsSameReplicaState self.old.held self.new.held }
     {
         if self.lost {
             return Ok(false);
@@ -86,14 +86,14 @@ impl<A: Application> Follower<A> {
         Ok(kept)
     }
 
-    /// Whether an entry was refused.
+    /// Whether the follower is lost: some entry was refused.
     pub fn is_lost(&self) -> bool
         ensures { result ≡ self.now.lost }
     {
         self.lost
     }
 
-    /// The number of the open round: 0 before the first.
+    /// The number of the open round, 0 before the first.
     pub fn clock(&self) -> u32
         ensures clock { result ≡ self.now.held.clock }
         ensures early { result ≤ last_round }
@@ -101,7 +101,7 @@ impl<A: Application> Follower<A> {
         self.kept.clock()
     }
 
-    /// How many blocks are committed.
+    /// The number of committed blocks.
     pub fn height(&self) -> u32
         ensures height { result ≡ length self.now.held.commits }
         ensures most { result ≤ max_height }
@@ -109,7 +109,7 @@ impl<A: Application> Follower<A> {
         self.kept.height()
     }
 
-    /// The committed batch of a height: none at 0, and none above the committed height.
+    /// The committed batch of a height; `None` at height 0 and above the committed height.
     pub fn block(&self, height: Height) -> Option<&Batch>
         ensures { option_copied result ≡ block_at self.now.held.commits height }
     {

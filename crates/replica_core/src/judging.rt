@@ -1,11 +1,11 @@
-//! Whether what another replica's frames tell may be made, at each open height.
-use crate::kept::Kept;
+//! Whether another replica may make what its frames contain, at each open height.
+use crate::replica_state::ReplicaState;
 use abci::Application;
-use height_row::Closing;
-use instance::{Instance, Made};
+use height_row::RoundClosing;
+use instance::{Instance, RoundStatement};
 use signed_frames::Frame;
 
-impl<A: Application> Kept<A> {
+impl<A: Application> ReplicaState<A> {
     ghost use Rattle.std.specs.Prelude.{◌≡◌, ◌<◌, ◌+◌, List, length, map, true, false, IsTrue};
     ghost use Rattle.std.specs.List.{AllByRecursion};
     ghost use Rattle.ledger_model.specs.declared.history.Entry.{Entry};
@@ -13,8 +13,8 @@ impl<A: Application> Kept<A> {
     ghost use Rattle.ledger_model.specs.Notes.{Note, clock_of};
     ghost use Rattle.ledger_model.specs.Rules.{is_signed};
     ghost use Rattle.instance.specs.Plans.{IsOwnMade};
-    ghost use Rattle.instance.specs.Matching.{Matches as MatchesAt};
-    ghost use Rattle.replica_core.specs.Holding.{Matches, IsHeld};
+    ghost use Rattle.instance.specs.Matching.{MatchesLog};
+    ghost use Rattle.replica_core.specs.ReplicaStates.{MatchesHistory, IsWithinLimits};
     ghost use Rattle.replica_core.specs.RoundEnds.{IsMadeAt, AreMade};
 
     /// Whether the frame's signature verifies under its signer's key.
@@ -26,34 +26,34 @@ impl<A: Application> Kept<A> {
             .verifies(signer, frame.statement_bytes(), frame.signature())
     }
 
-    /// Whether a replica that is not mute may make this at an open height as the next round opens.
-    fn may_make(&self, instance: &Instance, made: &Made) -> bool
+    /// Whether a replica that is not mute may make this at the open height as the next round opens.
+    fn may_make(&self, instance: &Instance, made: &RoundStatement) -> bool
         requires clock { self.now.clock < last_round }
-        // By every log that the height matches.
-        ensures may { (log : List Note) → MatchesAt self.now.ring instance.now log → clock_of log ≡ self.now.clock → result ≡ true
+        // This holds for every log that the height matches.
+        ensures may { (log : List Note) → MatchesLog self.now.ring instance.now log → clock_of log ≡ self.now.clock → result ≡ true
             → IsMadeAt self.now.ring false (self.now.clock + 1) instance.now made.now }
-        ensures only { (log : List Note) → MatchesAt self.now.ring instance.now log → clock_of log ≡ self.now.clock
+        ensures only { (log : List Note) → MatchesLog self.now.ring instance.now log → clock_of log ≡ self.now.clock
             → IsMadeAt self.now.ring false (self.now.clock + 1) instance.now made.now → result ≡ true }
         ensures own { result ≡ true → IsOwnMade instance.now.id made.now }
     {
         match made {
-            Made::Mute => false,
-            Made::Unsent => instance.may_make(self.clock, None),
-            Made::Sent(own) => {
+            RoundStatement::Mute => false,
+            RoundStatement::Unsent => instance.may_make(self.clock, None),
+            RoundStatement::Sent(own) => {
                 let frame = own.frame();
                 instance.may_make(self.clock, Some(frame.statement())) && self.is_signed(frame)
             }
         }
     }
 
-    /// Whether it may make all this, one at each open height, in order.
-    pub(crate) fn may_make_all(&self, closings: &[Closing]) -> bool
+    /// Whether the replica may make all this, one item for each open height, in order of heights.
+    pub(crate) fn may_make_all(&self, closings: &[RoundClosing]) -> bool
         requires clock { self.now.clock < last_round }
         requires count { length closings.now ≡ length self.now.rows }
-        // By every history that is matched.
-        ensures may { (entries : List Entry) → Matches self.now entries → result ≡ true
+        // This holds for every history that the core state matches.
+        ensures may { (entries : List Entry) → MatchesHistory self.now entries → result ≡ true
             → AreMade self.now.ring false (self.now.clock + 1) self.now.rows (map (λ c. c.made) closings.now) }
-        ensures only { (entries : List Entry) → Matches self.now entries
+        ensures only { (entries : List Entry) → MatchesHistory self.now entries
             → AreMade self.now.ring false (self.now.clock + 1) self.now.rows (map (λ c. c.made) closings.now) → result ≡ true }
         ensures own { result ≡ true → AllByRecursion (λ c. IsOwnMade self.now.id c.made) closings.now }
     {

@@ -1,11 +1,11 @@
-//! All that a replica keeps of its history, and the one step that changes it: one event, one lawful reply.
+//! The core of a replica, and the one step that changes it: one event, one lawful reply.
 //!
-//! A [`Core`] holds the open heights, the pool, the application and what was committed to it, the open round, and the replica's
-//! keys; it stores no history. `specs/Holding` says when what is held matches a history, and [`Core::step`] that it then
-//! matches the history with one entry more.
+//! A [`Core`] has the open heights, the pool, the application and the blocks committed to it, the open round, and the
+//! replica's keys. It stores no history. `specs/ReplicaStates` defines when this state matches a history.
+//! [`Core::step`] ensures that the state then matches the history with one more entry.
 //!
-//! A [`Follower`] takes the history of another replica, without its secret key: of each entry it tells whether it keeps the
-//! history a replay.
+//! A [`Follower`] takes the history of another replica, entry by entry and without its secret key, and returns for each
+//! entry whether it continues the replay.
 #![tactic(auto)]
 
 mod closings;
@@ -13,18 +13,18 @@ mod comparing;
 mod delivering;
 mod ending;
 mod executing;
+mod facts;
 mod follower;
 mod following;
 mod judging;
-mod kept;
 mod proposing;
 mod querying;
 mod replica;
+mod replica_state;
 mod sending;
+mod shown_frames;
 mod signing;
 mod submitting;
-mod telling;
-mod told_frames;
 
 pub use follower::Follower;
 pub use replica::Core;

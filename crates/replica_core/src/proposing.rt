@@ -1,19 +1,19 @@
-//! A height is opened.
-use crate::kept::Kept;
+//! The replica opens a height.
+use crate::replica_state::ReplicaState;
 use abci::Application;
 use ledger_model::{Batch, Height, ProposeRefusal};
 use std::alloc::{AllocError, Global};
 
-impl<A: Application> Kept<A> {
+impl<A: Application> ReplicaState<A> {
     ghost use Rattle.std.specs.Prelude.{◌≡◌, ◌≤◌, ◌∷◌, ◌++◌, ℕ, List, [], Some, true, IfOk, is_some, OnOk, OnErr};
     ghost use Rattle.ledger_model.specs.Notes.{Note, Proposed};
     ghost use Rattle.ledger_model.specs.Rules.{Ring};
-    ghost use Rattle.instance.specs.Rows.{Row};
-    ghost use Rattle.instance.specs.Matching.{Matches as MatchesAt, only_rounds};
+    ghost use Rattle.instance.specs.Instances.{InstanceView};
+    ghost use Rattle.instance.specs.Matching.{MatchesLog, only_rounds};
     ghost use Rattle.height_row.specs.Heights.{row_at, AreApart};
     ghost use Rattle.replica_core.specs.Steps.{propose_held};
 
-    /// Opens a height with the first transactions of the pool, which stay in it.
+    /// Opens a height with the first transactions of the pool, at most 16, which stay in the pool.
     pub(crate) fn propose(
         &mut self,
         alloc: Global,
@@ -21,9 +21,9 @@ impl<A: Application> Kept<A> {
     ) -> Result<Result<Batch, ProposeRefusal>, AllocError>
         ensures answer { IfOk result (λ r. r ≡ propose_held self.old height) }
         ensures rest { self.new ≡ record self.old { rows = self.new.rows } }
-        // The height is open then, and matches every log in which rounds were opened, and then the height.
-        ensures opened { IfOk result (λ r. IfOk r (λ batch. (row : Row) → row_at self.new.rows height ≡ Some row
-            → (ring : Ring) (log : List Note) → only_rounds log ≡ true → MatchesAt ring row (log ++ Proposed batch ∷ []))) }
+        // The height is open then, and matches every log of opened rounds that ends with this proposal.
+        ensures opened { IfOk result (λ r. IfOk r (λ batch. (row : InstanceView) → row_at self.new.rows height ≡ Some row
+            → (ring : Ring) (log : List Note) → only_rounds log ≡ true → MatchesLog ring row (log ++ Proposed batch ∷ []))) }
         ensures there { IfOk result (λ r. OnOk r (is_some (row_at self.new.rows height) ≡ true)) }
         ensures apart { AreApart height self.old.rows self.new.rows }
         ensures refused { IfOk result (λ r. OnErr r (self.new ≡ self.old)) }

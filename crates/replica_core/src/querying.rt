@@ -1,14 +1,14 @@
-//! The application is asked.
-use crate::kept::Kept;
+//! The replica answers a query.
+use crate::replica_state::ReplicaState;
 use abci::{Application, QueryFault};
 use ledger_model::{NotHeld, QueryAnswer};
 use std::alloc::AllocError;
 
-impl<A: Application> Kept<A> {
+impl<A: Application> ReplicaState<A> {
     ghost use Rattle.std.specs.Prelude.{◌≡◌, IfOk};
     ghost use Rattle.ledger_model.specs.Replies.{query_reply};
 
-    /// What the committed state holds under a key, at height 0 or the committed one. It changes nothing.
+    /// The value under a key in the committed state. The height must be 0 or the committed height. Changes nothing.
     pub(crate) fn query(
         &self,
         key: &[u8],

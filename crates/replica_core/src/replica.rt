@@ -1,5 +1,5 @@
-//! The core of a replica: what it keeps of its history, and the keys that it signs with.
-use crate::kept::Kept;
+//! The core of a replica: what it derives from its history, and the keys that it signs with.
+use crate::replica_state::ReplicaState;
 use abci::Application;
 use key_ring::{KeyRing, Signer};
 use ledger_model::{Config, Event, ReplicaId, Reply};
@@ -7,19 +7,19 @@ use std::alloc::{AllocError, Global};
 use std::hash::RandomState;
 use std::marker::Model;
 
-/// All that a replica keeps of its history, and its keys. It stores no history. Contracts see a `Replica`.
+/// The core of a replica: what it derives from its history, and its keys. It stores no history. Contracts see a `CoreView`.
 #[derive(Drop)]
 pub struct Core<A: Application> {
-    pub(crate) kept: Kept<A>,
+    pub(crate) kept: ReplicaState<A>,
     pub(crate) signer: Signer,
 }
 
 impl<A: Application> Model for Core<A> {
     ghost use Rattle.std.specs.Prelude.{◌≡◌, slice_get, Some};
     ghost use Rattle.key_ring.specs.Signers.{key_of};
-    ghost use Rattle.replica_core.specs.Replicas.{Replica};
+    ghost use Rattle.replica_core.specs.Cores.{CoreView};
 
-    ghost Value = { Replica };
+    ghost Value = { CoreView };
 
     ghost view = { λ c. record { held = c.kept; keys = c.signer } };
 
@@ -32,12 +32,12 @@ impl<A: Application> Core<A> {
     ghost use Rattle.ledger_model.specs.Limits.{max_height, last_round};
     ghost use Rattle.ledger_model.specs.Applications.{run};
     ghost use Rattle.key_ring.specs.Signers.{key_of, leaves_of};
-    ghost use Rattle.replica_core.specs.Holding.{nothing_held, Matches};
+    ghost use Rattle.replica_core.specs.ReplicaStates.{new_replica_state, MatchesHistory};
     ghost use Rattle.replica_core.specs.Steps.{IsStep, UsesLeaves};
-    ghost use Rattle.replica_core.specs.Replicas.{Replica, IsSameReplica, leaves_due, is_mute_then};
+    ghost use Rattle.replica_core.specs.Cores.{CoreView, IsSameReplica, leaves_due, is_mute_then};
 
-    /// Before the first event. The application is in its opening state, of the configured kind; the ring has the replica's own
-    /// key at its number. The random keys are those of the pool's hashes. The only error is want of memory.
+    /// A core before the first event. The application must be in its opening state, of the configured kind, and the ring must
+    /// have the replica's own key at its number. The pool hashes with the random keys. The only error is allocation failure.
     pub fn new(
         alloc: Global,
         config: Config,
@@ -50,25 +50,27 @@ impl<A: Application> Core<A> {
         requires member { id < config.replicas }
         requires own_key { slice_get ring id ≡ Some (key_of signer.secret) }
         requires opening { A.machine app ≡ run config.kind [] }
-        ensures new { IfOk result (λ core. core ≡ record { held = nothing_held config id ring; keys = signer }) }
+        ensures new { IfOk result (λ core. core ≡ record { held = new_replica_state config id ring; keys = signer }) }
         // It matches the empty history.
-        ensures matches { IfOk result (λ core. Matches core.held []) }
+        ensures matches { IfOk result (λ core. MatchesHistory core.held []) }
     {
         Ok(Core {
-            kept: Kept::new(alloc, config, id, ring, app, random)?,
+            kept: ReplicaState::new(alloc, config, id, ring, app, random)?,
             signer,
         })
     }
 
-    /// Takes one event, and answers it.
+    /// Takes one event, and returns the reply.
     ///
-    /// The only error is want of memory. It changes nothing but that leaves may be used, by a round end alone.
+    /// The only error is want of memory. It changes nothing but that leaves may be used, by a round end alone, where the replica
+    /// is not mute then.
     pub fn step(&mut self, alloc: Global, event: &Event) -> Result<Reply, AllocError>
-        // After every history that it matches the reply is lawful and signed, and it then matches that history with this entry.
+        // After every history that the core matches, the reply is lawful and signed, and the core then matches the
+        // history with this entry.
         ensures step { IfOk result (λ reply. IsStep self.old.held event.now reply self.new.held) }
-        // Which leaves sign, in which order.
+        // Which leaves sign the statements, in which order.
         ensures leaves { IfOk result (λ reply. UsesLeaves self.old.keys self.old.held.clock reply self.new.keys) }
-        // It is mute where it was, and once fewer leaves are left than a round end has new statements to sign.
+        // The core is mute if it was before, or if a round end had more statements to sign than leaves were left.
         ensures mute { IfOk result (λ _. self.new.held.mute ≡ is_mute_then self.old event.now) }
         ensures err { OnErr result (self.new ≡ record self.old { keys = self.new.keys }) }
         ensures least { self.old.keys.used ≤ self.new.keys.used }

@@ -1,16 +1,16 @@
-//! The frames that are sent as a round opens.
+//! The frames that a replica sends as a round opens.
 ghost use Rattle.std.specs.Prelude.{◌≡◌, ◌++◌, IfOk, OnOk};
 ghost use Rattle.std.specs.List.{flat_map};
 ghost use Rattle.ledger_model.specs.Lawful.{addressee_of};
 ghost use Rattle.replica_core.specs.RoundEnds.{sent_own};
 ghost use Rattle.replica_core.specs.Sending.{frames_in};
 
-use height_row::Closing;
-use instance::{Made, OwnFrame};
+use height_row::RoundClosing;
+use instance::{OwnFrame, RoundStatement};
 use ledger_model::{Addressee, Config, Sent, Statement};
 use std::alloc::{AllocError, Global};
 
-/// To whom a statement goes: an acknowledgement to the owner of its phase, and all else to all.
+/// To whom a statement goes: an acknowledgement to the owner of its phase, every other statement to all replicas.
 fn addressee_of(config: &Config, statement: &Statement) -> Addressee
     ensures { result ≡ addressee_of config.now statement.now }
 {
@@ -20,7 +20,7 @@ fn addressee_of(config: &Config, statement: &Statement) -> Addressee
     }
 }
 
-/// A statement of one's own, to its addressee.
+/// A statement of the replica's own, with its addressee.
 fn sent_own(config: &Config, own: &OwnFrame) -> Result<Sent, AllocError>
     ensures { IfOk result (λ sent. sent ≡ sent_own config.now own.now) }
 {
@@ -31,11 +31,15 @@ fn sent_own(config: &Config, own: &OwnFrame) -> Result<Sent, AllocError>
     })
 }
 
-/// The frames of one height, behind those of the lower ones.
-fn push_frames(sent: &mut Vec<Sent>, config: &Config, closing: &Closing) -> Result<(), AllocError>
+/// Appends the frames of one height to those of the lower heights.
+fn push_frames(
+    sent: &mut Vec<Sent>,
+    config: &Config,
+    closing: &RoundClosing,
+) -> Result<(), AllocError>
     ensures { OnOk result (sent.new.items ≡ sent.old.items ++ frames_in config.now closing.now) }
 {
-    if let Made::Sent(own) = &closing.made {
+    if let RoundStatement::Sent(own) = &closing.made {
         sent.push(sent_own(config, own)?)?;
     }
     for frame in closing.ending.sends_on() {
@@ -47,11 +51,11 @@ fn push_frames(sent: &mut Vec<Sent>, config: &Config, closing: &Closing) -> Resu
     Ok(())
 }
 
-/// The frames of all heights, in order: of each its own statement, and then the locks that it sends on.
+/// The frames of all heights, in order: for each height first its own statement, and then the locks that it sends on.
 pub(crate) fn frames_to_send(
     alloc: Global,
     config: &Config,
-    closings: &[Closing],
+    closings: &[RoundClosing],
 ) -> Result<Vec<Sent>, AllocError>
     ensures { IfOk result (λ sent. sent.items ≡ flat_map (frames_in config.now) closings.now) }
 {

@@ -1,4 +1,4 @@
-//! The statements that are due as a round opens, signed.
+//! Signs the statements that are due as a round opens.
 ghost use Rattle.std.specs.Prelude.{◌≡◌, ◌+◌, ◌<◌, ◌≤◌, ◌∷◌, [], length, true, map, IfOk, IfSome};
 ghost use Rattle.std.specs.List.{AllByRecursion};
 ghost use Rattle.ledger_model.specs.Limits.{max_signature_len};
@@ -9,32 +9,32 @@ ghost use Rattle.instance.specs.Laws.{IsFrameMade};
 ghost use Rattle.replica_core.specs.Signing.{due_at, due_in, plan_spelled, SignsPlans};
 ghost use Rattle.replica_core.specs.ChosenEnds.{IsVerifiedMade};
 
-use height_row::Closing;
-use instance::{Ending, Made, OwnFrame, Plan};
+use height_row::RoundClosing;
+use instance::{OwnFrame, RoundEffects, RoundPlan, RoundStatement};
 use key_ring::{SignFault, Signer};
 use signed_frames::UnsignedFrame;
 use std::alloc::{AllocError, Global};
 
-/// What is to be done at one open height, with its statement spelled.
+/// The plan for one open height, with its statement encoded.
 #[derive(Drop)]
 struct Spelled {
     statement: Option<UnsignedFrame>,
-    ending: Ending,
+    ending: RoundEffects,
 }
 
-/// How many statements are due. No more than there are plans, so that the number fits.
-pub(crate) fn count_due(plans: &[Plan]) -> usize
+/// The number of statements that are due.
+pub(crate) fn count_due(plans: &[RoundPlan]) -> usize
     ensures { result ≡ due_in plans.now }
 {
     plans.iter().filter(|plan| plan.statement.is_some()).count()
 }
 
-/// The plan with its statement spelled.
-fn spell(alloc: Global, plan: Plan) -> Result<Spelled, AllocError>
+/// The plan with its statement encoded.
+fn spell(alloc: Global, plan: RoundPlan) -> Result<Spelled, AllocError>
     requires { IfSome plan.statement IsStatement }
     ensures { IfOk result (λ spelled. plan_spelled spelled ≡ plan) }
 {
-    let Plan { statement, ending } = plan;
+    let RoundPlan { statement, ending } = plan;
     let statement = match statement {
         Some(statement) => Some(UnsignedFrame::new(alloc, statement)?),
         None => None,
@@ -42,8 +42,8 @@ fn spell(alloc: Global, plan: Plan) -> Result<Spelled, AllocError>
     Ok(Spelled { statement, ending })
 }
 
-/// The plans with their statements spelled, in order.
-fn spell_all(alloc: Global, plans: Vec<Plan>) -> Result<Vec<Spelled>, AllocError>
+/// The plans with their statements encoded, in order.
+fn spell_all(alloc: Global, plans: Vec<RoundPlan>) -> Result<Vec<Spelled>, AllocError>
     requires { AllByRecursion (λ plan. IfSome plan.statement IsStatement) plans.items }
     ensures { IfOk result (λ spelled. map plan_spelled spelled.items ≡ plans.items) }
 {
@@ -54,7 +54,7 @@ fn spell_all(alloc: Global, plans: Vec<Plan>) -> Result<Vec<Spelled>, AllocError
     Ok(spelled)
 }
 
-/// The statement's signature by the next leaf, which is used then, with or without memory.
+/// The statement's signature by the next leaf. That leaf is used afterwards, even if memory runs out.
 fn sign(alloc: Global, signer: &mut Signer, unsigned: &UnsignedFrame) -> Result<Vec<u8>, AllocError>
     requires leaf { signer.old.used < leaves_of signer.old.secret }
     ensures signature { IfOk result (λ signature. signature.items ≡ signed_with signer.old.secret signer.old.used (statement_bytes unsigned.now)) }
@@ -69,7 +69,7 @@ fn sign(alloc: Global, signer: &mut Signer, unsigned: &UnsignedFrame) -> Result<
     }
 }
 
-/// The statement signed with the next leaf, with room for what is kept of it. The leaf is used then, with or without memory.
+/// The statement signed with the next leaf, and the room to keep it. That leaf is used afterwards, even if memory runs out.
 fn signed(
     alloc: Global,
     signer: &mut Signer,
@@ -84,13 +84,13 @@ fn signed(
 {
     let signature = sign(alloc, signer, &unsigned)?;
     let frame = unsigned.with_signature(&signature)?;
-    // The frame shows that it can be spelled.
+    // This call shows the proof that the frame can be encoded.
     let _ = frame.statement();
     OwnFrame::new(alloc, frame)
 }
 
-/// What is done at one height: its statement is signed with the next leaf, if it has one.
-fn make(alloc: Global, signer: &mut Signer, spelled: Spelled) -> Result<Closing, AllocError>
+/// How one height closes its round: its statement, if it has one, is signed with the next leaf.
+fn make(alloc: Global, signer: &mut Signer, spelled: Spelled) -> Result<RoundClosing, AllocError>
     requires leaf { signer.old.used + due_at (plan_spelled spelled) ≤ leaves_of signer.old.secret }
     ensures ending { IfOk result (λ closing. closing.ending ≡ spelled.ending) }
     ensures signs { IfOk result (λ closing. SignsPlans signer.old.secret signer.old.used (plan_spelled spelled ∷ []) (closing.made ∷ [])) }
@@ -100,27 +100,27 @@ fn make(alloc: Global, signer: &mut Signer, spelled: Spelled) -> Result<Closing,
 {
     let Spelled { statement, ending } = spelled;
     let made = match statement {
-        Some(unsigned) => Made::Sent(signed(alloc, signer, unsigned)?),
-        None => Made::Unsent,
+        Some(unsigned) => RoundStatement::Sent(signed(alloc, signer, unsigned)?),
+        None => RoundStatement::Unsent,
     };
-    Ok(Closing { ending, made })
+    Ok(RoundClosing { ending, made })
 }
 
-/// What is done at each height, in order: each statement that is due is signed with the next leaf. All are spelled before the
-/// first is signed. Where memory runs out, leaves may be used for nothing.
+/// How each height closes its round, in order of heights: each statement that is due is signed with the next leaf.
+/// Encodes all statements before it signs the first. If memory runs out, some leaves may be used without a statement.
 pub(crate) fn make_all(
     alloc: Global,
     signer: &mut Signer,
-    plans: Vec<Plan>,
-) -> Result<Vec<Closing>, AllocError>
+    plans: Vec<RoundPlan>,
+) -> Result<Vec<RoundClosing>, AllocError>
     requires spelled { AllByRecursion (λ plan. IfSome plan.statement IsStatement) plans.items }
     requires leaves { signer.old.used + due_in plans.items ≤ leaves_of signer.old.secret }
     ensures endings { IfOk result (λ closings. map (λ c. c.ending) closings.items ≡ map (λ plan. plan.ending) plans.items) }
-    // Each is its height's statement, signed.
+    // Each height sends the statement of its plan, signed.
     ensures signs { IfOk result (λ closings. SignsPlans signer.old.secret signer.old.used plans.items (map (λ c. c.made) closings.items)) }
     ensures verified { IfOk result (λ closings. AllByRecursion (λ c. IsVerifiedMade (key_of signer.old.secret) c.made) closings.items) }
     ensures frames { IfOk result (λ closings. AllByRecursion (λ c. IsFrameMade c.made) closings.items) }
-    // One leaf is used for each.
+    // Each statement uses one leaf.
     ensures used { IfOk result (λ _. signer.new ≡ record signer.old { used = signer.old.used + due_in plans.items }) }
     ensures secret { signer.new.secret ≡ signer.old.secret }
     ensures least { signer.old.used ≤ signer.new.used }

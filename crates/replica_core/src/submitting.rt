@@ -1,15 +1,15 @@
-//! A transaction is handed in.
-use crate::kept::Kept;
+//! A client submits a transaction.
+use crate::replica_state::ReplicaState;
 use abci::Application;
 use batch_pool::SubmitFault;
 use ledger_model::SubmitRefusal;
 use std::alloc::AllocError;
 
-impl<A: Application> Kept<A> {
+impl<A: Application> ReplicaState<A> {
     ghost use Rattle.std.specs.Prelude.{◌≡◌, IfOk, OnErr};
     ghost use Rattle.replica_core.specs.Steps.{submit_held, pool_with};
 
-    /// A transaction is handed in: it waits, or is refused.
+    /// Takes a submitted transaction into the pool, or refuses it.
     pub(crate) fn submit(&mut self, bytes: &[u8]) -> Result<Result<(), SubmitRefusal>, AllocError>
         ensures answer { IfOk result (λ r. r ≡ submit_held self.old bytes.now) }
         ensures after { IfOk result (λ r. self.new ≡ record self.old { pool = pool_with self.old.pool bytes.now r }) }

@@ -1,4 +1,4 @@
-//! Replies that are changed in one place.
+//! Changes replies in one place.
 use crate::ending_changes::changed_end;
 use bytes::Bytes;
 use ledger_model::{
@@ -10,21 +10,21 @@ use std::alloc::{AllocError, Global};
 /// Where a reply is changed.
 #[derive(Clone, Copy)]
 pub(crate) enum Change {
-    /// It is refused in place of done, or done in place of refused.
+    /// Whether it is a refusal: a refusal replaces a result, or a result replaces a refusal.
     Outcome,
     /// The cause, or the code of the first transaction.
     Cause,
-    /// The height, or whom the first frame goes to.
+    /// The height, or the addressee of the first frame.
     Number,
-    /// The byte at this place of the first frame, or the hash, the value or the batch.
+    /// The byte at this index of the first frame; or the hash, the value or the batch.
     Byte(usize),
-    /// A frame or a code fewer.
+    /// One frame or one code fewer.
     Fewer,
-    /// A frame or a code more.
+    /// One frame or one code more.
     More,
 }
 
-/// A batch of no transaction.
+/// A batch without transactions.
 fn no_transactions(alloc: Global) -> Batch {
     match Batch::new(Vec::new(alloc)) {
         Ok(batch) => batch,
@@ -67,7 +67,7 @@ fn changed_propose(
         (Change::Outcome, Err(_)) => Ok(no_transactions(alloc)),
         (Change::Cause, Err(ProposeRefusal::Closed)) => Err(ProposeRefusal::TooFar),
         (Change::Cause, Err(_)) => Err(ProposeRefusal::Closed),
-        // None of its transactions, where it has some.
+        // The batch without transactions replaces one that has some.
         (Change::Byte(0), Ok(batch)) if !batch.transactions().is_empty() => {
             Ok(no_transactions(alloc))
         }
@@ -95,14 +95,14 @@ fn changed_codes(
     Ok(Some(Codes::new(others)))
 }
 
-/// The same hash, but for the byte at this place.
+/// The hash with the byte at this index changed.
 fn changed_hash(hash: &[u8; 32], at: usize) -> [u8; 32] {
     let mut other = *hash;
     other[at % 32] ^= 1;
     other
 }
 
-/// The block with its codes changed so.
+/// The block with its codes changed.
 fn with_changed_codes(
     alloc: Global,
     block: &BlockResult,
@@ -152,7 +152,7 @@ fn changed_execute(
     }
 }
 
-/// The value with another first byte, or none in place of an empty one, and an empty one in place of none.
+/// The value with another first byte; no value instead of an empty one, and an empty value instead of none.
 fn changed_value(alloc: Global, value: &Option<Bytes>) -> Result<Option<Bytes>, AllocError> {
     let Some(bytes) = value else {
         return Ok(Some(Bytes::from_static(b"")));
@@ -213,7 +213,7 @@ fn changed_round_end(
     }
 }
 
-/// The reply, changed so; none where it has nothing of the kind.
+/// The changed reply; `None` if the reply has nothing of the kind.
 pub(crate) fn changed(
     alloc: Global,
     reply: &Reply,

@@ -1,10 +1,10 @@
-//! Round ends that are changed: their frames, and whether the replica is mute.
+//! Changes round ends: their frames, and whether the replica is mute.
 use crate::changing::Change;
 use bytes::Bytes;
 use ledger_model::{Addressee, ReplicaId, Reply, RoundEnded, Sent, SentFrames};
 use std::alloc::{AllocError, Global};
 
-/// To another: all but one in place of all, and all in place of one.
+/// Another addressee: one replica instead of all, and all instead of one.
 fn changed_addressee(addressee: Addressee) -> Addressee {
     match addressee {
         Addressee::All => Addressee::One(ReplicaId::new(0)),
@@ -12,7 +12,7 @@ fn changed_addressee(addressee: Addressee) -> Addressee {
     }
 }
 
-/// The same bytes, but for the one at this place, if there is one.
+/// The bytes with the one at this index changed, if there is one.
 fn changed_bytes(alloc: Global, bytes: &[u8], at: usize) -> Result<Option<Bytes>, AllocError> {
     let mut other = bytes.to_vec(alloc)?;
     let Some(byte) = other.get_mut(at) else {
@@ -22,7 +22,7 @@ fn changed_bytes(alloc: Global, bytes: &[u8], at: usize) -> Result<Option<Bytes>
     Ok(Some(Bytes::from_vec(other)?))
 }
 
-/// The frame, changed so.
+/// The changed frame, if there is such a change.
 fn changed_frame(alloc: Global, sent: &Sent, change: Change) -> Result<Option<Sent>, AllocError> {
     match change {
         Change::Number => Ok(Some(Sent {
@@ -40,7 +40,7 @@ fn changed_frame(alloc: Global, sent: &Sent, change: Change) -> Result<Option<Se
     }
 }
 
-/// Adds copies of these frames.
+/// Appends copies of these frames.
 fn add_copies(others: &mut Vec<Sent>, frames: &[Sent]) -> Result<(), AllocError> {
     for sent in frames {
         others.push(sent.copy()?)?;
@@ -48,7 +48,7 @@ fn add_copies(others: &mut Vec<Sent>, frames: &[Sent]) -> Result<(), AllocError>
     Ok(())
 }
 
-/// Adds the frame, changed so. It tells whether there is such a change.
+/// Appends the changed frame. Returns whether there is such a change.
 fn add_changed_frame(
     others: &mut Vec<Sent>,
     alloc: Global,
@@ -64,7 +64,7 @@ fn add_changed_frame(
     }
 }
 
-/// Adds an empty frame to all.
+/// Appends an empty frame to all replicas.
 fn add_empty_frame(others: &mut Vec<Sent>) -> Result<(), AllocError> {
     Ok(others.push(Sent {
         addressee: Addressee::All,
@@ -72,7 +72,7 @@ fn add_empty_frame(others: &mut Vec<Sent>) -> Result<(), AllocError> {
     })?)
 }
 
-/// Adds the frames, changed so. It tells whether there is such a change.
+/// Appends the changed frames. Returns whether there is such a change.
 fn add_changed(
     others: &mut Vec<Sent>,
     alloc: Global,
@@ -93,7 +93,7 @@ fn add_changed(
     Ok(is_changed)
 }
 
-/// The reply of the round end, with its frames changed so.
+/// The reply of the round end, with its frames changed.
 pub(crate) fn changed_end(
     alloc: Global,
     end: &RoundEnded,
@@ -109,7 +109,7 @@ pub(crate) fn changed_end(
     }))))
 }
 
-/// The round end with the other mute flag.
+/// The round end with the mute flag inverted.
 pub(crate) fn with_other_flag(reply: &Reply) -> Result<Option<Reply>, AllocError> {
     match reply {
         Reply::RoundEnded(Ok(end)) => Ok(Some(Reply::RoundEnded(Ok(RoundEnded {

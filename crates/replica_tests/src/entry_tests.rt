@@ -1,4 +1,4 @@
-//! Which entries the history of the plain run begins with.
+//! The first entries of the history of the plain run.
 use crate::fault::Fault;
 use crate::playing::history_in;
 use crate::scripts::PLAIN;
@@ -21,13 +21,13 @@ enum Kind {
 
 use Kind::{Ack, Lock, Other, Propose, Report, RoundEnd, Submit};
 
-/// The beginning of the history of replica 0.
+/// The kinds of the first entries of replica 0's history.
 const BEGINNING: [Kind; 17] = [
     Submit, Propose, RoundEnd, Report, Report, Report, RoundEnd, Lock, RoundEnd, RoundEnd, Lock,
     Lock, Lock, RoundEnd, Report, Report, Report,
 ];
 
-/// The kind of a delivered frame: the byte behind its length.
+/// The kind of a delivered frame, by the byte after the frame's length.
 fn kind_of_frame(bytes: &[u8]) -> Kind {
     match bytes.get(4) {
         Some(1) => Report,
@@ -47,26 +47,26 @@ fn kind_of(event: &Event) -> Kind {
     }
 }
 
-/// Whether the entries begin so.
-fn begins_so(entries: &[Entry]) -> bool {
+/// The index of the first entry that is of another kind or missing, if there is one.
+fn first_other(entries: &[Entry]) -> Option<usize> {
     for (at, kind) in BEGINNING.iter().enumerate() {
         match entries.get(at) {
             Some(entry) if kind_of(&entry.event) == *kind => {}
-            _ => return false,
+            _ => return Some(at),
         }
     }
-    true
+    None
 }
 
-/// Whether the history of replica 0 in the plain run does.
-fn plain_run_begins_so(alloc: Global, random: RandomState) -> Result<bool, Fault> {
-    let told = history_in(alloc, random, PLAIN, 0)?;
-    Ok(begins_so(told.history.entries.as_slice()))
+/// The same for the history of replica 0 in the plain run.
+fn first_other_of_plain_run(alloc: Global, random: RandomState) -> Result<Option<usize>, Fault> {
+    let snapshot = history_in(alloc, random, PLAIN, 0)?;
+    Ok(first_other(snapshot.history.entries.as_slice()))
 }
 
 #[test]
 fn the_plain_run_begins_so(rt: HostRuntime) -> Result<(), Fail> {
     let random = RandomState::new(&rt)?;
-    assert!(rt; plain_run_begins_so(rt.alloc(), random)?);
+    assert_eq!(rt; first_other_of_plain_run(rt.alloc(), random)?, None);
     Ok(())
 }

@@ -1,4 +1,4 @@
-//! Why there is nothing to compare.
+//! Why a test can't compare.
 use adversary_net::WorldFault;
 use key_ring::SignFault;
 use ledger_model::ConfigFault;
@@ -6,20 +6,20 @@ use locked_replica::ApplyFault;
 use scenario_texts::TextFault;
 use std::alloc::AllocError;
 
-/// Why there is nothing to compare.
+/// Why a test can't compare.
 #[derive(Clone, Copy, Debug)]
 pub(crate) enum Fault {
     NoMemory,
     /// The text is no scenario.
     Text(TextFault),
-    /// There is no such cluster.
+    /// No cluster has this size.
     Config(ConfigFault),
     World(WorldFault),
-    /// The replica lies, or the cluster has none of the number.
+    /// The replica lies, or is not in the cluster.
     NoHistory,
-    /// A command printed other lines than it was to.
+    /// A command printed other lines than expected.
     OtherLines,
-    /// A follower refused an entry that it was to take.
+    /// A follower refused an entry that it should have taken.
     EntryRefused,
     /// The replica sent no such frame.
     NoFrame,

@@ -1,4 +1,4 @@
-//! Histories that are followed, as numbers with little to say.
+//! Follows histories, with functions that ensure little.
 ghost use Rattle.std.specs.Prelude.{◌≡◌, []};
 ghost use Rattle.ledger_model.specs.Applications.{run};
 
@@ -11,19 +11,19 @@ use replica_core::Follower;
 use std::alloc::{AllocError, Global};
 use std::hash::RandomState;
 
-/// An entry of a history, with those before it and behind it.
+/// An entry of a history, with the entries before it and after it.
 #[derive(Clone, Copy)]
-pub(crate) struct Place<'a> {
+pub(crate) struct EntryContext<'a> {
     pub(crate) before: &'a [Entry],
     pub(crate) entry: &'a Entry,
     pub(crate) later: &'a [Entry],
 }
 
-/// The entry of this number, if there is one.
-pub(crate) fn place_in(told: &Snapshot, at: usize) -> Option<Place<'_>> {
+/// The entry with this index, if there is one.
+pub(crate) fn place_in(told: &Snapshot, at: usize) -> Option<EntryContext<'_>> {
     let entries = told.history.entries.as_slice();
     match (entries.get(..at), entries.get(at..)) {
-        (Some(before), Some([entry, later @ ..])) => Some(Place {
+        (Some(before), Some([entry, later @ ..])) => Some(EntryContext {
             before,
             entry,
             later,

@@ -1,4 +1,4 @@
-//! Each history of the worked runs is followed to its end, and at each entry a reply that is changed is refused.
+//! Followers follow each history of the worked runs to its end, and refuse a changed reply at each entry.
 use crate::fault::Fault;
 use crate::following::is_followed;
 use crate::playing::{history_of, played};
@@ -14,7 +14,7 @@ use std::alloc::Global;
 use std::hash::RandomState;
 use std::test::Fail;
 
-/// How many entries a history has, if a follower takes them all.
+/// The number of entries of a history, if a follower takes them all.
 fn len_followed(alloc: Global, random: RandomState, told: &Snapshot) -> Result<usize, Fault> {
     if is_followed(alloc, random, told)? {
         Ok(told.history.entries.as_slice().len())
@@ -23,7 +23,7 @@ fn len_followed(alloc: Global, random: RandomState, told: &Snapshot) -> Result<u
     }
 }
 
-/// How many entries the replica's history has, if a follower takes them all: none of a liar.
+/// The number of entries of the replica's history, if a follower takes them all; 0 for a liar.
 fn len_of_replica(
     alloc: Global,
     random: RandomState,
@@ -37,7 +37,7 @@ fn len_of_replica(
     }
 }
 
-/// How many entries all histories have, if followers take them all.
+/// The number of entries of all histories, if followers take them all.
 fn len_of_all(
     alloc: Global,
     random: RandomState,
@@ -50,7 +50,7 @@ fn len_of_all(
     Ok(all)
 }
 
-/// Whether a follower refuses each changed reply of the replica's.
+/// Whether a follower refuses each changed reply of the replica.
 fn is_exact(
     alloc: Global,
     random: RandomState,
@@ -61,7 +61,7 @@ fn is_exact(
     refuses_changes(alloc, random, &told)
 }
 
-/// Whether followers take all entries of a script's histories, so many, and refuse each changed reply of the replica's.
+/// Whether followers take all entries of a script's histories, which are this many, and refuse each changed reply of the replica.
 fn is_script_followed(
     alloc: Global,
     random: RandomState,
@@ -75,7 +75,7 @@ fn is_script_followed(
     Ok(is_exact && len == entries)
 }
 
-/// Scripts, each with a replica, and how many entries all its histories have.
+/// Scripts, each with a replica, and the number of entries of all its histories.
 const CASES: [(Script, u8, usize); 13] = [
     (PLAIN, 0, 199),
     (EMPTY_BLOCKS, 2, 99),
@@ -93,19 +93,19 @@ const CASES: [(Script, u8, usize); 13] = [
     (NO_LEAVES_FOR_FOUR, 0, 157),
 ];
 
-/// Whether each script is followed so at the replica, with so many entries.
-fn are_followed(alloc: Global, random: RandomState) -> Result<bool, Fault> {
-    for &(script, replica, entries) in &CASES {
+/// The index of the first script that isn't followed so, if there is one.
+fn first_wrong_script(alloc: Global, random: RandomState) -> Result<Option<usize>, Fault> {
+    for (index, &(script, replica, entries)) in CASES.iter().enumerate() {
         if !is_script_followed(alloc, random, script, replica, entries)? {
-            return Ok(false);
+            return Ok(Some(index));
         }
     }
-    Ok(true)
+    Ok(None)
 }
 
 #[test]
 fn each_run_is_followed_exactly(rt: HostRuntime) -> Result<(), Fail> {
     let random = RandomState::new(&rt)?;
-    assert!(rt; are_followed(rt.alloc(), random)?);
+    assert_eq!(rt; first_wrong_script(rt.alloc(), random)?, None);
     Ok(())
 }

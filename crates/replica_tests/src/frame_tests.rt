@@ -1,4 +1,4 @@
-//! Locks that are delivered in another phase, or with a proof of another height.
+//! Locks that are delivered in another phase, or whose proof has a report of another height.
 use crate::fault::Fault;
 use crate::following::is_followed;
 use crate::frames::{Head, frame_of, signed_by_one};
@@ -16,7 +16,7 @@ use std::hash::RandomState;
 use std::test::Fail;
 use test_support::lock_bytes;
 
-/// Whether the last entry answers so to a frame.
+/// Whether the last entry gives this answer to a frame.
 fn ends_with(entries: &[Entry], answer: Result<(), Ignored>) -> bool {
     match entries.last() {
         Some(entry) => match &entry.reply {
@@ -41,7 +41,7 @@ fn is_answered(
     refuses_changes_at(alloc, random, told, entries.len().saturating_sub(1))
 }
 
-/// The replica's history behind what the script plays and the command.
+/// The replica's history after the script and the command were played.
 fn history_behind(
     alloc: Global,
     random: RandomState,
@@ -54,7 +54,7 @@ fn history_behind(
     history_of(&simulation, replica)
 }
 
-/// The replica's history behind what the script plays and a frame to it.
+/// The replica's history after the script was played and a frame was delivered to it.
 fn history_behind_frame(
     alloc: Global,
     random: RandomState,
@@ -69,7 +69,7 @@ fn history_behind_frame(
     history_behind(alloc, random, script, &command, to)
 }
 
-/// Whether the replica answers so to the frame behind what the script plays, and followers agree.
+/// Whether the replica gives this answer to a frame that follows the script, and followers agree.
 fn answers(
     alloc: Global,
     random: RandomState,
@@ -93,7 +93,7 @@ fn report_in(simulation: &Simulation<AnyKind>, replica: u8, height: u8) -> Resul
     frame_of(&told, head)
 }
 
-/// Adds the report, which stands behind the frame's length.
+/// Appends the report, which follows the frame's length.
 fn add_report(
     statement: &mut Vec<u8>,
     simulation: &Simulation<AnyKind>,
@@ -105,7 +105,7 @@ fn add_report(
     Ok(())
 }
 
-/// Adds the reports of replicas 0, 2 and 3 where locks are due, the first one's of this height.
+/// Appends the reports of replicas 0, 2 and 3 in the round of locks. The first is on this height.
 fn add_reports(
     alloc: Global,
     random: RandomState,
@@ -119,20 +119,20 @@ fn add_reports(
     Ok(())
 }
 
-/// The frame of a statement of replica 1 where locks are due.
+/// The frame of a statement of replica 1 in the round of locks.
 fn signed(alloc: Global, statement: &[u8]) -> Result<Bytes, Fault> {
     let scenario = scenario_of(alloc, LOCKS_DUE)?;
     signed_by_one(alloc, &cluster_of(&scenario.setup), statement)
 }
 
-/// The frame of a lock of replica 1 on `[a=1]` in phase 1 of height 1, by three reports, the first one's of this height.
+/// The frame of a lock of replica 1 on `[a=1]` in phase 1 of height 1. It has three reports, of which the first is on this height.
 fn lock_at(alloc: Global, random: RandomState, height: u8) -> Result<Bytes, Fault> {
     let mut statement = Vec::from_slice(alloc, &lock_bytes(1, 1, b'a', 3))?;
     add_reports(alloc, random, &mut statement, height)?;
     signed(alloc, &statement)
 }
 
-/// Whether replica 0 answers so to the lock by three reports, the first one's of this height.
+/// Whether replica 0 gives this answer to the lock with three reports, of which the first is on this height.
 fn answers_lock_at(
     alloc: Global,
     random: RandomState,
@@ -154,7 +154,7 @@ fn sixth_lock(alloc: Global, random: RandomState) -> Result<Bytes, Fault> {
     frame_of(&told, head)
 }
 
-/// Whether replica 3 answers so to it in the third phase.
+/// Whether replica 3 gives this answer to that lock in the third phase.
 fn answers_sixth_lock(
     alloc: Global,
     random: RandomState,

@@ -1,12 +1,12 @@
 //! Frames that no line of a scenario makes.
 use crate::fault::Fault;
 use bytes::Bytes;
-use cluster_keys::{Cluster, key_pair};
+use cluster_keys::{ClusterSeed, key_pair};
 use ledger_model::{Entry, ReplicaId, Reply, Sent};
 use locked_replica::Snapshot;
 use std::alloc::{AllocError, Global};
 
-/// The first bytes of a frame, behind its length: the kind of its statement, the height and the phase.
+/// The first bytes of a frame, after its length: the kind of its statement, the height and the phase.
 #[derive(Clone, Copy)]
 pub(crate) struct Head {
     pub(crate) kind: u8,
@@ -14,7 +14,7 @@ pub(crate) struct Head {
     pub(crate) phase: u8,
 }
 
-/// Whether a frame is one of these, by the low bytes of its height and phase.
+/// Whether the frame starts so, given the low bytes of its height and phase.
 fn has_head(frame: &[u8], head: Head) -> bool {
     match frame {
         [_, _, _, _, kind, _, _, _, height, _, _, _, phase, ..] => {
@@ -50,7 +50,7 @@ pub(crate) fn frame_of(told: &Snapshot, head: Head) -> Result<Bytes, Fault> {
     Err(Fault::NoFrame)
 }
 
-/// The frame of a statement under this signature.
+/// The frame of a statement with this signature.
 fn framed(alloc: Global, statement: &[u8], signature: &[u8]) -> Result<Bytes, AllocError> {
     let len = statement
         .len()
@@ -65,7 +65,7 @@ fn framed(alloc: Global, statement: &[u8], signature: &[u8]) -> Result<Bytes, Al
 }
 
 /// The first signature of replica 1.
-fn signature_of(alloc: Global, cluster: &Cluster, statement: &[u8]) -> Result<Vec<u8>, Fault> {
+fn signature_of(alloc: Global, cluster: &ClusterSeed, statement: &[u8]) -> Result<Vec<u8>, Fault> {
     let mut signer = key_pair(alloc, cluster, ReplicaId::new(1))?;
     Ok(signer.sign(alloc, statement)?)
 }
@@ -73,7 +73,7 @@ fn signature_of(alloc: Global, cluster: &Cluster, statement: &[u8]) -> Result<Ve
 /// The frame of a statement of replica 1, which signs it with its first leaf.
 pub(crate) fn signed_by_one(
     alloc: Global,
-    cluster: &Cluster,
+    cluster: &ClusterSeed,
     statement: &[u8],
 ) -> Result<Bytes, Fault> {
     let signature = signature_of(alloc, cluster, statement)?;

@@ -1,5 +1,5 @@
-//! One replica and its atomic step; and histories of the worked runs, followed entry by entry, and with a reply changed. This crate has
-//! tests alone.
+//! Tests of one replica and its atomic step; and of histories of the worked runs, which are followed entry by entry, as
+//! they are and with a changed reply.
 #![tactic(auto)]
 
 #[cfg(test)]

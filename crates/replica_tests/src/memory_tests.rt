@@ -1,4 +1,4 @@
-//! A block whose application finds no memory is run again, and so is its entry followed again.
+//! A block whose application runs out of memory is run again, and its entry is followed again.
 ghost use Rattle.std.specs.Prelude.{◌≡◌, [], vec_len, All, IfOk};
 ghost use Rattle.ledger_model.specs.Applications.{run};
 ghost use Rattle.app_kinds.specs.Chosen.{machine_of};
@@ -18,7 +18,7 @@ use std::alloc::{AllocError, Global};
 use std::hash::RandomState;
 use std::test::Fail;
 
-/// So many applications of a kind in their opening state, of which each finds no memory for its second transaction.
+/// `count` applications of a kind in their opening state, each of which finds no memory for its second transaction.
 fn refusing_apps(
     alloc: Global,
     kind: AppKind,
@@ -34,7 +34,7 @@ fn refusing_apps(
     Ok(apps)
 }
 
-/// Whether the command prints just this line.
+/// Whether the command prints exactly this line.
 fn prints<A: Application>(simulation: &mut Simulation<A>, command: &Command, line: &[u8]) -> bool {
     match simulation.play(command) {
         Ok(text) => text.as_bytes() == line,
@@ -42,7 +42,7 @@ fn prints<A: Application>(simulation: &mut Simulation<A>, command: &Command, lin
     }
 }
 
-/// Whether the last command is refused for want of memory, and runs the block when it is given again.
+/// Whether the last command is refused because memory ran out, and runs the block when it is given again.
 fn plays_at_second_try<A: Application>(
     simulation: &mut Simulation<A>,
     commands: &[Command],
@@ -59,7 +59,7 @@ fn plays_at_second_try<A: Application>(
         )
 }
 
-/// Whether the follower finds no memory for the last entry, takes it when it comes again, and has then one block.
+/// Whether the follower finds no memory for the last entry, takes it when it is passed again, and then has one block.
 fn takes_at_second_try<A: Application>(
     follower: &mut Follower<A>,
     alloc: Global,
@@ -74,7 +74,7 @@ fn takes_at_second_try<A: Application>(
     Ok((are_taken, is_first_taken, is_next_taken, follower.height()) == (true, false, true, 1))
 }
 
-/// Whether a follower does so, whose application finds no memory for its second transaction.
+/// Whether a follower does so if its application finds no memory for its second transaction.
 fn is_followed(alloc: Global, random: RandomState, told: &Snapshot) -> Result<bool, Fault> {
     let app = Refusing::new(AnyKind::new(alloc, told.config.kind), 2);
     let mut follower = follower_with(alloc, random, told, app)?;
@@ -82,7 +82,7 @@ fn is_followed(alloc: Global, random: RandomState, told: &Snapshot) -> Result<bo
     Ok(takes_at_second_try(&mut follower, alloc, entries)?)
 }
 
-/// The simulation of a scenario with such applications, as it begins.
+/// The simulation of a scenario with such applications, at its start.
 fn opened(
     alloc: Global,
     random: RandomState,
@@ -92,7 +92,7 @@ fn opened(
     new_simulation(alloc, random, setup, apps)
 }
 
-/// The history of replica 1 where the last command is refused once.
+/// The history of replica 1, whose last command is refused once.
 fn history_of_refused(
     alloc: Global,
     random: RandomState,

@@ -1,4 +1,4 @@
-//! Scenarios played on a cluster, and the histories that they come to.
+//! Plays scenarios on a cluster, and returns the histories at their end.
 ghost use Rattle.std.specs.Prelude.{◌≡◌, [], vec_len, length, All, IfOk};
 ghost use Rattle.ledger_model.specs.Applications.{run};
 ghost use Rattle.app_kinds.specs.Chosen.{machine_of};
@@ -9,7 +9,7 @@ use crate::scripts::{Script, text_of};
 use abci::Application;
 use adversary_net::count_correct;
 use app_kinds::AnyKind;
-use cluster_keys::Cluster;
+use cluster_keys::ClusterSeed;
 use ledger_model::{AppKind, ReplicaId};
 use locked_replica::Snapshot;
 use scenario_texts::{Command, Scenario, Setup, read};
@@ -17,7 +17,7 @@ use simulation::Simulation;
 use std::alloc::{AllocError, Global};
 use std::hash::RandomState;
 
-/// So many applications of a kind, each in its opening state.
+/// `count` applications of a kind, each in its opening state.
 pub(crate) fn new_apps(
     alloc: Global,
     kind: AppKind,
@@ -33,7 +33,7 @@ pub(crate) fn new_apps(
     Ok(apps)
 }
 
-/// The keys of the hashes of so many replicas.
+/// The random keys for the hashes of `count` replicas.
 pub(crate) fn new_randoms(
     alloc: Global,
     random: RandomState,
@@ -45,24 +45,24 @@ pub(crate) fn new_randoms(
 }
 
 /// The cluster of a scenario, with the keys of the seed of zeros.
-pub(crate) fn cluster_of(setup: &Setup) -> Cluster
+pub(crate) fn cluster_of(setup: &Setup) -> ClusterSeed
     ensures { result.config ≡ setup.now.config }
 {
-    Cluster {
+    ClusterSeed {
         config: setup.config,
         params: setup.params(),
         seed: [0; 32],
     }
 }
 
-/// How many replicas of a scenario are correct.
+/// The number of correct replicas of a scenario.
 pub(crate) fn correct_of(setup: &Setup) -> usize
     ensures { result ≡ length (correct_without setup.now.config setup.now.liars.items) }
 {
     count_correct(&setup.config, &setup.liars)
 }
 
-/// The simulation of a scenario with these applications, as it begins.
+/// The simulation of a scenario with these applications, at its start.
 pub(crate) fn new_simulation<A: Application>(
     alloc: Global,
     random: RandomState,
@@ -77,7 +77,7 @@ pub(crate) fn new_simulation<A: Application>(
     Ok(Simulation::new(alloc, &cluster, &setup.liars, apps, randoms)?)
 }
 
-/// The simulation of a scenario with the applications of its kind, as it begins.
+/// The simulation of a scenario with the applications of its kind, at its start.
 fn opened(alloc: Global, random: RandomState, setup: &Setup) -> Result<Simulation<AnyKind>, Fault> {
     let apps = new_apps(alloc, setup.config.kind, correct_of(setup))?;
     new_simulation(alloc, random, setup, apps)
@@ -111,7 +111,7 @@ pub(crate) fn scenario_of(alloc: Global, script: Script) -> Result<Scenario, Fau
     Ok(read(alloc, &text)?)
 }
 
-/// What a scenario comes to.
+/// The simulation after a scenario was played.
 fn come_of(
     alloc: Global,
     random: RandomState,
@@ -122,7 +122,7 @@ fn come_of(
     Ok(simulation)
 }
 
-/// What the text of a script comes to.
+/// The simulation after the text of a script was played.
 pub(crate) fn played(
     alloc: Global,
     random: RandomState,
@@ -132,7 +132,7 @@ pub(crate) fn played(
     come_of(alloc, random, &scenario)
 }
 
-/// The history of the replica of a number.
+/// The history of the replica with this number.
 pub(crate) fn history_of<A: Application>(
     simulation: &Simulation<A>,
     replica: u8,
@@ -143,7 +143,7 @@ pub(crate) fn history_of<A: Application>(
     }
 }
 
-/// The history of a replica that a script comes to.
+/// The history of a replica after a script was played.
 pub(crate) fn history_in(
     alloc: Global,
     random: RandomState,

@@ -1,7 +1,7 @@
-//! Whether a follower refuses the changed replies of a history.
+//! Tests whether a follower refuses the changed replies of a history.
 use crate::changing::{Change, changed};
 use crate::fault::Fault;
-use crate::following::{Place, is_taken, new_follower, place_in, takes_all};
+use crate::following::{EntryContext, is_taken, new_follower, place_in, takes_all};
 use app_kinds::AnyKind;
 use ledger_model::Reply;
 use locked_replica::Snapshot;
@@ -9,8 +9,8 @@ use replica_core::Follower;
 use std::alloc::{AllocError, Global};
 use std::hash::RandomState;
 
-/// The changes that are tried: of the frames' bytes those of a length, of a statement, and of a signature's number, first
-/// and last bytes.
+/// The changes that are tried. Of the bytes of a frame, they change those of the length, of the statement, and of the
+/// signature's number, first and last bytes.
 const CHANGES: [Change; 11] = [
     Change::Outcome,
     Change::Cause,
@@ -25,12 +25,12 @@ const CHANGES: [Change; 11] = [
     Change::Byte(2000),
 ];
 
-/// Whether the follower takes the entries before this place, refuses the one there with this reply, and with its own from then
-/// on.
+/// Whether the follower takes the entries before this index, and refuses the entry there with this reply, and
+/// afterwards with its own reply.
 fn is_lost_at(
     follower: &mut Follower<AnyKind>,
     alloc: Global,
-    place: Place<'_>,
+    place: EntryContext<'_>,
     reply: &Reply,
 ) -> Result<bool, AllocError> {
     let entry = place.entry;
@@ -46,15 +46,15 @@ fn is_refused_with(
     alloc: Global,
     random: RandomState,
     told: &Snapshot,
-    place: Place<'_>,
+    place: EntryContext<'_>,
     reply: &Reply,
 ) -> Result<bool, Fault> {
     let mut follower = new_follower(alloc, random, told)?;
     Ok(is_lost_at(&mut follower, alloc, place, reply)?)
 }
 
-/// Whether the entry at this place, its reply changed so, is refused behind those before it, and the true one is refused from
-/// then on. It is true where the reply has nothing to be changed so.
+/// Whether the entry at this index with its changed reply is refused after the entries before it, and the true one is
+/// refused afterwards. True if the reply has nothing that can be changed so.
 fn is_refused(
     alloc: Global,
     random: RandomState,
@@ -71,7 +71,7 @@ fn is_refused(
     }
 }
 
-/// Whether each change of the entry at this place is refused.
+/// Whether each change of the entry at this index is refused.
 pub(crate) fn refuses_changes_at(
     alloc: Global,
     random: RandomState,

@@ -1,16 +1,16 @@
 //! The texts of the worked runs.
 use std::alloc::{AllocError, Global};
 
-/// Lines of a scenario text, each with how often it stands there.
+/// The lines of a scenario text, each with the number of times that it is repeated.
 pub(crate) type Script = &'static [(&'static [u8], usize)];
 
-/// Four replicas that are handed the same transaction and open height 1.
+/// The same transaction is submitted to four replicas, and each opens height 1.
 const FOUR_ALIKE: (&[u8], usize) = (
     b"config 4 1 1\nsubmit 0 a=1\nsubmit 1 a=1\nsubmit 2 a=1\nsubmit 3 a=1\npropose 0 1\npropose 1 1\npropose 2 1\npropose 3 1\n",
     1,
 );
 
-/// Each decides it in the phase that it leads, and runs it.
+/// Each replica decides it in the phase that it owns, and runs it.
 pub(crate) const PLAIN: Script = &[
     FOUR_ALIKE,
     (b"round\n", 16),
@@ -40,7 +40,7 @@ pub(crate) const TWO_PROPOSALS: Script = &[
     (b"execute 2\n", 1),
 ];
 
-/// A leader that lies locks two values; whoever reads of both releases its lock.
+/// An owner that lies locks two values; a replica that reads both releases its lock.
 pub(crate) const LOCK_RELEASED: Script = &[
     (
         b"config 4 1 1\nliar 1\nsubmit 0 x=1\nsubmit 2 y=1\nsubmit 3 x=1\npropose 0 1\npropose 2 1\npropose 3 1\nround\nlie-report 1 1 1 [y=1] all\n",
@@ -54,7 +54,7 @@ pub(crate) const LOCK_RELEASED: Script = &[
     (b"round\n", 5),
 ];
 
-/// One acknowledgement comes twice, and then a second replica's: in time.
+/// One acknowledgement arrives twice, and then that of a second replica, in time.
 pub(crate) const LATE_ACKNOWLEDGEMENT: Script = &[
     FOUR_ALIKE,
     (
@@ -63,7 +63,7 @@ pub(crate) const LATE_ACKNOWLEDGEMENT: Script = &[
     ),
 ];
 
-/// A lock of the first phase comes again in the second, and an acknowledgement, too.
+/// A lock of the first phase arrives again in the second, and so does an acknowledgement.
 pub(crate) const OTHER_PHASES: Script = &[
     FOUR_ALIKE,
     (
@@ -82,7 +82,7 @@ pub(crate) const EMPTY_BLOCKS: Script = &[
     (b"execute 1\nexecute 2\nexecute 3\n", 1),
 ];
 
-/// The counter, and a transaction that is out of turn.
+/// The counter, and a transaction whose number is not due.
 pub(crate) const COUNTER: Script = &[
     (
         b"config 4 1 2\nsubmit 0 \\00\nsubmit 0 \\07\nsubmit 1 \\00\nsubmit 1 \\07\nsubmit 2 \\00\nsubmit 2 \\07\nsubmit 3 \\00\nsubmit 3 \\07\nsubmit 0 aaaaaaaaa\npropose 0 1\npropose 1 1\npropose 2 1\npropose 3 1\n",
@@ -108,19 +108,19 @@ pub(crate) const PURSE: Script = &[
     ),
 ];
 
-/// Heights that can't be opened, and transactions that aren't taken.
+/// Heights that can't be opened, and transactions that are refused.
 pub(crate) const REFUSALS: Script = &[(
     b"config 4 1 1\nexecute 0\nsubmit 0\nsubmit 0 a=1\nsubmit 0 a=1\nsubmit 0 aaaaaaaaaaaaaaaaaaaaaaaaaaaaaaaaaaaaaaaaaaaaaaaaaaaaaaaaaaaaaaaaa\npropose 0 0\npropose 0 4097\npropose 0 5\npropose 0 1\npropose 0 1\ninject 0\ninject 0 00\nquery 0 a\nquery 0\nround\nround\n",
     1,
 )];
 
-/// Four heights that each replica opens.
+/// Each replica opens four heights.
 const FOUR_HEIGHTS_OPENED: (&[u8], usize) = (
     b"config 4 1 1\nsubmit 0 a=1\nsubmit 1 a=1\nsubmit 2 a=1\nsubmit 3 a=1\npropose 0 2\npropose 1 4\npropose 2 1\npropose 3 3\npropose 0 1\npropose 1 1\npropose 3 1\npropose 1 2\npropose 2 2\npropose 3 2\npropose 0 3\npropose 1 3\npropose 2 3\npropose 0 4\npropose 2 4\npropose 3 4\n",
     1,
 );
 
-/// Four heights are open at once, and the leader of the first phase decides all.
+/// Four heights are open at the same time, and the owner of the first phase decides all.
 pub(crate) const FOUR_HEIGHTS: Script = &[
     FOUR_HEIGHTS_OPENED,
     (b"round\n", 4),
@@ -128,7 +128,7 @@ pub(crate) const FOUR_HEIGHTS: Script = &[
     (b"propose 1 8\npropose 1 9\nround\n", 1),
 ];
 
-/// One height is open, and keys run out behind the 32nd report.
+/// One height is open, and the leaves run out after the 32nd report.
 pub(crate) const NO_LEAF_LEFT: Script = &[
     (
         b"config 4 1 1\npropose 0 1\npropose 1 1\npropose 2 1\npropose 3 1\n",
@@ -138,7 +138,7 @@ pub(crate) const NO_LEAF_LEFT: Script = &[
     (b"pass 1 0 0\npropose 0 2\nround\n", 1),
 ];
 
-/// Four heights are open, and keys run out behind the 8th report of each.
+/// Four heights are open, and the leaves run out after the 8th report of each.
 pub(crate) const NO_LEAVES_FOR_FOUR: Script = &[
     FOUR_HEIGHTS_OPENED,
     (b"silent\n", 32),
@@ -158,16 +158,16 @@ pub(crate) const REFUSED_BLOCK: Script = &[
 /// Twelve rounds of the plain run: the third phase ends.
 pub(crate) const TWELVE_ROUNDS: Script = &[FOUR_ALIKE, (b"round\n", 12)];
 
-/// Twenty-two rounds of it: the leader of the sixth phase has made its lock.
+/// Twenty-two rounds of the plain run: the owner of the sixth phase has made its lock.
 pub(crate) const TWENTY_TWO_ROUNDS: Script = &[FOUR_ALIKE, (b"round\n", 22)];
 
-/// Replica 1 lies, and locks are due in the first phase of two heights.
+/// Replica 1 lies, and the first phase of two heights is in its round of locks.
 pub(crate) const LOCKS_DUE: Script = &[(
     b"config 4 1 1\nliar 1\nsubmit 0 a=1\nsubmit 2 a=1\nsubmit 3 a=1\npropose 0 1\npropose 2 1\npropose 3 1\npropose 0 2\npropose 2 2\npropose 3 2\nround\nround\n",
     1,
 )];
 
-/// Adds the line so often.
+/// Appends the line `count` times.
 fn add_line(text: &mut Vec<u8>, line: &[u8], count: usize) -> Result<(), AllocError> {
     for _ in 0..count {
         text.extend_from_slice(line)?;

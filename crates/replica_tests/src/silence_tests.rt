@@ -1,7 +1,7 @@
-//! The mute flag: it is taken from the reply where nothing was due, and then silence is asked for.
+//! The mute flag: a follower accepts it if nothing was due, and then requires silence.
 use crate::ending_changes::with_other_flag;
 use crate::fault::Fault;
-use crate::following::{Place, is_taken, new_follower, place_in, takes_all};
+use crate::following::{EntryContext, is_taken, new_follower, place_in, takes_all};
 use crate::playing::history_in;
 use crate::scripts::{FOUR_HEIGHTS, NO_LEAF_LEFT, NO_LEAVES_FOR_FOUR, PLAIN, Script};
 use app_kinds::AnyKind;
@@ -12,25 +12,25 @@ use std::alloc::{AllocError, Global};
 use std::hash::RandomState;
 use std::test::Fail;
 
-/// What comes of a round end whose mute flag is changed.
+/// The outcome of a round end whose mute flag is inverted.
 #[derive(Clone, Copy)]
 enum Flagged {
     /// It is no round end.
     Other,
-    /// It is refused, since something was due.
+    /// It is refused, because something was due.
     Refused,
-    /// It is taken, since nothing was due, and the next round end that is not mute is refused, if there is one.
+    /// It is taken, because nothing was due; the next round end that is not mute is refused, if there is one.
     Silenced,
     /// None of these.
     Wrong,
 }
 
-/// Whether something had to be signed for this end, as far as it tells: it sends frames, and not only locks that it holds.
+/// Whether this end had something to sign, as far as it shows: it sends frames, and not only locks that the replica holds.
 fn is_due(end: &RoundEnded, round: u32) -> bool {
     !end.frames.as_slice().is_empty() && round % 4 != 0
 }
 
-/// Whether the flag may be the other one: the replica was not mute, and nothing was due.
+/// Whether the flag may be inverted: the replica was not mute, and nothing was due.
 fn may_be_mute(reply: &Reply, round: u32) -> bool {
     match reply {
         Reply::RoundEnded(Ok(end)) => !end.mute && !is_due(end, round),
@@ -46,7 +46,7 @@ fn is_loud(reply: &Reply) -> bool {
     }
 }
 
-/// Whether the first round end among these entries that is not mute is refused, and all before it is taken.
+/// Whether the first round end among these entries that is not mute is refused, and all entries before it are taken.
 fn stays_silent(
     follower: &mut Follower<AnyKind>,
     alloc: Global,
@@ -64,11 +64,11 @@ fn stays_silent(
     Ok(true)
 }
 
-/// What comes of the entry at this place with this reply, at a follower that takes those before it.
+/// The outcome of the entry at this index with this reply, at a follower that takes the entries before it.
 fn come_of(
     follower: &mut Follower<AnyKind>,
     alloc: Global,
-    place: Place<'_>,
+    place: EntryContext<'_>,
     reply: &Reply,
 ) -> Result<Flagged, AllocError> {
     let are_taken = takes_all(follower, alloc, place.before)?;
@@ -87,19 +87,19 @@ fn come_of(
     }
 }
 
-/// What comes of the entry at this place with this reply.
+/// The outcome of the entry at this index with this reply.
 fn outcome_with(
     alloc: Global,
     random: RandomState,
     told: &Snapshot,
-    place: Place<'_>,
+    place: EntryContext<'_>,
     reply: &Reply,
 ) -> Result<Flagged, Fault> {
     let mut follower = new_follower(alloc, random, told)?;
     Ok(come_of(&mut follower, alloc, place, reply)?)
 }
 
-/// What comes of the entry at this place with the other mute flag.
+/// The outcome of the entry at this index with the mute flag inverted.
 fn outcome_of(
     alloc: Global,
     random: RandomState,
@@ -115,7 +115,8 @@ fn outcome_of(
     }
 }
 
-/// How many round ends are refused with the other flag, and how many silence the replica; none where something else comes of one.
+/// The number of round ends that are refused with the flag inverted, and the number that silence the replica; `None` if
+/// one has another outcome.
 fn counts(
     alloc: Global,
     random: RandomState,
@@ -143,30 +144,30 @@ fn counts_of(
     counts(alloc, random, &told)
 }
 
-/// Scripts with a replica: how many of its round ends are refused with the other flag, and how many silence it.
+/// Scripts with a replica: the number of its round ends that are refused with the flag inverted, and the number that silence it.
 const CASES: [(Script, u8, (u32, u32)); 4] = [
-    // Refused: where it sends a report in each of four phases, an acknowledgement in three, and a lock in the last.
+    // Refused: it sends a report in each of four phases, an acknowledgement in three, and a lock in the last.
     (PLAIN, 0, (8, 8)),
-    // Where it sends reports twice, and locks once.
+    // Refused: it sends reports twice, and locks once.
     (FOUR_HEIGHTS, 1, (3, 2)),
-    // Where it sends reports, and where it is mute and would not be.
+    // Refused: it sends reports, or it is mute and would not be.
     (NO_LEAF_LEFT, 3, (38, 96)),
     (NO_LEAVES_FOR_FOUR, 0, (11, 24)),
 ];
 
-/// Whether each script's counts are these.
-fn are_counted(alloc: Global, random: RandomState) -> Result<bool, Fault> {
-    for &(script, replica, answer) in &CASES {
-        if counts_of(alloc, random, script, replica)? != Some(answer) {
-            return Ok(false);
+/// The index of the first script that has other numbers, if there is one.
+fn first_wrong_script(alloc: Global, random: RandomState) -> Result<Option<usize>, Fault> {
+    for (index, &(script, replica, numbers)) in CASES.iter().enumerate() {
+        if counts_of(alloc, random, script, replica)? != Some(numbers) {
+            return Ok(Some(index));
         }
     }
-    Ok(true)
+    Ok(None)
 }
 
 #[test]
 fn the_mute_flag_asks_for_silence(rt: HostRuntime) -> Result<(), Fail> {
     let random = RandomState::new(&rt)?;
-    assert!(rt; are_counted(rt.alloc(), random)?);
+    assert_eq!(rt; first_wrong_script(rt.alloc(), random)?, None);
     Ok(())
 }

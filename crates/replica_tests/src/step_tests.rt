@@ -1,4 +1,4 @@
-//! Replica 0 of four, whose ring has its own key alone, applies events. How it refuses some is in `examples/refusals.txt`.
+//! Replica 0 of four applies events; its ring has only its own key. `examples/refusals.txt` shows some refusals.
 ghost use Rattle.std.specs.Prelude.{◌≡◌, ◌∷◌, [], IfOk};
 ghost use Rattle.key_ring.specs.Signers.{key_of};
 
@@ -45,8 +45,7 @@ fn entry_at(state: &State<AnyKind>, index: usize) -> Option<EntryView<'_>> {
     state.entry(index)
 }
 
-// Whether so much is known of a replica at once: its entries, its round, the height of its application, and whether it has no
-// entry.
+// Whether the replica has these numbers: of its entries, its round, and its application's height; and whether it has no entry.
 fn has_numbers(state: &State<AnyKind>, wanted: (usize, u32, u32, bool)) -> bool {
     (state.len(), state.clock(), state.height(), state.is_empty()) == wanted
 }
@@ -77,7 +76,7 @@ fn proposes_one(state: &mut State<AnyKind>) -> Result<bool, ApplyFault> {
     }
 }
 
-// Whether it takes a transaction and opens height 1 with it.
+// Whether it takes a transaction, and opens height 1 with it.
 fn opens_one(state: &mut State<AnyKind>) -> Result<bool, ApplyFault> {
     let is_taken = takes_one(state)?;
     Ok(proposes_one(state)? && is_taken)
@@ -129,7 +128,7 @@ fn opens_quietly(state: &mut State<AnyKind>) -> Result<bool, ApplyFault> {
     }
 }
 
-// Whether three more rounds open so.
+// Whether three more rounds open, and nothing is sent.
 fn opens_three_quietly(state: &mut State<AnyKind>) -> Result<bool, ApplyFault> {
     for _ in 0..3 {
         if !opens_quietly(state)? {
@@ -139,7 +138,7 @@ fn opens_three_quietly(state: &mut State<AnyKind>) -> Result<bool, ApplyFault> {
     Ok(true)
 }
 
-// Whether the next block is answered as not decided.
+// Whether the reply is that no next block is decided.
 fn has_no_block(state: &mut State<AnyKind>) -> Result<bool, ApplyFault> {
     let index = apply(state, Event::Execute)?;
     match entry_at(state, index) {
@@ -148,7 +147,7 @@ fn has_no_block(state: &mut State<AnyKind>) -> Result<bool, ApplyFault> {
     }
 }
 
-// A query of the empty key at the last height.
+// A query for the empty key at the last height.
 fn query(alloc: Global) -> Event {
     match Key::new(Vec::new(alloc)) {
         Ok(key) => Event::Query(key, Height::new(0)),
@@ -156,7 +155,7 @@ fn query(alloc: Global) -> Event {
     }
 }
 
-// Whether the query is answered with height 0 and no value.
+// Whether the answer to the query has height 0 and no value.
 fn is_nothing(entry: &EntryView<'_>) -> bool {
     match entry.reply() {
         ReplyView::Queried(Ok(answer)) => answer.height.number() == 0 && answer.value.is_none(),
@@ -180,7 +179,7 @@ fn waits_at_one(state: &State<AnyKind>) -> bool {
     is_undecided && is_loud && state.config().replicas == 4 && state.id().number() == 0
 }
 
-// Whether it has no history, and then opens height 1 and sends a report as the first round opens.
+// Whether its history is empty, and it then opens height 1 and sends a report as the first round opens.
 fn begins_alone(state: &mut State<AnyKind>) -> Result<bool, ApplyFault> {
     let is_new = has_numbers(state, (0, 0, 0, true)) && entry_at(state, 0).is_none();
     let is_open = opens_one(state)?;
@@ -196,7 +195,7 @@ fn decides_nothing(state: &mut State<AnyKind>, alloc: Global) -> Result<bool, Ap
     Ok(are_quiet && has_no_block && finds_nothing && has_numbers(state, (8, 4, 0, false)))
 }
 
-// Whether it does both, and then waits.
+// Whether it does both, and then waits at height 1.
 fn waits_alone(state: &mut State<AnyKind>, alloc: Global) -> Result<bool, ApplyFault> {
     let begins = begins_alone(state)?;
     let decides_nothing = decides_nothing(state, alloc)?;

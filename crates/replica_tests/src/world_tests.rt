@@ -1,10 +1,10 @@
-//! A list of steps that a world takes by one call, and the same steps one by one.
+//! A world takes a list of steps in one call, and the same steps one by one.
 use crate::fault::Fault;
 use crate::playing::{new_apps, new_randoms};
 use adversary_net::{World, count_correct};
 use app_kinds::AnyKind;
 use bytes::Bytes;
-use cluster_keys::Cluster;
+use cluster_keys::ClusterSeed;
 use history_bytes::history_bytes;
 use ledger_model::{AppKind, Config, Height, Key, ReplicaId, WorldRefusal, WorldReply, WorldStep};
 use lm_ots::{Params, TreeHeight, Width};
@@ -15,7 +15,7 @@ use std::test::Fail;
 
 /// Four replicas, of which one lies.
 fn new_world(alloc: Global, random: RandomState) -> Result<World<AnyKind>, Fault> {
-    let cluster = Cluster {
+    let cluster = ClusterSeed {
         config: Config::new(4, 1, AppKind::KvStore)?,
         params: Params {
             width: Width::W8,
@@ -106,7 +106,7 @@ const NO_REPLICA: WorldReply = WorldReply::Refused(WorldRefusal::NoSuchReplica);
 
 const LIAR: WorldReply = WorldReply::Refused(WorldRefusal::Liar);
 
-/// What the steps are answered, in their order.
+/// The replies to the steps, in order.
 fn answers() -> [WorldReply; 20] {
     [
         done(0, 0),
@@ -132,7 +132,7 @@ fn answers() -> [WorldReply; 20] {
     ]
 }
 
-/// To which replica each entry went.
+/// For each entry, the replica that it was added at.
 const ORDER: [u8; 13] = [0, 0, 1, 2, 0, 1, 2, 1, 1, 0, 0, 2, 0];
 
 /// Takes the steps one by one.

@@ -1,5 +1,6 @@
--- What a replica answers to its clients.
-use Rattle.std.proofs.Common.{◌≡◌, ℕ, ◌<◌, List, [], ◌∷◌, ◌++◌, length, Some, Ok, refl, ap, ◌∙◌, sym, subst, arith, slice_get, length-append}
+-- A replica's answers to its clients.
+use Rattle.std.proofs.Common.{◌≡◌, ℕ, ◌<◌, List, [], ◌∷◌, ◌++◌, length, Some, Ok, refl, ap, ◌∙◌, sym, subst, arith, slice_get}
+use Rattle.std.proofs.Common.{length-append}
 use Rattle.std.proofs.Math.Seq.{get_or-append_seam}
 use Rattle.std.proofs.lemmas.Option.{slice_get_read}
 use Rattle.ledger_model.specs.declared.config.Config.{Config}
@@ -24,7 +25,8 @@ last_answer kind batches key = refl
 
 -- what a lawful reply to a query answers
 pub lawful_query : (config : Config) (ring : Ring) (id : ℕ) (entries : List Entry) (key : List ℕ) (h : ℕ) (r : Reply)
-    → Lawful config ring id entries (event.Query key h) r → query_reply_in r ≡ Some (query_reply config.kind (commits_of config id entries) key h)
+    → Lawful config ring id entries (event.Query key h) r
+    → query_reply_in r ≡ Some (query_reply config.kind (commits_of config id entries) key h)
 lawful_query config ring id entries key h (reply.Queried answer) law = ap Some law
 lawful_query config ring id entries key h (reply.Submitted r) law = absurd law
 lawful_query config ring id entries key h (reply.Proposed r) law = absurd law

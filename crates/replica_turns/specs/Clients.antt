@@ -9,24 +9,24 @@ use Rattle.ledger_model.specs.declared.reply.QueryAnswer.{QueryAnswer}
 use Rattle.ledger_model.specs.declared.reply.NotHeld.{NotHeld}
 use Rattle.ledger_model.specs.Limits.{max_tx_len}
 
--- the bytes are as many as a transaction may have
+-- the number of bytes is one that a transaction may have
 abbrev pub is_tx_len : List ℕ → Bool
 is_tx_len tx = not (length tx == 0) && nat_le (length tx) max_tx_len
 
--- the events of a client's transaction: none where no pool takes so many bytes
+-- the events of a client's transaction; none if no pool takes this number of bytes
 abbrev pub submit_events : List ℕ → List Event
 submit_events tx = if is_tx_len tx then event.Submit tx ∷ [] else []
 
--- what a reply answers to a query
+-- the answer to a query in the reply, if it is a reply to one
 abbrev pub query_reply_in : Reply → Option (Result QueryAnswer NotHeld)
 query_reply_in (reply.Queried answer) = Some answer
 query_reply_in _ = None
 
--- what an entry answers to a query, if there is one
+-- the answer to a query in the entry, if there is an entry and it is a query
 abbrev pub query_reply_at : Option Entry → Option (Result QueryAnswer NotHeld)
 query_reply_at None = None
 query_reply_at (Some e) = query_reply_in e.reply
 
--- the entry is a query that was answered
+-- the entry is a query with an answer
 abbrev pub IsAnswered : Option Entry → Type 0
 IsAnswered e = (answer : QueryAnswer) × (query_reply_at e ≡ Some (Ok answer))

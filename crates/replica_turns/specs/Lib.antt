@@ -1,5 +1,5 @@
 pub mod Turns
 pub mod Rounds
-pub mod Own
+pub mod OwnEvents
 pub mod Clients
 pub mod Waiting

@@ -1,23 +1,23 @@
 -- The frames that wait for a replica.
 use Rattle.std.specs.Prelude.{ℕ, List}
 
--- those of its next turn, and those that are kept for the next round
-pub record Waiting : Type 0 where
+-- the frames of its next turn, and those that wait for the next round
+pub record WaitingFramesView : Type 0 where
   pub due : List (List ℕ)
   pub early : List (List ℕ)
 
--- the most that are taken in for one turn
+-- the most frames that are taken in for one turn
 abbrev pub max_at_once : ℕ
 max_at_once = 64
 
--- the most that are kept for the next round
+-- the most frames that wait for the next round
 abbrev pub max_early : ℕ
 max_early = 1024
 
--- the most of one turn: those that are taken in, and those that were kept from the round before
+-- the most frames of one turn: those that are taken in, and those that waited for the round
 abbrev pub max_due : ℕ
 max_due = 1088
 
--- the most in all
+-- the most frames in all
 abbrev pub max_waiting : ℕ
 max_waiting = 2112

@@ -1,4 +1,4 @@
-//! To whom a frame goes.
+//! Which replicas a frame goes to.
 ghost use Rattle.std.specs.Prelude.{◌≡◌};
 ghost use Rattle.replica_turns.specs.Rounds.{is_for};
 

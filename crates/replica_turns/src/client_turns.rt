@@ -1,10 +1,11 @@
-//! What a client asks of a running replica, and how much of its history clients may use for that.
+//! What a client asks of a running replica, and how much of the replica's history clients may use.
 ghost use Rattle.std.specs.Prelude.{◌≡◌, ◌⊎◌, ◌≤◌, ◌+◌, ◌↔◌, ◌∷◌, [], Ok, Some, true, length, slice_get, ◌<◌, IfOk, OnOk, OnErr, IsErrOf};
 ghost use Rattle.ledger_model.specs.Commits.{commits_of, submit_reply};
 ghost use Rattle.ledger_model.specs.Replies.{query_reply};
 ghost use Rattle.ledger_model.specs.declared.event.Event.TheVariants as events;
 ghost use Rattle.replica_turns.specs.Turns.{Takes, GoesOn};
 ghost use Rattle.replica_turns.specs.Clients.{IsAnswered, is_tx_len, query_reply_at, submit_events};
+ghost use Rattle.ledger_model.specs.Limits.{max_history_len};
 
 use abci::Application;
 use bytes::Bytes;
@@ -13,8 +14,8 @@ use locked_replica::{ApplyFault, MAX_ENTRIES, ReplyView, State};
 use std::alloc::{AllocError, Global};
 use std::marker::Model;
 
-/// How many entries of a replica's history its clients may still use. Each transaction that they submit and each query is
-/// one.
+/// The number of entries of a replica's history that its clients may still use. Each transaction that they submit uses
+/// one, and so does each query.
 #[derive(Drop)]
 pub struct ClientEntries {
     left: u32,
@@ -38,14 +39,14 @@ impl ClientEntries {
         ClientEntries { left: count }
     }
 
-    /// How many are left.
+    /// The number of entries that are left.
     pub fn left(&self) -> u32
         ensures { result ≡ self.now }
     {
         self.left
     }
 
-    /// One is used.
+    /// Uses one entry.
     fn use_one(&mut self)
         requires { 1 ≤ self.old }
         ensures { self.new ≡ self.old - 1 }
@@ -54,13 +55,14 @@ impl ClientEntries {
     }
 }
 
-/// The transaction of a client as an event of the replica, and what its pool answers. The only error is want of memory.
+/// Submits a client's transaction as an event of the replica, and returns the answer of its pool. The only error is
+/// allocation failure.
 fn submit_event<A: Application>(
     alloc: Global,
     state: &mut State<A>,
     tx: &[u8],
 ) -> Result<Result<(), SubmitRefusal>, ApplyFault>
-    requires { length state.old.entries < 65536 }
+    requires { length state.old.entries < max_history_len }
     ensures answer { IfOk result (λ answer. answer ≡ submit_reply state.old.config state.old.id state.old.entries tx.now) }
     ensures event { OnOk result (Takes state.old.entries (events.Submit tx.now ∷ []) state.new.entries) }
     ensures memory { OnErr result (IsErrOf result ApplyFault.NoMemory) }
@@ -79,9 +81,9 @@ fn submit_event<A: Application>(
     }
 }
 
-/// Submits a client's transaction to the replica. The inner refusal is the pool's.
+/// Submits a client's transaction to the replica. The inner `Err` is the pool's refusal.
 ///
-/// Bytes that no pool takes, none or more than 64, are refused without an event. `HistoryFull` comes where an event is needed
+/// Bytes that no pool takes (none, or more than 64) are refused without an event. `HistoryFull` comes if an event is needed
 /// and there is no entry for it: clients have used theirs up, or the history is full. After a fault nothing has changed.
 pub fn submit<A: Application>(
     alloc: Global,
@@ -91,16 +93,16 @@ pub fn submit<A: Application>(
 ) -> Result<Result<(), SubmitRefusal>, ApplyFault>
     ensures answer { IfOk result (λ answer. answer ≡ submit_reply state.old.config state.old.id state.old.entries tx.now) }
     ensures event { OnOk result (Takes state.old.entries (submit_events tx.now) state.new.entries) }
-    // Each new entry of the history is one of the clients'.
+    // Each new entry of the history is one that clients may use.
     ensures used { length state.new.entries + entries.new ≡ length state.old.entries + entries.old }
     ensures full { IsErrOf result ApplyFault.HistoryFull
-        ↔ ((is_tx_len tx.now ≡ true) × ((entries.old ≡ 0) ⊎ (65536 ≤ length state.old.entries))) }
+        ↔ ((is_tx_len tx.now ≡ true) × ((entries.old ≡ 0) ⊎ (max_history_len ≤ length state.old.entries))) }
     ensures same_state { OnErr result (state.new ≡ state.old) }
     ensures same_entries { OnErr result (entries.new ≡ entries.old) }
-    // Bytes that no pool takes have an answer, whatever else is short.
+    // Bytes that no pool takes always get an answer.
     ensures needed { OnErr result (is_tx_len tx.now ≡ true) }
     ensures on { GoesOn state.old state.new }
-    // A client uses up no signature.
+    // A client's transaction uses no signature.
     ensures leaves { state.new.used ≡ state.old.used }
 {
     let len = state.len();
@@ -118,7 +120,7 @@ pub fn submit<A: Application>(
     Ok(answer)
 }
 
-/// The answer to a query that stands in the history at this index. The only error is want of memory.
+/// The answer to the query at this index of the history. The only error is allocation failure.
 fn answer_at<A: Application>(state: &State<A>, index: usize) -> Result<QueryAnswer, AllocError>
     requires { IsAnswered (slice_get state.now.entries index) }
     ensures { IfOk result (λ answer. query_reply_at (slice_get state.now.entries index) ≡ Some (Ok answer)) }
@@ -132,10 +134,10 @@ fn answer_at<A: Application>(state: &State<A>, index: usize) -> Result<QueryAnsw
     }
 }
 
-/// Asks the replica's application for a client's key, as of its last block.
+/// Queries the replica's application for a client, as of its last block.
 ///
-/// `HistoryFull` comes where there is no entry for it: clients have used theirs up, or the history is full. Nothing has changed
-/// then. After `NoMemory` the query may stand in the history although its answer could not be handed out.
+/// `HistoryFull` comes if there is no entry for the query: clients have used theirs up, or the history is full. Then
+/// nothing has changed. After `NoMemory` the query may be in the history, although its answer could not be returned.
 pub fn query<A: Application>(
     state: &mut State<A>,
     entries: &mut ClientEntries,
@@ -144,12 +146,12 @@ pub fn query<A: Application>(
     ensures answer { IfOk result (λ answer. Ok answer ≡ query_reply state.old.config.kind (commits_of state.old.config state.old.id state.old.entries) key 0) }
     ensures event { OnOk result (Takes state.old.entries (events.Query key 0 ∷ []) state.new.entries) }
     ensures fault { OnErr result ((state.new ≡ state.old) ⊎ Takes state.old.entries (events.Query key 0 ∷ []) state.new.entries) }
-    // Each new entry of the history is one of the clients'.
+    // Each new entry of the history is one that clients may use.
     ensures used { length state.new.entries + entries.new ≡ length state.old.entries + entries.old }
-    ensures full { IsErrOf result ApplyFault.HistoryFull ↔ ((entries.old ≡ 0) ⊎ (65536 ≤ length state.old.entries)) }
+    ensures full { IsErrOf result ApplyFault.HistoryFull ↔ ((entries.old ≡ 0) ⊎ (max_history_len ≤ length state.old.entries)) }
     ensures same { IsErrOf result ApplyFault.HistoryFull → state.new ≡ state.old }
     ensures on { GoesOn state.old state.new }
-    // A client uses up no signature.
+    // A client's query uses no signature.
     ensures leaves { state.new.used ≡ state.old.used }
 {
     let len = state.len();

@@ -1,23 +1,24 @@
-//! How the replicas of a running cluster are made: with the keys of the cluster, and no history.
+//! Makes the replicas of a running cluster, with the keys of the cluster and an empty history.
 ghost use Rattle.std.specs.Prelude.{◌≡◌, ◌<◌, [], IfOk};
 ghost use Rattle.ledger_model.specs.Applications.{run};
 ghost use Rattle.cluster_keys.specs.Keys.{ring_of, secret_of, unused};
+ghost use Rattle.locked_replica.specs.States.{new_state};
 
 use abci::Application;
-use cluster_keys::Cluster;
+use cluster_keys::ClusterSeed;
 use key_ring::{KeyRing, Signer};
 use ledger_model::ReplicaId;
 use locked_replica::State;
 use std::alloc::{AllocError, Global};
 use std::hash::RandomState;
 
-/// A replica of the cluster with no history, from its key pair and the public keys of all, which
-/// [`ClusterKeys`](cluster_keys::ClusterKeys) has. The application is in its opening state, of the cluster's kind.
+/// A replica of the cluster with an empty history, from its key pair and the public keys of all replicas, which
+/// [`ClusterKeys`](cluster_keys::ClusterKeys) has. The application must be in its opening state, of the cluster's kind.
 ///
-/// Copies the ring. The only error is that memory ran out.
+/// Copies the ring. The only error is allocation failure.
 pub fn new_replica<A: Application>(
     alloc: Global,
-    cluster: &Cluster,
+    cluster: &ClusterSeed,
     id: ReplicaId,
     signer: Signer,
     ring: &KeyRing,
@@ -28,7 +29,7 @@ pub fn new_replica<A: Application>(
     requires signer { signer ≡ unused (secret_of cluster.now id) }
     requires ring { ring.now ≡ ring_of cluster.now }
     requires opening { A.machine app ≡ run cluster.now.config.kind [] }
-    ensures { IfOk result (λ state. state ≡ record { config = cluster.now.config; id = id; ring = ring_of cluster.now; secret = secret_of cluster.now id; used = 0; entries = []; machine = run cluster.now.config.kind [] }) }
+    ensures { IfOk result (λ state. state ≡ new_state cluster.now.config id (ring_of cluster.now) (unused (secret_of cluster.now id))) }
 {
     State::new(
         alloc,

@@ -1,13 +1,13 @@
 //! The frames that an entry of a history sent.
 ghost use Rattle.std.specs.Prelude.{◌≡◌, slice_get, IfOk};
-ghost use Rattle.replica_turns.specs.Own.{sent_at};
+ghost use Rattle.replica_turns.specs.OwnEvents.{sent_at};
 
 use abci::Application;
 use ledger_model::Sent;
 use locked_replica::{ReplyView, RoundEndView, State};
 use std::alloc::{AllocError, Global};
 
-/// The frames of a round end once more. Their bytes are shared.
+/// Copies of the frames of a round end, which share the bytes.
 fn copied(alloc: Global, ended: &RoundEndView<'_>) -> Result<Vec<Sent>, AllocError>
     ensures { IfOk result (λ sent. sent.items ≡ ended.now.frames) }
 {
@@ -24,7 +24,8 @@ fn copied(alloc: Global, ended: &RoundEndView<'_>) -> Result<Vec<Sent>, AllocErr
     Ok(frames)
 }
 
-/// The frames that an entry of the history sent. The only error is want of memory.
+/// The frames that the entry at this index of the history sent; none if it is no round end, or doesn't exist. The only
+/// error is allocation failure.
 pub fn sent_at<A: Application>(
     alloc: Global,
     state: &State<A>,

@@ -1,17 +1,17 @@
-//! How a replica stands, as its operator is told.
+//! The status of a replica, for its operator.
 use abci::Application;
 use locked_replica::{MAX_ENTRIES, State};
 
-/// How a replica stands after a turn.
+/// The status of a replica after a turn.
 #[derive(Clone, Copy, Debug, PartialEq, Eq)]
 pub struct ReplicaStatus {
-    /// How many rounds it ended.
+    /// The number of rounds that it ended.
     pub rounds: u32,
-    /// How many blocks it committed.
+    /// The number of blocks that it committed.
     pub height: u32,
-    /// How many entries its history has.
+    /// The number of entries in its history.
     pub entries: usize,
-    /// How many signatures its key pair has left.
+    /// The number of signatures that its key pair has left.
     pub signatures: u32,
     /// Whether it is mute.
     pub is_mute: bool,
@@ -25,7 +25,7 @@ impl ReplicaStatus {
     ghost use Rattle.ledger_model.specs.Logs.{is_mute};
     ghost use Rattle.replica_turns.specs.Turns.{height_in};
 
-    /// How this replica stands.
+    /// The status of this replica.
     pub fn of<A: Application>(state: &State<A>) -> Self
         ensures rounds { result.rounds ≡ clock_at state.now.entries }
         ensures height { result.height ≡ height_in state.now }
@@ -42,7 +42,7 @@ impl ReplicaStatus {
         }
     }
 
-    /// Whether nine tenths of its history are full.
+    /// Whether its history is at least nine tenths full.
     pub fn is_nearly_full(&self) -> bool
         ensures { result ≡ nat_le (9 * max_history_len) (10 * self.now.entries) }
     {

@@ -1,8 +1,9 @@
-//! One turn: events that a replica takes, and the height that it publishes then.
+//! One turn: a replica takes events, and then publishes its height.
 ghost use Rattle.std.specs.Prelude.{◌≡◌, ◌≤◌, ◌↔◌, max, length, IfOk, OnOk, OnErr, IsErrOf};
 ghost use Rattle.ledger_model.specs.Lawful.{Replay};
-ghost use Rattle.locked_replica.specs.Replicas.{RunsAlone};
+ghost use Rattle.locked_replica.specs.States.{RunsAlone};
 ghost use Rattle.replica_turns.specs.Turns.{Takes, TakesSome, GoesOn, height_in};
+ghost use Rattle.ledger_model.specs.Limits.{max_history_len};
 
 use abci::Application;
 use commit_board::{Board, WriterSeat};
@@ -10,15 +11,15 @@ use ledger_model::{Event, Height};
 use locked_replica::{ApplyFault, State};
 use std::sync::Mutex;
 
-/// A replica that threads share. Locking it waits for whoever has locked it.
+/// A replica that threads share. Locking it waits until no other thread has it locked.
 pub type LockedReplica<A> = Mutex<State<A>>;
 
-/// Takes the events in order, up to the first that is refused, and answers the old length of the history.
+/// Takes the events in order, up to the first that is refused, and returns the previous length of the history.
 fn take_all<A: Application>(state: &mut State<A>, events: Vec<Event>) -> Result<usize, ApplyFault>
     ensures index { IfOk result (λ index. index ≡ length state.old.entries) }
     ensures taken { OnOk result (Takes state.old.entries events.items state.new.entries) }
     ensures some { OnErr result (TakesSome state.old.entries events.items state.new.entries) }
-    ensures full { OnErr result (IsErrOf result ApplyFault.HistoryFull ↔ (65536 ≤ length state.new.entries)) }
+    ensures full { OnErr result (IsErrOf result ApplyFault.HistoryFull ↔ (max_history_len ≤ length state.new.entries)) }
     ensures on { GoesOn state.old state.new }
 {
     let index = state.len();
@@ -28,11 +29,11 @@ fn take_all<A: Application>(state: &mut State<A>, events: Vec<Event>) -> Result<
     Ok(index)
 }
 
-/// Takes the events in order, up to the first that is refused; then publishes the replica's committed height. Answers the old
-/// length of the history, from which on the new entries stand, or why the event was refused.
+/// Takes the events in order, up to the first that is refused, and then publishes the replica's committed height.
+/// Returns the previous length of the history, which is the index of the first new entry, or why an event was refused.
 ///
-/// `HistoryFull` comes where the history has 65,536 entries then. After a fault the events before the refused one are taken, and
-/// neither that one nor those behind it.
+/// `HistoryFull` comes if the history had 65,536 entries at the refused event. After a fault, the events before the
+/// refused one were taken; the refused one and those after it were not.
 pub fn turn<A: Application>(
     state: &mut State<A>,
     events: Vec<Event>,
@@ -44,12 +45,12 @@ pub fn turn<A: Application>(
     ensures index { IfOk result (λ index. index ≡ length state.old.entries) }
     ensures taken { OnOk result (Takes state.old.entries events.items state.new.entries) }
     ensures some { OnErr result (TakesSome state.old.entries events.items state.new.entries) }
-    ensures full { OnErr result (IsErrOf result ApplyFault.HistoryFull ↔ (65536 ≤ length state.new.entries)) }
+    ensures full { OnErr result (IsErrOf result ApplyFault.HistoryFull ↔ (max_history_len ≤ length state.new.entries)) }
     // Each entry is lawful after those before it, and each signature in a reply verifies.
     ensures replay { Replay state.new.config state.new.ring state.new.id state.new.entries }
     ensures rest { state.new ≡ record state.old { used = state.new.used; entries = state.new.entries; machine = state.new.machine } }
     ensures leaves { state.old.used ≤ state.new.used }
-    // The application is what it is run alone on the committed blocks.
+    // The application is in the state that it reaches when it runs alone on the committed blocks.
     ensures machine { RunsAlone state.new }
     ensures seat { seat.new ≡ record seat.old { height = max seat.old.height (height_in state.new) } }
 {

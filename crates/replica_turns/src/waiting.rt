@@ -1,8 +1,8 @@
-//! The frames that wait for a replica's turn: a bounded number, of which some are kept for the next round.
+//! The frames that wait for a replica's turn: a bounded number, some of them for the next round.
 ghost use Rattle.std.specs.Prelude.{◌≡◌, ◌≤◌, ◌+◌, ◌-◌, ◌++◌, [], length, take, drop, filter, vec_len, OnOk, OnErr};
 ghost use Rattle.ledger_model.specs.Reading.{reading};
 ghost use Rattle.replica_turns.specs.Rounds.{is_early};
-ghost use Rattle.replica_turns.specs.Waiting.{Waiting, max_at_once, max_due, max_early, max_waiting};
+ghost use Rattle.replica_turns.specs.Waiting.{WaitingFramesView, max_at_once, max_due, max_early, max_waiting};
 
 use crate::early::early_of;
 use bytes::Bytes;
@@ -12,20 +12,19 @@ use std::marker::Model;
 /// The most frames that are taken in for one turn.
 const MAX_AT_ONCE: usize = 64;
 
-/// The most frames that are kept for the next round.
+/// The most frames that wait for the next round.
 const MAX_EARLY: usize = 1024;
 
-/// The most frames of one turn: those that are taken in, and those that were kept from the round before.
+/// The most frames of one turn: those that are taken in, and those that waited for the round.
 const MAX_DUE: usize = MAX_AT_ONCE + MAX_EARLY;
 
-/// The frames that wait for a replica: those of its next turn, and those that came a round early. There are at most 2,112 of
-/// them.
+/// The frames that wait for a replica: those of its next turn, and those that arrived one round early. There are at most 2,112.
 pub struct WaitingFrames {
     due: Vec<Bytes>,
     early: Vec<Bytes>,
 }
 
-// It is dropped by a function of its own, so that whoever owns one drops it by a single call.
+// An own `Drop` keeps proofs short: an owner drops it by one call. See docs/WORKING.md.
 impl Drop for WaitingFrames {
     fn drop(self) {
         let WaitingFrames {
@@ -37,9 +36,9 @@ impl Drop for WaitingFrames {
 
 impl Model for WaitingFrames {
     ghost use Rattle.std.specs.Prelude.{◌≤◌, length};
-    ghost use Rattle.replica_turns.specs.Waiting.{Waiting, max_early, max_due};
+    ghost use Rattle.replica_turns.specs.Waiting.{WaitingFramesView, max_early, max_due};
 
-    ghost Value = { Waiting };
+    ghost Value = { WaitingFramesView };
 
     ghost view = { λ w. record { due = w.due.items; early = w.early.items } };
 
@@ -47,7 +46,7 @@ impl Model for WaitingFrames {
 }
 
 impl WaitingFrames {
-    /// None.
+    /// No waiting frames.
     pub fn new(alloc: Global) -> Self
         ensures { result ≡ record { due = []; early = [] } }
     {
@@ -57,14 +56,14 @@ impl WaitingFrames {
         }
     }
 
-    /// Those of the next turn, in order.
+    /// The frames of the next turn, in order.
     pub fn due(&self) -> &[Bytes]
         ensures { result.now ≡ self.now.due }
     {
         self.due.as_slice()
     }
 
-    /// How many more may be taken in before the next turn.
+    /// The number of frames that may still be taken in before the next turn.
     pub fn room(&self) -> usize
         ensures room { result ≡ max_at_once - length self.now.due }
         ensures bounded { length self.now.due + length self.now.early ≤ max_waiting }
@@ -72,8 +71,8 @@ impl WaitingFrames {
         MAX_AT_ONCE.saturating_sub(self.due.len())
     }
 
-    /// Takes in frames that came while the round `clock` was open. Frames of the next round are kept for it, too, up to 1,024 of
-    /// them. If memory runs out, all of `frames` are dropped.
+    /// Takes in frames that arrived while the round `clock` was open. Frames for the next round also wait for that
+    /// round, at most 1,024 of them. If memory runs out, all of `frames` are dropped.
     pub fn take_in(
         &mut self,
         alloc: Global,
@@ -94,8 +93,8 @@ impl WaitingFrames {
         Ok(())
     }
 
-    /// The next round is open: the frames that were kept for it are due, up to 1,088 frames in all. If memory runs out, those that
-    /// were kept are dropped.
+    /// Opens the next round: the frames that waited for it are due, up to 1,088 frames in all. If memory runs out, the
+    /// frames that waited for it are dropped.
     pub fn open_round(&mut self) -> Result<(), AllocError>
         ensures due { OnOk result (self.new.due ≡ take max_due (self.old.due ++ self.old.early)) }
         ensures lost { OnErr result (self.new.due ≡ self.old.due) }
@@ -107,7 +106,7 @@ impl WaitingFrames {
         done
     }
 
-    /// Gives up the first of those that are due.
+    /// Drops the first `count` of the frames that are due.
     pub fn give_up(&mut self, count: usize)
         ensures due { self.new.due ≡ drop count self.old.due }
         ensures early { self.new.early ≡ self.old.early }
@@ -116,7 +115,7 @@ impl WaitingFrames {
         self.due.drain(..count);
     }
 
-    /// Gives up all.
+    /// Drops all frames.
     pub fn give_up_all(&mut self)
         ensures { self.new ≡ record { due = []; early = [] } }
     {

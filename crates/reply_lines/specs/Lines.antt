@@ -1,5 +1,6 @@
--- The lines that are printed of what a cluster's replicas answer.
-use Rattle.std.specs.Prelude.{ℕ, ◌+◌, Bool, true, false, not, is_some, filter, List, [], ◌∷◌, ◌++◌, length, Option, Some, None, Result, Ok, Err, codes, decimal, slice_get}
+-- The lines that are printed for the replies of a cluster's replicas.
+use Rattle.std.specs.Prelude.{ℕ, ◌+◌, Bool, true, false, not, is_some, filter, List, [], ◌∷◌, ◌++◌, length, Option, Some, None, Result, Ok}
+use Rattle.std.specs.Prelude.{Err, codes, decimal, slice_get}
 use Rattle.std.specs.List.{flat_map, range_with_len}
 use Rattle.ledger_model.specs.declared.config.Config.{Config}
 use Rattle.ledger_model.specs.declared.event.Event.{Event}
@@ -30,22 +31,23 @@ use Rattle.ledger_model.specs.Lawful.{clock_at}
 use Rattle.ledger_model.specs.Worlds.{World, entries_in}
 use Rattle.abci.specs.declared.info.Info.{Info}
 use Rattle.hex.specs.Hex.{encode_lower}
-use Rattle.replica_core.specs.Telling.{block_at}
+use Rattle.replica_core.specs.Facts.{block_at}
 use Rattle.plain_text.specs.Transactions.{bytes_text}
 use Rattle.scenario_texts.specs.Texts.{batch_text}
+use Rattle.ledger_model.specs.Causes.{cause_text}
 
--- a line and its end
+-- a line, with its line feed
 abbrev pub ended : List ℕ → List ℕ
 ended text = text ++ 10 ∷ []
 
--- a batch that may be missing
+-- the text of a batch, if there is one
 abbrev pub batch_text_of : Option Value → List ℕ
 batch_text_of None = []
 batch_text_of (Some v) = batch_text v
 
--- ---- a transaction that is handed in
+-- ---- a submitted transaction
 
--- why it is not taken
+-- why it was refused
 abbrev pub submit_refusal_text : SubmitRefusal → List ℕ
 submit_refusal_text submit.Empty = codes "1"
 submit_refusal_text submit.TooLong = codes "2"
@@ -58,9 +60,9 @@ abbrev pub submitted_text : ℕ → Result (Unit {0}) SubmitRefusal → List ℕ
 submitted_text r (Ok u) = codes "submit " ++ decimal r ++ codes " ok"
 submitted_text r (Err why) = codes "submit " ++ decimal r ++ codes " refused " ++ submit_refusal_text why
 
--- ---- a height that is opened
+-- ---- opening a height
 
--- why it is not
+-- why it was refused
 abbrev pub propose_refusal_text : ProposeRefusal → List ℕ
 propose_refusal_text propose.TooFar = codes "1"
 propose_refusal_text propose.AlreadyOpen = codes "2"
@@ -71,21 +73,7 @@ abbrev pub proposed_text : ℕ → ℕ → Result Value ProposeRefusal → List 
 proposed_text r h (Ok batch) = codes "propose " ++ decimal r ++ codes " " ++ decimal h ++ codes " " ++ batch_text batch
 proposed_text r h (Err why) = codes "propose " ++ decimal r ++ codes " " ++ decimal h ++ codes " refused " ++ propose_refusal_text why
 
--- ---- bytes that come to a replica
-
--- the number and the name of a cause
-abbrev pub cause_text : Ignored → List ℕ
-cause_text cause.Malformed = codes "1 Malformed"
-cause_text cause.Signer = codes "2 Signer"
-cause_text cause.NoRow = codes "3 NoRow"
-cause_text cause.WrongRound = codes "4 WrongRound"
-cause_text cause.WrongPhase = codes "5 WrongPhase"
-cause_text cause.NotOwner = codes "6 NotOwner"
-cause_text cause.Repeated = codes "7 Repeated"
-cause_text cause.BadSignature = codes "8 BadSignature"
-cause_text cause.BadProof = codes "9 BadProof"
-cause_text cause.TableFull = codes "10 TableFull"
-cause_text cause.NotMine = codes "11 NotMine"
+-- ---- bytes from the network
 
 -- `accepted`, `ignored 7 Repeated`
 abbrev pub delivery_text : Result (Unit {0}) Ignored → List ℕ
@@ -96,22 +84,23 @@ delivery_text (Err why) = codes "ignored " ++ cause_text why
 abbrev pub delivered_text : ℕ → Result (Unit {0}) Ignored → List ℕ
 delivered_text r given = codes "deliver " ++ decimal r ++ codes " " ++ delivery_text given
 
--- ---- a round that ends
+-- ---- the end of a round
 
--- ` mute`, where the replica is mute
+-- ` mute`, if the replica is mute
 abbrev pub mute_text : Bool → List ℕ
 mute_text false = []
 mute_text true = codes " mute"
 
--- `end R C sent S`, with ` mute` at its end where the replica is mute
+-- `end R C sent S`, followed by ` mute` if the replica is mute
 abbrev pub ended_round_text : ℕ → ℕ → ℕ → Bool → List ℕ
-ended_round_text r clock sent mute = codes "end " ++ decimal r ++ codes " " ++ decimal clock ++ codes " sent " ++ decimal sent ++ mute_text mute
+ended_round_text r clock sent mute =
+    codes "end " ++ decimal r ++ codes " " ++ decimal clock ++ codes " sent " ++ decimal sent ++ mute_text mute
 
 -- `end R last`
 abbrev pub last_round_text : ℕ → List ℕ
 last_round_text r = codes "end " ++ decimal r ++ codes " last"
 
--- what is printed of the end itself
+-- the text for the round end itself
 abbrev pub end_text : ℕ → ℕ → Result RoundEnded LastRound → List ℕ
 end_text r clock (Ok end) = ended_round_text r clock (length end.frames) end.mute
 end_text r clock (Err last) = last_round_text r
@@ -125,17 +114,18 @@ abbrev pub decision_lines : ℕ → ℕ → Option Value → List ℕ
 decision_lines r h (Some v) = decision_line r h v
 decision_lines r h None = []
 
--- the heights that may be open above the committed ones and aren't decided
+-- the heights above the committed ones that may be open and aren't decided
 abbrev pub undecided : Config → ℕ → List Entry → List ℕ
-undecided config r entries = filter (λ h. not (is_some (decided_at config r entries h))) (range_with_len (length (commits_of config r entries) + 1) max_ahead)
+undecided config r entries = filter (λ h. not (is_some (decided_at config r entries h)))
+    (range_with_len (length (commits_of config r entries) + 1) max_ahead)
 
--- the lines of the heights that were not decided and are now, ascending
+-- the lines of these heights that are decided by now, ascending
 abbrev pub decided_lines : Config → ℕ → List ℕ → List Entry → List ℕ
 decided_lines config r heights entries = flat_map (λ h. decision_lines r h (decided_at config r entries h)) heights
 
 -- ---- a block that is run
 
--- ` codes 0,0`: after `codes` nothing where the batch is empty
+-- ` codes 0,0`; nothing follows ` codes` if the batch is empty
 abbrev pub codes_text : List ℕ → List ℕ
 codes_text [] = codes " codes"
 codes_text (c ∷ cs) = codes " codes " ++ decimal c ++ flat_map (λ d. codes "," ++ decimal d) cs
@@ -149,12 +139,12 @@ block_text r batch block =
 abbrev pub nothing_text : ℕ → List ℕ
 nothing_text r = codes "execute " ++ decimal r ++ codes " nothing"
 
--- what is printed of an execution, by all that is committed after it
+-- the text for an execution, given all blocks that are committed after it
 abbrev pub executed_text : ℕ → List Value → Result BlockResult NothingDecided → List ℕ
 executed_text r commits (Ok block) = block_text r (block_at commits block.height) block
 executed_text r commits (Err nothing) = nothing_text r
 
--- ---- a key that is asked for
+-- ---- a query
 
 -- a value, or `absent`
 abbrev pub value_text : Option (List ℕ) → List ℕ
@@ -165,16 +155,16 @@ value_text (Some bytes) = bytes_text bytes
 abbrev pub found_text : ℕ → QueryAnswer → List ℕ
 found_text r found = codes "query " ++ decimal r ++ codes " " ++ decimal found.height ++ codes " " ++ value_text found.value
 
--- `query R refused 1`, at a height that is not the last: no command asks for one
+-- `query R refused 1`, for a height that is not the last; no command asks for one
 abbrev pub not_held_text : ℕ → List ℕ
 not_held_text r = codes "query " ++ decimal r ++ codes " refused 1"
 
--- what is printed of a query
+-- the text for a query
 abbrev pub queried_text : ℕ → Result QueryAnswer NotHeld → List ℕ
 queried_text r (Ok found) = found_text r found
 queried_text r (Err why) = not_held_text r
 
--- ---- what the application tells of itself
+-- ---- the state of the application
 
 -- `info R H` and the hash of its state
 abbrev pub told_text : ℕ → Info → List ℕ
@@ -182,22 +172,23 @@ told_text r info = codes "info " ++ decimal r ++ codes " " ++ decimal info.heigh
 
 -- ---- steps
 
--- what is printed of an event of a replica and the reply, by the heights that weren't decided before it, and the history with it
+-- the text for an event of a replica and the reply, given the heights that weren't decided before it, and the history after it
 abbrev pub reply_text : Config → ℕ → List ℕ → List Entry → Event → Reply → List ℕ
 reply_text config r before after (event.Submit tx) (reply.Submitted given) = ended (submitted_text r given)
 reply_text config r before after (event.Propose h) (reply.Proposed given) = ended (proposed_text r h given)
 reply_text config r before after (event.Deliver bytes) (reply.Delivered given) = ended (delivered_text r given)
-reply_text config r before after event.RoundEnd (reply.RoundEnded given) = ended (end_text r (clock_at after) given) ++ decided_lines config r before after
+reply_text config r before after event.RoundEnd (reply.RoundEnded given) =
+    ended (end_text r (clock_at after) given) ++ decided_lines config r before after
 reply_text config r before after event.Execute (reply.Executed given) = ended (executed_text r (commits_of config r after) given)
 reply_text config r before after (event.Query key h) (reply.Queried given) = ended (queried_text r given)
 reply_text config r before after _ _ = []
 
--- what is printed of an entry of a replica
+-- the text for an entry of a replica
 abbrev pub entry_text : Config → ℕ → List ℕ → List Entry → Option Entry → List ℕ
 entry_text config r before after None = []
 entry_text config r before after (Some e) = reply_text config r before after e.event e.reply
 
--- why a step did not happen, by its number
+-- why a step was refused, by its number
 abbrev pub refusal_text : WorldRefusal → List ℕ
 refusal_text refused.NoSuchFrame = codes "refused 1"
 refusal_text refused.NoSuchReplica = codes "refused 2"
@@ -205,7 +196,8 @@ refusal_text refused.Liar = codes "refused 3"
 refusal_text refused.HistoryFull = codes "refused 4"
 refusal_text refused.NoMemory = codes "refused 5"
 
--- what is printed of a step, by the world before it, its answer and the world after it
+-- the text for a step, given the world before it, its reply and the world after it
 abbrev pub step_text : Config → World → WorldReply → World → List ℕ
 step_text config w (answer.Refused why) new = ended (refusal_text why)
-step_text config w (answer.Done r i) new = entry_text config r (undecided config r (entries_in w r)) (entries_in new r) (slice_get (entries_in new r) i)
+step_text config w (answer.Done r i) new =
+    entry_text config r (undecided config r (entries_in w r)) (entries_in new r) (slice_get (entries_in new r) i)

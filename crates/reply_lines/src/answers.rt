@@ -1,4 +1,4 @@
-//! What is printed of an answer, by what the world's replica has become.
+//! The lines for a reply, given the state of the replica after it.
 ghost use Rattle.std.specs.Prelude.{◌≡◌, ◌++◌, OnOk, IfOk, slice_get};
 ghost use Rattle.std.specs.Result.{result_map_both};
 ghost use Rattle.ledger_model.specs.Commits.{commits_of};
@@ -17,7 +17,7 @@ use ledger_model::{
 use locked_replica::{EntryView, EventView, ReplyView, RoundEndView, State};
 use std::alloc::{AllocError, Global};
 
-/// The heights that may be open above the committed ones and aren't decided, ascending.
+/// The heights above the committed ones that may be open and aren't decided, ascending.
 pub fn undecided_heights<A: Application>(
     alloc: Global,
     state: &State<A>,
@@ -34,7 +34,7 @@ pub fn undecided_heights<A: Application>(
     Ok(heights)
 }
 
-/// The lines of those that are decided now.
+/// Appends a line for each of these heights that is decided now.
 fn add_decisions<A: Application>(
     out: &mut Text,
     state: &State<A>,
@@ -53,7 +53,7 @@ fn add_decisions<A: Application>(
     Ok(())
 }
 
-/// The lines of a round end.
+/// Appends the lines of a round end.
 fn add_round_end<A: Application>(
     out: &mut Text,
     state: &State<A>,
@@ -69,7 +69,7 @@ fn add_round_end<A: Application>(
     add_decisions(out, state, undecided)
 }
 
-/// The line of an execution.
+/// Appends the line of an execution.
 fn add_execution<A: Application>(
     out: &mut Text,
     state: &State<A>,
@@ -83,7 +83,7 @@ fn add_execution<A: Application>(
     }
 }
 
-/// The line of a query.
+/// Appends the line of a query.
 fn add_answer(
     out: &mut Text,
     replica: ReplicaId,
@@ -97,7 +97,7 @@ fn add_answer(
     }
 }
 
-/// The lines of an event and its reply.
+/// Appends the lines of an event and its reply.
 fn add_reply<A: Application>(
     out: &mut Text,
     state: &State<A>,
@@ -135,7 +135,7 @@ fn add_reply<A: Application>(
     }
 }
 
-/// The lines of an entry of a replica, by the heights that weren't decided before it.
+/// Appends the lines of a replica's entry, given the heights that weren't decided before it.
 pub fn add_entry<A: Application>(
     out: &mut Text,
     state: &State<A>,

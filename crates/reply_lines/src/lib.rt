@@ -1,4 +1,4 @@
-//! The lines that are printed of what replicas answer.
+//! The lines that are printed for the replies of replicas.
 #![tactic(auto)]
 
 mod answers;
@@ -6,5 +6,5 @@ mod lines;
 mod text;
 
 pub use answers::{add_entry, undecided_heights};
-pub use lines::{add_info, add_refusal, cause_name};
+pub use lines::{add_info, add_refusal};
 pub use text::Text;

@@ -1,9 +1,9 @@
-//! The lines that are printed of what is answered.
+//! Appends each kind of line.
 ghost use Rattle.std.specs.Prelude.{◌≡◌, ◌++◌, OnOk, codes, decimal};
 ghost use Rattle.std.specs.List.{flat_map};
 ghost use Rattle.std.specs.Option.{option_copied};
 ghost use Rattle.std.specs.Result.{result_map_both};
-ghost use Rattle.reply_lines.specs.Lines.{ended, batch_text_of, cause_text, submit_refusal_text, submitted_text, propose_refusal_text, proposed_text, delivered_text, ended_round_text, last_round_text, decision_lines, codes_text, block_text, nothing_text, found_text, not_held_text, refusal_text, told_text};
+ghost use Rattle.reply_lines.specs.Lines.{ended, batch_text_of, submit_refusal_text, submitted_text, propose_refusal_text, proposed_text, delivered_text, ended_round_text, last_round_text, decision_lines, codes_text, block_text, nothing_text, found_text, not_held_text, refusal_text, told_text};
 
 use crate::text::Text;
 use abci::Info;
@@ -12,25 +12,6 @@ use ledger_model::{
     ReplicaId, SubmitRefusal, WorldRefusal,
 };
 use std::alloc::AllocError;
-
-/// The number and the name of a cause.
-pub fn cause_name(cause: Ignored) -> &'static str
-    ensures { result.now ≡ cause_text cause }
-{
-    match cause {
-        Ignored::Malformed => "1 Malformed",
-        Ignored::Signer => "2 Signer",
-        Ignored::NoRow => "3 NoRow",
-        Ignored::WrongRound => "4 WrongRound",
-        Ignored::WrongPhase => "5 WrongPhase",
-        Ignored::NotOwner => "6 NotOwner",
-        Ignored::Repeated => "7 Repeated",
-        Ignored::BadSignature => "8 BadSignature",
-        Ignored::BadProof => "9 BadProof",
-        Ignored::TableFull => "10 TableFull",
-        Ignored::NotMine => "11 NotMine",
-    }
-}
 
 /// The number of a refused proposal.
 fn propose_refusal(refusal: ProposeRefusal) -> &'static str
@@ -64,7 +45,7 @@ pub fn add_refusal(out: &mut Text, refusal: WorldRefusal) -> Result<(), AllocErr
     out.add("\n")
 }
 
-/// Why a transaction is not taken.
+/// The number of the reason for which a transaction was refused, with the application's code.
 fn add_submit_refusal(out: &mut Text, refusal: SubmitRefusal) -> Result<(), AllocError>
     ensures { OnOk result (out.new ≡ out.old ++ submit_refusal_text refusal) }
 {
@@ -80,7 +61,7 @@ fn add_submit_refusal(out: &mut Text, refusal: SubmitRefusal) -> Result<(), Allo
     }
 }
 
-/// `propose R H `, or the like: a word, a replica and a height.
+/// The start of a line, as in `propose R H `: a word, a replica and a height.
 fn add_head(out: &mut Text, word: &str, replica: ReplicaId, height: u32) -> Result<(), AllocError>
     ensures { OnOk result (out.new ≡ out.old ++ word.now ++ codes " " ++ decimal replica ++ codes " " ++ decimal height ++ codes " ") }
 {
@@ -145,13 +126,13 @@ pub(crate) fn add_delivered(
         Ok(()) => out.add("accepted\n"),
         Err(cause) => {
             out.add("ignored ")?;
-            out.add(cause_name(cause))?;
+            out.add(cause.text())?;
             out.add("\n")
         }
     }
 }
 
-/// `end R C sent S`, with ` mute` at its end where the replica is mute.
+/// `end R C sent S`, followed by ` mute` if the replica is mute.
 pub(crate) fn add_end(
     out: &mut Text,
     replica: ReplicaId,
@@ -193,7 +174,7 @@ pub(crate) fn add_decision(
     out.add("\n")
 }
 
-/// Adds a batch, if there is one.
+/// Appends a batch, if there is one.
 fn add_any_batch(out: &mut Text, batch: Option<&Batch>) -> Result<(), AllocError>
     ensures { OnOk result (out.new ≡ out.old ++ batch_text_of (option_copied batch.entry)) }
 {
@@ -203,7 +184,7 @@ fn add_any_batch(out: &mut Text, batch: Option<&Batch>) -> Result<(), AllocError
     }
 }
 
-/// Adds codes, with a comma before each.
+/// Appends codes, each preceded by a comma.
 fn add_more_codes(out: &mut Text, more: &[u32]) -> Result<(), AllocError>
     ensures { OnOk result (out.new ≡ out.old ++ flat_map (λ code. codes "," ++ decimal code) more.now) }
 {

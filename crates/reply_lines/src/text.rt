@@ -1,4 +1,4 @@
-//! A text that grows: what is written of bytes and batches.
+//! A text that grows, to which bytes and batches can be appended.
 use ledger_model::{Batch, Tx};
 use plain_text::Escaped;
 use std::alloc::{AllocError, Global};
@@ -24,7 +24,7 @@ impl Text {
     ghost use Rattle.plain_text.specs.Transactions.{bytes_text};
     ghost use Rattle.scenario_texts.specs.Texts.{batch_text};
 
-    /// No text yet.
+    /// The empty text.
     pub fn new(alloc: Global) -> Self
         ensures { result ≡ [] }
     {
@@ -40,19 +40,19 @@ impl Text {
         self.bytes.as_slice()
     }
 
-    /// Where its memory comes from.
+    /// The allocator of the text.
     pub fn allocator(&self) -> Global {
         *self.bytes.allocator()
     }
 
-    /// Adds a text.
+    /// Appends a text.
     pub fn add(&mut self, text: &str) -> Result<(), AllocError>
         ensures { OnOk result (self.new ≡ self.old ++ text.now) }
     {
         self.bytes.extend_from_slice(text.as_bytes())
     }
 
-    /// Adds bytes as they are written: each as itself, or as a backslash and two hexadecimal digits.
+    /// Appends bytes in their printed form: each as itself, or as a backslash and two hexadecimal digits.
     pub fn add_bytes(&mut self, bytes: &[u8]) -> Result<(), AllocError>
         ensures { OnOk result (self.new ≡ self.old ++ bytes_text bytes.now) }
     {
@@ -61,7 +61,7 @@ impl Text {
         self.add(&text)
     }
 
-    /// Adds transactions, with a comma before each.
+    /// Appends transactions, each preceded by a comma.
     fn add_more(&mut self, transactions: &[Tx]) -> Result<(), AllocError>
         ensures { OnOk result (self.new ≡ self.old ++ flat_map (λ t. codes "," ++ bytes_text t) transactions.now) }
     {
@@ -72,7 +72,7 @@ impl Text {
         Ok(())
     }
 
-    /// Adds a batch: its transactions, parted by commas, in brackets.
+    /// Appends a batch: its transactions in brackets, separated by commas.
     #[tactic(auto, unfolding(scenario_texts::specs::Texts::batch_text))]
     pub fn add_batch(&mut self, batch: &Batch) -> Result<(), AllocError>
         ensures { OnOk result (self.new ≡ self.old ++ batch_text batch.now) }

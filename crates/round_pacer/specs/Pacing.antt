@@ -5,6 +5,6 @@ use Rattle.std.specs.Prelude.{ℕ, ◌+◌, ◌*◌, ◌/◌}
 abbrev pub due_at : ℕ → ℕ → ℕ → ℕ
 due_at start base r = start + r * base + r * (r + 1) / 2
 
--- the most ends that are answered at once
+-- the most round ends that one call counts
 abbrev pub max_due : ℕ
 max_due = 1024

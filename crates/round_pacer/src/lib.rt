@@ -1,24 +1,24 @@
 //! When rounds end: each lasts a base time, and a millisecond more than the one before it.
 //!
-//! Round end r is due `r * base + r * (r + 1) / 2` milliseconds after the start. [`due`] tells how many ends are due by now,
-//! [`until_due`] how long it is to the next.
+//! The end of round r is due `r * base + r * (r + 1) / 2` milliseconds after the start. [`due`] returns how many round
+//! ends are due by now, and [`until_due`] how long it is until the next.
 #![tactic(auto)]
 
 ghost use Rattle.std.specs.Prelude.{◌≡◌, ◌≤◌, ◌<◌, ◌+◌, ◌-◌, ◌^◌, ℕ, min, nat_le};
 ghost use Rattle.round_pacer.specs.Pacing.{due_at, max_due};
 
-/// The most round ends that [`due`] answers at once.
+/// The most round ends that one call of [`due`] counts.
 pub const MAX_DUE: u32 = 1024;
 
-/// How many round ends after the first `ended` are due at the time `now`, at most [`MAX_DUE`]. All times are in
-/// milliseconds.
+/// The number of round ends after the first `ended` that are due at the time `now`, at most [`MAX_DUE`]. All times are
+/// in milliseconds.
 ///
-/// It takes no memory, and ten steps after however long a pause.
+/// Allocates nothing, and takes at most 11 steps, however long the pause was.
 pub fn due(start: u64, now: u64, base_ms: u32, ended: u32) -> u32
     ensures most { result ≤ max_due }
     // Each end that is counted is due.
     ensures due { (r : ℕ) → ended < r → r ≤ ended + result → due_at start base_ms r ≤ now }
-    // No other one is, unless as many as can be answered are due.
+    // No other one is due, unless [`MAX_DUE`] are counted.
     ensures rest { result < max_due → (r : ℕ) → ended + result < r → now < due_at start base_ms r }
 {
     let mut low = 0;
@@ -34,7 +34,7 @@ pub fn due(start: u64, now: u64, base_ms: u32, ended: u32) -> u32
     low
 }
 
-/// Milliseconds from `now` until the end of round `ended + 1` is due: 0 if it is due already, and at most 2^64 - 1.
+/// The milliseconds from `now` until the end of round `ended + 1` is due: 0 if it is due already, and at most 2^64 - 1.
 pub fn until_due(start: u64, now: u64, base_ms: u32, ended: u32) -> u64
     ensures { result ≡ min (due_at start base_ms (ended + 1) - now) (2 ^ 64 - 1) }
 {

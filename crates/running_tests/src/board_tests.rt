@@ -1,4 +1,4 @@
-//! Heights that are published and read, in one thread.
+//! Heights that are published and read within one thread.
 ghost use Rattle.std.specs.Prelude.{◌≡◌, ℕ, ◌<◌, Some, slice_get, vec_len};
 ghost use Rattle.commit_board.specs.Seats.{replicas_of, new_writer, new_reader};
 
@@ -6,7 +6,7 @@ use commit_board::{Board, ReaderSeat, WriterSeat};
 use ledger_model::{AppKind, Config, Height, ReplicaId};
 use std::test::Fail;
 
-/// The height of a seat's replica, by its owner and by a reader.
+/// The height of a seat's replica, as its owner and as a reader sees it.
 fn height(board: &Board, reader: &mut ReaderSeat, writer: &mut WriterSeat) -> (u32, u32)
     requires reader { reader.old.board ≡ board.now }
     requires writer { writer.old.board ≡ board.now }
@@ -18,8 +18,8 @@ fn height(board: &Board, reader: &mut ReaderSeat, writer: &mut WriterSeat) -> (u
     (own, board.read(reader, writer.replica()))
 }
 
-/// The heights of a seat's replica, by its owner and by a reader: before one is published, behind 7, and behind 5. Then by
-/// the reader alone: of that replica once the seat is handed back, and of replica 1.
+/// The heights of a seat's replica, as its owner and as a reader sees it: before one is published, after 7, and after
+/// 5. Then as the reader sees it: of that replica after the seat is handed back, and of replica 1.
 fn heights(board: &Board, reader: &mut ReaderSeat, mut writer: WriterSeat) -> [(u32, u32); 4]
     requires reader { reader.old.board ≡ board.now }
     requires writer { writer.board ≡ board.now }
@@ -40,7 +40,7 @@ fn heights(board: &Board, reader: &mut ReaderSeat, mut writer: WriterSeat) -> [(
     [before, behind_seven, behind_five, by_reader]
 }
 
-/// Whether there are four writers' seats and one reader's, and what is published through that of replica 2 is read.
+/// Whether there are four writers' seats and one reader's seat, and what is published through that of replica 2 is read.
 fn is_read(board: &Board, writing: &mut Vec<WriterSeat>, reading: &mut Vec<ReaderSeat>) -> bool
     requires four { vec_len writing.old ≡ 4 }
     requires writers { (k : ℕ) → k < 4 → slice_get writing.old.items k ≡ Some (new_writer board.now k) }

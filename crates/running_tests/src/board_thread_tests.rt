@@ -1,4 +1,4 @@
-//! Two threads that publish heights while two others read them: what is read never falls, and comes to what was published.
+//! Two threads publish heights while two others read them: what is read never falls, and reaches what was published.
 ghost use Rattle.std.specs.Prelude.{◌≡◌, ◌<◌};
 ghost use Rattle.commit_board.specs.Seats.{replicas_of};
 
@@ -12,7 +12,7 @@ use std::thread::Threads;
 /// The last height that each writer publishes, from 1 on.
 const LAST: u32 = 100_000;
 
-/// Publishes all heights, and answers whether each was the own one after it.
+/// Publishes all heights. Returns whether each was the own height after it.
 fn publishes(board: &Board, mut seat: WriterSeat) -> bool
     requires { seat.board ≡ board.now }
 {
@@ -25,7 +25,7 @@ fn publishes(board: &Board, mut seat: WriterSeat) -> bool
     true
 }
 
-/// Whether two writers publish so in two threads.
+/// Whether two writers do so in two threads.
 fn both_publish<R: Threads + Wait + Sync>(
     rt: &R,
     board: &Board,
@@ -47,7 +47,7 @@ fn both_publish<R: Threads + Wait + Sync>(
     one && two
 }
 
-/// Reads a replica's height, and answers whether it is no lower than the one before, and none that was never published.
+/// Reads a replica's height. Returns whether it is at least the one before, and was published.
 fn reads(board: &Board, seat: &mut ReaderSeat, replica: u8, before: &mut u32) -> bool
     requires board { seat.old.board ≡ board.now }
     requires replica { replica < replicas_of board.now }
@@ -80,7 +80,7 @@ fn follows<R: Wait>(rt: &R, board: &Board, mut seat: ReaderSeat) -> bool
     unreachable!()
 }
 
-/// Whether two readers follow so in two threads.
+/// Whether two readers do so in two threads.
 fn both_follow<R: Threads + Wait + Sync>(
     rt: &R,
     board: &Board,

@@ -17,7 +17,7 @@ fn puts<R: Wait>(rt: &R, inbox: &Inbox, pass: &mut PuttingPass, frame: Bytes) ->
     inbox.put(rt, pass, item)
 }
 
-/// Puts bytes as a frame, and answers the first byte of a frame that comes back.
+/// Puts bytes as a frame. Returns the first byte of a frame that is returned.
 pub(crate) fn put_bytes<R: Wait>(
     rt: &R,
     alloc: Global,
@@ -35,7 +35,7 @@ pub(crate) fn put_bytes<R: Wait>(
     }
 }
 
-/// Takes a frame, and answers the number of its pass too.
+/// Takes a frame, with the number of its pass.
 pub(crate) fn takes<R: Wait>(rt: &R, inbox: &Inbox, pass: &mut TakingPass) -> Option<(u32, Bytes)>
     requires { pass.old.inbox ≡ inbox.now }
     ensures { pass.new.inbox ≡ pass.old.inbox }
@@ -44,7 +44,7 @@ pub(crate) fn takes<R: Wait>(rt: &R, inbox: &Inbox, pass: &mut TakingPass) -> Op
     Some((item.pass(), item.into_bytes()))
 }
 
-/// Whether so many bytes from 0 on are all accepted.
+/// Whether `count` bytes from 0 on are all accepted.
 fn fills<R: Wait>(
     rt: &R,
     alloc: Global,
@@ -74,7 +74,7 @@ fn comes<R: Wait>(rt: &R, inbox: &Inbox, pass: &mut TakingPass, byte: u8) -> boo
     }
 }
 
-/// Whether the next so many bytes come in order, from this one on.
+/// Whether the next `count` bytes arrive in order, from this one on.
 fn comes_in_order<R: Wait>(
     rt: &R,
     inbox: &Inbox,
@@ -93,7 +93,7 @@ fn comes_in_order<R: Wait>(
     true
 }
 
-/// Whether nothing comes.
+/// Whether the inbox is empty.
 fn is_empty<R: Wait>(rt: &R, inbox: &Inbox, pass: &mut TakingPass) -> bool
     requires { pass.old.inbox ≡ inbox.now }
     ensures { pass.new.inbox ≡ pass.old.inbox }
@@ -101,7 +101,7 @@ fn is_empty<R: Wait>(rt: &R, inbox: &Inbox, pass: &mut TakingPass) -> bool
     takes(rt, inbox, pass).is_none()
 }
 
-/// Whether a further frame comes back, and its byte is this one.
+/// Whether one more frame is returned, and its byte is this one.
 fn hands_back<R: Wait>(
     rt: &R,
     alloc: Global,
@@ -115,7 +115,7 @@ fn hands_back<R: Wait>(
     Ok(put_bytes(rt, alloc, inbox, pass, &[byte])? == Some(byte))
 }
 
-/// Whether 1024 frames are taken in, and a further one only once one is taken.
+/// Whether 1024 frames are accepted, and one more only after one is taken.
 fn takes_in_1024<R: Wait>(
     rt: &R,
     alloc: Global,
@@ -135,7 +135,7 @@ fn takes_in_1024<R: Wait>(
     Ok(is_filled && is_full && has_come && is_taken_in)
 }
 
-/// Whether an empty inbox takes in so many, and gives them in their order.
+/// Whether an empty inbox accepts 1024 frames, and returns them in order.
 fn holds_1024<R: Wait>(
     rt: &R,
     alloc: Global,
@@ -154,7 +154,7 @@ fn holds_1024<R: Wait>(
     Ok(was_empty && are_held && others_came && is_empty(rt, inbox, taking))
 }
 
-/// Whether it is pass 1, by which an empty inbox holds so many, and three more come in, of which the first is taken.
+/// Whether it is pass 1, by which an empty inbox accepts 1024 frames, and three more are accepted, of which the first is taken.
 fn holds_by_one<R: Wait>(
     rt: &R,
     alloc: Global,
@@ -173,7 +173,7 @@ fn holds_by_one<R: Wait>(
     Ok(putting.number() == 1 && are_held && are_filled && has_come)
 }
 
-/// Whether the second of two passes does so, and the others of its frames come once both passes are handed back.
+/// Whether the second of two passes does so, and its other frames arrive after both passes are handed back.
 fn holds_by_two<R: Wait>(
     rt: &R,
     alloc: Global,

@@ -1,4 +1,4 @@
-//! Four threads that put into one inbox while a fifth takes: nothing is lost, doubled or reordered within a pass.
+//! Four threads put into one inbox while a fifth takes: nothing is lost, doubled or reordered within a pass.
 ghost use Rattle.std.specs.Prelude.{◌≡◌};
 
 use crate::inbox_tests::{put_bytes, takes};
@@ -9,13 +9,13 @@ use std::test::Fail;
 use std::thread;
 use std::thread::Threads;
 
-/// How many numbers each pass puts, from 0 on.
+/// The number of numbers that each pass puts, from 0 on.
 const NUMBERS: u32 = 100_000;
 
-/// How many passes put.
+/// The number of passes that put.
 const PUTTERS: u32 = 4;
 
-/// Puts all numbers, each again until there is room.
+/// Puts all numbers, each repeatedly until there is room.
 fn sends<R: Wait>(rt: &R, alloc: Global, inbox: &Inbox, mut pass: PuttingPass) -> bool
     requires { pass.inbox ≡ inbox.now }
 {
@@ -33,7 +33,7 @@ fn sends<R: Wait>(rt: &R, alloc: Global, inbox: &Inbox, mut pass: PuttingPass) -
     unreachable!()
 }
 
-/// Whether two threads send so, one by each pass.
+/// Whether two threads do so, each with its pass.
 fn both_send<R: Threads + Wait + Sync>(
     rt: &R,
     alloc: Global,
@@ -56,7 +56,7 @@ fn both_send<R: Threads + Wait + Sync>(
     one && two
 }
 
-/// Which number comes next of each pass, and how many are to come in all.
+/// The next number of each pass, and how many numbers are still to arrive.
 #[derive(Clone, Copy)]
 struct Expected {
     next: [u32; 4],
@@ -64,7 +64,7 @@ struct Expected {
 }
 
 impl Expected {
-    /// Counts a frame, and answers whether it was the next number of its pass.
+    /// Counts a frame. Returns whether it was the next number of its pass.
     fn count(&mut self, from: u32, frame: &[u8]) -> bool {
         let Some(next) = self.next.get_mut(from as usize) else {
             return false;
@@ -75,7 +75,7 @@ impl Expected {
         is_next
     }
 
-    /// Takes a frame, and answers whether it was the next number of its pass.
+    /// Takes a frame. Returns whether it was the next number of its pass.
     fn takes_next<R: Wait>(&mut self, rt: &R, inbox: &Inbox, pass: &mut TakingPass) -> Option<bool>
         requires { pass.old.inbox ≡ inbox.now }
         ensures { pass.new.inbox ≡ pass.old.inbox }
@@ -85,7 +85,7 @@ impl Expected {
     }
 }
 
-/// Whether all numbers of each pass come, each pass's in order.
+/// Whether all numbers arrive, those of each pass in order.
 fn receives<R: Wait>(rt: &R, inbox: &Inbox, mut pass: TakingPass) -> bool
     requires { pass.inbox ≡ inbox.now }
 {

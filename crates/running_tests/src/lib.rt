@@ -1,4 +1,4 @@
-//! What runs beside the replicas. This crate has tests alone.
+//! Tests of what runs beside the replicas: the commit board, inboxes, the pacer and client sessions.
 #![tactic(auto)]
 
 #[cfg(test)]

@@ -1,7 +1,7 @@
-//! When rounds end, by the millisecond.
+//! When rounds end, in milliseconds.
 use round_pacer::{due, until_due};
 
-/// A start, the time, the base time, the ends that were, and how many more are due.
+/// The start, the time, the base time, the number of ends so far, and how many more are due.
 const CASES: [(u64, u64, u32, u32, u32); 16] = [
     // With a base of 200 the ends are due 201, 403, 606 and 810 milliseconds after the start.
     (1000, 1200, 200, 0, 0),
@@ -10,7 +10,7 @@ const CASES: [(u64, u64, u32, u32, u32); 16] = [
     (1000, 1403, 200, 0, 2),
     (1000, 1606, 200, 2, 1),
     (1000, 1605, 200, 2, 0),
-    // A clock that was set back, and ends before their time.
+    // A clock that was set back, and the time before the next end.
     (1000, 500, 200, 0, 0),
     (1000, 1403, 200, 3, 0),
     // The fortieth end.
@@ -21,7 +21,7 @@ const CASES: [(u64, u64, u32, u32, u32); 16] = [
     (0, 306, 100, 0, 3),
     (0, 526_850, 1, 0, 1024),
     (0, 526_850, 1, 1000, 25),
-    // After a long pause as many as can be answered.
+    // After a long pause, as many as one call counts.
     (0, u64::MAX, 60_000, 5, 1024),
     (0, 525_823, 1, 0, 1023),
 ];
@@ -33,7 +33,7 @@ fn ends_are_due_by_the_millisecond(rt: HostRuntime) {
     }
 }
 
-/// A start, the time, the base time, the ends that were, and how long it is to the next.
+/// The start, the time, the base time, the number of ends so far, and the time until the next.
 const PAUSES: [(u64, u64, u32, u32, u64); 6] = [
     (1000, 1000, 200, 0, 201),
     (1000, 1200, 200, 0, 1),

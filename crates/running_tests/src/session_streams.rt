@@ -1,8 +1,8 @@
-//! Streams that give or take a byte at a time, are interrupted, and fail.
+//! Streams that take or return one byte at a time, are interrupted, and fail.
 use std::alloc::Global;
 use std::io::{self, ErrorKind, Read, Write};
 
-/// A reader that gives one byte a call, every other call being interrupted, and fails once, behind so many bytes.
+/// A reader that returns one byte per call. Every other call is interrupted, and one fails, after `until` bytes.
 #[derive(Drop)]
 pub(crate) struct FailingReader<'a> {
     left: &'a [u8],
@@ -42,7 +42,8 @@ impl Read for FailingReader<'_> {
     }
 }
 
-/// A writer that fails behind so many bytes. It takes one byte a call, every other call being interrupted, or all at once.
+/// A writer that fails after `until` bytes. It takes one byte per call, and every other call is interrupted; or it
+/// takes all bytes at once.
 #[derive(Drop)]
 pub(crate) struct FailingWriter {
     bytes: Vec<u8>,
@@ -63,7 +64,7 @@ impl FailingWriter {
         }
     }
 
-    /// One that takes all that it is given, and doesn't fail.
+    /// A writer that takes all bytes, and doesn't fail.
     pub(crate) fn whole(alloc: Global) -> Self {
         FailingWriter {
             bytes: Vec::new(alloc),

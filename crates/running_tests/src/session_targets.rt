@@ -1,10 +1,10 @@
-//! Four replicas that answer as a test sets them.
+//! Four replicas whose answers a test sets.
 use bytes::Bytes;
 use client_sessions::{TargetFault, Targets};
 use ledger_model::{Batch, Height, QueryAnswer, ReplicaId, SubmitRefusal, Tx};
 use std::alloc::{AllocError, Global};
 
-/// What a submit is answered.
+/// The answer to a submit.
 pub(crate) type Submitted = Result<Result<(), SubmitRefusal>, TargetFault>;
 
 /// Replicas at these heights, whose blocks are all `a=1`.
@@ -15,7 +15,7 @@ pub(crate) struct Fake {
     submitted: Submitted,
     fault: Option<TargetFault>,
     asked: u32,
-    /// After this number of calls each replica is at height 3 at least.
+    /// After this number of calls each replica is at least at height 3.
     calls_below: u32,
 }
 
@@ -31,12 +31,12 @@ impl Fake {
         }
     }
 
-    /// Lets each replica be at height 3 at least after the first `calls` calls.
+    /// Lets each replica be at least at height 3 after the first `calls` calls.
     pub(crate) fn rise_behind(&mut self, calls: u32) {
         self.calls_below = calls;
     }
 
-    /// Answers each submit so from now on.
+    /// Gives each submit this answer from now on.
     pub(crate) fn answer_submits(&mut self, answer: Submitted) {
         self.submitted = answer;
     }
@@ -46,12 +46,12 @@ impl Fake {
         self.fault = Some(fault);
     }
 
-    /// How often it was asked.
+    /// The number of calls.
     pub(crate) fn asked(&self) -> u32 {
         self.asked
     }
 
-    /// Counts one call, and tells the fault that is set.
+    /// Counts one call, and returns the fault that is set.
     fn count_one(&mut self) -> Result<(), TargetFault> {
         self.asked = self.asked.saturating_add(1);
         match self.fault {

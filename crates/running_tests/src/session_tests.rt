@@ -13,13 +13,13 @@ use std::alloc::Global;
 use std::io::{Read, Write};
 use std::test::Fail;
 
-/// Four requests: a transaction, the height, a replica that isn't there, and no request.
+/// Four requests: a transaction, the height, a replica that doesn't exist, and a body that is no request.
 const REQUESTS: &[u8] = b"\x00\x04\x01a=1\x00\x01\x03\x00\x02\x05\x04\x00\x01\x09";
 
-/// Their replies, where the height is 3.
+/// The replies to them, if the height is 3.
 const REPLIES: &[u8] = b"\x00\x01\x00\x00\x05\x00\x00\x00\x00\x03\x00\x01\x05\x00\x01\x01";
 
-/// Requests of one session, and their replies, where replicas 0, 1 and 3 are at height 3 and replica 2 is at height 1.
+/// The requests of one session, and their replies, if replicas 0, 1 and 3 are at height 3 and replica 2 is at height 1.
 const CASES: [(&[u8], &[u8]); 20] = [
     (b"", b""),
     (b"\x00\x04\x01a=1", b"\x00\x01\x00"),
@@ -59,7 +59,7 @@ const CASES: [(&[u8], &[u8]); 20] = [
     (REQUESTS, REPLIES),
 ];
 
-/// What a submit is answered, and the reply.
+/// The answer to a submit, and the reply.
 const REFUSALS: [(Submitted, &[u8]); 7] = [
     (Ok(Err(SubmitRefusal::Empty)), b"\x00\x01\x11"),
     (Ok(Err(SubmitRefusal::TooLong)), b"\x00\x01\x12"),
@@ -81,7 +81,7 @@ const FAULTS: [(TargetFault, &[u8]); 2] = [
 
 /// How a session ended.
 #[derive(Clone, Copy, PartialEq, Eq)]
-enum Ended {
+enum End {
     Clean,
     Cut,
     Read,
@@ -89,24 +89,24 @@ enum Ended {
     Other,
 }
 
-/// How a session ended that was served so.
-fn end_of(served: &Result<SessionEnd, SessionFault>) -> Ended {
+/// How a session with this result ended.
+fn end_of(served: &Result<SessionEnd, SessionFault>) -> End {
     match served {
-        Ok(SessionEnd::Clean) => Ended::Clean,
-        Ok(SessionEnd::Cut) => Ended::Cut,
-        Err(SessionFault::Read(_)) => Ended::Read,
-        Err(SessionFault::Write(_)) => Ended::Write,
-        Err(_) => Ended::Other,
+        Ok(SessionEnd::Clean) => End::Clean,
+        Ok(SessionEnd::Cut) => End::Cut,
+        Err(SessionFault::Read(_)) => End::Read,
+        Err(SessionFault::Write(_)) => End::Write,
+        Err(_) => End::Other,
     }
 }
 
-/// Serves a session from its start, and answers how it ended.
+/// Serves a session from its start, and returns how it ended.
 fn ends<R: Read, W: Write>(
     alloc: Global,
     input: &mut R,
     output: &mut W,
     targets: &mut Fake,
-) -> Ended {
+) -> End {
     let mut session = Session::new();
     let (mut input, mut output) = (CountedStream::new(input), CountedStream::new(output));
     let served = serve(alloc, &mut input, &mut output, &mut session, targets);
@@ -132,21 +132,21 @@ fn serve_twice<R: SessionReader, W: SessionWriter>(
     (first, second)
 }
 
-/// Whether the first of two sessions over one reader ends as a failed read, and the second one serves what is left.
+/// Whether the first of two sessions over one reader ends with a failed read, and the second one serves what is left.
 fn is_served_on(alloc: Global, targets: &mut Fake, input: FailingReader<'_>) -> bool {
     let mut written = Vec::new(alloc);
     let (mut input, mut output) = (CountedStream::new(input), CountedStream::new(&mut written));
     let (first, second) = serve_twice(alloc, &mut input, &mut output, targets);
     let found = (end_of(&first), end_of(&second));
-    found == (Ended::Read, Ended::Clean) && written.as_slice() == REPLIES
+    found == (End::Read, End::Clean) && written.as_slice() == REPLIES
 }
 
-/// Whether a session over this input ends so, when it has written these bytes and no more.
+/// Whether a session over this input has this end, and has written exactly these bytes.
 fn ends_with<R: Read>(
     alloc: Global,
     targets: &mut Fake,
     input: &mut R,
-    end: Ended,
+    end: End,
     replies: &[u8],
 ) -> bool {
     let mut output = Vec::new(alloc);
@@ -154,21 +154,21 @@ fn ends_with<R: Read>(
     found == end && output.as_slice() == replies
 }
 
-/// Whether the requests get these replies and no more, and the session ends clean.
+/// Whether the requests get exactly these replies, and the session ends cleanly.
 fn gets(alloc: Global, targets: &mut Fake, requests: &[u8], replies: &[u8]) -> bool {
     let mut input = requests;
-    ends_with(alloc, targets, &mut input, Ended::Clean, replies)
+    ends_with(alloc, targets, &mut input, End::Clean, replies)
 }
 
-/// Whether a session ends at a writer that fails behind these bytes.
+/// Whether a session ends if its writer fails after these bytes.
 fn fails_behind(alloc: Global, targets: &mut Fake, requests: &[u8], replies: &[u8]) -> bool {
     let mut input = requests;
     let mut output = FailingWriter::new(alloc, replies.len());
     let found = ends(alloc, &mut input, &mut output, targets);
-    found == Ended::Write && output.written() == replies
+    found == End::Write && output.written() == replies
 }
 
-/// The replies that are due behind so many bytes of the requests.
+/// The replies that are due after `len` bytes of the requests.
 fn due(len: usize) -> &'static [u8] {
     match len {
         0..6 => b"",
@@ -179,20 +179,20 @@ fn due(len: usize) -> &'static [u8] {
     }
 }
 
-/// How a session ends whose input is so many bytes of the requests.
-fn end_behind(len: usize) -> Ended {
+/// How a session ends whose input is the first `len` bytes of the requests.
+fn end_behind(len: usize) -> End {
     if [0, 6, 9, 13, 16].contains(&len) {
-        Ended::Clean
+        End::Clean
     } else {
-        Ended::Cut
+        End::Cut
     }
 }
 
-/// A client is told height 3 by replica 0, goes to replica 2, and asks twice for a key, at height 3 at least.
+/// A client gets height 3 from replica 0, switches to replica 2, and asks twice for a key, at height 3 at least.
 const ASKS_AGAIN: &[u8] =
     b"\x00\x01\x03\x00\x02\x05\x02\x00\x06\x02\x00\x00\x00\x03a\x00\x06\x02\x00\x00\x00\x03a";
 
-/// Replica 2 comes to height 3 between the two.
+/// Replica 2 reaches height 3 between the two queries.
 const TOLD_AGAIN: &[u8] =
     b"\x00\x05\x00\x00\x00\x00\x03\x00\x01\x00\x00\x01\x02\x00\x07\x00\x00\x00\x00\x03\x011";
 
@@ -249,8 +249,14 @@ fn each_refusal_has_its_status(rt: HostRuntime) {
     }
     for &(fault, reply) in &FAULTS {
         targets.fail(fault);
-        assert!(rt; gets(alloc, &mut targets, b"\x00\x05\x02\x00\x00\x00\x00", reply));
-        assert!(rt; gets(alloc, &mut targets, b"\x00\x05\x04\x00\x00\x00\x01", reply));
+        assert!(rt;
+            gets(alloc, &mut targets, b"\x00\x05\x02\x00\x00\x00\x00", reply),
+            "{reply:?}"
+        );
+        assert!(rt;
+            gets(alloc, &mut targets, b"\x00\x05\x04\x00\x00\x00\x01", reply),
+            "{reply:?}"
+        );
     }
 }
 
@@ -259,7 +265,7 @@ fn a_request_that_is_cut_is_not_served(rt: HostRuntime) {
     let alloc = rt.alloc();
     let mut targets = Fake::new(alloc, [3, 3, 1, 3]);
     let mut input = b"\x00\x04\x01a".as_slice();
-    assert!(rt; ends_with(alloc, &mut targets, &mut input, Ended::Cut, b""));
+    assert!(rt; ends_with(alloc, &mut targets, &mut input, End::Cut, b""));
     assert!(rt; targets.asked() == 0);
     for len in 0..=REQUESTS.len() {
         let mut input = &REQUESTS[..len];
@@ -277,12 +283,12 @@ fn a_read_that_fails_ends_the_session(rt: HostRuntime) {
     for bytes in 0..=REQUESTS.len() {
         let mut input = FailingReader::new(REQUESTS, bytes);
         assert!(rt;
-            ends_with(alloc, &mut targets, &mut input, Ended::Read, due(bytes)),
+            ends_with(alloc, &mut targets, &mut input, End::Read, due(bytes)),
             "{bytes}"
         );
     }
     let mut input = FailingReader::new(REQUESTS, usize::MAX);
-    assert!(rt; ends_with(alloc, &mut targets, &mut input, Ended::Clean, REPLIES));
+    assert!(rt; ends_with(alloc, &mut targets, &mut input, End::Clean, REPLIES));
 }
 
 #[test]
@@ -318,5 +324,5 @@ fn each_reply_is_one_write(rt: HostRuntime) {
     let mut output = FailingWriter::whole(alloc);
     let mut input = REQUESTS;
     let found = ends(alloc, &mut input, &mut output, &mut targets);
-    assert!(rt; found == Ended::Clean && output.written() == REPLIES && output.writes() == 4);
+    assert!(rt; found == End::Clean && output.written() == REPLIES && output.writes() == 4);
 }

@@ -1,4 +1,4 @@
--- Batches are read as they are written, and are words.
+-- Batches are read back from their text, which is a word.
 use Rattle.std.proofs.Common.{◌≡◌, ◌∙◌, ℕ, true, cond, List, [], ◌∷◌, ◌++◌, map, length, refl, sym, ap, subst, arith}
 use Rattle.std.specs.Prelude.{◌==◌, ◌&&◌, nat_le, codes, Option, Some, None, option_and_then}
 use Rattle.std.specs.List.{AllByRecursion, slice_split, join_with_byte}
@@ -21,11 +21,17 @@ use Rattle.scenario_texts.proofs.Visible.{IsVisible, IsWord, IsWord-bytes_text, 
 tx_of-sound : (word tx : List ℕ) → tx_of word ≡ Some tx → (word ≡ bytes_text tx) × IsTx tx
 unfolding tx_of
 tx_of-sound word tx e =
-    let (bytes, (read, fits)) = bind_some (λ bytes. cond (nat_le 1 (length bytes) && nat_le (length bytes) max_tx_len) (Some bytes) None) (bytes_of word) tx e in
+    let (bytes, (read, fits)) = bind_some (λ bytes. cond (nat_le 1 (length bytes) && nat_le (length bytes) max_tx_len) (Some bytes) None)
+    (bytes_of word) tx e in
     let (test, same) = if_some (nat_le 1 (length bytes) && nat_le (length bytes) max_tx_len) bytes tx fits in
     let parts = and_parts (nat_le 1 (length bytes)) (nat_le (length bytes) max_tx_len) test in
     let spelled = bytes_of-sound word bytes read in
-    let is : IsTx bytes = record { some = leb-true 1 (length bytes) parts.0; short = leb-true (length bytes) max_tx_len parts.1; bytes = spelled.1 } in
+    let is : IsTx bytes = record {
+      some = leb-true 1 (length bytes) parts.0;
+      short = leb-true (length bytes) max_tx_len parts.1;
+      bytes =
+          spelled.1;
+    } in
     (spelled.0 ∙ ap bytes_text same, subst IsTx same is)
 
 tx_of-again : (tx : List ℕ) → IsTx tx → tx_of (bytes_text tx) ≡ Some tx
@@ -36,7 +42,8 @@ tx_of-again tx is =
     rw (bytes_of-again tx is.bytes, some, short) refl
 
 -- a transaction, and those that follow it
-followed_parts : (o : Option (List ℕ)) (p : Option Value) (v : Value) → followed o p ≡ Some v → (tx : List ℕ) × ((txs : Value) × ((o ≡ Some tx) × ((p ≡ Some txs) × (tx ∷ txs ≡ v))))
+followed_parts : (o : Option (List ℕ)) (p : Option Value) (v : Value) → followed o p ≡ Some v
+    → (tx : List ℕ) × ((txs : Value) × ((o ≡ Some tx) × ((p ≡ Some txs) × (tx ∷ txs ≡ v))))
 followed_parts None p v e = absurd cc
 followed_parts (Some tx) None v e = absurd cc
 followed_parts (Some tx) (Some txs) v e = (tx, (txs, (refl, (refl, cc))))
@@ -126,8 +133,11 @@ elements-join (tx ∷ v) (first, all) =
 pub batch_of-sound : (word : List ℕ) (v : Value) → batch_of word ≡ Some v → (word ≡ batch_text v) × IsValue v
 unfolding batch_of batch_text
 batch_of-sound word v e =
-    let (inner, (opened, more)) = bind_some (λ inner. option_and_then (λ txs. cond (nat_le (length txs) max_batch_len) (Some txs) None) (txs_of (elements inner))) (bracketed word) v e in
-    let (txs, (read, fits)) = bind_some (λ txs. cond (nat_le (length txs) max_batch_len) (Some txs) None) (txs_of (elements inner)) v more in
+    let (inner, (opened, more)) = bind_some
+    (λ inner. option_and_then (λ txs. cond (nat_le (length txs) max_batch_len) (Some txs) None) (txs_of (elements inner)))
+    (bracketed word) v e in
+    let (txs, (read, fits)) = bind_some (λ txs. cond (nat_le (length txs) max_batch_len) (Some txs) None) (txs_of (elements inner)) v more
+    in
     let (test, same) = if_some (nat_le (length txs) max_batch_len) txs v fits in
     let spelled = txs_of-sound (elements inner) txs read in
     let whole : inner ≡ join_with_byte 44 (map bytes_text txs) = sym (join-elements inner) ∙ ap (join_with_byte 44) spelled.0 in
@@ -146,7 +156,8 @@ visible_join : (pieces : List (List ℕ)) → AllByRecursion IsWord pieces → I
 visible_join [] all = All-nil IsVisible
 visible_join (piece ∷ []) (first, all) = first
 visible_join (piece ∷ next ∷ more) (first, all) =
-    All-append IsVisible piece (44 ∷ join_with_byte 44 (next ∷ more)) first (All-cons IsVisible 44 (join_with_byte 44 (next ∷ more)) (omega arith, omega arith) (visible_join (next ∷ more) all))
+    All-append IsVisible piece (44 ∷ join_with_byte 44 (next ∷ more)) first
+    (All-cons IsVisible 44 (join_with_byte 44 (next ∷ more)) (omega arith, omega arith) (visible_join (next ∷ more) all))
 
 visible_txs : (v : Value) → AllByRecursion IsTx v → AllByRecursion IsWord (map bytes_text v)
 visible_txs [] all = tt

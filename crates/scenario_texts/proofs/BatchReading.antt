@@ -1,5 +1,6 @@
--- Batches are read as they are written.
-use Rattle.std.proofs.Common.{◌≡◌, ◌∙◌, ℕ, ◌<◌, ◌+◌, suc, get_or, take, drop, map, drop-cons, Bool, true, false, cond, List, [], ◌∷◌, ◌++◌, length, Bor, refl, sym, ap, eq-eqb}
+-- Batches are read back from their text.
+use Rattle.std.proofs.Common.{◌≡◌, ◌∙◌, ℕ, ◌<◌, ◌+◌, suc, get_or, take, drop, map, drop-cons, Bool, true, false, cond, List, [], ◌∷◌, ◌++◌}
+use Rattle.std.proofs.Common.{length, Bor, refl, sym, ap, eq-eqb}
 use Rattle.std.specs.Prelude.{◌==◌, ◌≢◌, Option, Some, None, MatchOption, option_and_then}
 use Rattle.std.specs.Option.{option_map}
 use Rattle.std.proofs.lemmas.Bool.{eqb-true}
@@ -11,7 +12,8 @@ pub without_first-head : (c : ℕ) (rest : List ℕ) → without_first c (c ∷ 
 without_first-head c rest = rw (eq-eqb c c refl) refl
 
 -- what was stripped of a byte at its head
-pub first_stripped : (c : ℕ) (text : List ℕ) (r : Option (Bor (List ℕ))) → MatchOption r ((rest : List ℕ) → text ≢ c ∷ rest) (λ x. text ≡ c ∷ x.now) → option_map (λ x. x.now) r ≡ without_first c text
+pub first_stripped : (c : ℕ) (text : List ℕ) (r : Option (Bor (List ℕ)))
+    → MatchOption r ((rest : List ℕ) → text ≢ c ∷ rest) (λ x. text ≡ c ∷ x.now) → option_map (λ x. x.now) r ≡ without_first c text
 first_stripped c text (Some x) e = sym (ap (without_first c) e ∙ without_first-head c x.now)
 first_stripped c [] None none = refl
 first_stripped c (b ∷ rest) None none = by_test (b == c) refl
@@ -37,7 +39,9 @@ no_last c (b ∷ []) none = by_test (b == c) refl
 no_last c (b ∷ d ∷ rest) none = ap (option_map (λ f. b ∷ f)) (no_last c (d ∷ rest) (λ front e. none (b ∷ front) (ap (λ t. b ∷ t) e)))
 
 -- what was stripped of a byte at its end
-pub last_stripped : (c : ℕ) (text : List ℕ) (r : Option (Bor (List ℕ))) → MatchOption r ((front : List ℕ) → text ≢ front ++ c ∷ []) (λ x. text ≡ x.now ++ c ∷ []) → option_map (λ x. x.now) r ≡ without_last c text
+pub last_stripped : (c : ℕ) (text : List ℕ) (r : Option (Bor (List ℕ)))
+    → MatchOption r ((front : List ℕ) → text ≢ front ++ c ∷ []) (λ x. text ≡ x.now ++ c ∷ [])
+    → option_map (λ x. x.now) r ≡ without_last c text
 last_stripped c text (Some x) e = sym (ap (without_last c) e ∙ without_last-end c x.now)
 last_stripped c text None none = sym (no_last c text none)
 
@@ -53,10 +57,12 @@ followed-snoc (Some x) None q txs tx e more = absurd cc
 followed-snoc (Some x) (Some xs) q txs tx e more = let same : x ∷ xs ≡ txs = cc in rw (more xs refl) (ap (λ t. Some (t ++ tx ∷ [])) same)
 
 -- the transactions of words, and of one word more
-pub txs_of-snoc : (words : List (List ℕ)) (word : List ℕ) (txs : List (List ℕ)) (tx : List ℕ) → txs_of words ≡ Some txs → tx_of word ≡ Some tx → txs_of (words ++ word ∷ []) ≡ Some (txs ++ tx ∷ [])
+pub txs_of-snoc : (words : List (List ℕ)) (word : List ℕ) (txs : List (List ℕ)) (tx : List ℕ) → txs_of words ≡ Some txs
+    → tx_of word ≡ Some tx → txs_of (words ++ word ∷ []) ≡ Some (txs ++ tx ∷ [])
 unfolding txs_of
 txs_of-snoc [] word txs tx all one = rw one (let same : [] ≡ txs = cc in ap (λ t. Some (t ++ tx ∷ [])) same)
-txs_of-snoc (w ∷ words) word txs tx all one = followed-snoc (tx_of w) (txs_of words) (txs_of (words ++ word ∷ [])) txs tx all (λ xs e. txs_of-snoc words word xs tx e one)
+txs_of-snoc (w ∷ words) word txs tx all one =
+    followed-snoc (tx_of w) (txs_of words) (txs_of (words ++ word ∷ [])) txs tx all (λ xs e. txs_of-snoc words word xs tx e one)
 
 -- nothing follows
 followed-none : (o : Option (List ℕ)) → followed o None ≡ None
@@ -79,7 +85,8 @@ read_more words i d txs tx within so_far one =
     ap txs_of cut ∙ txs_of-snoc (map (λ w. w.now) (take i words)) (get_or words i d).now txs tx so_far one
 
 -- one of the words is no transaction
-pub read_none : (words : List (Bor (List ℕ))) (i : ℕ) (d : Bor (List ℕ)) → i < length words → tx_of (get_or words i d).now ≡ None → txs_of (map (λ w. w.now) words) ≡ None
+pub read_none : (words : List (Bor (List ℕ))) (i : ℕ) (d : Bor (List ℕ)) → i < length words → tx_of (get_or words i d).now ≡ None
+    → txs_of (map (λ w. w.now) words) ≡ None
 read_none words i d within none =
     let cut : words ≡ take i words ++ (get_or words i d ∷ drop (suc i) words) =
     sym (take-append-drop i words) ∙ ap (λ r. take i words ++ r) (drop-cons words i d within) in

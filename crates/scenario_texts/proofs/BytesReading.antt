@@ -1,4 +1,4 @@
--- Bytes are read as they are written.
+-- Bytes are read back from their text.
 use Rattle.std.proofs.Common.{◌≡◌, ◌∙◌, ℕ, ◌<◌, Bool, true, false, cond, List, [], ◌∷◌, refl, ap}
 use Rattle.std.specs.Prelude.{◌==◌, Option, Some, None}
 use Rattle.std.specs.List.{AllByRecursion}
@@ -8,7 +8,8 @@ use Rattle.plain_text.proofs.SpellingLemmas.{bytes_text-stands_for, stands_for-b
 use Rattle.scenario_texts.specs.Reading.{onto, bare_of, bytes_of}
 
 -- a byte that was read comes first
-onto_before : (o : Option ℕ) (text rest : List ℕ) (b : ℕ) → before o text ≡ Some (b, rest) → onto o (bytes_of text) ≡ onto (Some b) (bytes_of rest)
+onto_before : (o : Option ℕ) (text rest : List ℕ) (b : ℕ) → before o text ≡ Some (b, rest)
+    → onto o (bytes_of text) ≡ onto (Some b) (bytes_of rest)
 onto_before None text rest b e = absurd cc
 onto_before (Some x) text rest b e = let parts = some_pair_parts x b text rest e in rw (parts.0, parts.1) refl
 
@@ -21,7 +22,8 @@ bytes_of-first (x ∷ y ∷ []) rest b e = onto_before (bare_of x) (y ∷ []) re
 bytes_of-first (x ∷ y ∷ z ∷ more) rest b e = by_test (x == 0x5c) e
   where
     by_test : (t : Bool) → cond t (before (byte_of (nibble y) (nibble z)) more) (before (bare_of x) (y ∷ z ∷ more)) ≡ Some (b, rest)
-        → cond t (onto (byte_of (nibble y) (nibble z)) (bytes_of more)) (onto (bare_of x) (bytes_of (y ∷ z ∷ more))) ≡ onto (Some b) (bytes_of rest)
+        → cond t (onto (byte_of (nibble y) (nibble z)) (bytes_of more)) (onto (bare_of x) (bytes_of (y ∷ z ∷ more)))
+        ≡ onto (Some b) (bytes_of rest)
     by_test true h = onto_before (byte_of (nibble y) (nibble z)) more rest b h
     by_test false h = onto_before (bare_of x) (y ∷ z ∷ more) rest b h
 
@@ -45,7 +47,8 @@ onto_some (Some x) None e = cc
 onto_some (Some x) (Some xs) e = cc
 
 -- where bytes were read there is a first one
-first_of_bytes : (text : List ℕ) (b : ℕ) (bytes : List ℕ) → bytes_of text ≡ Some (b ∷ bytes) → (rest : List ℕ) × ((first_byte text ≡ Some (b, rest)) × (bytes_of rest ≡ Some bytes))
+first_of_bytes : (text : List ℕ) (b : ℕ) (bytes : List ℕ) → bytes_of text ≡ Some (b ∷ bytes)
+    → (rest : List ℕ) × ((first_byte text ≡ Some (b, rest)) × (bytes_of rest ≡ Some bytes))
 unfolding bytes_of
 first_of_bytes [] b bytes e = absurd cc
 first_of_bytes (x ∷ []) b bytes e =
@@ -54,10 +57,14 @@ first_of_bytes (x ∷ y ∷ []) b bytes e =
     let parts = onto_parts (bare_of x) (bytes_of (y ∷ [])) b bytes e in (y ∷ [], (ap (λ o. before o (y ∷ [])) parts.0, parts.1))
 first_of_bytes (x ∷ y ∷ z ∷ more) b bytes e = by_test (x == 0x5c) e
   where
-    by_test : (t : Bool) → cond t (onto (byte_of (nibble y) (nibble z)) (bytes_of more)) (onto (bare_of x) (bytes_of (y ∷ z ∷ more))) ≡ Some (b ∷ bytes)
-        → (rest : List ℕ) × ((cond t (before (byte_of (nibble y) (nibble z)) more) (before (bare_of x) (y ∷ z ∷ more)) ≡ Some (b, rest)) × (bytes_of rest ≡ Some bytes))
-    by_test true h = let parts = onto_parts (byte_of (nibble y) (nibble z)) (bytes_of more) b bytes h in (more, (ap (λ o. before o more) parts.0, parts.1))
-    by_test false h = let parts = onto_parts (bare_of x) (bytes_of (y ∷ z ∷ more)) b bytes h in (y ∷ z ∷ more, (ap (λ o. before o (y ∷ z ∷ more)) parts.0, parts.1))
+    by_test : (t : Bool) → cond t (onto (byte_of (nibble y) (nibble z)) (bytes_of more)) (onto (bare_of x) (bytes_of (y ∷ z ∷ more)))
+        ≡ Some (b ∷ bytes)
+        → (rest : List ℕ) × ((cond t (before (byte_of (nibble y) (nibble z)) more) (before (bare_of x) (y ∷ z ∷ more)) ≡ Some (b, rest))
+        × (bytes_of rest ≡ Some bytes))
+    by_test true h = let parts = onto_parts (byte_of (nibble y) (nibble z)) (bytes_of more) b bytes h
+        in (more, (ap (λ o. before o more) parts.0, parts.1))
+    by_test false h = let parts = onto_parts (bare_of x) (bytes_of (y ∷ z ∷ more)) b bytes h
+        in (y ∷ z ∷ more, (ap (λ o. before o (y ∷ z ∷ more)) parts.0, parts.1))
 
 -- no bytes are no text
 no_bytes : (text : List ℕ) → bytes_of text ≡ Some [] → text ≡ []
@@ -67,7 +74,8 @@ no_bytes (x ∷ []) e = absurd (onto_some (bare_of x) (Some []) e)
 no_bytes (x ∷ y ∷ []) e = absurd (onto_some (bare_of x) (bytes_of (y ∷ [])) e)
 no_bytes (x ∷ y ∷ z ∷ more) e = by_test (x == 0x5c) e
   where
-    by_test : (t : Bool) → cond t (onto (byte_of (nibble y) (nibble z)) (bytes_of more)) (onto (bare_of x) (bytes_of (y ∷ z ∷ more))) ≡ Some [] → x ∷ y ∷ z ∷ more ≡ []
+    by_test : (t : Bool) → cond t (onto (byte_of (nibble y) (nibble z)) (bytes_of more)) (onto (bare_of x) (bytes_of (y ∷ z ∷ more)))
+        ≡ Some [] → x ∷ y ∷ z ∷ more ≡ []
     by_test true h = absurd (onto_some (byte_of (nibble y) (nibble z)) (bytes_of more) h)
     by_test false h = absurd (onto_some (bare_of x) (bytes_of (y ∷ z ∷ more)) h)
 

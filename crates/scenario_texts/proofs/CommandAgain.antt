@@ -1,4 +1,4 @@
--- Steps that are written are read again, and their lines are words.
+-- Commands are read back from their text, and their lines consist of words.
 use Rattle.std.proofs.Common.{◌≡◌, ℕ, true, List, [], ◌∷◌, length, refl, arith}
 use Rattle.std.specs.Prelude.{◌&&◌, nat_le, codes, Some, Contains}
 use Rattle.std.specs.List.{list_all}
@@ -12,7 +12,8 @@ use Rattle.scenario_texts.specs.Plans.{Plan}
 use Rattle.scenario_texts.specs.Words.{keyword_text}
 use Rattle.scenario_texts.specs.Lawful.{IsNumber, IsBytes, IsTowards, IsLie, IsCommand}
 use Rattle.scenario_texts.specs.Texts.{bytes_words, hex_words, lie_words, command_words, towards_text}
-use Rattle.scenario_texts.specs.Reading.{submit_of, inject_of, query_of, propose_of, pass_of, simple_of, lying_of, command_of, with_command, going_on}
+use Rattle.scenario_texts.specs.Reading.{submit_of, inject_of, query_of, propose_of, pass_of, simple_of, lying_of, command_of, with_command}
+use Rattle.scenario_texts.specs.Reading.{going_on}
 use Rattle.scenario_texts.specs.declared.keyword.Keyword.{Keyword}
 use Rattle.scenario_texts.specs.declared.keyword.Keyword.TheVariants as keyword
 use Rattle.scenario_texts.specs.declared.command.Towards.{Towards}
@@ -22,7 +23,8 @@ use Rattle.scenario_texts.specs.declared.command.Command.{Command}
 use Rattle.scenario_texts.specs.declared.command.Command.TheVariants as command
 use Rattle.scenario_texts.proofs.Numbers.{number_of-again}
 use Rattle.scenario_texts.proofs.HexReading.{IsWord-encode_lower}
-use Rattle.scenario_texts.proofs.FieldReading.{one_number-again, two_numbers-again, three_numbers-again, optional_bytes-again, optional_hex-again}
+use Rattle.scenario_texts.proofs.FieldReading.{one_number-again, two_numbers-again, three_numbers-again, optional_bytes-again}
+use Rattle.scenario_texts.proofs.FieldReading.{optional_hex-again}
 use Rattle.scenario_texts.proofs.BatchLaws.{IsWord-batch_text}
 use Rattle.scenario_texts.proofs.CommandReading.{lie_of-again}
 use Rattle.scenario_texts.proofs.Visible.{IsVisible, IsWord, IsWords, IsWord-bytes_text, IsWord-number_text}
@@ -96,8 +98,10 @@ command_again liars small (command.Info replica) number = record {
   reads = rw (one_number-again replica number) refl;
   is_step = λ p. refl;
 }
-command_again liars small command.Silent is = record { keyword = keyword.Silent; fields = []; spelled = refl; reads = refl; is_step = λ p. refl }
-command_again liars small command.Round is = record { keyword = keyword.Round; fields = []; spelled = refl; reads = refl; is_step = λ p. refl }
+command_again liars small command.Silent is =
+    record { keyword = keyword.Silent; fields = []; spelled = refl; reads = refl; is_step = λ p. refl }
+command_again liars small command.Round is =
+    record { keyword = keyword.Round; fields = []; spelled = refl; reads = refl; is_step = λ p. refl }
 command_again liars small (command.LieReport lie) is = record {
   keyword = keyword.LieReport;
   fields = lie_words lie;
@@ -122,7 +126,8 @@ command_again liars small (command.LieAck lie) is = record {
 
 -- a text that passes is a word
 pub seen_word : (word : List ℕ) → list_all (λ b. nat_le 33 b && nat_le b 126) word ≡ true → IsWord word
-seen_word word e = All-weaker (λ b. (nat_le 33 b && nat_le b 126) ≡ true) IsVisible visible word (AllPass-from_list_all (λ b. nat_le 33 b && nat_le b 126) word e)
+seen_word word e = All-weaker (λ b. (nat_le 33 b && nat_le b 126) ≡ true) IsVisible visible word
+    (AllPass-from_list_all (λ b. nat_le 33 b && nat_le b 126) word e)
   where
     visible : (b : ℕ) → (nat_le 33 b && nat_le b 126) ≡ true → IsVisible b
     visible b e = let parts = and_parts (nat_le 33 b) (nat_le b 126) e in (leb-true 33 b parts.0, leb-true b 126 parts.1)
@@ -155,15 +160,20 @@ words_of_lie liars lie small is = (
 )
 
 -- the words of a step
-pub words_of_command : (liars : List ℕ) → ((r : ℕ) → Contains liars r → IsNumber r) → (c : Command) → IsCommand liars c → IsWords (command_words c)
-words_of_command liars small (command.Submit replica bytes) (number, fits) = (seen_word (codes "submit") refl, (IsWord-number_text replica number, words_of_bytes bytes fits))
-words_of_command liars small (command.Propose replica height) (number, fits) = (seen_word (codes "propose") refl, (IsWord-number_text replica number, (IsWord-number_text height fits, tt)))
+pub words_of_command : (liars : List ℕ) → ((r : ℕ) → Contains liars r → IsNumber r) → (c : Command) → IsCommand liars c
+    → IsWords (command_words c)
+words_of_command liars small (command.Submit replica bytes) (number, fits) =
+    (seen_word (codes "submit") refl, (IsWord-number_text replica number, words_of_bytes bytes fits))
+words_of_command liars small (command.Propose replica height) (number, fits) =
+    (seen_word (codes "propose") refl, (IsWord-number_text replica number, (IsWord-number_text height fits, tt)))
 words_of_command liars small (command.End replica) number = (seen_word (codes "end") refl, (IsWord-number_text replica number, tt))
 words_of_command liars small (command.Pass from index to) (first, second, third) =
     (seen_word (codes "pass") refl, (IsWord-number_text from first, (IsWord-number_text index second, (IsWord-number_text to third, tt))))
-words_of_command liars small (command.Inject to bytes) (number, fits) = (seen_word (codes "inject") refl, (IsWord-number_text to number, words_of_hex bytes fits))
+words_of_command liars small (command.Inject to bytes) (number, fits) =
+    (seen_word (codes "inject") refl, (IsWord-number_text to number, words_of_hex bytes fits))
 words_of_command liars small (command.Execute replica) number = (seen_word (codes "execute") refl, (IsWord-number_text replica number, tt))
-words_of_command liars small (command.Query replica key) (number, fits, short) = (seen_word (codes "query") refl, (IsWord-number_text replica number, words_of_bytes key fits))
+words_of_command liars small (command.Query replica key) (number, fits, short) =
+    (seen_word (codes "query") refl, (IsWord-number_text replica number, words_of_bytes key fits))
 words_of_command liars small (command.Info replica) number = (seen_word (codes "info") refl, (IsWord-number_text replica number, tt))
 words_of_command liars small command.Silent is = (seen_word (codes "silent") refl, tt)
 words_of_command liars small command.Round is = (seen_word (codes "round") refl, tt)

@@ -1,5 +1,6 @@
--- Steps are read as they are written.
-use Rattle.std.proofs.Common.{◌≡◌, ◌∙◌, ◌≤◌, ℕ, zero, suc, Bool, true, false, cond, List, [], ◌∷◌, length, refl, sym, ap, subst, suc-le-suc, zero-le}
+-- Commands are read back from their text.
+use Rattle.std.proofs.Common.{◌≡◌, ◌∙◌, ◌≤◌, ℕ, zero, suc, Bool, true, false, cond, List, [], ◌∷◌, length, refl, sym, ap, subst, suc-le-suc}
+use Rattle.std.proofs.Common.{zero-le}
 use Rattle.std.specs.Prelude.{nat_le, codes, Option, Some, None, option_and_then, Contains}
 use Rattle.std.specs.Option.{option_map}
 use Rattle.std.specs.Str.{bytes_eq}
@@ -12,7 +13,9 @@ use Rattle.plain_text.specs.Numbers.{number_text}
 use Rattle.scenario_texts.specs.Words.{keyword_text}
 use Rattle.scenario_texts.specs.Lawful.{IsNumber, IsLie, IsCommand}
 use Rattle.scenario_texts.specs.Texts.{lie_words, command_words}
-use Rattle.scenario_texts.specs.Reading.{keyword_among, all_keywords, keyword_of, number_of, positive_of, one_number, two_numbers, three_numbers, optional_bytes, optional_hex, batch_of, towards_of, liar_of, lie_at, lie_of, submit_of, inject_of, query_of, propose_of, pass_of, simple_of, lying_of, command_of}
+use Rattle.scenario_texts.specs.Reading.{keyword_among, all_keywords, keyword_of, number_of, positive_of, one_number, two_numbers}
+use Rattle.scenario_texts.specs.Reading.{three_numbers, optional_bytes, optional_hex, batch_of, towards_of, liar_of, lie_at, lie_of}
+use Rattle.scenario_texts.specs.Reading.{submit_of, inject_of, query_of, propose_of, pass_of, simple_of, lying_of, command_of}
 use Rattle.scenario_texts.specs.declared.keyword.Keyword.{Keyword}
 use Rattle.scenario_texts.specs.declared.keyword.Keyword.TheVariants as keyword
 use Rattle.scenario_texts.specs.declared.command.Towards.{Towards}
@@ -21,7 +24,9 @@ use Rattle.scenario_texts.specs.declared.command.Command.{Command}
 use Rattle.scenario_texts.specs.declared.command.Command.TheVariants as command
 use Rattle.scenario_texts.proofs.Options.{bind_some, map_some, if_some}
 use Rattle.scenario_texts.proofs.Numbers.{number_of-sound}
-use Rattle.scenario_texts.proofs.FieldReading.{positive_of-sound, positive_of-again, one_number-sound, two_numbers-sound, three_numbers-sound, optional_bytes-sound, optional_hex-sound, towards_of-sound, towards_of-again, liar_of-sound, liar_of-again}
+use Rattle.scenario_texts.proofs.FieldReading.{positive_of-sound, positive_of-again, one_number-sound, two_numbers-sound}
+use Rattle.scenario_texts.proofs.FieldReading.{three_numbers-sound, optional_bytes-sound, optional_hex-sound, towards_of-sound}
+use Rattle.scenario_texts.proofs.FieldReading.{towards_of-again, liar_of-sound, liar_of-again}
 use Rattle.scenario_texts.proofs.BatchLaws.{batch_of-sound, batch_of-again}
 
 -- a keyword is read
@@ -49,7 +54,8 @@ among_sound : (ks : List Keyword) (word : List ℕ) (k : Keyword) → keyword_am
 among_sound [] word k e = absurd cc
 among_sound (x ∷ ks) word k e = by_test (bytes_eq word (keyword_text x)) refl e (among_sound ks word k)
   where
-    by_test : (t : Bool) → bytes_eq word (keyword_text x) ≡ t → cond t (Some x) (keyword_among ks word) ≡ Some k → (keyword_among ks word ≡ Some k → word ≡ keyword_text k) → word ≡ keyword_text k
+    by_test : (t : Bool) → bytes_eq word (keyword_text x) ≡ t → cond t (Some x) (keyword_among ks word) ≡ Some k
+        → (keyword_among ks word ≡ Some k → word ≡ keyword_text k) → word ≡ keyword_text k
     by_test true is e later = let same : x ≡ k = cc in (bytes_eq-Decides word (keyword_text x)).0 is ∙ ap keyword_text same
     by_test false is e later = later e
 
@@ -71,14 +77,25 @@ record LieParts (l h k : Option ℕ) (b : Option Value) (t : Option Towards) (li
   batch : b ≡ Some lie.batch
   to : t ≡ Some lie.to
 
-made_parts : (x y z : ℕ) (v : Value) (w : Towards) (lie : Lie) → lie_at x y z v w ≡ Some lie → LieParts (Some x) (Some y) (Some z) (Some v) (Some w) lie
+made_parts : (x y z : ℕ) (v : Value) (w : Towards) (lie : Lie) → lie_at x y z v w ≡ Some lie
+    → LieParts (Some x) (Some y) (Some z) (Some v) (Some w) lie
 unfolding lie_at
 made_parts x zero z v w lie e = absurd cc
 made_parts x (suc y) zero v w lie e = absurd cc
 made_parts x (suc y) (suc z) v w lie e =
-    let made : Lie = record { liar = x; height = suc y; phase = suc z; batch = v; to = w; some_height = suc-le-suc zero-le; some_phase = suc-le-suc zero-le } in
+    let made : Lie = record {
+      liar = x;
+      height = suc y;
+      phase = suc z;
+      batch = v;
+      to = w;
+      some_height = suc-le-suc zero-le;
+      some_phase =
+          suc-le-suc zero-le;
+    } in
     let same : made ≡ lie = cc in
-    subst (λ (m : Lie). LieParts (Some x) (Some (suc y)) (Some (suc z)) (Some v) (Some w) m) same (record { liar = refl; height = refl; phase = refl; batch = refl; to = refl })
+    subst (λ (m : Lie). LieParts (Some x) (Some (suc y)) (Some (suc z)) (Some v) (Some w) m) same
+    (record { liar = refl; height = refl; phase = refl; batch = refl; to = refl })
 
 -- any lie is the one at its height and in its phase
 lie_at-is : (x y z : ℕ) (v : Value) (w : Towards) (some_y : 1 ≤ y) (some_z : 1 ≤ z)
@@ -104,7 +121,8 @@ lie_parts (Some x) (Some y) (Some z) (Some v) None lie e = absurd cc
 lie_parts (Some x) (Some y) (Some z) (Some v) (Some w) lie e = made_parts x y z v w lie e
 
 -- a lie
-lie_of-sound : (liars : List ℕ) (fields : List (List ℕ)) (lie : Lie) → lie_of liars fields ≡ Some lie → (fields ≡ lie_words lie) × IsLie liars lie
+lie_of-sound : (liars : List ℕ) (fields : List (List ℕ)) (lie : Lie) → lie_of liars fields ≡ Some lie
+    → (fields ≡ lie_words lie) × IsLie liars lie
 unfolding lie_of
 lie_of-sound liars (l ∷ h ∷ k ∷ b ∷ t ∷ []) lie e =
     let parts = lie_parts (liar_of liars l) (positive_of h) (positive_of k) (batch_of b) (towards_of t) lie e in
@@ -112,8 +130,17 @@ lie_of-sound liars (l ∷ h ∷ k ∷ b ∷ t ∷ []) lie e =
     let height = positive_of-sound h lie.height parts.height in
     let phase = positive_of-sound k lie.phase parts.phase in
     let what = batch_of-sound b lie.batch parts.batch in
-    let to = towards_of-sound t lie.to parts.to in
-    (cc (who.0, height.0, phase.0, what.0, to.0), record { by_liar = who.1.0; height = height.1; phase = phase.1; batch = what.1; to = to.1 })
+    let to = towards_of-sound t lie.to parts.to in (
+      cc (who.0, height.0, phase.0, what.0, to.0),
+      record {
+        by_liar = who.1.0;
+        height = height.1;
+        phase = phase.1;
+        batch = what.1;
+        to =
+            to.1;
+      },
+    )
 lie_of-sound liars [] lie e = absurd cc
 lie_of-sound liars (l ∷ []) lie e = absurd cc
 lie_of-sound liars (l ∷ h ∷ []) lie e = absurd cc
@@ -121,10 +148,18 @@ lie_of-sound liars (l ∷ h ∷ k ∷ []) lie e = absurd cc
 lie_of-sound liars (l ∷ h ∷ k ∷ b ∷ []) lie e = absurd cc
 lie_of-sound liars (l ∷ h ∷ k ∷ b ∷ t ∷ x ∷ fields) lie e = absurd cc
 
-pub lie_of-again : (liars : List ℕ) (lie : Lie) → ((r : ℕ) → Contains liars r → IsNumber r) → IsLie liars lie → lie_of liars (lie_words lie) ≡ Some lie
+pub lie_of-again : (liars : List ℕ) (lie : Lie) → ((r : ℕ) → Contains liars r → IsNumber r) → IsLie liars lie
+    → lie_of liars (lie_words lie) ≡ Some lie
 unfolding lie_of
 lie_of-again liars lie small is =
-    rw (liar_of-again liars lie.liar is.by_liar (small lie.liar is.by_liar), positive_of-again lie.height is.height, positive_of-again lie.phase is.phase, batch_of-again lie.batch is.batch, towards_of-again lie.to is.to)
+    rw (
+      liar_of-again liars lie.liar is.by_liar (small lie.liar is.by_liar),
+      positive_of-again lie.height is.height,
+      positive_of-again
+          lie.phase is.phase,
+      batch_of-again lie.batch is.batch,
+      towards_of-again lie.to is.to,
+    )
     (lie_at-again lie)
 
 -- a line that says a step
@@ -135,7 +170,8 @@ submit_of-sound : (liars : List ℕ) (fields : List (List ℕ)) (c : Command) �
 unfolding submit_of
 submit_of-sound liars [] c e = absurd cc
 submit_of-sound liars (r ∷ rest) c e =
-    let (replica, (first, more)) = bind_some (λ n. option_and_then (λ bytes. Some (command.Submit n bytes)) (optional_bytes rest)) (number_of r) c e in
+    let (replica, (first, more)) =
+    bind_some (λ n. option_and_then (λ bytes. Some (command.Submit n bytes)) (optional_bytes rest)) (number_of r) c e in
     let (bytes, (second, same)) = bind_some (λ b. Some (command.Submit replica b)) (optional_bytes rest) c more in
     let number = number_of-sound r replica first in
     let spelled = optional_bytes-sound rest bytes second in
@@ -146,7 +182,8 @@ inject_of-sound : (liars : List ℕ) (fields : List (List ℕ)) (c : Command) �
 unfolding inject_of
 inject_of-sound liars [] c e = absurd cc
 inject_of-sound liars (r ∷ rest) c e =
-    let (to, (first, more)) = bind_some (λ n. option_and_then (λ bytes. Some (command.Inject n bytes)) (optional_hex rest)) (number_of r) c e in
+    let (to, (first, more)) = bind_some (λ n. option_and_then (λ bytes. Some (command.Inject n bytes)) (optional_hex rest)) (number_of r) c
+    e in
     let (bytes, (second, same)) = bind_some (λ b. Some (command.Inject to b)) (optional_hex rest) c more in
     let number = number_of-sound r to first in
     let spelled = optional_hex-sound rest bytes second in
@@ -157,14 +194,19 @@ query_of-sound : (liars : List ℕ) (fields : List (List ℕ)) (c : Command) →
 unfolding query_of
 query_of-sound liars [] c e = absurd cc
 query_of-sound liars (r ∷ rest) c e =
-    let (replica, (first, more)) = bind_some (λ n. option_and_then (λ key. cond (nat_le (length key) max_key_len) (Some (command.Query n key)) None) (optional_bytes rest)) (number_of r) c e in
-    let (key, (second, fits)) = bind_some (λ b. cond (nat_le (length b) max_key_len) (Some (command.Query replica b)) None) (optional_bytes rest) c more in
+    let (replica, (first, more)) =
+    bind_some (λ n. option_and_then (λ key. cond (nat_le (length key) max_key_len) (Some (command.Query n key)) None)
+    (optional_bytes rest)) (number_of r) c e in
+    let (key, (second, fits)) = bind_some (λ b. cond (nat_le (length b) max_key_len) (Some (command.Query replica b)) None)
+    (optional_bytes rest) c more in
     let (test, equal) = if_some (nat_le (length key) max_key_len) (command.Query replica key) c fits in
     let number = number_of-sound r replica first in
     let spelled = optional_bytes-sound rest key second in
-    subst (λ (x : Command). Says liars (codes "query") (r ∷ rest) x) equal (cc (number.0, spelled.0), (number.1, spelled.1, leb-true (length key) max_key_len test))
+    subst (λ (x : Command). Says liars (codes "query") (r ∷ rest) x) equal
+    (cc (number.0, spelled.0), (number.1, spelled.1, leb-true (length key) max_key_len test))
 
-propose_of-sound : (liars : List ℕ) (fields : List (List ℕ)) (c : Command) → propose_of fields ≡ Some c → Says liars (codes "propose") fields c
+propose_of-sound : (liars : List ℕ) (fields : List (List ℕ)) (c : Command) → propose_of fields ≡ Some c
+    → Says liars (codes "propose") fields c
 unfolding propose_of
 propose_of-sound liars fields c e =
     let (n, (read, equal)) = map_some (λ (n : ℕ × ℕ). command.Propose n.0 n.1) (two_numbers fields) c e in
@@ -179,7 +221,8 @@ pass_of-sound liars fields c e =
     subst (λ (x : Command). Says liars (codes "pass") fields x) equal (ap (λ f. codes "pass" ∷ f) spelled.0, spelled.1)
 
 -- a step of one number
-single_sound : (liars : List ℕ) (head : List ℕ) (make : ℕ → Command) → ((n : ℕ) → command_words (make n) ≡ head ∷ number_text n ∷ []) → ((n : ℕ) → IsNumber n → IsCommand liars (make n))
+single_sound : (liars : List ℕ) (head : List ℕ) (make : ℕ → Command) → ((n : ℕ) → command_words (make n) ≡ head ∷ number_text n ∷ [])
+    → ((n : ℕ) → IsNumber n → IsCommand liars (make n))
     → (fields : List (List ℕ)) (c : Command) → option_map make (one_number fields) ≡ Some c → Says liars head fields c
 single_sound liars head make words lawful fields c e =
     let (n, (read, equal)) = map_some make (one_number fields) c e in
@@ -187,7 +230,8 @@ single_sound liars head make words lawful fields c e =
     subst (λ (x : Command). Says liars head fields x) equal (ap (λ f. head ∷ f) spelled.0 ∙ sym (words n), lawful n spelled.1)
 
 -- a step that is a lie
-lying_sound : (liars : List ℕ) (head : List ℕ) (make : Lie → Command) → ((lie : Lie) → command_words (make lie) ≡ head ∷ lie_words lie) → ((lie : Lie) → IsLie liars lie → IsCommand liars (make lie))
+lying_sound : (liars : List ℕ) (head : List ℕ) (make : Lie → Command) → ((lie : Lie) → command_words (make lie) ≡ head ∷ lie_words lie)
+    → ((lie : Lie) → IsLie liars lie → IsCommand liars (make lie))
     → (fields : List (List ℕ)) (c : Command) → option_map make (lie_of liars fields) ≡ Some c → Says liars head fields c
 lying_sound liars head make words lawful fields c e =
     let (lie, (read, equal)) = map_some make (lie_of liars fields) c e in
@@ -195,22 +239,29 @@ lying_sound liars head make words lawful fields c e =
     subst (λ (x : Command). Says liars head fields x) equal (ap (λ f. head ∷ f) spelled.0 ∙ sym (words lie), lawful lie spelled.1)
 
 -- what was read is written so
-pub command_of-sound : (liars : List ℕ) (k : Keyword) (fields : List (List ℕ)) (c : Command) → command_of liars k fields ≡ Some c → Says liars (keyword_text k) fields c
+pub command_of-sound : (liars : List ℕ) (k : Keyword) (fields : List (List ℕ)) (c : Command) → command_of liars k fields ≡ Some c
+    → Says liars (keyword_text k) fields c
 unfolding command_of simple_of lying_of
 command_of-sound liars keyword.Submit fields c e = submit_of-sound liars fields c e
 command_of-sound liars keyword.Propose fields c e = propose_of-sound liars fields c e
 command_of-sound liars keyword.Pass fields c e = pass_of-sound liars fields c e
 command_of-sound liars keyword.Inject fields c e = inject_of-sound liars fields c e
 command_of-sound liars keyword.Query fields c e = query_of-sound liars fields c e
-command_of-sound liars keyword.LieReport fields c e = lying_sound liars (codes "lie-report") command.LieReport (λ lie. refl) (λ lie is. is) fields c e
-command_of-sound liars keyword.LieLock fields c e = lying_sound liars (codes "lie-lock") command.LieLock (λ lie. refl) (λ lie is. is) fields c e
-command_of-sound liars keyword.LieAck fields c e = lying_sound liars (codes "lie-ack") command.LieAck (λ lie. refl) (λ lie is. is) fields c e
+command_of-sound liars keyword.LieReport fields c e =
+    lying_sound liars (codes "lie-report") command.LieReport (λ lie. refl) (λ lie is. is) fields c e
+command_of-sound liars keyword.LieLock fields c e =
+    lying_sound liars (codes "lie-lock") command.LieLock (λ lie. refl) (λ lie is. is) fields c e
+command_of-sound liars keyword.LieAck fields c e =
+    lying_sound liars (codes "lie-ack") command.LieAck (λ lie. refl) (λ lie is. is) fields c e
 command_of-sound liars keyword.End fields c e = single_sound liars (codes "end") command.End (λ n. refl) (λ n small. small) fields c e
-command_of-sound liars keyword.Execute fields c e = single_sound liars (codes "execute") command.Execute (λ n. refl) (λ n small. small) fields c e
+command_of-sound liars keyword.Execute fields c e =
+    single_sound liars (codes "execute") command.Execute (λ n. refl) (λ n small. small) fields c e
 command_of-sound liars keyword.Info fields c e = single_sound liars (codes "info") command.Info (λ n. refl) (λ n small. small) fields c e
-command_of-sound liars keyword.Silent [] c e = let equal : command.Silent ≡ c = cc in subst (λ (x : Command). Says liars (codes "silent") [] x) equal (refl, tt)
+command_of-sound liars keyword.Silent [] c e = let equal : command.Silent ≡ c =
+    cc in subst (λ (x : Command). Says liars (codes "silent") [] x) equal (refl, tt)
 command_of-sound liars keyword.Silent (a ∷ fields) c e = absurd cc
-command_of-sound liars keyword.Round [] c e = let equal : command.Round ≡ c = cc in subst (λ (x : Command). Says liars (codes "round") [] x) equal (refl, tt)
+command_of-sound liars keyword.Round [] c e = let equal : command.Round ≡ c =
+    cc in subst (λ (x : Command). Says liars (codes "round") [] x) equal (refl, tt)
 command_of-sound liars keyword.Round (a ∷ fields) c e = absurd cc
 command_of-sound liars keyword.Config fields c e = absurd cc
 command_of-sound liars keyword.Keys fields c e = absurd cc

@@ -1,5 +1,6 @@
--- The lines so far, and what their text may still spell.
-use Rattle.std.proofs.Common.{◌≡◌, ◌∙◌, ℕ, ◌+◌, ◌<◌, ◌≤◌, Bool, true, false, cond, List, [], ◌∷◌, ◌++◌, length, refl, sym, ap, subst, inl, inr, append_assoc, arith}
+-- The lines so far, and what their text may still encode.
+use Rattle.std.proofs.Common.{◌≡◌, ◌∙◌, ℕ, ◌+◌, ◌<◌, ◌≤◌, Bool, true, false, cond, List, [], ◌∷◌, ◌++◌, length, refl, sym, ap, subst, inl}
+use Rattle.std.proofs.Common.{inr, append_assoc, arith}
 use Rattle.std.specs.Prelude.{◌≢◌, ◌⊎◌, ◌==◌, Option, Some, None}
 use Rattle.std.specs.List.{flat_map, AllByRecursion}
 use Rattle.std.proofs.lemmas.Bool.{eqb-true}
@@ -28,7 +29,17 @@ pub record Going (text left : List ℕ) (number : ℕ) (s : Option Plan) : Type 
 -- before the first line
 pub started : (text : List ℕ) → Going text text 1 None
 unfolding run
-started text = record { lines = []; whole = refl; unbroken = tt; numbered = omega arith; few = omega arith; short = tt; read = refl; shows = refl }
+started text = record {
+  lines = [];
+  whole = refl;
+  unbroken = tt;
+  numbered = omega arith;
+  few = omega arith;
+  short = tt;
+  read =
+      refl;
+  shows = refl;
+}
 
 -- one of which each holds more
 pub each_more : (P : List ℕ → Type 0) (xs : List (List ℕ)) (x : List ℕ) → AllByRecursion P xs → P x → AllByRecursion P (xs ++ x ∷ [])
@@ -36,7 +47,8 @@ each_more P [] x all one = (one, tt)
 each_more P (y ∷ xs) x (first, all) one = (first, each_more P xs x all one)
 
 -- the text with a line more
-pub whole_more : (text : List ℕ) (lines : List (List ℕ)) (left line rest : List ℕ) → text ≡ flat_map ended lines ++ left → left ≡ line ++ 10 ∷ rest → text ≡ flat_map ended (lines ++ line ∷ []) ++ rest
+pub whole_more : (text : List ℕ) (lines : List (List ℕ)) (left line rest : List ℕ) → text ≡ flat_map ended lines ++ left
+    → left ≡ line ++ 10 ∷ rest → text ≡ flat_map ended (lines ++ line ∷ []) ++ rest
 whole_more text lines left line rest whole cut =
     whole ∙ ap (λ l. flat_map ended lines ++ l) (cut ∙ sym (append_assoc line (10 ∷ []) rest))
     ∙ sym (append_assoc (flat_map ended lines) (ended line) rest)
@@ -48,10 +60,12 @@ counted_more lines line yes' = filter-append counts lines (line ∷ []) ∙ ap (
 
 -- one that is passed over
 passed_more : (lines : List (List ℕ)) (line : List ℕ) → counts line ≡ false → counted (lines ++ line ∷ []) ≡ counted lines
-passed_more lines line over = filter-append counts lines (line ∷ []) ∙ ap (λ (t : Bool). counted lines ++ cond t (line ∷ []) []) over ∙ append-nil (counted lines)
+passed_more lines line over = filter-append counts lines (line ∷ []) ∙ ap (λ (t : Bool). counted lines ++ cond t (line ∷ []) []) over
+    ∙ append-nil (counted lines)
 
 -- a line that is passed over
-pub goes_over : (text left : List ℕ) (number : ℕ) (s : Option Plan) (line rest : List ℕ) → Going text left number s → left ≡ line ++ 10 ∷ rest → IsUnbroken line → number ≤ max_lines → length line ≤ max_line_len
+pub goes_over : (text left : List ℕ) (number : ℕ) (s : Option Plan) (line rest : List ℕ) → Going text left number s
+    → left ≡ line ++ 10 ∷ rest → IsUnbroken line → number ≤ max_lines → length line ≤ max_line_len
     → counts line ≡ false → Going text rest (number + 1) s
 goes_over text left number s line rest going cut unbroken few short over = record {
   lines = going.lines ++ line ∷ [];
@@ -65,7 +79,8 @@ goes_over text left number s line rest going cut unbroken few short over = recor
 }
 
 -- a line that counts
-pub goes_further : (text left : List ℕ) (number : ℕ) (s : Option Plan) (line rest : List ℕ) (p : Plan) → Going text left number s → left ≡ line ++ 10 ∷ rest → IsUnbroken line → number ≤ max_lines → length line ≤ max_line_len
+pub goes_further : (text left : List ℕ) (number : ℕ) (s : Option Plan) (line rest : List ℕ) (p : Plan) → Going text left number s
+    → left ≡ line ++ 10 ∷ rest → IsUnbroken line → number ≤ max_lines → length line ≤ max_line_len
     → counts line ≡ true → next_of s line ≡ Some p → Going text rest (number + 1) (Some p)
 unfolding run
 goes_further text left number s line rest p going cut unbroken few short is next =
@@ -104,15 +119,18 @@ some_feed [] x e = cc
 some_feed (c ∷ a) x e = cc
 
 -- the lines of a text begin with those that were read
-rest_of_lines : (lines others : List (List ℕ)) (left : List ℕ) → AllByRecursion IsUnbroken lines → AllByRecursion IsUnbroken others → flat_map ended lines ++ left ≡ flat_map ended others
+rest_of_lines : (lines others : List (List ℕ)) (left : List ℕ) → AllByRecursion IsUnbroken lines → AllByRecursion IsUnbroken others
+    → flat_map ended lines ++ left ≡ flat_map ended others
     → (more : List (List ℕ)) × ((others ≡ lines ++ more) × (left ≡ flat_map ended more))
 rest_of_lines [] others left u v e = (others, (refl, e))
 rest_of_lines (l ∷ lines) [] left u v e = absurd (some_feed l (flat_map ended lines ++ left) (sym (joined l lines left) ∙ e))
   where
-    joined : (l : List ℕ) (ls : List (List ℕ)) (left : List ℕ) → (ended l ++ flat_map ended ls) ++ left ≡ l ++ 10 ∷ (flat_map ended ls ++ left)
+    joined : (l : List ℕ) (ls : List (List ℕ)) (left : List ℕ)
+        → (ended l ++ flat_map ended ls) ++ left ≡ l ++ 10 ∷ (flat_map ended ls ++ left)
     joined l ls left = append_assoc (ended l) (flat_map ended ls) left ∙ append_assoc l (10 ∷ []) (flat_map ended ls ++ left)
 rest_of_lines (l ∷ lines) (o ∷ others) left (p, u) (q, v) e =
-    let here : (ended l ++ flat_map ended lines) ++ left ≡ l ++ 10 ∷ (flat_map ended lines ++ left) = append_assoc (ended l) (flat_map ended lines) left ∙ append_assoc l (10 ∷ []) (flat_map ended lines ++ left) in
+    let here : (ended l ++ flat_map ended lines) ++ left ≡ l ++ 10 ∷ (flat_map ended lines ++ left) =
+    append_assoc (ended l) (flat_map ended lines) left ∙ append_assoc l (10 ∷ []) (flat_map ended lines ++ left) in
     let there : ended o ++ flat_map ended others ≡ o ++ 10 ∷ flat_map ended others = append_assoc o (10 ∷ []) (flat_map ended others) in
     let (same, rest) = first_same l o (flat_map ended lines ++ left) (flat_map ended others) p q (sym here ∙ e ∙ there) in
     let (more, (tails, ends)) = rest_of_lines lines others left u v rest in
@@ -134,7 +152,8 @@ record Rest (left : List ℕ) (number : ℕ) (s : Option Plan) (q : Plan) : Type
 
 rest_of : (text left : List ℕ) (number : ℕ) (s : Option Plan) (q : Plan) → Going text left number s → Spells text q → Rest left number s q
 rest_of text left number s q going spells =
-    let (more, (others, ends)) = rest_of_lines going.lines spells.lines left going.unbroken spells.unbroken (sym going.whole ∙ spells.whole) in
+    let (more, (others, ends)) = rest_of_lines going.lines spells.lines left going.unbroken spells.unbroken
+    (sym going.whole ∙ spells.whole) in
     let those : counted spells.lines ≡ counted going.lines ++ counted more = ap counted others ∙ filter-append counts going.lines more in
     let count : length spells.lines ≡ length going.lines + length more = ap length others ∙ length-append going.lines more in
     record {
@@ -143,7 +162,8 @@ rest_of text left number s q going spells =
       unbroken = each_second IsUnbroken going.lines more (subst (AllByRecursion IsUnbroken) others spells.unbroken);
       few = omega (arith, going.numbered, spells.few, count);
       short = each_second IsShort going.lines more (subst (AllByRecursion IsShort) others spells.short);
-      read = sym (run-append None s (counted going.lines) (counted more) going.read) ∙ ap (run None) (sym those ∙ spells.those) ∙ plan_again q spells.lawful;
+      read = sym (run-append None s (counted going.lines) (counted more) going.read) ∙ ap (run None) (sym those ∙ spells.those)
+          ∙ plan_again q spells.lawful;
     }
 
 -- why the line is bad
@@ -153,10 +173,12 @@ pub data IsBad (number : ℕ) (s : Option Plan) (line : List ℕ) : Type 0 where
   refused : counts line ≡ true → next_of s line ≡ None → IsBad number s line
 
 -- no text that has it there spells a plan
-bad_rest : (number : ℕ) (s : Option Plan) (line rest : List ℕ) (q : Plan) → IsUnbroken line → IsBad number s line → Rest (line ++ 10 ∷ rest) number s q → ⊥
+bad_rest : (number : ℕ) (s : Option Plan) (line rest : List ℕ) (q : Plan) → IsUnbroken line → IsBad number s line
+    → Rest (line ++ 10 ∷ rest) number s q → ⊥
 bad_rest number s line rest q unbroken bad left = by_more left.more left.whole left.unbroken left.few left.short left.read
   where
-    by_reason : (more : List (List ℕ)) → IsBad number s line → number + length (line ∷ more) ≤ max_lines + 1 → IsShort line → run s (counted (line ∷ more)) ≡ Some (Some q) → ⊥
+    by_reason : (more : List (List ℕ)) → IsBad number s line → number + length (line ∷ more) ≤ max_lines + 1 → IsShort line
+        → run s (counted (line ∷ more)) ≡ Some (Some q) → ⊥
     by_reason more (too_many many) few short read = omega (arith, many, few)
     by_reason more (too_long long) few short read = omega (arith, long, short)
     by_reason more (refused is none) few short read =
@@ -164,16 +186,21 @@ bad_rest number s line rest q unbroken bad left = by_more left.more left.whole l
         let nothing : None ≡ Some (Some q) = sym (run-bad s line (counted more) none) ∙ ap (run s) (sym there) ∙ read in
         cc
 
-    by_more : (more : List (List ℕ)) → line ++ 10 ∷ rest ≡ flat_map ended more → AllByRecursion IsUnbroken more → number + length more ≤ max_lines + 1 → AllByRecursion IsShort more → run s (counted more) ≡ Some (Some q) → ⊥
+    by_more : (more : List (List ℕ)) → line ++ 10 ∷ rest ≡ flat_map ended more → AllByRecursion IsUnbroken more
+        → number + length more ≤ max_lines + 1 → AllByRecursion IsShort more → run s (counted more) ≡ Some (Some q) → ⊥
     by_more [] whole u few short read = some_feed line rest whole
     by_more (o ∷ more) whole (v, u) few (first, short) read =
-        let same : line ≡ o = (first_same line o rest (flat_map ended more) unbroken v (whole ∙ append_assoc o (10 ∷ []) (flat_map ended more))).0 in
-        by_reason more bad few (subst IsShort (sym same) first) (subst (λ (l : List ℕ). run s (counted (l ∷ more)) ≡ Some (Some q)) (sym same) read)
+        let same : line ≡ o = (first_same line o rest (flat_map ended more) unbroken v
+        (whole ∙ append_assoc o (10 ∷ []) (flat_map ended more))).0 in
+        by_reason more bad few (subst IsShort (sym same) first)
+        (subst (λ (l : List ℕ). run s (counted (l ∷ more)) ≡ Some (Some q)) (sym same) read)
 
 -- with it the lines don't go on
-not_on : (text left : List ℕ) (number : ℕ) (s : Option Plan) (line : List ℕ) (going : Going text left number s) → IsBad number s line → (max_lines ≤ length going.lines) ⊎ (GoesOn (going.lines ++ line ∷ []) → ⊥)
+not_on : (text left : List ℕ) (number : ℕ) (s : Option Plan) (line : List ℕ) (going : Going text left number s) → IsBad number s line
+    → (max_lines ≤ length going.lines) ⊎ (GoesOn (going.lines ++ line ∷ []) → ⊥)
 not_on text left number s line going (too_many many) = inl (omega (arith, many, going.numbered))
-not_on text left number s line going (too_long long) = inr (λ on. let last = each_second IsShort going.lines (line ∷ []) on.short in omega (arith, long, last.0))
+not_on text left number s line going (too_long long) =
+    inr (λ on. let last = each_second IsShort going.lines (line ∷ []) on.short in omega (arith, long, last.0))
 not_on text left number s line going (refused is none) = inr (λ on. by_begun on.begun)
   where
     there : counted (going.lines ++ line ∷ []) ≡ counted going.lines ++ line ∷ []
@@ -183,14 +210,18 @@ not_on text left number s line going (refused is none) = inr (λ on. by_begun on
     some_line [] e = cc
     some_line (x ∷ xs) e = cc
 
-    by_begun : (counted (going.lines ++ line ∷ []) ≡ []) ⊎ ((p : Plan) × ((counted (going.lines ++ line ∷ []) ≡ plan_lines p) × IsPlan p)) → ⊥
+    by_begun : (counted (going.lines ++ line ∷ []) ≡ []) ⊎ ((p : Plan) × ((counted (going.lines ++ line ∷ []) ≡ plan_lines p) × IsPlan p))
+        → ⊥
     by_begun (inl nothing) = some_line (counted going.lines) (sym there ∙ nothing)
     by_begun (inr (p, (spelled, lawful))) =
-        let bad : None ≡ Some (Some p) = sym (run-append None s (counted going.lines) (line ∷ []) going.read ∙ run-bad s line [] none) ∙ ap (run None) (sym there ∙ spelled) ∙ plan_again p lawful in
+        let bad : None ≡ Some (Some p) =
+        sym (run-append None s (counted going.lines) (line ∷ []) going.read ∙ run-bad s line [] none)
+        ∙ ap (run None) (sym there ∙ spelled) ∙ plan_again p lawful in
         cc
 
 -- the line is the first bad one, and the text spells nothing
-pub bad_line : (text left : List ℕ) (number : ℕ) (s : Option Plan) (line rest : List ℕ) → Going text left number s → left ≡ line ++ 10 ∷ rest → IsUnbroken line → IsBad number s line
+pub bad_line : (text left : List ℕ) (number : ℕ) (s : Option Plan) (line rest : List ℕ) → Going text left number s
+    → left ≡ line ++ 10 ∷ rest → IsUnbroken line → IsBad number s line
     → IsBadAt text number × ((q : Plan) → Spells text q → ⊥)
 bad_line text left number s line rest going cut unbroken bad = (
   record {
@@ -201,9 +232,17 @@ bad_line text left number s line rest going cut unbroken bad = (
     few = going.few;
     numbered = going.numbered;
     goes_on = going_on text left number s going;
-    bad = inl (record { line = line; after = rest; ends = cut ∙ sym (append_assoc line (10 ∷ []) rest); unbroken = unbroken; bad = not_on text left number s line going bad });
+    bad = inl (record {
+      line = line;
+      after = rest;
+      ends = cut ∙ sym (append_assoc line (10 ∷ []) rest);
+      unbroken = unbroken;
+      bad =
+          not_on text left number s line going bad;
+    });
   },
-  λ q spells. bad_rest number s line rest q unbroken bad (subst (λ (l : List ℕ). Rest l number s q) cut (rest_of text left number s q going spells)),
+  λ q spells. bad_rest number s line rest q unbroken bad
+      (subst (λ (l : List ℕ). Rest l number s q) cut (rest_of text left number s q going spells)),
 )
 
 -- an unbroken text is no ended line
@@ -212,7 +251,8 @@ not_ended [] after u = All-head (λ d. d ≢ 10) 10 after u refl
 not_ended (c ∷ line) after u = not_ended line after (All-tail (λ d. d ≢ 10) c (ended line ++ after) u)
 
 -- the text ends badly there
-bad_end : (text left : List ℕ) (number : ℕ) (s : Option Plan) → Going text left number s → IsUnbroken left → (left ≢ []) ⊎ (s ≡ None) → IsBadAt text number × ((q : Plan) → Spells text q → ⊥)
+bad_end : (text left : List ℕ) (number : ℕ) (s : Option Plan) → Going text left number s → IsUnbroken left → (left ≢ []) ⊎ (s ≡ None)
+    → IsBadAt text number × ((q : Plan) → Spells text q → ⊥)
 unfolding run
 bad_end text left number s going unbroken bad = (
   record {
@@ -232,7 +272,8 @@ bad_end text left number s going unbroken bad = (
     why (inl some) = inl some
     why (inr none) = inr (subst (λ (o : Option Plan). Shows o (counted going.lines)) none going.shows)
 
-    none_left : (more : List (List ℕ)) (q : Plan) → left ≡ flat_map ended more → run s (counted more) ≡ Some (Some q) → (left ≢ []) ⊎ (s ≡ None) → ⊥
+    none_left : (more : List (List ℕ)) (q : Plan) → left ≡ flat_map ended more → run s (counted more) ≡ Some (Some q)
+        → (left ≢ []) ⊎ (s ≡ None) → ⊥
     none_left [] q whole read (inl some) = some whole
     none_left [] q whole read (inr none) = let at : s ≡ Some q = cc in cc
     none_left (o ∷ more) q whole read why = not_ended o (flat_map ended more) (subst IsUnbroken whole unbroken)
@@ -255,7 +296,8 @@ good_end text number p going = (
   where
     by_more : (more : List (List ℕ)) (q : Plan) → [] ≡ flat_map ended more → run (Some p) (counted more) ≡ Some (Some q) → p ≡ q
     by_more [] q whole read = cc
-    by_more (o ∷ more) q whole read = absurd (some_feed o (flat_map ended more) (sym (append_assoc o (10 ∷ []) (flat_map ended more)) ∙ sym whole))
+    by_more (o ∷ more) q whole read =
+        absurd (some_feed o (flat_map ended more) (sym (append_assoc o (10 ∷ []) (flat_map ended more)) ∙ sym whole))
 
 -- nothing stands there
 nothing_left : (left : List ℕ) → (length left == 0) ≡ true → left ≡ []
@@ -268,12 +310,15 @@ something_left [] e = λ none. let bad : true ≡ false = e in cc
 something_left (b ∷ left) e = λ none. cc
 
 -- the text ends well there
-pub ends_well : (text left : List ℕ) (number : ℕ) (s : Option Plan) (p : Plan) → Going text left number s → (length left == 0) ≡ true → s ≡ Some p → Spells text p × ((q : Plan) → Spells text q → p ≡ q)
+pub ends_well : (text left : List ℕ) (number : ℕ) (s : Option Plan) (p : Plan) → Going text left number s → (length left == 0) ≡ true
+    → s ≡ Some p → Spells text p × ((q : Plan) → Spells text q → p ≡ q)
 ends_well text left number s p going empty is =
-    good_end text number p (subst (λ (o : Option Plan). Going text [] number o) is (subst (λ (l : List ℕ). Going text l number s) (nothing_left left empty) going))
+    good_end text number p (subst (λ (o : Option Plan). Going text [] number o) is
+    (subst (λ (l : List ℕ). Going text l number s) (nothing_left left empty) going))
 
 -- or badly
-pub ends_badly : (text left : List ℕ) (number : ℕ) (s : Option Plan) → Going text left number s → IsUnbroken left → ((length left == 0) ≡ false) ⊎ (s ≡ None) → IsBadAt text number × ((q : Plan) → Spells text q → ⊥)
+pub ends_badly : (text left : List ℕ) (number : ℕ) (s : Option Plan) → Going text left number s → IsUnbroken left
+    → ((length left == 0) ≡ false) ⊎ (s ≡ None) → IsBadAt text number × ((q : Plan) → Spells text q → ⊥)
 ends_badly text left number s going unbroken bad = bad_end text left number s going unbroken (why bad)
   where
     why : ((length left == 0) ≡ false) ⊎ (s ≡ None) → (left ≢ []) ⊎ (s ≡ None)

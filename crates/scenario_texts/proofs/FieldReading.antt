@@ -1,5 +1,6 @@
--- Fields are read as they are written: numbers, bytes, and where a lie goes.
-use Rattle.std.proofs.Common.{◌≡◌, ◌∙◌, ℕ, ◌≤◌, zero, suc, Bool, true, false, cond, List, [], ◌∷◌, length, refl, sym, ap, subst, inl, inr, eq-eqb, arith}
+-- Fields are read back from their text: numbers, bytes, and where a lie goes.
+use Rattle.std.proofs.Common.{◌≡◌, ◌∙◌, ℕ, ◌≤◌, zero, suc, Bool, true, false, cond, List, [], ◌∷◌, length, refl, sym, ap, subst, inl, inr}
+use Rattle.std.proofs.Common.{eq-eqb, arith}
 use Rattle.std.specs.Prelude.{◌==◌, ◌⊎◌, codes, Option, Some, None, option_and_then}
 use Rattle.std.specs.Option.{option_map}
 use Rattle.std.specs.List.{find, Contains}
@@ -12,7 +13,8 @@ use Rattle.plain_text.specs.Numbers.{number_text, is_decimal}
 use Rattle.plain_text.specs.Transactions.{bytes_text}
 use Rattle.plain_text.proofs.NumberLemmas.{is_decimal-number_text}
 use Rattle.scenario_texts.specs.Lawful.{IsNumber, IsBytes, IsTowards}
-use Rattle.scenario_texts.specs.Reading.{number_of, positive_of, one_number, two_numbers, three_numbers, bytes_of, hex_of, optional, optional_bytes, optional_hex, towards_of, liar_of}
+use Rattle.scenario_texts.specs.Reading.{number_of, positive_of, one_number, two_numbers, three_numbers, bytes_of, hex_of, optional}
+use Rattle.scenario_texts.specs.Reading.{optional_bytes, optional_hex, towards_of, liar_of}
 use Rattle.scenario_texts.specs.Texts.{bytes_words, hex_words, towards_text}
 use Rattle.scenario_texts.specs.declared.command.Towards.{Towards}
 use Rattle.scenario_texts.specs.declared.command.Towards.TheVariants.{One, All}
@@ -47,13 +49,15 @@ unfolding one_number
 one_number-again n small = number_of-again n small
 
 -- the parts of a pair
-two_parts : (o p : Option ℕ) (m n : ℕ) → option_and_then {U = ℕ × ℕ} (λ x. option_and_then {U = ℕ × ℕ} (λ y. Some (x, y)) p) o ≡ Some (m, n) → (o ≡ Some m) × (p ≡ Some n)
+two_parts : (o p : Option ℕ) (m n : ℕ)
+    → option_and_then {U = ℕ × ℕ} (λ x. option_and_then {U = ℕ × ℕ} (λ y. Some (x, y)) p) o ≡ Some (m, n) → (o ≡ Some m) × (p ≡ Some n)
 two_parts None p m n e = absurd cc
 two_parts (Some x) None m n e = absurd cc
 two_parts (Some x) (Some y) m n e = let parts = some_pair_parts x m y n e in (ap Some parts.0, ap Some parts.1)
 
 -- two numbers
-pub two_numbers-sound : (fields : List (List ℕ)) (m n : ℕ) → two_numbers fields ≡ Some (m, n) → (fields ≡ number_text m ∷ number_text n ∷ []) × (IsNumber m × IsNumber n)
+pub two_numbers-sound : (fields : List (List ℕ)) (m n : ℕ) → two_numbers fields ≡ Some (m, n)
+    → (fields ≡ number_text m ∷ number_text n ∷ []) × (IsNumber m × IsNumber n)
 unfolding two_numbers
 two_numbers-sound [] m n e = absurd cc
 two_numbers-sound (a ∷ []) m n e = absurd cc
@@ -74,7 +78,9 @@ triple_or (Some t) = t
 triple_or None = (0, 0, 0)
 
 -- the parts of a triple
-three_parts : (o p q : Option ℕ) (l m n : ℕ) → option_and_then {U = ℕ × ℕ × ℕ} (λ x. option_and_then {U = ℕ × ℕ × ℕ} (λ y. option_and_then {U = ℕ × ℕ × ℕ} (λ z. Some (x, y, z)) q) p) o ≡ Some (l, m, n)
+three_parts : (o p q : Option ℕ) (l m n : ℕ)
+    → option_and_then {U = ℕ × ℕ × ℕ}
+    (λ x. option_and_then {U = ℕ × ℕ × ℕ} (λ y. option_and_then {U = ℕ × ℕ × ℕ} (λ z. Some (x, y, z)) q) p) o ≡ Some (l, m, n)
     → (o ≡ Some l) × (p ≡ Some m) × (q ≡ Some n)
 unfolding triple_or
 three_parts None p q l m n e = absurd cc
@@ -98,7 +104,8 @@ three_numbers-sound (a ∷ b ∷ c ∷ []) l m n e =
     (cc (first.0, second.0, third.0), (first.1, second.1, third.1))
 three_numbers-sound (a ∷ b ∷ c ∷ d ∷ fields) l m n e = absurd cc
 
-pub three_numbers-again : (l m n : ℕ) → IsNumber l → IsNumber m → IsNumber n → three_numbers (number_text l ∷ number_text m ∷ number_text n ∷ []) ≡ Some (l, m, n)
+pub three_numbers-again : (l m n : ℕ) → IsNumber l → IsNumber m → IsNumber n
+    → three_numbers (number_text l ∷ number_text m ∷ number_text n ∷ []) ≡ Some (l, m, n)
 unfolding three_numbers
 three_numbers-again l m n fits room small = rw (number_of-again l fits, number_of-again m room, number_of-again n small) refl
 
@@ -106,7 +113,8 @@ three_numbers-again l m n fits room small = rw (number_of-again l fits, number_o
 full : (b : ℕ) (word : List ℕ) → (length (b ∷ word) == 0) ≡ false
 full b word = ne_eqb (length (b ∷ word)) 0 (λ e. omega arith)
 
-some_word : (read : List ℕ → Option (List ℕ)) (b : ℕ) (word : List ℕ) (o : Option (List ℕ)) → cond (length (b ∷ word) == 0) None (read (b ∷ word)) ≡ o → read (b ∷ word) ≡ o
+some_word : (read : List ℕ → Option (List ℕ)) (b : ℕ) (word : List ℕ) (o : Option (List ℕ))
+    → cond (length (b ∷ word) == 0) None (read (b ∷ word)) ≡ o → read (b ∷ word) ≡ o
 some_word read b word o e = subst (λ (t : Bool). cond t None (read (b ∷ word)) ≡ o) (full b word) e
 
 -- a field that may be missing
@@ -117,21 +125,25 @@ optional-sound read ([] ∷ []) bytes e = absurd cc
 optional-sound read ((b ∷ word) ∷ []) bytes e = inr (b, (word, (refl, some_word read b word (Some bytes) e)))
 optional-sound read (a ∷ b ∷ fields) bytes e = absurd cc
 
-optional-again : (read : List ℕ → Option (List ℕ)) (word : List ℕ) (b : ℕ) (bytes : List ℕ) → read [] ≡ Some [] → read word ≡ Some (b ∷ bytes) → optional read (word ∷ []) ≡ Some (b ∷ bytes)
+optional-again : (read : List ℕ → Option (List ℕ)) (word : List ℕ) (b : ℕ) (bytes : List ℕ) → read [] ≡ Some []
+    → read word ≡ Some (b ∷ bytes) → optional read (word ∷ []) ≡ Some (b ∷ bytes)
 optional-again read [] b bytes none e = let bad : Some [] ≡ Some (b ∷ bytes) = sym none ∙ e in absurd cc
 optional-again read (c ∷ word) b bytes none e = subst (λ (t : Bool). cond t None (read (c ∷ word)) ≡ Some (b ∷ bytes)) (sym (full c word)) e
 
 -- bytes, of which there may be none
-pub optional_bytes-sound : (fields : List (List ℕ)) (bytes : List ℕ) → optional_bytes fields ≡ Some bytes → (fields ≡ bytes_words bytes) × IsBytes bytes
+pub optional_bytes-sound : (fields : List (List ℕ)) (bytes : List ℕ) → optional_bytes fields ≡ Some bytes
+    → (fields ≡ bytes_words bytes) × IsBytes bytes
 unfolding optional_bytes bytes_of bytes_text
 optional_bytes-sound fields bytes e = by_case bytes (optional-sound bytes_of fields bytes e)
   where
-    by_case : (bytes : List ℕ) → ((fields ≡ []) × (bytes ≡ [])) ⊎ ((b : ℕ) × ((word : List ℕ) × ((fields ≡ (b ∷ word) ∷ []) × (bytes_of (b ∷ word) ≡ Some bytes))))
+    by_case : (bytes : List ℕ) → ((fields ≡ []) × (bytes ≡ []))
+        ⊎ ((b : ℕ) × ((word : List ℕ) × ((fields ≡ (b ∷ word) ∷ []) × (bytes_of (b ∷ word) ≡ Some bytes))))
         → (fields ≡ bytes_words bytes) × IsBytes bytes
     by_case [] (inl (none, same)) = (none, tt)
     by_case (x ∷ bytes) (inl (none, same)) = absurd cc
     by_case [] (inr (b, (word, (one, read)))) = let bad : b ∷ word ≡ [] = (bytes_of-sound (b ∷ word) [] read).0 in absurd cc
-    by_case (x ∷ bytes) (inr (b, (word, (one, read)))) = let spelled = bytes_of-sound (b ∷ word) (x ∷ bytes) read in (one ∙ ap (λ w. w ∷ []) spelled.0, spelled.1)
+    by_case (x ∷ bytes) (inr (b, (word, (one, read)))) = let spelled =
+        bytes_of-sound (b ∷ word) (x ∷ bytes) read in (one ∙ ap (λ w. w ∷ []) spelled.0, spelled.1)
 
 pub optional_bytes-again : (bytes : List ℕ) → IsBytes bytes → optional_bytes (bytes_words bytes) ≡ Some bytes
 unfolding optional_bytes bytes_of
@@ -139,21 +151,25 @@ optional_bytes-again [] small = refl
 optional_bytes-again (b ∷ bytes) small = optional-again bytes_of (bytes_text (b ∷ bytes)) b bytes refl (bytes_of-again (b ∷ bytes) small)
 
 -- bytes in hexadecimal digits, of which there may be none
-pub optional_hex-sound : (fields : List (List ℕ)) (bytes : List ℕ) → optional_hex fields ≡ Some bytes → (fields ≡ hex_words bytes) × IsBytes bytes
+pub optional_hex-sound : (fields : List (List ℕ)) (bytes : List ℕ) → optional_hex fields ≡ Some bytes
+    → (fields ≡ hex_words bytes) × IsBytes bytes
 unfolding optional_hex encode_with
 optional_hex-sound fields bytes e = by_case bytes (optional-sound hex_of fields bytes e)
   where
-    by_case : (bytes : List ℕ) → ((fields ≡ []) × (bytes ≡ [])) ⊎ ((b : ℕ) × ((word : List ℕ) × ((fields ≡ (b ∷ word) ∷ []) × (hex_of (b ∷ word) ≡ Some bytes))))
+    by_case : (bytes : List ℕ) → ((fields ≡ []) × (bytes ≡ []))
+        ⊎ ((b : ℕ) × ((word : List ℕ) × ((fields ≡ (b ∷ word) ∷ []) × (hex_of (b ∷ word) ≡ Some bytes))))
         → (fields ≡ hex_words bytes) × IsBytes bytes
     by_case [] (inl (none, same)) = (none, tt)
     by_case (x ∷ bytes) (inl (none, same)) = absurd cc
     by_case [] (inr (b, (word, (one, read)))) = let bad : b ∷ word ≡ [] = (hex_of-sound (b ∷ word) [] read).0 in absurd cc
-    by_case (x ∷ bytes) (inr (b, (word, (one, read)))) = let spelled = hex_of-sound (b ∷ word) (x ∷ bytes) read in (one ∙ ap (λ w. w ∷ []) spelled.0, spelled.1)
+    by_case (x ∷ bytes) (inr (b, (word, (one, read)))) = let spelled =
+        hex_of-sound (b ∷ word) (x ∷ bytes) read in (one ∙ ap (λ w. w ∷ []) spelled.0, spelled.1)
 
 pub optional_hex-again : (bytes : List ℕ) → IsBytes bytes → optional_hex (hex_words bytes) ≡ Some bytes
 unfolding optional_hex encode_with
 optional_hex-again [] small = refl
-optional_hex-again (b ∷ bytes) small = optional-again hex_of (encode_lower (b ∷ bytes)) b bytes (hex_of-again [] tt) (hex_of-again (b ∷ bytes) small)
+optional_hex-again (b ∷ bytes) small =
+    optional-again hex_of (encode_lower (b ∷ bytes)) b bytes (hex_of-again [] tt) (hex_of-again (b ∷ bytes) small)
 
 -- `all` is no number
 all_word : (word : List ℕ) → bytes_eq word (codes "all") ≡ true → word ≡ codes "all"
@@ -164,7 +180,8 @@ pub towards_of-sound : (word : List ℕ) (to : Towards) → towards_of word ≡ 
 unfolding towards_of
 towards_of-sound word to e = by_test (bytes_eq word (codes "all")) refl to e
   where
-    by_test : (t : Bool) → bytes_eq word (codes "all") ≡ t → (to : Towards) → cond t (Some All) (option_map One (number_of word)) ≡ Some to → (word ≡ towards_text to) × IsTowards to
+    by_test : (t : Bool) → bytes_eq word (codes "all") ≡ t → (to : Towards) → cond t (Some All) (option_map One (number_of word)) ≡ Some to
+        → (word ≡ towards_text to) × IsTowards to
     by_test true is All e = (all_word word is, tt)
     by_test true is (One n) e = absurd cc
     by_test false is All e = let (n, (read, same)) = map_some One (number_of word) All e in absurd cc
@@ -179,7 +196,8 @@ unfolding towards_of
 towards_of-again All is = refl
 towards_of-again (One n) small = by_test (bytes_eq (number_text n) (codes "all")) refl
   where
-    by_test : (t : Bool) → bytes_eq (number_text n) (codes "all") ≡ t → cond t (Some All) (option_map One (number_of (number_text n))) ≡ Some (One n)
+    by_test : (t : Bool) → bytes_eq (number_text n) (codes "all") ≡ t
+        → cond t (Some All) (option_map One (number_of (number_text n))) ≡ Some (One n)
     by_test true is =
         let word : number_text n ≡ codes "all" = all_word (number_text n) is in
         let digits : is_decimal (codes "all") ≡ true = subst (λ (w : List ℕ). is_decimal w ≡ true) word (is_decimal-number_text n small) in
@@ -191,7 +209,8 @@ found_among : (n r : ℕ) (liars : List ℕ) → find (λ liar. liar == n) liars
 found_among n r [] e = absurd cc
 found_among n r (x ∷ liars) e = by_test (x == n) refl e (found_among n r liars)
   where
-    by_test : (t : Bool) → (x == n) ≡ t → cond t (Some x) (find (λ liar. liar == n) liars) ≡ Some r → (find (λ liar. liar == n) liars ≡ Some r → (r ≡ n) × Contains liars r)
+    by_test : (t : Bool) → (x == n) ≡ t → cond t (Some x) (find (λ liar. liar == n) liars) ≡ Some r
+        → (find (λ liar. liar == n) liars ≡ Some r → (r ≡ n) × Contains liars r)
         → (r ≡ n) × Contains (x ∷ liars) r
     by_test true is e later = let same : x ≡ r = cc in (sym same ∙ eqb-true x n is, (0, omega arith, same))
     by_test false is e later = let (equal, (k, within, at)) = later e in (equal, (suc k, omega arith, at))
@@ -202,12 +221,14 @@ among_found r [] (k, within, at) = absurd (omega arith)
 among_found r (x ∷ liars) (zero, within, at) = rw (eq-eqb x r at) (ap Some at)
 among_found r (x ∷ liars) (suc k, within, at) = by_test (x == r) refl (among_found r liars (k, omega arith, at))
   where
-    by_test : (t : Bool) → (x == r) ≡ t → find (λ liar. liar == r) liars ≡ Some r → cond t (Some x) (find (λ liar. liar == r) liars) ≡ Some r
+    by_test : (t : Bool) → (x == r) ≡ t → find (λ liar. liar == r) liars ≡ Some r
+        → cond t (Some x) (find (λ liar. liar == r) liars) ≡ Some r
     by_test true is later = ap Some (eqb-true x r is)
     by_test false is later = later
 
 -- a liar
-pub liar_of-sound : (liars : List ℕ) (word : List ℕ) (r : ℕ) → liar_of liars word ≡ Some r → (word ≡ number_text r) × (Contains liars r × IsNumber r)
+pub liar_of-sound : (liars : List ℕ) (word : List ℕ) (r : ℕ) → liar_of liars word ≡ Some r
+    → (word ≡ number_text r) × (Contains liars r × IsNumber r)
 unfolding liar_of
 liar_of-sound liars word r e =
     let (n, (read, found)) = bind_some (λ n. find (λ liar. liar == n) liars) (number_of word) r e in

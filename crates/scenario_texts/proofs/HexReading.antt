@@ -1,22 +1,19 @@
--- Hexadecimal digits are read as they are written.
-use Rattle.std.proofs.Common.{◌≡◌, ◌∙◌, ℕ, ◌+◌, ◌-◌, ◌*◌, ◌/◌, ◌%◌, ◌<◌, ◌≤◌, zero, suc, Bool, true, false, cond, List, [], ◌∷◌, refl, sym, ap, arith}
+-- Hexadecimal digits are read back from their text.
+use Rattle.std.proofs.Common.{◌≡◌, ◌∙◌, ℕ, ◌+◌, ◌-◌, ◌*◌, ◌/◌, ◌%◌, ◌<◌, ◌≤◌, zero, suc, Bool, true, false, cond, List, [], ◌∷◌, refl, sym}
+use Rattle.std.proofs.Common.{ap, arith}
 use Rattle.std.specs.Prelude.{◌||◌, ◌&&◌, nat_le, Option, Some, None, Result, Ok, Err, slice_index}
 use Rattle.std.specs.Char.{is_ascii_uppercase}
 use Rattle.std.specs.List.{list_any, AllByRecursion}
 use Rattle.std.specs.Result.{result_ok}
-use Rattle.std.proofs.lemmas.Bool.{and_parts, leb-true}
+use Rattle.std.proofs.lemmas.Bool.{and_parts, leb-true, or_parts}
 use Rattle.std.proofs.lemmas.Bool.Decides.{nat_tests}
 use Rattle.std.proofs.lemmas.List.Elements.{All-weaker}
-use Rattle.hex.specs.Hex.{decode_of, decode_pairs, encode_lower, encode_with, lower_digits, hex_digit_value, is_hex_digit, digit_or_error, pair_value, ◌>>=◌, IsBytes}
+use Rattle.hex.specs.Hex.{decode_of, decode_pairs, encode_lower, encode_with, lower_digits, hex_digit_value, is_hex_digit, digit_or_error}
+use Rattle.hex.specs.Hex.{pair_value, ◌>>=◌, IsBytes}
 use Rattle.hex.specs.declared.error.FromHexError.{FromHexError}
 use Rattle.hex.proofs.HexLemmas.{IsDigits-lower_digits, decode_of-encode_lower, decode_of-even, decode_of-ok}
 use Rattle.scenario_texts.specs.Reading.{hex_of}
 use Rattle.scenario_texts.proofs.Visible.{IsVisible, IsWord}
-
--- neither holds
-or_false_parts : (a b : Bool) → (a || b) ≡ false → (a ≡ false) × (b ≡ false)
-or_false_parts true b e = absurd cc
-or_false_parts false b e = (refl, e)
 
 -- bytes, place by place
 bytes_at : (bytes : List ℕ) → AllByRecursion (λ b. b < 256) bytes → IsBytes bytes
@@ -32,8 +29,8 @@ bytes_each (b ∷ bytes) small = (small 0, bytes_each bytes (λ i. small (suc i)
 -- no place of a table without capitals has one
 none_at : (t : List ℕ) → list_any is_ascii_uppercase t ≡ false → (d : ℕ) → is_ascii_uppercase (slice_index t d) ≡ false
 none_at [] none d = refl
-none_at (x ∷ t) none zero = (or_false_parts (is_ascii_uppercase x) (list_any is_ascii_uppercase t) none).0
-none_at (x ∷ t) none (suc d) = none_at t (or_false_parts (is_ascii_uppercase x) (list_any is_ascii_uppercase t) none).1 d
+none_at (x ∷ t) none zero = (or_parts (is_ascii_uppercase x) (list_any is_ascii_uppercase t) none).0
+none_at (x ∷ t) none (suc d) = none_at t (or_parts (is_ascii_uppercase x) (list_any is_ascii_uppercase t) none).1 d
 
 -- the digits have no capitals
 lower_at : (d : ℕ) → is_ascii_uppercase (slice_index lower_digits d) ≡ false
@@ -67,7 +64,8 @@ digit_is c v e small = by_capital (nat_le 65 c && nat_le c 70) refl e
         numeral low high (omega arith)
     by_numeral false is e = absurd cc
 
-    by_letter : (t : Bool) → (nat_le 97 c && nat_le c 102) ≡ t → cond t (Some (c - 87)) (cond (nat_le 48 c && nat_le c 57) (Some (c - 48)) None) ≡ Some v → IsDigit c v
+    by_letter : (t : Bool) → (nat_le 97 c && nat_le c 102) ≡ t
+        → cond t (Some (c - 87)) (cond (nat_le 48 c && nat_le c 57) (Some (c - 48)) None) ≡ Some v → IsDigit c v
     by_letter true is e =
         let parts = and_parts (nat_le 97 c) (nat_le c 102) is in
         let low = leb-true 97 c parts.0 in
@@ -77,7 +75,8 @@ digit_is c v e small = by_capital (nat_le 65 c && nat_le c 70) refl e
     by_letter false is e = by_numeral (nat_le 48 c && nat_le c 57) refl e
 
     by_capital : (t : Bool) → (nat_le 65 c && nat_le c 70) ≡ t
-        → cond t (Some (c - 55)) (cond (nat_le 97 c && nat_le c 102) (Some (c - 87)) (cond (nat_le 48 c && nat_le c 57) (Some (c - 48)) None)) ≡ Some v → IsDigit c v
+        → cond t (Some (c - 55)) (cond (nat_le 97 c && nat_le c 102) (Some (c - 87))
+        (cond (nat_le 48 c && nat_le c 57) (Some (c - 48)) None)) ≡ Some v → IsDigit c v
     by_capital true is e =
         let parts = and_parts (nat_le 65 c) (nat_le c 70) is in
         let low = leb-true 65 c parts.0 in
@@ -87,7 +86,8 @@ digit_is c v e small = by_capital (nat_le 65 c && nat_le c 70) refl e
     by_capital false is e = by_letter (nat_le 97 c && nat_le c 102) refl e
 
 -- two digits without capitals that have one value are one
-same_digit : (a b v : ℕ) → hex_digit_value a ≡ Some v → hex_digit_value b ≡ Some v → is_ascii_uppercase a ≡ false → is_ascii_uppercase b ≡ false → a ≡ b
+same_digit : (a b v : ℕ) → hex_digit_value a ≡ Some v → hex_digit_value b ≡ Some v → is_ascii_uppercase a ≡ false
+    → is_ascii_uppercase b ≡ false → a ≡ b
 same_digit a b v e f p q = by_cases a b v (digit_is a v e p) (digit_is b v f q)
   where
     by_cases : (a b v : ℕ) → IsDigit a v → IsDigit b v → a ≡ b
@@ -97,7 +97,8 @@ same_digit a b v e f p q = by_cases a b v (digit_is a v e p) (digit_is b v f q)
     by_cases a b v (letter l h x) (letter m g y) = omega arith
 
 -- what the parts of a pair were
-pair_parts : (a b i byte : ℕ) → pair_value a b i ≡ Ok byte → (h : ℕ) × ((l : ℕ) × ((hex_digit_value a ≡ Some h) × ((hex_digit_value b ≡ Some l) × (h * 16 + l ≡ byte))))
+pair_parts : (a b i byte : ℕ) → pair_value a b i ≡ Ok byte
+    → (h : ℕ) × ((l : ℕ) × ((hex_digit_value a ≡ Some h) × ((hex_digit_value b ≡ Some l) × (h * 16 + l ≡ byte))))
 pair_parts a b i byte e = by_parts (hex_digit_value a) (hex_digit_value b) e
   where
     by_parts : (o p : Option ℕ) → (digit_or_error a i o >>= (λ h. digit_or_error b (i + 1) p >>= (λ l. Ok (h * 16 + l)))) ≡ Ok byte
@@ -107,7 +108,8 @@ pair_parts a b i byte e = by_parts (hex_digit_value a) (hex_digit_value b) e
     by_parts (Some h) (Some l) e = (h, (l, (refl, (refl, cc))))
 
 -- a step and the next
-bind_parts : {A B : Type 0} (r : Result A FromHexError) (f : A → Result B FromHexError) (y : B) → (r >>= f) ≡ Ok y → (x : A) × ((r ≡ Ok x) × (f x ≡ Ok y))
+bind_parts : {A B : Type 0} (r : Result A FromHexError) (f : A → Result B FromHexError) (y : B) → (r >>= f) ≡ Ok y
+    → (x : A) × ((r ≡ Ok x) × (f x ≡ Ok y))
 bind_parts (Ok x) f y e = (x, (refl, e))
 bind_parts (Err d) f y e = absurd cc
 
@@ -116,7 +118,8 @@ small_digit : (c v : ℕ) → hex_digit_value c ≡ Some v → v < 16
 small_digit c v e = grind arith
 
 -- what was read is what is written of its bytes
-encode-decode : (i : ℕ) (word bytes : List ℕ) → list_any is_ascii_uppercase word ≡ false → decode_pairs i word ≡ Ok bytes → word ≡ encode_lower bytes
+encode-decode : (i : ℕ) (word bytes : List ℕ) → list_any is_ascii_uppercase word ≡ false → decode_pairs i word ≡ Ok bytes
+    → word ≡ encode_lower bytes
 unfolding decode_pairs encode_with
 encode-decode i [] bytes none e = let same : [] ≡ bytes = cc in ap encode_lower same
 encode-decode i (a ∷ []) bytes none e = absurd cc
@@ -124,17 +127,20 @@ encode-decode i (a ∷ b ∷ rest) bytes none e =
     let (byte, (pair, more)) = bind_parts (pair_value a b i) (λ x. decode_pairs (i + 2) rest >>= (λ xs. Ok (x ∷ xs))) bytes e in
     let (left, (decoded, same)) = bind_parts (decode_pairs (i + 2) rest) (λ xs. Ok (byte ∷ xs)) bytes more in
     let (h, (l, (high, (low, value)))) = pair_parts a b i byte pair in
-    let first = or_false_parts (is_ascii_uppercase a) (list_any is_ascii_uppercase (b ∷ rest)) none in
-    let second = or_false_parts (is_ascii_uppercase b) (list_any is_ascii_uppercase rest) first.1 in
+    let first = or_parts (is_ascii_uppercase a) (list_any is_ascii_uppercase (b ∷ rest)) none in
+    let second = or_parts (is_ascii_uppercase b) (list_any is_ascii_uppercase rest) first.1 in
     let h_small = small_digit a h high in
     let l_small = small_digit b l low in
     let upper : byte / 16 ≡ h = omega (arith, h_small, l_small) in
     let lower : byte % 16 ≡ l = omega (arith, h_small, l_small) in
-    let is_a : a ≡ slice_index lower_digits h = same_digit a (slice_index lower_digits h) h high (IsDigits-lower_digits h h_small) first.0 (lower_at h) in
-    let is_b : b ≡ slice_index lower_digits l = same_digit b (slice_index lower_digits l) l low (IsDigits-lower_digits l l_small) second.0 (lower_at l) in
+    let is_a : a ≡ slice_index lower_digits h =
+    same_digit a (slice_index lower_digits h) h high (IsDigits-lower_digits h h_small) first.0 (lower_at h) in
+    let is_b : b ≡ slice_index lower_digits l =
+    same_digit b (slice_index lower_digits l) l low (IsDigits-lower_digits l l_small) second.0 (lower_at l) in
     let tails : rest ≡ encode_lower left = encode-decode (i + 2) rest left second.1 decoded in
     let whole : byte ∷ left ≡ bytes = cc in
-    let spelled : a ∷ b ∷ rest ≡ slice_index lower_digits (byte / 16) ∷ slice_index lower_digits (byte % 16) ∷ encode_lower left = rw (upper, lower) cc in
+    let spelled : a ∷ b ∷ rest ≡ slice_index lower_digits (byte / 16) ∷ slice_index lower_digits (byte % 16) ∷ encode_lower left =
+    rw (upper, lower) cc in
     spelled ∙ ap encode_lower whole
 
 -- what was read is their text, and they are bytes

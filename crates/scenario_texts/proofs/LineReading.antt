@@ -1,4 +1,4 @@
--- A line adds to a plan what is written so.
+-- A line adds to a plan exactly what its text is.
 use Rattle.std.proofs.Common.{◌≡◌, ◌∙◌, Bor, ℕ, ◌<◌, Bool, true, false, List, [], ◌∷◌, ◌++◌, map, refl, sym, ap, subst, append_assoc, arith}
 use Rattle.std.specs.Prelude.{◌==◌, ◌||◌, nat_eq, codes, Option, Some, None, Result, Ok, Err, MatchResult, Contains, option_and_then}
 use Rattle.std.specs.List.{list_all, list_any, All, AllPass, AllByRecursion, slice_split}
@@ -21,8 +21,10 @@ use Rattle.lm_ots.specs.declared.params.Params.{Params}
 use Rattle.scenario_texts.specs.Plans.{Plan}
 use Rattle.scenario_texts.specs.Words.{keyword_text}
 use Rattle.scenario_texts.specs.Lawful.{IsNumber, IsSetup, IsPlan, IsCommand}
-use Rattle.scenario_texts.specs.Texts.{words_text, command_text, kind_number, config_words, params_words, keys_lines, liar_text, setup_lines, plan_lines}
-use Rattle.scenario_texts.specs.Reading.{ascii_of, keyword_of, command_of, with_keys, with_liar, with_command, going_on, beginning, next_by_keyword, next_by_words, next_of}
+use Rattle.scenario_texts.specs.Texts.{words_text, command_text, kind_number, config_words, params_words, keys_lines, liar_text}
+use Rattle.scenario_texts.specs.Texts.{setup_lines, plan_lines}
+use Rattle.scenario_texts.specs.Reading.{ascii_of, keyword_of, command_of, with_keys, with_liar, with_command, going_on, beginning}
+use Rattle.scenario_texts.specs.Reading.{next_by_keyword, next_by_words, next_of}
 use Rattle.scenario_texts.specs.declared.keyword.Keyword.{Keyword}
 use Rattle.scenario_texts.specs.declared.keyword.Keyword.TheVariants as keyword
 use Rattle.scenario_texts.specs.declared.command.Command.{Command}
@@ -31,7 +33,8 @@ use Rattle.scenario_texts.proofs.Splits.{slice_split-join}
 use Rattle.scenario_texts.proofs.Visible.{IsWords, IsWord-number_text, Lacks-word, Lacks-words, small_words}
 use Rattle.scenario_texts.proofs.CommandReading.{keyword_of-sound, keyword_of-again, command_of-sound}
 use Rattle.scenario_texts.proofs.CommandAgain.{seen_word, words_of_command}
-use Rattle.scenario_texts.proofs.PlanReading.{cluster, kind_number-small, begun_of-sound, params_small, with_keys-sound, with_liar-sound, MayLie}
+use Rattle.scenario_texts.proofs.PlanReading.{cluster, kind_number-small, begun_of-sound, params_small, with_keys-sound, with_liar-sound}
+use Rattle.scenario_texts.proofs.PlanReading.{MayLie}
 
 -- these are the lines that count of what was read
 abbrev pub Shows : Option Plan → List (List ℕ) → Type 0
@@ -47,20 +50,24 @@ pub record ShowsMore (lines : List (List ℕ)) (words : List (List ℕ)) (q : Pl
 -- a liar's number is small
 pub liar_small : (p : Plan) → IsPlan p → (r : ℕ) → Contains p.liars r → IsNumber r
 liar_small p is r among =
-    let below : r < p.replicas = All-contains (λ liar. liar < p.replicas) p.liars r (All-from_recursion (λ liar. liar < p.replicas) p.liars is.setup.replicas) among in
+    let below : r < p.replicas = All-contains (λ liar. liar < p.replicas) p.liars r
+    (All-from_recursion (λ liar. liar < p.replicas) p.liars is.setup.replicas) among in
     omega (arith, is.setup.bounded)
 
 -- a step more
-plan_lines-command : (p : Plan) (c : Command) → plan_lines (record p { commands = p.commands ++ c ∷ [] }) ≡ plan_lines p ++ command_text c ∷ []
+plan_lines-command : (p : Plan) (c : Command)
+    → plan_lines (record p { commands = p.commands ++ c ∷ [] }) ≡ plan_lines p ++ command_text c ∷ []
 unfolding plan_lines
-plan_lines-command p c = ap (λ ls. setup_lines p ++ ls) (map_push command_text p.commands c) ∙ sym (append_assoc (setup_lines p) (map command_text p.commands) (command_text c ∷ []))
+plan_lines-command p c = ap (λ ls. setup_lines p ++ ls) (map_push command_text p.commands c)
+    ∙ sym (append_assoc (setup_lines p) (map command_text p.commands) (command_text c ∷ []))
 
 -- one more of which each holds
 each_more : {A : Type 0} (P : A → Type 0) (xs : List A) (x : A) → AllByRecursion P xs → P x → AllByRecursion P (xs ++ x ∷ [])
 each_more P [] x all one = (one, tt)
 each_more P (y ∷ xs) x (first, all) one = (first, each_more P xs x all one)
 
-with_command_shows : (p : Plan) (k : Keyword) (fields : List (List ℕ)) (q : Plan) (lines : List (List ℕ)) → with_command p k fields ≡ Some q → Shows (Some p) lines → ShowsMore lines (keyword_text k ∷ fields) q
+with_command_shows : (p : Plan) (k : Keyword) (fields : List (List ℕ)) (q : Plan) (lines : List (List ℕ))
+    → with_command p k fields ≡ Some q → Shows (Some p) lines → ShowsMore lines (keyword_text k ∷ fields) q
 unfolding with_command command_text
 with_command_shows p k fields q lines e (spelled, is) =
     let make : Command → Option Plan = λ c. Some (record p { commands = p.commands ++ c ∷ [] }) in
@@ -68,16 +75,30 @@ with_command_shows p k fields q lines e (spelled, is) =
     let next : Plan = record p { commands = p.commands ++ c ∷ [] } in
     let same : next ≡ q = cc in
     let said = command_of-sound p.liars k fields c read in
-    let lawful : IsPlan next = record { setup = record { enough = is.setup.enough; bounded = is.setup.bounded; tolerant = is.setup.tolerant; few = is.setup.few; replicas = is.setup.replicas; different = is.setup.different }; commands = each_more (IsCommand p.liars) p.commands c is.commands said.1 } in
+    let lawful : IsPlan next = record {
+      setup =
+          record {
+            enough = is.setup.enough;
+            bounded = is.setup.bounded;
+            tolerant = is.setup.tolerant;
+            few = is.setup.few;
+            replicas =
+                is.setup.replicas;
+            different = is.setup.different;
+          };
+      commands = each_more (IsCommand p.liars) p.commands c is.commands said.1;
+    } in
     subst (λ (x : Plan). ShowsMore lines (keyword_text k ∷ fields) x) same (record {
-      spelled = ap (λ ls. ls ++ words_text (keyword_text k ∷ fields) ∷ []) spelled ∙ ap (λ ws. plan_lines p ++ words_text ws ∷ []) said.0 ∙ sym (plan_lines-command p c);
+      spelled = ap (λ ls. ls ++ words_text (keyword_text k ∷ fields) ∷ []) spelled ∙ ap (λ ws. plan_lines p ++ words_text ws ∷ []) said.0
+          ∙ sym (plan_lines-command p c);
       lawful = lawful;
       visible = subst IsWords (sym said.0) (words_of_command p.liars (liar_small p is) c said.1);
     })
 
 -- a liar's line more, where no step stands
 lines_liar : (head : List (List ℕ)) (liars : List ℕ) (n : ℕ) (steps : List Command) → steps ≡ []
-    → (head ++ map liar_text (liars ++ n ∷ [])) ++ map command_text steps ≡ ((head ++ map liar_text liars) ++ map command_text steps) ++ liar_text n ∷ []
+    → (head ++ map liar_text (liars ++ n ∷ [])) ++ map command_text steps ≡ ((head ++ map liar_text liars) ++ map command_text steps)
+    ++ liar_text n ∷ []
 lines_liar head liars n [] e =
     append-nil (head ++ map liar_text (liars ++ n ∷ []))
     ∙ ap (λ ls. head ++ ls) (map_push liar_text liars n)
@@ -86,7 +107,8 @@ lines_liar head liars n [] e =
 lines_liar head liars n (c ∷ steps) e = absurd cc
 
 -- a liar more
-plan_lines-liar : (p : Plan) (n : ℕ) → p.commands ≡ [] → plan_lines (record p { liars = p.liars ++ n ∷ [] }) ≡ plan_lines p ++ liar_text n ∷ []
+plan_lines-liar : (p : Plan) (n : ℕ) → p.commands ≡ []
+    → plan_lines (record p { liars = p.liars ++ n ∷ [] }) ≡ plan_lines p ++ liar_text n ∷ []
 unfolding plan_lines
 plan_lines-liar p n none = lines_liar (words_text (config_words p.replicas p.faults p.kind) ∷ keys_lines p.keys) p.liars n p.commands none
 
@@ -95,7 +117,8 @@ turned : (n : ℕ) (liars : List ℕ) → list_any (λ liar. liar == n) liars �
 turned n [] e = refl
 turned n (x ∷ liars) e = by_test (x == n) refl e (turned n liars)
   where
-    by_test : (t : Bool) → (x == n) ≡ t → (t || list_any (λ liar. liar == n) liars) ≡ false → (list_any (λ liar. liar == n) liars ≡ false → list_any (nat_eq n) liars ≡ false)
+    by_test : (t : Bool) → (x == n) ≡ t → (t || list_any (λ liar. liar == n) liars) ≡ false
+        → (list_any (λ liar. liar == n) liars ≡ false → list_any (nat_eq n) liars ≡ false)
         → (nat_eq n x || list_any (nat_eq n) liars) ≡ false
     by_test true is e later = absurd cc
     by_test false is e later = let other : nat_eq n x ≡ false = nat_eq_equiv.symm n x ∙ is in rw other (later e)
@@ -114,51 +137,81 @@ liar_lawful p n is may = record {
   commands = subst (λ (cs : List Command). AllByRecursion (IsCommand (p.liars ++ n ∷ [])) cs) (sym may.no_steps) tt;
 }
 
-with_liar_shows : (p : Plan) (fields : List (List ℕ)) (q : Plan) (lines : List (List ℕ)) → with_liar p fields ≡ Some q → Shows (Some p) lines → ShowsMore lines (codes "liar" ∷ fields) q
+with_liar_shows : (p : Plan) (fields : List (List ℕ)) (q : Plan) (lines : List (List ℕ)) → with_liar p fields ≡ Some q
+    → Shows (Some p) lines → ShowsMore lines (codes "liar" ∷ fields) q
 with_liar_shows p fields q lines e (spelled, is) =
     let takes = with_liar-sound p fields q e in
     subst (λ (x : Plan). ShowsMore lines (codes "liar" ∷ fields) x) (sym takes.taken) (record {
-      spelled = ap (λ ls. ls ++ words_text (codes "liar" ∷ fields) ∷ []) spelled ∙ ap (λ fs. plan_lines p ++ words_text (codes "liar" ∷ fs) ∷ []) takes.spelled ∙ sym (plan_lines-liar p takes.liar takes.may.no_steps);
+      spelled = ap (λ ls. ls ++ words_text (codes "liar" ∷ fields) ∷ []) spelled
+          ∙ ap (λ fs. plan_lines p ++ words_text (codes "liar" ∷ fs) ∷ []) takes.spelled
+          ∙ sym (plan_lines-liar p takes.liar takes.may.no_steps);
       lawful = liar_lawful p takes.liar is takes.may;
-      visible = subst (λ fs. IsWords (codes "liar" ∷ fs)) (sym takes.spelled) (seen_word (codes "liar") refl, (IsWord-number_text takes.liar takes.small, tt));
+      visible = subst (λ fs. IsWords (codes "liar" ∷ fs)) (sym takes.spelled)
+          (seen_word (codes "liar") refl, (IsWord-number_text takes.liar takes.small, tt));
     })
 
 -- the line of a parameter set, where nothing else stands
-lines_keys : (config : List ℕ) (o : Option Params) (keys : Params) (liars : List ℕ) (steps : List Command) → o ≡ None → liars ≡ [] → steps ≡ []
-    → ((config ∷ keys_lines (Some keys)) ++ map liar_text liars) ++ map command_text steps ≡ (((config ∷ keys_lines o) ++ map liar_text liars) ++ map command_text steps) ++ words_text (params_words keys) ∷ []
+lines_keys : (config : List ℕ) (o : Option Params) (keys : Params) (liars : List ℕ) (steps : List Command) → o ≡ None → liars ≡ []
+    → steps ≡ []
+    → ((config ∷ keys_lines (Some keys)) ++ map liar_text liars) ++ map command_text steps
+    ≡ (((config ∷ keys_lines o) ++ map liar_text liars) ++ map command_text steps) ++ words_text (params_words keys) ∷ []
 lines_keys config None keys [] [] e f g = refl
 lines_keys config (Some x) keys liars steps e f g = absurd cc
 lines_keys config None keys (x ∷ liars) steps e f g = absurd cc
 lines_keys config None keys [] (x ∷ steps) e f g = absurd cc
 
 -- a parameter set
-plan_lines-keys : (p : Plan) (keys : Params) → p.keys ≡ None → p.liars ≡ [] → p.commands ≡ [] → plan_lines (record p { keys = Some keys }) ≡ plan_lines p ++ words_text (params_words keys) ∷ []
+plan_lines-keys : (p : Plan) (keys : Params) → p.keys ≡ None → p.liars ≡ [] → p.commands ≡ []
+    → plan_lines (record p { keys = Some keys }) ≡ plan_lines p ++ words_text (params_words keys) ∷ []
 unfolding plan_lines
-plan_lines-keys p keys unset alone none = lines_keys (words_text (config_words p.replicas p.faults p.kind)) p.keys keys p.liars p.commands unset alone none
+plan_lines-keys p keys unset alone none =
+    lines_keys (words_text (config_words p.replicas p.faults p.kind)) p.keys keys p.liars p.commands unset alone none
 
-with_keys_shows : (p : Plan) (fields : List (List ℕ)) (q : Plan) (lines : List (List ℕ)) → with_keys p fields ≡ Some q → Shows (Some p) lines → ShowsMore lines (codes "keys" ∷ fields) q
+with_keys_shows : (p : Plan) (fields : List (List ℕ)) (q : Plan) (lines : List (List ℕ)) → with_keys p fields ≡ Some q
+    → Shows (Some p) lines → ShowsMore lines (codes "keys" ∷ fields) q
 with_keys_shows p fields q lines e (spelled, is) =
     let takes = with_keys-sound p fields q e in
     let small = params_small takes.keys in
     subst (λ (x : Plan). ShowsMore lines (codes "keys" ∷ fields) x) (sym takes.taken) (record {
-      spelled = ap (λ ls. ls ++ words_text (codes "keys" ∷ fields) ∷ []) spelled ∙ ap (λ ws. plan_lines p ++ words_text ws ∷ []) takes.spelled
+      spelled = ap (λ ls. ls ++ words_text (codes "keys" ∷ fields) ∷ []) spelled
+          ∙ ap (λ ws. plan_lines p ++ words_text ws ∷ []) takes.spelled
           ∙ sym (plan_lines-keys p takes.keys takes.none takes.no_liars takes.no_steps);
       lawful = record {
-        setup = record { enough = is.setup.enough; bounded = is.setup.bounded; tolerant = is.setup.tolerant; few = is.setup.few; replicas = is.setup.replicas; different = is.setup.different };
+        setup = record {
+          enough = is.setup.enough;
+          bounded = is.setup.bounded;
+          tolerant = is.setup.tolerant;
+          few = is.setup.few;
+          replicas =
+              is.setup.replicas;
+          different = is.setup.different;
+        };
         commands = is.commands;
       };
-      visible = subst IsWords (sym takes.spelled)
-          (seen_word (codes "keys") refl, (IsWord-number_text (bits_of takes.keys.width) small.0, (IsWord-number_text (levels_of takes.keys.height) small.1, tt)));
+      visible = subst IsWords (sym takes.spelled) (
+        seen_word (codes "keys") refl,
+        (IsWord-number_text (bits_of takes.keys.width) small.0, (IsWord-number_text (levels_of takes.keys.height) small.1, tt)),
+      );
     })
 
 -- the words of a cluster
-pub config_visible : (replicas faults : ℕ) (kind : AppKind) → IsSetup (cluster replicas faults kind) → IsWords (config_words replicas faults kind)
+pub config_visible : (replicas faults : ℕ) (kind : AppKind) → IsSetup (cluster replicas faults kind)
+    → IsWords (config_words replicas faults kind)
 unfolding cluster
-config_visible replicas faults kind is =
-    (seen_word (codes "config") refl, (IsWord-number_text replicas (omega (arith, is.bounded)), (IsWord-number_text faults (omega (arith, is.bounded, is.enough)), (IsWord-number_text (kind_number kind) (kind_number-small kind), tt))))
+config_visible replicas faults kind is = (
+  seen_word (codes "config") refl,
+  (
+    IsWord-number_text replicas (omega (arith, is.bounded)),
+    (
+      IsWord-number_text faults (omega (arith, is.bounded, is.enough)),
+      (IsWord-number_text (kind_number kind) (kind_number-small kind), tt),
+    ),
+  ),
+)
 
 -- the cluster
-config_shows : (fields : List (List ℕ)) (q : Plan) (lines : List (List ℕ)) → beginning keyword.Config fields ≡ Some q → lines ≡ [] → ShowsMore lines (codes "config" ∷ fields) q
+config_shows : (fields : List (List ℕ)) (q : Plan) (lines : List (List ℕ)) → beginning keyword.Config fields ≡ Some q → lines ≡ []
+    → ShowsMore lines (codes "config" ∷ fields) q
 unfolding beginning plan_lines cluster
 config_shows fields q lines e none =
     let (replicas, (faults, (kind, (spelled, (same, is))))) = begun_of-sound fields q e in
@@ -169,7 +222,8 @@ config_shows fields q lines e none =
     })
 
 -- a line by its keyword
-keyword_shows : (s : Option Plan) (k : Keyword) (fields : List (List ℕ)) (q : Plan) (lines : List (List ℕ)) → next_by_keyword s k fields ≡ Some q → Shows s lines → ShowsMore lines (keyword_text k ∷ fields) q
+keyword_shows : (s : Option Plan) (k : Keyword) (fields : List (List ℕ)) (q : Plan) (lines : List (List ℕ))
+    → next_by_keyword s k fields ≡ Some q → Shows s lines → ShowsMore lines (keyword_text k ∷ fields) q
 unfolding next_by_keyword going_on beginning
 keyword_shows None keyword.Config fields q lines e shows = config_shows fields q lines e shows
 keyword_shows None keyword.Keys fields q lines e shows = absurd cc
@@ -205,7 +259,8 @@ keyword_shows (Some p) keyword.LieLock fields q lines e shows = with_command_sho
 keyword_shows (Some p) keyword.LieAck fields q lines e shows = with_command_shows p keyword.LieAck fields q lines e shows
 
 -- by its words
-words_show : (s : Option Plan) (words : List (List ℕ)) (q : Plan) (lines : List (List ℕ)) → next_by_words s words ≡ Some q → Shows s lines → ShowsMore lines words q
+words_show : (s : Option Plan) (words : List (List ℕ)) (q : Plan) (lines : List (List ℕ)) → next_by_words s words ≡ Some q → Shows s lines
+    → ShowsMore lines words q
 unfolding next_by_words
 words_show s [] q lines e shows = absurd cc
 words_show s (word ∷ fields) q lines e shows =
@@ -238,19 +293,22 @@ ascii_again line small =
     passes b h = grind (arith, nat_tests)
 
 -- what passes is ASCII text
-pub ascii_text : {E : Type 0} (Q : E → Type 0) (line : List ℕ) (r : Result (Bor (List ℕ)) E) → list_all is_ascii line ≡ true → MatchResult r (λ s. (s.now ≡ line) × IsUtf8 line) (λ e. (IsUtf8 line → ⊥) × Q e)
+pub ascii_text : {E : Type 0} (Q : E → Type 0) (line : List ℕ) (r : Result (Bor (List ℕ)) E) → list_all is_ascii line ≡ true
+    → MatchResult r (λ s. (s.now ≡ line) × IsUtf8 line) (λ e. (IsUtf8 line → ⊥) × Q e)
     → option_map (λ text. text.now) (result_ok r) ≡ ascii_of line
 unfolding ascii_of
 ascii_text Q line (Ok s) all (same, utf8) = rw all (ap Some same)
 ascii_text Q line (Err e) all (no_text, more) =
-    let each : All (λ b. b < 128) line = All-weaker (λ b. is_ascii b ≡ true) (λ b. b < 128) small line (AllPass-from_list_all is_ascii line all) in
+    let each : All (λ b. b < 128) line =
+    All-weaker (λ b. is_ascii b ≡ true) (λ b. b < 128) small line (AllPass-from_list_all is_ascii line all) in
     absurd (no_text (IsUtf8-from_ascii line (IsAscii-from_all line each)))
   where
     small : (b : ℕ) → is_ascii b ≡ true → b < 128
     small b h = grind (arith, nat_tests)
 
 -- a line more
-pub line_shows : (s : Option Plan) (line : List ℕ) (q : Plan) (lines : List (List ℕ)) → next_of s line ≡ Some q → Shows s lines → ShowsMore lines (words_of line) q
+pub line_shows : (s : Option Plan) (line : List ℕ) (q : Plan) (lines : List (List ℕ)) → next_of s line ≡ Some q → Shows s lines
+    → ShowsMore lines (words_of line) q
 unfolding next_of
 line_shows s line q lines e shows =
     let read : List ℕ → Option Plan = λ text. next_by_words s (words_of text) in
@@ -259,7 +317,8 @@ line_shows s line q lines e shows =
     words_show s (words_of line) q lines (ap read same ∙ more) shows
 
 -- a line that is written so is read by its keyword and its fields
-pub next_of-words : (s : Option Plan) (k : Keyword) (fields : List (List ℕ)) → IsWords (keyword_text k ∷ fields) → next_of s (words_text (keyword_text k ∷ fields)) ≡ next_by_keyword s k fields
+pub next_of-words : (s : Option Plan) (k : Keyword) (fields : List (List ℕ)) → IsWords (keyword_text k ∷ fields)
+    → next_of s (words_text (keyword_text k ∷ fields)) ≡ next_by_keyword s k fields
 unfolding next_of next_by_words
 next_of-words s k fields (first, all) =
     let read : List ℕ → Option Plan = λ text. next_by_words s (words_of text) in

@@ -1,4 +1,4 @@
--- Numbers are read as they are written.
+-- Numbers are read back from their text.
 use Rattle.std.proofs.Common.{◌≡◌, ◌∙◌, ℕ, ◌<◌, ◌^◌, Bool, true, false, cond, List, refl, sym, ap, arith}
 use Rattle.std.specs.Prelude.{nat_lt, not, ◌&&◌, Option, Some, None, IfSome}
 use Rattle.std.specs.Str.Parse.{digits_value}
@@ -27,7 +27,8 @@ pub number_of-sound : (word : List ℕ) (n : ℕ) → number_of word ≡ Some n 
 unfolding number_of
 number_of-sound word n e = by_test (is_decimal word && not (has_needless_zero word) && nat_lt (digits_value 10 word) (2 ^ 32)) refl e
   where
-    by_test : (t : Bool) → (is_decimal word && not (has_needless_zero word) && nat_lt (digits_value 10 word) (2 ^ 32)) ≡ t → cond t (Some (digits_value 10 word)) None ≡ Some n
+    by_test : (t : Bool) → (is_decimal word && not (has_needless_zero word) && nat_lt (digits_value 10 word) (2 ^ 32)) ≡ t
+        → cond t (Some (digits_value 10 word)) None ≡ Some n
         → (word ≡ number_text n) × (n < 2 ^ 32)
     by_test true is e =
         let tests = and_parts (is_decimal word && not (has_needless_zero word)) (nat_lt (digits_value 10 word) (2 ^ 32)) is in

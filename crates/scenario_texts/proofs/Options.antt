@@ -1,10 +1,11 @@
--- What a step that gave something was given.
+-- The argument of a step that returned something.
 use Rattle.std.proofs.Common.{◌≡◌, Bool, true, false, cond, refl}
 use Rattle.std.specs.Prelude.{Option, Some, None, option_and_then}
 use Rattle.std.specs.Option.{option_map}
 
 -- both steps gave something
-pub bind_some : {A B : Type 0} (f : A → Option B) (o : Option A) (y : B) → option_and_then f o ≡ Some y → (x : A) × ((o ≡ Some x) × (f x ≡ Some y))
+pub bind_some : {A B : Type 0} (f : A → Option B) (o : Option A) (y : B) → option_and_then f o ≡ Some y
+    → (x : A) × ((o ≡ Some x) × (f x ≡ Some y))
 bind_some f None y e = absurd cc
 bind_some f (Some x) y e = (x, (refl, e))
 

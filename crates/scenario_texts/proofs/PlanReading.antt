@@ -1,4 +1,4 @@
--- Lines before the steps are read as they are written.
+-- Lines before the commands are read back from their text.
 use Rattle.std.proofs.Common.{◌≡◌, ◌∙◌, ℕ, ◌+◌, ◌*◌, ◌<◌, Bool, true, false, cond, List, [], ◌∷◌, ◌++◌, length, refl, sym, ap, arith}
 use Rattle.std.specs.Prelude.{◌==◌, nat_lt, nat_le, not, ◌&&◌, codes, Option, Some, None, is_some, option_and_then}
 use Rattle.std.specs.List.{list_any, IsDistinct}
@@ -16,12 +16,15 @@ use Rattle.plain_text.specs.Numbers.{number_text}
 use Rattle.scenario_texts.specs.Plans.{Plan}
 use Rattle.scenario_texts.specs.Lawful.{IsNumber, IsSetup}
 use Rattle.scenario_texts.specs.Texts.{kind_number, config_words, params_words}
-use Rattle.scenario_texts.specs.Reading.{is_size, kind_of, config_of, begun_of, params_from, with_keys, is_new_liar, with_liar, one_number, two_numbers, three_numbers}
+use Rattle.scenario_texts.specs.Reading.{is_size, kind_of, config_of, begun_of, params_from, with_keys, is_new_liar, with_liar, one_number}
+use Rattle.scenario_texts.specs.Reading.{two_numbers, three_numbers}
 use Rattle.scenario_texts.proofs.Options.{bind_some, map_some, if_some}
-use Rattle.scenario_texts.proofs.FieldReading.{one_number-sound, one_number-again, two_numbers-sound, two_numbers-again, three_numbers-sound, three_numbers-again}
+use Rattle.scenario_texts.proofs.FieldReading.{one_number-sound, one_number-again, two_numbers-sound, two_numbers-again}
+use Rattle.scenario_texts.proofs.FieldReading.{three_numbers-sound, three_numbers-again}
 
 -- another replica may be named a liar
-pub is_new_liar-true : (p : Plan) (n : ℕ) → (length p.commands == 0) ≡ true → length p.liars < p.faults → n < p.replicas → list_any (λ liar. liar == n) p.liars ≡ false → is_new_liar p n ≡ true
+pub is_new_liar-true : (p : Plan) (n : ℕ) → (length p.commands == 0) ≡ true → length p.liars < p.faults → n < p.replicas
+    → list_any (λ liar. liar == n) p.liars ≡ false → is_new_liar p n ≡ true
 unfolding is_new_liar
 is_new_liar-true p n none room within fresh =
     let few : nat_lt (length p.liars) p.faults ≡ true = grind (arith, nat_tests) in
@@ -47,7 +50,8 @@ not_true false h = refl
 is_new_liar-sound : (p : Plan) (n : ℕ) → is_new_liar p n ≡ true → MayLie p n
 unfolding is_new_liar
 is_new_liar-sound p n e =
-    let a = and_parts (length p.commands == 0 && nat_lt (length p.liars) p.faults && nat_lt n p.replicas) (not (list_any (λ liar. liar == n) p.liars)) e in
+    let a = and_parts (length p.commands == 0 && nat_lt (length p.liars) p.faults && nat_lt n p.replicas)
+    (not (list_any (λ liar. liar == n) p.liars)) e in
     let b = and_parts (length p.commands == 0 && nat_lt (length p.liars) p.faults) (nat_lt n p.replicas) a.0 in
     let c = and_parts (length p.commands == 0) (nat_lt (length p.liars) p.faults) b.0 in
     record {
@@ -70,7 +74,8 @@ kind_of-sound n kind e = by_first (n == 1) refl e
     by_second true is e = let same : Counter ≡ kind = cc in eqb-true n 2 is ∙ ap kind_number same
     by_second false is e = by_third (n == 3) refl e
 
-    by_first : (t : Bool) → (n == 1) ≡ t → cond t (Some KvStore) (cond (n == 2) (Some Counter) (cond (n == 3) (Some Purse) None)) ≡ Some kind → n ≡ kind_number kind
+    by_first : (t : Bool) → (n == 1) ≡ t
+        → cond t (Some KvStore) (cond (n == 2) (Some Counter) (cond (n == 3) (Some Purse) None)) ≡ Some kind → n ≡ kind_number kind
     by_first true is e = let same : KvStore ≡ kind = cc in eqb-true n 1 is ∙ ap kind_number same
     by_first false is e = by_second (n == 2) refl e
 
@@ -106,7 +111,9 @@ is_size-sound replicas faults kind e =
 
 -- the cluster that a line says
 pub begun_of-sound : (fields : List (List ℕ)) (p : Plan) → begun_of fields ≡ Some p
-    → (replicas : ℕ) × ((faults : ℕ) × ((kind : AppKind) × ((codes "config" ∷ fields ≡ config_words replicas faults kind) × ((p ≡ cluster replicas faults kind) × IsSetup (cluster replicas faults kind)))))
+    → (replicas : ℕ) × ((faults : ℕ)
+    × ((kind : AppKind) × ((codes "config" ∷ fields ≡ config_words replicas faults kind)
+    × ((p ≡ cluster replicas faults kind) × IsSetup (cluster replicas faults kind)))))
 unfolding begun_of config_of cluster
 begun_of-sound fields p e =
     let plan : ℕ × ℕ × AppKind → Plan = λ c. cluster c.0 c.1 c.2 in
@@ -120,7 +127,9 @@ begun_of-sound fields p e =
     let number : n.2 ≡ kind_number kind = kind_of-sound n.2 kind named in
     (n.0, (n.1, (kind, (cc (spelled.0, number), (sym equal ∙ sym (ap plan same), is_size-sound n.0 n.1 kind test)))))
 
-pub begun_of-again : (p : Plan) → IsSetup p → begun_of (number_text p.replicas ∷ number_text p.faults ∷ number_text (kind_number p.kind) ∷ []) ≡ Some (cluster p.replicas p.faults p.kind)
+pub begun_of-again : (p : Plan) → IsSetup p
+    → begun_of (number_text p.replicas ∷ number_text p.faults ∷ number_text (kind_number p.kind) ∷ [])
+    ≡ Some (cluster p.replicas p.faults p.kind)
 unfolding begun_of config_of cluster
 begun_of-again p is =
     let enough : nat_le (3 * p.faults + 1) p.replicas ≡ true = grind (arith, nat_tests, is.enough) in
@@ -128,7 +137,13 @@ begun_of-again p is =
     let tolerant : nat_le 1 p.faults ≡ true = grind (arith, nat_tests, is.tolerant) in
     let few : IsNumber p.replicas = omega (arith, is.bounded) in
     let fewer : IsNumber p.faults = omega (arith, is.bounded, is.enough) in
-    rw (three_numbers-again p.replicas p.faults (kind_number p.kind) few fewer (kind_number-small p.kind), kind_of-again p.kind, enough, bounded, tolerant) refl
+    rw (
+      three_numbers-again p.replicas p.faults (kind_number p.kind) few fewer (kind_number-small p.kind),
+      kind_of-again p.kind,
+      enough,
+      bounded,
+      tolerant,
+    ) refl
 
 -- a parameter set
 width_sound : (m : ℕ) (w : Width) → cond (m == 4) (Some W4) (cond (m == 8) (Some W8) None) ≡ Some w → m ≡ bits_of w
@@ -158,11 +173,15 @@ unfolding params_from
 params_from-sound n keys e =
     let height : Option TreeHeight = cond (n.1 == 5) (Some H5) (cond (n.1 == 10) (Some H10) None) in
     let make : Width → TreeHeight → Option Params = λ w h. Some (record { width = w; height = h }) in
-    let (w, (first, more)) = bind_some (λ w. option_and_then (make w) height) (cond (n.0 == 4) (Some W4) (cond (n.0 == 8) (Some W8) None)) keys e in
+    let (w, (first, more)) = bind_some (λ w. option_and_then (make w) height) (cond (n.0 == 4) (Some W4) (cond (n.0 == 8) (Some W8) None))
+    keys e in
     let (h, (second, some)) = bind_some (make w) height keys more in
     let made : Params = record { width = w; height = h } in
-    let same : made ≡ keys = cc in
-    (width_sound n.0 w first ∙ ap (λ (k : Params). bits_of k.width) same, height_sound n.1 h second ∙ ap (λ (k : Params). levels_of k.height) same)
+    let same : made ≡ keys = cc in (
+      width_sound n.0 w first ∙ ap (λ (k : Params). bits_of k.width) same,
+      height_sound n.1 h second
+          ∙ ap (λ (k : Params). levels_of k.height) same,
+    )
 
 params_from-again : (keys : Params) → params_from (bits_of keys.width, levels_of keys.height) ≡ Some keys
 unfolding params_from
@@ -203,7 +222,8 @@ pub with_keys-sound : (p : Plan) (fields : List (List ℕ)) (q : Plan) → with_
 unfolding with_keys
 with_keys-sound p fields q e =
     let may : Bool = not (is_some p.keys) && length p.liars == 0 && length p.commands == 0 in
-    let make : Params → Option Plan = λ keys. cond (not (is_some p.keys) && length p.liars == 0 && length p.commands == 0) (Some (record p { keys = Some keys })) None in
+    let make : Params → Option Plan =
+    λ keys. cond (not (is_some p.keys) && length p.liars == 0 && length p.commands == 0) (Some (record p { keys = Some keys })) None in
     let (n, (read, more)) = bind_some (λ (n : ℕ × ℕ). option_and_then make (params_from n)) (two_numbers fields) q e in
     let (keys, (set, fits)) = bind_some make (params_from n) q more in
     let next : Plan = record p { keys = Some keys } in
@@ -249,7 +269,8 @@ with_liar-sound p fields q e =
     let spelled = one_number-sound fields n read in
     record { liar = n; spelled = spelled.0; small = spelled.1; may = is_new_liar-sound p n test; taken = sym same }
 
-pub with_liar-again : (p : Plan) (n : ℕ) → IsNumber n → MayLie p n → with_liar p (number_text n ∷ []) ≡ Some (record p { liars = p.liars ++ n ∷ [] })
+pub with_liar-again : (p : Plan) (n : ℕ) → IsNumber n → MayLie p n
+    → with_liar p (number_text n ∷ []) ≡ Some (record p { liars = p.liars ++ n ∷ [] })
 unfolding with_liar
 with_liar-again p n small may =
     let first : (length p.commands == 0) ≡ true = ap (λ xs. length xs == 0) may.no_steps in

@@ -1,4 +1,4 @@
--- A plan is read again from its lines.
+-- A plan is read back from its lines.
 use Rattle.std.proofs.Common.{◌≡◌, ◌∙◌, ℕ, ◌<◌, ◌≤◌, false, List, [], ◌∷◌, ◌++◌, map, length, refl, sym, ap, subst, append_assoc, arith}
 use Rattle.std.specs.Prelude.{◌==◌, nat_eq, codes, Option, Some, None, Contains, option_and_then}
 use Rattle.std.specs.List.{list_any, AllByRecursion, IsDistinct}
@@ -31,13 +31,15 @@ unfolding run
 run-append s t [] more e = let same : s ≡ t = cc in ap (λ x. run x more) same
 run-append s t (line ∷ lines) more e = by_next (next_of s line) e (λ p. run-append (Some p) t lines more)
   where
-    by_next : (o : Option Plan) → option_and_then (λ p. run (Some p) lines) o ≡ Some t → ((p : Plan) → run (Some p) lines ≡ Some t → run (Some p) (lines ++ more) ≡ run t more)
+    by_next : (o : Option Plan) → option_and_then (λ p. run (Some p) lines) o ≡ Some t
+        → ((p : Plan) → run (Some p) lines ≡ Some t → run (Some p) (lines ++ more) ≡ run t more)
         → option_and_then (λ p. run (Some p) (lines ++ more)) o ≡ run t more
     by_next None e later = absurd cc
     by_next (Some p) e later = later p e
 
 -- a line and those after it
-pub run-cons : (s : Option Plan) (line : List ℕ) (lines : List (List ℕ)) (p : Plan) → next_of s line ≡ Some p → run s (line ∷ lines) ≡ run (Some p) lines
+pub run-cons : (s : Option Plan) (line : List ℕ) (lines : List (List ℕ)) (p : Plan) → next_of s line ≡ Some p
+    → run s (line ∷ lines) ≡ run (Some p) lines
 unfolding run
 run-cons s line lines p e = ap (option_and_then (λ q. run (Some q) lines)) e
 
@@ -47,28 +49,35 @@ unfolding run
 run-bad s line lines e = ap (option_and_then (λ q. run (Some q) lines)) e
 
 -- the line of the cluster
-config_again : (p : Plan) → IsSetup p → IsSetup (cluster p.replicas p.faults p.kind) → next_of None (words_text (config_words p.replicas p.faults p.kind)) ≡ Some (cluster p.replicas p.faults p.kind)
+config_again : (p : Plan) → IsSetup p → IsSetup (cluster p.replicas p.faults p.kind)
+    → next_of None (words_text (config_words p.replicas p.faults p.kind)) ≡ Some (cluster p.replicas p.faults p.kind)
 unfolding next_by_keyword beginning
 config_again p is alone =
-    next_of-words None keyword.Config (number_text p.replicas ∷ number_text p.faults ∷ number_text (kind_number p.kind) ∷ []) (config_visible p.replicas p.faults p.kind alone) ∙ begun_of-again p is
+    next_of-words None keyword.Config (number_text p.replicas ∷ number_text p.faults ∷ number_text (kind_number p.kind) ∷ [])
+    (config_visible p.replicas p.faults p.kind alone) ∙ begun_of-again p is
 
 -- the line of a parameter set
-keys_again : (p : Plan) (keys : Params) → p.keys ≡ None → p.liars ≡ [] → p.commands ≡ [] → next_of (Some p) (words_text (params_words keys)) ≡ Some (record p { keys = Some keys })
+keys_again : (p : Plan) (keys : Params) → p.keys ≡ None → p.liars ≡ [] → p.commands ≡ []
+    → next_of (Some p) (words_text (params_words keys)) ≡ Some (record p { keys = Some keys })
 unfolding next_by_keyword going_on
 keys_again p keys none alone first =
     let small = params_small keys in
-    next_of-words (Some p) keyword.Keys (number_text (bits_of keys.width) ∷ number_text (levels_of keys.height) ∷ [])
-    (seen_word (codes "keys") refl, (IsWord-number_text (bits_of keys.width) small.0, (IsWord-number_text (levels_of keys.height) small.1, tt)))
+    next_of-words (Some p) keyword.Keys (number_text (bits_of keys.width) ∷ number_text (levels_of keys.height) ∷ []) (
+      seen_word (codes "keys") refl,
+      (IsWord-number_text (bits_of keys.width) small.0, (IsWord-number_text (levels_of keys.height) small.1, tt)),
+    )
     ∙ with_keys-again p keys none alone first
 
 -- the line of a liar
 liar_again : (p : Plan) (n : ℕ) → IsNumber n → MayLie p n → next_of (Some p) (liar_text n) ≡ Some (record p { liars = p.liars ++ n ∷ [] })
 unfolding next_by_keyword going_on
 liar_again p n small may =
-    next_of-words (Some p) keyword.Liar (number_text n ∷ []) (seen_word (codes "liar") refl, (IsWord-number_text n small, tt)) ∙ with_liar-again p n small may
+    next_of-words (Some p) keyword.Liar (number_text n ∷ []) (seen_word (codes "liar") refl, (IsWord-number_text n small, tt))
+    ∙ with_liar-again p n small may
 
 -- the line of a step
-step_again : (p : Plan) (c : Command) → ((r : ℕ) → Contains p.liars r → IsNumber r) → IsCommand p.liars c → next_of (Some p) (command_text c) ≡ Some (record p { commands = p.commands ++ c ∷ [] })
+step_again : (p : Plan) (c : Command) → ((r : ℕ) → Contains p.liars r → IsNumber r) → IsCommand p.liars c
+    → next_of (Some p) (command_text c) ≡ Some (record p { commands = p.commands ++ c ∷ [] })
 unfolding next_by_keyword with_command command_text
 step_again p c small is =
     let again = command_again p.liars small c is in
@@ -92,38 +101,58 @@ steps_again p (c ∷ steps) small (first, all) =
 -- no number comes twice
 fresh_in : (n : ℕ) (done more : List ℕ) → IsDistinct nat_eq (done ++ n ∷ more) → list_any (λ liar. liar == n) done ≡ false
 fresh_in n [] more apart = refl
-fresh_in n (x ∷ done) more apart = rw (at_middle (λ y. nat_eq x y ≡ false) done n more (IsDistinct-head nat_eq x (done ++ n ∷ more) apart)) (fresh_in n done more (IsDistinct-tail nat_eq x (done ++ n ∷ more) apart))
+fresh_in n (x ∷ done) more apart =
+    rw (at_middle (λ y. nat_eq x y ≡ false) done n more (IsDistinct-head nat_eq x (done ++ n ∷ more) apart))
+    (fresh_in n done more (IsDistinct-tail nat_eq x (done ++ n ∷ more) apart))
   where
     at_middle : (P : ℕ → Type 0) (xs : List ℕ) (y : ℕ) (ys : List ℕ) → AllByRecursion P (xs ++ y ∷ ys) → P y
     at_middle P [] y ys (first, all) = first
     at_middle P (z ∷ xs) y ys (first, all) = at_middle P xs y ys all
 
 -- the lines of liars
-liars_again : (p : Plan) (more : List ℕ) → p.commands ≡ [] → p.replicas ≤ 13 → length (p.liars ++ more) ≤ p.faults → AllByRecursion (λ liar. liar < p.replicas) more → IsDistinct nat_eq (p.liars ++ more)
+liars_again : (p : Plan) (more : List ℕ) → p.commands ≡ [] → p.replicas ≤ 13 → length (p.liars ++ more) ≤ p.faults
+    → AllByRecursion (λ liar. liar < p.replicas) more → IsDistinct nat_eq (p.liars ++ more)
     → run (Some p) (map liar_text more) ≡ Some (Some (record p { liars = p.liars ++ more }))
 unfolding run
 liars_again p [] first bounded few below apart = ap (λ ls. Some (Some (record p { liars = ls }))) (sym (append-nil p.liars))
 liars_again p (n ∷ more) first bounded few (within, below) apart =
     let next : Plan = record p { liars = p.liars ++ n ∷ [] } in
-    let may : MayLie p n = record { no_steps = first; few = omega (arith, length-append p.liars (n ∷ more), few); within = within; fresh = fresh_in n p.liars more apart } in
+    let may : MayLie p n = record {
+      no_steps = first;
+      few = omega (arith, length-append p.liars (n ∷ more), few);
+      within = within;
+      fresh =
+          fresh_in n p.liars more apart;
+    } in
     let whole : (p.liars ++ n ∷ []) ++ more ≡ p.liars ++ n ∷ more = append_assoc p.liars (n ∷ []) more in
     run-cons (Some p) (liar_text n) (map liar_text more) next (liar_again p n (omega arith) may)
-    ∙ liars_again next more first bounded (subst (λ ls. length ls ≤ p.faults) (sym whole) few) below (subst (IsDistinct nat_eq) (sym whole) apart)
+    ∙ liars_again next more first bounded (subst (λ ls. length ls ≤ p.faults) (sym whole) few) below
+    (subst (IsDistinct nat_eq) (sym whole) apart)
     ∙ ap (λ ls. Some (Some (record p { liars = ls }))) whole
 
 -- the line of a parameter set, if there is one
 keys_run : (replicas faults : ℕ) (kind : AppKind) (keys : Option Params)
-    → run (Some (cluster replicas faults kind)) (keys_lines keys) ≡ Some (Some (record { replicas = replicas; faults = faults; kind = kind; keys = keys; liars = []; commands = [] }))
+    → run (Some (cluster replicas faults kind)) (keys_lines keys)
+    ≡ Some (Some (record { replicas = replicas; faults = faults; kind = kind; keys = keys; liars = []; commands = [] }))
 unfolding run cluster
 keys_run replicas faults kind None = refl
 keys_run replicas faults kind (Some keys) =
     let next : Plan = record { replicas = replicas; faults = faults; kind = kind; keys = Some keys; liars = []; commands = [] } in
-    run-cons (Some (cluster replicas faults kind)) (words_text (params_words keys)) [] next (keys_again (cluster replicas faults kind) keys refl refl refl)
+    run-cons (Some (cluster replicas faults kind)) (words_text (params_words keys)) [] next
+    (keys_again (cluster replicas faults kind) keys refl refl refl)
 
 -- the cluster alone is lawful
 alone_lawful : (p : Plan) → IsSetup p → IsSetup (cluster p.replicas p.faults p.kind)
 unfolding cluster IsDistinct
-alone_lawful p is = record { enough = is.enough; bounded = is.bounded; tolerant = is.tolerant; few = omega arith; replicas = tt; different = tt }
+alone_lawful p is = record {
+  enough = is.enough;
+  bounded = is.bounded;
+  tolerant = is.tolerant;
+  few = omega arith;
+  replicas =
+      tt;
+  different = tt;
+}
 
 -- a plan is read again
 pub plan_again : (p : Plan) → IsPlan p → run None (plan_lines p) ≡ Some (Some p)
@@ -136,6 +165,7 @@ plan_again p is =
     let setup : run (Some start) lines ≡ Some (Some set) =
     run-append (Some start) (Some keyed) (keys_lines p.keys) (map liar_text p.liars) (keys_run p.replicas p.faults p.kind p.keys)
     ∙ liars_again keyed p.liars refl is.setup.bounded is.setup.few is.setup.replicas is.setup.different in
-    run-cons None (words_text (config_words p.replicas p.faults p.kind)) (lines ++ map command_text p.commands) start (config_again p is.setup (alone_lawful p is.setup))
+    run-cons None (words_text (config_words p.replicas p.faults p.kind)) (lines ++ map command_text p.commands) start
+    (config_again p is.setup (alone_lawful p is.setup))
     ∙ run-append (Some start) (Some set) lines (map command_text p.commands) setup
     ∙ steps_again set p.commands (liar_small p is) is.commands

@@ -1,5 +1,6 @@
 -- Texts that are too large, and texts that are read byte by byte.
-use Rattle.std.proofs.Common.{◌≡◌, ◌∙◌, ℕ, ◌+◌, ◌<◌, ◌≤◌, Bool, true, false, List, [], ◌∷◌, ◌++◌, length, refl, sym, ap, subst, inl, inr, append_assoc, append-nil, arith, take, drop, get_or, suc}
+use Rattle.std.proofs.Common.{◌≡◌, ◌∙◌, ℕ, ◌+◌, ◌<◌, ◌≤◌, Bool, true, false, List, [], ◌∷◌, ◌++◌, length, refl, sym, ap, subst, inl, inr}
+use Rattle.std.proofs.Common.{append_assoc, append-nil, arith, take, drop, get_or, suc}
 use Rattle.std.specs.Prelude.{◌≢◌, ◌⊎◌, ◌==◌}
 use Rattle.std.specs.List.{flat_map, AllByRecursion}
 use Rattle.std.proofs.lemmas.Bool.{eqb-true}
@@ -8,7 +9,8 @@ use Rattle.std.proofs.lemmas.List.{length-append, take-append-drop}
 use Rattle.std.proofs.lemmas.List.Concat.{flat_map-append}
 use Rattle.std.proofs.lemmas.List.Elements.{All-append, All-cons, All-head, All-nil, All-push, All-tail}
 use Rattle.scenario_texts.specs.declared.line_count.LineCount.{LineCount}
-use Rattle.scenario_texts.specs.Lines.{max_lines, max_line_len, ended, IsUnbroken, IsShort, Spells, GoesOn, FollowsBad, EndsBadly, IsBadAt, HasLines, IsTooLarge, IsCounted}
+use Rattle.scenario_texts.specs.Lines.{max_lines, max_line_len, ended, IsUnbroken, IsShort, Spells, GoesOn, FollowsBad, EndsBadly, IsBadAt}
+use Rattle.scenario_texts.specs.Lines.{HasLines, IsTooLarge, IsCounted}
 use Rattle.scenario_texts.specs.Plans.{Plan}
 use Rattle.scenario_texts.proofs.Endings.{each_more, each_second, first_same, not_ended, whole_more}
 
@@ -20,14 +22,17 @@ none_unbroken = All-nil (λ b. b ≢ 10)
 
 -- no byte
 pub none_counted : (count : LineCount) → count.ended ≡ 0 → count.under_way ≡ 0 → HasLines [] count
-none_counted count none short = record { lines = []; rest = []; whole = refl; unbroken = tt; under_way = none_unbroken; ended = sym none; long = sym short }
+none_counted count none short =
+    record { lines = []; rest = []; whole = refl; unbroken = tt; under_way = none_unbroken; ended = sym none; long = sym short }
 
 -- a text with a byte more behind its lines
-behind : (lines : List (List ℕ)) (text rest more : List ℕ) → text ≡ flat_map ended lines ++ rest → text ++ more ≡ flat_map ended lines ++ (rest ++ more)
+behind : (lines : List (List ℕ)) (text rest more : List ℕ) → text ≡ flat_map ended lines ++ rest
+    → text ++ more ≡ flat_map ended lines ++ (rest ++ more)
 behind lines text rest more whole = ap (λ t. t ++ more) whole ∙ append_assoc (flat_map ended lines) rest more
 
 -- the byte is one too many, since the lines are
-pub behind_last : (text : List ℕ) (old new : LineCount) (b : ℕ) → max_lines ≤ old.ended → HasLines text old → IsCounted false (text ++ b ∷ []) new
+pub behind_last : (text : List ℕ) (old new : LineCount) (b : ℕ) → max_lines ≤ old.ended → HasLines text old
+    → IsCounted false (text ++ b ∷ []) new
 behind_last text old new b many has = record {
   lines = has.lines;
   line = has.rest;
@@ -39,11 +44,13 @@ behind_last text old new b many has = record {
 }
 
 -- a line feed ends the line
-pub line_ended : (text : List ℕ) (old new : LineCount) (b : ℕ) → b ≡ 10 → new.ended ≡ old.ended + 1 → new.under_way ≡ 0 → HasLines text old → IsCounted true (text ++ b ∷ []) new
+pub line_ended : (text : List ℕ) (old new : LineCount) (b : ℕ) → b ≡ 10 → new.ended ≡ old.ended + 1 → new.under_way ≡ 0 → HasLines text old
+    → IsCounted true (text ++ b ∷ []) new
 line_ended text old new b feed more none has = record {
   lines = has.lines ++ has.rest ∷ [];
   rest = [];
-  whole = whole_more (text ++ b ∷ []) has.lines (has.rest ++ b ∷ []) has.rest [] (behind has.lines text has.rest (b ∷ []) has.whole) (ap (λ c. has.rest ++ c ∷ []) feed);
+  whole = whole_more (text ++ b ∷ []) has.lines (has.rest ++ b ∷ []) has.rest [] (behind has.lines text has.rest (b ∷ []) has.whole)
+      (ap (λ c. has.rest ++ c ∷ []) feed);
   unbroken = each_more IsUnbroken has.lines has.rest has.unbroken has.under_way;
   under_way = none_unbroken;
   ended = omega (arith, length-append has.lines (has.rest ∷ []), has.ended, more);
@@ -51,19 +58,22 @@ line_ended text old new b feed more none has = record {
 }
 
 -- a byte makes the line too long
-pub line_too_long : (text : List ℕ) (old new : LineCount) (b : ℕ) → b ≢ 10 → max_line_len ≤ old.under_way → HasLines text old → IsCounted false (text ++ b ∷ []) new
+pub line_too_long : (text : List ℕ) (old new : LineCount) (b : ℕ) → b ≢ 10 → max_line_len ≤ old.under_way → HasLines text old
+    → IsCounted false (text ++ b ∷ []) new
 line_too_long text old new b other long has = record {
   lines = has.lines;
   line = has.rest ++ b ∷ [];
   after = [];
-  whole = behind has.lines text has.rest (b ∷ []) has.whole ∙ ap (λ r. flat_map ended has.lines ++ r) (sym (append-nil (has.rest ++ b ∷ [])));
+  whole = behind has.lines text has.rest (b ∷ []) has.whole
+      ∙ ap (λ r. flat_map ended has.lines ++ r) (sym (append-nil (has.rest ++ b ∷ [])));
   unbroken = has.unbroken;
   begun = All-push (λ c. c ≢ 10) has.rest b has.under_way other;
   bad = inl (omega (arith, long, has.long, length-append has.rest (b ∷ [])));
 }
 
 -- or longer
-pub line_longer : (text : List ℕ) (old new : LineCount) (b : ℕ) → b ≢ 10 → new.ended ≡ old.ended → new.under_way ≡ old.under_way + 1 → HasLines text old → IsCounted true (text ++ b ∷ []) new
+pub line_longer : (text : List ℕ) (old new : LineCount) (b : ℕ) → b ≢ 10 → new.ended ≡ old.ended → new.under_way ≡ old.under_way + 1
+    → HasLines text old → IsCounted true (text ++ b ∷ []) new
 line_longer text old new b other same more has = record {
   lines = has.lines;
   rest = has.rest ++ b ∷ [];
@@ -82,7 +92,8 @@ larger text more large = record {
   lines = large.lines;
   line = large.line;
   after = large.after ++ more;
-  whole = behind large.lines text (large.line ++ large.after) more large.whole ∙ ap (λ r. flat_map ended large.lines ++ r) (append_assoc large.line large.after more);
+  whole = behind large.lines text (large.line ++ large.after) more large.whole
+      ∙ ap (λ r. flat_map ended large.lines ++ r) (append_assoc large.line large.after more);
   unbroken = large.unbroken;
   begun = large.begun;
   bad = still large.bad;
@@ -91,22 +102,37 @@ larger text more large = record {
     still : (max_line_len < length large.line) ⊎ ((max_lines ≤ length large.lines) × (1 ≤ length (large.line ++ large.after)))
         → (max_line_len < length large.line) ⊎ ((max_lines ≤ length large.lines) × (1 ≤ length (large.line ++ (large.after ++ more))))
     still (inl long) = inl long
-    still (inr (many, some)) = inr (many, omega (arith, some, length-append large.line large.after, length-append large.line (large.after ++ more), length-append large.after more))
+    still (inr (many, some)) = inr (
+      many,
+      omega (
+        arith,
+        some,
+        length-append large.line large.after,
+        length-append large.line (large.after ++ more),
+        length-append
+            large.after more,
+      ),
+    )
 
 -- so a text is with all of the bytes that follow, where it is with one more than the first of them
-pub all_larger : (text bytes : List ℕ) (i d : ℕ) → i < length bytes → IsTooLarge (text ++ take i bytes ++ get_or bytes i d ∷ []) → IsTooLarge (text ++ bytes)
-all_larger text bytes i d within large = subst IsTooLarge whole (larger (text ++ take i bytes ++ get_or bytes i d ∷ []) (drop (suc i) bytes) large)
+pub all_larger : (text bytes : List ℕ) (i d : ℕ) → i < length bytes → IsTooLarge (text ++ take i bytes ++ get_or bytes i d ∷ [])
+    → IsTooLarge (text ++ bytes)
+all_larger text bytes i d within large =
+    subst IsTooLarge whole (larger (text ++ take i bytes ++ get_or bytes i d ∷ []) (drop (suc i) bytes) large)
   where
     whole : (text ++ take i bytes ++ get_or bytes i d ∷ []) ++ drop (suc i) bytes ≡ text ++ bytes
     whole =
-        ap (λ t. t ++ drop (suc i) bytes) (append_assoc text (take i bytes) (get_or bytes i d ∷ []) ∙ ap (λ t. text ++ t) (sym (take-suc bytes i d within)))
+        ap (λ t. t ++ drop (suc i) bytes)
+        (append_assoc text (take i bytes) (get_or bytes i d ∷ []) ∙ ap (λ t. text ++ t) (sym (take-suc bytes i d within)))
         ∙ append_assoc text (take (suc i) bytes) (drop (suc i) bytes) ∙ ap (λ t. text ++ t) (take-append-drop (suc i) bytes)
 
 -- one byte more
-pub one_more : (text bytes : List ℕ) (i d : ℕ) → i < length bytes → (text ++ take i bytes) ++ get_or bytes i d ∷ [] ≡ text ++ take (i + 1) bytes
+pub one_more : (text bytes : List ℕ) (i d : ℕ) → i < length bytes
+    → (text ++ take i bytes) ++ get_or bytes i d ∷ [] ≡ text ++ take (i + 1) bytes
 one_more text bytes i d within =
     let next : suc i ≡ i + 1 = omega arith in
-    append_assoc text (take i bytes) (get_or bytes i d ∷ []) ∙ ap (λ t. text ++ t) (sym (take-suc bytes i d within) ∙ ap (λ k. take k bytes) next)
+    append_assoc text (take i bytes) (get_or bytes i d ∷ [])
+    ∙ ap (λ t. text ++ t) (sym (take-suc bytes i d within) ∙ ap (λ k. take k bytes) next)
 
 -- bytes without a line feed are part of the line that they begin
 part_of_line : (line after rest z : List ℕ) → IsUnbroken line → line ++ after ≡ rest ++ 10 ∷ z → length line ≤ length rest
@@ -122,7 +148,8 @@ ended_then : (line more : List ℕ) → ended line ++ more ≡ line ++ 10 ∷ mo
 ended_then line more = append_assoc line (10 ∷ []) more
 
 -- where a text is too large, and its ended lines are not, the line under way is too long, or one too many
-under_way_bad : (k : ℕ) (lines before : List (List ℕ)) (line after rest : List ℕ) → AllByRecursion IsUnbroken lines → AllByRecursion IsUnbroken before → IsUnbroken line → IsUnbroken rest
+under_way_bad : (k : ℕ) (lines before : List (List ℕ)) (line after rest : List ℕ) → AllByRecursion IsUnbroken lines
+    → AllByRecursion IsUnbroken before → IsUnbroken line → IsUnbroken rest
     → k + length before ≤ max_lines → AllByRecursion IsShort before
     → (max_line_len < length line) ⊎ ((max_lines ≤ k + length lines) × (1 ≤ length (line ++ after)))
     → flat_map ended lines ++ (line ++ after) ≡ flat_map ended before ++ rest
@@ -130,42 +157,54 @@ under_way_bad : (k : ℕ) (lines before : List (List ℕ)) (line after rest : Li
 under_way_bad k [] [] line after rest u v begun w few short (inl long) e = inl (omega (arith, long, ap length e, length-append line after))
 under_way_bad k [] [] line after rest u v begun w few short (inr (many, some)) e = inr (many, omega (arith, some, ap length e))
 under_way_bad k [] (o ∷ before) line after rest u v begun w few short (inl long) e =
-    let cut : line ++ after ≡ o ++ 10 ∷ (flat_map ended before ++ rest) = e ∙ append_assoc (ended o) (flat_map ended before) rest ∙ ended_then o (flat_map ended before ++ rest) in
+    let cut : line ++ after ≡ o ++ 10 ∷ (flat_map ended before ++ rest) =
+    e ∙ append_assoc (ended o) (flat_map ended before) rest ∙ ended_then o (flat_map ended before ++ rest) in
     absurd (omega (arith, long, short.0, part_of_line line after o (flat_map ended before ++ rest) begun cut))
 under_way_bad k [] (o ∷ before) line after rest u v begun w few short (inr (many, some)) e = absurd (omega (arith, many, few))
 under_way_bad k (l ∷ lines) [] line after rest u v begun w few short bad e =
-    absurd (not_ended l (flat_map ended lines ++ (line ++ after)) (subst IsUnbroken (sym e ∙ append_assoc (ended l) (flat_map ended lines) (line ++ after)) w))
+    absurd (not_ended l (flat_map ended lines ++ (line ++ after))
+    (subst IsUnbroken (sym e ∙ append_assoc (ended l) (flat_map ended lines) (line ++ after)) w))
 under_way_bad k (l ∷ lines) (o ∷ before) line after rest (p, u) (q, v) begun w few (first, short) bad e =
-    let here : flat_map ended (l ∷ lines) ++ (line ++ after) ≡ l ++ 10 ∷ (flat_map ended lines ++ (line ++ after)) = append_assoc (ended l) (flat_map ended lines) (line ++ after) ∙ ended_then l (flat_map ended lines ++ (line ++ after)) in
-    let there : flat_map ended (o ∷ before) ++ rest ≡ o ++ 10 ∷ (flat_map ended before ++ rest) = append_assoc (ended o) (flat_map ended before) rest ∙ ended_then o (flat_map ended before ++ rest) in
+    let here : flat_map ended (l ∷ lines) ++ (line ++ after) ≡ l ++ 10 ∷ (flat_map ended lines ++ (line ++ after)) =
+    append_assoc (ended l) (flat_map ended lines) (line ++ after) ∙ ended_then l (flat_map ended lines ++ (line ++ after)) in
+    let there : flat_map ended (o ∷ before) ++ rest ≡ o ++ 10 ∷ (flat_map ended before ++ rest) =
+    append_assoc (ended o) (flat_map ended before) rest ∙ ended_then o (flat_map ended before ++ rest) in
     let tails = (first_same l o (flat_map ended lines ++ (line ++ after)) (flat_map ended before ++ rest) p q (sym here ∙ e ∙ there)).1 in
     counted (under_way_bad (k + 1) lines before line after rest u v begun w (omega (arith, few)) short (one_less bad) tails)
   where
-    one_less : (max_line_len < length line) ⊎ ((max_lines ≤ k + length (l ∷ lines)) × (1 ≤ length (line ++ after))) → (max_line_len < length line) ⊎ ((max_lines ≤ k + 1 + length lines) × (1 ≤ length (line ++ after)))
+    one_less : (max_line_len < length line) ⊎ ((max_lines ≤ k + length (l ∷ lines)) × (1 ≤ length (line ++ after)))
+        → (max_line_len < length line) ⊎ ((max_lines ≤ k + 1 + length lines) × (1 ≤ length (line ++ after)))
     one_less (inl long) = inl long
     one_less (inr (many, some)) = inr (omega (arith, many), some)
 
-    counted : (max_line_len < length rest) ⊎ ((max_lines ≤ k + 1 + length before) × (1 ≤ length rest)) → (max_line_len < length rest) ⊎ ((max_lines ≤ k + length (o ∷ before)) × (1 ≤ length rest))
+    counted : (max_line_len < length rest) ⊎ ((max_lines ≤ k + 1 + length before) × (1 ≤ length rest))
+        → (max_line_len < length rest) ⊎ ((max_lines ≤ k + length (o ∷ before)) × (1 ≤ length rest))
     counted (inl long) = inl long
     counted (inr (many, some)) = inr (omega (arith, many), some)
 
-large_under_way : (text : List ℕ) (before : List (List ℕ)) (rest : List ℕ) → IsTooLarge text → text ≡ flat_map ended before ++ rest → AllByRecursion IsUnbroken before → IsUnbroken rest
-    → length before ≤ max_lines → AllByRecursion IsShort before → (max_line_len < length rest) ⊎ ((max_lines ≤ length before) × (1 ≤ length rest))
+large_under_way : (text : List ℕ) (before : List (List ℕ)) (rest : List ℕ) → IsTooLarge text → text ≡ flat_map ended before ++ rest
+    → AllByRecursion IsUnbroken before → IsUnbroken rest
+    → length before ≤ max_lines → AllByRecursion IsShort before
+    → (max_line_len < length rest) ⊎ ((max_lines ≤ length before) × (1 ≤ length rest))
 large_under_way text before rest large whole u w few short =
-    from_none (under_way_bad 0 large.lines before large.line large.after rest large.unbroken u large.begun w (omega (arith, few)) short (with_none large.bad) (sym large.whole ∙ whole))
+    from_none (under_way_bad 0 large.lines before large.line large.after rest large.unbroken u large.begun w (omega (arith, few)) short
+    (with_none large.bad) (sym large.whole ∙ whole))
   where
-    with_none : (max_line_len < length large.line) ⊎ ((max_lines ≤ length large.lines) × (1 ≤ length (large.line ++ large.after))) → (max_line_len < length large.line) ⊎ ((max_lines ≤ 0 + length large.lines) × (1 ≤ length (large.line ++ large.after)))
+    with_none : (max_line_len < length large.line) ⊎ ((max_lines ≤ length large.lines) × (1 ≤ length (large.line ++ large.after)))
+        → (max_line_len < length large.line) ⊎ ((max_lines ≤ 0 + length large.lines) × (1 ≤ length (large.line ++ large.after)))
     with_none (inl long) = inl long
     with_none (inr (many, some)) = inr (omega (arith, many), some)
 
-    from_none : (max_line_len < length rest) ⊎ ((max_lines ≤ 0 + length before) × (1 ≤ length rest)) → (max_line_len < length rest) ⊎ ((max_lines ≤ length before) × (1 ≤ length rest))
+    from_none : (max_line_len < length rest) ⊎ ((max_lines ≤ 0 + length before) × (1 ≤ length rest))
+        → (max_line_len < length rest) ⊎ ((max_lines ≤ length before) × (1 ≤ length rest))
     from_none (inl long) = inl long
     from_none (inr (many, some)) = inr (omega (arith, many), some)
 
 -- no text that is too large spells a plan
 pub large_spells_none : (text : List ℕ) (p : Plan) → IsTooLarge text → Spells text p → ⊥
 large_spells_none text p large spells =
-    none (large_under_way text spells.lines [] large (spells.whole ∙ sym (append-nil (flat_map ended spells.lines))) spells.unbroken none_unbroken spells.few spells.short)
+    none (large_under_way text spells.lines [] large (spells.whole ∙ sym (append-nil (flat_map ended spells.lines))) spells.unbroken
+    none_unbroken spells.few spells.short)
   where
     none : (max_line_len < 0) ⊎ ((max_lines ≤ length spells.lines) × (1 ≤ 0)) → ⊥
     none (inl long) = omega (arith, long)
@@ -178,7 +217,8 @@ pub data IsSplit (text : List ℕ) : Type 0 where
 
 longer_split : (b : ℕ) (text : List ℕ) → b ≢ 10 → IsSplit text → IsSplit (b ∷ text)
 longer_split b text other (has_none u) = has_none (All-cons (λ c. c ≢ 10) b text other u)
-longer_split b text other (has_one line after u cut) = has_one (b ∷ line) after (All-cons (λ c. c ≢ 10) b line other u) (ap (λ t. b ∷ t) cut)
+longer_split b text other (has_one line after u cut) =
+    has_one (b ∷ line) after (All-cons (λ c. c ≢ 10) b line other u) (ap (λ t. b ∷ t) cut)
 
 split_by : (b : ℕ) (text : List ℕ) (q : Bool) → (b == 10) ≡ q → IsSplit text → IsSplit (b ∷ text)
 split_by b text true is rest = has_one [] text none_unbroken (ap (λ c. c ∷ text) (eqb-true b 10 is))
@@ -206,9 +246,11 @@ bad_anyway text more n large at = record {
 }
   where
     not_short : max_line_len < length at.rest → (line : List ℕ) → GoesOn (at.before ++ (at.rest ++ line) ∷ []) → ⊥
-    not_short long line on = let last = each_second IsShort at.before ((at.rest ++ line) ∷ []) on.short in omega (arith, long, last.0, length-append at.rest line)
+    not_short long line on = let last =
+        each_second IsShort at.before ((at.rest ++ line) ∷ []) on.short in omega (arith, long, last.0, length-append at.rest line)
 
-    by_split : IsUnbroken at.rest → (max_line_len < length at.rest) ⊎ ((max_lines ≤ length at.before) × (1 ≤ length at.rest)) → IsSplit more → FollowsBad at.before (at.rest ++ more) ⊎ EndsBadly at.before (at.rest ++ more)
+    by_split : IsUnbroken at.rest → (max_line_len < length at.rest) ⊎ ((max_lines ≤ length at.before) × (1 ≤ length at.rest))
+        → IsSplit more → FollowsBad at.before (at.rest ++ more) ⊎ EndsBadly at.before (at.rest ++ more)
     by_split u why (has_none v) = inr (record { unended = unbroken_both at.rest more u v; bad = inl (some why) })
       where
         some : (max_line_len < length at.rest) ⊎ ((max_lines ≤ length at.before) × (1 ≤ length at.rest)) → at.rest ++ more ≢ []
@@ -222,11 +264,13 @@ bad_anyway text more n large at = record {
       bad = reason why;
     })
       where
-        reason : (max_line_len < length at.rest) ⊎ ((max_lines ≤ length at.before) × (1 ≤ length at.rest)) → (max_lines ≤ length at.before) ⊎ (GoesOn (at.before ++ (at.rest ++ line) ∷ []) → ⊥)
+        reason : (max_line_len < length at.rest) ⊎ ((max_lines ≤ length at.before) × (1 ≤ length at.rest))
+            → (max_lines ≤ length at.before) ⊎ (GoesOn (at.before ++ (at.rest ++ line) ∷ []) → ⊥)
         reason (inl long) = inr (not_short long line)
         reason (inr (many, one)) = inl many
 
-    goes : FollowsBad at.before at.rest ⊎ EndsBadly at.before at.rest → FollowsBad at.before (at.rest ++ more) ⊎ EndsBadly at.before (at.rest ++ more)
+    goes : FollowsBad at.before at.rest ⊎ EndsBadly at.before at.rest
+        → FollowsBad at.before (at.rest ++ more) ⊎ EndsBadly at.before (at.rest ++ more)
     goes (inl bad) = inl (record {
       line = bad.line;
       after = bad.after ++ more;
@@ -234,7 +278,8 @@ bad_anyway text more n large at = record {
       unbroken = bad.unbroken;
       bad = bad.bad;
     })
-    goes (inr bad) = by_split bad.unended (large_under_way text at.before at.rest large at.whole at.unbroken bad.unended at.few at.goes_on.short) (split more)
+    goes (inr bad) = by_split bad.unended
+        (large_under_way text at.before at.rest large at.whole at.unbroken bad.unended at.few at.goes_on.short) (split more)
 
 -- ---- texts that are not too large
 
@@ -251,7 +296,8 @@ each_short before (l ∷ lines) rest u (p, v) small = (
     lines = before;
     line = l;
     after = 10 ∷ (flat_map ended lines ++ rest);
-    whole = ap (λ t. flat_map ended before ++ t) (append_assoc (ended l) (flat_map ended lines) rest ∙ ended_then l (flat_map ended lines ++ rest));
+    whole = ap (λ t. flat_map ended before ++ t)
+        (append_assoc (ended l) (flat_map ended lines) rest ∙ ended_then l (flat_map ended lines ++ rest));
     unbroken = u;
     begun = p;
     bad = inl long;
@@ -259,9 +305,11 @@ each_short before (l ∷ lines) rest u (p, v) small = (
   each_short (before ++ l ∷ []) lines rest (each_more IsUnbroken before l u p) v (λ large. small (subst IsTooLarge same large)),
 )
   where
-    same : flat_map ended (before ++ l ∷ []) ++ (flat_map ended lines ++ rest) ≡ flat_map ended before ++ (flat_map ended (l ∷ lines) ++ rest)
+    same : flat_map ended (before ++ l ∷ []) ++ (flat_map ended lines ++ rest) ≡ flat_map ended before
+        ++ (flat_map ended (l ∷ lines) ++ rest)
     same =
-        ap (λ t. t ++ (flat_map ended lines ++ rest)) (flat_map-append ended before (l ∷ []) ∙ ap (λ m. flat_map ended before ++ m) (append-nil (ended l)))
+        ap (λ t. t ++ (flat_map ended lines ++ rest))
+        (flat_map-append ended before (l ∷ []) ∙ ap (λ m. flat_map ended before ++ m) (append-nil (ended l)))
         ∙ append_assoc (flat_map ended before) (ended l) (flat_map ended lines ++ rest)
         ∙ ap (λ t. flat_map ended before ++ t) (sym (append_assoc (ended l) (flat_map ended lines) rest))
 
@@ -284,8 +332,10 @@ module _ (text : List ℕ) (old : LineCount) (has : HasLines text old) (small : 
   pub fits_ended : (b : ℕ) → b ≡ 10 → old.ended < max_lines → IsTooLarge (text ++ b ∷ []) → ⊥
   fits_ended b feed few large =
       none (large_under_way (text ++ b ∷ []) (has.lines ++ has.rest ∷ []) [] large
-      (whole_more (text ++ b ∷ []) has.lines (has.rest ++ b ∷ []) has.rest [] (behind has.lines text has.rest (b ∷ []) has.whole) (ap (λ c. has.rest ++ c ∷ []) feed))
-      (each_more IsUnbroken has.lines has.rest has.unbroken has.under_way) none_unbroken (omega (arith, few, has.ended, length-append has.lines (has.rest ∷ [])))
+      (whole_more (text ++ b ∷ []) has.lines (has.rest ++ b ∷ []) has.rest [] (behind has.lines text has.rest (b ∷ []) has.whole)
+      (ap (λ c. has.rest ++ c ∷ []) feed))
+      (each_more IsUnbroken has.lines has.rest has.unbroken has.under_way) none_unbroken
+      (omega (arith, few, has.ended, length-append has.lines (has.rest ∷ [])))
       (each_more IsShort has.lines has.rest lines_short rest_short))
     where
       none : (max_line_len < 0) ⊎ ((max_lines ≤ length (has.lines ++ has.rest ∷ [])) × (1 ≤ 0)) → ⊥

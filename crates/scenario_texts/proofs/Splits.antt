@@ -1,4 +1,4 @@
--- Pieces are parted where they were joined.
+-- Pieces are split where they were joined.
 use Rattle.std.proofs.Common.{◌≡◌, ◌∙◌, ℕ, false, List, [], ◌∷◌, refl, ap, eq-eqb}
 use Rattle.std.specs.Prelude.{◌==◌}
 use Rattle.std.specs.List.{slice_split, join_with_byte, All, AllByRecursion}

@@ -1,4 +1,4 @@
--- The words of lines are of visible characters alone.
+-- The words of lines consist only of visible characters.
 use Rattle.std.proofs.Common.{◌≡◌, ℕ, ◌<◌, ◌≤◌, ◌^◌, Bool, true, false, List, [], ◌∷◌, refl, subst, arith}
 use Rattle.std.specs.Prelude.{◌==◌, not, length}
 use Rattle.std.specs.List.{All, AllByRecursion, join_with_byte, list_all}
@@ -29,18 +29,21 @@ visible_spelled b e = (grind (arith, nat_tests), grind (arith, nat_tests))
 
 -- bytes as they are written
 pub IsWord-bytes_text : (bytes : List ℕ) → AllByRecursion (λ b. b < 256) bytes → IsWord (bytes_text bytes)
-IsWord-bytes_text bytes small = All-weaker (λ c. is_spelled c ≡ true) IsVisible visible_spelled (bytes_text bytes) (is_spelled-bytes_text bytes small)
+IsWord-bytes_text bytes small =
+    All-weaker (λ c. is_spelled c ≡ true) IsVisible visible_spelled (bytes_text bytes) (is_spelled-bytes_text bytes small)
 
 comma_spelled : (b : ℕ) → is_spelled b ≡ true → (b == 44) ≡ false
 comma_spelled b e = by_test (b == 44) refl
   where
     by_test : (t : Bool) → (b == 44) ≡ t → t ≡ false
-    by_test true is = let at : b ≡ 44 = eqb-true b 44 is in let bad : false ≡ true = subst (λ (x : ℕ). is_spelled x ≡ true) at e in absurd cc
+    by_test true is = let at : b ≡ 44 = eqb-true b 44 is in let bad : false ≡ true =
+        subst (λ (x : ℕ). is_spelled x ≡ true) at e in absurd cc
     by_test false is = refl
 
 -- no comma stands in them
 pub Lacks-bytes_text : (bytes : List ℕ) → AllByRecursion (λ b. b < 256) bytes → Lacks 44 (bytes_text bytes)
-Lacks-bytes_text bytes small = All-weaker (λ c. is_spelled c ≡ true) (λ b. (b == 44) ≡ false) comma_spelled (bytes_text bytes) (is_spelled-bytes_text bytes small)
+Lacks-bytes_text bytes small =
+    All-weaker (λ c. is_spelled c ≡ true) (λ b. (b == 44) ≡ false) comma_spelled (bytes_text bytes) (is_spelled-bytes_text bytes small)
 
 visible_digit : (b : ℕ) → is_digit b ≡ true → IsVisible b
 visible_digit b e = (grind (arith, nat_tests), grind (arith, nat_tests))
@@ -49,7 +52,8 @@ visible_digit b e = (grind (arith, nat_tests), grind (arith, nat_tests))
 pub IsWord-number_text : (n : ℕ) → n < 2 ^ 32 → IsWord (number_text n)
 IsWord-number_text n small =
     All-weaker (λ c. is_digit c ≡ true) IsVisible visible_digit (number_text n)
-    (AllPass-from_list_all is_digit (number_text n) (and_parts (not (length (number_text n) == 0)) (list_all is_digit (number_text n)) (is_decimal-number_text n small)).1)
+    (AllPass-from_list_all is_digit (number_text n)
+    (and_parts (not (length (number_text n) == 0)) (list_all is_digit (number_text n)) (is_decimal-number_text n small)).1)
 
 space_visible : (b : ℕ) → IsVisible b → (b == 32) ≡ false
 space_visible b h = grind (arith, nat_tests)

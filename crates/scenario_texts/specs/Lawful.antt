@@ -1,4 +1,4 @@
--- What a plan may say.
+-- Which plans have a text.
 use Rattle.std.specs.Prelude.{ℕ, ◌+◌, ◌*◌, ◌^◌, ◌<◌, ◌≤◌, nat_eq, List, length, Contains}
 use Rattle.std.specs.List.{AllByRecursion, IsDistinct}
 use Rattle.ledger_model.specs.Limits.{max_key_len}
@@ -14,7 +14,7 @@ use Rattle.scenario_texts.specs.declared.command.Command.TheVariants as command
 abbrev pub IsNumber : ℕ → Type 0
 IsNumber n = n < 2 ^ 32
 
--- each is a byte
+-- each element is a byte
 abbrev pub IsBytes : List ℕ → Type 0
 IsBytes bytes = AllByRecursion IsByte bytes
 
@@ -23,7 +23,7 @@ abbrev pub IsTowards : Towards → Type 0
 IsTowards (One replica) = IsNumber replica
 IsTowards All = Unit {0}
 
--- a lie of one of these liars, at a height and in a phase from 1 on
+-- the lie is of one of these liars, at a height and in a phase of at least 1
 pub record IsLie (liars : List ℕ) (lie : Lie) : Type 0 where
   pub by_liar : Contains liars lie.liar
   pub height : (1 ≤ lie.height) × IsNumber lie.height
@@ -31,7 +31,7 @@ pub record IsLie (liars : List ℕ) (lie : Lie) : Type 0 where
   pub batch : IsValue lie.batch
   pub to : IsTowards lie.to
 
--- a step that can be written where these replicas lie
+-- the command can be written, in a cluster with these liars
 abbrev pub IsCommand : List ℕ → Command → Type 0
 IsCommand liars (command.Submit replica bytes) = IsNumber replica × IsBytes bytes
 IsCommand liars (command.Propose replica height) = IsNumber replica × IsNumber height
@@ -47,7 +47,7 @@ IsCommand liars (command.LieReport lie) = IsLie liars lie
 IsCommand liars (command.LieLock lie) = IsLie liars lie
 IsCommand liars (command.LieAck lie) = IsLie liars lie
 
--- the cluster has such a size, and at most as many of its replicas lie as may, each named once
+-- the size of the cluster is allowed, and at most as many replicas lie as may, each named once
 pub record IsSetup (p : Plan) : Type 0 where
   pub enough : 3 * p.faults + 1 ≤ p.replicas
   pub bounded : p.replicas ≤ 13

@@ -1,4 +1,4 @@
--- The lines of a text, and what text spells a plan.
+-- The lines of a text, and which text encodes a plan.
 use Rattle.std.specs.Prelude.{◌≡◌, ◌≢◌, ◌⊎◌, ℕ, ◌+◌, ◌<◌, ◌≤◌, ◌==◌, not, Bool, true, false, List, [], ◌∷◌, ◌++◌, length, filter}
 use Rattle.std.specs.List.{flat_map, All, AllByRecursion}
 use Rattle.scenario_texts.specs.declared.line_count.LineCount.{LineCount}
@@ -10,7 +10,7 @@ use Rattle.scenario_texts.specs.Lawful.{IsPlan}
 abbrev pub max_lines : ℕ
 max_lines = 10000
 
--- the most bytes of a line, but for its line feed
+-- the most bytes of a line, without its line feed
 abbrev pub max_line_len : ℕ
 max_line_len = 400000
 
@@ -18,11 +18,11 @@ max_line_len = 400000
 abbrev pub ended : List ℕ → List ℕ
 ended line = line ++ 10 ∷ []
 
--- no line feed stands in it
+-- the line contains no line feed
 abbrev pub IsUnbroken : List ℕ → Type 0
 IsUnbroken line = All (λ b. b ≢ 10) line
 
--- the line isn't passed over: it has a byte, and the first isn't `#`
+-- the line counts: it is neither empty nor a comment, which starts with `#`
 abbrev pub counts : List ℕ → Bool
 counts [] = false
 counts (b ∷ line) = not (b == 0x23)
@@ -35,7 +35,7 @@ counted lines = filter counts lines
 abbrev pub IsShort : List ℕ → Type 0
 IsShort line = length line ≤ max_line_len
 
--- the text spells the plan
+-- the text encodes the plan
 pub record Spells (text : List ℕ) (p : Plan) : Type 0 where
   pub lines : List (List ℕ)
   pub whole : text ≡ flat_map ended lines
@@ -45,7 +45,7 @@ pub record Spells (text : List ℕ) (p : Plan) : Type 0 where
   pub those : counted lines ≡ plan_lines p
   pub lawful : IsPlan p
 
--- the text has so many lines that are ended, and so many bytes behind the last line feed
+-- `count` has the number of lines that a line feed ended, and the number of bytes after the last line feed
 pub record HasLines (text : List ℕ) (count : LineCount) : Type 0 where
   pub lines : List (List ℕ)
   pub rest : List ℕ
@@ -55,11 +55,11 @@ pub record HasLines (text : List ℕ) (count : LineCount) : Type 0 where
   pub ended : length lines ≡ count.ended
   pub long : length rest ≡ count.under_way
 
--- no more lines than a text may have, and no more bytes behind the last line feed than a line may have
+-- the text has at most as many lines as it may have, and at most as many bytes after the last line feed as a line may have
 abbrev pub IsWithinLimits : LineCount → Type 0
 IsWithinLimits count = (count.ended ≤ max_lines) × (count.under_way ≤ max_line_len)
 
--- a line of the text has too many bytes, or something stands behind the last line that a text may have
+-- a line of the text has too many bytes, or bytes follow the last line that a text may have
 pub record IsTooLarge (text : List ℕ) : Type 0 where
   pub lines : List (List ℕ)
   pub line : List ℕ
@@ -69,17 +69,17 @@ pub record IsTooLarge (text : List ℕ) : Type 0 where
   pub begun : IsUnbroken line
   pub bad : (max_line_len < length line) ⊎ ((max_lines ≤ length lines) × (1 ≤ length (line ++ after)))
 
--- the text is not too large, and these are its lines; or it is
+-- if the text is not too large, `count` has its lines; otherwise it is too large
 abbrev pub IsCounted : Bool → List ℕ → LineCount → Type 0
 IsCounted true text count = HasLines text count
 IsCounted false text count = IsTooLarge text
 
--- so far nothing is wrong: none of these lines counts, or some plan has those that do
+-- nothing is wrong so far: none of these lines counts, or those that count are the lines of a plan
 pub record GoesOn (lines : List (List ℕ)) : Type 0 where
   pub short : AllByRecursion IsShort lines
   pub begun : (counted lines ≡ []) ⊎ ((p : Plan) × ((counted lines ≡ plan_lines p) × IsPlan p))
 
--- after these lines a bad one follows: one too many, or one with which the text doesn't go on
+-- a bad line follows these: it is one too many, or a plan can't continue with it
 pub record FollowsBad (lines : List (List ℕ)) (rest : List ℕ) : Type 0 where
   pub line : List ℕ
   pub after : List ℕ
@@ -87,7 +87,7 @@ pub record FollowsBad (lines : List (List ℕ)) (rest : List ℕ) : Type 0 where
   pub unbroken : IsUnbroken line
   pub bad : (max_lines ≤ length lines) ⊎ (GoesOn (lines ++ line ∷ []) → ⊥)
 
--- the text may not end after these lines: something stands behind the last line feed, or no line counted
+-- the text may not end after these lines: bytes follow the last line feed, or no line counts
 pub record EndsBadly (lines : List (List ℕ)) (rest : List ℕ) : Type 0 where
   pub unended : IsUnbroken rest
   pub bad : (rest ≢ []) ⊎ (counted lines ≡ [])

@@ -1,4 +1,4 @@
--- What a scenario says, as plain values.
+-- The content of a scenario, as plain values.
 use Rattle.std.specs.Prelude.{ℕ, List, Option}
 use Rattle.ledger_model.specs.declared.config.AppKind.{AppKind}
 use Rattle.lm_ots.specs.declared.params.Width.TheVariants.{W4}
@@ -7,11 +7,11 @@ use Rattle.lm_ots.specs.declared.params.Params.{Params}
 use Rattle.scenario_texts.specs.declared.command.Command.{Command}
 use Rattle.scenario_texts.specs.declared.scenario.Scenario.{Scenario}
 
--- the parameter set where no line says one: W4 and H5
+-- the parameter set if no line sets one: W4 and H5
 abbrev pub small_keys : Params
 small_keys = record { width = W4; height = H5 }
 
--- a cluster, the parameter set that a line says, the liars and the steps
+-- a cluster, the parameter set that a line sets, the liars and the commands
 pub record Plan : Type 0 where
   pub replicas : ℕ
   pub faults : ℕ
@@ -20,7 +20,7 @@ pub record Plan : Type 0 where
   pub liars : List ℕ
   pub commands : List Command
 
--- what a scenario says
+-- the content of a scenario
 abbrev pub plan_of : Scenario → Plan
 plan_of s = record {
   replicas = s.setup.config.replicas;

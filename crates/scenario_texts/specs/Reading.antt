@@ -1,6 +1,7 @@
--- What words and lines spell, as the functions of this crate read them. That it is what they stand for is proved in
--- `proofs/`; no public clause cites this file.
-use Rattle.std.specs.Prelude.{ℕ, zero, suc, ◌+◌, ◌*◌, ◌^◌, ◌==◌, nat_lt, nat_le, Bool, not, ◌&&◌, List, [], ◌∷◌, ◌++◌, length, codes, Option, Some, None, is_some, option_and_then, if◌then◌else◌}
+-- What words and lines read as, by the functions of this crate. That reading inverts writing is proved in `proofs/`; no
+-- public clause cites this file.
+use Rattle.std.specs.Prelude.{ℕ, zero, suc, ◌+◌, ◌*◌, ◌^◌, ◌==◌, nat_lt, nat_le, Bool, not, ◌&&◌, List, [], ◌∷◌, ◌++◌, length, codes}
+use Rattle.std.specs.Prelude.{Option, Some, None, is_some, option_and_then, if◌then◌else◌}
 use Rattle.std.specs.List.{find, list_all, list_any, slice_split}
 use Rattle.std.specs.Char.{is_ascii, is_ascii_uppercase}
 use Rattle.std.specs.Option.{option_map}
@@ -32,35 +33,38 @@ infixl 10 ◌>>=◌
 abbrev pub ◌>>=◌ : {A B : Type 0} → Option A → (A → Option B) → Option B
 o >>= f = option_and_then f o
 
--- the first of these that the word is
+-- the first of these keywords that the word is
 abbrev pub keyword_among : List Keyword → List ℕ → Option Keyword
 keyword_among [] word = None
 keyword_among (k ∷ ks) word = if bytes_eq word (keyword_text k) then Some k else keyword_among ks word
 
 abbrev pub all_keywords : List Keyword
 all_keywords =
-    keyword.Config ∷ keyword.Keys ∷ keyword.Liar ∷ keyword.Submit ∷ keyword.Propose ∷ keyword.End ∷ keyword.Pass ∷ keyword.Inject ∷ keyword.Execute ∷ keyword.Query ∷ keyword.Info ∷ keyword.Silent ∷ keyword.Round ∷ keyword.LieReport ∷ keyword.LieLock ∷ keyword.LieAck ∷ []
+    keyword.Config ∷ keyword.Keys ∷ keyword.Liar ∷ keyword.Submit ∷ keyword.Propose ∷ keyword.End ∷ keyword.Pass ∷ keyword.Inject
+    ∷ keyword.Execute ∷ keyword.Query ∷ keyword.Info ∷ keyword.Silent ∷ keyword.Round ∷ keyword.LieReport ∷ keyword.LieLock
+    ∷ keyword.LieAck ∷ []
 
--- the keyword that a word is
+-- the keyword that the word is
 unfoldable pub keyword_of : List ℕ → Option Keyword
 keyword_of word = keyword_among all_keywords word
 
--- the number below 2^32 that a word spells
+-- the number below 2^32 that the word encodes
 unfoldable pub number_of : List ℕ → Option ℕ
-number_of word = if is_decimal word && not (has_needless_zero word) && nat_lt (digits_value 10 word) (2 ^ 32) then Some (digits_value 10 word) else None
+number_of word = if is_decimal word && not (has_needless_zero word) && nat_lt (digits_value 10 word) (2 ^ 32)
+    then Some (digits_value 10 word) else None
 
--- the number from 1 on that a word spells
+-- the number, at least 1, that the word encodes
 unfoldable pub positive_of : List ℕ → Option ℕ
 positive_of word = do
   n ← number_of word
   if n == 0 then None else Some n
 
--- the one number that the fields spell
+-- the number in the only field
 unfoldable pub one_number : List (List ℕ) → Option ℕ
 one_number (a ∷ []) = number_of a
 one_number _ = None
 
--- the two numbers that they spell
+-- the two numbers in the two fields
 unfoldable pub two_numbers : List (List ℕ) → Option (ℕ × ℕ)
 two_numbers (a ∷ b ∷ []) = do
   x ← number_of a
@@ -68,7 +72,7 @@ two_numbers (a ∷ b ∷ []) = do
   Some (x, y)
 two_numbers _ = None
 
--- the three numbers that they spell
+-- the three numbers in the three fields
 unfoldable pub three_numbers : List (List ℕ) → Option (ℕ × ℕ × ℕ)
 three_numbers (a ∷ b ∷ c ∷ []) = do
   x ← number_of a
@@ -77,48 +81,49 @@ three_numbers (a ∷ b ∷ c ∷ []) = do
   Some (x, y, z)
 three_numbers _ = None
 
--- a byte in front of the bytes that follow
+-- the byte, followed by the bytes
 abbrev pub onto : Option ℕ → Option (List ℕ) → Option (List ℕ)
 onto (Some b) (Some bytes) = Some (b ∷ bytes)
 onto (Some b) None = None
 onto None bytes = None
 
--- a byte that stands for itself
+-- the byte, if it stands for itself
 abbrev pub bare_of : ℕ → Option ℕ
 bare_of b = if is_plain b then Some b else None
 
--- the bytes that a word stands for
+-- the bytes that the word encodes
 unfoldable pub bytes_of : List ℕ → Option (List ℕ)
 bytes_of [] = Some []
 bytes_of (b ∷ []) = onto (bare_of b) (Some [])
 bytes_of (b ∷ c ∷ []) = onto (bare_of b) (bytes_of (c ∷ []))
-bytes_of (b ∷ c ∷ d ∷ rest) = if b == 0x5c then onto (byte_of (nibble c) (nibble d)) (bytes_of rest) else onto (bare_of b) (bytes_of (c ∷ d ∷ rest))
+bytes_of (b ∷ c ∷ d ∷ rest) = if b == 0x5c then onto (byte_of (nibble c) (nibble d)) (bytes_of rest)
+    else onto (bare_of b) (bytes_of (c ∷ d ∷ rest))
 
--- the bytes whose lower case hexadecimal digits a word is
+-- the bytes that the word encodes in lower-case hexadecimal digits
 unfoldable pub hex_of : List ℕ → Option (List ℕ)
 hex_of word = if list_any is_ascii_uppercase word then None else result_ok (decode_of word)
 
--- the bytes of the one field, which may be missing but not empty
+-- the bytes in the only field, which may be missing but not empty
 abbrev pub optional : (List ℕ → Option (List ℕ)) → List (List ℕ) → Option (List ℕ)
 optional read [] = Some []
 optional read (word ∷ []) = if length word == 0 then None else read word
 optional read _ = None
 
--- as they are written
+-- the only field's bytes, in their printed form
 unfoldable pub optional_bytes : List (List ℕ) → Option (List ℕ)
 optional_bytes fields = optional bytes_of fields
 
--- as hexadecimal digits
+-- the only field's bytes, in hexadecimal digits
 unfoldable pub optional_hex : List (List ℕ) → Option (List ℕ)
 optional_hex fields = optional hex_of fields
 
--- the transaction that a word stands for
+-- the transaction that the word encodes
 unfoldable pub tx_of : List ℕ → Option (List ℕ)
 tx_of word = do
   bytes ← bytes_of word
   if nat_le 1 (length bytes) && nat_le (length bytes) max_tx_len then Some bytes else None
 
--- the transactions that words stand for
+-- the transactions that the words encode
 unfoldable pub txs_of : List (List ℕ) → Option Value
 txs_of [] = Some []
 txs_of (word ∷ words) = do
@@ -126,29 +131,29 @@ txs_of (word ∷ words) = do
   txs ← txs_of words
   Some (tx ∷ txs)
 
--- what follows this byte
+-- the bytes after this first byte
 abbrev pub without_first : ℕ → List ℕ → Option (List ℕ)
 without_first c [] = None
 without_first c (b ∷ rest) = if b == c then Some rest else None
 
--- what stands before this byte at the end
+-- the bytes before this last byte
 abbrev pub without_last : ℕ → List ℕ → Option (List ℕ)
 without_last c [] = None
 without_last c (b ∷ []) = if b == c then Some [] else None
 without_last c (b ∷ d ∷ rest) = option_map (λ front. b ∷ front) (without_last c (d ∷ rest))
 
--- what stands in brackets
+-- the text between the brackets
 unfoldable pub bracketed : List ℕ → Option (List ℕ)
 bracketed word = do
   rest ← without_first 91 word
   without_last 93 rest
 
--- the words between commas; between brackets with nothing in them there is none
+-- the words between the commas; none if there is nothing in the brackets
 unfoldable pub elements : List ℕ → List (List ℕ)
 elements [] = []
 elements (b ∷ rest) = slice_split (λ c. c == 44) (b ∷ rest)
 
--- the batch that a word stands for
+-- the batch that the word encodes
 unfoldable pub batch_of : List ℕ → Option Value
 batch_of word = do
   inner ← bracketed word
@@ -159,19 +164,29 @@ batch_of word = do
 unfoldable pub towards_of : List ℕ → Option Towards
 towards_of word = if bytes_eq word (codes "all") then Some All else option_map One (number_of word)
 
--- the liar that a word names
+-- the liar that the word names
 unfoldable pub liar_of : List ℕ → List ℕ → Option ℕ
 liar_of liars word = do
   n ← number_of word
   find (λ liar. liar == n) liars
 
--- the lie at this height and in this phase, where both are from 1 on
+-- the lie at this height and in this phase, which are both at least 1
 unfoldable pub lie_at : ℕ → ℕ → ℕ → Value → Towards → Option Lie
 lie_at liar zero phase batch to = None
 lie_at liar (suc h) zero batch to = None
-lie_at liar (suc h) (suc k) batch to = Some (record { liar = liar; height = suc h; phase = suc k; batch = batch; to = to; some_height = suc-le-suc zero-le; some_phase = suc-le-suc zero-le })
+lie_at liar (suc h) (suc k) batch to =
+    Some (record {
+      liar = liar;
+      height = suc h;
+      phase = suc k;
+      batch = batch;
+      to = to;
+      some_height = suc-le-suc zero-le;
+      some_phase =
+          suc-le-suc zero-le;
+    })
 
--- the lie that the fields say
+-- the lie that the fields encode
 unfoldable pub lie_of : List ℕ → List (List ℕ) → Option Lie
 lie_of liars (l ∷ h ∷ k ∷ b ∷ t ∷ []) = do
   liar ← liar_of liars l
@@ -214,7 +229,7 @@ propose_of fields = option_map (λ n. command.Propose n.0 n.1) (two_numbers fiel
 unfoldable pub pass_of : List (List ℕ) → Option Command
 pass_of fields = option_map (λ n. command.Pass n.0 n.1 n.2) (three_numbers fields)
 
--- a command of one number
+-- a command with one number
 unfoldable pub simple_of : Keyword → List (List ℕ) → Option Command
 simple_of keyword.End fields = option_map command.End (one_number fields)
 simple_of keyword.Execute fields = option_map command.Execute (one_number fields)
@@ -246,20 +261,21 @@ command_of liars k fields = simple_of k fields
 unfoldable pub kind_of : ℕ → Option AppKind
 kind_of n = if n == 1 then Some KvStore else if n == 2 then Some Counter else if n == 3 then Some Purse else None
 
--- the cluster has such a size
+-- a cluster may have this size
 abbrev pub is_size : ℕ → ℕ → Bool
 is_size replicas faults = nat_le (3 * faults + 1) replicas && nat_le replicas 13 && nat_le 1 faults
 
--- the cluster that a line says
+-- the cluster of a line
 unfoldable pub config_of : List (List ℕ) → Option (ℕ × ℕ × AppKind)
 config_of fields = do
   n ← three_numbers fields
   kind ← kind_of n.2
   if is_size n.0 n.1 then Some (n.0, n.1, kind) else None
 
--- the plan of the cluster alone
+-- the plan that consists of the cluster
 unfoldable pub begun_of : List (List ℕ) → Option Plan
-begun_of fields = option_map (λ c. record { replicas = c.0; faults = c.1; kind = c.2; keys = None; liars = []; commands = [] }) (config_of fields)
+begun_of fields = option_map (λ c. record { replicas = c.0; faults = c.1; kind = c.2; keys = None; liars = []; commands = [] })
+    (config_of fields)
 
 -- the parameter set of a width and a height of the tree
 unfoldable pub params_from : ℕ × ℕ → Option Params
@@ -268,18 +284,19 @@ params_from n = do
   height ← if n.1 == 5 then Some H5 else if n.1 == 10 then Some H10 else None
   Some (record { width = width; height = height })
 
--- the plan with the parameter set that a line says
+-- the plan with the parameter set of a line
 unfoldable pub with_keys : Plan → List (List ℕ) → Option Plan
 with_keys p fields = do
   n ← two_numbers fields
   keys ← params_from n
   if not (is_some p.keys) && length p.liars == 0 && length p.commands == 0 then Some (record p { keys = Some keys }) else None
 
--- another replica may be named a liar
+-- the replica may be named as another liar
 unfoldable pub is_new_liar : Plan → ℕ → Bool
-is_new_liar p n = length p.commands == 0 && nat_lt (length p.liars) p.faults && nat_lt n p.replicas && not (list_any (λ liar. liar == n) p.liars)
+is_new_liar p n = length p.commands == 0 && nat_lt (length p.liars) p.faults && nat_lt n p.replicas
+    && not (list_any (λ liar. liar == n) p.liars)
 
--- the plan with the liar that a line says
+-- the plan with the liar of a line
 unfoldable pub with_liar : Plan → List (List ℕ) → Option Plan
 with_liar p fields = do
   n ← one_number fields
@@ -291,24 +308,24 @@ with_command p k fields = do
   c ← command_of p.liars k fields
   Some (record p { commands = p.commands ++ c ∷ [] })
 
--- the plan with a line more
+-- the plan after one more line
 unfoldable pub going_on : Plan → Keyword → List (List ℕ) → Option Plan
 going_on p keyword.Config fields = None
 going_on p keyword.Keys fields = with_keys p fields
 going_on p keyword.Liar fields = with_liar p fields
 going_on p k fields = with_command p k fields
 
--- the plan that begins with a line
+-- the plan that starts with this line
 unfoldable pub beginning : Keyword → List (List ℕ) → Option Plan
 beginning keyword.Config fields = begun_of fields
 beginning _ fields = None
 
--- the plan, if one is begun, with a line more
+-- the plan after one more line, given the line's keyword and fields; the first line starts it
 unfoldable pub next_by_keyword : Option Plan → Keyword → List (List ℕ) → Option Plan
 next_by_keyword None k fields = beginning k fields
 next_by_keyword (Some p) k fields = going_on p k fields
 
--- the same, of the words of the line
+-- the plan after one more line, given the line's words
 unfoldable pub next_by_words : Option Plan → List (List ℕ) → Option Plan
 next_by_words so_far [] = None
 next_by_words so_far (word ∷ fields) = do
@@ -319,7 +336,7 @@ next_by_words so_far (word ∷ fields) = do
 unfoldable pub ascii_of : List ℕ → Option (List ℕ)
 ascii_of line = if list_all is_ascii line then Some line else None
 
--- the same, of the line
+-- the plan after one more line
 unfoldable pub next_of : Option Plan → List ℕ → Option Plan
 next_of so_far line = do
   text ← ascii_of line

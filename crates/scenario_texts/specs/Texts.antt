@@ -16,21 +16,21 @@ use Rattle.scenario_texts.specs.declared.command.Lie.{Lie}
 use Rattle.scenario_texts.specs.declared.command.Command.{Command}
 use Rattle.scenario_texts.specs.declared.command.Command.TheVariants as command
 
--- the words, parted by one space
+-- the words, separated by single spaces
 abbrev pub words_text : List (List ℕ) → List ℕ
 words_text words = join_with_byte 32 words
 
--- bytes as they are written; no bytes are no word
+-- the word for these bytes in their printed form; none for no bytes
 abbrev pub bytes_words : List ℕ → List (List ℕ)
 bytes_words [] = []
 bytes_words (b ∷ bytes) = bytes_text (b ∷ bytes) ∷ []
 
--- bytes in pairs of lower case hexadecimal digits; no bytes are no word
+-- the word for these bytes in lower-case hexadecimal digits; none for no bytes
 abbrev pub hex_words : List ℕ → List (List ℕ)
 hex_words [] = []
 hex_words (b ∷ bytes) = encode_lower (b ∷ bytes) ∷ []
 
--- a batch: its transactions in brackets, parted by commas
+-- a batch: its transactions in brackets, separated by commas
 unfoldable pub batch_text : Value → List ℕ
 batch_text v = codes "[" ++ join_with_byte 44 (map bytes_text v) ++ codes "]"
 
@@ -39,11 +39,11 @@ abbrev pub towards_text : Towards → List ℕ
 towards_text (One replica) = number_text replica
 towards_text All = codes "all"
 
--- what a lie says
+-- the words of a lie
 abbrev pub lie_words : Lie → List (List ℕ)
 lie_words lie = number_text lie.liar ∷ number_text lie.height ∷ number_text lie.phase ∷ batch_text lie.batch ∷ towards_text lie.to ∷ []
 
--- the words of a step
+-- the words of a command
 abbrev pub command_words : Command → List (List ℕ)
 command_words (command.Submit replica bytes) = codes "submit" ∷ number_text replica ∷ bytes_words bytes
 command_words (command.Propose replica height) = codes "propose" ∷ number_text replica ∷ number_text height ∷ []
@@ -59,7 +59,7 @@ command_words (command.LieReport lie) = codes "lie-report" ∷ lie_words lie
 command_words (command.LieLock lie) = codes "lie-lock" ∷ lie_words lie
 command_words (command.LieAck lie) = codes "lie-ack" ∷ lie_words lie
 
--- the line of a step
+-- the line of a command
 unfoldable pub command_text : Command → List ℕ
 command_text c = words_text (command_words c)
 
@@ -77,7 +77,7 @@ config_words replicas faults kind = codes "config" ∷ number_text replicas ∷ 
 abbrev pub params_words : Params → List (List ℕ)
 params_words keys = codes "keys" ∷ number_text (bits_of keys.width) ∷ number_text (levels_of keys.height) ∷ []
 
--- the line of a parameter set, where one is said
+-- the line of a parameter set, if one is set
 abbrev pub keys_lines : Option Params → List (List ℕ)
 keys_lines None = []
 keys_lines (Some keys) = words_text (params_words keys) ∷ []
@@ -86,10 +86,10 @@ keys_lines (Some keys) = words_text (params_words keys) ∷ []
 abbrev pub liar_text : ℕ → List ℕ
 liar_text replica = words_text (codes "liar" ∷ number_text replica ∷ [])
 
--- the lines before the steps
+-- the lines before the commands
 abbrev pub setup_lines : Plan → List (List ℕ)
 setup_lines p = words_text (config_words p.replicas p.faults p.kind) ∷ keys_lines p.keys ++ map liar_text p.liars
 
--- the lines of a plan, but for those that don't count
+-- the lines of a plan, without comments and empty lines
 unfoldable pub plan_lines : Plan → List (List ℕ)
 plan_lines p = setup_lines p ++ map command_text p.commands

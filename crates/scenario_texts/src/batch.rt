@@ -1,4 +1,4 @@
-//! Batches as they are written: transactions in brackets, parted by commas.
+//! Reads batches: transactions in brackets, separated by commas.
 ghost use Rattle.std.specs.Prelude.{◌≡◌, ◌==◌, ◌<◌, map, option_map, IfOk};
 ghost use Rattle.std.specs.List.{slice_split};
 ghost use Rattle.scenario_texts.specs.Reading.{bracketed, elements, tx_of, txs_of, batch_of};
@@ -7,7 +7,7 @@ use crate::fields::bytes;
 use ledger_model::{Batch, Tx};
 use std::alloc::{AllocError, Global};
 
-/// The words between this separator.
+/// The words of the text, which this separator separates.
 pub(crate) fn words(alloc: Global, text: &str, separator: char) -> Result<Vec<&str>, AllocError>
     requires { separator < 128 }
     ensures { IfOk result (λ words. map (λ word. word.now) words.items ≡ slice_split (λ b. b == separator) text.now) }
@@ -15,7 +15,7 @@ pub(crate) fn words(alloc: Global, text: &str, separator: char) -> Result<Vec<&s
     text.split(separator).collect(alloc)
 }
 
-/// What stands in brackets.
+/// The text between the brackets.
 #[tactic(auto, unfolding(crate::specs::Reading::bracketed))]
 fn bracketed(word: &str) -> Option<&str>
     ensures { option_map (λ inner. inner.now) result ≡ bracketed word.now }
@@ -26,7 +26,7 @@ fn bracketed(word: &str) -> Option<&str>
     rest.strip_suffix(']')
 }
 
-/// The words between commas; between brackets with nothing in them there is none.
+/// The words between the commas; none if there is nothing in the brackets.
 #[tactic(auto, unfolding(crate::specs::Reading::elements))]
 fn elements(alloc: Global, inner: &str) -> Result<Vec<&str>, AllocError>
     ensures { IfOk result (λ words. map (λ word. word.now) words.items ≡ elements inner.now) }
@@ -37,7 +37,7 @@ fn elements(alloc: Global, inner: &str) -> Result<Vec<&str>, AllocError>
     words(alloc, inner, ',')
 }
 
-/// The transaction that the word stands for.
+/// The transaction that the word encodes, if it encodes one.
 #[tactic(auto, unfolding(crate::specs::Reading::tx_of))]
 fn transaction(alloc: Global, word: &str) -> Result<Option<Tx>, AllocError>
     ensures { IfOk result (λ found. found ≡ tx_of word.now) }
@@ -48,7 +48,7 @@ fn transaction(alloc: Global, word: &str) -> Result<Option<Tx>, AllocError>
     }
 }
 
-/// The transactions that the words stand for.
+/// The transactions that the words encode, if each encodes one.
 fn transactions(alloc: Global, words: &[&str]) -> Result<Option<Vec<Tx>>, AllocError>
     ensures { IfOk result (λ found. option_map (λ transactions. transactions.items) found ≡ txs_of (map (λ word. word.now) words.now)) }
 {
@@ -62,7 +62,7 @@ fn transactions(alloc: Global, words: &[&str]) -> Result<Option<Vec<Tx>>, AllocE
     Ok(Some(transactions))
 }
 
-/// The batch that the word stands for.
+/// The batch that the word encodes, if it encodes one.
 #[tactic(auto, unfolding(crate::specs::Reading::batch_of))]
 pub(crate) fn batch(alloc: Global, word: &str) -> Result<Option<Batch>, AllocError>
     ensures { IfOk result (λ found. found ≡ batch_of word.now) }

@@ -1,4 +1,4 @@
-//! The steps of a scenario.
+//! The commands of a scenario.
 ghost use Rattle.std.specs.Prelude.{◌≤◌};
 
 use bytes::Bytes;
@@ -13,13 +13,13 @@ pub enum Towards {
     All,
 }
 
-/// A statement that a liar makes up.
+/// A statement that a liar makes.
 #[derive(Drop)]
 pub struct Lie {
     pub liar: ReplicaId,
-    /// 1 or more.
+    /// At least 1.
     pub height: Height,
-    /// 1 or more.
+    /// At least 1.
     pub phase: Phase,
     pub batch: Batch,
     pub to: Towards,
@@ -27,7 +27,7 @@ pub struct Lie {
     ghost some_phase: { 1 ≤ phase },
 }
 
-/// A step. A replica's number may be one that no replica has.
+/// A command of a scenario. A replica's number may be one that no replica has.
 #[derive(Drop)]
 pub enum Command {
     /// `submit R TX`

@@ -1,4 +1,4 @@
-//! The steps that lines say.
+//! Reads the commands of a scenario, one from each line.
 ghost use Rattle.std.specs.Prelude.{◌≡◌, ◌==◌, map, IfOk};
 ghost use Rattle.scenario_texts.specs.Reading.{liar_of, lie_of, submit_of, inject_of, query_of, propose_of, pass_of, simple_of, lying_of, command_of};
 
@@ -12,7 +12,7 @@ use bytes::Bytes;
 use ledger_model::{Height, Key, Phase, ReplicaId};
 use std::alloc::{AllocError, Global};
 
-/// The liar that the word names.
+/// The liar that the word names, if it names one.
 #[tactic(auto, unfolding(crate::specs::Reading::liar_of))]
 fn liar(liars: &[ReplicaId], word: &str) -> Option<ReplicaId>
     ensures { result ≡ liar_of liars.now word.now }
@@ -24,7 +24,7 @@ fn liar(liars: &[ReplicaId], word: &str) -> Option<ReplicaId>
     liars.iter().copied().find(is_named)
 }
 
-/// The lie that the fields say.
+/// The lie that the fields encode.
 #[tactic(auto, unfolding(crate::specs::Reading::lie_of))]
 fn lie(alloc: Global, liars: &[ReplicaId], fields: &[&str]) -> Result<Option<Lie>, AllocError>
     ensures { IfOk result (λ found. found ≡ lie_of liars.now (map (λ field. field.now) fields.now)) }
@@ -175,7 +175,7 @@ fn lying(
     }
 }
 
-/// The step that a line says where these replicas lie.
+/// The command of a line, in a cluster with these liars.
 #[tactic(auto, unfolding(crate::specs::Reading::command_of))]
 pub(crate) fn command(
     alloc: Global,

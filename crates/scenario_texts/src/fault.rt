@@ -8,7 +8,7 @@ use thiserror::Error;
 /// Why a text is no scenario.
 #[derive(Clone, Copy, Debug, PartialEq, Eq, Error)]
 pub enum TextFault {
-    /// The first bad line, by its number from 1 on. Lines that are passed over count.
+    /// The number of the first bad line, from 1 on. Comments and empty lines count.
     #[error("line {0} bad")]
     BadLine(u32),
     /// Memory ran out.

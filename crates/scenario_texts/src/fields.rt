@@ -1,4 +1,4 @@
-//! The words behind a line's first, each by itself: numbers, bytes and where a lie goes.
+//! Reads the words of a line that follow its keyword: numbers, bytes, and where a lie goes.
 ghost use Rattle.std.specs.Prelude.{◌≡◌, ◌≤◌, map, option_map, IfOk, IfSome, codes};
 ghost use Rattle.std.specs.Char.{is_ascii_uppercase};
 ghost use Rattle.std.specs.List.{list_any};
@@ -9,14 +9,14 @@ use hex::FromHexError;
 use plain_text::{SpellingFault, written};
 use std::alloc::{AllocError, Global};
 
-/// The number that the word spells.
+/// The number that the word encodes.
 pub(crate) fn number(word: &str) -> Option<u32>
     ensures { result ≡ number_of word.now }
 {
     plain_text::number(word)
 }
 
-/// The number from 1 on that the word spells.
+/// The number, at least 1, that the word encodes.
 #[tactic(auto, unfolding(crate::specs::Reading::positive_of))]
 pub(crate) fn positive(word: &str) -> Option<u32>
     ensures spelled { result ≡ positive_of word.now }
@@ -26,7 +26,7 @@ pub(crate) fn positive(word: &str) -> Option<u32>
     if number == 0 { None } else { Some(number) }
 }
 
-/// The one number that the fields spell.
+/// The number in the only field.
 #[tactic(auto, unfolding(crate::specs::Reading::one_number))]
 pub(crate) fn one_number(fields: &[&str]) -> Option<u32>
     ensures { result ≡ one_number (map (λ field. field.now) fields.now) }
@@ -37,7 +37,7 @@ pub(crate) fn one_number(fields: &[&str]) -> Option<u32>
     number(first)
 }
 
-/// The two numbers that the fields spell.
+/// The two numbers in the two fields.
 #[tactic(auto, unfolding(crate::specs::Reading::two_numbers))]
 pub(crate) fn two_numbers(fields: &[&str]) -> Option<(u32, u32)>
     ensures { result ≡ two_numbers (map (λ field. field.now) fields.now) }
@@ -48,7 +48,7 @@ pub(crate) fn two_numbers(fields: &[&str]) -> Option<(u32, u32)>
     Some((number(first)?, number(second)?))
 }
 
-/// The three numbers that the fields spell.
+/// The three numbers in the three fields.
 #[tactic(auto, unfolding(crate::specs::Reading::three_numbers))]
 pub(crate) fn three_numbers(fields: &[&str]) -> Option<(u32, u32, u32)>
     ensures { result ≡ three_numbers (map (λ field. field.now) fields.now) }
@@ -59,7 +59,7 @@ pub(crate) fn three_numbers(fields: &[&str]) -> Option<(u32, u32, u32)>
     Some((number(first)?, number(second)?, number(third)?))
 }
 
-/// The bytes that the word stands for.
+/// The bytes that the word encodes.
 pub(crate) fn bytes(alloc: Global, word: &str) -> Result<Option<Vec<u8>>, AllocError>
     ensures { IfOk result (λ found. option_map (λ bytes. bytes.items) found ≡ bytes_of word.now) }
 {
@@ -72,14 +72,14 @@ pub(crate) fn bytes(alloc: Global, word: &str) -> Result<Option<Vec<u8>>, AllocE
     }
 }
 
-/// Whether a capital letter is among the bytes.
+/// Whether the bytes contain a capital letter.
 fn has_capitals(word: &[u8]) -> bool
     ensures { result ≡ list_any is_ascii_uppercase word.now }
 {
     word.iter().any(|byte| byte.is_ascii_uppercase())
 }
 
-/// The bytes whose lower-case hexadecimal digits the word is.
+/// The bytes that the word encodes in lower-case hexadecimal digits.
 #[tactic(auto, unfolding(crate::specs::Reading::hex_of))]
 fn hex_bytes(alloc: Global, word: &str) -> Result<Option<Vec<u8>>, AllocError>
     ensures { IfOk result (λ found. option_map (λ bytes. bytes.items) found ≡ hex_of word.now) }
@@ -94,7 +94,7 @@ fn hex_bytes(alloc: Global, word: &str) -> Result<Option<Vec<u8>>, AllocError>
     }
 }
 
-/// The bytes that the one field stands for; none where it is missing.
+/// The bytes that the only field encodes; no bytes if the field is missing.
 #[tactic(auto, unfolding(crate::specs::Reading::optional_bytes))]
 pub(crate) fn optional_bytes(alloc: Global, fields: &[&str]) -> Result<Option<Vec<u8>>, AllocError>
     ensures { IfOk result (λ found. option_map (λ bytes. bytes.items) found ≡ optional_bytes (map (λ field. field.now) fields.now)) }
@@ -106,7 +106,7 @@ pub(crate) fn optional_bytes(alloc: Global, fields: &[&str]) -> Result<Option<Ve
     }
 }
 
-/// The bytes whose digits the one field is; none where it is missing.
+/// The bytes that the only field encodes in hexadecimal digits; no bytes if the field is missing.
 #[tactic(auto, unfolding(crate::specs::Reading::optional_hex))]
 pub(crate) fn optional_hex(alloc: Global, fields: &[&str]) -> Result<Option<Vec<u8>>, AllocError>
     ensures { IfOk result (λ found. option_map (λ bytes. bytes.items) found ≡ optional_hex (map (λ field. field.now) fields.now)) }
@@ -118,7 +118,7 @@ pub(crate) fn optional_hex(alloc: Global, fields: &[&str]) -> Result<Option<Vec<
     }
 }
 
-/// Where a lie goes: a number, or `all`.
+/// Where a lie goes: to the replica with a number, or to `all`.
 #[tactic(auto, unfolding(crate::specs::Reading::towards_of))]
 pub(crate) fn towards(word: &str) -> Option<Towards>
     ensures { result ≡ towards_of word.now }

@@ -1,9 +1,9 @@
-//! The words that lines begin with.
+//! The keywords, with which lines start.
 ghost use Rattle.std.specs.Prelude.{◌≡◌};
 ghost use Rattle.scenario_texts.specs.Words.{keyword_text};
 ghost use Rattle.scenario_texts.specs.Reading.{keyword_of};
 
-/// The word that a line begins with.
+/// The keyword of a line.
 #[derive(Clone, Copy, Debug, PartialEq, Eq)]
 pub(crate) enum Keyword {
     Config,

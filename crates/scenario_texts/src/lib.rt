@@ -1,4 +1,4 @@
-//! Scenarios as texts: a cluster, its keys and its liars, and the steps of a run, line by line.
+//! Scenarios as texts: line by line a cluster, its keys and its liars, and the commands of a run.
 #![tactic(auto)]
 
 mod batch;

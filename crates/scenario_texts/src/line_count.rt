@@ -1,20 +1,20 @@
-//! The lines of a text that is read piece by piece: a reader stops where no scenario can come any more.
+//! Counts the lines of a text that is read piece by piece, so that the reader can stop as soon as the text can't be a scenario.
 ghost use Rattle.std.specs.Prelude.{◌≡◌, ◌∷◌, ◌++◌, [], ℕ, List, true};
 ghost use Rattle.scenario_texts.specs.Lines.{HasLines, IsCounted, IsTooLarge, IsWithinLimits};
 
 use crate::reading::{MAX_LINE_LEN, MAX_LINES};
 
-/// The lines of a text so far.
+/// The number of lines of a text so far.
 #[derive(Clone, Copy, Debug)]
 pub struct LineCount {
-    /// How many lines are ended, each by its line feed.
+    /// The number of lines that a line feed ended.
     pub ended: u32,
-    /// How many bytes stand behind the last line feed.
+    /// The number of bytes after the last line feed.
     pub under_way: usize,
 }
 
 impl LineCount {
-    /// The lines of no text.
+    /// The count of the empty text.
     pub fn new() -> LineCount
         ensures none { HasLines [] result }
         ensures small { IsWithinLimits result }
@@ -25,7 +25,7 @@ impl LineCount {
         }
     }
 
-    /// Counts the byte that follows. Answers whether the text has neither a line too many nor one that is too long.
+    /// Counts the next byte. Returns false if the text now has a line too many, or a line that is too long.
     fn take(&mut self, byte: u8) -> bool
         ensures counted { (text : List ℕ) → HasLines text self.old → IsCounted result (text ++ byte ∷ []) self.new }
         ensures fits { (text : List ℕ) → HasLines text self.old → (IsTooLarge text → ⊥) → result ≡ true → IsTooLarge (text ++ byte ∷ []) → ⊥ }
@@ -46,11 +46,11 @@ impl LineCount {
         true
     }
 
-    /// Counts the bytes that follow. Answers whether the text has neither a line too many nor one that is too long: if it
-    /// has, the text is no scenario, and its first bad line is the same one however it goes on.
+    /// Counts the next bytes. Returns false if the text now has a line too many, or a line that is too long. Then the
+    /// text is no scenario, and its first bad line is the same however the text continues.
     pub fn take_all(&mut self, bytes: &[u8]) -> bool
         ensures counted { (text : List ℕ) → HasLines text self.old → IsCounted result (text ++ bytes.now) self.new }
-        // What was not too large before is not too large now.
+        // If the text was not too large before, and the result is true, it is not too large now.
         ensures fits { (text : List ℕ) → HasLines text self.old → (IsTooLarge text → ⊥) → result ≡ true → IsTooLarge (text ++ bytes.now) → ⊥ }
         ensures small { result ≡ true → IsWithinLimits self.old → IsWithinLimits self.new }
     {

@@ -1,4 +1,4 @@
-//! What a line adds to what was read.
+//! What one more line adds to the scenario that was read so far.
 ghost use Rattle.std.specs.Prelude.{◌≡◌, ◌==◌, map, option_map, IfOk, Some, None, if◌then◌else◌};
 ghost use Rattle.std.specs.Char.{is_ascii};
 ghost use Rattle.std.specs.List.{list_all, list_any};
@@ -14,7 +14,7 @@ use crate::setup_reading::{config, params};
 use ledger_model::ReplicaId;
 use std::alloc::{AllocError, Global};
 
-/// The scenario of the cluster alone.
+/// The scenario that consists of the cluster.
 #[tactic(auto, unfolding(crate::specs::Reading::begun_of))]
 fn begun(alloc: Global, fields: &[&str]) -> Option<Scenario>
     ensures { option_map plan_of result ≡ begun_of (map (λ field. field.now) fields.now) }
@@ -30,7 +30,7 @@ fn begun(alloc: Global, fields: &[&str]) -> Option<Scenario>
     })
 }
 
-/// With the parameter set that a line says, where none is said yet and neither a liar nor a step stands.
+/// Sets the parameter set of a line. No parameter set, no liar and no command may have come before it.
 #[tactic(auto, unfolding(crate::specs::Reading::with_keys))]
 fn with_keys(mut scenario: Scenario, fields: &[&str]) -> Option<Scenario>
     ensures { option_map plan_of result ≡ with_keys (plan_of scenario) (map (λ field. field.now) fields.now) }
@@ -44,7 +44,7 @@ fn with_keys(mut scenario: Scenario, fields: &[&str]) -> Option<Scenario>
     Some(scenario)
 }
 
-/// Whether a replica of this number is among the liars.
+/// Whether the replica with this number is among the liars.
 fn is_among(liars: &[ReplicaId], number: u32) -> bool
     ensures { result ≡ list_any (λ liar. liar == number) liars.now }
 {
@@ -54,7 +54,7 @@ fn is_among(liars: &[ReplicaId], number: u32) -> bool
     liars.iter().any(is_it)
 }
 
-/// The replica of this number, where it may be named a liar.
+/// The replica with this number, if it may be named as another liar.
 #[tactic(auto, unfolding(crate::specs::Reading::is_new_liar))]
 fn new_liar(scenario: &Scenario, number: u32) -> Option<ReplicaId>
     ensures { result ≡ (if is_new_liar (plan_of scenario.now) number then Some number else None) }
@@ -69,7 +69,7 @@ fn new_liar(scenario: &Scenario, number: u32) -> Option<ReplicaId>
     Some(ReplicaId::new(number as u8))
 }
 
-/// With the liar that a line says.
+/// Adds the liar of a line.
 #[tactic(auto, unfolding(crate::specs::Reading::with_liar))]
 fn with_liar(mut scenario: Scenario, fields: &[&str]) -> Result<Option<Scenario>, AllocError>
     ensures { IfOk result (λ found. option_map plan_of found ≡ with_liar (plan_of scenario) (map (λ field. field.now) fields.now)) }
@@ -84,7 +84,7 @@ fn with_liar(mut scenario: Scenario, fields: &[&str]) -> Result<Option<Scenario>
     Ok(Some(scenario))
 }
 
-/// With the step of a line.
+/// Adds the command of a line.
 #[tactic(auto, unfolding(crate::specs::Reading::with_command))]
 fn with_command(
     alloc: Global,
@@ -101,7 +101,7 @@ fn with_command(
     Ok(Some(scenario))
 }
 
-/// With a line more.
+/// The scenario after one more line.
 #[tactic(auto, unfolding(crate::specs::Reading::going_on))]
 fn going_on(
     alloc: Global,
@@ -119,7 +119,7 @@ fn going_on(
     }
 }
 
-/// The scenario that a line begins.
+/// The scenario that starts with this line.
 #[tactic(auto, unfolding(crate::specs::Reading::beginning))]
 fn beginning(alloc: Global, keyword: Keyword, fields: &[&str]) -> Option<Scenario>
     ensures { option_map plan_of result ≡ beginning keyword (map (λ field. field.now) fields.now) }
@@ -130,7 +130,7 @@ fn beginning(alloc: Global, keyword: Keyword, fields: &[&str]) -> Option<Scenari
     }
 }
 
-/// What was read, with a line more by its keyword.
+/// The scenario after one more line, given the line's keyword and fields; the first line starts it.
 #[tactic(auto, unfolding(crate::specs::Reading::next_by_keyword))]
 fn next_by_keyword(
     alloc: Global,
@@ -146,7 +146,7 @@ fn next_by_keyword(
     }
 }
 
-/// The same by its words.
+/// The scenario after one more line, given the line's words.
 #[tactic(auto, unfolding(crate::specs::Reading::next_by_words))]
 fn next_by_words(
     alloc: Global,
@@ -182,7 +182,7 @@ fn ascii(line: &[u8]) -> Option<&str>
     str::from_utf8(line).ok()
 }
 
-/// What was read, with a line more that counts; nothing where it is bad.
+/// The scenario after one more line that counts; `None` if the line is bad.
 #[tactic(auto, unfolding(crate::specs::Reading::next_of))]
 pub(crate) fn next(
     alloc: Global,

@@ -1,4 +1,4 @@
-//! A text as a scenario, line by line.
+//! Reads a text as a scenario, line by line.
 ghost use Rattle.std.specs.Prelude.{◌≡◌, ◌≢◌, ◌⊎◌, ◌∷◌, ◌++◌, ℕ, IfOk, IfErr, MatchOption, MatchResult, Ok, Err};
 ghost use Rattle.scenario_texts.specs.Lawful.{IsPlan};
 ghost use Rattle.scenario_texts.specs.Lines.{IsBadAt, IsUnbroken, Spells, counts};
@@ -13,10 +13,10 @@ use std::alloc::Global;
 /// The most lines of a text.
 pub(crate) const MAX_LINES: u32 = 10_000;
 
-/// The most bytes of a line, but for its line feed.
+/// The most bytes of a line, without its line feed.
 pub(crate) const MAX_LINE_LEN: usize = 400_000;
 
-/// The first line, without its line feed, and what follows it, if a line feed is there.
+/// The first line, without its line feed, and the text after it; `None` if there is no line feed.
 fn first_line(text: &[u8]) -> Option<(&[u8], &[u8])>
     ensures { MatchOption result (IsUnbroken text.now) (λ cut. (text.now ≡ cut.0.now ++ 10 ∷ cut.1.now) × IsUnbroken cut.0.now) }
 {
@@ -24,14 +24,14 @@ fn first_line(text: &[u8]) -> Option<(&[u8], &[u8])>
     Some((&text[..end], &text[end + 1..]))
 }
 
-/// Whether the line isn't passed over: it has a byte, and the first isn't `#`.
+/// Whether the line counts: it is neither empty nor a comment, which starts with `#`.
 fn counts(line: &[u8]) -> bool
     ensures { result ≡ counts line.now }
 {
     !matches!(line, [] | [b'#', ..])
 }
 
-/// The scenario that the text spells (`docs/FORMATS.md`). Of several bad lines the fault tells the first.
+/// The scenario that the text encodes (`docs/FORMATS.md`). If several lines are bad, the fault has the first.
 pub fn read(alloc: Global, text: &[u8]) -> Result<Scenario, TextFault>
     ensures spelled { IfOk result (λ scenario. Spells text.now (plan_of scenario)) }
     ensures lawful { IfOk result (λ scenario. IsPlan (plan_of scenario)) }

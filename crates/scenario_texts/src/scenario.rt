@@ -1,4 +1,4 @@
-//! What a text says: a cluster, and the steps of its run.
+//! A scenario: a cluster, and the commands of its run.
 use crate::command::Command;
 use ledger_model::{Config, ReplicaId};
 use lm_ots::{Params, TreeHeight, Width};
@@ -8,7 +8,7 @@ use lm_ots::{Params, TreeHeight, Width};
 pub struct Setup {
     /// The cluster.
     pub config: Config,
-    /// The parameter set of every key, where a line says it.
+    /// The parameter set of every key, if a line sets it.
     pub keys: Option<Params>,
     /// The liars, in the order of their lines.
     pub liars: Vec<ReplicaId>,
@@ -18,7 +18,7 @@ impl Setup {
     ghost use Rattle.std.specs.Prelude.{◌≡◌, unwrap_or};
     ghost use Rattle.scenario_texts.specs.Plans.{small_keys};
 
-    /// The parameter set of every key: W4 and H5 where no line says another.
+    /// The parameter set of every key; W4 and H5 if no line sets another.
     pub fn params(&self) -> Params
         ensures { result ≡ unwrap_or self.now.keys small_keys }
     {
@@ -29,11 +29,11 @@ impl Setup {
     }
 }
 
-/// What a text says.
+/// A scenario.
 #[derive(Drop)]
 pub struct Scenario {
-    /// What stands before the steps.
+    /// What comes before the commands.
     pub setup: Setup,
-    /// The steps, in order.
+    /// The commands, in order.
     pub commands: Vec<Command>,
 }

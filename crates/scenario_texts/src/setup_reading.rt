@@ -1,4 +1,4 @@
-//! The lines before the steps: the cluster, the parameter set of its keys, and its liars.
+//! Reads the lines before the commands: the cluster, the parameter set of its keys, and its liars.
 ghost use Rattle.std.specs.Prelude.{◌≡◌, map, option_map};
 ghost use Rattle.scenario_texts.specs.Reading.{kind_of, config_of, params_from};
 
@@ -6,7 +6,7 @@ use crate::fields::three_numbers;
 use ledger_model::{AppKind, Config};
 use lm_ots::{Params, TreeHeight, Width};
 
-/// The application of this number.
+/// The application with this number.
 #[tactic(auto, unfolding(crate::specs::Reading::kind_of))]
 fn kind(number: u32) -> Option<AppKind>
     ensures { result ≡ kind_of number }

@@ -1,35 +1,35 @@
-//! What `abft cluster` and `abft serve` are asked for.
+//! The settings of `abft cluster` and `abft serve`.
 ghost use Rattle.std.specs.Prelude.{◌≤◌};
 
-use cluster_keys::Cluster;
+use cluster_keys::ClusterSeed;
 use ledger_model::Tx;
 
 /// The settings of `abft cluster`: the replicas that run, and for how long.
 #[derive(Drop)]
 pub struct ClusterSettings {
-    pub cluster: Cluster,
-    /// The transaction that each pool is given before the first round.
+    pub cluster: ClusterSeed,
+    /// The transaction that is submitted to each replica before the first round.
     pub tx: Tx,
-    /// How many rounds each replica ends.
+    /// The number of rounds that each replica ends.
     pub rounds: u32,
-    /// How many milliseconds the first round lasts; each later one lasts a millisecond more.
+    /// The milliseconds that the first round lasts; each later one lasts a millisecond more.
     pub base_ms: u32,
-    /// Whether nothing of its progress is told on a terminal.
+    /// Whether no progress is reported to the operator.
     pub is_quiet: bool,
-    /// Whether the end of standard input ends the rounds.
+    /// Whether the rounds end with standard input.
     pub stops_at_eof: bool,
     ghost of_base: { (1 ≤ base_ms) × (base_ms ≤ 60000) },
 }
 
-/// The settings of `abft serve`: the cluster that runs, and the connections that are taken beside it.
+/// The settings of `abft serve`: the cluster that runs, and the connections that it serves.
 #[derive(Drop)]
 pub struct ServeSettings {
     pub cluster: ClusterSettings,
-    /// The port of 127.0.0.1 that it listens at; 0 for one that is free.
+    /// The port of 127.0.0.1 to listen at; 0 for any free one.
     pub port: u16,
-    /// How many connections are taken.
+    /// The number of connections that are served.
     pub sessions: u32,
-    /// How many entries of each replica's history its clients may use.
+    /// The number of entries of each replica's history that clients may use.
     pub client_entries: u32,
     ghost of_sessions: { (1 ≤ sessions) × (sessions ≤ 1000) },
     ghost of_client_entries: { client_entries ≤ 65536 },

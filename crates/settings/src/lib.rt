@@ -1,4 +1,4 @@
-//! What the words of a command line set, as plain values.
+//! The settings that the words of a command line give, as plain values.
 #![tactic(auto)]
 
 mod cluster;
@@ -11,7 +11,7 @@ pub use deliver::DeliverSettings;
 pub use sign::{SignSettings, What};
 pub use simulate::SimulateSettings;
 
-/// What the words of a command line ask for.
+/// The settings of the subcommand that the words of a command line name.
 #[derive(Drop)]
 pub enum Settings {
     Sign(SignSettings),

@@ -1,20 +1,20 @@
-//! What `abft sign` is asked for.
+//! The settings of `abft sign`.
 ghost use Rattle.std.specs.Prelude.{◌<◌, ◌≤◌};
 
-use cluster_keys::Cluster;
+use cluster_keys::ClusterSeed;
 use ledger_model::{Height, Phase, ReplicaId, Tx};
 
-/// Which statement is to be signed.
+/// Which statement to sign.
 #[derive(Clone, Copy, Debug, PartialEq, Eq)]
 pub enum What {
     Report,
     Ack,
 }
 
-/// The settings of `abft sign`: the statement that is to be signed, and by whom.
+/// The settings of `abft sign`: the statement to sign, and the replica that signs it.
 #[derive(Drop)]
 pub struct SignSettings {
-    pub cluster: Cluster,
+    pub cluster: ClusterSeed,
     pub what: What,
     pub replica: ReplicaId,
     pub height: Height,

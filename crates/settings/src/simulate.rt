@@ -1,10 +1,10 @@
-//! What `abft simulate` is asked for.
+//! The settings of `abft simulate`.
 
-/// The settings of `abft simulate`; the scenario says the rest.
+/// The settings of `abft simulate`; everything else is in the scenario.
 #[derive(Drop)]
 pub struct SimulateSettings {
     /// The seed of all keys.
     pub seed: [u8; 32],
-    /// Whether the histories are written in place of the lines.
+    /// Whether histories are written instead of lines.
     pub histories: bool,
 }

@@ -10,7 +10,8 @@ filled m xs ys zs same long rest =
     let whole : length xs ≡ 55 = omega (arith, ap length same) in
     let front : take 55 (xs ++ ys) ≡ m = take_at xs ys 55 whole ∙ same in
     let back : drop 9 (drop 55 (xs ++ ys)) ≡ [] = ap (drop 9) (drop_at xs ys 55 whole) ∙ drop_all 9 ys (omega arith) in
-    ap (λ before. before ++ (zs ++ drop 9 (drop 55 (xs ++ ys)))) front ∙ ap (λ after. m ++ (zs ++ after)) back ∙ ap (λ after. m ++ after) (append-nil zs)
+    ap (λ before. before ++ (zs ++ drop 9 (drop 55 (xs ++ ys)))) front ∙ ap (λ after. m ++ (zs ++ after)) back
+    ∙ ap (λ after. m ++ after) (append-nil zs)
 
 -- a padded message of 55 bytes is one block
 pub padded-one : (m : List ℕ) → length m ≡ 55 → padded_message m ≡ m ++ (0x80 ∷ 0 ∷ 0 ∷ 0 ∷ 0 ∷ 0 ∷ 0 ∷ 0x01 ∷ 0xb8 ∷ [])

@@ -43,7 +43,8 @@ Sixteen x = (j p : ℕ) (v : List ℕ) → p < 16 → words j (slice_set x p v) 
 
 pub words-set : (x : List (List ℕ)) → length x ≡ 16 → Sixteen x
 words-set (a ∷ b ∷ c ∷ d ∷ e ∷ f ∷ g ∷ h ∷ i ∷ k ∷ l ∷ m ∷ n ∷ o ∷ q ∷ r ∷ []) eq = λ j p v lt.
-    below_sixteen (λ p. words j (slice_set (a ∷ b ∷ c ∷ d ∷ e ∷ f ∷ g ∷ h ∷ i ∷ k ∷ l ∷ m ∷ n ∷ o ∷ q ∷ r ∷ []) p v) ≡ slice_set (words j (a ∷ b ∷ c ∷ d ∷ e ∷ f ∷ g ∷ h ∷ i ∷ k ∷ l ∷ m ∷ n ∷ o ∷ q ∷ r ∷ [])) p (slice_index v j))
+    below_sixteen (λ p. words j (slice_set (a ∷ b ∷ c ∷ d ∷ e ∷ f ∷ g ∷ h ∷ i ∷ k ∷ l ∷ m ∷ n ∷ o ∷ q ∷ r ∷ []) p v)
+    ≡ slice_set (words j (a ∷ b ∷ c ∷ d ∷ e ∷ f ∷ g ∷ h ∷ i ∷ k ∷ l ∷ m ∷ n ∷ o ∷ q ∷ r ∷ [])) p (slice_index v j))
     refl refl refl refl refl refl refl refl refl refl refl refl refl refl refl refl p lt
 words-set [] eq = absurd (omega arith)
 words-set (a ∷ []) eq = absurd (omega arith)

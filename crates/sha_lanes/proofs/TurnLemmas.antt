@@ -1,19 +1,22 @@
--- The words of the message that comes after one of 55 bytes.
-use Rattle.std.proofs.Common.{◌≡◌, ℕ, zero, suc, ◌+◌, ◌-◌, ◌*◌, ◌/◌, ◌%◌, ◌^◌, ◌<◌, ◌≤◌, List, [], ◌∷◌, ◌++◌, length, take, slice_index, refl, sym, ap, subst, inl, inr, ◌∙◌, arith, mod-lt}
+-- The words of the message that follows a message of 55 bytes.
+use Rattle.std.proofs.Common.{◌≡◌, ℕ, zero, suc, ◌+◌, ◌-◌, ◌*◌, ◌/◌, ◌%◌, ◌^◌, ◌<◌, ◌≤◌, List, [], ◌∷◌, ◌++◌, length, take, slice_index}
+use Rattle.std.proofs.Common.{refl, sym, ap, subst, inl, inr, ◌∙◌, arith, mod-lt}
 use Rattle.std.proofs.lemmas.List.{get_or-append_right, get_or_append_left, get_or-take, length-append, length-take-le}
 use Rattle.std.proofs.lemmas.List.{take_at, take_more, append_assoc}
 use Rattle.std.proofs.lemmas.Nat.{be_bytes_4}
 use Rattle.std.proofs.Math.ListN.{get_or-eq_default}
 use Rattle.std.proofs.lemmas.Bool.{cases_lt}
 use Rattle.std.specs.Int.{w32, to_be_bytes}
-use Rattle.sha2.specs.Sha256.{add32, compress, digest_bytes, initial_hash_256, padded_message, round, round_constants, rounds, sha256, word_at}
+use Rattle.sha2.specs.Sha256.{add32, compress, digest_bytes, initial_hash_256, padded_message, round, round_constants, rounds, sha256}
+use Rattle.sha2.specs.Sha256.{word_at}
 use Rattle.sha2.proofs.Facts256.{length-sha256}
 use Rattle.sha_lanes.specs.Turns.{AreBytes, next_message, after_turns}
 use Rattle.sha_lanes.proofs.Blocks.{padded-one, digest-one}
 use Rattle.sha_lanes.proofs.LaneLemmas.{below_eight, below_sixteen}
 
 -- a word of four bytes
-pub word-parts : (b : List ℕ) (i : ℕ) → word_at b i ≡ slice_index b i * 16777216 + slice_index b (i + 1) * 65536 + slice_index b (i + 2) * 256 + slice_index b (i + 3)
+pub word-parts : (b : List ℕ) (i : ℕ)
+    → word_at b i ≡ slice_index b i * 16777216 + slice_index b (i + 1) * 65536 + slice_index b (i + 2) * 256 + slice_index b (i + 3)
 word-parts b i = omega arith
 
 -- ---- the bytes of the next message
@@ -23,7 +26,12 @@ front-is m whole = omega (arith, length-append (take 22 m) ((slice_index m 22 + 
 
 pub length-next : (m : List ℕ) → length m ≡ 55 → length (next_message m) ≡ 55
 unfolding next_message
-length-next m whole = omega (arith, front-is m whole, length-append (take 22 m ++ ((slice_index m 22 + 1) % 256 ∷ [])) (sha256 m), length-sha256 m)
+length-next m whole = omega (
+  arith,
+  front-is m whole,
+  length-append (take 22 m ++ ((slice_index m 22 + 1) % 256 ∷ [])) (sha256 m),
+  length-sha256 m,
+)
 
 next-front : (m : List ℕ) (i : ℕ) → length m ≡ 55 → i < 22 → slice_index (next_message m) i ≡ slice_index m i
 unfolding next_message
@@ -43,7 +51,8 @@ next-digest : (m : List ℕ) (r : ℕ) → length m ≡ 55 → slice_index (next
 unfolding next_message
 next-digest m r whole =
     let back : 23 + r - 23 ≡ r = omega arith in
-    get_or-append_right (take 22 m ++ ((slice_index m 22 + 1) % 256 ∷ [])) (sha256 m) 23 (23 + r) 0 (front-is m whole) (omega arith) ∙ ap (slice_index (sha256 m)) back
+    get_or-append_right (take 22 m ++ ((slice_index m 22 + 1) % 256 ∷ [])) (sha256 m) 23 (23 + r) 0 (front-is m whole) (omega arith)
+    ∙ ap (slice_index (sha256 m)) back
 
 -- what stands behind a message
 abbrev tail : List ℕ
@@ -55,7 +64,8 @@ padded-front m i whole low = ap (λ xs. slice_index xs i) (padded-one m whole) �
 padded-back : (m : List ℕ) (i : ℕ) → length m ≡ 55 → slice_index (padded_message m) (55 + i) ≡ slice_index tail i
 padded-back m i whole =
     let back : 55 + i - 55 ≡ i = omega arith in
-    ap (λ xs. slice_index xs (55 + i)) (padded-one m whole) ∙ get_or-append_right m tail 55 (55 + i) 0 whole (omega arith) ∙ ap (slice_index tail) back
+    ap (λ xs. slice_index xs (55 + i)) (padded-one m whole) ∙ get_or-append_right m tail 55 (55 + i) 0 whole (omega arith)
+    ∙ ap (slice_index tail) back
 
 -- ---- the bytes of a digest
 
@@ -65,12 +75,14 @@ length-digest h zero = refl
 length-digest h (suc n) = omega (arith, length-digest h n, length-append (digest_bytes h n) (to_be_bytes w32 (slice_index h n)))
 
 -- the bytes of word i
-digest-byte : (h : List ℕ) (n i r : ℕ) → i < n → r < 4 → slice_index (digest_bytes h n) (4 * i + r) ≡ slice_index (to_be_bytes w32 (slice_index h i)) r
+digest-byte : (h : List ℕ) (n i r : ℕ) → i < n → r < 4
+    → slice_index (digest_bytes h n) (4 * i + r) ≡ slice_index (to_be_bytes w32 (slice_index h i)) r
 unfolding digest_bytes
 digest-byte h zero i r low inside = absurd (omega arith)
 digest-byte h (suc n) i r low inside = elim (cases_lt i n) [
   | inl before ↦
-      get_or_append_left (digest_bytes h n) (to_be_bytes w32 (slice_index h n)) 0 (4 * i + r) (omega (arith, length-digest h n)) ∙ digest-byte h n i r before inside
+      get_or_append_left (digest_bytes h n) (to_be_bytes w32 (slice_index h n)) 0 (4 * i + r) (omega (arith, length-digest h n))
+      ∙ digest-byte h n i r before inside
   | inr here ↦
       let e : n ≡ i = omega arith in
       let back : 4 * i + r - 4 * n ≡ r = omega arith in
@@ -81,7 +93,8 @@ digest-byte h (suc n) i r low inside = elim (cases_lt i n) [
 -- a word of a hash value fits one
 pub state-fits : (h b : List ℕ) (i : ℕ) → i < 8 → slice_index (compress h b) i < 2 ^ 32
 unfolding compress
-state-fits h b = below_eight _ (mod-lt _ (omega arith)) (mod-lt _ (omega arith)) (mod-lt _ (omega arith)) (mod-lt _ (omega arith)) (mod-lt _ (omega arith)) (mod-lt _ (omega arith)) (mod-lt _ (omega arith)) (mod-lt _ (omega arith))
+state-fits h b = below_eight _ (mod-lt _ (omega arith)) (mod-lt _ (omega arith)) (mod-lt _ (omega arith)) (mod-lt _ (omega arith))
+    (mod-lt _ (omega arith)) (mod-lt _ (omega arith)) (mod-lt _ (omega arith)) (mod-lt _ (omega arith))
 
 -- the four bytes of a word
 byte-0 : (n : ℕ) → slice_index (to_be_bytes w32 n) 0 ≡ n / 16777216 % 256
@@ -102,7 +115,8 @@ byte-3 n = refl
 pub rounds-same : (h ws vs : List ℕ) (n : ℕ) → ((t : ℕ) → t < n → slice_index ws t ≡ slice_index vs t) → rounds h ws n ≡ rounds h vs n
 unfolding rounds
 rounds-same h ws vs zero same = refl
-rounds-same h ws vs (suc n) same = (λ i. round (rounds-same h ws vs n (λ t low. same t (omega arith)) i) (slice_index round_constants n) (same n (omega arith) i))
+rounds-same h ws vs (suc n) same =
+    (λ i. round (rounds-same h ws vs n (λ t low. same t (omega arith)) i) (slice_index round_constants n) (same n (omega arith) i))
 
 -- ---- the words of the next message
 
@@ -113,34 +127,42 @@ next-byte m h i r whole digest low inside =
     padded-front (next_message m) (23 + (4 * i + r)) (length-next m whole) (omega arith) ∙ next-digest m (4 * i + r) whole
     ∙ ap (λ d. slice_index d (4 * i + r)) (sym digest) ∙ digest-byte h 8 i r low inside
 
-next-same : (m : List ℕ) (i : ℕ) → length m ≡ 55 → i < 22 → slice_index (padded_message m) i ≡ slice_index (padded_message (next_message m)) i
+next-same : (m : List ℕ) (i : ℕ) → length m ≡ 55 → i < 22
+    → slice_index (padded_message m) i ≡ slice_index (padded_message (next_message m)) i
 next-same m i whole low =
-    padded-front m i whole (omega arith) ∙ sym (padded-front (next_message m) i (length-next m whole) (omega arith) ∙ next-front m i whole low)
+    padded-front m i whole (omega arith)
+    ∙ sym (padded-front (next_message m) i (length-next m whole) (omega arith) ∙ next-front m i whole low)
 
-word-same : (a b : List ℕ) (i : ℕ) → slice_index a i ≡ slice_index b i → slice_index a (i + 1) ≡ slice_index b (i + 1) → slice_index a (i + 2) ≡ slice_index b (i + 2) → slice_index a (i + 3) ≡ slice_index b (i + 3) → word_at a i ≡ word_at b i
+word-same : (a b : List ℕ) (i : ℕ) → slice_index a i ≡ slice_index b i → slice_index a (i + 1) ≡ slice_index b (i + 1)
+    → slice_index a (i + 2) ≡ slice_index b (i + 2) → slice_index a (i + 3) ≡ slice_index b (i + 3) → word_at a i ≡ word_at b i
 word-same a b i e0 e1 e2 e3 = omega (arith, word-parts a i, word-parts b i)
 
 -- the first five words stay
-pub word-front : (m : List ℕ) (k : ℕ) → length m ≡ 55 → k < 5 → word_at (padded_message m) (4 * k) ≡ word_at (padded_message (next_message m)) (4 * k)
+pub word-front : (m : List ℕ) (k : ℕ) → length m ≡ 55 → k < 5
+    → word_at (padded_message m) (4 * k) ≡ word_at (padded_message (next_message m)) (4 * k)
 word-front m k whole low =
     word-same (padded_message m) (padded_message (next_message m)) (4 * k)
-    (next-same m (4 * k) whole (omega arith)) (next-same m (4 * k + 1) whole (omega arith)) (next-same m (4 * k + 2) whole (omega arith)) (next-same m (4 * k + 3) whole (omega arith))
+    (next-same m (4 * k) whole (omega arith)) (next-same m (4 * k + 1) whole (omega arith)) (next-same m (4 * k + 2) whole (omega arith))
+    (next-same m (4 * k + 3) whole (omega arith))
 
 -- and so do the last two
-pub word-back : (m : List ℕ) (k : ℕ) → length m ≡ 55 → 14 ≤ k → word_at (padded_message m) (4 * k) ≡ word_at (padded_message (next_message m)) (4 * k)
+pub word-back : (m : List ℕ) (k : ℕ) → length m ≡ 55 → 14 ≤ k
+    → word_at (padded_message m) (4 * k) ≡ word_at (padded_message (next_message m)) (4 * k)
 word-back m k whole high =
     let at : (i : ℕ) → 55 ≤ i → slice_index (padded_message m) i ≡ slice_index (padded_message (next_message m)) i = λ i behind.
     let e : 55 + (i - 55) ≡ i = omega arith in
     subst (λ n. slice_index (padded_message m) n ≡ slice_index (padded_message (next_message m)) n) e
     (padded-back m (i - 55) whole ∙ sym (padded-back (next_message m) (i - 55) (length-next m whole))) in
-    word-same (padded_message m) (padded_message (next_message m)) (4 * k) (at (4 * k) (omega arith)) (at (4 * k + 1) (omega arith)) (at (4 * k + 2) (omega arith)) (at (4 * k + 3) (omega arith))
+    word-same (padded_message m) (padded_message (next_message m)) (4 * k) (at (4 * k) (omega arith)) (at (4 * k + 1) (omega arith))
+    (at (4 * k + 2) (omega arith)) (at (4 * k + 3) (omega arith))
 
 joined-parts : (x y a b c d : ℕ) → x < 2 ^ 32 → y < 2 ^ 32 → a ≡ x / 65536 % 256 → b ≡ x / 256 % 256 → c ≡ x % 256 → d ≡ y / 16777216 % 256
     → add32 (x * 2 ^ 8 % 2 ^ 32) (y / 2 ^ 24) ≡ a * 16777216 + b * 65536 + c * 256 + d
 joined-parts x y a b c d fx fy ea eb ec ed = omega arith
 
 -- the words of the digest but the last
-pub word-joined : (m h : List ℕ) (i : ℕ) → length m ≡ 55 → digest_bytes h 8 ≡ sha256 m → ((i : ℕ) → i < 8 → slice_index h i < 2 ^ 32) → i < 7
+pub word-joined : (m h : List ℕ) (i : ℕ) → length m ≡ 55 → digest_bytes h 8 ≡ sha256 m → ((i : ℕ) → i < 8 → slice_index h i < 2 ^ 32)
+    → i < 7
     → add32 (slice_index h i * 2 ^ 8 % 2 ^ 32) (slice_index h (i + 1) / 2 ^ 24) ≡ word_at (padded_message (next_message m)) (4 * (6 + i))
 word-joined m h i whole digest fits low =
     let p = padded_message (next_message m) in
@@ -171,21 +193,34 @@ word-ended m h whole digest fits =
     (padded-back (next_message m) 0 (length-next m whole))
     ∙ sym (word-parts p 52)
 
-counted-parts : (w y a b s z d : ℕ) → w ≡ a * 16777216 + b * 65536 + s * 256 + z → a < 256 → b < 256 → s < 256 → z < 256 → y < 2 ^ 32 → d ≡ y / 16777216 % 256
-    → add32 (add32 (w / 2 ^ 16 * 2 ^ 16 % 2 ^ 32) (add32 (w / 2 ^ 8) 1 * 2 ^ 24 % 2 ^ 32 / 2 ^ 16)) (y / 2 ^ 24) ≡ a * 16777216 + b * 65536 + (s + 1) % 256 * 256 + d
+counted-parts : (w y a b s z d : ℕ) → w ≡ a * 16777216 + b * 65536 + s * 256 + z → a < 256 → b < 256 → s < 256 → z < 256 → y < 2 ^ 32
+    → d ≡ y / 16777216 % 256
+    → add32 (add32 (w / 2 ^ 16 * 2 ^ 16 % 2 ^ 32) (add32 (w / 2 ^ 8) 1 * 2 ^ 24 % 2 ^ 32 / 2 ^ 16)) (y / 2 ^ 24)
+    ≡ a * 16777216 + b * 65536 + (s + 1) % 256 * 256 + d
 counted-parts w y a b s z d is fa fb fs fz fy ed = omega arith
 
 -- the word with the byte that is counted up
-pub word-counted : (m h : List ℕ) (w : ℕ) → length m ≡ 55 → AreBytes m → digest_bytes h 8 ≡ sha256 m → ((i : ℕ) → i < 8 → slice_index h i < 2 ^ 32) → w ≡ word_at (padded_message m) 20
-    → add32 (add32 (w / 2 ^ 16 * 2 ^ 16 % 2 ^ 32) (add32 (w / 2 ^ 8) 1 * 2 ^ 24 % 2 ^ 32 / 2 ^ 16)) (slice_index h 0 / 2 ^ 24) ≡ word_at (padded_message (next_message m)) 20
+pub word-counted : (m h : List ℕ) (w : ℕ) → length m ≡ 55 → AreBytes m → digest_bytes h 8 ≡ sha256 m
+    → ((i : ℕ) → i < 8 → slice_index h i < 2 ^ 32) → w ≡ word_at (padded_message m) 20
+    → add32 (add32 (w / 2 ^ 16 * 2 ^ 16 % 2 ^ 32) (add32 (w / 2 ^ 8) 1 * 2 ^ 24 % 2 ^ 32 / 2 ^ 16)) (slice_index h 0 / 2 ^ 24)
+    ≡ word_at (padded_message (next_message m)) 20
 word-counted m h w whole bytes digest fits is =
     let p = padded_message (next_message m) in
     let old : w ≡ slice_index m 20 * 16777216 + slice_index m 21 * 65536 + slice_index m 22 * 256 + slice_index m 23 =
-    is ∙ omega (arith, word-parts (padded_message m) 20, padded-front m 20 whole (omega arith), padded-front m 21 whole (omega arith), padded-front m 22 whole (omega arith), padded-front m 23 whole (omega arith)) in
+    is ∙ omega (
+      arith,
+      word-parts (padded_message m) 20,
+      padded-front m 20 whole (omega arith),
+      padded-front m 21 whole (omega arith),
+      padded-front m 22 whole (omega arith),
+      padded-front m 23 whole (omega arith),
+    ) in
     let b0 : slice_index m 20 ≡ slice_index p 20 = sym (padded-front m 20 whole (omega arith)) ∙ next-same m 20 whole (omega arith) in
     let b1 : slice_index m 21 ≡ slice_index p 21 = sym (padded-front m 21 whole (omega arith)) ∙ next-same m 21 whole (omega arith) in
-    let b2 : (slice_index m 22 + 1) % 256 ≡ slice_index p 22 = sym (padded-front (next_message m) 22 (length-next m whole) (omega arith) ∙ next-step m whole) in
-    counted-parts w (slice_index h 0) (slice_index m 20) (slice_index m 21) (slice_index m 22) (slice_index m 23) _ old (bytes 20) (bytes 21) (bytes 22) (bytes 23) (fits 0 (omega arith))
+    let b2 : (slice_index m 22 + 1) % 256 ≡ slice_index p 22 =
+    sym (padded-front (next_message m) 22 (length-next m whole) (omega arith) ∙ next-step m whole) in
+    counted-parts w (slice_index h 0) (slice_index m 20) (slice_index m 21) (slice_index m 22) (slice_index m 23) _ old (bytes 20)
+    (bytes 21) (bytes 22) (bytes 23) (fits 0 (omega arith))
     (next-byte m h 0 0 whole digest (omega arith) (omega arith))
     ∙ omega (arith, word-parts p 20)
 
@@ -233,7 +268,8 @@ bytes-next m whole bytes i = elim (cases_lt i 22) [
           let here = next-byte m h (r / 4) (r % 4) whole (digest-one m whole) (omega arith) (omega arith) in
           let low = byte-lt (slice_index h (r / 4)) (r % 4) (omega arith) in
           let same : slice_index (next_message m) i ≡ slice_index (to_be_bytes w32 (slice_index h (r / 4))) (r % 4) =
-          sym (padded-front (next_message m) i (length-next m whole) inside) ∙ sym (ap (slice_index (padded_message (next_message m))) e) ∙ here in
+          sym (padded-front (next_message m) i (length-next m whole) inside) ∙ sym (ap (slice_index (padded_message (next_message m))) e)
+          ∙ here in
           omega (arith, same, low)
       | inr past ↦ omega (arith, get_or-eq_default (next_message m) 0 {n = i} (omega (arith, length-next m whole)))
     ]
@@ -264,23 +300,30 @@ pub words-next : (m h : List ℕ) (w : ℕ → ℕ) (k5 k6 k7 k8 k9 k10 k11 k12 
     → k11 ≡ add32 (slice_index h 5 * 2 ^ 8 % 2 ^ 32) (slice_index h 6 / 2 ^ 24)
     → k12 ≡ add32 (slice_index h 6 * 2 ^ 8 % 2 ^ 32) (slice_index h 7 / 2 ^ 24)
     → k13 ≡ add32 (slice_index h 7 * 2 ^ 8 % 2 ^ 32) 128
-    → (k : ℕ) → k < 16 → slice_index (w 0 ∷ w 1 ∷ w 2 ∷ w 3 ∷ w 4 ∷ k5 ∷ k6 ∷ k7 ∷ k8 ∷ k9 ∷ k10 ∷ k11 ∷ k12 ∷ k13 ∷ w 14 ∷ w 15 ∷ []) k ≡ word_at (padded_message (next_message m)) (4 * k)
+    → (k : ℕ) → k < 16 → slice_index (w 0 ∷ w 1 ∷ w 2 ∷ w 3 ∷ w 4 ∷ k5 ∷ k6 ∷ k7 ∷ k8 ∷ k9 ∷ k10 ∷ k11 ∷ k12 ∷ k13 ∷ w 14 ∷ w 15 ∷ []) k
+    ≡ word_at (padded_message (next_message m)) (4 * k)
 words-next m h w k5 k6 k7 k8 k9 k10 k11 k12 k13 whole bytes read is e5 e6 e7 e8 e9 e10 e11 e12 e13 =
     let digest : digest_bytes h 8 ≡ sha256 m = ap (λ x. digest_bytes x 8) is ∙ digest-one m whole in
-    let fits : (i : ℕ) → i < 8 → slice_index h i < 2 ^ 32 = λ i low. subst (λ x. slice_index x i < 2 ^ 32) (sym is) (state-fits initial_hash_256 (padded_message m) i low) in
-    let front : (k : ℕ) → k < 5 → w k ≡ word_at (padded_message (next_message m)) (4 * k) = λ k low. read k (omega arith) ∙ word-front m k whole low in
-    let joined : (i : ℕ) → i < 7 → add32 (slice_index h i * 2 ^ 8 % 2 ^ 32) (slice_index h (i + 1) / 2 ^ 24) ≡ word_at (padded_message (next_message m)) (4 * (6 + i)) = λ i low. word-joined m h i whole digest fits low in
+    let fits : (i : ℕ) → i < 8 → slice_index h i < 2 ^ 32 =
+    λ i low. subst (λ x. slice_index x i < 2 ^ 32) (sym is) (state-fits initial_hash_256 (padded_message m) i low) in
+    let front : (k : ℕ) → k < 5 → w k ≡ word_at (padded_message (next_message m)) (4 * k) =
+    λ k low. read k (omega arith) ∙ word-front m k whole low in
+    let joined : (i : ℕ) → i < 7 → add32 (slice_index h i * 2 ^ 8 % 2 ^ 32) (slice_index h (i + 1) / 2 ^ 24) ≡ word_at
+    (padded_message (next_message m)) (4 * (6 + i)) = λ i low. word-joined m h i whole digest fits low in
     below_sixteen _ (front 0 (omega arith)) (front 1 (omega arith)) (front 2 (omega arith)) (front 3 (omega arith)) (front 4 (omega arith))
     (e5 ∙ word-counted m h (w 5) whole bytes digest fits (read 5 (omega arith)))
-    (e6 ∙ joined 0 (omega arith)) (e7 ∙ joined 1 (omega arith)) (e8 ∙ joined 2 (omega arith)) (e9 ∙ joined 3 (omega arith)) (e10 ∙ joined 4 (omega arith)) (e11 ∙ joined 5 (omega arith)) (e12 ∙ joined 6 (omega arith))
+    (e6 ∙ joined 0 (omega arith)) (e7 ∙ joined 1 (omega arith)) (e8 ∙ joined 2 (omega arith)) (e9 ∙ joined 3 (omega arith))
+    (e10 ∙ joined 4 (omega arith)) (e11 ∙ joined 5 (omega arith)) (e12 ∙ joined 6 (omega arith))
     (e13 ∙ word-ended m h whole digest fits)
     (read 14 (omega arith) ∙ word-back m 14 whole (omega arith)) (read 15 (omega arith) ∙ word-back m 15 whole (omega arith))
 
 -- a word of a block, as bytes behind those before it
-pub take-word : (b : List ℕ) (k w : ℕ) → length b ≡ 64 → k < 16 → AreBytes b → w ≡ word_at b (4 * k) → take (4 * k) b ++ to_be_bytes w32 w ≡ take (4 * (k + 1)) b
+pub take-word : (b : List ℕ) (k w : ℕ) → length b ≡ 64 → k < 16 → AreBytes b → w ≡ word_at b (4 * k)
+    → take (4 * k) b ++ to_be_bytes w32 w ≡ take (4 * (k + 1)) b
 take-word b k w whole low bytes is =
     let four : List ℕ = slice_index b (4 * k) ∷ slice_index b (4 * k + 1) ∷ slice_index b (4 * k + 2) ∷ slice_index b (4 * k + 3) ∷ [] in
-    let small : (i : ℕ) → slice_index four i < 256 = bytes-four _ _ _ _ (bytes (4 * k)) (bytes (4 * k + 1)) (bytes (4 * k + 2)) (bytes (4 * k + 3)) in
+    let small : (i : ℕ) → slice_index four i < 256 =
+    bytes-four _ _ _ _ (bytes (4 * k)) (bytes (4 * k + 1)) (bytes (4 * k + 2)) (bytes (4 * k + 3)) in
     let e : 4 * (k + 1) ≡ 4 * k + 3 + 1 = omega arith in
     ap (λ word. take (4 * k) b ++ word) (be_bytes_4 four w refl small is)
     ∙ sym (ap (λ n. take n b) e ∙ four-more b (4 * k) (omega arith))
@@ -292,7 +335,9 @@ take-word b k w whole low bytes is =
     bytes-four x y z u fx fy fz fu (suc (suc (suc zero))) = fu
     bytes-four x y z u fx fy fz fu (suc (suc (suc (suc i)))) = omega arith
 
-    four-more : (xs : List ℕ) (n : ℕ) → n + 3 < length xs → take (n + 3 + 1) xs ≡ take n xs ++ (slice_index xs n ∷ slice_index xs (n + 1) ∷ slice_index xs (n + 2) ∷ slice_index xs (n + 3) ∷ [])
+    four-more : (xs : List ℕ) (n : ℕ) → n + 3 < length xs
+        → take (n + 3 + 1) xs ≡ take n xs
+        ++ (slice_index xs n ∷ slice_index xs (n + 1) ∷ slice_index xs (n + 2) ∷ slice_index xs (n + 3) ∷ [])
     four-more xs n inside =
         let a = slice_index xs n ∷ [] in
         let b = slice_index xs (n + 1) ∷ [] in
@@ -301,7 +346,9 @@ take-word b k w whole low bytes is =
         let e2 : n + 3 ≡ n + 2 + 1 = omega arith in
         let e1 : n + 2 ≡ n + 1 + 1 = omega arith in
         take_more xs (n + 3) 0 inside
-        ∙ ap (λ zs. zs ++ d) (ap (λ k. take k xs) e2 ∙ take_more xs (n + 2) 0 (omega arith) ∙ ap (λ zs. zs ++ c) (ap (λ k. take k xs) e1 ∙ take_more xs (n + 1) 0 (omega arith) ∙ ap (λ zs. zs ++ b) (take_more xs n 0 (omega arith))))
+        ∙ ap (λ zs. zs ++ d) (ap (λ k. take k xs) e2 ∙ take_more xs (n + 2) 0 (omega arith)
+        ∙ ap (λ zs. zs ++ c) (ap (λ k. take k xs) e1 ∙ take_more xs (n + 1) 0 (omega arith)
+        ∙ ap (λ zs. zs ++ b) (take_more xs n 0 (omega arith))))
         ∙ append_assoc (take n xs ++ a ++ b) c d ∙ append_assoc (take n xs ++ a) b (c ++ d) ∙ append_assoc (take n xs) a (b ++ (c ++ d))
 
 -- one turn more

@@ -1,12 +1,12 @@
--- A message of 55 bytes that is hashed again and again, each time with the digest in the place of its last 32 bytes.
+-- A message of 55 bytes that is hashed repeatedly; each time the digest replaces its last 32 bytes.
 use Rattle.std.specs.Prelude.{ℕ, zero, suc, ◌+◌, ◌%◌, ◌<◌, List, [], ◌∷◌, ◌++◌, take, slice_index}
 use Rattle.sha2.specs.Sha256.{sha256}
 
--- each is a byte
+-- each element is a byte
 abbrev pub AreBytes : List ℕ → Type 0
 AreBytes m = (i : ℕ) → slice_index m i < 256
 
--- the message that comes after one: the byte in front of the last 32 is counted up, and these are the digest
+-- the message after one turn: the byte before the last 32 is incremented, and the last 32 are the digest
 unfoldable pub next_message : List ℕ → List ℕ
 next_message m = take 22 m ++ ((slice_index m 22 + 1) % 256 ∷ []) ++ sha256 m
 

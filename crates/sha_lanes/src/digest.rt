@@ -7,13 +7,12 @@ ghost use Rattle.sha_lanes.specs.Turns.{AreBytes};
 use crate::rounds::{compress, initial_state};
 use std::simd::u32x8;
 
-/// What stands behind a message of 55 bytes in its block (FIPS 180-4, section 5.1.1): a bit 1, and the length in bits, 440, as
-/// 8 bytes.
+/// The padding of a message of 55 bytes in its block (FIPS 180-4, section 5.1.1): a 1 bit, and the length in bits, 440, in 8 bytes.
 const PADDING: [u8; 9] = [0x80, 0, 0, 0, 0, 0, 0, 0x01, 0xb8];
 
 /// The SHA-256 digests (FIPS 180-4) of eight messages of 55 bytes: item `j` of the result is the digest of message `j`.
 ///
-/// It takes no memory.
+/// Allocates nothing.
 pub fn digest_each(messages: &[[u8; 55]; 8]) -> [[u8; 32]; 8]
     ensures { (j : ℕ) → j < 8
         → slice_index_or result j [] ≡ sha256 (slice_index_or messages.now j []) }
@@ -67,7 +66,7 @@ fn padded(message: &[u8; 55]) -> [u8; 64]
     block
 }
 
-/// The words at byte `i` of each block.
+/// The words that start at byte `i` of each block.
 fn words_at(blocks: &[[u8; 64]; 8], i: usize) -> u32x8
     requires { i + 4 ≤ 64 }
     ensures { (j : ℕ) → j < 8
@@ -85,7 +84,7 @@ fn words_at(blocks: &[[u8; 64]; 8], i: usize) -> u32x8
     ])
 }
 
-/// The word at byte `i` of a block.
+/// The word that starts at byte `i` of a block.
 fn word_at(block: &[u8; 64], i: usize) -> u32
     requires { i + 4 ≤ 64 }
     ensures { result ≡ word_at block.now i }

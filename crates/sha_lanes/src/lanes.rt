@@ -1,4 +1,4 @@
-//! The operations of SHA-256 (FIPS 180-4, sections 3 and 4.1.2) on the words of eight blocks side by side, one block in
+//! The operations of SHA-256 (FIPS 180-4, sections 3 and 4.1.2) on the words of eight blocks in parallel, one block in
 //! each lane of a vector.
 ghost use Rattle.std.specs.Prelude.{◌≡◌, ℕ, ◌*◌, ◌%◌, ◌/◌, ◌^◌, ◌<◌, slice_index};
 ghost use Rattle.std.specs.Int.{w32, rotate_right};
@@ -92,7 +92,7 @@ pub(crate) fn big_sigma0(x: u32x8) -> u32x8
     xor(both, far)
 }
 
-// The three below nest their rotations, which takes fewer copies of `x` than rotating it afresh each time.
+// The three functions below nest their rotations, which copies `x` fewer times than rotating it anew each time.
 #[inline(always)]
 pub(crate) fn big_sigma1(x: u32x8) -> u32x8
     ensures { (j : ℕ) → j < 8 → slice_index result j ≡ big_sigma1 (slice_index x j) }

@@ -1,7 +1,6 @@
-//! Eight messages that are hashed in turns, each time with the digest in the place of a message's last 32 bytes.
+//! Eight messages that are hashed in turns. After each turn the digest replaces the last 32 bytes of the message.
 //!
-//! The words stay in vectors from turn to turn. The first five words of a block don't change, so the first five rounds are
-//! done once.
+//! The words stay in vectors from turn to turn. The first five words of a block don't change, so their rounds are computed once.
 ghost use Rattle.std.specs.Prelude.{◌≡◌, ℕ, ◌*◌, ◌/◌, ◌%◌, ◌^◌, ◌<◌, List, [], length, take, slice_index, slice_index_or};
 ghost use Rattle.sha2.specs.Sha256.{add32, compress, initial_hash_256, padded_message, word_at};
 ghost use Rattle.sha_lanes.specs.Lanes.{lane, lane_at};
@@ -12,10 +11,10 @@ use crate::lanes::{add, shift_left, shift_right, splat};
 use crate::rounds::{compress_from, first_rounds, initial_state};
 use std::simd::u32x8;
 
-/// Hashes eight messages `count` times. Each time the digest (FIPS 180-4) takes the place of a message's last 32 bytes, and the
-/// byte in front of them is counted up, after 255 from 0 on.
+/// Hashes eight messages `count` times. Each time the digest (FIPS 180-4) replaces the last 32 bytes of the message,
+/// and the byte before those is incremented, from 255 to 0.
 ///
-/// It takes no memory.
+/// Allocates nothing.
 pub fn take_turns(messages: &mut [[u8; 55]; 8], count: u16)
     ensures turns { (j : ℕ) → j < 8
         → slice_index_or messages.new j [] ≡ after_turns count (slice_index_or messages.old j []) }
@@ -33,14 +32,14 @@ pub fn take_turns(messages: &mut [[u8; 55]; 8], count: u16)
     }
 }
 
-/// Puts the front of a block in the place of a message.
+/// Replaces a message by the first 55 bytes of a block.
 fn put_front(message: &mut [u8; 55], block: &[u8; 64])
     ensures { message.new ≡ take 55 block.now }
 {
     message.copy_from_slice(&block[..55]);
 }
 
-/// The words of the messages that come after those of these words, whose hash values are `state`.
+/// The words of the next messages, given the words of the current ones, whose hash values are `state`.
 #[inline(always)]
 fn next_words(words: [u32x8; 16], state: [u32x8; 8]) -> [u32x8; 16]
     ensures next { (j : ℕ) → j < 8 → (m : List ℕ) → length m ≡ 55 → AreBytes m
@@ -69,7 +68,7 @@ fn next_words(words: [u32x8; 16], state: [u32x8; 8]) -> [u32x8; 16]
     ]
 }
 
-/// The last three bytes of a word, and the first of the next.
+/// The last three bytes of a word, followed by the first byte of the next.
 #[inline(always)]
 fn joined(word: u32x8, next: u32x8) -> u32x8
     ensures { (j : ℕ) → j < 8 → slice_index result j
@@ -80,7 +79,7 @@ fn joined(word: u32x8, next: u32x8) -> u32x8
     add(high, low)
 }
 
-/// The last three bytes of a word, and the first byte of the padding.
+/// The last three bytes of a word, followed by the first byte of the padding.
 #[inline(always)]
 fn ended(word: u32x8) -> u32x8
     ensures { (j : ℕ) → j < 8
@@ -90,7 +89,7 @@ fn ended(word: u32x8) -> u32x8
     add(high, splat(0x80))
 }
 
-/// The first two bytes of a word, its third byte counted up, and the first byte of the next word.
+/// The first two bytes of a word, its third byte incremented, and the first byte of the next word.
 #[inline(always)]
 fn counted_up(word: u32x8, next: u32x8) -> u32x8
     ensures { (j : ℕ) → j < 8 → slice_index result j

@@ -1,4 +1,4 @@
--- Where the parts of a frame stand in its bytes.
+-- The offsets of the parts of a frame in its bytes.
 use Rattle.std.proofs.Common.{◌≡◌, ℕ, ◌+◌, ◌-◌, ◌≤◌, List, ◌++◌, length, take, drop, refl, sym, ap, subst, ◌∙◌, append_assoc, arith}
 use Rattle.std.specs.Int.{w16, w32, to_be_bytes}
 use Rattle.std.proofs.lemmas.List.{take_at, drop_at, length-append, length-drop}
@@ -6,11 +6,15 @@ use Rattle.ledger_model.specs.declared.statement.SignedStatement.{SignedStatemen
 use Rattle.ledger_model.specs.declared.statement.Statement.{Statement}
 use Rattle.ledger_model.specs.Spelling.{IsStatement, IsSignature, SpellsFrame, statement_bytes, signature_bytes, body_bytes, frame_bytes}
 use Rattle.signed_frames.specs.Parts.{signed_by_last, HoldsFrame}
+use Rattle.ledger_model.specs.Limits.{max_body_len}
 
 -- a frame with its signature apart
-pub frame_parts : (s : SignedStatement) → frame_bytes s ≡ (to_be_bytes w32 (length (body_bytes s)) ++ statement_bytes s.statement ++ to_be_bytes w16 (length s.signature)) ++ s.signature
+pub frame_parts : (s : SignedStatement)
+    → frame_bytes s ≡ (to_be_bytes w32 (length (body_bytes s)) ++ statement_bytes s.statement ++ to_be_bytes w16 (length s.signature))
+    ++ s.signature
 unfolding frame_bytes body_bytes
-frame_parts s = ap (λ (x : List ℕ). to_be_bytes w32 (length (body_bytes s)) ++ x) (sym (append_assoc (statement_bytes s.statement) (to_be_bytes w16 (length s.signature)) s.signature))
+frame_parts s = ap (λ (x : List ℕ). to_be_bytes w32 (length (body_bytes s)) ++ x)
+    (sym (append_assoc (statement_bytes s.statement) (to_be_bytes w16 (length s.signature)) s.signature))
 
 -- a body is a statement, two bytes and a signature
 pub body_length : (s : SignedStatement) → length (body_bytes s) ≡ length (statement_bytes s.statement) + (2 + length s.signature)
@@ -45,9 +49,11 @@ holds bytes s spells =
     }
 
 -- the same of the bytes of a frame
-pub holds_length : (bytes : List ℕ) (statement : Statement) (len : ℕ) → HoldsFrame bytes statement len → length bytes ≡ 6 + length (statement_bytes statement) + len
+pub holds_length : (bytes : List ℕ) (statement : Statement) (len : ℕ) → HoldsFrame bytes statement len
+    → length bytes ≡ 6 + length (statement_bytes statement) + len
 holds_length bytes statement len h =
-    ap length h.spelled.1 ∙ frame_length (signed_by_last bytes statement len) ∙ ap (λ (n : ℕ). 6 + length (statement_bytes statement) + n) h.signed
+    ap length h.spelled.1 ∙ frame_length (signed_by_last bytes statement len)
+    ∙ ap (λ (n : ℕ). 6 + length (statement_bytes statement) + n) h.signed
 
 -- the statement stands between the length and the signature
 pub statement_part : (bytes : List ℕ) (statement : Statement) (len : ℕ) → HoldsFrame bytes statement len
@@ -56,15 +62,23 @@ unfolding frame_bytes body_bytes
 statement_part bytes statement len h =
     let s = signed_by_last bytes statement len in
     let behind : drop 4 bytes ≡ statement_bytes statement ++ signature_bytes s.signature = ap (drop 4) h.spelled.1 in
-    let n : length (statement_bytes statement) ≡ length (drop 4 bytes) - 2 - len = omega (arith, holds_length bytes statement len h, length-drop 4 bytes) in
-    subst (λ (k : ℕ). take k (drop 4 bytes) ≡ statement_bytes statement) n (ap (take (length (statement_bytes statement))) behind ∙ take_at (statement_bytes statement) (signature_bytes s.signature) (length (statement_bytes statement)) refl)
+    let n : length (statement_bytes statement) ≡ length (drop 4 bytes) - 2 - len =
+    omega (arith, holds_length bytes statement len h, length-drop 4 bytes) in
+    subst (λ (k : ℕ). take k (drop 4 bytes) ≡ statement_bytes statement) n
+    (ap (take (length (statement_bytes statement))) behind
+    ∙ take_at (statement_bytes statement) (signature_bytes s.signature) (length (statement_bytes statement)) refl)
 
 -- what is written field by field is spelled
 pub written : (statement : Statement) (signature message bytes : List ℕ) (len : ℕ) → IsStatement statement → IsSignature signature
-    → length (body_bytes (record { statement = statement; signature = signature })) ≤ 150000 → message ≡ statement_bytes statement → len ≡ length message + 2 + length signature
-    → bytes ≡ ((to_be_bytes w32 len ++ message) ++ to_be_bytes w16 (length signature)) ++ signature → SpellsFrame bytes (record { statement = statement; signature = signature })
+    → length (body_bytes (record { statement = statement; signature = signature })) ≤ max_body_len → message ≡ statement_bytes statement
+    → len ≡ length message + 2 + length signature
+    → bytes ≡ ((to_be_bytes w32 len ++ message) ++ to_be_bytes w16 (length signature)) ++ signature
+    → SpellsFrame bytes (record { statement = statement; signature = signature })
 written statement signature message bytes len is signed short says counts e =
     let s : SignedStatement = record { statement = statement; signature = signature } in
     let total : len ≡ length (body_bytes s) = omega (arith, counts, body_length s, ap length says) in
-    let text : bytes ≡ ((to_be_bytes w32 (length (body_bytes s)) ++ statement_bytes statement) ++ to_be_bytes w16 (length signature)) ++ signature = subst (λ (n : ℕ). bytes ≡ ((to_be_bytes w32 n ++ statement_bytes statement) ++ to_be_bytes w16 (length signature)) ++ signature) total (subst (λ (m : List ℕ). bytes ≡ ((to_be_bytes w32 len ++ m) ++ to_be_bytes w16 (length signature)) ++ signature) says e) in
+    let text : bytes ≡ ((to_be_bytes w32 (length (body_bytes s)) ++ statement_bytes statement) ++ to_be_bytes w16 (length signature))
+    ++ signature = subst (λ (n : ℕ). bytes ≡ ((to_be_bytes w32 n ++ statement_bytes statement) ++ to_be_bytes w16 (length signature))
+    ++ signature) total (subst (λ (m : List ℕ). bytes ≡ ((to_be_bytes w32 len ++ m) ++ to_be_bytes w16 (length signature))
+    ++ signature) says e) in
     (record { statement = is; signature = signed; short = short }, text ∙ sym (frame_parts s))

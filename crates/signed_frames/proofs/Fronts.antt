@@ -1,5 +1,6 @@
 -- Splitting frames off the front of bytes.
-use Rattle.std.proofs.Common.{◌≡◌, ℕ, ◌+◌, ◌-◌, ◌≤◌, ◌<◌, true, ◌&&◌, leb, eqb, List, [], ◌∷◌, ◌++◌, length, take, drop, None, refl, sym, ap, ◌∙◌, append_assoc, arith}
+use Rattle.std.proofs.Common.{◌≡◌, ℕ, ◌+◌, ◌-◌, ◌≤◌, ◌<◌, true, ◌&&◌, leb, eqb, List, [], ◌∷◌, ◌++◌, length, take, drop, None, refl, sym}
+use Rattle.std.proofs.Common.{ap, ◌∙◌, append_assoc, arith}
 use Rattle.std.specs.List.{flat_map, AllByRecursion}
 use Rattle.std.proofs.lemmas.Bool.{and_from, le-leb, eq-eqb}
 use Rattle.std.proofs.lemmas.List.{take-append-drop, take-take, drop-take, drop-drop, length-take-le, length-drop, length-append}
@@ -9,9 +10,11 @@ use Rattle.ledger_model.specs.Spelling.{IsFrame, Frames, frame_bytes}
 use Rattle.ledger_model.specs.Reading.{reading, body_reading}
 use Rattle.ledger_model.specs.Streams.{announced, BeginsMalformed}
 use Rattle.signed_frames.proofs.FrameParts.{frame_length}
+use Rattle.ledger_model.specs.Limits.{max_body_len}
 
 -- the reading of a whole frame is that of its body
-pub reading_front : (bytes : List ℕ) (len : ℕ) → 4 + len ≤ length bytes → announced bytes ≡ len → len ≤ 150000 → reading (take (4 + len) bytes) ≡ body_reading (take len (drop 4 bytes))
+pub reading_front : (bytes : List ℕ) (len : ℕ) → 4 + len ≤ length bytes → announced bytes ≡ len → len ≤ max_body_len
+    → reading (take (4 + len) bytes) ≡ body_reading (take len (drop 4 bytes))
 unfolding reading
 reading_front bytes len whole says short =
     let front = take (4 + len) bytes in
@@ -20,16 +23,24 @@ reading_front bytes len whole says short =
     let head : take 4 front ≡ take 4 bytes = take-take 4 (4 + len) bytes (omega arith) in
     let tail : drop 4 front ≡ take len (drop 4 bytes) = drop-take 4 len bytes in
     let tail_size : length (take len (drop 4 bytes)) ≡ len = length-take-le len (drop 4 bytes) (omega (arith, length-drop 4 bytes)) in
-    let test : (eqb (length (take len (drop 4 bytes))) len && leb len 150000) ≡ true = and_from (eqb (length (take len (drop 4 bytes))) len) (leb len 150000) (eq-eqb _ _ tail_size) (le-leb _ _ short) in
+    let test : (eqb (length (take len (drop 4 bytes))) len && leb len max_body_len) ≡ true =
+    and_from (eqb (length (take len (drop 4 bytes))) len) (leb len max_body_len) (eq-eqb _ _ tail_size) (le-leb _ _ short) in
     rw (long, head, tail, says, test) refl
 
 -- so a body that isn't spelled stands there
-pub is_malformed : (bytes : List ℕ) (len : ℕ) → 4 + len ≤ length bytes → announced bytes ≡ len → len ≤ 150000 → reading (take (4 + len) bytes) ≡ None → BeginsMalformed bytes
-is_malformed bytes len whole says short none =
-    (omega arith, omega (arith, says), omega (arith, says), ap (λ (n : ℕ). body_reading (take n (drop 4 bytes))) says ∙ sym (reading_front bytes len whole says short) ∙ none)
+pub is_malformed : (bytes : List ℕ) (len : ℕ) → 4 + len ≤ length bytes → announced bytes ≡ len → len ≤ max_body_len
+    → reading (take (4 + len) bytes) ≡ None → BeginsMalformed bytes
+is_malformed bytes len whole says short none = (
+  omega arith,
+  omega (arith, says),
+  omega (arith, says),
+  ap (λ (n : ℕ). body_reading (take n (drop 4 bytes))) says
+      ∙ sym (reading_front bytes len whole says short) ∙ none,
+)
 
 -- what stands in front and is a frame
-pub is_front : (bytes : List ℕ) (n : ℕ) (s : SignedStatement) → n ≤ length bytes → take n bytes ≡ frame_bytes s → bytes ≡ frame_bytes s ++ drop (length (frame_bytes s)) bytes
+pub is_front : (bytes : List ℕ) (n : ℕ) (s : SignedStatement) → n ≤ length bytes → take n bytes ≡ frame_bytes s
+    → bytes ≡ frame_bytes s ++ drop (length (frame_bytes s)) bytes
 is_front bytes n s fits e =
     let size : length (frame_bytes s) ≡ n = ap length (sym e) ∙ length-take-le n bytes fits in
     sym (take-append-drop n bytes) ∙ ap (λ (x : List ℕ). x ++ drop n bytes) e ∙ ap (λ (k : ℕ). frame_bytes s ++ drop k bytes) (sym size)
@@ -40,10 +51,12 @@ all_join P [] ys a b = b
 all_join P (x ∷ xs) ys a b = (a.0, all_join P xs ys a.1 b)
 
 -- frames, and then more of them
-pub frames_join : (bytes mid rest : List ℕ) (frames more : List SignedStatement) → Frames bytes frames mid → Frames mid more rest → Frames bytes (frames ++ more) rest
+pub frames_join : (bytes mid rest : List ℕ) (frames more : List SignedStatement) → Frames bytes frames mid → Frames mid more rest
+    → Frames bytes (frames ++ more) rest
 frames_join bytes mid rest frames more f g = (
   all_join IsFrame frames more f.0 g.0,
-  f.1 ∙ ap (λ (x : List ℕ). flat_map frame_bytes frames ++ x) g.1 ∙ sym (append_assoc (flat_map frame_bytes frames) (flat_map frame_bytes more) rest)
+  f.1 ∙ ap (λ (x : List ℕ). flat_map frame_bytes frames ++ x) g.1
+      ∙ sym (append_assoc (flat_map frame_bytes frames) (flat_map frame_bytes more) rest)
       ∙ ap (λ (x : List ℕ). x ++ rest) (sym (flat_map-append frame_bytes frames more)),
 )
 
@@ -58,12 +71,25 @@ none_used bytes = record { within = omega arith; split = (tt, refl) }
 
 -- one frame more
 pub one_more : (bytes : List ℕ) (frames : List SignedStatement) (used : ℕ) (s : SignedStatement) → Used bytes frames used → IsFrame s
-    → drop used bytes ≡ frame_bytes s ++ drop (length (frame_bytes s)) (drop used bytes) → Used bytes (frames ++ s ∷ []) (used + length (frame_bytes s))
+    → drop used bytes ≡ frame_bytes s ++ drop (length (frame_bytes s)) (drop used bytes)
+    → Used bytes (frames ++ s ∷ []) (used + length (frame_bytes s))
 one_more bytes frames used s so_far is e =
-    let next : drop (length (frame_bytes s)) (drop used bytes) ≡ drop (used + length (frame_bytes s)) bytes = drop-drop (length (frame_bytes s)) used bytes in
+    let next : drop (length (frame_bytes s)) (drop used bytes) ≡ drop (used + length (frame_bytes s)) bytes =
+    drop-drop (length (frame_bytes s)) used bytes in
     let one : Frames (drop used bytes) (s ∷ []) (drop (used + length (frame_bytes s)) bytes) =
     ((is, tt), e ∙ ap (λ (x : List ℕ). frame_bytes s ++ x) next ∙ one_alone (frame_bytes s) (drop (used + length (frame_bytes s)) bytes)) in
-    record { within = omega (arith, so_far.within, length-drop used bytes, ap length e, length-append (frame_bytes s) (drop (length (frame_bytes s)) (drop used bytes))); split = frames_join bytes (drop used bytes) (drop (used + length (frame_bytes s)) bytes) frames (s ∷ []) so_far.split one }
+    record {
+      within = omega (
+        arith,
+        so_far.within,
+        length-drop used bytes,
+        ap length e,
+        length-append (frame_bytes s)
+            (drop (length (frame_bytes s)) (drop used bytes)),
+      );
+      split =
+          frames_join bytes (drop used bytes) (drop (used + length (frame_bytes s)) bytes) frames (s ∷ []) so_far.split one;
+    }
   where
     one_alone : (x y : List ℕ) → x ++ y ≡ (x ++ []) ++ y
     one_alone x y = simp append_assoc
@@ -73,5 +99,6 @@ pub some_bytes : (s : SignedStatement) → 0 < length (frame_bytes s)
 some_bytes s = omega (arith, frame_length s)
 
 -- so less is left
-pub less_left : (bytes : List ℕ) (frames : List SignedStatement) (used n : ℕ) (s : SignedStatement) → Used bytes frames (used + n) → n ≡ length (frame_bytes s) → length bytes - (used + n) < length bytes - used
+pub less_left : (bytes : List ℕ) (frames : List SignedStatement) (used n : ℕ) (s : SignedStatement) → Used bytes frames (used + n)
+    → n ≡ length (frame_bytes s) → length bytes - (used + n) < length bytes - used
 less_left bytes frames used n s after e = omega (arith, after.within, some_bytes s)

@@ -1,4 +1,4 @@
--- What is parsed, by the laws of the grammar.
+-- The results of parsing, by the laws of the grammar.
 use Rattle.std.proofs.Common.{ℕ, List, Some, Result, Ok, Err, ap, subst, ◌∙◌}
 use Rattle.ledger_model.specs.declared.statement.SignedStatement.{SignedStatement}
 use Rattle.ledger_model.specs.Spelling.{SpellsFrame}
@@ -13,11 +13,13 @@ use Rattle.statements.specs.declared.fault.DecodeFault.{DecodeFault}
 use Rattle.statements.specs.Reads.{Gives}
 
 -- what is spelled is parsed
-pub is_read : (bytes : List ℕ) (result : Result SignedStatement DecodeFault) → Gives result (reading bytes) → (s : SignedStatement) → SpellsFrame bytes s → Gives result (Some s)
+pub is_read : (bytes : List ℕ) (result : Result SignedStatement DecodeFault) → Gives result (reading bytes) → (s : SignedStatement)
+    → SpellsFrame bytes s → Gives result (Some s)
 is_read bytes result e s spells = subst (λ read. Gives result read) (ap reading spells.1 ∙ reading-again s spells.0) e
 
 -- the parts that were read are spelled
-pub parts_spelled : (bytes : List ℕ) (result : Result (Statement × Bor (List ℕ)) DecodeFault) → IsBytes bytes → GivesParts result (reading bytes)
+pub parts_spelled : (bytes : List ℕ) (result : Result (Statement × Bor (List ℕ)) DecodeFault) → IsBytes bytes
+    → GivesParts result (reading bytes)
     → IfOk result (λ x. SpellsFrame bytes (record { statement = x.0; signature = x.1.now }))
 parts_spelled bytes (Ok x) fits e = reading-spells bytes (record { statement = x.0; signature = x.1.now }) fits e
 parts_spelled bytes (Err fault) fits e = tt

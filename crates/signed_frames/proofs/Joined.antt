@@ -6,11 +6,12 @@ use Rattle.ledger_model.specs.declared.statement.SignedStatement.{SignedStatemen
 use Rattle.ledger_model.specs.Spelling.{Frames, frame_bytes}
 use Rattle.signed_frames.specs.declared.fault.FrameFault.TheVariants as fault
 use Rattle.signed_frames.specs.Cuts.{FramesHoweverCut}
-use Rattle.signed_frames.specs.Reader.{Reader, Reading, Found, Failed, Leaves}
+use Rattle.signed_frames.specs.Reader.{FrameReaderView, Reading, Found, Failed, Leaves}
 use Rattle.signed_frames.proofs.Fronts.{frames_join}
 
 -- more bytes stand behind the rest
-pub longer : (bytes rest more : List ℕ) (frames : List SignedStatement) → Frames bytes frames rest → Frames (bytes ++ more) frames (rest ++ more)
+pub longer : (bytes rest more : List ℕ) (frames : List SignedStatement) → Frames bytes frames rest
+    → Frames (bytes ++ more) frames (rest ++ more)
 longer bytes rest more frames f = (f.0, ap (λ (x : List ℕ). x ++ more) f.1 ∙ append_assoc (flat_map frame_bytes frames) rest more)
 
 -- there is one in both
@@ -18,12 +19,18 @@ some_of_both : (first second : List SignedStatement) → 1 ≤ length second →
 some_of_both first second some = omega (arith, length-append first second)
 
 -- what is left of the second piece is left of both
-leaves_both : (bytes rest more : List ℕ) (first second : List SignedStatement) (new : Reader) → Frames bytes first rest → Leaves (rest ++ more) second new → Leaves (bytes ++ more) (first ++ second) new
-leaves_both bytes rest more first second (Reading left) f l = (frames_join (bytes ++ more) (rest ++ more) left first second (longer bytes rest more first f) l.0, l.1)
-leaves_both bytes rest more first second (Found fault.TooLong) f l =
-    (some_of_both first second l.0, (l.1.0, (frames_join (bytes ++ more) (rest ++ more) l.1.0 first second (longer bytes rest more first f) l.1.1.0, l.1.1.1)))
-leaves_both bytes rest more first second (Found fault.Malformed) f l =
-    (some_of_both first second l.0, (l.1.0, (frames_join (bytes ++ more) (rest ++ more) l.1.0 first second (longer bytes rest more first f) l.1.1.0, l.1.1.1)))
+leaves_both : (bytes rest more : List ℕ) (first second : List SignedStatement) (new : FrameReaderView) → Frames bytes first rest
+    → Leaves (rest ++ more) second new → Leaves (bytes ++ more) (first ++ second) new
+leaves_both bytes rest more first second (Reading left) f l =
+    (frames_join (bytes ++ more) (rest ++ more) left first second (longer bytes rest more first f) l.0, l.1)
+leaves_both bytes rest more first second (Found fault.TooLong) f l = (
+  some_of_both first second l.0,
+  (l.1.0, (frames_join (bytes ++ more) (rest ++ more) l.1.0 first second (longer bytes rest more first f) l.1.1.0, l.1.1.1)),
+)
+leaves_both bytes rest more first second (Found fault.Malformed) f l = (
+  some_of_both first second l.0,
+  (l.1.0, (frames_join (bytes ++ more) (rest ++ more) l.1.0 first second (longer bytes rest more first f) l.1.1.0, l.1.1.1)),
+)
 leaves_both bytes rest more first second (Found fault.Failed) f l = absurd l
 leaves_both bytes rest more first second (Found fault.NoMemory) f l = absurd l
 leaves_both bytes rest more first second Failed f l = absurd l
@@ -31,7 +38,8 @@ leaves_both bytes rest more first second Failed f l = absurd l
 -- however it is cut
 pub joined : FramesHoweverCut
 joined (Reading kept) (Reading rest) new p q first second h g =
-    subst (λ (bytes : List ℕ). Leaves bytes (first ++ second) new) (append_assoc kept p q) (leaves_both (kept ++ p) rest q first second new h.0 g)
+    subst (λ (bytes : List ℕ). Leaves bytes (first ++ second) new) (append_assoc kept p q)
+    (leaves_both (kept ++ p) rest q first second new h.0 g)
 joined (Reading kept) (Found found) new p q first second h g = absurd g
 joined (Reading kept) Failed new p q first second h g = absurd g
 joined (Found found) mid new p q first second h g = absurd h

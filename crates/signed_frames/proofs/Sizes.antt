@@ -1,4 +1,4 @@
--- How many bytes a statement has at most: every frame is short enough.
+-- The most bytes of a statement: every frame is short enough.
 use Rattle.std.proofs.Common.{◌≡◌, ℕ, ◌+◌, ◌-◌, ◌*◌, ◌≤◌, List, [], ◌∷◌, ◌++◌, length, drop, ap, ◌∙◌, arith}
 use Rattle.std.specs.Prelude.{if◌then◌else◌}
 use Rattle.std.specs.Int.{w16, w32, to_be_bytes}
@@ -13,12 +13,15 @@ use Rattle.ledger_model.specs.declared.statement.SignedStatement.{SignedStatemen
 use Rattle.ledger_model.specs.declared.statement.Statement.{Statement}
 use Rattle.ledger_model.specs.declared.statement.Statement.TheVariants as statement
 use Rattle.ledger_model.specs.Values.{Value, value_bytes, IsTx, IsValue}
-use Rattle.ledger_model.specs.Spelling.{SpellsFrame, IsSignature, IsValueList, IsReport, IsSigned, IsLock, IsAck, IsStatement, list_bytes, report_bytes, signature_bytes, signed_bytes, lock_bytes, ack_bytes, statement_bytes, body_bytes}
+use Rattle.ledger_model.specs.Spelling.{SpellsFrame, IsSignature, IsValueList, IsReport, IsSigned, IsLock, IsAck, IsStatement, list_bytes}
+use Rattle.ledger_model.specs.Spelling.{report_bytes, signature_bytes, signed_bytes, lock_bytes, ack_bytes, statement_bytes, body_bytes}
 use Rattle.signed_frames.specs.Parts.{HoldsStatement}
 use Rattle.signed_frames.proofs.FrameParts.{body_length, written}
+use Rattle.ledger_model.specs.Limits.{max_body_len, max_signature_len}
 
 -- pieces of at most so many bytes, one after the other
-flat_bound : {X : Type 0} (P : X → Type 0) (f : X → List ℕ) (most : ℕ) → ((x : X) → P x → length (f x) ≤ most) → (xs : List X) → AllByRecursion P xs → length (flat_map f xs) ≤ most * length xs
+flat_bound : {X : Type 0} (P : X → Type 0) (f : X → List ℕ) (most : ℕ) → ((x : X) → P x → length (f x) ≤ most) → (xs : List X)
+    → AllByRecursion P xs → length (flat_map f xs) ≤ most * length xs
 flat_bound P f most each [] all = omega arith
 flat_bound P f most each (x ∷ xs) all =
     omega (arith, each x all.0, flat_bound P f most each xs all.1, ap length (flat_map-cons f x xs), length-append (f x) (flat_map f xs))
@@ -47,7 +50,13 @@ report_bound r is =
 
 -- with its signature at most 11892
 signed_bound : (s : SignedReport) → IsSigned s → length (signed_bytes s) ≤ 11892
-signed_bound s is = omega (arith, report_bound s.report is.report, is.signature.short, length-append (report_bytes s.report) (signature_bytes s.signature))
+signed_bound s is = omega (
+  arith,
+  report_bound s.report is.report,
+  is.signature.short,
+  length-append (report_bytes s.report)
+      (signature_bytes s.signature),
+)
 
 -- a lock at most 143756
 lock_bound : (l : Lock) → IsLock l → length (lock_bytes l) ≤ 143756
@@ -77,12 +86,15 @@ statement_bound (statement.Lock l) is = lock_bound l is
 statement_bound (statement.Ack a) is = omega (arith, ack_bound a is)
 
 -- so each body is short enough
-pub body_bound : (s : SignedStatement) → IsStatement s.statement → length s.signature ≤ 2508 → length (body_bytes s) ≤ 150000
+pub body_bound : (s : SignedStatement) → IsStatement s.statement → length s.signature ≤ max_signature_len
+    → length (body_bytes s) ≤ max_body_len
 body_bound s is short = omega (arith, body_length s, statement_bound s.statement is)
 
 -- what is written round the bytes of a statement that stand there is spelled
-pub completed : (statement : Statement) (signature old headed ended bytes : List ℕ) (len : ℕ) → HoldsStatement old statement → IsSignature signature → len ≡ length old - 4 + 2 + length signature
-    → headed ≡ to_be_bytes w32 len ++ drop 4 old → ended ≡ headed ++ to_be_bytes w16 (length signature) → bytes ≡ ended ++ signature → SpellsFrame bytes (record { statement = statement; signature = signature })
+pub completed : (statement : Statement) (signature old headed ended bytes : List ℕ) (len : ℕ) → HoldsStatement old statement
+    → IsSignature signature → len ≡ length old - 4 + 2 + length signature
+    → headed ≡ to_be_bytes w32 len ++ drop 4 old → ended ≡ headed ++ to_be_bytes w16 (length signature) → bytes ≡ ended ++ signature
+    → SpellsFrame bytes (record { statement = statement; signature = signature })
 completed statement signature old headed ended bytes len h signed counts head end text =
     let short = body_bound (record { statement = statement; signature = signature }) h.spelled signed.short in
     written statement signature (drop 4 old) bytes len h.spelled signed short h.behind (omega (arith, counts, h.header, length-drop 4 old))

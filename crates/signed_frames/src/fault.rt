@@ -5,16 +5,16 @@ ghost use Rattle.signed_frames.specs.declared.fault.FrameFault.TheVariants.{NoMe
 use std::alloc::{AllocError, AllocFailed};
 use thiserror::Error;
 
-/// Why a stream gives no more frames.
+/// Why a stream of frames can't be read further.
 #[derive(Clone, Copy, Debug, PartialEq, Eq, Error)]
 pub enum FrameFault {
-    /// A length above 150,000 stands where a frame should begin.
+    /// A frame's length is above 150,000.
     #[error("the announced frame is too long")]
     TooLong,
-    /// A body that is there in whole is not spelled.
+    /// A body arrived in full, and encodes nothing.
     #[error("the frame is malformed")]
     Malformed,
-    /// A fault was answered before.
+    /// The reader returned a fault before.
     #[error("the stream failed before")]
     Failed,
     #[error("out of memory")]

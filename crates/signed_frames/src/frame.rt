@@ -1,4 +1,4 @@
-//! A frame: the bytes of a signed statement, and what it lends of them.
+//! A frame: the bytes of a signed statement, and borrowed parts of them.
 use crate::LentReports;
 use crate::lending::reports_in;
 use crate::parsing::{message_in, parts_of};
@@ -8,16 +8,16 @@ use statements::DecodeFault;
 use std::alloc::{AllocError, Global};
 use std::marker::Model;
 
-/// Bytes that are exactly one frame, and what they spell. Contracts see the signed statement.
+/// Bytes that are exactly one frame, and the statement that they encode. Contracts see the signed statement.
 #[derive(Debug)]
 pub struct Frame {
     bytes: Bytes,
     statement: Statement,
-    /// How many of the last bytes are the signature.
+    /// The number of the last bytes that are the signature.
     signature_len: usize,
 }
 
-// It is dropped by a function of its own, so that whoever owns one drops it by a single call.
+// An own `Drop` keeps proofs short: an owner drops it by one call. See docs/WORKING.md.
 impl Drop for Frame {
     fn drop(self) {
         let Frame {
@@ -48,13 +48,13 @@ impl Frame {
     ghost use Rattle.signed_frames.specs.Lending.{lent_of, proof_of};
     ghost use Rattle.signed_frames.specs.Parts.{signed_by_last, HoldsFrame};
 
-    /// The frame that the bytes are, all of them. Malformed where they are none, NoMemory where memory ran out.
+    /// The frame that all of the bytes are. `Malformed` comes if they are no frame, `NoMemory` if memory ran out.
     pub fn parse(alloc: Global, bytes: Bytes) -> Result<Self, DecodeFault>
-        // What is parsed is spelled so.
+        // The bytes encode the frame that is returned.
         ensures found { IfOk result (λ frame. SpellsFrame bytes frame) }
-        // What is spelled is parsed, unless memory runs out.
+        // If the bytes encode a frame, it is returned, unless memory runs out.
         ensures only { (frame : SignedStatement) → SpellsFrame bytes frame → Gives result (Some frame) }
-        // What is answered is the reading, and Malformed comes exactly where there is none.
+        // The result is the reading of the definitions, and Malformed comes exactly if there is none.
         ensures exact { Gives result (reading bytes) }
     {
         let (statement, signature) = parts_of(alloc, bytes.as_slice())?;
@@ -66,7 +66,7 @@ impl Frame {
         })
     }
 
-    /// The frame of these bytes, which hold it.
+    /// The frame with these bytes, which encode it.
     pub(crate) fn holding(bytes: Bytes, statement: Statement, signature_len: usize) -> Self
         requires { HoldsFrame bytes statement signature_len }
         ensures { result ≡ signed_by_last bytes statement signature_len }
@@ -78,7 +78,7 @@ impl Frame {
         }
     }
 
-    /// What the frame says.
+    /// The statement in the frame.
     pub fn statement(&self) -> &Statement
         ensures statement { result.now ≡ self.now.statement }
         ensures frame { IsFrame self.now }
@@ -86,14 +86,14 @@ impl Frame {
         &self.statement
     }
 
-    /// The whole frame.
+    /// The bytes of the whole frame.
     pub fn as_bytes(&self) -> &[u8]
         ensures { result.now ≡ frame_bytes self.now }
     {
         self.bytes.as_slice()
     }
 
-    /// The bytes of the statement, which the signature is over.
+    /// The bytes of the statement, over which the signature is made.
     pub fn statement_bytes(&self) -> &[u8]
         ensures { result.now ≡ statement_bytes self.now.statement }
     {
@@ -108,22 +108,22 @@ impl Frame {
         &self.bytes.as_slice()[start..]
     }
 
-    /// The signed reports of the lock's proof, in order; none where the frame is no lock's. Nothing is copied, and one
-    /// after the other they are found in one pass over the frame.
+    /// The signed reports of the lock's proof, in order; none if the statement is no lock. Nothing is copied: the
+    /// iterator finds the reports in one pass over the frame.
     pub fn lent_reports(&self) -> LentReports<'_>
         ensures { result ≡ map lent_of (proof_of self.now.statement) }
     {
         reports_in(self.statement_bytes(), &self.statement)
     }
 
-    /// The whole frame once more, which copies no byte.
+    /// The bytes of the whole frame, which are shared and not copied.
     pub fn share(&self) -> Result<Bytes, AllocError>
         ensures { IfOk result (λ bytes. bytes ≡ frame_bytes self.now) }
     {
         self.bytes.clone()
     }
 
-    /// The whole frame.
+    /// The bytes of the whole frame.
     pub fn into_bytes(self) -> Bytes
         ensures { SpellsFrame result self }
     {
@@ -135,7 +135,7 @@ impl Frame {
         bytes
     }
 
-    /// What the frame says.
+    /// The statement in the frame.
     pub fn into_statement(self) -> Statement
         ensures { result ≡ self.statement }
     {

@@ -1,4 +1,4 @@
-//! The signed reports that stand in a lock's frame.
+//! The signed reports in a lock's frame, borrowed from its bytes.
 
 ghost use Rattle.std.specs.Prelude.{◌≡◌, ◌++◌, ℕ, List, map};
 ghost use Rattle.ledger_model.specs.Spelling.{IsSigned, signed_bytes, IsLock, lock_bytes, Spells};
@@ -9,8 +9,8 @@ use ledger_model::{Lock, ReplicaId, SignedReport, Statement};
 use statements::{report_len, reports_len};
 use std::marker::Model;
 
-/// A signed report of a lock's proof, as it stands in the lock's frame: nothing is copied. Contracts see its signer and
-/// the two byte strings.
+/// A signed report of a lock's proof, borrowed from the lock's frame without a copy. Contracts see its signer and the
+/// two byte strings.
 #[derive(Debug, Drop)]
 pub struct LentReport<'a> {
     signer: ReplicaId,
@@ -19,22 +19,22 @@ pub struct LentReport<'a> {
 }
 
 impl<'a> Model for LentReport<'a> {
-    ghost use Rattle.signed_frames.specs.Lending.{Lent};
+    ghost use Rattle.signed_frames.specs.Lending.{LentReportView};
 
-    ghost Value = { Lent };
+    ghost Value = { LentReportView };
 
     ghost view = { λ r. record { signer = r.signer; bytes = r.bytes.now; signature = r.signature.now } };
 }
 
 impl<'a> LentReport<'a> {
-    /// Who made the report.
+    /// The replica that made the report.
     pub fn signer(&self) -> ReplicaId
         ensures { result ≡ self.now.signer }
     {
         self.signer
     }
 
-    /// The bytes of the report's statement, which its signature is over.
+    /// The bytes of the report, over which its signature is made.
     pub fn bytes(&self) -> &'a [u8]
         ensures { result.now ≡ self.now.bytes }
     {
@@ -49,20 +49,20 @@ impl<'a> LentReport<'a> {
     }
 }
 
-/// The signed reports of a lock's proof, in order, as they stand in the lock's frame. Contracts see the list of those
-/// that are still to come.
+/// The signed reports of a lock's proof, in order, borrowed from the lock's frame. Contracts see the list of the
+/// reports that are still to come.
 #[derive(Debug, Drop)]
 pub struct LentReports<'a> {
     reports: &'a [SignedReport],
-    /// What spells them.
+    /// The bytes that encode them.
     bytes: &'a [u8],
 }
 
 impl<'a> Model for LentReports<'a> {
     ghost use Rattle.std.specs.Prelude.{List, map};
-    ghost use Rattle.signed_frames.specs.Lending.{Lent, lent_of, AreSpelled};
+    ghost use Rattle.signed_frames.specs.Lending.{LentReportView, lent_of, AreSpelled};
 
-    ghost Value = { List Lent };
+    ghost Value = { List LentReportView };
 
     ghost view = { λ r. map lent_of r.reports.now };
 
@@ -87,7 +87,7 @@ impl<'a> Iterator for LentReports<'a> {
     }
 }
 
-/// The signed report that the bytes begin with, and what stands behind it.
+/// The signed report at the start of the bytes, and the bytes after it.
 #[tactic(auto, unfolding(ledger_model::specs::Spelling::statement_bytes))]
 fn split_report<'a>(bytes: &'a [u8], signed: &SignedReport) -> (LentReport<'a>, &'a [u8])
     requires spelled { IsSigned signed.now }
@@ -106,7 +106,7 @@ fn split_report<'a>(bytes: &'a [u8], signed: &SignedReport) -> (LentReport<'a>, 
     (lent, behind)
 }
 
-/// The signed reports of the lock that the bytes spell.
+/// The signed reports of the lock that the bytes encode.
 fn reports_in_lock<'a>(bytes: &'a [u8], lock: &'a Lock) -> LentReports<'a>
     requires spelled { IsLock lock.now }
     requires bytes { bytes.now ≡ lock_bytes lock.now }
@@ -117,7 +117,7 @@ fn reports_in_lock<'a>(bytes: &'a [u8], lock: &'a Lock) -> LentReports<'a>
     LentReports { reports, bytes }
 }
 
-/// The signed reports of the statement that the bytes spell; none where it is no lock.
+/// The signed reports of the statement that the bytes encode; none if it is no lock.
 #[tactic(auto, unfolding(ledger_model::specs::Spelling::statement_bytes))]
 pub fn reports_in<'a>(bytes: &'a [u8], statement: &'a Statement) -> LentReports<'a>
     requires { Spells bytes.now statement.now }

@@ -1,4 +1,4 @@
-//! Frames: a statement and its signature as bytes, one by one and in a stream.
+//! Frames: a statement and its signature as bytes, one at a time and in a stream.
 #![tactic(auto)]
 
 mod fault;
@@ -19,5 +19,5 @@ pub use unsigned::UnsignedFrame;
 /// The most bytes of a frame's body.
 pub const MAX_BODY_LEN: usize = 150_000;
 
-/// The bytes of a body's length, which stands in front of it.
+/// The number of bytes of a body's length, which precedes the body.
 const HEADER_LEN: usize = 4;

@@ -1,4 +1,4 @@
-//! The body of a frame.
+//! Parses the body of a frame.
 
 ghost use Rattle.std.specs.Prelude.{◌≡◌, ◌+◌, ◌-◌, ◌≤◌, length, take, drop, IfOk, MatchResult};
 ghost use Rattle.ledger_model.specs.declared.statement.SignedStatement.{SignedStatement};
@@ -13,10 +13,10 @@ use octets::Cursor;
 use statements::{DecodeFault, take_signature_bytes, take_statement};
 use std::alloc::Global;
 
-/// The bytes of a signature's length.
+/// The number of bytes of a signature's length.
 pub const LENGTH_LEN: usize = 2;
 
-/// What stands between the length of a frame and that of its signature.
+/// The bytes between the length of a frame and that of its signature.
 pub fn message_in(frame: &[u8], signature_len: usize) -> &[u8]
     requires { 6 + signature_len ≤ length frame.now }
     ensures { result.now ≡ take (length (drop 4 frame.now) - 2 - signature_len) (drop 4 frame.now) }
@@ -26,7 +26,7 @@ pub fn message_in(frame: &[u8], signature_len: usize) -> &[u8]
     message
 }
 
-/// The body of the frame that the bytes are: what stands behind its length, and is as long.
+/// The body of the frame that the bytes are: the bytes after its length, if they are exactly that many.
 #[tactic(auto, unfolding(ledger_model::specs::Reading::reading))]
 fn body_at(bytes: &[u8]) -> Result<&[u8], DecodeFault>
     ensures { MatchResult result (λ body. reading bytes.now ≡ body_reading body.now)
@@ -53,7 +53,7 @@ fn parts_at(alloc: Global, bytes: &[u8]) -> Result<(Statement, &[u8]), DecodeFau
     Ok((statement, signature))
 }
 
-/// The statement and the signature of the frame that the bytes are, all of them.
+/// The statement and the signature of the frame that all of the bytes are.
 pub fn parts_of(alloc: Global, bytes: &[u8]) -> Result<(Statement, &[u8]), DecodeFault>
     ensures exact { GivesParts result (reading bytes.now) }
     ensures spelled { IfOk result

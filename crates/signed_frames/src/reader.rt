@@ -1,33 +1,33 @@
-//! A reader of frames from a stream that comes in pieces.
+//! A reader of frames from a stream that arrives in pieces.
 use crate::splitting::{End, read_on};
 use crate::{Frame, FrameFault};
 use bytes::BytesMut;
 use std::alloc::Global;
 use std::marker::Model;
 
-/// How far a reader is.
+/// The state of a reader.
 #[derive(Clone, Copy, Debug, PartialEq, Eq)]
 enum Stage {
     /// No fault was found.
     Reading,
-    /// A fault was found behind frames that were handed out, and is answered next.
+    /// A fault was found after frames that were returned; the next call returns it.
     Found(FrameFault),
-    /// A fault was answered.
+    /// A fault was returned.
     Failed,
 }
 
 /// Takes a stream of frames in pieces.
 #[derive(Debug, Drop)]
 pub struct FrameReader {
-    /// The beginning of a frame, of which more is to come.
+    /// The first bytes of the next frame; none between two frames.
     kept: BytesMut,
     stage: Stage,
 }
 
 impl Model for FrameReader {
-    ghost use Rattle.signed_frames.specs.Reader.{Reader, reader_at};
+    ghost use Rattle.signed_frames.specs.Reader.{FrameReaderView, reader_at};
 
-    ghost Value = { Reader };
+    ghost Value = { FrameReaderView };
 
     ghost view = { λ r. reader_at r.stage r.kept.items };
 }
@@ -38,7 +38,7 @@ impl FrameReader {
     ghost use Rattle.ledger_model.specs.Streams.{BeginsTooLong, BeginsMalformed, SplitsTo, BreaksOff};
     ghost use Rattle.signed_frames.specs.Reader.{Reading, Found, HandsOut, Tells, FaultAt};
 
-    /// A reader at the beginning of a stream.
+    /// A reader at the start of a stream.
     pub fn new(alloc: Global) -> Self
         ensures { result ≡ Reading [] }
     {
@@ -48,7 +48,7 @@ impl FrameReader {
         }
     }
 
-    /// Whether the stream may end here: no frame is half read, and no fault was found.
+    /// Whether the stream may end here: no frame is incomplete, and no fault was found.
     pub fn is_between(&self) -> bool
         ensures { IsTrue result ↔ (self.now ≡ Reading []) }
     {
@@ -73,7 +73,7 @@ impl FrameReader {
             End::TooLong => FrameFault::TooLong,
             End::Malformed => FrameFault::Malformed,
         };
-        // Of what is behind a fault nothing is read any more.
+        // Nothing after a fault is read.
         self.kept = BytesMut::new(*self.kept.allocator());
         if frames.is_empty() {
             self.stage = Stage::Failed;
@@ -83,25 +83,25 @@ impl FrameReader {
         Ok(frames)
     }
 
-    /// Takes the next piece of the stream, and hands out the frames that are whole now, in order.
+    /// Takes the next piece of the stream, and returns the frames that are complete now, in order.
     ///
-    /// A fault that stands behind frames is answered by the next call, whatever its piece, and Failed from then on.
-    /// NoMemory changes nothing.
+    /// If a fault follows frames, the next call returns it, whatever its piece, and every later call returns `Failed`.
+    /// `NoMemory` changes nothing.
     pub fn feed(&mut self, piece: &[u8]) -> Result<Vec<Frame>, FrameFault>
-        // What is handed out, and what the reader is then.
+        // The frames that are returned, and the reader afterwards.
         ensures frames { IfOk result (λ frames. HandsOut self.old piece.now frames.items self.new) }
-        // Which fault is answered, and what the reader is then.
+        // The fault that is returned, and the reader afterwards.
         ensures fault { IfErr result (λ fault. Tells self.old piece.now fault self.new) }
-        // Where there are only frames and less than one more, these are handed out, unless memory runs out.
+        // If the bytes are frames followed by less than a whole frame, those frames are returned, unless memory runs out.
         ensures whole { (kept rest : List ℕ) (frames : List SignedStatement) → self.old ≡ Reading kept
             → SplitsTo (kept ++ piece.now) frames rest
             → MatchResult result (λ out. (out.items ≡ frames) × (self.new ≡ Reading rest)) (λ fault. fault ≡ FrameFault.NoMemory) }
-        // Where a length that is too long stands behind frames, these are handed out, and if there are none, the fault is answered.
+        // If a length that is too long follows frames, those frames are returned; if there are none, the fault is.
         ensures too_long { (kept : List ℕ) (frames : List SignedStatement) → self.old ≡ Reading kept
             → BreaksOff BeginsTooLong (kept ++ piece.now) frames
             → MatchResult result (λ out. (out.items ≡ frames) × (self.new ≡ Found FrameFault.TooLong))
             (λ fault. FaultAt frames FrameFault.TooLong fault) }
-        // The same of a body that is not spelled.
+        // The same for a body that encodes nothing.
         ensures malformed { (kept : List ℕ) (frames : List SignedStatement) → self.old ≡ Reading kept
             → BreaksOff BeginsMalformed (kept ++ piece.now) frames
             → MatchResult result (λ out. (out.items ≡ frames) × (self.new ≡ Found FrameFault.Malformed))

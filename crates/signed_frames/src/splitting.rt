@@ -1,4 +1,4 @@
-//! The frames in front of some bytes.
+//! Splits the frames at the start of some bytes off.
 
 ghost use Rattle.std.specs.Prelude.{◌++◌, IfOk, OnErr, ◌≡◌};
 ghost use Rattle.signed_frames.specs.Reader.{Begins, Splits, ReadsOn};
@@ -9,25 +9,25 @@ use octets::Cursor;
 use statements::DecodeFault;
 use std::alloc::{AllocError, Global};
 
-/// What stands behind the frames.
+/// What follows the frames.
 #[derive(Clone, Copy, Debug, PartialEq, Eq)]
 pub enum End {
     /// Less than a whole frame.
     Partial,
     /// A length that no frame has.
     TooLong,
-    /// A body that is there in whole and is not spelled.
+    /// A body that is complete and encodes nothing.
     Malformed,
 }
 
-/// What bytes begin with.
+/// What the bytes start with.
 #[derive(Drop)]
 pub enum Front {
     Whole(Frame),
     Ends(End),
 }
 
-/// Frames, how many bytes they are, and what stands behind them.
+/// Frames, the number of their bytes, and what follows them.
 #[derive(Drop)]
 pub struct Split {
     pub frames: Vec<Frame>,
@@ -35,7 +35,7 @@ pub struct Split {
     pub end: End,
 }
 
-/// What the bytes begin with.
+/// What the bytes start with.
 fn front_of(alloc: Global, bytes: &[u8]) -> Result<Front, AllocError>
     ensures { IfOk result (λ front. Begins bytes.now front) }
 {
@@ -57,7 +57,7 @@ fn front_of(alloc: Global, bytes: &[u8]) -> Result<Front, AllocError>
     }
 }
 
-/// The frames that the bytes begin with.
+/// The frames that the bytes start with.
 fn frames_of(alloc: Global, bytes: &[u8]) -> Result<Split, AllocError>
     ensures { IfOk result (λ split. Splits bytes.now split) }
 {
@@ -75,7 +75,7 @@ fn frames_of(alloc: Global, bytes: &[u8]) -> Result<Split, AllocError>
     }
 }
 
-/// Takes a piece behind what was kept, and splits off the frames that are whole now. An error changes nothing.
+/// Appends a piece to the bytes that were kept, and splits off the frames that are complete now. An error changes nothing.
 pub fn read_on(kept: &mut BytesMut, piece: &[u8]) -> Result<(Vec<Frame>, End), AllocError>
     ensures ok { IfOk result (λ x. ReadsOn (kept.old.items ++ piece.now) x.0.items x.1 kept.new.items) }
     ensures err { OnErr result (kept.new.items ≡ kept.old.items) }

@@ -15,16 +15,15 @@ use statements::{encoded_len, put_statement};
 use std::alloc::{AllocError, Global};
 use std::marker::Model;
 
-/// A statement and its bytes, which are to be signed, with room for the frame that is made of them. Contracts see the
-/// statement.
+/// A statement and the bytes to be signed, with room for the whole frame. Contracts see the statement.
 #[derive(Debug)]
 pub struct UnsignedFrame {
     statement: Statement,
-    /// The place of the length, and the statement's bytes.
+    /// Room for the length, followed by the statement's bytes.
     bytes: Vec<u8>,
 }
 
-// It is dropped by a function of its own, so that whoever owns one drops it by a single call.
+// An own `Drop` keeps proofs short: an owner drops it by one call. See docs/WORKING.md.
 impl Drop for UnsignedFrame {
     fn drop(self) {
         let UnsignedFrame {
@@ -45,7 +44,8 @@ impl Model for UnsignedFrame {
 impl UnsignedFrame {
     ghost use Rattle.ledger_model.specs.Spelling.{statement_bytes};
 
-    /// The statement, spelled once, with room for a length and for a signature of at most [`Signature::MAX_LEN`] bytes.
+    /// The encoded statement, with room for a length and for a signature of at most [`Signature::MAX_LEN`] bytes. The
+    /// only error is allocation failure.
     pub fn new(alloc: Global, statement: Statement) -> Result<Self, AllocError>
         requires { IsStatement statement }
         ensures { IfOk result (λ unsigned. unsigned ≡ statement) }
@@ -54,15 +54,15 @@ impl UnsignedFrame {
         Ok(UnsignedFrame { statement, bytes })
     }
 
-    /// The bytes of the statement, which are to be signed.
+    /// The bytes of the statement, over which the signature is to be made.
     pub fn statement_bytes(&self) -> &[u8]
         ensures { result.now ≡ statement_bytes self.now }
     {
         &self.bytes[HEADER_LEN..]
     }
 
-    /// The frame of the statement and its signature, which has at most [`Signature::MAX_LEN`] bytes. No such frame is too
-    /// long. The bytes are not spelled again, and the room for them is there.
+    /// The frame of the statement and this signature, which has at most [`Signature::MAX_LEN`] bytes. Such a frame is
+    /// never too long. The statement is not encoded again, and the room for all bytes is already there.
     pub fn with_signature(self, signature: &[u8]) -> Result<Frame, AllocError>
         requires { length signature.now ≤ max_signature_len }
         ensures { IfOk result (λ frame. frame ≡ record { statement = self; signature = signature.now }) }
@@ -73,7 +73,7 @@ impl UnsignedFrame {
     }
 }
 
-/// The place of a length, and the bytes of a statement, in a buffer that has room for the frame.
+/// Room for a length, followed by the bytes of a statement, in a buffer that has room for the frame.
 fn spelled(alloc: Global, statement: &Statement) -> Result<Vec<u8>, AllocError>
     requires { IsStatement statement.now }
     ensures { IfOk result (λ bytes. HoldsStatement bytes.items statement.now) }
@@ -85,7 +85,7 @@ fn spelled(alloc: Global, statement: &Statement) -> Result<Vec<u8>, AllocError>
     Ok(bytes)
 }
 
-/// The bytes of a frame: those of its statement with the length of the body before them, and the signature behind them.
+/// The bytes of a frame: the length of the body, the statement, and the signature.
 fn signed(mut bytes: Vec<u8>, signature: &[u8]) -> Result<Bytes, AllocError>
     requires short { length signature.now ≤ max_signature_len }
     requires stands { (statement : Statement) × HoldsStatement bytes.items statement }
@@ -99,7 +99,7 @@ fn signed(mut bytes: Vec<u8>, signature: &[u8]) -> Result<Bytes, AllocError>
     Ok(Bytes::from_vec(bytes)?)
 }
 
-/// Writes the length of a body into the first bytes.
+/// Writes the length of a body into the bytes that precede it.
 fn put_length(bytes: &mut Vec<u8>, len: u32)
     requires { 4 ≤ length bytes.old.items }
     ensures { bytes.new.items ≡ to_be_bytes w32 len ++ drop 4 bytes.old.items }

@@ -1,5 +1,6 @@
--- The first report that serves: among one frame, and among frames and those behind them.
-use Rattle.std.proofs.Common.{◌≡◌, ℕ, ◌+◌, ◌<◌, arith, inl, inr, true, false, cond, List, [], ◌∷◌, ◌++◌, length, take, drop, map, refl, sym, ap, ◌∙◌}
+-- The first serving report: in one frame, and in a list of frames and those after it.
+use Rattle.std.proofs.Common.{◌≡◌, ℕ, ◌+◌, ◌<◌, arith, inl, inr, true, false, cond, List, [], ◌∷◌, ◌++◌, length, take, drop, map, refl, sym}
+use Rattle.std.proofs.Common.{ap, ◌∙◌}
 use Rattle.std.specs.Prelude.{Option, Some, None, filter, slice_get, option_and_then}
 use Rattle.std.specs.Option.{is_some}
 use Rattle.std.specs.List.{filter_map, cons_option}
@@ -15,6 +16,7 @@ use Rattle.ledger_model.specs.Reading.{reading}
 use Rattle.ledger_model.specs.Worlds.{frames_in, frames_sent}
 use Rattle.scenario_texts.specs.declared.command.Lie.{Lie}
 use Rattle.simulation.specs.Lies.{report_of, report_in, serves, if_serves, first_serving, frames_of}
+use Rattle.ledger_model.proofs.Lists.{none_if_not_some}
 
 -- ---- one frame
 
@@ -27,7 +29,8 @@ unfolding first_serving
 of_one l r bytes = kept l r (report_in bytes)
 
 -- of the one frame that bytes are
-pub of_frame : (l : Lie) (r : ℕ) (bytes : List ℕ) (frame : SignedStatement) → reading bytes ≡ Some frame → if_serves l r (report_of frame) ≡ first_serving l r (bytes ∷ [])
+pub of_frame : (l : Lie) (r : ℕ) (bytes : List ℕ) (frame : SignedStatement) → reading bytes ≡ Some frame
+    → if_serves l r (report_of frame) ≡ first_serving l r (bytes ∷ [])
 of_frame l r bytes frame reads = ap (λ o. if_serves l r (option_and_then report_of o)) (sym reads) ∙ sym (of_one l r bytes)
 
 -- of bytes that are no frame there is none
@@ -39,8 +42,11 @@ of_no_frame l r bytes reads = ap (λ o. if_serves l r (option_and_then report_of
 abbrev serving_of : Lie → ℕ → List (List ℕ) → List SignedReport
 serving_of l r frames = filter (serves l r) (filter_map report_in frames)
 
-serving_append : (l : Lie) (r : ℕ) (front back : List (List ℕ)) → serving_of l r (front ++ back) ≡ serving_of l r front ++ serving_of l r back
-serving_append l r front back = ap (filter (serves l r)) (filter_map-append report_in front back) ∙ filter-append (serves l r) (filter_map report_in front) (filter_map report_in back)
+serving_append : (l : Lie) (r : ℕ) (front back : List (List ℕ))
+    → serving_of l r (front ++ back) ≡ serving_of l r front ++ serving_of l r back
+serving_append l r front back =
+    ap (filter (serves l r)) (filter_map-append report_in front back)
+    ∙ filter-append (serves l r) (filter_map report_in front) (filter_map report_in back)
 
 first_behind : {X : Type 0} (xs ys : List X) → slice_get xs 0 ≡ None → slice_get (xs ++ ys) 0 ≡ slice_get ys 0
 first_behind [] ys none = refl
@@ -54,30 +60,34 @@ first_before : {X : Type 0} (xs ys : List X) (o : Option X) → o ≡ slice_get 
 first_before [] ys o is some = absurd (none_is_some o is some)
 first_before (x ∷ xs) ys o is some = is
 
-none_found : {X : Type 0} (o : Option X) → is_some o ≡ false → o ≡ None
-none_found None none = refl
-none_found (Some x) none = absurd cc
-
 -- where none served before, the first is that of what comes next
-behind : (l : Lie) (r : ℕ) (front here : List (List ℕ)) → first_serving l r front ≡ None → first_serving l r (front ++ here) ≡ first_serving l r here
+behind : (l : Lie) (r : ℕ) (front here : List (List ℕ)) → first_serving l r front ≡ None
+    → first_serving l r (front ++ here) ≡ first_serving l r here
 unfolding first_serving
-behind l r front here none = ap (λ reports. slice_get reports 0) (serving_append l r front here) ∙ first_behind (serving_of l r front) (serving_of l r here) none
+behind l r front here none = ap (λ reports. slice_get reports 0) (serving_append l r front here)
+    ∙ first_behind (serving_of l r front) (serving_of l r here) none
 
 -- where one served before, it is that one
-before : (l : Lie) (r : ℕ) (front back : List (List ℕ)) (found : Option SignedReport) → found ≡ first_serving l r front → is_some found ≡ true → found ≡ first_serving l r (front ++ back)
+before : (l : Lie) (r : ℕ) (front back : List (List ℕ)) (found : Option SignedReport) → found ≡ first_serving l r front
+    → is_some found ≡ true → found ≡ first_serving l r (front ++ back)
 unfolding first_serving
 before l r front back found is some =
-    first_before (serving_of l r front) (serving_of l r back) found is some ∙ ap (λ reports. slice_get reports 0) (sym (serving_append l r front back))
+    first_before (serving_of l r front) (serving_of l r back) found is some
+    ∙ ap (λ reports. slice_get reports 0) (sym (serving_append l r front back))
 
 -- none served before, and what is found here is the first of all
-pub found_here : (l : Lie) (r : ℕ) (front here back frames : List (List ℕ)) (found : Option SignedReport) → frames ≡ (front ++ here) ++ back → first_serving l r front ≡ None
+pub found_here : (l : Lie) (r : ℕ) (front here back frames : List (List ℕ)) (found : Option SignedReport)
+    → frames ≡ (front ++ here) ++ back → first_serving l r front ≡ None
     → found ≡ first_serving l r here → is_some found ≡ true → found ≡ first_serving l r frames
-found_here l r front here back frames found whole none is some = before l r (front ++ here) back found (is ∙ sym (behind l r front here none)) some ∙ ap (first_serving l r) (sym whole)
+found_here l r front here back frames found whole none is some =
+    before l r (front ++ here) back found (is ∙ sym (behind l r front here none)) some ∙ ap (first_serving l r) (sym whole)
 
 -- none served before, and none here
-pub none_here : (l : Lie) (r : ℕ) (front here frames : List (List ℕ)) (found : Option SignedReport) → frames ≡ front ++ here → first_serving l r front ≡ None
+pub none_here : (l : Lie) (r : ℕ) (front here frames : List (List ℕ)) (found : Option SignedReport) → frames ≡ front ++ here
+    → first_serving l r front ≡ None
     → found ≡ first_serving l r here → is_some found ≡ false → first_serving l r frames ≡ None
-none_here l r front here frames found whole none is nothing = ap (first_serving l r) whole ∙ behind l r front here none ∙ sym is ∙ none_found found nothing
+none_here l r front here frames found whole none is nothing =
+    ap (first_serving l r) whole ∙ behind l r front here none ∙ sym is ∙ none_if_not_some found nothing
 
 -- ---- one place after the other
 
@@ -105,27 +115,33 @@ whole_list xs front i upto = sym (take-append-drop (i + 1) xs) ∙ ap (λ ys. ys
 abbrev pub frames_among : List Sent → List (List ℕ)
 frames_among sent = map (λ f. f.frame) sent
 
-pub next_frame : (sent : List Sent) (i : ℕ) (s : Sent) → slice_get sent i ≡ Some s → frames_among (take (i + 1) sent) ≡ frames_among (take i sent) ++ s.frame ∷ []
+pub next_frame : (sent : List Sent) (i : ℕ) (s : Sent) → slice_get sent i ≡ Some s
+    → frames_among (take (i + 1) sent) ≡ frames_among (take i sent) ++ s.frame ∷ []
 next_frame sent i s is = ap frames_among (next_item sent i s is) ∙ map-append (λ (f : Sent). f.frame) (take i sent) (s ∷ [])
 
-pub whole_frames : (sent : List Sent) (i : ℕ) (s : Sent) → slice_get sent i ≡ Some s → frames_among sent ≡ (frames_among (take i sent) ++ s.frame ∷ []) ++ frames_among (drop (i + 1) sent)
+pub whole_frames : (sent : List Sent) (i : ℕ) (s : Sent) → slice_get sent i ≡ Some s
+    → frames_among sent ≡ (frames_among (take i sent) ++ s.frame ∷ []) ++ frames_among (drop (i + 1) sent)
 whole_frames sent i s is =
     ap frames_among (sym (take-append-drop (i + 1) sent)) ∙ map-append (λ (f : Sent). f.frame) (take (i + 1) sent) (drop (i + 1) sent)
     ∙ ap (λ fs. fs ++ frames_among (drop (i + 1) sent)) (next_frame sent i s is)
 
 -- the frames of the entries up to and with this one
-pub next_sent : (entries : List Entry) (i : ℕ) → i < length entries → frames_sent (take (i + 1) entries) ≡ frames_sent (take i entries) ++ frames_of (slice_get entries i)
+pub next_sent : (entries : List Entry) (i : ℕ) → i < length entries
+    → frames_sent (take (i + 1) entries) ≡ frames_sent (take i entries) ++ frames_of (slice_get entries i)
 unfolding frames_sent
 next_sent entries i below = elim ((slice_get_cases entries i).1) [
   | inl (e, lt, is, at) ↦
       ap frames_sent (next_item entries i e is) ∙ flat_map-append (λ (x : Entry). frames_in x.reply) (take i entries) (e ∷ [])
-      ∙ ap (λ fs. frames_sent (take i entries) ++ fs) (append-nil (frames_in e.reply)) ∙ ap (λ o. frames_sent (take i entries) ++ frames_of o) (sym is)
+      ∙ ap (λ fs. frames_sent (take i entries) ++ fs) (append-nil (frames_in e.reply))
+      ∙ ap (λ o. frames_sent (take i entries) ++ frames_of o) (sym is)
   | inr (past, nothing) ↦ absurd (omega arith)
 ]
 
 -- all frames are those of the entries up to here, and then the others
-pub whole_sent : (entries : List Entry) (i : ℕ) → i < length entries → frames_sent entries ≡ (frames_sent (take i entries) ++ frames_of (slice_get entries i)) ++ frames_sent (drop (i + 1) entries)
+pub whole_sent : (entries : List Entry) (i : ℕ) → i < length entries
+    → frames_sent entries ≡ (frames_sent (take i entries) ++ frames_of (slice_get entries i)) ++ frames_sent (drop (i + 1) entries)
 unfolding frames_sent
 whole_sent entries i below =
-    ap frames_sent (sym (take-append-drop (i + 1) entries)) ∙ flat_map-append (λ (x : Entry). frames_in x.reply) (take (i + 1) entries) (drop (i + 1) entries)
+    ap frames_sent (sym (take-append-drop (i + 1) entries))
+    ∙ flat_map-append (λ (x : Entry). frames_in x.reply) (take (i + 1) entries) (drop (i + 1) entries)
     ∙ ap (λ fs. fs ++ frames_sent (drop (i + 1) entries)) (next_sent entries i below)

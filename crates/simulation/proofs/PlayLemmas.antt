@@ -1,5 +1,6 @@
--- What is printed of a step, a round, a lie.
-use Rattle.std.proofs.Common.{◌≡◌, inl, inr, ℕ, ◌+◌, ◌-◌, ◌<◌, Bool, true, false, List, [], ◌∷◌, ◌++◌, length, take, refl, sym, ap, subst, ◌∙◌, append_assoc, append-nil, arith}
+-- The text for a step, a round and a lie.
+use Rattle.std.proofs.Common.{◌≡◌, inl, inr, ℕ, ◌+◌, ◌-◌, ◌<◌, Bool, true, false, List, [], ◌∷◌, ◌++◌, length, take, refl, sym, ap, subst}
+use Rattle.std.proofs.Common.{◌∙◌, append_assoc, append-nil, arith}
 use Rattle.std.specs.Prelude.{None, Result, Ok, Err, OnOk, nat_lt, get_or, slice_get, codes, MatchBool, if◌then◌else◌}
 use Rattle.std.proofs.lemmas.Bool.{ltb-true, lt-ltb}
 use Rattle.std.proofs.lemmas.List.{map-append}
@@ -16,14 +17,17 @@ use Rattle.ledger_model.specs.Groups.{is_correct}
 use Rattle.ledger_model.specs.Spelling.{frame_bytes}
 use Rattle.ledger_model.specs.Worlds.{World, entries_in, frames_sent}
 use Rattle.key_ring.specs.declared.fault.SignFault.TheVariants as sign
-use Rattle.adversary_net.specs.Clusters.{RunningCluster, liar_at, world_of}
+use Rattle.adversary_net.specs.WorldViews.{WorldView, liar_at, world_of}
+use Rattle.adversary_net.specs.Leaves.{IsAnswered}
 use Rattle.scenario_texts.specs.declared.command.Lie.{Lie}
 use Rattle.simulation.specs.Lies.{lying_lock}
 use Rattle.reply_lines.specs.Lines.{ended, entry_text, undecided, step_text}
-use Rattle.simulation.specs.Playing.{Simulated, Answers, Ends, IsAnswered, Lies, LiesLock, PlaysRound, Signed, StepsEach, answer_text, correct_in, injections_to, is_taken, lie_receivers, pass_text, passes_of, target}
-use Rattle.simulation.proofs.Ranges.{take_item}
+use Rattle.simulation.specs.Playing.{SimulationView, Answers, Ends, Lies, LiesLock, PlaysRound, Signed, StepsEach, answer_text, correct_in}
+use Rattle.simulation.specs.Playing.{injections_to, is_taken, lie_receivers, pass_text, passes_of, target}
 use Rattle.simulation.proofs.StepLemmas.{SteppedTo, EndedTo, ended_more, stepped_more}
 use Rattle.simulation.proofs.StepTargets.{done_at}
+use Rattle.ledger_model.proofs.Lists.{take_item}
+use Rattle.ledger_model.specs.Rounds.{quorum}
 
 -- what follows from what holds where a result is Ok
 pub on_ok : {X E P Q : Type 0} → (P → Q) → (r : Result X E) → OnOk r P → OnOk r Q
@@ -33,18 +37,19 @@ on_ok f (Err e) p = tt
 -- ---- one step
 
 -- what is printed of the answer is what is printed of the step, by the heights that its replica had not decided
-prints : (c d : RunningCluster) (s : WorldStep) (given : WorldReply) (heights : List ℕ) → IsAnswered c s given d
+prints : (c d : WorldView) (s : WorldStep) (given : WorldReply) (heights : List ℕ) → IsAnswered c s given d
     → (is_correct (world_of c).histories (target s) ≡ true → heights ≡ undecided c.config (target s) (entries_in (world_of c) (target s)))
     → answer_text d.config heights given (world_of d) ≡ step_text c.config (world_of c) given (world_of d)
 prints c d s (answer.Refused why) heights answered found = refl
 prints c d s (answer.Done r i) heights answered found =
     let at = done_at c.config c.ring (world_of c) (world_of d) s r i answered.steps in
-    let open_then : heights ≡ undecided c.config r (entries_in (world_of c) r) = found at.1 ∙ ap (λ q. undecided c.config q (entries_in (world_of c) q)) (sym at.0) in
+    let open_then : heights ≡ undecided c.config r (entries_in (world_of c) r) =
+    found at.1 ∙ ap (λ q. undecided c.config q (entries_in (world_of c) q)) (sym at.0) in
     ap (λ config. entry_text config r heights (entries_in (world_of d) r) (slice_get (entries_in (world_of d) r) i)) answered.same.config
     ∙ ap (λ hs. entry_text c.config r hs (entries_in (world_of d) r) (slice_get (entries_in (world_of d) r) i)) open_then
 
 -- the step is taken, and its text added
-pub steps_so : (c d : RunningCluster) (s : WorldStep) (given : WorldReply) (heights before after : List ℕ) → IsAnswered c s given d
+pub steps_so : (c d : WorldView) (s : WorldStep) (given : WorldReply) (heights before after : List ℕ) → IsAnswered c s given d
     → (is_correct (world_of c).histories (target s) ≡ true → heights ≡ undecided c.config (target s) (entries_in (world_of c) (target s)))
     → after ≡ before ++ answer_text d.config heights given (world_of d) → Answers step_text c s given d before after
 steps_so c d s given heights before after answered found is = record {
@@ -53,15 +58,22 @@ steps_so c d s given heights before after answered found is = record {
 }
 
 -- a pass whose frame is accepted
-pub passes_quietly : (c d : RunningCluster) (s : WorldStep) (given : WorldReply) (before : List ℕ) → IsAnswered c s given d → is_taken given (world_of d) ≡ true
+pub passes_quietly : (c d : WorldView) (s : WorldStep) (given : WorldReply) (before : List ℕ) → IsAnswered c s given d
+    → is_taken given (world_of d) ≡ true
     → Answers pass_text c s given d before before
-passes_quietly c d s given before answered taken = record { answered = answered; printed = sym (append-nil before) ∙ ap (λ t. before ++ t) (sym (none (is_taken given (world_of d)) _ taken)) }
+passes_quietly c d s given before answered taken =
+    record {
+      answered = answered;
+      printed =
+          sym (append-nil before) ∙ ap (λ t. before ++ t) (sym (none (is_taken given (world_of d)) _ taken));
+    }
   where
     none : (b : Bool) (text : List ℕ) → b ≡ true → (if b then [] else text) ≡ []
     none b text is = rw is refl
 
 -- a pass whose frame is not
-pub passes_aloud : (c d : RunningCluster) (s : WorldStep) (given : WorldReply) (heights before after : List ℕ) → IsAnswered c s given d → is_taken given (world_of d) ≡ false
+pub passes_aloud : (c d : WorldView) (s : WorldStep) (given : WorldReply) (heights before after : List ℕ) → IsAnswered c s given d
+    → is_taken given (world_of d) ≡ false
     → (is_correct (world_of c).histories (target s) ≡ true → heights ≡ undecided c.config (target s) (entries_in (world_of c) (target s)))
     → after ≡ before ++ answer_text d.config heights given (world_of d) → Answers pass_text c s given d before after
 passes_aloud c d s given heights before after answered left found is = record {
@@ -75,7 +87,8 @@ passes_aloud c d s given heights before after answered left found is = record {
 -- ---- rounds
 
 -- a replica ends its round
-pub ends_so : (correct : List ℕ) (c d : RunningCluster) (r : ℕ) (given : WorldReply) (before after : List ℕ) (passes all : List WorldStep) (sent : ℕ)
+pub ends_so : (correct : List ℕ) (c d : WorldView) (r : ℕ) (given : WorldReply) (before after : List ℕ) (passes all : List WorldStep)
+    (sent : ℕ)
     → Answers step_text c (step.RoundEnd r) given d before after → sent ≡ length (frames_sent (entries_in (world_of c) r))
     → all ≡ passes ++ passes_of correct sent given (world_of d) → Ends correct c r before after passes all d
 ends_so correct c d r given before after passes all sent answered count is = record {
@@ -86,7 +99,8 @@ ends_so correct c d r given before after passes all sent answered count is = rec
 }
 
 -- all have, and what they sent is passed
-pub round_so : (c mid d : RunningCluster) (before out after : List ℕ) (correct : List ℕ) (none passes : List WorldStep) → none ≡ [] → correct ≡ correct_in c
+pub round_so : (c mid d : WorldView) (before out after : List ℕ) (correct : List ℕ) (none passes : List WorldStep) → none ≡ []
+    → correct ≡ correct_in c
     → EndedTo correct c correct before out none passes mid → SteppedTo pass_text mid passes out after d
     → (text : List ℕ) × (PlaysRound c text d × (after ≡ before ++ text))
 round_so c mid d before out after correct none passes nothing is (ends, (more, (ended, printed, passed))) (text, (delivered, last)) =
@@ -109,16 +123,18 @@ round_so c mid d before out after correct none passes nothing is (ends, (more, (
 -- ---- lies
 
 -- a lie is told or not, and its text added
-abbrev pub ToldTo : Lie → Statement → Simulated → List ℕ → List ℕ → Simulated → Type 0
+abbrev pub ToldTo : Lie → Statement → SimulationView → List ℕ → List ℕ → SimulationView → Type 0
 ToldTo l said p before after q = (text : List ℕ) × (Lies l said p text q × (after ≡ before ++ text))
 
 -- the liar signs, and the frame is injected and kept
-pub tells_so : (l : Lie) (said : Statement) (p q mid : Simulated) (frame : SignedStatement) (before after : List ℕ)
+pub tells_so : (l : Lie) (said : Statement) (p q mid : SimulationView) (frame : SignedStatement) (before after : List ℕ)
     → (frame.statement ≡ said) × Signed p.cluster l.liar said (Ok frame.signature) mid.cluster → mid.lies ≡ p.lies
-    → (text : List ℕ) × (StepsEach step_text mid.cluster (injections_to (lie_receivers mid.cluster l.to) (frame_bytes frame)) text q.cluster × (after ≡ before ++ text) × (q.lies ≡ mid.lies ++ frame_bytes frame ∷ []))
+    → (text : List ℕ) × (StepsEach step_text mid.cluster (injections_to (lie_receivers mid.cluster l.to) (frame_bytes frame)) text
+    q.cluster × (after ≡ before ++ text) × (q.lies ≡ mid.lies ++ frame_bytes frame ∷ []))
     → ToldTo l said p before after q
 tells_so l said p q mid frame before after (is, signs) same_lies (text, (steps, printed, kept)) =
-    let same : frame ≡ record { statement = said; signature = frame.signature } = ap (λ (x : Statement). let f : SignedStatement = record { statement = x; signature = frame.signature } in f) is in (
+    let same : frame ≡ record { statement = said; signature = frame.signature } =
+    ap (λ (x : Statement). let f : SignedStatement = record { statement = x; signature = frame.signature } in f) is in (
       text,
       (
         inl (
@@ -133,31 +149,42 @@ tells_so l said p q mid frame before after (is, signs) same_lies (text, (steps, 
     )
 
 -- the liar has no leaf left
-pub tells_exhausted : (l : Lie) (said : Statement) (p q : Simulated) (before after : List ℕ) → Signed p.cluster l.liar said (Err sign.Exhausted) q.cluster → q.lies ≡ p.lies
+pub tells_exhausted : (l : Lie) (said : Statement) (p q : SimulationView) (before after : List ℕ)
+    → Signed p.cluster l.liar said (Err sign.Exhausted) q.cluster → q.lies ≡ p.lies
     → after ≡ before ++ codes "exhausted\n" → ToldTo l said p before after q
 tells_exhausted l said p q before after signs kept is = (ended (codes "exhausted"), (inl (Err sign.Exhausted, (signs, kept, refl)), is))
 
 -- who is no liar tells nothing
-pub tells_nothing : (l : Lie) (said : Statement) (p q : Simulated) (before : List ℕ) → (liar_at p.cluster l.liar ≡ None) × (q.cluster ≡ p.cluster) → q.lies ≡ p.lies
+pub tells_nothing : (l : Lie) (said : Statement) (p q : SimulationView) (before : List ℕ)
+    → (liar_at p.cluster l.liar ≡ None) × (q.cluster ≡ p.cluster) → q.lies ≡ p.lies
     → ToldTo l said p before before q
 tells_nothing l said p q before (none, same) kept =
-    let all : q ≡ p = ap (λ (c : RunningCluster). let s : Simulated = record { cluster = c; lies = q.lies } in s) same ∙ ap (λ (ls : List (List ℕ)). let s : Simulated = record { cluster = p.cluster; lies = ls } in s) kept in
+    let all : q ≡ p = ap (λ (c : WorldView). let s : SimulationView = record { cluster = c; lies = q.lies } in s) same
+    ∙ ap (λ (ls : List (List ℕ)). let s : SimulationView = record { cluster = p.cluster; lies = ls } in s) kept in
     ([], (inr (none, all, refl), sym (append-nil before)))
 
 -- too few reports serve
-pub lock_cannot : (l : Lie) (proof : List SignedReport) (p q : Simulated) (before after : List ℕ) → length proof < p.cluster.config.replicas - p.cluster.config.faults → q ≡ p
+pub lock_cannot : (l : Lie) (proof : List SignedReport) (p q : SimulationView) (before after : List ℕ)
+    → length proof < quorum p.cluster.config → q ≡ p
     → after ≡ before ++ codes "lie-lock cannot\n" → (text : List ℕ) × (LiesLock l proof p text q × (after ≡ before ++ text))
-lock_cannot l proof p q before after few same is = (ended (codes "lie-lock cannot"), (by (nat_lt (length proof) (p.cluster.config.replicas - p.cluster.config.faults)) (lt-ltb _ _ few), is))
+lock_cannot l proof p q before after few same is = (
+  ended (codes "lie-lock cannot"),
+  (by (nat_lt (length proof) (quorum p.cluster.config)) (lt-ltb _ _ few), is),
+)
   where
-    by : (b : Bool) → b ≡ true → MatchBool b ((ended (codes "lie-lock cannot") ≡ ended (codes "lie-lock cannot")) × (q ≡ p)) (Lies l (statement.Lock (lying_lock l proof)) p (ended (codes "lie-lock cannot")) q)
+    by : (b : Bool) → b ≡ true → MatchBool b ((ended (codes "lie-lock cannot") ≡ ended (codes "lie-lock cannot")) × (q ≡ p))
+        (Lies l (statement.Lock (lying_lock l proof)) p (ended (codes "lie-lock cannot")) q)
     by b is = rw is (refl, same)
 
 -- enough do
-pub lock_can : (l : Lie) (proof : List SignedReport) (p q : Simulated) (before after : List ℕ) → length proof ≡ p.cluster.config.replicas - p.cluster.config.faults
-    → ToldTo l (statement.Lock (lying_lock l proof)) p before after q → (text : List ℕ) × (LiesLock l proof p text q × (after ≡ before ++ text))
-lock_can l proof p q before after many (text, (lies, is)) = (text, (by (nat_lt (length proof) (p.cluster.config.replicas - p.cluster.config.faults)) refl, is))
+pub lock_can : (l : Lie) (proof : List SignedReport) (p q : SimulationView) (before after : List ℕ)
+    → length proof ≡ quorum p.cluster.config
+    → ToldTo l (statement.Lock (lying_lock l proof)) p before after q
+    → (text : List ℕ) × (LiesLock l proof p text q × (after ≡ before ++ text))
+lock_can l proof p q before after many (text, (lies, is)) =
+    (text, (by (nat_lt (length proof) (quorum p.cluster.config)) refl, is))
   where
-    by : (b : Bool) → nat_lt (length proof) (p.cluster.config.replicas - p.cluster.config.faults) ≡ b
+    by : (b : Bool) → nat_lt (length proof) (quorum p.cluster.config) ≡ b
         → MatchBool b ((text ≡ ended (codes "lie-lock cannot")) × (q ≡ p)) (Lies l (statement.Lock (lying_lock l proof)) p text q)
     by true few = absurd (omega (arith, many, ltb-true _ _ few))
     by false enough = lies
@@ -165,22 +192,31 @@ lock_can l proof p q before after many (text, (lies, is)) = (text, (by (nat_lt (
 -- ---- one more of a list
 
 -- one replica more ends its round
-pub ended_next : (correct : List ℕ) (c d e : RunningCluster) (i r : ℕ) (before mid after : List ℕ) (passes some all : List WorldStep) → i < length correct → r ≡ get_or correct i r
-    → EndedTo correct c (take i correct) before mid passes some d → Ends correct d r mid after some all e → EndedTo correct c (take (i + 1) correct) before after passes all e
+pub ended_next : (correct : List ℕ) (c d e : WorldView) (i r : ℕ) (before mid after : List ℕ) (passes some all : List WorldStep)
+    → i < length correct → r ≡ get_or correct i r
+    → EndedTo correct c (take i correct) before mid passes some d → Ends correct d r mid after some all e
+    → EndedTo correct c (take (i + 1) correct) before after passes all e
 ended_next correct c d e i r before mid after passes some all within is so_far next =
     subst (λ rs. EndedTo correct c rs before after passes all e) (sym (take_item correct i r within is))
     (ended_more correct c d e (take i correct) r before mid after passes some all so_far next)
 
 -- one step more is taken
-pub stepped_next : (print : Config → World → WorldReply → World → List ℕ) (c d e : RunningCluster) (ss : List WorldStep) (i : ℕ) (s : WorldStep) (given : WorldReply) (before mid after : List ℕ)
-    → i < length ss → s ≡ get_or ss i s → SteppedTo print c (take i ss) before mid d → Answers print d s given e mid after → SteppedTo print c (take (i + 1) ss) before after e
+pub stepped_next : (print : Config → World → WorldReply → World → List ℕ) (c d e : WorldView) (ss : List WorldStep) (i : ℕ) (s : WorldStep)
+    (given : WorldReply) (before mid after : List ℕ)
+    → i < length ss → s ≡ get_or ss i s → SteppedTo print c (take i ss) before mid d → Answers print d s given e mid after
+    → SteppedTo print c (take (i + 1) ss) before after e
 stepped_next print c d e ss i s given before mid after within is so_far next =
-    subst (λ l. SteppedTo print c l before after e) (sym (take_item ss i s within is)) (stepped_more print c d e (take i ss) s given before mid after so_far next)
+    subst (λ l. SteppedTo print c l before after e) (sym (take_item ss i s within is))
+    (stepped_more print c d e (take i ss) s given before mid after so_far next)
 
 -- bytes are injected to one replica more
-pub injected_next : (c d e : RunningCluster) (receivers : List ℕ) (bytes : List ℕ) (i r : ℕ) (given : WorldReply) (before mid after : List ℕ) → i < length receivers → r ≡ get_or receivers i r
-    → SteppedTo step_text c (injections_to (take i receivers) bytes) before mid d → Answers step_text d (step.Inject r bytes) given e mid after
+pub injected_next : (c d e : WorldView) (receivers : List ℕ) (bytes : List ℕ) (i r : ℕ) (given : WorldReply) (before mid after : List ℕ)
+    → i < length receivers → r ≡ get_or receivers i r
+    → SteppedTo step_text c (injections_to (take i receivers) bytes) before mid d
+    → Answers step_text d (step.Inject r bytes) given e mid after
     → SteppedTo step_text c (injections_to (take (i + 1) receivers) bytes) before after e
 injected_next c d e receivers bytes i r given before mid after within is so_far next =
-    subst (λ l. SteppedTo step_text c l before after e) (sym (ap (λ rs. injections_to rs bytes) (take_item receivers i r within is) ∙ map-append (λ q. step.Inject q bytes) (take i receivers) (r ∷ [])))
+    subst (λ l. SteppedTo step_text c l before after e)
+    (sym (ap (λ rs. injections_to rs bytes) (take_item receivers i r within is)
+    ∙ map-append (λ q. step.Inject q bytes) (take i receivers) (r ∷ [])))
     (stepped_more step_text c d e (injections_to (take i receivers) bytes) (step.Inject r bytes) given before mid after so_far next)

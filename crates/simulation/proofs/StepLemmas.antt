@@ -7,102 +7,132 @@ use Rattle.ledger_model.specs.declared.config.Config.{Config}
 use Rattle.ledger_model.specs.declared.world.WorldStep.{WorldStep}
 use Rattle.ledger_model.specs.declared.world.WorldStep.TheVariants as step
 use Rattle.ledger_model.specs.declared.world.WorldReply.{WorldReply}
-use Rattle.ledger_model.specs.Worlds.{World, event_of, entries_in, frames_sent, StepsBy, Runs}
+use Rattle.ledger_model.specs.Worlds.{World, entries_in, frames_sent, Runs}
 use Rattle.ledger_laws.proofs.WorldRuns.{runs_append}
 use Rattle.scenario_texts.specs.declared.command.Command.{Command}
-use Rattle.adversary_net.specs.Clusters.{RunningCluster, IsSameCluster, SignsFor, world_of, UsesAsAnswered}
+use Rattle.adversary_net.specs.WorldViews.{WorldView, IsSameCluster, SignsFor, world_of}
+use Rattle.adversary_net.specs.Leaves.{IsAnswered, AreAnswered}
 use Rattle.reply_lines.specs.Lines.{step_text}
-use Rattle.simulation.specs.Playing.{Simulated, IsAnswered, Steps, StepsEach, EndsEach, Ends, Answers, GoesOn, Plays, PlaysAll, PlaysOther, PlaysStep, passes_of, step_of}
+use Rattle.simulation.specs.Playing.{SimulationView, Steps, StepsEach, EndsEach, Ends, Answers, GoesOn, Plays, PlaysAll, PlaysOther}
+use Rattle.simulation.specs.Playing.{PlaysStep, passes_of, step_of}
 
 -- ---- a run that goes on
 
-pub stays : (c : RunningCluster) → GoesOn c c
+pub stays : (c : WorldView) → GoesOn c c
 unfolding Runs
 stays c = record { steps = []; answers = []; runs = refl; config = refl; ring = refl }
 
-pub stays_in : (c d : RunningCluster) → world_of d ≡ world_of c → d.config ≡ c.config → d.ring ≡ c.ring → GoesOn c d
+pub stays_in : (c d : WorldView) → world_of d ≡ world_of c → d.config ≡ c.config → d.ring ≡ c.ring → GoesOn c d
 unfolding Runs
 stays_in c d world config ring = record { steps = []; answers = []; runs = world; config = config; ring = ring }
 
-pub goes_on : (c d e : RunningCluster) → GoesOn c d → GoesOn d e → GoesOn c e
+pub goes_on : (c d e : WorldView) → GoesOn c d → GoesOn d e → GoesOn c e
 goes_on c d e first next = record {
   steps = first.steps ++ next.steps;
   answers = first.answers ++ next.answers;
   runs = runs_append c.config c.ring (world_of c) (world_of d) (world_of e) first.steps next.steps first.answers next.answers first.runs
-      (subst (λ x. Runs x c.ring (world_of d) next.steps next.answers (world_of e)) first.config (subst (λ x. Runs d.config x (world_of d) next.steps next.answers (world_of e)) first.ring next.runs));
+      (subst (λ x. Runs x c.ring (world_of d) next.steps next.answers (world_of e)) first.config
+      (subst (λ x. Runs d.config x (world_of d) next.steps next.answers (world_of e)) first.ring next.runs));
   config = next.config ∙ first.config;
   ring = next.ring ∙ first.ring;
 }
 
-pub goes_by : (c d : RunningCluster) (steps : List WorldStep) (answers : List WorldReply) → Runs c.config c.ring (world_of c) steps answers (world_of d) → IsSameCluster c d → GoesOn c d
+pub goes_by : (c d : WorldView) (steps : List WorldStep) (answers : List WorldReply)
+    → Runs c.config c.ring (world_of c) steps answers (world_of d) → IsSameCluster c d → GoesOn c d
 goes_by c d steps answers runs same = record { steps = steps; answers = answers; runs = runs; config = same.config; ring = same.ring }
 
 -- a liar's signature changes neither the configuration nor the keys of the others
-same_config : {X : Type 0} (view : X → List ℕ) (c : RunningCluster) (r : ℕ) (message : List ℕ) (answer : Result X SignFault) (d : RunningCluster)
+same_config : {X : Type 0} (view : X → List ℕ) (c : WorldView) (r : ℕ) (message : List ℕ) (answer : Result X SignFault) (d : WorldView)
     → SignsFor view c r message answer d → (d.config ≡ c.config) × (d.ring ≡ c.ring)
-same_config view c r message answer d (old, new, (at, signs, same)) = (ap (λ (x : RunningCluster). x.config) same, ap (λ (x : RunningCluster). x.ring) same)
+same_config view c r message answer d (old, new, (at, signs, same)) =
+    (ap (λ (x : WorldView). x.config) same, ap (λ (x : WorldView). x.ring) same)
 
 -- it is no step
-pub signs_on : {X : Type 0} (view : X → List ℕ) (c : RunningCluster) (r : ℕ) (message : List ℕ) (answer : Result X SignFault) (d : RunningCluster)
+pub signs_on : {X : Type 0} (view : X → List ℕ) (c : WorldView) (r : ℕ) (message : List ℕ) (answer : Result X SignFault) (d : WorldView)
     → SignsFor view c r message answer d → GoesOn c d
 signs_on view c r message answer d signs =
     let stay = same_config view c r message answer d signs in
     stays_in c d (signed_world view c r message answer d signs) stay.0 stay.1
 
 -- nor is a signature that isn't given
-pub signs_or_not : {X : Type 0} (view : X → List ℕ) (c : RunningCluster) (r : ℕ) (message : List ℕ) (answer : Option (Result X SignFault)) (d : RunningCluster)
+pub signs_or_not : {X : Type 0} (view : X → List ℕ) (c : WorldView) (r : ℕ) (message : List ℕ) (answer : Option (Result X SignFault))
+    (d : WorldView)
     → IfSome answer (λ given. SignsFor view c r message given d) → IfNone answer (d ≡ c) → GoesOn c d
 signs_or_not view c r message (Some given) d signs none = signs_on view c r message given d signs
 signs_or_not view c r message None d signs none = subst (GoesOn c) (sym none) (stays c)
 
 -- ---- one step
 
--- what a run of one step is: its answer, which is the only one
-pub only_answer : (c : RunningCluster) (s : WorldStep) (given : WorldReply) (others : List WorldReply) (d : RunningCluster)
-    → Runs c.config c.ring (world_of c) (s ∷ []) (given ∷ others) (world_of d) → IsSameCluster c d → UsesAsAnswered c (given ∷ others) d → IsAnswered c s given d
-unfolding Runs
-only_answer c s given [] d (mid, steps, last) same leaves = record {
-  steps = subst (λ w. StepsBy c.config c.ring (world_of c) (event_of c.config (world_of c) s) given w) (sym last) steps;
-  same = same;
-  leaves = leaves;
-}
-only_answer c s given (a ∷ others) d (mid, steps, last) same leaves = absurd last
-
 -- it has an answer
-pub some_answer : (c : RunningCluster) (s : WorldStep) (answers : List WorldReply) (d : RunningCluster)
-    → Runs c.config c.ring (world_of c) (s ∷ []) answers (world_of d) → slice_get answers 0 ≡ None → ⊥
-unfolding Runs
-some_answer c s [] d runs none = runs
-some_answer c s (a ∷ others) d runs none = absurd cc
+pub some_answer : (c : WorldView) (s : WorldStep) (answers : List WorldReply) (d : WorldView)
+    → AreAnswered c (s ∷ []) answers d → slice_get answers 0 ≡ None → ⊥
+unfolding AreAnswered
+some_answer c s [] d given none = given
+some_answer c s (a ∷ others) d given none = absurd cc
 
 -- the first is its answer
-pub the_answer : (c : RunningCluster) (s : WorldStep) (answers : List WorldReply) (given : WorldReply) (d : RunningCluster)
-    → Runs c.config c.ring (world_of c) (s ∷ []) answers (world_of d) → slice_get answers 0 ≡ Some given → IsSameCluster c d → UsesAsAnswered c answers d → IsAnswered c s given d
-unfolding Runs
-the_answer c s [] given d runs is same leaves = absurd runs
-the_answer c s (a ∷ others) given d runs is same leaves =
+pub the_answer : (c : WorldView) (s : WorldStep) (answers : List WorldReply) (given : WorldReply) (d : WorldView)
+    → AreAnswered c (s ∷ []) answers d → slice_get answers 0 ≡ Some given → IsAnswered c s given d
+unfolding AreAnswered
+the_answer c s [] given d answered is = absurd answered
+the_answer c s (a ∷ []) given d (mid, (one, same)) is =
     let first : a ≡ given = cc in
-    subst (λ x. IsAnswered c s x d) first (only_answer c s a others d runs same leaves)
+    subst (λ x. IsAnswered c s x d) first (subst (IsAnswered c s a) (sym same) one)
+the_answer c s (a ∷ b ∷ others) given d (mid, (one, more)) is = absurd more
 
 -- ---- more steps
 
 -- one step more
-pub steps_snoc : (print : Config → World → WorldReply → World → List ℕ) (c d e : RunningCluster) (ss : List WorldStep) (s : WorldStep) (text more : List ℕ)
+pub steps_snoc : (print : Config → World → WorldReply → World → List ℕ) (c d e : WorldView) (ss : List WorldStep) (s : WorldStep)
+    (text more : List ℕ)
     → StepsEach print c ss text d → Steps print d s more e → StepsEach print c (ss ++ s ∷ []) (text ++ more) e
 unfolding StepsEach
 steps_snoc print c d e [] s text more (none, same) next =
     (e, (more, ([], (subst (λ x. Steps print x s more e) same next, (refl, refl), ap (λ t. t ++ more) none ∙ sym (append-nil more)))))
-steps_snoc print c d e (x ∷ xs) s text more (mid, (first, (rest, (one, others, is)))) next =
-    (mid, (first, (rest ++ more, (one, steps_snoc print mid d e xs s rest more others next, ap (λ t. t ++ more) is ∙ append_assoc first rest more))))
+steps_snoc print c d e (x ∷ xs) s text more (mid, (first, (rest, (one, others, is)))) next = (
+  mid,
+  (
+    first,
+    (
+      rest ++ more,
+      (
+        one,
+        steps_snoc print mid d e xs s rest more others next,
+        ap (λ t. t ++ more) is
+            ∙ append_assoc first rest more,
+      ),
+    ),
+  ),
+)
 
 -- one end more
-pub ends_snoc : (correct : List ℕ) (c d e : RunningCluster) (rs : List ℕ) (r : ℕ) (text more : List ℕ) (passes : List WorldStep)
+pub ends_snoc : (correct : List ℕ) (c d e : WorldView) (rs : List ℕ) (r : ℕ) (text more : List ℕ) (passes : List WorldStep)
     → EndsEach correct c rs text passes d → (end : Steps step_text d (step.RoundEnd r) more e)
-    → EndsEach correct c (rs ++ r ∷ []) (text ++ more) (passes ++ passes_of correct (length (frames_sent (entries_in (world_of d) r))) end.given (world_of e)) e
+    → EndsEach correct c (rs ++ r ∷ []) (text ++ more)
+    (passes ++ passes_of correct (length (frames_sent (entries_in (world_of d) r))) end.given (world_of e)) e
 unfolding EndsEach
 ends_snoc correct c d e [] r text more passes (none, no_pass, same) end =
-    subst (λ x. EndsEach correct x (r ∷ []) (text ++ more) (passes ++ passes_of correct (length (frames_sent (entries_in (world_of d) r))) end.given (world_of e)) e) same
-    (e, (more, ([], ([], (end, (refl, refl, refl), ap (λ t. t ++ more) none ∙ sym (append-nil more), ap (λ l. l ++ passes_of correct (length (frames_sent (entries_in (world_of d) r))) end.given (world_of e)) no_pass ∙ sym (append-nil _))))))
+    subst (λ x. EndsEach correct x (r ∷ []) (text ++ more)
+    (passes ++ passes_of correct (length (frames_sent (entries_in (world_of d) r))) end.given (world_of e)) e) same (
+      e,
+      (
+        more,
+        (
+          [],
+          (
+            [],
+            (
+              end,
+              (refl, refl, refl),
+              ap (λ t. t ++ more) none
+                  ∙ sym (append-nil more),
+              ap (λ l. l ++ passes_of correct (length (frames_sent (entries_in (world_of d) r))) end.given (world_of e))
+                  no_pass ∙ sym (append-nil _),
+            ),
+          ),
+        ),
+      ),
+    )
 ends_snoc correct c d e (q ∷ qs) r text more passes (mid, (first, (rest, (others, (one, next, is, passed))))) end =
     let added = passes_of correct (length (frames_sent (entries_in (world_of d) r))) end.given (world_of e) in (
       mid,
@@ -124,16 +154,18 @@ ends_snoc correct c d e (q ∷ qs) r text more passes (mid, (first, (rest, (othe
     )
 
 -- steps are taken one after the other, and what is printed of them is added
-abbrev pub SteppedTo : (Config → World → WorldReply → World → List ℕ) → RunningCluster → List WorldStep → List ℕ → List ℕ → RunningCluster → Type 0
+abbrev pub SteppedTo : (Config → World → WorldReply → World → List ℕ) → WorldView → List WorldStep → List ℕ → List ℕ → WorldView → Type 0
 SteppedTo print c ss before after d = (text : List ℕ) × (StepsEach print c ss text d × (after ≡ before ++ text))
 
 -- no step
-pub stepped_none : (print : Config → World → WorldReply → World → List ℕ) (c : RunningCluster) (before : List ℕ) → SteppedTo print c [] before before c
+pub stepped_none : (print : Config → World → WorldReply → World → List ℕ) (c : WorldView) (before : List ℕ)
+    → SteppedTo print c [] before before c
 unfolding StepsEach
 stepped_none print c before = ([], ((refl, refl), sym (append-nil before)))
 
 -- one step more
-pub stepped_more : (print : Config → World → WorldReply → World → List ℕ) (c d e : RunningCluster) (ss : List WorldStep) (s : WorldStep) (given : WorldReply) (before mid after : List ℕ)
+pub stepped_more : (print : Config → World → WorldReply → World → List ℕ) (c d e : WorldView) (ss : List WorldStep) (s : WorldStep)
+    (given : WorldReply) (before mid after : List ℕ)
     → SteppedTo print c ss before mid d → Answers print d s given e mid after → SteppedTo print c (ss ++ s ∷ []) before after e
 stepped_more print c d e ss s given before mid after (text, (steps, is)) next =
     let more = print d.config (world_of d) given (world_of e) in (
@@ -145,18 +177,20 @@ stepped_more print c d e ss s given before mid after (text, (steps, is)) next =
     )
 
 -- replicas end their rounds one after the other; what is printed is added, and so are the passes of what they sent
-abbrev pub EndedTo : List ℕ → RunningCluster → List ℕ → List ℕ → List ℕ → List WorldStep → List WorldStep → RunningCluster → Type 0
+abbrev pub EndedTo : List ℕ → WorldView → List ℕ → List ℕ → List ℕ → List WorldStep → List WorldStep → WorldView → Type 0
 EndedTo correct c rs before after passes all d = (text : List ℕ) × ((more : List WorldStep)
     × (EndsEach correct c rs text more d × (after ≡ before ++ text) × (all ≡ passes ++ more)))
 
 -- no replica
-pub ended_none : (correct : List ℕ) (c : RunningCluster) (before : List ℕ) (passes : List WorldStep) → EndedTo correct c [] before before passes passes c
+pub ended_none : (correct : List ℕ) (c : WorldView) (before : List ℕ) (passes : List WorldStep)
+    → EndedTo correct c [] before before passes passes c
 unfolding EndsEach
 ended_none correct c before passes = ([], ([], ((refl, refl, refl), sym (append-nil before), sym (append-nil passes))))
 
 -- one replica more
-pub ended_more : (correct : List ℕ) (c d e : RunningCluster) (rs : List ℕ) (r : ℕ) (before mid after : List ℕ) (passes some all : List WorldStep)
-    → EndedTo correct c rs before mid passes some d → Ends correct d r mid after some all e → EndedTo correct c (rs ++ r ∷ []) before after passes all e
+pub ended_more : (correct : List ℕ) (c d e : WorldView) (rs : List ℕ) (r : ℕ) (before mid after : List ℕ) (passes some all : List WorldStep)
+    → EndedTo correct c rs before mid passes some d → Ends correct d r mid after some all e
+    → EndedTo correct c (rs ++ r ∷ []) before after passes all e
 ended_more correct c d e rs r before mid after passes some all (text, (more, (ends, is, passed))) next =
     let added = passes_of correct (length (frames_sent (entries_in (world_of d) r))) next.end.given (world_of e) in (
       text ++ next.text,
@@ -171,30 +205,44 @@ ended_more correct c d e rs r before mid after passes some all (text, (more, (en
     )
 
 -- a command that is a step
-pub plays_step : (p q : Simulated) (c : Command) (s : WorldStep) (text : List ℕ) → step_of c ≡ Some s → PlaysStep p s text q → Plays p c text q
+pub plays_step : (p q : SimulationView) (c : Command) (s : WorldStep) (text : List ℕ) → step_of c ≡ Some s → PlaysStep p s text q
+    → Plays p c text q
 unfolding Plays
 plays_step p q c s text is plays = rw is plays
 
 -- one that is none
-pub plays_other : (p q : Simulated) (c : Command) (text : List ℕ) → step_of c ≡ None → PlaysOther p c text q → Plays p c text q
+pub plays_other : (p q : SimulationView) (c : Command) (text : List ℕ) → step_of c ≡ None → PlaysOther p c text q → Plays p c text q
 unfolding Plays
 plays_other p q c text is plays = rw is plays
 
 -- commands, and then others
-pub plays_append : (p q r : Simulated) (xs ys : List Command) (text more : List ℕ)
+pub plays_append : (p q r : SimulationView) (xs ys : List Command) (text more : List ℕ)
     → PlaysAll p xs text q → PlaysAll q ys more r → PlaysAll p (xs ++ ys) (text ++ more) r
 unfolding PlaysAll
 plays_append p q r [] ys text more (none, same) next =
     subst (λ x. PlaysAll x ys (text ++ more) r) same (subst (λ t. PlaysAll q ys (t ++ more) r) (sym none) next)
-plays_append p q r (x ∷ xs) ys text more (mid, (first, (rest, (one, others, is)))) next =
-    (mid, (first, (rest ++ more, (one, plays_append mid q r xs ys rest more others next, ap (λ t. t ++ more) is ∙ append_assoc first rest more))))
+plays_append p q r (x ∷ xs) ys text more (mid, (first, (rest, (one, others, is)))) next = (
+  mid,
+  (
+    first,
+    (
+      rest ++ more,
+      (
+        one,
+        plays_append mid q r xs ys rest more others next,
+        ap (λ t. t ++ more) is
+            ∙ append_assoc first rest more,
+      ),
+    ),
+  ),
+)
 
 -- no command
-pub plays_none : (p : Simulated) → PlaysAll p [] [] p
+pub plays_none : (p : SimulationView) → PlaysAll p [] [] p
 unfolding PlaysAll
 plays_none p = (refl, refl)
 
 -- one command
-pub plays_one : (p q : Simulated) (c : Command) (text : List ℕ) → Plays p c text q → PlaysAll p (c ∷ []) text q
+pub plays_one : (p q : SimulationView) (c : Command) (text : List ℕ) → Plays p c text q → PlaysAll p (c ∷ []) text q
 unfolding PlaysAll
 plays_one p q c text one = (q, (text, ([], (one, (refl, refl), sym (append-nil text)))))

@@ -1,5 +1,6 @@
--- What a liar's statement says, and which reports serve the proof of its lock.
-use Rattle.std.specs.Prelude.{ℕ, ◌==◌, Bool, false, ◌&&◌, List, [], ◌∷◌, filter, slice_get, Option, Some, None, option_and_then, if◌then◌else◌}
+-- The statements of liars, and which reports serve in the proof of a liar's lock.
+use Rattle.std.specs.Prelude.{ℕ, ◌==◌, Bool, false, ◌&&◌, List, [], ◌∷◌, filter, slice_get, Option, Some, None, option_and_then}
+use Rattle.std.specs.Prelude.{if◌then◌else◌}
 use Rattle.std.specs.List.{filter_map}
 use Rattle.ledger_model.specs.declared.statement.Report.{Report}
 use Rattle.ledger_model.specs.declared.statement.Lock.{Lock}
@@ -14,7 +15,7 @@ use Rattle.ledger_model.specs.Reading.{reading}
 use Rattle.ledger_model.specs.Worlds.{frames_in}
 use Rattle.scenario_texts.specs.declared.command.Lie.{Lie}
 
--- the report of a liar: its initial and only proper value is the batch, and it tells of no lock
+-- the report of a liar: the batch is its initial value and its only proper value, and it lists no lock
 abbrev pub lying_report : Lie → Report
 lying_report l = record {
   height = l.height;
@@ -26,15 +27,15 @@ lying_report l = record {
   locked = [];
 }
 
--- the report is this replica's, and serves a proof of the lie's lock
+-- the report is this replica's, and serves in a proof of the lie's lock
 abbrev pub serves_report : Lie → ℕ → Report → Bool
 serves_report l r report = (report.signer == r) && (report.height == l.height) && (report.phase == l.phase) && finds report l.batch
 
--- so is a signed one
+-- the signed report is this replica's, and serves in a proof of the lie's lock
 abbrev pub serves : Lie → ℕ → SignedReport → Bool
 serves l r s = serves_report l r s.report
 
--- the report of a signed statement
+-- the signed report that a signed statement is, if it is one
 abbrev pub report_of : SignedStatement → Option SignedReport
 report_of s = of s.statement
   where
@@ -42,21 +43,21 @@ report_of s = of s.statement
     of (statement.Report r) = Some (record { report = r; signature = s.signature })
     of _ = None
 
--- the report that a frame is
+-- the signed report that a frame contains, if it does
 abbrev pub report_in : List ℕ → Option SignedReport
 report_in frame = option_and_then report_of (reading frame)
 
--- the report, if it serves
+-- the report, if it is a serving report
 abbrev pub if_serves : Lie → ℕ → Option SignedReport → Option SignedReport
 if_serves l r None = None
 if_serves l r (Some s) = if serves l r s then Some s else None
 
--- the frames that an entry sent, of which there are none where there is no entry
+-- the frames that the entry sent; none if there is no entry
 abbrev pub frames_of : Option Entry → List (List ℕ)
 frames_of None = []
 frames_of (Some e) = frames_in e.reply
 
--- the earliest report of a replica among frames that serves
+-- the earliest serving report of replica r among the frames
 unfoldable pub first_serving : Lie → ℕ → List (List ℕ) → Option SignedReport
 first_serving l r frames = slice_get (filter (serves l r) (filter_map report_in frames)) 0
 

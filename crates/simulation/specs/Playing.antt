@@ -1,5 +1,6 @@
--- What each command of a scenario does to a cluster, and what is printed of it.
-use Rattle.std.specs.Prelude.{◌≡◌, ◌⊎◌, MatchBool, ℕ, ◌+◌, ◌-◌, ◌==◌, nat_lt, Bool, true, false, not, List, [], ◌∷◌, ◌++◌, length, map, filter, take, Option, Some, None, Result, Ok, Err, codes, slice_get, if◌then◌else◌}
+-- What each command of a scenario does to a cluster, and what is printed for it.
+use Rattle.std.specs.Prelude.{◌≡◌, ◌⊎◌, MatchBool, ℕ, ◌+◌, ◌-◌, ◌==◌, nat_lt, Bool, true, false, not, List, [], ◌∷◌, ◌++◌, length, map}
+use Rattle.std.specs.Prelude.{filter, take, Option, Some, None, Result, Ok, Err, codes, slice_get, if◌then◌else◌}
 use Rattle.std.specs.List.{filter_map, range_with_len}
 use Rattle.ledger_model.specs.declared.config.Config.{Config}
 use Rattle.ledger_model.specs.declared.history.Entry.{Entry}
@@ -19,11 +20,12 @@ use Rattle.ledger_model.specs.declared.world.WorldRefusal.{WorldRefusal}
 use Rattle.ledger_model.specs.Groups.{is_correct}
 use Rattle.ledger_model.specs.Commits.{commits_of}
 use Rattle.ledger_model.specs.Spelling.{statement_bytes, frame_bytes}
-use Rattle.ledger_model.specs.Worlds.{World, entries_in, frames_sent, event_of, StepsBy, Runs, fault_at}
+use Rattle.ledger_model.specs.Worlds.{World, entries_in, frames_sent, Runs, fault_at}
 use Rattle.key_ring.specs.declared.fault.SignFault.{SignFault}
 use Rattle.key_ring.specs.declared.fault.SignFault.TheVariants as sign
-use Rattle.replica_core.specs.Telling.{info_reply}
-use Rattle.adversary_net.specs.Clusters.{RunningCluster, IsSameCluster, SignsFor, UsesAsAnswered, liar_at, world_of}
+use Rattle.replica_core.specs.Facts.{info_reply}
+use Rattle.adversary_net.specs.WorldViews.{WorldView, SignsFor, liar_at, world_of}
+use Rattle.adversary_net.specs.Leaves.{IsAnswered}
 use Rattle.scenario_texts.specs.declared.command.Command.{Command}
 use Rattle.scenario_texts.specs.declared.command.Command.TheVariants as command
 use Rattle.scenario_texts.specs.declared.command.Lie.{Lie}
@@ -33,57 +35,53 @@ use Rattle.scenario_texts.specs.declared.command.Towards.TheVariants as towards
 use Rattle.simulation.specs.declared.signing.Signing.{Signing}
 use Rattle.simulation.specs.declared.signing.Signing.TheVariants as signing
 use Rattle.reply_lines.specs.Lines.{ended, refusal_text, entry_text, step_text, told_text}
+use Rattle.ledger_model.specs.Rounds.{quorum}
 
--- a cluster that is simulated, and the frames of what its liars have signed, in order
-pub record Simulated : Type 0 where
-  pub cluster : RunningCluster
+-- a simulated cluster, and the frames that its liars have signed, in order
+pub record SimulationView : Type 0 where
+  pub cluster : WorldView
   pub lies : List (List ℕ)
 
 -- ---- steps
 
--- the step is answered so
-pub record IsAnswered (c : RunningCluster) (s : WorldStep) (given : WorldReply) (d : RunningCluster) : Type 0 where
-  pub steps : StepsBy c.config c.ring (world_of c) (event_of c.config (world_of c) s) given (world_of d)
-  pub same : IsSameCluster c d
-  -- if memory didn't run out, each correct replica used one leaf for each statement of its own that it sent, and no other
-  pub leaves : UsesAsAnswered c (given ∷ []) d
-
--- the step is answered, and this is printed of it
-pub record Steps (print : Config → World → WorldReply → World → List ℕ) (c : RunningCluster) (s : WorldStep) (text : List ℕ) (d : RunningCluster) : Type 0 where
+-- the step was taken, and this text is printed for it
+pub record Steps (print : Config → World → WorldReply → World → List ℕ) (c : WorldView) (s : WorldStep) (text : List ℕ) (d : WorldView) :
+    Type 0 where
   pub given : WorldReply
   pub answered : IsAnswered c s given d
   pub printed : text ≡ print c.config (world_of c) given (world_of d)
 
--- these steps are, one after the other
-unfoldable pub StepsEach : (Config → World → WorldReply → World → List ℕ) → RunningCluster → List WorldStep → List ℕ → RunningCluster → Type 0
+-- these steps were taken, one after another
+unfoldable pub StepsEach : (Config → World → WorldReply → World → List ℕ) → WorldView → List WorldStep → List ℕ → WorldView → Type 0
 StepsEach print c [] text d = (text ≡ []) × (d ≡ c)
 StepsEach print c (s ∷ ss) text d =
-    (mid : RunningCluster) × ((first : List ℕ) × ((rest : List ℕ)
+    (mid : WorldView) × ((first : List ℕ) × ((rest : List ℕ)
     × (Steps print c s first mid × StepsEach print mid ss rest d × (text ≡ first ++ rest))))
 
--- the correct replicas of a cluster, by ascending numbers
-abbrev pub correct_in : RunningCluster → List ℕ
+-- the correct replicas of the cluster, in ascending order of their numbers
+abbrev pub correct_in : WorldView → List ℕ
 correct_in c = filter (λ r. is_correct (world_of c).histories r) (range_with_len 0 c.config.replicas)
 
--- the replica that a number names: no cluster has one above 255
+-- the replica with this number; a number above 255 becomes 255, which no cluster has
 abbrev pub named : ℕ → ℕ
 named n = if nat_lt n 256 then n else 255
 
 -- ---- rounds
 
--- whether a frame of a replica is for this one
+-- whether a frame of `from` with this addressee goes to r
 abbrev pub is_for : ℕ → Addressee → ℕ → Bool
 is_for from to.All r = not (r == from)
 is_for from (to.One s) r = r == s
 
--- to whom it is passed: to its addressees that are correct
+-- the replicas that the frame is passed to: its correct addressees
 abbrev pub receivers : List ℕ → ℕ → Addressee → List ℕ
 receivers correct from addressee = filter (is_for from addressee) correct
 
--- the passes of frames, of which the first is the frame of this index
+-- the passes of these frames, the first of which has this index
 abbrev pub passes_from : List ℕ → ℕ → ℕ → List Sent → List WorldStep
 passes_from correct from index [] = []
-passes_from correct from index (f ∷ fs) = map (step.Pass from index) (receivers correct from f.addressee) ++ passes_from correct from (index + 1) fs
+passes_from correct from index (f ∷ fs) =
+    map (step.Pass from index) (receivers correct from f.addressee) ++ passes_from correct from (index + 1) fs
 
 -- the frames that a reply sends
 abbrev pub sent_in : Reply → List Sent
@@ -95,20 +93,22 @@ abbrev pub sent_by : Option Entry → List Sent
 sent_by None = []
 sent_by (Some e) = sent_in e.reply
 
--- the passes of what a step sent, before which its replica had sent so many frames
+-- the passes of the frames that a step sent; its replica had sent `before` frames earlier
 abbrev pub passes_of : List ℕ → ℕ → WorldReply → World → List WorldStep
 passes_of correct before (answer.Refused why) new = []
 passes_of correct before (answer.Done r i) new = passes_from correct r before (sent_by (slice_get (entries_in new r) i))
 
--- these replicas end their rounds, one after the other: what is printed, and the passes of what they sent to these correct ones
-unfoldable pub EndsEach : List ℕ → RunningCluster → List ℕ → List ℕ → List WorldStep → RunningCluster → Type 0
+-- these replicas end their rounds one after another; this text is printed, and these are the passes of what they sent
+-- to the correct replicas
+unfoldable pub EndsEach : List ℕ → WorldView → List ℕ → List ℕ → List WorldStep → WorldView → Type 0
 EndsEach correct c [] text passes d = (text ≡ []) × (passes ≡ []) × (d ≡ c)
 EndsEach correct c (r ∷ rs) text passes d =
-    (mid : RunningCluster) × ((first : List ℕ) × ((rest : List ℕ) × ((more : List WorldStep)
+    (mid : WorldView) × ((first : List ℕ) × ((rest : List ℕ) × ((more : List WorldStep)
     × ((end : Steps step_text c (step.RoundEnd r) first mid) × EndsEach correct mid rs rest more d
-    × (text ≡ first ++ rest) × (passes ≡ passes_of correct (length (frames_sent (entries_in (world_of c) r))) end.given (world_of mid) ++ more)))))
+    × (text ≡ first ++ rest) × (passes ≡ passes_of correct (length (frames_sent (entries_in (world_of c) r))) end.given (world_of mid)
+    ++ more)))))
 
--- whether the entry is of a frame that was accepted
+-- whether the entry delivers a frame that was accepted
 abbrev pub is_accepted : Option Entry → Bool
 is_accepted None = false
 is_accepted (Some e) = accepts e.reply
@@ -117,28 +117,28 @@ is_accepted (Some e) = accepts e.reply
     accepts (reply.Delivered (Ok u)) = true
     accepts _ = false
 
--- whether the answer is of a frame that was accepted
+-- whether the reply is that a delivered frame was accepted
 abbrev pub is_taken : WorldReply → World → Bool
 is_taken (answer.Refused why) new = false
 is_taken (answer.Done r i) new = is_accepted (slice_get (entries_in new r) i)
 
--- what is printed of a pass within a round: nothing, where the frame is accepted
+-- the text for a pass within a round: none if the frame is accepted
 abbrev pub pass_text : Config → World → WorldReply → World → List ℕ
 pass_text config w given new = if is_taken given new then [] else step_text config w given new
 
--- each correct replica ends its round, and then each frame that was sent is passed to whom it is for
-pub record PlaysRound (c : RunningCluster) (text : List ℕ) (d : RunningCluster) : Type 0 where
+-- each correct replica ends its round, and then each frame that was sent is passed to its addressees
+pub record PlaysRound (c : WorldView) (text : List ℕ) (d : WorldView) : Type 0 where
   pub ends : List ℕ
   pub passes : List WorldStep
-  pub mid : RunningCluster
+  pub mid : WorldView
   pub passed : List ℕ
   pub ended : EndsEach (correct_in c) c (correct_in c) ends passes mid
   pub delivered : StepsEach pass_text mid passes passed d
   pub printed : text ≡ ends ++ passed
 
--- ---- what the application tells
+-- ---- the state of the application
 
--- `info R H` and the hash, or why the replica tells nothing
+-- `info R H` and the hash, or why the step may not name the replica
 abbrev pub info_text : Config → World → ℕ → List ℕ
 info_text config w r = unless (fault_at config w r)
   where
@@ -148,76 +148,79 @@ info_text config w r = unless (fault_at config w r)
 
 -- ---- lies
 
--- the frames among which a replica's reports are: what it sent, if it is correct, or what liars signed
-abbrev pub frames_of : Simulated → ℕ → List (List ℕ)
+-- the frames in which a replica's reports are looked up: what it sent, if it is correct, and otherwise what liars signed
+abbrev pub frames_of : SimulationView → ℕ → List (List ℕ)
 frames_of p r = if is_correct (world_of p.cluster).histories r then frames_sent (entries_in (world_of p.cluster) r) else p.lies
 
--- the earliest report of a replica that serves
-abbrev pub serving : Simulated → Lie → ℕ → Option SignedReport
+-- the earliest serving report of a replica
+abbrev pub serving : SimulationView → Lie → ℕ → Option SignedReport
 serving p l r = first_serving l r (frames_of p r)
 
--- the reports that serve, one a replica, by ascending numbers
-abbrev pub all_serving : Simulated → Lie → List SignedReport
+-- the serving reports, at most one for each replica, in ascending order
+abbrev pub all_serving : SimulationView → Lie → List SignedReport
 all_serving p l = filter_map (serving p l) (range_with_len 0 p.cluster.config.replicas)
 
--- no more of them than a proof has
-abbrev pub proof_for : Simulated → Lie → List SignedReport
-proof_for p l = take (p.cluster.config.replicas - p.cluster.config.faults) (all_serving p l)
+-- as many of them as a proof has
+abbrev pub proof_for : SimulationView → Lie → List SignedReport
+proof_for p l = take (quorum p.cluster.config) (all_serving p l)
 
--- the replicas to which a lie goes
-abbrev pub lie_receivers : RunningCluster → Towards → List ℕ
+-- the replicas that a lie goes to
+abbrev pub lie_receivers : WorldView → Towards → List ℕ
 lie_receivers c (towards.One n) = named n ∷ []
 lie_receivers c towards.All = correct_in c
 
--- bytes are injected to each of these
+-- the injections of these bytes, one for each receiver
 abbrev pub injections_to : List ℕ → List ℕ → List WorldStep
 injections_to receivers bytes = map (λ r. step.Inject r bytes) receivers
 
 -- the liar's next leaf signs the statement
-abbrev pub Signed : RunningCluster → ℕ → Statement → Result (List ℕ) SignFault → RunningCluster → Type 0
+abbrev pub Signed : WorldView → ℕ → Statement → Result (List ℕ) SignFault → WorldView → Type 0
 Signed c liar said given d = SignsFor (λ x. x) c liar (statement_bytes said) given d
 
--- the liar signs the statement, whose frame is injected
-pub record TellsLie (l : Lie) (c : RunningCluster) (said : Statement) (signature : List ℕ) (text : List ℕ) (d : RunningCluster) : Type 0 where
-  pub mid : RunningCluster
+-- the liar signs the statement, and its frame is injected
+pub record TellsLie (l : Lie) (c : WorldView) (said : Statement) (signature : List ℕ) (text : List ℕ) (d : WorldView) : Type 0 where
+  pub mid : WorldView
   pub signs : Signed c l.liar said (Ok signature) mid
-  pub injected : StepsEach step_text mid (injections_to (lie_receivers mid l.to) (frame_bytes (record { statement = said; signature = signature }))) text d
+  pub injected : StepsEach step_text mid
+      (injections_to (lie_receivers mid l.to) (frame_bytes (record { statement = said; signature = signature }))) text d
 
 -- the frame of a statement and its signature
 abbrev pub frame_with : Statement → List ℕ → List ℕ
 frame_with said signature = frame_bytes (record { statement = said; signature = signature })
 
--- what comes of a lie that a liar is to sign: it is told, or no leaf is left
-abbrev pub Tells : Lie → Statement → Simulated → Result (List ℕ) SignFault → List ℕ → Simulated → Type 0
-Tells l said p (Ok signature) text q = TellsLie l p.cluster said signature text q.cluster × (q.lies ≡ p.lies ++ frame_with said signature ∷ [])
+-- the outcome of a lie that a liar is asked to sign: it is told, or no leaf is left
+abbrev pub Tells : Lie → Statement → SimulationView → Result (List ℕ) SignFault → List ℕ → SimulationView → Type 0
+Tells l said p (Ok signature) text q =
+    TellsLie l p.cluster said signature text q.cluster × (q.lies ≡ p.lies ++ frame_with said signature ∷ [])
 Tells l said p (Err sign.Exhausted) text q =
     Signed p.cluster l.liar said (Err sign.Exhausted) q.cluster × (q.lies ≡ p.lies) × (text ≡ ended (codes "exhausted"))
 Tells l said p (Err sign.NoMemory) text q = ⊥
 
--- a liar tells the lie; who is no liar tells none
-abbrev pub Lies : Lie → Statement → Simulated → List ℕ → Simulated → Type 0
+-- a liar tells the lie; a replica that is not a liar tells none
+abbrev pub Lies : Lie → Statement → SimulationView → List ℕ → SimulationView → Type 0
 Lies l said p text q =
     ((given : Result (List ℕ) SignFault) × Tells l said p given text q)
     ⊎ ((liar_at p.cluster l.liar ≡ None) × (q ≡ p) × (text ≡ []))
 
--- a lock with this proof, if enough reports serve
-abbrev pub LiesLock : Lie → List SignedReport → Simulated → List ℕ → Simulated → Type 0
+-- a liar tells a lock with this proof, if there are enough serving reports
+abbrev pub LiesLock : Lie → List SignedReport → SimulationView → List ℕ → SimulationView → Type 0
 LiesLock l proof p text q =
-    MatchBool (nat_lt (length proof) (p.cluster.config.replicas - p.cluster.config.faults))
+    MatchBool (nat_lt (length proof) (quorum p.cluster.config))
     ((text ≡ ended (codes "lie-lock cannot")) × (q ≡ p))
     (Lies l (statement.Lock (lying_lock l proof)) p text q)
 
 -- ---- commands
 
--- a step of a command
-abbrev pub PlaysStep : Simulated → WorldStep → List ℕ → Simulated → Type 0
+-- a command that stands for a step
+abbrev pub PlaysStep : SimulationView → WorldStep → List ℕ → SimulationView → Type 0
 PlaysStep p s text q = Steps step_text p.cluster s text q.cluster × (q.lies ≡ p.lies)
 
--- each correct replica ends its round, and nothing is passed
-abbrev pub PlaysSilent : Simulated → List ℕ → Simulated → Type 0
-PlaysSilent p text q = (passes : List WorldStep) × (EndsEach (correct_in p.cluster) p.cluster (correct_in p.cluster) text passes q.cluster × (q.lies ≡ p.lies))
+-- each correct replica ends its round, and nothing is passed on
+abbrev pub PlaysSilent : SimulationView → List ℕ → SimulationView → Type 0
+PlaysSilent p text q = (passes : List WorldStep)
+    × (EndsEach (correct_in p.cluster) p.cluster (correct_in p.cluster) text passes q.cluster × (q.lies ≡ p.lies))
 
--- the step of the world that a command is, if it is one
+-- the step of the world that a command stands for, if it stands for one
 abbrev pub step_of : Command → Option WorldStep
 step_of (command.Submit r bytes) = Some (step.Submit (named r) bytes)
 step_of (command.Propose r h) = Some (step.Propose (named r) h)
@@ -228,8 +231,8 @@ step_of (command.Execute r) = Some (step.Execute (named r))
 step_of (command.Query r key) = Some (step.Query (named r) key 0)
 step_of _ = None
 
--- what the other commands do, and what is printed of them
-abbrev pub PlaysOther : Simulated → Command → List ℕ → Simulated → Type 0
+-- what the other commands do, and what is printed for them
+abbrev pub PlaysOther : SimulationView → Command → List ℕ → SimulationView → Type 0
 PlaysOther p (command.Info r) text q = (text ≡ info_text p.cluster.config (world_of p.cluster) (named r)) × (q ≡ p)
 PlaysOther p command.Silent text q = PlaysSilent p text q
 PlaysOther p command.Round text q = PlaysRound p.cluster text q.cluster × (q.lies ≡ p.lies)
@@ -238,23 +241,24 @@ PlaysOther p (command.LieLock l) text q = LiesLock l (proof_for p l) p text q
 PlaysOther p (command.LieAck l) text q = Lies l (statement.Ack (lying_ack l)) p text q
 PlaysOther p _ text q = ⊥
 
--- what a command does, and what is printed of it
-unfoldable pub Plays : Simulated → Command → List ℕ → Simulated → Type 0
+-- what a command does, and what is printed for it
+unfoldable pub Plays : SimulationView → Command → List ℕ → SimulationView → Type 0
 Plays p c text q = by_step (step_of c)
   where
     by_step : Option WorldStep → Type 0
     by_step (Some s) = PlaysStep p s text q
     by_step None = PlaysOther p c text q
 
--- what commands do, one after the other
-unfoldable pub PlaysAll : Simulated → List Command → List ℕ → Simulated → Type 0
+-- what commands do, one after another
+unfoldable pub PlaysAll : SimulationView → List Command → List ℕ → SimulationView → Type 0
 PlaysAll p [] text q = (text ≡ []) × (q ≡ p)
 PlaysAll p (c ∷ cs) text q =
-    (mid : Simulated) × ((first : List ℕ) × ((rest : List ℕ) × (Plays p c first mid × PlaysAll mid cs rest q × (text ≡ first ++ rest))))
+    (mid : SimulationView) × ((first : List ℕ)
+    × ((rest : List ℕ) × (Plays p c first mid × PlaysAll mid cs rest q × (text ≡ first ++ rest))))
 
--- ---- what calls say
+-- ---- the results of calls
 
--- the replica that a step is for
+-- the replica that a step addresses
 abbrev pub target : WorldStep → ℕ
 target (step.Submit r bytes) = r
 target (step.Propose r h) = r
@@ -264,31 +268,34 @@ target (step.Query r key h) = r
 target (step.Pass from index to) = to
 target (step.Inject r bytes) = r
 
--- what is printed of an answer, by the heights that weren't decided before
+-- the text for a reply, given the heights that weren't decided before
 abbrev pub answer_text : Config → List ℕ → WorldReply → World → List ℕ
 answer_text config before (answer.Refused why) new = ended (refusal_text why)
 answer_text config before (answer.Done r i) new = entry_text config r before (entries_in new r) (slice_get (entries_in new r) i)
 
--- the step is answered so, and what is printed of it is added
-pub record Answers (print : Config → World → WorldReply → World → List ℕ) (c : RunningCluster) (s : WorldStep) (given : WorldReply) (d : RunningCluster) (before after : List ℕ) : Type 0 where
+-- the step was taken with this reply, and its text was appended
+pub record Answers (print : Config → World → WorldReply → World → List ℕ) (c : WorldView) (s : WorldStep) (given : WorldReply)
+    (d : WorldView) (before after : List ℕ) : Type 0 where
   pub answered : IsAnswered c s given d
   pub printed : after ≡ before ++ print c.config (world_of c) given (world_of d)
 
--- what came of a liar's signing
-abbrev pub IsSigning : RunningCluster → ℕ → Statement → Signing → RunningCluster → Type 0
+-- the result of asking a liar to sign
+abbrev pub IsSigning : WorldView → ℕ → Statement → Signing → WorldView → Type 0
 IsSigning c liar said (signing.Signed frame) d = (frame.statement ≡ said) × Signed c liar said (Ok frame.signature) d
 IsSigning c liar said signing.Exhausted d = Signed c liar said (Err sign.Exhausted) d
 IsSigning c liar said signing.NoLiar d = (liar_at c liar ≡ None) × (d ≡ c)
 
--- the replica ends its round: what is printed, and the passes of what it sent, are added
-pub record Ends (correct : List ℕ) (c : RunningCluster) (r : ℕ) (before after : List ℕ) (passes more : List WorldStep) (d : RunningCluster) : Type 0 where
-  pub text : List ℕ
-  pub end : Steps step_text c (step.RoundEnd r) text d
-  pub printed : after ≡ before ++ text
-  pub passed : more ≡ passes ++ passes_of correct (length (frames_sent (entries_in (world_of c) r))) end.given (world_of d)
+-- the replica ends its round; its text, and the passes of what it sent, were appended
+pub record Ends (correct : List ℕ) (c : WorldView) (r : ℕ) (before after : List ℕ) (passes more : List WorldStep) (d : WorldView) : Type 0
+  where
+    pub text : List ℕ
+    pub end : Steps step_text c (step.RoundEnd r) text d
+    pub printed : after ≡ before ++ text
+    pub passed : more ≡ passes ++ passes_of correct (length (frames_sent (entries_in (world_of c) r))) end.given (world_of d)
 
--- whatever was asked, steps of the definitions lead from the cluster as it was to what it is, with the same configuration and keys
-pub record GoesOn (c d : RunningCluster) : Type 0 where
+-- whatever the command, steps of the definitions lead from the old cluster to the new one, which has the same
+-- configuration and keys
+pub record GoesOn (c d : WorldView) : Type 0 where
   pub steps : List WorldStep
   pub answers : List WorldReply
   pub runs : Runs c.config c.ring (world_of c) steps answers (world_of d)

@@ -1,8 +1,7 @@
-//! A scenario played on a whole cluster, and what is printed of it.
+//! Plays a scenario on a whole cluster, and prints what happens.
 //!
 //! A [`Simulation`] is a world whose liars tell the lies of a scenario's commands. [`Simulation::play`] takes one command and
-//! gives its lines; its contract says that what happens is what the command means, and that the lines are those of what
-//! happened.
+//! returns its lines. Its contract says that what happens is what the command means, and that the lines describe what happened.
 #![tactic(auto)]
 
 mod playing;

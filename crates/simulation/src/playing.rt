@@ -1,4 +1,4 @@
-//! A scenario's commands, one by one.
+//! Plays a scenario's commands, one by one.
 ghost use Rattle.std.specs.Prelude.{◌≡◌, IfOk};
 ghost use Rattle.simulation.specs.Playing.{step_of};
 
@@ -10,7 +10,7 @@ use reply_lines::{Text, add_info, add_refusal};
 use scenario_texts::Command;
 use std::alloc::AllocError;
 
-/// The step of the world that a command is, if it is one.
+/// The step of the world that the command stands for, if it stands for one.
 fn step_of(command: &Command) -> Result<Option<WorldStep>, AllocError>
     ensures { IfOk result (λ step. step ≡ step_of command.now) }
 {
@@ -43,10 +43,10 @@ fn step_of(command: &Command) -> Result<Option<WorldStep>, AllocError>
 impl<A: Application> Simulation<A> {
     ghost use Rattle.std.specs.Prelude.{◌++◌, None, ℕ, List, OnOk};
     ghost use Rattle.reply_lines.specs.Lines.{step_text};
-    ghost use Rattle.adversary_net.specs.Clusters.{world_of};
+    ghost use Rattle.adversary_net.specs.WorldViews.{world_of};
     ghost use Rattle.simulation.specs.Playing.{Plays, PlaysStep, PlaysOther, GoesOn, info_text};
 
-    /// Takes a step, and adds what is printed of it.
+    /// Takes a step, and appends its lines.
     fn play_step(&mut self, step: &WorldStep, out: &mut Text) -> Result<(), AllocError>
         ensures done { OnOk result ((text : List ℕ) × (PlaysStep self.old step.now text self.new × (out.new ≡ out.old ++ text))) }
         ensures goes_on { GoesOn self.old.cluster self.new.cluster }
@@ -55,7 +55,7 @@ impl<A: Application> Simulation<A> {
         Ok(())
     }
 
-    /// Adds what the application of a replica tells of itself.
+    /// Appends the line about a replica's application.
     fn add_info(&self, replica: ReplicaId, out: &mut Text) -> Result<(), AllocError>
         ensures { OnOk result (out.new ≡ out.old ++ info_text self.now.cluster.config (world_of self.now.cluster) replica) }
     {
@@ -65,7 +65,7 @@ impl<A: Application> Simulation<A> {
         }
     }
 
-    /// Does what a command means that is no step, and adds what is printed of it.
+    /// Plays a command that stands for no step, and appends its lines.
     #[tactic(auto, using(crate::proofs::StepLemmas::stays))]
     fn play_other(&mut self, command: &Command, out: &mut Text) -> Result<(), AllocError>
         requires { step_of command.now ≡ None }
@@ -83,7 +83,7 @@ impl<A: Application> Simulation<A> {
         }
     }
 
-    /// Does what a command means, and adds what is printed of it.
+    /// Plays a command, and appends its lines.
     #[tactic(auto, using(crate::proofs::StepLemmas::stays))]
     fn play_into(&mut self, command: &Command, out: &mut Text) -> Result<(), AllocError>
         ensures done { OnOk result ((text : List ℕ) × (Plays self.old command.now text self.new × (out.new ≡ out.old ++ text))) }
@@ -95,12 +95,12 @@ impl<A: Application> Simulation<A> {
         }
     }
 
-    /// Does what a command means, and gives what is printed of it: its lines, each with its end.
+    /// Plays a command, and returns its lines, each with a line feed.
     ///
-    /// The only error is want of memory. The steps that were taken by then stay taken.
+    /// The only error is allocation failure. The steps that were taken before it stay taken.
     pub fn play(&mut self, command: &Command) -> Result<Text, AllocError>
         ensures plays { IfOk result (λ text. Plays self.old command.now text self.new) }
-        // Whatever it answers, steps of the definitions lead to what it is.
+        // Whatever is returned, steps of the definitions lead from the old world to the new one.
         ensures goes_on { GoesOn self.old.cluster self.new.cluster }
     {
         let mut text = Text::new(self.allocator());

@@ -1,7 +1,8 @@
-//! Rounds: each correct replica ends its own, and what was sent is passed on.
+//! Plays a round: each correct replica ends its own, and then the frames that were sent are passed on.
 ghost use Rattle.std.specs.Prelude.{◌≡◌, ◌<◌, ◌≤◌, ◌+◌, ◌*◌, ◌^◌, ◌++◌, [], ◌∷◌, map, slice_get, OnOk, IfOk};
 ghost use Rattle.ledger_model.specs.declared.world.WorldStep.TheVariants.{Pass};
 ghost use Rattle.simulation.specs.Playing.{is_for, receivers, passes_from, sent_by};
+ghost use Rattle.ledger_model.specs.Limits.{max_history_len};
 
 use crate::simulation::Simulation;
 use abci::Application;
@@ -10,7 +11,7 @@ use locked_replica::{ReplyView, RoundEndView, State};
 use reply_lines::Text;
 use std::alloc::AllocError;
 
-/// Whether a frame of a replica is for this one.
+/// Whether a frame of `from` with this addressee goes to `replica`.
 fn is_for(from: ReplicaId, addressee: Addressee, replica: ReplicaId) -> bool
     ensures { result ≡ is_for from addressee replica }
 {
@@ -20,7 +21,7 @@ fn is_for(from: ReplicaId, addressee: Addressee, replica: ReplicaId) -> bool
     }
 }
 
-/// Adds the pass of a frame to a replica, if it is for this one.
+/// Appends the pass of a frame to a replica, if the frame goes there.
 fn add_pass(
     passes: &mut Vec<WorldStep>,
     from: ReplicaId,
@@ -37,7 +38,7 @@ fn add_pass(
     Ok(())
 }
 
-/// Adds the passes of one frame, of this index among all that its sender ever sent.
+/// Appends the passes of one frame, which has this index among all that its sender ever sent.
 fn add_passes_of_frame(
     passes: &mut Vec<WorldStep>,
     correct: &[ReplicaId],
@@ -53,7 +54,7 @@ fn add_passes_of_frame(
     Ok(())
 }
 
-/// The index of a frame as a step has it. No memory has room for 2^64 frames.
+/// The index of a frame, as a step has it. Memory never has room for 2^64 frames.
 fn index_of(before: u128, place: usize) -> Result<usize, AllocError>
     requires { before + place < 2 ^ 128 }
     ensures { IfOk result (λ index. index ≡ before + place) }
@@ -61,7 +62,7 @@ fn index_of(before: u128, place: usize) -> Result<usize, AllocError>
     usize::try_from(before + place as u128).map_err(|_| AllocError)
 }
 
-/// Adds the passes of a round end's frames, before which its sender had sent so many.
+/// Appends the passes of a round end's frames; their sender had sent `before` frames earlier.
 fn add_passes_of_end(
     passes: &mut Vec<WorldStep>,
     correct: &[ReplicaId],
@@ -69,7 +70,7 @@ fn add_passes_of_end(
     before: u128,
     end: &RoundEndView<'_>,
 ) -> Result<(), AllocError>
-    requires { before ≤ 65536 * 2 ^ 64 }
+    requires { before ≤ max_history_len * 2 ^ 64 }
     ensures { OnOk result (passes.new.items ≡ passes.old.items ++ passes_from correct.now from before end.now.frames) }
 {
     for place in 0..end.len() {
@@ -81,7 +82,7 @@ fn add_passes_of_end(
     Ok(())
 }
 
-/// Adds the passes of an entry's frames, before which its replica had sent so many.
+/// Appends the passes of an entry's frames; its replica had sent `before` frames earlier.
 fn add_passes_of_entry<A: Application>(
     passes: &mut Vec<WorldStep>,
     correct: &[ReplicaId],
@@ -89,7 +90,7 @@ fn add_passes_of_entry<A: Application>(
     before: u128,
     index: usize,
 ) -> Result<(), AllocError>
-    requires { before ≤ 65536 * 2 ^ 64 }
+    requires { before ≤ max_history_len * 2 ^ 64 }
     ensures { OnOk result (passes.new.items ≡ passes.old.items ++ passes_from correct.now state.now.id before (sent_by (slice_get state.now.entries index))) }
 {
     match state.entry(index) {
@@ -107,11 +108,12 @@ impl<A: Application> Simulation<A> {
     ghost use Rattle.std.specs.Prelude.{ℕ, List, IfOk};
     ghost use Rattle.ledger_model.specs.declared.world.WorldStep.{WorldStep};
     ghost use Rattle.ledger_model.specs.Worlds.{entries_in, frames_sent};
-    ghost use Rattle.adversary_net.specs.Clusters.{world_of};
+    ghost use Rattle.adversary_net.specs.WorldViews.{world_of};
     ghost use Rattle.reply_lines.specs.Lines.{step_text};
     ghost use Rattle.simulation.specs.Playing.{EndsEach, StepsEach, PlaysRound, PlaysSilent, GoesOn, Ends, correct_in, passes_of, pass_text};
+    ghost use Rattle.ledger_model.specs.Limits.{max_history_len};
 
-    /// Adds the passes of what a step sent, before which its replica had sent so many frames.
+    /// Appends the passes of the frames that a step sent; its replica had sent `before` frames earlier.
     fn add_passes(
         &self,
         passes: &mut Vec<WorldStep>,
@@ -119,7 +121,7 @@ impl<A: Application> Simulation<A> {
         before: u128,
         answer: &WorldReply,
     ) -> Result<(), AllocError>
-        requires { before ≤ 65536 * 2 ^ 64 }
+        requires { before ≤ max_history_len * 2 ^ 64 }
         ensures { OnOk result (passes.new.items ≡ passes.old.items ++ passes_of correct.now before answer.now (world_of self.now.cluster)) }
     {
         match answer {
@@ -131,7 +133,7 @@ impl<A: Application> Simulation<A> {
         }
     }
 
-    /// One replica ends its round: adds what is printed, and the passes of what it sent.
+    /// One replica ends its round. Appends its lines, and the passes of what it sent.
     fn end(
         &mut self,
         correct: &[ReplicaId],
@@ -167,7 +169,7 @@ impl<A: Application> Simulation<A> {
         Ok(())
     }
 
-    /// Each correct replica ends its round: adds what is printed, and the passes of what they sent.
+    /// Each correct replica ends its round. Appends their lines, and the passes of what they sent.
     fn end_all(&mut self, passes: &mut Vec<WorldStep>, out: &mut Text) -> Result<(), AllocError>
         ensures done { OnOk result ((text : List ℕ) × ((more : List WorldStep)
             × (EndsEach (correct_in self.old.cluster) self.old.cluster (correct_in self.old.cluster) text more self.new.cluster
@@ -179,7 +181,7 @@ impl<A: Application> Simulation<A> {
         self.end_each(&correct, passes, out)
     }
 
-    /// Each of these frames is passed.
+    /// Takes each of these passes.
     fn pass_each(&mut self, passes: &[WorldStep], out: &mut Text) -> Result<(), AllocError>
         ensures done { OnOk result ((text : List ℕ)
             × (StepsEach pass_text self.old.cluster passes.now text self.new.cluster × (out.new ≡ out.old ++ text))) }
@@ -192,7 +194,7 @@ impl<A: Application> Simulation<A> {
         Ok(())
     }
 
-    /// Each correct replica ends its round, and nothing is passed.
+    /// Each correct replica ends its round, and nothing is passed on.
     pub(crate) fn play_silent(&mut self, out: &mut Text) -> Result<(), AllocError>
         ensures done { OnOk result ((text : List ℕ) × (PlaysSilent self.old text self.new × (out.new ≡ out.old ++ text))) }
         ensures goes_on { GoesOn self.old.cluster self.new.cluster }
@@ -201,7 +203,7 @@ impl<A: Application> Simulation<A> {
         self.end_all(&mut passes, out)
     }
 
-    /// Each correct replica ends its round, and then each frame that was sent is passed to whom it is for.
+    /// Each correct replica ends its round, and then each frame that was sent is passed to its addressees.
     pub(crate) fn play_round(&mut self, out: &mut Text) -> Result<(), AllocError>
         ensures done { OnOk result ((text : List ℕ) × (PlaysRound self.old.cluster text self.new.cluster × (out.new ≡ out.old ++ text))) }
         ensures lies { self.new.lies ≡ self.old.lies }

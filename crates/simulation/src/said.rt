@@ -1,4 +1,4 @@
-//! What a liar's statement says.
+//! The statements of liars.
 ghost use Rattle.std.specs.Prelude.{◌≡◌, ◌≤◌, length, IfOk, IsTrue};
 ghost use Rattle.std.specs.List.{AllByRecursion};
 ghost use Rattle.ledger_model.specs.Spelling.{IsAck, IsLock, IsPlace, IsReport, IsSigned};
@@ -9,15 +9,15 @@ use ledger_model::{Ack, Batches, Lock, LockProof, Report, SignedReport};
 use scenario_texts::Lie;
 use std::alloc::{AllocError, Global};
 
-/// Shows that the height, the phase and the liar can be spelled, as their types keep of them. It does nothing at run time
-/// but to read them.
+/// Shows the proof that the height, the phase and the liar can be encoded, which their types guarantee. At run time it
+/// only reads them.
 fn show_place(lie: &Lie)
     ensures { IsPlace lie.now.height lie.now.phase lie.now.liar }
 {
     let _ = (lie.height.number(), lie.phase.number(), lie.liar.number());
 }
 
-/// The report of a lie: its initial and only proper value is the batch, and it tells of no lock.
+/// The report of a lie: the batch is its initial value and its only proper value, and it lists no lock.
 pub(crate) fn report_of(alloc: Global, lie: &Lie) -> Result<Report, AllocError>
     ensures report { IfOk result (λ report. report ≡ lying_report lie.now) }
     ensures spelled { IfOk result (λ report. IsReport report) }

@@ -1,4 +1,4 @@
-//! The reports that serve the proof of a liar's lock: those of its height and phase that find its value.
+//! The reports that serve in the proof of a liar's lock: those of its height and phase that find its value.
 ghost use Rattle.std.specs.Prelude.{◌≡◌, ◌∷◌, [], map, slice_get, IfOk, IfSome};
 ghost use Rattle.ledger_model.specs.Spelling.{IsSigned};
 ghost use Rattle.ledger_model.specs.Worlds.{frames_sent};
@@ -13,7 +13,7 @@ use signed_frames::Frame;
 use statements::DecodeFault;
 use std::alloc::{AllocError, Global};
 
-/// Whether the report of this replica serves a proof of the lie's lock.
+/// Whether the replica's report serves in a proof of the lie's lock.
 fn serves(lie: &Lie, replica: ReplicaId, report: &Report) -> bool
     ensures { result ≡ serves_report lie.now replica report.now }
 {
@@ -23,7 +23,7 @@ fn serves(lie: &Lie, replica: ReplicaId, report: &Report) -> bool
         && report.finds(&lie.batch)
 }
 
-/// The report of a frame with its signature, if it is a report that serves.
+/// The report in a frame with its signature, if it is a serving report.
 fn serving_in(
     alloc: Global,
     lie: &Lie,
@@ -45,7 +45,7 @@ fn serving_in(
     }
 }
 
-/// The report that bytes are the frame of, if it is a report that serves.
+/// The report that the bytes are a frame of, if it is a serving report.
 fn serving_bytes(
     alloc: Global,
     lie: &Lie,
@@ -62,7 +62,7 @@ fn serving_bytes(
     }
 }
 
-/// The first report that serves among the frames of a round end.
+/// The first serving report among the frames of a round end.
 fn serving_of_end(
     alloc: Global,
     lie: &Lie,
@@ -83,7 +83,7 @@ fn serving_of_end(
     Ok(None)
 }
 
-/// The first report that serves among the frames of an entry.
+/// The first serving report among the frames of an entry.
 #[tactic(auto, unfolding(crate::specs::Lies::first_serving))]
 fn serving_of_entry<A: Application>(
     alloc: Global,
@@ -104,9 +104,9 @@ fn serving_of_entry<A: Application>(
     }
 }
 
-/// The earliest report that serves among all frames that a replica ever sent; whose report it is to be, `replica` says.
+/// The earliest serving report of `replica` among all frames in the history of a replica.
 ///
-/// The only error is want of memory.
+/// The only error is allocation failure.
 pub(crate) fn first_in_history<A: Application>(
     alloc: Global,
     lie: &Lie,
@@ -125,9 +125,9 @@ pub(crate) fn first_in_history<A: Application>(
     Ok(None)
 }
 
-/// The first report that serves among frames.
+/// The first serving report among the frames.
 ///
-/// The only error is want of memory.
+/// The only error is allocation failure.
 pub(crate) fn first_in_frames(
     alloc: Global,
     lie: &Lie,

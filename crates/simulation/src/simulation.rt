@@ -1,20 +1,20 @@
-//! A cluster that is simulated, and what its liars have signed.
+//! A simulated cluster, and what its liars have signed.
 use abci::Application;
 use adversary_net::{World, WorldFault};
 use bytes::Bytes;
-use cluster_keys::Cluster;
+use cluster_keys::ClusterSeed;
 use ledger_model::ReplicaId;
 use std::alloc::{AllocError, Global};
 use std::hash::RandomState;
 use std::marker::Model;
 
-/// A cluster that is simulated: the world, and the frames of what its liars have signed.
+/// A simulated cluster: the world, and the frames that its liars have signed.
 pub struct Simulation<A: Application> {
     pub(crate) world: World<A>,
     pub(crate) lies: Vec<Bytes>,
 }
 
-// It is dropped by a function of its own, so that whoever owns one drops it by a single call.
+// An own `Drop` keeps proofs short: an owner drops it by one call. See docs/WORKING.md.
 impl<A: Application> Drop for Simulation<A> {
     fn drop(self) {
         let Simulation {
@@ -25,9 +25,9 @@ impl<A: Application> Drop for Simulation<A> {
 }
 
 impl<A: Application> Model for Simulation<A> {
-    ghost use Rattle.simulation.specs.Playing.{Simulated};
+    ghost use Rattle.simulation.specs.Playing.{SimulationView};
 
-    ghost Value = { Simulated };
+    ghost Value = { SimulationView };
 
     ghost view = { λ s. record { cluster = s.world; lies = s.lies.items } };
 }
@@ -36,15 +36,15 @@ impl<A: Application> Simulation<A> {
     ghost use Rattle.std.specs.Prelude.{◌≡◌, ◌<◌, ◌≤◌, ◌↔◌, [], vec_len, length, All, Any, IfOk, IsErrOf};
     ghost use Rattle.ledger_model.specs.Applications.{run};
     ghost use Rattle.cluster_keys.specs.Keys.{secret_of};
-    ghost use Rattle.adversary_net.specs.Clusters.{AllAccountForLeaves, HasRun};
+    ghost use Rattle.adversary_net.specs.WorldViews.{AllAccountForLeaves, HasRun};
     ghost use Rattle.adversary_net.specs.Headline.{IsUnforged, IsOneLedger};
     ghost use Rattle.adversary_net.specs.Openings.{MayLie, new_cluster, correct_without, different};
     ghost use Rattle.simulation.specs.Playing.{correct_in};
 
-    /// The simulation of a cluster in which these replicas lie, as [`World::new`] makes it. Nothing has happened.
+    /// The simulation of a cluster in which these replicas lie, as [`World::new`] makes it. Nothing has happened yet.
     pub fn new(
         alloc: Global,
-        cluster: &Cluster,
+        cluster: &ClusterSeed,
         liars: &[ReplicaId],
         apps: Vec<A>,
         randoms: Vec<[RandomState; 2]>,
@@ -66,26 +66,26 @@ impl<A: Application> Simulation<A> {
         }
     }
 
-    /// The world, as it is now. Whatever was played, it is a run of the definitions from the world with no entries; and where
-    /// nothing that was accepted was forged, it is a run of one sequential ledger.
+    /// The world as it is now. Whatever was played, the world is the end of a run of the definitions from the empty
+    /// world. If nothing that was accepted was forged, the run is a run of one sequential ledger.
     pub fn world(&self) -> &World<A>
         ensures world { result.now ≡ self.now.cluster }
         ensures since { HasRun self.now.cluster }
         ensures one_ledger { IsUnforged self.now.cluster → IsOneLedger self.now.cluster }
-        // Each correct replica is mute only because too few leaves were left.
+        // A correct replica is mute only if too few leaves were left.
         ensures account { AllAccountForLeaves self.now.cluster }
     {
-        // What a world keeps of its run is said where it gives out the order of its entries.
+        // This call shows the proof what a world guarantees about its run.
         let _ = self.world.order();
         &self.world
     }
 
-    /// Where its memory comes from.
+    /// The allocator of the simulation.
     pub(crate) fn allocator(&self) -> Global {
         *self.lies.allocator()
     }
 
-    /// The correct replicas, by ascending numbers.
+    /// The correct replicas, in ascending order of their numbers.
     #[tactic(auto, using(crate::proofs::Ranges::filter_kept, crate::proofs::Ranges::filter_left))]
     pub(crate) fn correct(&self) -> Result<Vec<ReplicaId>, AllocError>
         ensures { IfOk result (λ correct. correct.items ≡ correct_in self.now.cluster) }

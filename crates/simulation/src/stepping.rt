@@ -1,4 +1,4 @@
-//! One step of a simulation, and what is printed of it.
+//! Takes one step of a simulation, and prints it.
 ghost use Rattle.std.specs.Prelude.{◌≡◌, slice_get};
 ghost use Rattle.simulation.specs.Playing.{target, is_accepted};
 
@@ -10,7 +10,7 @@ use reply_lines::{Text, add_entry, add_refusal, undecided_heights};
 use std::alloc::AllocError;
 use std::slice;
 
-/// The replica that a step is for.
+/// The replica that a step addresses.
 fn target(step: &WorldStep) -> ReplicaId
     ensures { result ≡ target step.now }
 {
@@ -24,7 +24,7 @@ fn target(step: &WorldStep) -> ReplicaId
     }
 }
 
-/// Whether an entry is of a frame that was accepted.
+/// Whether the entry at this index delivers a frame that was accepted.
 fn is_accepted<A: Application>(state: &State<A>, index: usize) -> bool
     ensures { result ≡ is_accepted (slice_get state.now.entries index) }
 {
@@ -38,11 +38,12 @@ impl<A: Application> Simulation<A> {
     ghost use Rattle.std.specs.Prelude.{◌++◌, true, IfOk, OnOk};
     ghost use Rattle.ledger_model.specs.Groups.{is_correct};
     ghost use Rattle.ledger_model.specs.Worlds.{entries_in};
-    ghost use Rattle.adversary_net.specs.Clusters.{world_of};
+    ghost use Rattle.adversary_net.specs.WorldViews.{world_of};
+    ghost use Rattle.adversary_net.specs.Leaves.{IsAnswered};
     ghost use Rattle.reply_lines.specs.Lines.{undecided, step_text};
-    ghost use Rattle.simulation.specs.Playing.{IsAnswered, Answers, GoesOn, answer_text, pass_text, is_taken};
+    ghost use Rattle.simulation.specs.Playing.{Answers, GoesOn, answer_text, pass_text, is_taken};
 
-    /// The heights that a replica may have open and hasn't decided, if it is correct.
+    /// The heights that a replica may have open and hasn't decided; none if the replica is not correct.
     fn undecided(&self, replica: ReplicaId) -> Result<Vec<u32>, AllocError>
         ensures { IfOk result (λ heights. is_correct (world_of self.now.cluster).histories replica ≡ true
             → heights.items ≡ undecided self.now.cluster.config replica (entries_in (world_of self.now.cluster) replica)) }
@@ -53,7 +54,7 @@ impl<A: Application> Simulation<A> {
         }
     }
 
-    /// Takes a step, and gives its answer. After an error nothing has changed.
+    /// Takes a step, and returns its reply. After an error nothing has changed.
     fn take(&mut self, step: &WorldStep) -> Result<WorldReply, AllocError>
         ensures taken { IfOk result (λ answer. IsAnswered self.old.cluster step.now answer self.new.cluster) }
         ensures lies { self.new.lies ≡ self.old.lies }
@@ -65,7 +66,7 @@ impl<A: Application> Simulation<A> {
         }
     }
 
-    /// Whether the answer is of a frame that was accepted.
+    /// Whether the reply is that a delivered frame was accepted.
     fn is_accepted(&self, answer: &WorldReply) -> bool
         ensures { result ≡ is_taken answer.now (world_of self.now.cluster) }
     {
@@ -78,7 +79,7 @@ impl<A: Application> Simulation<A> {
         }
     }
 
-    /// Adds what is printed of an answer.
+    /// Appends the lines of a reply.
     fn add_answer(
         &self,
         out: &mut Text,
@@ -96,7 +97,7 @@ impl<A: Application> Simulation<A> {
         }
     }
 
-    /// Takes a pass within a round, and adds what is printed of it: nothing, where the frame is accepted.
+    /// Takes a pass within a round, and appends its lines: none if the frame is accepted.
     #[tactic(auto, using(crate::proofs::StepLemmas::stays))]
     pub(crate) fn pass(&mut self, step: &WorldStep, out: &mut Text) -> Result<(), AllocError>
         ensures done { OnOk result ((given : WorldReply) × Answers pass_text self.old.cluster step.now given self.new.cluster out.old out.new) }
@@ -111,7 +112,7 @@ impl<A: Application> Simulation<A> {
         self.add_answer(out, &undecided, &answer)
     }
 
-    /// Takes a step, and adds what is printed of it. Gives its answer.
+    /// Takes a step, and appends its lines. Returns the reply.
     #[tactic(auto, using(crate::proofs::StepLemmas::stays))]
     pub(crate) fn step(
         &mut self,

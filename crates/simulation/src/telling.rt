@@ -1,4 +1,4 @@
-//! Lies: what liars sign, and to whom it is injected.
+//! Lies: what liars sign, and which replicas it is injected to.
 ghost use Rattle.std.specs.Prelude.{◌≡◌, ◌++◌, IfOk, OnOk};
 ghost use Rattle.ledger_model.specs.Spelling.{IsStatement};
 ghost use Rattle.simulation.specs.Lies.{lying_report, lying_ack};
@@ -14,7 +14,7 @@ use scenario_texts::{Lie, Towards};
 use signed_frames::{Frame, UnsignedFrame};
 use std::alloc::AllocError;
 
-/// The replica that a number names: no cluster has one above 255.
+/// The replica with this number. A number above 255 becomes 255, which no cluster has.
 pub(crate) fn named(number: u32) -> ReplicaId
     ensures { result ≡ named number }
 {
@@ -28,7 +28,7 @@ impl<A: Application> Simulation<A> {
     ghost use Rattle.reply_lines.specs.Lines.{step_text};
     ghost use Rattle.simulation.specs.Playing.{IsSigning, StepsEach, Lies, LiesLock, GoesOn, injections_to, lie_receivers, proof_for};
 
-    /// A liar signs a statement with its next leaf.
+    /// Asks a liar to sign a statement with its next leaf.
     fn sign(&mut self, liar: ReplicaId, statement: Statement) -> Result<Signing, AllocError>
         requires { IsStatement statement }
         ensures done { IfOk result (λ signing. IsSigning self.old.cluster liar statement signing self.new.cluster) }
@@ -40,7 +40,7 @@ impl<A: Application> Simulation<A> {
         signing_of(unsigned, answer)
     }
 
-    /// Injects a frame to each of these replicas.
+    /// Injects a frame at each of these replicas.
     fn inject_each(
         &mut self,
         receivers: &[ReplicaId],
@@ -62,7 +62,7 @@ impl<A: Application> Simulation<A> {
         Ok(())
     }
 
-    /// The replicas to which a lie goes.
+    /// The replicas that a lie goes to.
     fn receivers(&self, to: Towards) -> Result<Vec<ReplicaId>, AllocError>
         ensures { IfOk result (λ receivers. receivers.items ≡ lie_receivers self.now.cluster to) }
     {
@@ -72,7 +72,7 @@ impl<A: Application> Simulation<A> {
         }
     }
 
-    /// Injects a frame to the replicas to which a lie goes.
+    /// Injects a frame at the replicas that a lie goes to.
     fn inject(&mut self, to: Towards, frame: &Frame, out: &mut Text) -> Result<(), AllocError>
         ensures done { OnOk result ((text : List ℕ)
             × (StepsEach step_text self.old.cluster (injections_to (lie_receivers self.old.cluster to) (frame_bytes frame.now)) text self.new.cluster × (out.new ≡ out.old ++ text))) }
@@ -83,7 +83,7 @@ impl<A: Application> Simulation<A> {
         self.inject_each(&receivers, frame, out)
     }
 
-    /// Injects the frame of a lie, and keeps it among what liars have signed.
+    /// Injects the frame of a lie, and stores it among what liars have signed.
     fn inject_and_keep(
         &mut self,
         to: Towards,
@@ -100,7 +100,7 @@ impl<A: Application> Simulation<A> {
         Ok(())
     }
 
-    /// A liar signs the statement of a lie, whose frame is injected.
+    /// Lets a liar sign the statement of a lie, and injects its frame.
     fn tell(&mut self, lie: &Lie, statement: Statement, out: &mut Text) -> Result<(), AllocError>
         requires { IsStatement statement }
         ensures done { OnOk result ((text : List ℕ) × (Lies lie.now statement self.old text self.new × (out.new ≡ out.old ++ text))) }
@@ -113,7 +113,7 @@ impl<A: Application> Simulation<A> {
         }
     }
 
-    /// A liar signs a report.
+    /// Lets a liar sign a report.
     #[tactic(auto, using(crate::proofs::StepLemmas::stays))]
     pub(crate) fn tell_report(&mut self, lie: &Lie, out: &mut Text) -> Result<(), AllocError>
         ensures done { OnOk result ((text : List ℕ) × (Lies lie.now (statement.Report (lying_report lie.now)) self.old text self.new × (out.new ≡ out.old ++ text))) }
@@ -123,7 +123,7 @@ impl<A: Application> Simulation<A> {
         self.tell(lie, Statement::Report(report), out)
     }
 
-    /// A liar signs an acknowledgement.
+    /// Lets a liar sign an acknowledgement.
     #[tactic(auto, using(crate::proofs::StepLemmas::stays))]
     pub(crate) fn tell_ack(&mut self, lie: &Lie, out: &mut Text) -> Result<(), AllocError>
         ensures done { OnOk result ((text : List ℕ) × (Lies lie.now (statement.Ack (lying_ack lie.now)) self.old text self.new × (out.new ≡ out.old ++ text))) }
@@ -133,7 +133,7 @@ impl<A: Application> Simulation<A> {
         self.tell(lie, Statement::Ack(ack), out)
     }
 
-    /// A liar signs a lock with the proof that the reports so far make, if they make one.
+    /// Lets a liar sign a lock, if the reports so far make a proof for it.
     #[tactic(auto, using(crate::proofs::StepLemmas::stays))]
     pub(crate) fn tell_lock(&mut self, lie: &Lie, out: &mut Text) -> Result<(), AllocError>
         ensures done { OnOk result ((text : List ℕ) × (LiesLock lie.now (proof_for self.old lie.now) self.old text self.new × (out.new ≡ out.old ++ text))) }

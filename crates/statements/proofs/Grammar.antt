@@ -1,4 +1,4 @@
--- What a decoder answers, by the laws of the grammar.
+-- A decoder's results, by the laws of the grammar.
 use Rattle.std.proofs.Common.{ℕ, List, Some, Result, Ok, Err, ap, subst, ◌∙◌}
 use Rattle.std.specs.Prelude.{IfOk}
 use Rattle.ledger_model.specs.declared.statement.Statement.{Statement}
@@ -10,10 +10,12 @@ use Rattle.statements.specs.declared.fault.DecodeFault.{DecodeFault}
 use Rattle.statements.specs.Reads.{Gives}
 
 -- what is decoded is spelled so
-pub is_found : (bytes : List ℕ) (result : Result Statement DecodeFault) → IsBytes bytes → Gives result (statement_reading bytes) → IfOk result (λ s. Spells bytes s)
+pub is_found : (bytes : List ℕ) (result : Result Statement DecodeFault) → IsBytes bytes → Gives result (statement_reading bytes)
+    → IfOk result (λ s. Spells bytes s)
 is_found bytes (Ok s) fits e = statement_reading-spells bytes s fits e
 is_found bytes (Err fault) fits e = tt
 
 -- what is spelled is decoded
-pub is_read : (bytes : List ℕ) (result : Result Statement DecodeFault) → Gives result (statement_reading bytes) → (s : Statement) → Spells bytes s → Gives result (Some s)
+pub is_read : (bytes : List ℕ) (result : Result Statement DecodeFault) → Gives result (statement_reading bytes) → (s : Statement)
+    → Spells bytes s → Gives result (Some s)
 is_read bytes result e s spells = subst (λ read. Gives result read) (ap statement_reading spells.1 ∙ statement_reading-again s spells.0) e

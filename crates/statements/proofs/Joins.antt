@@ -8,7 +8,8 @@ pub joins : (old text more : List ℕ) {mid new : List ℕ} → mid ≡ old ++ t
 joins old text more e f = f ∙ ap (λ (x : List ℕ). x ++ more) e ∙ append_assoc old text more
 
 -- behind the old bytes stand the first of a list, and now one more
-pub joins_one : {X : Type 0} (bytes : X → List ℕ) (old : List ℕ) (xs : List X) (i : ℕ) (x : X) {mid new : List ℕ} → i < length xs → x ≡ get_or xs i x
+pub joins_one : {X : Type 0} (bytes : X → List ℕ) (old : List ℕ) (xs : List X) (i : ℕ) (x : X) {mid new : List ℕ} → i < length xs
+    → x ≡ get_or xs i x
     → mid ≡ old ++ flat_map bytes (take i xs) → new ≡ mid ++ bytes x → new ≡ old ++ flat_map bytes (take (i + 1) xs)
 joins_one {X = X} bytes old xs i x lt is e f =
     let firsts : take i xs ++ x ∷ [] ≡ take (i + 1) xs = ap (λ (y : X). take i xs ++ y ∷ []) is ∙ sym (take_more xs i x lt) in

@@ -1,2 +1,2 @@
 pub mod Reads
-pub mod Places
+pub mod Headers

@@ -1,4 +1,4 @@
-//! Whole statements.
+//! Decodes whole statements.
 
 ghost use Rattle.std.specs.Prelude.{◌≡◌, IfOk, OnErr};
 ghost use Rattle.ledger_model.specs.declared.statement.Statement.{Statement};
@@ -8,8 +8,8 @@ ghost use Rattle.statements.specs.Reads.{Reads, Gives};
 
 use crate::DecodeFault;
 use crate::fields::take_byte;
+use crate::headers::{take_ack, take_report};
 use crate::locks::{REPORT, take_lock};
-use crate::places::{take_ack, take_report};
 use ledger_model::Statement;
 use octets::Cursor;
 use std::alloc::Global;
@@ -32,7 +32,7 @@ fn statement_from(alloc: Global, cursor: &mut Cursor) -> Result<Statement, Decod
     }
 }
 
-/// Takes the statement in front. On an error the cursor stays where it was.
+/// Takes the statement at the front of the cursor. After an error the cursor is where it was.
 pub fn take_statement(alloc: Global, cursor: &mut Cursor) -> Result<Statement, DecodeFault>
     ensures read { Reads result cursor.new (statement_at cursor.old) }
     ensures err { OnErr result (cursor.new ≡ cursor.old) }
@@ -55,13 +55,13 @@ fn whole_statement(alloc: Global, bytes: &[u8]) -> Result<Statement, DecodeFault
     Ok(statement)
 }
 
-/// The statement that the bytes spell, all of them. Malformed where they spell none, NoMemory where memory ran out.
+/// The statement that all of the bytes are. `Malformed` comes if they are no statement, `NoMemory` if memory ran out.
 pub fn decode(alloc: Global, bytes: &[u8]) -> Result<Statement, DecodeFault>
-    // What is decoded is spelled so.
+    // The bytes encode the statement that is returned.
     ensures found { IfOk result (λ statement. Spells bytes.now statement) }
-    // What is spelled is decoded, unless memory runs out.
+    // If the bytes encode a statement, it is returned, unless memory runs out.
     ensures only { (statement : Statement) → Spells bytes.now statement → Gives result (Some statement) }
-    // What is answered is the reading, and Malformed comes exactly where there is none.
+    // The result is the reading of the definitions, and Malformed comes exactly if there is none.
     ensures exact { Gives result (statement_reading bytes.now) }
 {
     whole_statement(alloc, bytes)

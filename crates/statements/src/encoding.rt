@@ -1,4 +1,4 @@
-//! Statements at the end of a vector.
+//! Encodes statements, appended to a vector.
 
 ghost use Rattle.std.specs.Prelude.{◌≡◌, ◌∷◌, ◌++◌, [], length, IfOk, OnOk, if◌then◌else◌};
 ghost use Rattle.std.specs.List.{flat_map, AllByRecursion};
@@ -17,7 +17,6 @@ use octets::{put_bytes, put_u8, put_u16, put_u32};
 use std::alloc::{AllocError, Global};
 
 fn put_tx(out: &mut Vec<u8>, tx: &Tx) -> Result<(), AllocError>
-    requires { IsTx tx.now }
     ensures { OnOk result (out.new.items ≡ out.old.items ++ length tx.now ∷ tx.now) }
 {
     let bytes = tx.as_bytes();
@@ -25,8 +24,8 @@ fn put_tx(out: &mut Vec<u8>, tx: &Tx) -> Result<(), AllocError>
     put_bytes(out, bytes)
 }
 
-fn put_batch(out: &mut Vec<u8>, batch: &Batch) -> Result<(), AllocError>
-    requires { IsValue batch.now }
+/// Appends the batch: the number of its transactions, then each one after its length.
+pub fn put_batch(out: &mut Vec<u8>, batch: &Batch) -> Result<(), AllocError>
     ensures { OnOk result (out.new.items ≡ out.old.items ++ value_bytes batch.now) }
 {
     let transactions = batch.transactions();
@@ -128,7 +127,7 @@ fn put_ack(out: &mut Vec<u8>, ack: &Ack) -> Result<(), AllocError>
     put_batch(out, &ack.value)
 }
 
-/// Puts the one spelling of the statement, of [`encoded_len`] bytes, at the end.
+/// Appends the one encoding of the statement, which has [`encoded_len`] bytes.
 #[tactic(auto, unfolding(ledger_model::specs::Spelling::statement_bytes))]
 pub fn put_statement(out: &mut Vec<u8>, statement: &Statement) -> Result<(), AllocError>
     requires { IsStatement statement.now }
@@ -141,7 +140,7 @@ pub fn put_statement(out: &mut Vec<u8>, statement: &Statement) -> Result<(), All
     }
 }
 
-/// The one spelling of the statement. Its fields have to be within their limits, as what was decoded is.
+/// The one encoding of the statement. Its fields must be within their limits, as those of every decoded statement are.
 pub fn encode(alloc: Global, statement: &Statement) -> Result<Vec<u8>, AllocError>
     requires { IsStatement statement.now }
     ensures { IfOk result (λ bytes. bytes.items ≡ statement_bytes statement.now) }

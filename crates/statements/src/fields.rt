@@ -1,4 +1,4 @@
-//! Fields of a fixed form, from the front of a cursor.
+//! Decodes fields of a fixed form from the front of a cursor.
 
 ghost use Rattle.std.specs.Prelude.{◌≡◌, OnErr};
 ghost use Rattle.std.specs.Int.{w16, w32};
@@ -10,12 +10,14 @@ use ledger_model::Signature;
 use octets::Cursor;
 use std::alloc::Global;
 
+/// Takes the next byte.
 pub fn take_byte(cursor: &mut Cursor) -> Result<u8, DecodeFault>
     ensures { Reads result cursor.new (byte_at cursor.old) }
 {
     Ok(cursor.take_u8()?)
 }
 
+/// Takes the next `count` bytes, which are borrowed.
 pub fn take_slice<'a>(cursor: &mut Cursor<'a>, count: usize) -> Result<&'a [u8], DecodeFault>
     ensures { ReadsAs (λ x. x.now) result cursor.new (bytes_at count cursor.old) }
 {
@@ -34,7 +36,7 @@ fn take_number(cursor: &mut Cursor) -> Result<u32, DecodeFault>
     Ok(cursor.take_u32()?)
 }
 
-/// A height or a phase, which is 1 or more.
+/// A height or a phase, which is at least 1.
 #[tactic(auto, unfolding(ledger_model::specs::Reading::positive_at))]
 pub fn take_positive(cursor: &mut Cursor) -> Result<u32, DecodeFault>
     ensures { Reads result cursor.new (positive_at cursor.old) }
@@ -69,8 +71,8 @@ fn signature_from<'a>(cursor: &mut Cursor<'a>) -> Result<&'a [u8], DecodeFault>
     take_slice(cursor, len)
 }
 
-/// Takes the signature in front: a length of two bytes, at most 2508, and so many bytes, which it lends. On an error the
-/// cursor stays where it was.
+/// Takes the signature at the front: a length of two bytes, at most 2508, and that many bytes, which are borrowed.
+/// After an error the cursor is where it was.
 pub fn take_signature_bytes<'a>(cursor: &mut Cursor<'a>) -> Result<&'a [u8], DecodeFault>
     ensures read { ReadsAs (λ bytes. bytes.now) result cursor.new (signature_at cursor.old) }
     ensures err { OnErr result (cursor.new ≡ cursor.old) }
@@ -81,6 +83,7 @@ pub fn take_signature_bytes<'a>(cursor: &mut Cursor<'a>) -> Result<&'a [u8], Dec
     Ok(bytes)
 }
 
+/// Takes the signature at the front, with its bytes copied.
 pub fn take_signature(alloc: Global, cursor: &mut Cursor) -> Result<Signature, DecodeFault>
     ensures { Reads result cursor.new (signature_at cursor.old) }
 {

@@ -1,4 +1,4 @@
-//! How many bytes statements have.
+//! The numbers of bytes of encoded statements.
 
 ghost use Rattle.std.specs.Prelude.{◌≡◌, ◌≤◌, ◌*◌, ◌∷◌, length};
 ghost use Rattle.std.specs.List.{flat_map, AllByRecursion};
@@ -7,7 +7,7 @@ ghost use Rattle.ledger_model.specs.Spelling.{list_bytes, report_bytes, signed_b
 
 use ledger_model::{Ack, Batch, Batches, Lock, Report, SignedReport, Statement, Tx};
 
-/// The bytes of kind, height, phase and signer.
+/// The number of bytes of kind, height, phase and signer.
 const PLACE_LEN: usize = 10;
 
 fn tx_len(tx: &Tx) -> usize
@@ -44,7 +44,7 @@ fn list_len(list: &Batches) -> usize
     len
 }
 
-/// How many bytes the report's spelling has.
+/// The number of bytes of the encoded report.
 pub fn report_len(report: &Report) -> usize
     requires { IsReport report.now }
     ensures len { result ≡ length (report_bytes report.now) }
@@ -61,7 +61,7 @@ fn signed_len(signed: &SignedReport) -> usize
     report_len(&signed.report) + 2 + signed.signature.as_bytes().len()
 }
 
-/// How many bytes the spellings of at most 12 signed reports have together.
+/// The number of bytes of at most 12 encoded signed reports together.
 pub fn reports_len(reports: &[SignedReport]) -> usize
     requires count { length reports.now ≤ 12 }
     requires each { AllByRecursion IsSigned reports.now }
@@ -89,7 +89,7 @@ fn ack_len(ack: &Ack) -> usize
     PLACE_LEN + batch_len(&ack.value)
 }
 
-/// How many bytes the statement's spelling has.
+/// The number of bytes of the encoded statement.
 #[tactic(auto, unfolding(ledger_model::specs::Spelling::statement_bytes))]
 pub fn encoded_len(statement: &Statement) -> usize
     requires { IsStatement statement.now }

@@ -1,4 +1,4 @@
-//! Locks and their proofs.
+//! Decodes locks and their proofs.
 
 ghost use Rattle.std.specs.Prelude.{◌≡◌};
 ghost use Rattle.ledger_model.specs.Validity.{ascends_within, signers_of};
@@ -7,7 +7,7 @@ ghost use Rattle.statements.specs.Reads.{Reads, ReadsAs};
 
 use crate::DecodeFault;
 use crate::fields::{take_byte, take_signature};
-use crate::places::{take_place, take_report};
+use crate::headers::{take_place, take_report};
 use crate::values::take_batch;
 use ledger_model::{Lock, LockProof, SignedReport};
 use octets::Cursor;
@@ -62,6 +62,7 @@ fn do_signers_ascend(reports: &[SignedReport]) -> bool
     true
 }
 
+/// Takes a lock, without its first byte: its header, its value, and 3 to 12 reports whose signers ascend.
 #[tactic(auto, unfolding(ledger_model::specs::Reading::lock_at))]
 pub fn take_lock(alloc: Global, cursor: &mut Cursor) -> Result<Lock, DecodeFault>
     ensures { Reads result cursor.new (lock_at cursor.old) }

@@ -1,4 +1,4 @@
-//! Transactions, batches and lists of batches, from the front of a cursor.
+//! Decodes transactions, batches and lists of batches from the front of a cursor.
 
 ghost use Rattle.std.specs.Prelude.{◌≡◌, IfOk, vec_len};
 ghost use Rattle.ledger_model.specs.Reading.{tx_at, txs_at, value_at, values_at, list_at};
@@ -34,7 +34,7 @@ fn take_txs(alloc: Global, cursor: &mut Cursor, count: u8) -> Result<Vec<Tx>, De
     Ok(txs)
 }
 
-/// A batch: a count of at most 16, and so many transactions.
+/// A batch: its number of transactions, at most 16, and the transactions.
 #[tactic(auto, unfolding(ledger_model::specs::Reading::value_at))]
 pub fn take_batch(alloc: Global, cursor: &mut Cursor) -> Result<Batch, DecodeFault>
     ensures { Reads result cursor.new (value_at cursor.old) }
@@ -58,7 +58,7 @@ fn take_batches(alloc: Global, cursor: &mut Cursor, count: u8) -> Result<Vec<Bat
     Ok(batches)
 }
 
-/// A list of batches: a count of at most 4, and so many batches, which ascend.
+/// A list of batches: their number, at most 4, and the batches, which ascend.
 #[tactic(auto, unfolding(ledger_model::specs::Reading::list_at))]
 pub fn take_list(alloc: Global, cursor: &mut Cursor) -> Result<Batches, DecodeFault>
     ensures { Reads result cursor.new (list_at cursor.old) }

@@ -1,5 +1,6 @@
--- The first places, and one place more.
-use Rattle.std.proofs.Common.{◌≡◌, ℕ, suc, ◌+◌, ◌<◌, ◌≤◌, Bool, true, false, List, [], ◌∷◌, ◌++◌, length, take, get_or, refl, sym, ap, subst, ◌∙◌, arith, length-append, length-take, add-zero, append-nil}
+-- The first places, and one more place.
+use Rattle.std.proofs.Common.{◌≡◌, ℕ, suc, ◌+◌, ◌<◌, ◌≤◌, Bool, true, false, List, [], ◌∷◌, ◌++◌, length, take, get_or, refl, sym, ap}
+use Rattle.std.proofs.Common.{subst, ◌∙◌, arith, length-append, length-take, add-zero, append-nil}
 use Rattle.std.specs.Prelude.{Option, Some, None, filter, if◌then◌else◌}
 use Rattle.std.specs.Option.{is_some}
 use Rattle.std.specs.List.{cons_option}
@@ -8,7 +9,7 @@ use Rattle.std.proofs.lemmas.List.{take_more}
 use Rattle.std.proofs.lemmas.List.Elements.{filter-append, filter_map-append}
 use denote.Ref.{Bor}
 use denote.Param.Always.{mut_next}
-use Rattle.ledger_model.specs.Tallies.{all_read, count_where, signers_from}
+use Rattle.tally.specs.Tallies.{all_read, count_where, signers_from}
 
 -- ---- what was read
 
@@ -18,21 +19,26 @@ all_read_more places i place h is =
     ap all_read (take_more places i place h) ∙ filter_map-append (λ p. p) (take i places) (get_or places i place ∷ [])
     ∙ ap (λ p. all_read (take i places) ++ cons_option p []) (sym is)
 
-count_more : {X : Type 0} (test : X → Bool) (places : List (Option X)) (i : ℕ) (place : Option X) → i < length places → place ≡ get_or places i place
-    → count_where test (all_read (take (i + 1) places)) ≡ count_where test (all_read (take i places)) + count_where test (cons_option place [])
+count_more : {X : Type 0} (test : X → Bool) (places : List (Option X)) (i : ℕ) (place : Option X) → i < length places
+    → place ≡ get_or places i place
+    → count_where test (all_read (take (i + 1) places))
+    ≡ count_where test (all_read (take i places)) + count_where test (cons_option place [])
 count_more test places i place h is =
-    ap (count_where test) (all_read_more places i place h is) ∙ ap length (filter-append test (all_read (take i places)) (cons_option place []))
+    ap (count_where test) (all_read_more places i place h is)
+    ∙ ap length (filter-append test (all_read (take i places)) (cons_option place []))
     ∙ length-append (filter test (all_read (take i places))) (filter test (cons_option place []))
 
 length_more : {X : Type 0} (places : List (Option X)) (i : ℕ) (place : Option X) → i < length places → place ≡ get_or places i place
     → length (all_read (take (i + 1) places)) ≡ length (all_read (take i places)) + length (cons_option place [])
-length_more places i place h is = ap length (all_read_more places i place h is) ∙ length-append (all_read (take i places)) (cons_option place [])
+length_more places i place h is =
+    ap length (all_read_more places i place h is) ∙ length-append (all_read (take i places)) (cons_option place [])
 
 -- ---- a count of them
 
 module _ {F X : Type 0} (g : Mut F (Bor X × Unit {0}) Bool) where
   -- a call answers what the test gives, and so do those after it
-  computes_next : (test : X → Bool) (f : F) (read : Bor X) (answer : Bool) (next : F) → ComputesKey g test f → Called g f (read, tt) answer next
+  computes_next : (test : X → Bool) (f : F) (read : Bor X) (answer : Bool) (next : F) → ComputesKey g test f
+      → Called g f (read, tt) answer next
       → (answer ≡ test read.now) × ComputesKey g test next
   computes_next test f read answer next h call =
       ((h.at ((read, tt) ∷ []) answer next call).0, record { at = λ xs. (h.at ((read, tt) ∷ xs) answer next call).1 })
@@ -42,7 +48,8 @@ module _ {F X : Type 0} (g : Mut F (Bor X × Unit {0}) Bool) where
     pub callable : always_mut g first → always_mut g f
     pub few : count ≤ i
     pub bounded : count ≤ length (all_read (take i places))
-    pub counted : (test : X → Bool) → ComputesKey g test first → ComputesKey g test f × (count ≡ count_where test (all_read (take i places)))
+    pub counted : (test : X → Bool) → ComputesKey g test first
+        → ComputesKey g test f × (count ≡ count_where test (all_read (take i places)))
 
   -- a place of which nothing was read leaves the count
   pub Counts-unread : (places : List (Option X)) (first : F) (i : ℕ) (f : F) (count : ℕ) (place : Option X) → Counts places first i f count
@@ -53,13 +60,15 @@ module _ {F X : Type 0} (g : Mut F (Bor X × Unit {0}) Bool) where
         callable = h.callable;
         few = omega (arith, h.few);
         bounded = omega (arith, h.bounded, length_more places i None lt none_is);
-        counted = λ test k. let old = h.counted test k in (old.0, old.1 ∙ sym (count_more test places i None lt none_is ∙ add-zero (count_where test (all_read (take i places)))));
+        counted = λ test k. let old = h.counted test k
+            in (old.0, old.1 ∙ sym (count_more test places i None lt none_is ∙ add-zero (count_where test (all_read (take i places)))));
       }
 
   -- what was read counts where the predicate answers so
   pub Counts-called : (places : List (Option X)) (first : F) (i : ℕ) (f : F) (count : ℕ) (place : Option X) → Counts places first i f count
       → i < length places → place ≡ get_or places i place → (read : Bor X) → place ≡ Some read.now
-      → (answer : Bool) (next : F) → Called g f (read, tt) answer next → Counts places first (i + 1) next (count + (if answer then 1 else 0))
+      → (answer : Bool) (next : F) → Called g f (read, tt) answer next
+      → Counts places first (i + 1) next (count + (if answer then 1 else 0))
   Counts-called places first i f count place h lt is read some answer next call =
       let some_is : Some read.now ≡ get_or places i (Some read.now) = subst (λ p. p ≡ get_or places i p) some is in
       record {
@@ -70,7 +79,8 @@ module _ {F X : Type 0} (g : Mut F (Bor X × Unit {0}) Bool) where
             let old = h.counted test k in
             let now = computes_next test f read answer next old.0 call in (
               now.1,
-              ap (λ n. n + (if answer then 1 else 0)) old.1 ∙ ap (λ n. count_where test (all_read (take i places)) + n) (counts_one test read.now answer now.0)
+              ap (λ n. n + (if answer then 1 else 0)) old.1
+                  ∙ ap (λ n. count_where test (all_read (take i places)) + n) (counts_one test read.now answer now.0)
                   ∙ sym (count_more test places i (Some read.now) lt some_is),
             );
       }
@@ -79,7 +89,8 @@ module _ {F X : Type 0} (g : Mut F (Bor X × Unit {0}) Bool) where
       at_most_one true = omega arith
       at_most_one false = omega arith
 
-      counts_one : (test : X → Bool) (read : X) (answer : Bool) → answer ≡ test read → (if answer then 1 else 0) ≡ count_where test (read ∷ [])
+      counts_one : (test : X → Bool) (read : X) (answer : Bool) → answer ≡ test read
+          → (if answer then 1 else 0) ≡ count_where test (read ∷ [])
       counts_one test read true e = rw (← e) refl
       counts_one test read false e = rw (← e) refl
 
@@ -93,7 +104,8 @@ signers_from-push r (None ∷ places) place =
     signers_from-push (r + 1) places place ∙ ap (λ k. signers_from (r + 1) places ++ signers_from k (place ∷ [])) shifted
 signers_from-push r (Some x ∷ places) place =
     let shifted : r + 1 + length places ≡ r + suc (length places) = omega arith in
-    ap (λ rs. r ∷ rs) (signers_from-push (r + 1) places place ∙ ap (λ k. signers_from (r + 1) places ++ signers_from k (place ∷ [])) shifted)
+    ap (λ rs. r ∷ rs) (signers_from-push (r + 1) places place
+    ∙ ap (λ k. signers_from (r + 1) places ++ signers_from k (place ∷ [])) shifted)
 
 signers_more : {X : Type 0} (places : List (Option X)) (i : ℕ) (place : Option X) → i < length places → place ≡ get_or places i place
     → signers_from 0 (take (i + 1) places) ≡ signers_from 0 (take i places) ++ signers_from i (place ∷ [])
@@ -104,12 +116,14 @@ signers_more places i place h is =
     ∙ ap (λ k. signers_from 0 (take i places) ++ signers_from k (place ∷ [])) front
 
 -- a replica of which something was read is the next signer, and another is none
-pub signers_with : {X : Type 0} (places : List (Option X)) (i : ℕ) (place : Option X) → i < length places → place ≡ get_or places i place → is_some place ≡ true
+pub signers_with : {X : Type 0} (places : List (Option X)) (i : ℕ) (place : Option X) → i < length places → place ≡ get_or places i place
+    → is_some place ≡ true
     → signers_from 0 (take (i + 1) places) ≡ signers_from 0 (take i places) ++ i ∷ []
 signers_with places i None h is e = cc
 signers_with places i (Some x) h is e = signers_more places i (Some x) h is
 
-pub signers_without : {X : Type 0} (places : List (Option X)) (i : ℕ) (place : Option X) → i < length places → place ≡ get_or places i place → is_some place ≡ false
+pub signers_without : {X : Type 0} (places : List (Option X)) (i : ℕ) (place : Option X) → i < length places
+    → place ≡ get_or places i place → is_some place ≡ false
     → signers_from 0 (take (i + 1) places) ≡ signers_from 0 (take i places)
 signers_without places i None h is e = signers_more places i None h is ∙ append-nil (signers_from 0 (take i places))
 signers_without places i (Some x) h is e = cc

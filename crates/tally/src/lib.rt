@@ -1,4 +1,4 @@
-//! What was read in a round: one place for each replica, of which the first reading counts.
+//! Tallies: what was read in a round, with one place for each replica, whose first statement counts.
 #![tactic(auto)]
 
 mod places;

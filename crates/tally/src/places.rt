@@ -1,16 +1,16 @@
-//! A tally: the first reading of each replica, one place a replica.
+//! A tally: one place for each replica, which stores the first statement of that replica.
 ghost use Rattle.std.specs.Prelude.{◌≡◌, ◌<◌, ◌≤◌, Bool, None, Some, length, replicate, slice_set, option_copied, IfOk, if◌then◌else◌};
 ghost use Rattle.std.specs.Option.{is_none};
 ghost use Rattle.std.specs.Fn.{ComputesKey};
-ghost use Rattle.ledger_model.specs.Tallies.{read_of, all_read, count_where, signers_from};
+ghost use Rattle.tally.specs.Tallies.{read_of, all_read, count_where, signers_from};
 
 use ledger_model::{Config, ReplicaId};
 use std::alloc::{AllocError, Global};
 use std::marker::Model;
 
-/// What was read in a round, with one place for each replica. The first reading of a replica counts.
+/// What was read in a round, with one place for each replica. Only the first statement of a replica counts.
 ///
-/// Contracts see the places, that of replica 0 first.
+/// Contracts see the places, from replica 0 on.
 #[derive(Drop)]
 pub struct Tally<X> {
     places: Vec<Option<X>>,
@@ -27,7 +27,7 @@ impl<X> Model for Tally<X> {
 }
 
 impl<X: Drop> Tally<X> {
-    /// An empty one, with a place for each of the cluster's replicas.
+    /// An empty tally, with a place for each replica of the cluster. The only error is allocation failure.
     pub fn new(alloc: Global, config: &Config) -> Result<Self, AllocError>
         ensures { IfOk result (λ tally. tally ≡ replicate config.now.replicas None) }
     {
@@ -38,7 +38,7 @@ impl<X: Drop> Tally<X> {
         Ok(Tally { places })
     }
 
-    /// How many replicas have a place: at most 13.
+    /// The number of places, one for each replica: at most 13.
     pub fn replicas(&self) -> u8
         ensures count { result ≡ length self.now }
         ensures few { result ≤ 13 }
@@ -46,7 +46,7 @@ impl<X: Drop> Tally<X> {
         self.places.len() as u8
     }
 
-    /// Keeps what was read of a replica, if nothing of it is there yet, and says whether it did. It takes no memory.
+    /// Stores a replica's statement if its place is empty, and returns whether it did. Allocates nothing.
     pub fn add(&mut self, signer: ReplicaId, read: X) -> bool
         requires { signer < length self.old }
         ensures added { result ≡ is_none (read_of self.old signer) }
@@ -61,7 +61,7 @@ impl<X: Drop> Tally<X> {
         true
     }
 
-    /// Forgets all that was read. It takes no memory.
+    /// Empties all places. Allocates nothing.
     pub fn clear(&mut self)
         ensures { self.new ≡ replicate (length self.old) None }
     {
@@ -70,14 +70,14 @@ impl<X: Drop> Tally<X> {
         }
     }
 
-    /// What was read of a replica, if anything was.
+    /// The statement that was read of a replica, if one was.
     pub fn get(&self, signer: ReplicaId) -> Option<&X>
         ensures { option_copied result ≡ read_of self.now signer }
     {
         self.places.get(usize::from(signer.number()))?.as_ref()
     }
 
-    /// How many of what was read pass the test. It takes no memory.
+    /// The number of statements that pass the test. Allocates nothing.
     pub fn count_where<F: FnMut(&X) -> bool>(&self, mut predicate: F) -> usize
         requires { F.IsAlwaysCallable predicate }
         ensures counted { (test : X → Bool) → ComputesKey F.FnMut test predicate → result ≡ count_where test (all_read self.now) }
@@ -95,7 +95,7 @@ impl<X: Drop> Tally<X> {
         count
     }
 
-    /// The replicas of which something was read, ascending.
+    /// The replicas of which a statement was read, ascending. The only error is allocation failure.
     pub fn signers(&self) -> Result<Vec<ReplicaId>, AllocError>
         ensures { IfOk result (λ signers. signers.items ≡ signers_from 0 self.now) }
     {
@@ -108,7 +108,7 @@ impl<X: Drop> Tally<X> {
         Ok(signers)
     }
 
-    /// The places, that of replica 0 first.
+    /// The places, from replica 0 on.
     pub fn places(&self) -> &[Option<X>]
         ensures { result.now ≡ self.now }
     {

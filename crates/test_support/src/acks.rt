@@ -1,4 +1,4 @@
-//! Acknowledgements.
+//! Builds acknowledgements.
 
 use crate::{BuildFault, value};
 use ledger_model::{Ack, Height, Phase, ReplicaId};

@@ -1,6 +1,6 @@
-//! Transactions and batches of given bytes.
+//! Builds transactions and batches of given bytes.
 //!
-//! They say nothing of what they give: what is known of it would make each proof of a test slower. The test compares.
+//! These functions have no `ensures`: facts about their results would make each proof of a test slower. The test compares instead.
 
 use crate::BuildFault;
 use ledger_model::{Batch, Tx};

@@ -11,17 +11,17 @@ const SIGNATURE_LEN: [u8; 2] = [0x09, 0x2c];
 
 /// Replicas that sign, each with a key pair of its own, of width 4 and height 5. The key pair of replica `r` has an identifier
 /// and a seed whose bytes are all `r + 1`.
-pub struct Cluster {
+pub struct TestCluster {
     alloc: Global,
     config: Config,
     ring: KeyRing,
     signers: Vec<Signer>,
 }
 
-// It is dropped by a function of its own, so that whoever owns one drops it by a single call.
-impl Drop for Cluster {
+// An own `Drop` keeps proofs short: an owner drops it by one call. See docs/WORKING.md.
+impl Drop for TestCluster {
     fn drop(self) {
-        let Cluster {
+        let TestCluster {
             alloc: _alloc,
             config: _config,
             ring: _ring,
@@ -40,8 +40,8 @@ fn signer_of(alloc: Global, number: u8) -> Result<Signer, BuildFault> {
     Ok(Signer::new(alloc, params, identifier, seed)?)
 }
 
-impl Cluster {
-    /// A cluster of so many replicas, of which so many may lie.
+impl TestCluster {
+    /// A cluster of `replicas` replicas, of which `faults` may lie.
     pub fn new(alloc: Global, replicas: u8, faults: u8) -> Result<Self, BuildFault> {
         let Ok(config) = Config::new(replicas, faults, AppKind::KvStore) else {
             return Err(BuildFault::NoReplica);
@@ -53,7 +53,7 @@ impl Cluster {
             keys.push(signer.public())?;
             signers.push(signer)?;
         }
-        Ok(Cluster {
+        Ok(TestCluster {
             alloc,
             config,
             ring: KeyRing::new(keys),
@@ -61,12 +61,12 @@ impl Cluster {
         })
     }
 
-    /// Its numbers.
+    /// The configuration of the cluster.
     pub fn config(&self) -> Config {
         self.config
     }
 
-    /// Its public keys.
+    /// The public keys of the replicas.
     pub fn ring(&self) -> &KeyRing {
         &self.ring
     }
@@ -82,7 +82,7 @@ impl Cluster {
         }
     }
 
-    /// The statement with a replica's signature, whose length stands before it.
+    /// The statement, followed by the length of a replica's signature, and the signature.
     pub fn signed(&mut self, replica: u8, statement: &[u8]) -> Result<Vec<u8>, BuildFault> {
         let signature = self.signature(replica, statement)?;
         let mut bytes = Vec::from_slice(self.alloc, statement)?;
@@ -102,7 +102,8 @@ impl Cluster {
         Ok(bytes)
     }
 
-    /// The frame of a lock at height 1 on the value `[x=1]`, where `x` is a letter, with the reports of the first replicas.
+    /// The frame of a lock at height 1 on the value `[x=1]`, where `x` is a letter, with the reports of the first
+    /// `reports` replicas.
     pub fn lock_frame(
         &mut self,
         phase: u8,

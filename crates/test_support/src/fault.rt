@@ -8,16 +8,16 @@ use thiserror::Error;
 pub enum BuildFault {
     #[error("out of memory")]
     NoMemory,
-    /// A transaction of no byte or of more than 64, or more than 16 of them.
+    /// A transaction of no bytes or of more than 64, or more than 16 transactions.
     #[error("no such value")]
     NoValue,
-    /// Numbers of replicas and of faults that make no cluster, or a replica that is not in it.
+    /// Numbers of replicas and faults that make no cluster, or a replica that is not in the cluster.
     #[error("no such replica")]
     NoReplica,
     /// The replica's key pair has no leaf left.
     #[error("nothing was signed")]
     NotSigned,
-    /// A frame too long to be one.
+    /// A frame that is too long.
     #[error("no such frame")]
     NoFrame,
 }

@@ -10,7 +10,7 @@ mod spelled;
 
 pub use acks::ack;
 pub use batches::{batch, tx, value, values};
-pub use cluster::Cluster;
+pub use cluster::TestCluster;
 pub use fault::BuildFault;
-pub use reports::{Told, naming, report, signed_report};
+pub use reports::{ReportFields, naming, report, signed_report};
 pub use spelled::{ack_bytes, lock_bytes, report_bytes, value_bytes};

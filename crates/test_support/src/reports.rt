@@ -1,12 +1,12 @@
-//! Reports as others tell them.
+//! Builds reports.
 
 use crate::{BuildFault, value, values};
 use ledger_model::{Batches, Height, Phase, ReplicaId, Report, Signature, SignedReport};
 use std::alloc::Global;
 
-/// What a report of height 1 and phase 1 tells. Each value is the batch of one transaction.
+/// The fields of a report of height 1 and phase 1. Each value is the batch of one transaction.
 #[derive(Clone, Copy)]
-pub struct Told<'a> {
+pub struct ReportFields<'a> {
     pub signer: u8,
     pub all: bool,
     pub initial: &'a [u8],
@@ -15,8 +15,8 @@ pub struct Told<'a> {
 }
 
 /// A report that names these values as proper, and has neither ALL nor locks.
-pub fn naming<'a>(signer: u8, initial: &'a [u8], proper: &'a [&'a [u8]]) -> Told<'a> {
-    Told {
+pub fn naming<'a>(signer: u8, initial: &'a [u8], proper: &'a [&'a [u8]]) -> ReportFields<'a> {
+    ReportFields {
         signer,
         all: false,
         initial,
@@ -25,8 +25,8 @@ pub fn naming<'a>(signer: u8, initial: &'a [u8], proper: &'a [&'a [u8]]) -> Told
     }
 }
 
-/// The report that tells this.
-pub fn report(alloc: Global, told: &Told<'_>) -> Result<Report, BuildFault> {
+/// The report with these fields.
+pub fn report(alloc: Global, told: &ReportFields<'_>) -> Result<Report, BuildFault> {
     Ok(Report {
         height: Height::new(1),
         phase: Phase::new(1),
@@ -38,8 +38,8 @@ pub fn report(alloc: Global, told: &Told<'_>) -> Result<Report, BuildFault> {
     })
 }
 
-/// The report that tells this, under a signature of no byte.
-pub fn signed_report(alloc: Global, told: &Told<'_>) -> Result<SignedReport, BuildFault> {
+/// The report with these fields, and a signature of no bytes.
+pub fn signed_report(alloc: Global, told: &ReportFields<'_>) -> Result<SignedReport, BuildFault> {
     Ok(SignedReport {
         report: report(alloc, told)?,
         signature: Signature::new(Vec::new(alloc)),

@@ -13,7 +13,7 @@ pub fn report_bytes(height: u8, phase: u8, signer: u8, letter: u8) -> [u8; 23] {
     ]
 }
 
-/// A lock on that value at height 1, as far as the number of its reports.
+/// A lock on that value at height 1, up to the number of its reports.
 pub fn lock_bytes(phase: u8, owner: u8, letter: u8, reports: u8) -> [u8; 16] {
     [
         2, 0, 0, 0, 1, 0, 0, 0, phase, owner, 1, 3, letter, 0x3d, 0x31, reports,

@@ -11,9 +11,11 @@ loop-at-preserved c =
     c.is_among.ensures ∙ ap (λ l. is_liar l c.index-replicas-at.result) (rest_whole c.args.replicas.now (c.loop-at.at + 1)) in
     elim c.if-not-is_among.branch [
       | then-not-is_among w ↦
-          let one : ◌≡◌ {A = ℕ} (cond (is_liar (drop (c.loop-at.at + 1) c.args.replicas.now) c.index-replicas-at.result) 0 1) 1 = ap (λ (b : Bool). cond b 0 1) (sym answer ∙ w.if-not-is_among.true) in
+          let one : ◌≡◌ {A = ℕ} (cond (is_liar (drop (c.loop-at.at + 1) c.args.replicas.now) c.index-replicas-at.result) 0 1) 1 =
+          ap (λ (b : Bool). cond b 0 1) (sym answer ∙ w.if-not-is_among.true) in
           (omega (arith, from, one, w.count-is, c.loop-at.invariant.0), omega (arith, w.count-is, c.loop-at.invariant.1))
       | else-not-is_among w ↦
-          let none : ◌≡◌ {A = ℕ} (cond (is_liar (drop (c.loop-at.at + 1) c.args.replicas.now) c.index-replicas-at.result) 0 1) 0 = ap (λ (b : Bool). cond b 0 1) (sym answer ∙ w.if-not-is_among.false) in
+          let none : ◌≡◌ {A = ℕ} (cond (is_liar (drop (c.loop-at.at + 1) c.args.replicas.now) c.index-replicas-at.result) 0 1) 0 =
+          ap (λ (b : Bool). cond b 0 1) (sym answer ∙ w.if-not-is_among.false) in
           (omega (arith, from, none, w.count-is, c.loop-at.invariant.0), omega (arith, w.count-is, c.loop-at.invariant.1))
     ]

@@ -15,17 +15,20 @@ loop-replica-init g c =
     record {
       parties = search rules;
       signers = c.into_iter-signers.ensures.rest ∙ c.requires.signers ∙ all_left c.args.cluster.now;
-      supply = subst (λ k. IsSupply g.A.Application.machine c.args.cluster.now.config (length (correct_from c.args.liars.now 0 k)) (into_iter_items c.args.supply.apps) (into_iter_items c.args.supply.randoms)) whole c.requires.supply;
+      supply = subst (λ k. IsSupply g.A.Application.machine c.args.cluster.now.config (length (correct_from c.args.liars.now 0 k))
+          (into_iter_items c.args.supply.apps) (into_iter_items c.args.supply.randoms)) whole c.requires.supply;
     }
 
 pub unreachable-requires : goal.unreachable-requires
 unreachable-requires g c =
-    let some = some_left c.args.cluster.now c.loop-replica.replica (into_iter_items c.loop-replica.signers) c.loop-replica-test.true c.loop-replica.invariant.signers in
+    let some = some_left c.args.cluster.now c.loop-replica.replica (into_iter_items c.loop-replica.signers) c.loop-replica-test.true
+    c.loop-replica.invariant.signers in
     omega (arith, some, c.in_default.ensures.cases.0, c.loop-replica.signers.rest.ok)
 
 pub party_of-requires-clause-signer : goal.party_of-requires-clause-signer
 party_of-requires-clause-signer g c =
-    let taken = one_taken c.args.cluster.now c.loop-replica.replica (into_iter_items c.loop-replica.signers) c.in-Some.signer (into_iter_items c.next.new.self) c.loop-replica-test.true c.loop-replica.invariant.signers c.in-Some.ensures.cases.0 in
+    let taken = one_taken c.args.cluster.now c.loop-replica.replica (into_iter_items c.loop-replica.signers) c.in-Some.signer
+    (into_iter_items c.next.new.self) c.loop-replica-test.true c.loop-replica.invariant.signers c.in-Some.ensures.cases.0 in
     taken.0 ∙ ap (λ k. unused (secret_of c.args.cluster.now k)) (sym c.new-id.ensures)
 
 pub party_of-requires-clause-some : goal.party_of-requires-clause-some
@@ -42,20 +45,27 @@ loop-replica-preserved g c =
     let r = c.loop-replica.replica in
     let n = c.args.cluster.now.config.replicas in
     let was = c.loop-replica.invariant in
-    let taken = one_taken c.args.cluster.now r (into_iter_items c.loop-replica.signers) c.in-Some.signer (into_iter_items c.next.new.self) c.loop-replica-test.true was.signers c.in-Some.ensures.cases.0 in
+    let taken = one_taken c.args.cluster.now r (into_iter_items c.loop-replica.signers) c.in-Some.signer (into_iter_items c.next.new.self)
+    c.loop-replica-test.true was.signers c.in-Some.ensures.cases.0 in
     let f = new_party c.args.cluster.now.config c.args.ring.now (secret_of c.args.cluster.now) c.args.liars.now in
     let is : c.in_ok-party.party ≡ f r = c.in_ok-party.ensures.party ∙ ap f c.new-id.ensures in
     let grown : c.push.new.self.items ≡ c.loop-replica.parties.items ++ c.in_ok-party.party ∷ [] = search rules in
     let count = correct_left c.args.liars.now r n c.loop-replica-test.true in
-    let fewer : length (into_iter_items c.loop-replica.supply.apps) - cond (is_liar c.args.liars.now c.new-id.result) 0 1 ≡ length (correct_from c.args.liars.now (r + 1) (n - (r + 1))) =
-    ap (λ k. length (into_iter_items c.loop-replica.supply.apps) - cond (is_liar c.args.liars.now k) 0 1) c.new-id.ensures ∙ omega (arith, was.supply.an_app, count) in
+    let fewer : length (into_iter_items c.loop-replica.supply.apps) - cond (is_liar c.args.liars.now c.new-id.result) 0 1
+    ≡ length (correct_from c.args.liars.now (r + 1) (n - (r + 1))) =
+    ap (λ k. length (into_iter_items c.loop-replica.supply.apps) - cond (is_liar c.args.liars.now k) 0 1) c.new-id.ensures
+    ∙ omega (arith, was.supply.an_app, count) in
     record {
-      parties = grown ∙ ap (λ l. l ++ c.in_ok-party.party ∷ []) was.parties ∙ ap (λ p. map f (range_with_len 0 r) ++ p ∷ []) is ∙ sym (map-range_with_len_more f 0 r r (omega arith));
+      parties = grown ∙ ap (λ l. l ++ c.in_ok-party.party ∷ []) was.parties ∙ ap (λ p. map f (range_with_len 0 r) ++ p ∷ []) is
+          ∙ sym (map-range_with_len_more f 0 r r (omega arith));
       signers = taken.1;
-      supply = subst (λ k. IsSupply g.A.Application.machine c.args.cluster.now.config k (into_iter_items c.party_of.new.supply.apps) (into_iter_items c.party_of.new.supply.randoms)) fewer c.in_ok-party.ensures.supply_left;
+      supply = subst (λ k. IsSupply g.A.Application.machine c.args.cluster.now.config k (into_iter_items c.party_of.new.supply.apps)
+          (into_iter_items c.party_of.new.supply.randoms)) fewer c.in_ok-party.ensures.supply_left;
     }
 
 pub returns : goal.returns
 returns g c =
     let n : c.loop-replica.replica ≡ c.args.cluster.now.config.replicas = omega arith in
-    c.loop-replica.invariant.parties ∙ ap (λ k. map (new_party c.args.cluster.now.config c.args.ring.now (secret_of c.args.cluster.now) c.args.liars.now) (range_with_len 0 k)) n
+    c.loop-replica.invariant.parties
+    ∙ ap (λ k. map (new_party c.args.cluster.now.config c.args.ring.now (secret_of c.args.cluster.now) c.args.liars.now)
+    (range_with_len 0 k)) n

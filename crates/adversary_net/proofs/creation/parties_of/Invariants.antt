@@ -11,6 +11,7 @@ abbrev pub invariant-loop-replica : goal.invariant-loop-replica
 invariant-loop-replica g l = record {
   parties : l.parties.items ≡ map (new_party l.cluster.config l.ring (secret_of l.cluster) l.liars) (range_with_len 0 l.replica);
   signers : into_iter_items l.signers ≡ signers_from l.cluster l.replica;
-  supply : IsSupply g.A.Application.machine l.cluster.config (length (correct_from l.liars l.replica (l.cluster.config.replicas - l.replica)))
+  supply : IsSupply g.A.Application.machine l.cluster.config
+      (length (correct_from l.liars l.replica (l.cluster.config.replicas - l.replica)))
       (into_iter_items l.supply.apps) (into_iter_items l.supply.randoms);
 }

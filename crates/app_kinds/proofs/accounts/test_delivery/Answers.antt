@@ -8,20 +8,28 @@ returns-in_default-clause-refused c = λ done e. code-misspelled done c.args.tx.
 
 pub returns-then-transfer-sender-clause-refused : goal.returns-then-transfer-sender-clause-refused
 returns-then-transfer-sender-clause-refused c = λ done e.
-    let h = code-judged done c.args.tx.now _ _ (judged done _ c.args.tx.now c.in-Some.transfer c.account-sender.result e c.in-Some.ensures.read c.account-sender.ensures.balance c.account-sender.ensures.nonce) in
+    let h = code-judged done c.args.tx.now _ _
+    (judged done _ c.args.tx.now c.in-Some.transfer c.account-sender.result e c.in-Some.ensures.read c.account-sender.ensures.balance
+    c.account-sender.ensures.nonce) in
     grind (arith, h)
 
 pub returns-then-sender-transfer-clause-refused : goal.returns-then-sender-transfer-clause-refused
 returns-then-sender-transfer-clause-refused c = λ done e.
-    let h = code-judged done c.args.tx.now _ _ (judged done _ c.args.tx.now c.in-Some.transfer c.account-sender.result e c.in-Some.ensures.read c.account-sender.ensures.balance c.account-sender.ensures.nonce) in
+    let h = code-judged done c.args.tx.now _ _
+    (judged done _ c.args.tx.now c.in-Some.transfer c.account-sender.result e c.in-Some.ensures.read c.account-sender.ensures.balance
+    c.account-sender.ensures.nonce) in
     grind (arith, h)
 
 pub returns-then-transfer-clause-refused : goal.returns-then-transfer-clause-refused
 returns-then-transfer-clause-refused c = λ done e.
-    let h = code-judged done c.args.tx.now _ _ (judged done _ c.args.tx.now c.in-Some.transfer c.account-sender.result e c.in-Some.ensures.read c.account-sender.ensures.balance c.account-sender.ensures.nonce) in
+    let h = code-judged done c.args.tx.now _ _
+    (judged done _ c.args.tx.now c.in-Some.transfer c.account-sender.result e c.in-Some.ensures.read c.account-sender.ensures.balance
+    c.account-sender.ensures.nonce) in
     grind (arith, h)
 
 pub returns-clause-passes : goal.returns-clause-passes
 returns-clause-passes c = λ done e.
-    let h = code-judged done c.args.tx.now _ _ (judged done _ c.args.tx.now c.in-Some.transfer c.account-sender.result e c.in-Some.ensures.read c.account-sender.ensures.balance c.account-sender.ensures.nonce) in
+    let h = code-judged done c.args.tx.now _ _
+    (judged done _ c.args.tx.now c.in-Some.transfer c.account-sender.result e c.in-Some.ensures.read c.account-sender.ensures.balance
+    c.account-sender.ensures.nonce) in
     grind (arith, h)

@@ -7,7 +7,9 @@ pub returns-in-Some-clause-key : goal.returns-in-Some-clause-key
 returns-in-Some-clause-key c = sym (parts-at c.args.tx.now c.in-Some.at (sym c.in-Some.is ∙ c.equals_sign.ensures)).1
 
 pub returns-in-Some-clause-value : goal.returns-in-Some-clause-value
-returns-in-Some-clause-value c = take_all _ _ (omega (arith, length-drop {A = ℕ})) ∙ sym (parts-at c.args.tx.now c.in-Some.at (sym c.in-Some.is ∙ c.equals_sign.ensures)).2
+returns-in-Some-clause-value c =
+    take_all _ _ (omega (arith, length-drop {A = ℕ}))
+    ∙ sym (parts-at c.args.tx.now c.in-Some.at (sym c.in-Some.is ∙ c.equals_sign.ensures)).2
 
 pub returns-in-None-clause-key : goal.returns-in-None-clause-key
 returns-in-None-clause-key c = sym (parts-whole c.args.tx.now (sym c.in-None.is ∙ c.equals_sign.ensures)).0

@@ -7,13 +7,15 @@ use Rattle.app_kinds.proofs.count.number_of.Goals as goal
 
 pub overflow_mul-number : goal.overflow_mul-number
 overflow_mul-number c =
-    let small : number_in (take c.loop-byte.byte-index c.args.bytes.now) < 256 ^ 7 = number_in-take c.args.bytes.now c.loop-byte.byte-index (omega arith) (λ k. omega (arith, c.type_inv.bytes k)) in
+    let small : number_in (take c.loop-byte.byte-index c.args.bytes.now) < 256 ^ 7 =
+    number_in-take c.args.bytes.now c.loop-byte.byte-index (omega arith) (λ k. omega (arith, c.type_inv.bytes k)) in
     let same : c.loop-byte.number ≡ number_in (take c.loop-byte.byte-index c.args.bytes.now) = c.loop-byte.invariant in
     omega arith
 
 pub overflow_add-number : goal.overflow_add-number
 overflow_add-number c =
-    let small : number_in (take c.loop-byte.byte-index c.args.bytes.now) < 256 ^ 7 = number_in-take c.args.bytes.now c.loop-byte.byte-index (omega arith) (λ k. omega (arith, c.type_inv.bytes k)) in
+    let small : number_in (take c.loop-byte.byte-index c.args.bytes.now) < 256 ^ 7 =
+    number_in-take c.args.bytes.now c.loop-byte.byte-index (omega arith) (λ k. omega (arith, c.type_inv.bytes k)) in
     let same : c.loop-byte.number ≡ number_in (take c.loop-byte.byte-index c.args.bytes.now) = c.loop-byte.invariant in
     let byte : c.from.result < 256 = rw c.from.ensures (omega (arith, c.type_inv.bytes c.loop-byte.byte-index)) in
     omega arith

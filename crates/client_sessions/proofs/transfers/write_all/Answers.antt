@@ -3,17 +3,18 @@ use Rattle.std.proofs.lemmas.Grind.{common_steps}
 use Rattle.std.proofs.lemmas.List.{take_rest}
 use Rattle.std.proofs.KnownBytes.{Appends-trans}
 use Rattle.client_sessions.proofs.transfers.write_all.Goals as goal
-
--- what is written of what is left joins what was written
-moved : (all done left : List ℕ) (n : ℕ) → all ≡ done ++ left → all ≡ (done ++ take n left) ++ take (length left - n) (drop n left)
-moved all done left n e =
-    e ∙ ap (λ l. done ++ l) (sym (take-append-drop n left)) ∙ sym (append_assoc done (take n left) (drop n left)) ∙ ap (λ l. (done ++ take n left) ++ l) (sym (take_rest left n))
+use Rattle.byte_streams.proofs.WritingLemmas.{more_written}
 
 pub loop-left-preserved : goal.loop-left-preserved
 loop-left-preserved g c =
     let (done, kept) = c.loop-left.invariant.0 in
-    let n = c.in_ok-count.count in
-    ((done ++ take n c.loop-left.left.now, (moved _ done c.loop-left.left.now n kept.0, Appends-trans _ _ _ _ _ kept.1 c.in_ok-count.ensures.bytes)), search rules)
+    let n = c.in_ok-count.count in (
+      (
+        done ++ take n c.loop-left.left.now,
+        (more_written _ done c.loop-left.left.now n kept.0, Appends-trans _ _ _ _ _ kept.1 c.in_ok-count.ensures.bytes),
+      ),
+      search rules,
+    )
 
 pub returns-clause-written : goal.returns-clause-written
 returns-clause-written g c = grind (arith, common_steps)

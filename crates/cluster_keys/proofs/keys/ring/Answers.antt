@@ -19,14 +19,17 @@ loop-replica-preserved c =
 
 whole : (c : After-new-2) → c.new-2.result ≡ ring_of c.args.cluster.now
 whole c =
-    let last : c.loop-replica.replica ≡ c.args.cluster.now.config.replicas = omega (arith, c.loop-replica-test.false, c.loop-replica.auto.replica-end) in
+    let last : c.loop-replica.replica ≡ c.args.cluster.now.config.replicas =
+    omega (arith, c.loop-replica-test.false, c.loop-replica.auto.replica-end) in
     c.new-2.ensures ∙ c.loop-replica.invariant ∙ ap (λ n. map (λ r. key_of (secret_of c.args.cluster.now r)) (range_with_len 0 n)) last
 
 pub returns-clause-whole : goal.returns-clause-whole
 returns-clause-whole c = whole c
 
 pub returns-clause-keys : goal.returns-clause-keys
-returns-clause-keys c = λ r lt. ap (λ ring. slice_get ring r) (whole c) ∙ key_in_ring c.args.cluster.now.config (secret_of c.args.cluster.now) r lt
+returns-clause-keys c = λ r lt. ap (λ ring. slice_get ring r) (whole c)
+    ∙ key_in_ring c.args.cluster.now.config (secret_of c.args.cluster.now) r lt
 
 pub returns-clause-len : goal.returns-clause-len
-returns-clause-len c = ap length (whole c) ∙ length-map-range_with_len (λ r. key_of (secret_of c.args.cluster.now r)) 0 c.args.cluster.now.config.replicas
+returns-clause-len c = ap length (whole c)
+    ∙ length-map-range_with_len (λ r. key_of (secret_of c.args.cluster.now r)) 0 c.args.cluster.now.config.replicas

@@ -1,26 +1,62 @@
-use Rattle.std.proofs.Common.{codes, arith}
+use Rattle.std.proofs.Common.{inl, codes, arith}
+use Rattle.command_line.specs.Faults.{IsRightOf}
+use Rattle.clap.proofs.TakesLemmas.{passed_up}
 use Rattle.clap.specs.Words.{found_of, rows_of}
 use Rattle.command_line.specs.Options.{SetsCluster}
-use Rattle.cluster_keys.specs.declared.cluster.Cluster.{Cluster}
+use Rattle.cluster_keys.specs.declared.cluster_seed.ClusterSeed.{ClusterSeed}
 use Rattle.command_line.proofs.NumberLemmas.{narrowed, on_err}
 use Rattle.command_line.proofs.options.cluster.Goals as goal
 
 pub returns-in_err-replicas-clause-none : goal.returns-in_err-replicas-clause-none
 returns-in_err-replicas-clause-none c =
-    on_err {X = (s : Cluster) → SetsCluster (rows_of (found_of c.args.matches.now)) s → ⊥} _ (λ s i.
+    on_err {X = (s : ClusterSeed) → SetsCluster (rows_of (found_of c.args.matches.now)) s → ⊥} _ (λ s i.
     c.in_err-replicas.ensures.none s.config.replicas
-    (narrowed (rows_of (found_of c.args.matches.now)) (codes "n") 0 255 4 13 s.config.replicas i.n (omega (arith, i.enough, i.tolerant)) i.bounded))
+    (narrowed (rows_of (found_of c.args.matches.now)) (codes "n") 0 255 4 13 s.config.replicas i.n (omega (arith, i.enough, i.tolerant))
+    i.bounded))
 
 pub returns-in_err-faults-clause-none : goal.returns-in_err-faults-clause-none
 returns-in_err-faults-clause-none c =
-    on_err {X = (s : Cluster) → SetsCluster (rows_of (found_of c.args.matches.now)) s → ⊥} _ (λ s i.
+    on_err {X = (s : ClusterSeed) → SetsCluster (rows_of (found_of c.args.matches.now)) s → ⊥} _ (λ s i.
     c.in_err-faults.ensures.none s.config.faults
-    (narrowed (rows_of (found_of c.args.matches.now)) (codes "t") 0 255 1 4 s.config.faults i.t i.tolerant (omega (arith, i.enough, i.bounded))))
+    (narrowed (rows_of (found_of c.args.matches.now)) (codes "t") 0 255 1 4 s.config.faults i.t i.tolerant
+    (omega (arith, i.enough, i.bounded))))
 
 pub returns-in_err-kind-clause-none : goal.returns-in_err-kind-clause-none
 returns-in_err-kind-clause-none c =
-    on_err {X = (s : Cluster) → SetsCluster (rows_of (found_of c.args.matches.now)) s → ⊥} _ (λ s i. c.in_err-kind.ensures.none _ i.kind)
+    on_err {X = (s : ClusterSeed) → SetsCluster (rows_of (found_of c.args.matches.now)) s → ⊥} _
+    (λ s i. c.in_err-kind.ensures.none _ i.kind)
 
 pub returns-in_err-seed-clause-none : goal.returns-in_err-seed-clause-none
 returns-in_err-seed-clause-none c =
-    on_err {X = (s : Cluster) → SetsCluster (rows_of (found_of c.args.matches.now)) s → ⊥} _ (λ s i. c.in_err-seed.ensures.none _ i.seed)
+    on_err {X = (s : ClusterSeed) → SetsCluster (rows_of (found_of c.args.matches.now)) s → ⊥} _
+    (λ s i. c.in_err-seed.ensures.none _ i.seed)
+
+pub returns-in_err-replicas-clause-right : goal.returns-in_err-replicas-clause-right
+returns-in_err-replicas-clause-right c =
+    λ table has. passed_up _ c.in_err-replicas.field-0.0 (IsRightOf table (rows_of (found_of c.args.matches.now)))
+    c.from_residual.ensures.1 (c.in_err-replicas.ensures.right table (has.n, inl has.n_limits))
+
+pub returns-in_err-faults-clause-right : goal.returns-in_err-faults-clause-right
+returns-in_err-faults-clause-right c =
+    λ table has. passed_up _ c.in_err-faults.field-0.0 (IsRightOf table (rows_of (found_of c.args.matches.now)))
+    c.from_residual-in_err-faults.ensures.1 (c.in_err-faults.ensures.right table (has.t, inl has.t_limits))
+
+pub returns-in_err-kind-clause-right : goal.returns-in_err-kind-clause-right
+returns-in_err-kind-clause-right c =
+    λ table has. passed_up _ c.in_err-kind.field-0.0 (IsRightOf table (rows_of (found_of c.args.matches.now)))
+    c.from_residual-in_err-kind.ensures.1 (c.in_err-kind.ensures.right table (has.kind, inl has.kind_limits))
+
+pub returns-in_err-width-clause-right : goal.returns-in_err-width-clause-right
+returns-in_err-width-clause-right c =
+    λ table has. passed_up _ c.in_err-width.field-0.0 (IsRightOf table (rows_of (found_of c.args.matches.now)))
+    c.from_residual-in_err-width.ensures.1 (c.in_err-width.ensures.right table has.w)
+
+pub returns-in_err-height-clause-right : goal.returns-in_err-height-clause-right
+returns-in_err-height-clause-right c =
+    λ table has. passed_up _ c.in_err-height.field-0.0 (IsRightOf table (rows_of (found_of c.args.matches.now)))
+    c.from_residual-in_err-height.ensures.1 (c.in_err-height.ensures.right table has.tree)
+
+pub returns-in_err-seed-clause-right : goal.returns-in_err-seed-clause-right
+returns-in_err-seed-clause-right c =
+    λ table has. passed_up _ c.in_err-seed.field-0.0 (IsRightOf table (rows_of (found_of c.args.matches.now)))
+    c.from_residual-in_err-seed.ensures.1 (c.in_err-seed.ensures.right table has.seed)

@@ -1,3 +1,5 @@
+use Rattle.command_line.specs.Faults.{IsRightOf}
+use Rattle.clap.proofs.TakesLemmas.{passed_up}
 use Rattle.std.proofs.Common.{codes}
 use Rattle.clap.specs.Words.{found_of, rows_of}
 use Rattle.ledger_model.specs.declared.config.AppKind.{AppKind}
@@ -7,4 +9,10 @@ use Rattle.command_line.proofs.options.kind.Goals as goal
 
 pub returns-in_err-number-clause-none : goal.returns-in_err-number-clause-none
 returns-in_err-number-clause-none c =
-    on_err {X = (k : AppKind) → IsNumber (rows_of (found_of c.args.matches.now)) (codes "kind") 1 3 (number_of k) → ⊥} _ (λ k i. c.in_err-number.ensures.none (number_of k) i)
+    on_err {X = (k : AppKind) → IsNumber (rows_of (found_of c.args.matches.now)) (codes "kind") 1 3 (number_of k) → ⊥} _
+    (λ k i. c.in_err-number.ensures.none (number_of k) i)
+
+pub returns-in_err-number-clause-right : goal.returns-in_err-number-clause-right
+returns-in_err-number-clause-right c =
+    λ table has. passed_up _ c.in_err-number.field-0.0 (IsRightOf table (rows_of (found_of c.args.matches.now))) c.from_residual.ensures.1
+    (c.in_err-number.ensures.right table has)

@@ -1,3 +1,5 @@
+use Rattle.command_line.specs.Faults.{IsRightOf}
+use Rattle.clap.proofs.TakesLemmas.{passed_up}
 use Rattle.std.proofs.Common.{ℕ, rules}
 use Rattle.clap.specs.Words.{found_of, rows_of}
 use Rattle.command_line.specs.Options.{IsNumber}
@@ -11,3 +13,8 @@ returns-in_err-number-clause-none c =
 
 pub returns-clause-some : goal.returns-clause-some
 returns-clause-some c = search rules
+
+pub returns-in_err-number-clause-right : goal.returns-in_err-number-clause-right
+returns-in_err-number-clause-right c =
+    λ table has. passed_up _ c.in_err-number.field-0.0 (IsRightOf table (rows_of (found_of c.args.matches.now))) c.from_residual.ensures.1
+    (c.in_err-number.ensures.right table (rw (c.from.ensures, c.from-2.ensures) has))

@@ -10,4 +10,5 @@ pub returns-in-None-clause-none : goal.returns-in-None-clause-none
 returns-in-None-clause-none c = sym (first_value-rows (found_of c.args.matches.now) c.args.name.now) ∙ sym c.in-None.ensures
 
 pub returns-in-None-clause-right : goal.returns-in-None-clause-right
-returns-in-None-clause-right c = sym (first_value-rows (found_of c.args.matches.now) c.args.name.now) ∙ sym c.in-None.ensures
+returns-in-None-clause-right c =
+    λ table has. (has, sym (first_value-rows (found_of c.args.matches.now) c.args.name.now) ∙ sym c.in-None.ensures)

@@ -1,4 +1,6 @@
-use Rattle.std.proofs.Common.{◌≡◌, ◌∙◌, Some, rules, sym}
+use Rattle.command_line.specs.Faults.{IsRightOf}
+use Rattle.clap.proofs.TakesLemmas.{passed_up}
+use Rattle.std.proofs.Common.{◌≡◌, ◌∙◌, inr, refl, Some, rules, sym}
 use Rattle.std.proofs.lemmas.Option.{same_Some}
 use Rattle.clap.specs.Words.{found_of, rows_of}
 use Rattle.lm_ots.specs.declared.params.TreeHeight.TheVariants.{H5, H10}
@@ -9,14 +11,26 @@ use Rattle.command_line.proofs.options.tree_height.Goals.{in_default-via-in-Some
 pub returns-in_default-clause-none : goal.returns-in_default-clause-none
 returns-in_default-clause-none c =
     let not_one : c.ok.result ≡ Some 5 → ⊥ = elim c.in_default.branch [
-      | in_default-via-in-Some+in_default w ↦ λ e. let n : w.in_default.field-0 ≡ 5 = same_Some w.in_default.field-0 5 (sym w.in_default.is ∙ e) in search (rules, n)
+      | in_default-via-in-Some+in_default w ↦ λ e. let n : w.in_default.field-0 ≡ 5 =
+          same_Some w.in_default.field-0 5 (sym w.in_default.is ∙ e) in search (rules, n)
       | in_default-via-in_default w ↦ λ e. none_some 5 (sym w.in_default.is ∙ e)
     ] in
     let not_other : c.ok.result ≡ Some 10 → ⊥ = elim c.in_default.branch [
-      | in_default-via-in-Some+in_default w ↦ λ e. let n : w.in_default.field-0 ≡ 10 = same_Some w.in_default.field-0 10 (sym w.in_default.is ∙ e) in search (rules, n)
+      | in_default-via-in-Some+in_default w ↦ λ e. let n : w.in_default.field-0 ≡ 10 =
+          same_Some w.in_default.field-0 10 (sym w.in_default.is ∙ e) in search (rules, n)
       | in_default-via-in_default w ↦ λ e. none_some 10 (sym w.in_default.is ∙ e)
     ] in
-    no_tree_height (rows_of (found_of c.args.matches.now)) c.number.result c.number.ensures.some c.number.ensures.none (λ e. not_one (c.ok.ensures.value ∙ e)) (λ e. not_other (c.ok.ensures.value ∙ e))
+    no_tree_height (rows_of (found_of c.args.matches.now)) c.number.result c.number.ensures.some c.number.ensures.none
+    (λ e. not_one (c.ok.ensures.value ∙ e)) (λ e. not_other (c.ok.ensures.value ∙ e))
 
 pub returns-in_default-clause-right : goal.returns-in_default-clause-right
-returns-in_default-clause-right c = (c.in_ok-word.ensures.some, (returns-in_default-clause-none c H5, returns-in_default-clause-none c H10))
+returns-in_default-clause-right c =
+    λ table has. (
+      (has, inr (refl, refl, refl)),
+      (c.in_ok-word.ensures.some, (returns-in_default-clause-none c H5, returns-in_default-clause-none c H10)),
+    )
+
+pub returns-in_err-word-clause-right : goal.returns-in_err-word-clause-right
+returns-in_err-word-clause-right c =
+    λ table has. passed_up _ c.in_err-word.field-0.0 (IsRightOf table (rows_of (found_of c.args.matches.now))) c.from_residual.ensures.1
+    (c.in_err-word.ensures.right table has)

@@ -1,4 +1,5 @@
-use Rattle.std.proofs.Common.{codes, subst}
+use Rattle.std.proofs.Common.{inl, codes, subst}
+use Rattle.command_line.specs.Faults.{IsRightOf}
 use Rattle.clap.specs.Words.{found_of, rows_of}
 use Rattle.command_line.specs.Options.{IsAccepted, SetsRunning, WantsMemory}
 use Rattle.settings.specs.declared.cluster.ClusterSettings.{ClusterSettings}
@@ -7,16 +8,22 @@ use Rattle.clap.proofs.TakesLemmas.{passed_up}
 use Rattle.command_line.proofs.settings_of_words.cluster_settings.Goals as goal
 
 pub returns-in_err-rounds-clause-none : goal.returns-in_err-rounds-clause-none
-returns-in_err-rounds-clause-none c = if_err {P = λ e. (s : ClusterSettings) → SetsRunning (rows_of (found_of c.args.matches.now)) s → WantsMemory e} _ (λ e s i. absurd (c.in_err-rounds.ensures.none s.rounds i.rounds))
+returns-in_err-rounds-clause-none c =
+    if_err {P = λ e. (s : ClusterSettings) → SetsRunning (rows_of (found_of c.args.matches.now)) s → WantsMemory e} _
+    (λ e s i. absurd (c.in_err-rounds.ensures.none s.rounds i.rounds))
 
 pub returns-in_err-base_ms-clause-none : goal.returns-in_err-base_ms-clause-none
-returns-in_err-base_ms-clause-none c = if_err {P = λ e. (s : ClusterSettings) → SetsRunning (rows_of (found_of c.args.matches.now)) s → WantsMemory e} _ (λ e s i. absurd (c.in_err-base_ms.ensures.none s.base_ms i.base))
+returns-in_err-base_ms-clause-none c =
+    if_err {P = λ e. (s : ClusterSettings) → SetsRunning (rows_of (found_of c.args.matches.now)) s → WantsMemory e} _
+    (λ e s i. absurd (c.in_err-base_ms.ensures.none s.base_ms i.base))
 
 pub returns-in_err-tx-clause-none : goal.returns-in_err-tx-clause-none
 returns-in_err-tx-clause-none c =
-    passed_up _ c.in_err-tx.field-0.0 (λ e. (s : ClusterSettings) → SetsRunning (rows_of (found_of c.args.matches.now)) s → WantsMemory e) c.from_residual-in_err-tx.ensures.1 (λ s i.
+    passed_up _ c.in_err-tx.field-0.0 (λ e. (s : ClusterSettings) → SetsRunning (rows_of (found_of c.args.matches.now)) s → WantsMemory e)
+    c.from_residual-in_err-tx.ensures.1 (λ s i.
     c.in_err-tx.ensures.none s.tx
-    (subst (λ k. IsAccepted (rows_of (found_of c.args.matches.now)) (codes "tx") k s.tx) (same_kind _ s.cluster c.in_ok-cluster.cluster i.cluster c.in_ok-cluster.ensures.some) i.tx))
+    (subst (λ k. IsAccepted (rows_of (found_of c.args.matches.now)) (codes "tx") k s.tx)
+    (same_kind _ s.cluster c.in_ok-cluster.cluster i.cluster c.in_ok-cluster.ensures.some) i.tx))
 
 pub returns-clause-some : goal.returns-clause-some
 returns-clause-some c = record {
@@ -27,3 +34,23 @@ returns-clause-some c = record {
   quiet = c.is_named.ensures;
   stops = c.is_named-2.ensures;
 }
+
+pub returns-in_err-cluster-clause-right : goal.returns-in_err-cluster-clause-right
+returns-in_err-cluster-clause-right c =
+    λ table has. passed_up _ c.in_err-cluster.field-0.0 (IsRightOf table (rows_of (found_of c.args.matches.now))) c.from_residual.ensures.1
+    (c.in_err-cluster.ensures.right table has.cluster)
+
+pub returns-in_err-tx-clause-right : goal.returns-in_err-tx-clause-right
+returns-in_err-tx-clause-right c =
+    λ table has. passed_up _ c.in_err-tx.field-0.0 (IsRightOf table (rows_of (found_of c.args.matches.now)))
+    c.from_residual-in_err-tx.ensures.1 (c.in_err-tx.ensures.right table has.tx c.in_ok-cluster.ensures.some.kind)
+
+pub returns-in_err-rounds-clause-right : goal.returns-in_err-rounds-clause-right
+returns-in_err-rounds-clause-right c =
+    λ table has. passed_up _ c.in_err-rounds.field-0.0 (IsRightOf table (rows_of (found_of c.args.matches.now)))
+    c.from_residual-in_err-rounds.ensures.1 (c.in_err-rounds.ensures.right table (has.rounds, inl has.rounds_limits))
+
+pub returns-in_err-base_ms-clause-right : goal.returns-in_err-base_ms-clause-right
+returns-in_err-base_ms-clause-right c =
+    λ table has. passed_up _ c.in_err-base_ms.field-0.0 (IsRightOf table (rows_of (found_of c.args.matches.now)))
+    c.from_residual-in_err-base_ms.ensures.1 (c.in_err-base_ms.ensures.right table (has.base, inl has.base_limits))

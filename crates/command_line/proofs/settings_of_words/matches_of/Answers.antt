@@ -8,21 +8,26 @@ use Rattle.command_line.proofs.MatchesLemmas.{rows_are}
 use Rattle.command_line.proofs.settings_of_words.matches_of.Goals as goal
 
 pub returns-in-Ok-clause-found : goal.returns-in-Ok-clause-found
-returns-in-Ok-clause-found c = rows_are c.in-Ok.matches (app_of c.in_ok-command.command) (map (λ w. w.now) c.args.words.now) c.in_ok-command.ensures c.in-Ok.ensures.matches
+returns-in-Ok-clause-found c =
+    rows_are c.in-Ok.matches (app_of c.in_ok-command.command) (map (λ w. w.now) c.args.words.now) c.in_ok-command.ensures
+    c.in-Ok.ensures.matches
 
 pub returns-in-Ok-clause-taken : goal.returns-in-Ok-clause-taken
 unfolding kinds_of
 returns-in-Ok-clause-taken c =
-    ap (λ a. fault_of a (map (λ w. w.now) c.args.words.now)) (sym c.in_ok-command.ensures) ∙ c.in-Ok.ensures.kinds (ap is_simple_and_free c.in_ok-command.ensures ∙ abft_is_free)
+    ap (λ a. fault_of a (map (λ w. w.now) c.args.words.now)) (sym c.in_ok-command.ensures)
+    ∙ c.in-Ok.ensures.kinds (ap is_simple_and_free c.in_ok-command.ensures ∙ abft_is_free)
 
 pub returns-in-Err-clause-refused : goal.returns-in-Err-clause-refused
 returns-in-Err-clause-refused c = λ taken.
-    let memory : kind_of c.in-Err.error ≡ kind.OutOfMemory = c.in-Err.ensures.passes (ap (λ a. takes a (map (λ w. w.now) c.args.words.now)) c.in_ok-command.ensures ∙ taken) in
+    let memory : kind_of c.in-Err.error ≡ kind.OutOfMemory =
+    c.in-Err.ensures.passes (ap (λ a. takes a (map (λ w. w.now) c.args.words.now)) c.in_ok-command.ensures ∙ taken) in
     subst WantsMemory (sym (c.fault_of.ensures.kept (λ unknown. let bad = sym memory ∙ unknown in absurd cc))) memory
 
 pub returns-in-Err-clause-right : goal.returns-in-Err-clause-right
 unfolding kinds_of
 returns-in-Err-clause-right c =
     refused_right (map (λ w. w.now) c.args.words.now) c.in-Err.error c.fault_of.result
-    (subst (λ a. HasKind (fault_of a (map (λ w. w.now) c.args.words.now)) c.in-Err.error) c.in_ok-command.ensures (c.in-Err.ensures.kinds (ap is_simple_and_free c.in_ok-command.ensures ∙ abft_is_free)))
+    (subst (λ a. HasKind (fault_of a (map (λ w. w.now) c.args.words.now)) c.in-Err.error) c.in_ok-command.ensures
+    (c.in-Err.ensures.kinds (ap is_simple_and_free c.in_ok-command.ensures ∙ abft_is_free)))
     c.fault_of.ensures.named

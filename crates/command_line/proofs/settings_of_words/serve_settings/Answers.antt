@@ -1,5 +1,7 @@
+use Rattle.command_line.specs.Options.{serve_options, SetsServe, WantsMemory}
+use Rattle.std.proofs.Common.{refl, inl}
+use Rattle.command_line.specs.Faults.{IsRightOf}
 use Rattle.clap.specs.Words.{found_of, rows_of}
-use Rattle.command_line.specs.Options.{SetsServe, WantsMemory}
 use Rattle.settings.specs.declared.cluster.ServeSettings.{ServeSettings}
 use Rattle.command_line.proofs.NumberLemmas.{if_err}
 use Rattle.clap.proofs.TakesLemmas.{passed_up}
@@ -7,14 +9,59 @@ use Rattle.command_line.proofs.settings_of_words.serve_settings.Goals as goal
 
 pub returns-in_err-cluster-clause-none : goal.returns-in_err-cluster-clause-none
 returns-in_err-cluster-clause-none c =
-    passed_up _ c.in_err-cluster.field-0.0 (λ e. (s : ServeSettings) → SetsServe (rows_of (found_of c.args.matches.now)) s → WantsMemory e) c.from_residual.ensures.1 (λ s i. c.in_err-cluster.ensures.none s.cluster i.cluster)
+    passed_up _ c.in_err-cluster.field-0.0 (λ e. (s : ServeSettings) → SetsServe (rows_of (found_of c.args.matches.now)) s → WantsMemory e)
+    c.from_residual.ensures.1 (λ s i. c.in_err-cluster.ensures.none s.cluster i.cluster)
 
 pub returns-in_err-port-clause-none : goal.returns-in_err-port-clause-none
-returns-in_err-port-clause-none c = if_err {P = λ e. (s : ServeSettings) → SetsServe (rows_of (found_of c.args.matches.now)) s → WantsMemory e} _ (λ e s i. absurd (c.in_err-port.ensures.none s.port i.port))
+returns-in_err-port-clause-none c =
+    if_err {P = λ e. (s : ServeSettings) → SetsServe (rows_of (found_of c.args.matches.now)) s → WantsMemory e} _
+    (λ e s i. absurd (c.in_err-port.ensures.none s.port i.port))
 
 pub returns-in_err-sessions-clause-none : goal.returns-in_err-sessions-clause-none
-returns-in_err-sessions-clause-none c = if_err {P = λ e. (s : ServeSettings) → SetsServe (rows_of (found_of c.args.matches.now)) s → WantsMemory e} _ (λ e s i. absurd (c.in_err-sessions.ensures.none s.sessions i.sessions))
+returns-in_err-sessions-clause-none c =
+    if_err {P = λ e. (s : ServeSettings) → SetsServe (rows_of (found_of c.args.matches.now)) s → WantsMemory e} _
+    (λ e s i. absurd (c.in_err-sessions.ensures.none s.sessions i.sessions))
 
 pub returns-in_err-client_entries-clause-none : goal.returns-in_err-client_entries-clause-none
 returns-in_err-client_entries-clause-none c =
-    if_err {P = λ e. (s : ServeSettings) → SetsServe (rows_of (found_of c.args.matches.now)) s → WantsMemory e} _ (λ e s i. absurd (c.in_err-client_entries.ensures.none s.client_entries i.entries))
+    if_err {P = λ e. (s : ServeSettings) → SetsServe (rows_of (found_of c.args.matches.now)) s → WantsMemory e} _
+    (λ e s i. absurd (c.in_err-client_entries.ensures.none s.client_entries i.entries))
+
+pub returns-in_err-cluster-clause-right : goal.returns-in_err-cluster-clause-right
+returns-in_err-cluster-clause-right c =
+    passed_up _ c.in_err-cluster.field-0.0 (IsRightOf serve_options (rows_of (found_of c.args.matches.now))) c.from_residual.ensures.1
+    (c.in_err-cluster.ensures.right serve_options
+    (record {
+      cluster = record {
+        n = refl;
+        n_limits = refl;
+        t = refl;
+        t_limits = refl;
+        kind = refl;
+        kind_limits = refl;
+        w = refl;
+        tree =
+            refl;
+        seed = refl;
+      };
+      tx = (refl, refl);
+      rounds = refl;
+      rounds_limits = refl;
+      base = refl;
+      base_limits = refl;
+    }))
+
+pub returns-in_err-port-clause-right : goal.returns-in_err-port-clause-right
+returns-in_err-port-clause-right c =
+    passed_up _ c.in_err-port.field-0.0 (IsRightOf serve_options (rows_of (found_of c.args.matches.now)))
+    c.from_residual-in_err-port.ensures.1 (c.in_err-port.ensures.right serve_options (refl, inl refl))
+
+pub returns-in_err-sessions-clause-right : goal.returns-in_err-sessions-clause-right
+returns-in_err-sessions-clause-right c =
+    passed_up _ c.in_err-sessions.field-0.0 (IsRightOf serve_options (rows_of (found_of c.args.matches.now)))
+    c.from_residual-in_err-sessions.ensures.1 (c.in_err-sessions.ensures.right serve_options (refl, inl refl))
+
+pub returns-in_err-client_entries-clause-right : goal.returns-in_err-client_entries-clause-right
+returns-in_err-client_entries-clause-right c =
+    passed_up _ c.in_err-client_entries.field-0.0 (IsRightOf serve_options (rows_of (found_of c.args.matches.now)))
+    c.from_residual-in_err-client_entries.ensures.1 (c.in_err-client_entries.ensures.right serve_options (refl, inl refl))

@@ -5,4 +5,5 @@ use Rattle.command_line.proofs.settings_of_words.settings.Goals as goal
 
 pub returns-clause-right : goal.returns-clause-right
 returns-clause-right c =
-    options_right (map (λ w. w.now) c.args.words.now) (subcommand_rows_of c.in_ok-matches.matches) c.settings_of.result c.in_ok-matches.ensures.taken c.in_ok-matches.ensures.found c.settings_of.ensures.right
+    options_right (map (λ w. w.now) c.args.words.now) (subcommand_rows_of c.in_ok-matches.matches) c.settings_of.result
+    c.in_ok-matches.ensures.taken c.in_ok-matches.ensures.found c.settings_of.ensures.right

@@ -1,72 +1,98 @@
 use Rattle.std.proofs.Common.{◌≡◌, ◌∙◌, inl, inr, List, Some, refl, rules, codes, subst, sym}
 use Rattle.std.proofs.lemmas.Option.{same_Some}
 use Rattle.clap.specs.Words.{Row, found_of, rows_of}
-use Rattle.command_line.specs.Options.{Sets, SetsSign, SetsDeliver, SetsSimulate, SetsRunning, SetsServe, WantsMemory}
+use Rattle.command_line.specs.Options.{Sets, SetsSign, SetsDeliver, SetsSimulate, SetsRunning, SetsServe, WantsMemory, running_options}
 use Rattle.settings.specs.declared.Settings.TheVariants as settings
 use Rattle.command_line.specs.Faults.{IsNoSubcommand}
 use Rattle.command_line.proofs.FaultLemmas.{right_alike}
-use Rattle.command_line.proofs.MatchesLemmas.{found_is, names_one, refused_alike, set_alike, refused_anyway, sets_sign, sets_deliver, sets_simulate, sets_cluster, sets_serve}
+use Rattle.command_line.proofs.MatchesLemmas.{found_is, names_one, refused_alike, set_alike, refused_anyway, sets_sign, sets_deliver}
+use Rattle.command_line.proofs.MatchesLemmas.{sets_simulate, sets_cluster, sets_serve}
 use Rattle.command_line.proofs.settings_of_words.settings_of.Goals as goal
 
 pub returns-in-sign-clause-set : goal.returns-in-sign-clause-set
 returns-in-sign-clause-set c =
     let rows : List Row = rows_of (found_of c.in-Some.options.now) in
-    let found = found_is c.args.matches.now (codes "sign") rows (search (rules, c.in-sign.is, c.in-Some.ensures.name)) c.in-Some.ensures.rows in
-    set_alike (λ t s. s ≡ settings.Sign t) (SetsSign rows) _ _ c.sign_settings.result c.map.result found (λ t s is set. subst (λ x. Sets (Some (codes "sign", rows)) x) (sym is) (refl, set)) c.sign_settings.ensures.some c.map.ensures.cases
+    let found = found_is c.args.matches.now (codes "sign") rows (search (rules, c.in-sign.is, c.in-Some.ensures.name))
+    c.in-Some.ensures.rows in
+    set_alike (λ t s. s ≡ settings.Sign t) (SetsSign rows) _ _ c.sign_settings.result c.map.result found
+    (λ t s is set. subst (λ x. Sets (Some (codes "sign", rows)) x) (sym is) (refl, set)) c.sign_settings.ensures.some
+    c.map.ensures.cases
 
 pub returns-in-sign-clause-refused : goal.returns-in-sign-clause-refused
 returns-in-sign-clause-refused c =
     let rows : List Row = rows_of (found_of c.in-Some.options.now) in
-    let found = found_is c.args.matches.now (codes "sign") rows (search (rules, c.in-sign.is, c.in-Some.ensures.name)) c.in-Some.ensures.rows in
-    refused_alike _ (SetsSign rows) _ _ c.sign_settings.result c.map.result found (λ e s. sets_sign rows s) c.sign_settings.ensures.none c.map.ensures.cases
+    let found = found_is c.args.matches.now (codes "sign") rows (search (rules, c.in-sign.is, c.in-Some.ensures.name))
+    c.in-Some.ensures.rows in
+    refused_alike _ (SetsSign rows) _ _ c.sign_settings.result c.map.result found (λ e s. sets_sign rows s) c.sign_settings.ensures.none
+    c.map.ensures.cases
 
 pub returns-in-deliver-clause-set : goal.returns-in-deliver-clause-set
 returns-in-deliver-clause-set c =
     let rows : List Row = rows_of (found_of c.in-Some.options.now) in
-    let found = found_is c.args.matches.now (codes "deliver") rows (search (rules, c.in-deliver.is, c.in-Some.ensures.name)) c.in-Some.ensures.rows in
-    set_alike (λ t s. s ≡ settings.Deliver t) (SetsDeliver rows) _ _ c.deliver_settings.result c.map-in-deliver.result found (λ t s is set. subst (λ x. Sets (Some (codes "deliver", rows)) x) (sym is) (refl, set)) c.deliver_settings.ensures.some c.map-in-deliver.ensures.cases
+    let found = found_is c.args.matches.now (codes "deliver") rows (search (rules, c.in-deliver.is, c.in-Some.ensures.name))
+    c.in-Some.ensures.rows in
+    set_alike (λ t s. s ≡ settings.Deliver t) (SetsDeliver rows) _ _ c.deliver_settings.result c.map-in-deliver.result found
+    (λ t s is set. subst (λ x. Sets (Some (codes "deliver", rows)) x) (sym is) (refl, set)) c.deliver_settings.ensures.some
+    c.map-in-deliver.ensures.cases
 
 pub returns-in-deliver-clause-refused : goal.returns-in-deliver-clause-refused
 returns-in-deliver-clause-refused c =
     let rows : List Row = rows_of (found_of c.in-Some.options.now) in
-    let found = found_is c.args.matches.now (codes "deliver") rows (search (rules, c.in-deliver.is, c.in-Some.ensures.name)) c.in-Some.ensures.rows in
-    refused_alike _ (SetsDeliver rows) _ _ c.deliver_settings.result c.map-in-deliver.result found (λ e s. sets_deliver rows s) c.deliver_settings.ensures.none c.map-in-deliver.ensures.cases
+    let found = found_is c.args.matches.now (codes "deliver") rows (search (rules, c.in-deliver.is, c.in-Some.ensures.name))
+    c.in-Some.ensures.rows in
+    refused_alike _ (SetsDeliver rows) _ _ c.deliver_settings.result c.map-in-deliver.result found (λ e s. sets_deliver rows s)
+    c.deliver_settings.ensures.none c.map-in-deliver.ensures.cases
 
 pub returns-in-simulate-clause-set : goal.returns-in-simulate-clause-set
 returns-in-simulate-clause-set c =
     let rows : List Row = rows_of (found_of c.in-Some.options.now) in
-    let found = found_is c.args.matches.now (codes "simulate") rows (search (rules, c.in-simulate.is, c.in-Some.ensures.name)) c.in-Some.ensures.rows in
-    set_alike (λ t s. s ≡ settings.Simulate t) (SetsSimulate rows) _ _ c.simulate_settings.result c.map-in-simulate.result found (λ t s is set. subst (λ x. Sets (Some (codes "simulate", rows)) x) (sym is) (refl, set)) c.simulate_settings.ensures.some c.map-in-simulate.ensures.cases
+    let found = found_is c.args.matches.now (codes "simulate") rows (search (rules, c.in-simulate.is, c.in-Some.ensures.name))
+    c.in-Some.ensures.rows in
+    set_alike (λ t s. s ≡ settings.Simulate t) (SetsSimulate rows) _ _ c.simulate_settings.result c.map-in-simulate.result found
+    (λ t s is set. subst (λ x. Sets (Some (codes "simulate", rows)) x) (sym is) (refl, set)) c.simulate_settings.ensures.some
+    c.map-in-simulate.ensures.cases
 
 pub returns-in-simulate-clause-refused : goal.returns-in-simulate-clause-refused
 returns-in-simulate-clause-refused c =
     let rows : List Row = rows_of (found_of c.in-Some.options.now) in
-    let found = found_is c.args.matches.now (codes "simulate") rows (search (rules, c.in-simulate.is, c.in-Some.ensures.name)) c.in-Some.ensures.rows in
-    refused_alike _ (SetsSimulate rows) _ _ c.simulate_settings.result c.map-in-simulate.result found (λ e s. sets_simulate rows s) (refused_anyway (SetsSimulate rows) WantsMemory _ c.simulate_settings.ensures.none) c.map-in-simulate.ensures.cases
+    let found = found_is c.args.matches.now (codes "simulate") rows (search (rules, c.in-simulate.is, c.in-Some.ensures.name))
+    c.in-Some.ensures.rows in
+    refused_alike _ (SetsSimulate rows) _ _ c.simulate_settings.result c.map-in-simulate.result found (λ e s. sets_simulate rows s)
+    (refused_anyway (SetsSimulate rows) WantsMemory _ c.simulate_settings.ensures.none) c.map-in-simulate.ensures.cases
 
 pub returns-in-cluster-clause-set : goal.returns-in-cluster-clause-set
 returns-in-cluster-clause-set c =
     let rows : List Row = rows_of (found_of c.in-Some.options.now) in
-    let found = found_is c.args.matches.now (codes "cluster") rows (search (rules, c.in-cluster.is, c.in-Some.ensures.name)) c.in-Some.ensures.rows in
-    set_alike (λ t s. s ≡ settings.Cluster t) (SetsRunning rows) _ _ c.cluster_settings.result c.map-in-cluster.result found (λ t s is set. subst (λ x. Sets (Some (codes "cluster", rows)) x) (sym is) (refl, set)) c.cluster_settings.ensures.some c.map-in-cluster.ensures.cases
+    let found = found_is c.args.matches.now (codes "cluster") rows (search (rules, c.in-cluster.is, c.in-Some.ensures.name))
+    c.in-Some.ensures.rows in
+    set_alike (λ t s. s ≡ settings.Cluster t) (SetsRunning rows) _ _ c.cluster_settings.result c.map-in-cluster.result found
+    (λ t s is set. subst (λ x. Sets (Some (codes "cluster", rows)) x) (sym is) (refl, set)) c.cluster_settings.ensures.some
+    c.map-in-cluster.ensures.cases
 
 pub returns-in-cluster-clause-refused : goal.returns-in-cluster-clause-refused
 returns-in-cluster-clause-refused c =
     let rows : List Row = rows_of (found_of c.in-Some.options.now) in
-    let found = found_is c.args.matches.now (codes "cluster") rows (search (rules, c.in-cluster.is, c.in-Some.ensures.name)) c.in-Some.ensures.rows in
-    refused_alike _ (SetsRunning rows) _ _ c.cluster_settings.result c.map-in-cluster.result found (λ e s. sets_cluster rows s) c.cluster_settings.ensures.none c.map-in-cluster.ensures.cases
+    let found = found_is c.args.matches.now (codes "cluster") rows (search (rules, c.in-cluster.is, c.in-Some.ensures.name))
+    c.in-Some.ensures.rows in
+    refused_alike _ (SetsRunning rows) _ _ c.cluster_settings.result c.map-in-cluster.result found (λ e s. sets_cluster rows s)
+    c.cluster_settings.ensures.none c.map-in-cluster.ensures.cases
 
 pub returns-in-serve-clause-set : goal.returns-in-serve-clause-set
 returns-in-serve-clause-set c =
     let rows : List Row = rows_of (found_of c.in-Some.options.now) in
-    let found = found_is c.args.matches.now (codes "serve") rows (search (rules, c.in-serve.is, c.in-Some.ensures.name)) c.in-Some.ensures.rows in
-    set_alike (λ t s. s ≡ settings.Serve t) (SetsServe rows) _ _ c.serve_settings.result c.map-in-serve.result found (λ t s is set. subst (λ x. Sets (Some (codes "serve", rows)) x) (sym is) (refl, set)) c.serve_settings.ensures.some c.map-in-serve.ensures.cases
+    let found = found_is c.args.matches.now (codes "serve") rows (search (rules, c.in-serve.is, c.in-Some.ensures.name))
+    c.in-Some.ensures.rows in
+    set_alike (λ t s. s ≡ settings.Serve t) (SetsServe rows) _ _ c.serve_settings.result c.map-in-serve.result found
+    (λ t s is set. subst (λ x. Sets (Some (codes "serve", rows)) x) (sym is) (refl, set)) c.serve_settings.ensures.some
+    c.map-in-serve.ensures.cases
 
 pub returns-in-serve-clause-refused : goal.returns-in-serve-clause-refused
 returns-in-serve-clause-refused c =
     let rows : List Row = rows_of (found_of c.in-Some.options.now) in
-    let found = found_is c.args.matches.now (codes "serve") rows (search (rules, c.in-serve.is, c.in-Some.ensures.name)) c.in-Some.ensures.rows in
-    refused_alike _ (SetsServe rows) _ _ c.serve_settings.result c.map-in-serve.result found (λ e s. sets_serve rows s) c.serve_settings.ensures.none c.map-in-serve.ensures.cases
+    let found = found_is c.args.matches.now (codes "serve") rows (search (rules, c.in-serve.is, c.in-Some.ensures.name))
+    c.in-Some.ensures.rows in
+    refused_alike _ (SetsServe rows) _ _ c.serve_settings.result c.map-in-serve.result found (λ e s. sets_serve rows s)
+    c.serve_settings.ensures.none c.map-in-serve.ensures.cases
 
 pub returns-in_default-name-clause-refused : goal.returns-in_default-name-clause-refused
 returns-in_default-name-clause-refused c = λ s sets.
@@ -74,43 +100,76 @@ returns-in_default-name-clause-refused c = λ s sets.
       | inl h ↦ c.in_default-name.not-sign (same_Some c.in-Some.name.now (codes "sign") (c.in-Some.ensures.name ∙ h))
       | inr (inl h) ↦ c.in_default-name.not-deliver (same_Some c.in-Some.name.now (codes "deliver") (c.in-Some.ensures.name ∙ h))
       | inr (inr (inl h)) ↦ c.in_default-name.not-simulate (same_Some c.in-Some.name.now (codes "simulate") (c.in-Some.ensures.name ∙ h))
-      | inr (inr (inr (inl h))) ↦ c.in_default-name.not-cluster (same_Some c.in-Some.name.now (codes "cluster") (c.in-Some.ensures.name ∙ h))
+      | inr (inr (inr (inl h))) ↦ c.in_default-name.not-cluster
+          (same_Some c.in-Some.name.now (codes "cluster") (c.in-Some.ensures.name ∙ h))
       | inr (inr (inr (inr h))) ↦ c.in_default-name.not-serve (same_Some c.in-Some.name.now (codes "serve") (c.in-Some.ensures.name ∙ h))
     ]
 
 pub returns-in-sign-clause-right : goal.returns-in-sign-clause-right
 returns-in-sign-clause-right c =
     let rows : List Row = rows_of (found_of c.in-Some.options.now) in
-    let found = found_is c.args.matches.now (codes "sign") rows (search (rules, c.in-sign.is, c.in-Some.ensures.name)) c.in-Some.ensures.rows in
+    let found = found_is c.args.matches.now (codes "sign") rows (search (rules, c.in-sign.is, c.in-Some.ensures.name))
+    c.in-Some.ensures.rows in
     right_alike _ _ _ c.sign_settings.result c.map.result found c.sign_settings.ensures.right c.map.ensures.cases
 
 pub returns-in-deliver-clause-right : goal.returns-in-deliver-clause-right
 returns-in-deliver-clause-right c =
     let rows : List Row = rows_of (found_of c.in-Some.options.now) in
-    let found = found_is c.args.matches.now (codes "deliver") rows (search (rules, c.in-deliver.is, c.in-Some.ensures.name)) c.in-Some.ensures.rows in
-    right_alike _ _ _ c.deliver_settings.result c.map-in-deliver.result found c.deliver_settings.ensures.right c.map-in-deliver.ensures.cases
+    let found = found_is c.args.matches.now (codes "deliver") rows (search (rules, c.in-deliver.is, c.in-Some.ensures.name))
+    c.in-Some.ensures.rows in
+    right_alike _ _ _ c.deliver_settings.result c.map-in-deliver.result found c.deliver_settings.ensures.right
+    c.map-in-deliver.ensures.cases
 
 pub returns-in-simulate-clause-right : goal.returns-in-simulate-clause-right
 returns-in-simulate-clause-right c =
     let rows : List Row = rows_of (found_of c.in-Some.options.now) in
-    let found = found_is c.args.matches.now (codes "simulate") rows (search (rules, c.in-simulate.is, c.in-Some.ensures.name)) c.in-Some.ensures.rows in
-    right_alike _ _ _ c.simulate_settings.result c.map-in-simulate.result found c.simulate_settings.ensures.right c.map-in-simulate.ensures.cases
+    let found = found_is c.args.matches.now (codes "simulate") rows (search (rules, c.in-simulate.is, c.in-Some.ensures.name))
+    c.in-Some.ensures.rows in
+    right_alike _ _ _ c.simulate_settings.result c.map-in-simulate.result found c.simulate_settings.ensures.right
+    c.map-in-simulate.ensures.cases
 
 pub returns-in-cluster-clause-right : goal.returns-in-cluster-clause-right
 returns-in-cluster-clause-right c =
     let rows : List Row = rows_of (found_of c.in-Some.options.now) in
-    let found = found_is c.args.matches.now (codes "cluster") rows (search (rules, c.in-cluster.is, c.in-Some.ensures.name)) c.in-Some.ensures.rows in
-    right_alike _ _ _ c.cluster_settings.result c.map-in-cluster.result found c.cluster_settings.ensures.right c.map-in-cluster.ensures.cases
+    let found = found_is c.args.matches.now (codes "cluster") rows (search (rules, c.in-cluster.is, c.in-Some.ensures.name))
+    c.in-Some.ensures.rows in
+    right_alike _ _ _ c.cluster_settings.result c.map-in-cluster.result found (c.cluster_settings.ensures.right running_options
+    (record {
+      cluster = record {
+        n = refl;
+        n_limits = refl;
+        t = refl;
+        t_limits = refl;
+        kind = refl;
+        kind_limits = refl;
+        w = refl;
+        tree =
+            refl;
+        seed = refl;
+      };
+      tx = (refl, refl);
+      rounds = refl;
+      rounds_limits = refl;
+      base = refl;
+      base_limits = refl;
+    }))
+    c.map-in-cluster.ensures.cases
 
 pub returns-in-serve-clause-right : goal.returns-in-serve-clause-right
 returns-in-serve-clause-right c =
     let rows : List Row = rows_of (found_of c.in-Some.options.now) in
-    let found = found_is c.args.matches.now (codes "serve") rows (search (rules, c.in-serve.is, c.in-Some.ensures.name)) c.in-Some.ensures.rows in
+    let found = found_is c.args.matches.now (codes "serve") rows (search (rules, c.in-serve.is, c.in-Some.ensures.name))
+    c.in-Some.ensures.rows in
     right_alike _ _ _ c.serve_settings.result c.map-in-serve.result found c.serve_settings.ensures.right c.map-in-serve.ensures.cases
 
 pub returns-in_default-name-clause-right : goal.returns-in_default-name-clause-right
 returns-in_default-name-clause-right c =
     let rows : List Row = rows_of (found_of c.in-Some.options.now) in
     let found = found_is c.args.matches.now c.in-Some.name.now rows c.in-Some.ensures.name c.in-Some.ensures.rows in
-    subst IsNoSubcommand (sym found)
-    (c.in_default-name.not-sign, (c.in_default-name.not-deliver, (c.in_default-name.not-simulate, (c.in_default-name.not-cluster, c.in_default-name.not-serve))))
+    subst IsNoSubcommand (sym found) (
+      c.in_default-name.not-sign,
+      (
+        c.in_default-name.not-deliver,
+        (c.in_default-name.not-simulate, (c.in_default-name.not-cluster, c.in_default-name.not-serve)),
+      ),
+    )

@@ -1,9 +1,18 @@
+use Rattle.command_line.specs.Options.{simulate_options, SetsSimulate}
+use Rattle.std.proofs.Common.{refl}
+use Rattle.command_line.specs.Faults.{IsRightOf}
+use Rattle.clap.proofs.TakesLemmas.{passed_up}
 use Rattle.clap.specs.Words.{found_of, rows_of}
-use Rattle.command_line.specs.Options.{SetsSimulate}
 use Rattle.settings.specs.declared.simulate.SimulateSettings.{SimulateSettings}
 use Rattle.command_line.proofs.NumberLemmas.{on_err}
 use Rattle.command_line.proofs.settings_of_words.simulate_settings.Goals as goal
 
 pub returns-in_err-seed-clause-none : goal.returns-in_err-seed-clause-none
 returns-in_err-seed-clause-none c =
-    on_err {X = (s : SimulateSettings) → SetsSimulate (rows_of (found_of c.args.matches.now)) s → ⊥} _ (λ s i. c.in_err-seed.ensures.none s.seed i.seed)
+    on_err {X = (s : SimulateSettings) → SetsSimulate (rows_of (found_of c.args.matches.now)) s → ⊥} _
+    (λ s i. c.in_err-seed.ensures.none s.seed i.seed)
+
+pub returns-in_err-seed-clause-right : goal.returns-in_err-seed-clause-right
+returns-in_err-seed-clause-right c =
+    passed_up _ c.in_err-seed.field-0.0 (IsRightOf simulate_options (rows_of (found_of c.args.matches.now))) c.from_residual.ensures.1
+    (c.in_err-seed.ensures.right simulate_options refl)

@@ -1,7 +1,7 @@
 -- the reports that find the value, of the places so far, as many as a lock needs
 use Rattle.std.proofs.Common.{◌≡◌, filter, take}
 use Rattle.ledger_model.specs.Locks.{finds}
-use Rattle.ledger_model.specs.Tallies.{all_read}
+use Rattle.tally.specs.Tallies.{all_read}
 use Rattle.instance.proofs.making.lowest_finding.Given as goal
 
 abbrev pub invariant-loop-place : goal.invariant-loop-place

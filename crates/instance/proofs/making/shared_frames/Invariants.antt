@@ -1,7 +1,7 @@
 -- the frames of the locks so far
 use Rattle.std.proofs.Common.{◌≡◌, map, take}
 use Rattle.ledger_model.specs.Spelling.{frame_bytes}
-use Rattle.ledger_model.specs.LockTables.{as_statement}
+use Rattle.lock_proofs.specs.LockTables.{as_statement}
 use Rattle.instance.proofs.making.shared_frames.Given as goal
 
 abbrev pub invariant-loop-lock : goal.invariant-loop-lock

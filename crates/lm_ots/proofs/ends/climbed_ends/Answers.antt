@@ -19,7 +19,10 @@ returns c =
     let q = c.args.leaf in
     let all : c.loop-index.index ≡ chains_of c.args.params.width = omega arith in
     let last = c.last_step-last_step in
-    listed c.ends.result (λ i. chain id q i (digit p c.args.digest.now i) (last_step p - digit p c.args.digest.now i) (part c.args.values.now 0 i)) p.chains (omega (arith, chains-most c.args.params.width, c.ends.ensures.many)) (λ i below.
+    listed c.ends.result (λ i. chain id q i (digit p c.args.digest.now i) (last_step p - digit p c.args.digest.now i)
+    (part c.args.values.now 0 i)) p.chains (omega (arith, chains-most c.args.params.width, c.ends.ensures.many)) (λ i below.
     c.ends.ensures.ends i (omega (arith, chains-most c.args.params.width)) ∙ c.loop-index.invariant.ends i (omega arith)
-    ∙ ap (λ d. chain id q i d (last.result - d) (part c.args.values.now 0 i)) (digit-is c.args.params c.args.digest.now c.of-digits.result.bytes c.of-digits.result.params c.of-digits.ensures.params c.of-digits.ensures.bytes i)
+    ∙ ap (λ d. chain id q i d (last.result - d) (part c.args.values.now 0 i))
+    (digit-is c.args.params c.args.digest.now c.of-digits.result.bytes c.of-digits.result.params c.of-digits.ensures.params
+    c.of-digits.ensures.bytes i)
     ∙ ap (λ n. chain id q i (digit p c.args.digest.now i) (n - digit p c.args.digest.now i) (part c.args.values.now 0 i)) last.ensures)

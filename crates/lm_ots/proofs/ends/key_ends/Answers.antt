@@ -11,6 +11,7 @@ returns c =
     let id = c.args.identifier.now in
     let q = c.args.leaf in
     let all : c.loop-index.index ≡ chains_of c.args.params.width = omega arith in
-    listed c.ends.result (λ i. chain id q i 0 (last_step p) (chain_start id c.args.seed.now q i)) p.chains (omega (arith, chains-most c.args.params.width, c.ends.ensures.many)) (λ i below.
+    listed c.ends.result (λ i. chain id q i 0 (last_step p) (chain_start id c.args.seed.now q i)) p.chains
+    (omega (arith, chains-most c.args.params.width, c.ends.ensures.many)) (λ i below.
     c.ends.ensures.ends i (omega (arith, chains-most c.args.params.width)) ∙ c.loop-index.invariant.ends i (omega arith)
     ∙ ap (λ n. chain id q i 0 n (chain_start id c.args.seed.now q i)) c.last_step-last_step.ensures)

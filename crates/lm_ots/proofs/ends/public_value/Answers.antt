@@ -10,5 +10,6 @@ pub returns : goal.returns
 unfolding public_value
 returns c =
     c.finalize.ensures _ c.loop-end.invariant
-    ∙ ap (λ ends. sha256 (c.args.identifier.now ++ to_be_bytes w32 c.args.leaf ++ to_be_bytes w16 0x8080 ++ flat_map (λ (end : List ℕ). end) ends))
+    ∙ ap (λ ends. sha256 (c.args.identifier.now ++ to_be_bytes w32 c.args.leaf ++ to_be_bytes w16 0x8080
+    ++ flat_map (λ (end : List ℕ). end) ends))
     (take_all c.loop-end.end-index c.args.ends.now (omega arith))

@@ -11,6 +11,9 @@ returns c =
     let id = c.args.identifier.now in
     let q = c.args.leaf in
     let all : c.loop-index.index ≡ chains_of c.args.params.width = omega arith in
-    listed c.ends.result (λ i. chain id q i 0 (digit p c.args.digest.now i) (chain_start id c.args.seed.now q i)) p.chains (omega (arith, chains-most c.args.params.width, c.ends.ensures.many)) (λ i below.
+    listed c.ends.result (λ i. chain id q i 0 (digit p c.args.digest.now i) (chain_start id c.args.seed.now q i)) p.chains
+    (omega (arith, chains-most c.args.params.width, c.ends.ensures.many)) (λ i below.
     c.ends.ensures.ends i (omega (arith, chains-most c.args.params.width)) ∙ c.loop-index.invariant.ends i (omega arith)
-    ∙ ap (λ d. chain id q i 0 d (chain_start id c.args.seed.now q i)) (digit-is c.args.params c.args.digest.now c.of-digits.result.bytes c.of-digits.result.params c.of-digits.ensures.params c.of-digits.ensures.bytes i))
+    ∙ ap (λ d. chain id q i 0 d (chain_start id c.args.seed.now q i))
+    (digit-is c.args.params c.args.digest.now c.of-digits.result.bytes c.of-digits.result.params c.of-digits.ensures.params
+    c.of-digits.ensures.bytes i))

@@ -9,5 +9,6 @@ abbrev pub invariant-loop-index : goal.invariant-loop-index
 invariant-loop-index l = record {
   identifier : l.chains.identifier ≡ l.identifier;
   leaf : l.chains.leaf ≡ l.leaf;
-  ends : (i : ℕ) → i < l.index → end_of l.chains i ≡ chain l.identifier l.leaf i 0 (coef l.digits.bytes i (bits_of l.digits.params.width)) (chain_start l.identifier l.seed l.leaf i);
+  ends : (i : ℕ) → i < l.index → end_of l.chains i
+      ≡ chain l.identifier l.leaf i 0 (coef l.digits.bytes i (bits_of l.digits.params.width)) (chain_start l.identifier l.seed l.leaf i);
 }

@@ -21,10 +21,13 @@ loop-lane-preserved c =
     let most = chains-most c.args.params.width in
     let count : 67 * lane + c.from-chains.result - 67 * lane ≡ p.chains = omega (arith, c.from-chains.ensures, c.chains.ensures) in
     let ends : take p.chains (drop (67 * lane) c.all_ends-ends.result) ≡ map end (range_with_len 0 p.chains) =
-    listed-at c.all_ends-ends.result end p.chains (67 * lane) (omega (arith, most, c.all_ends-ends.ensures.many)) (λ i below. c.all_ends-ends.ensures.ends lane i low below) in
+    listed-at c.all_ends-ends.result end p.chains (67 * lane) (omega (arith, most, c.all_ends-ends.ensures.many))
+    (λ i below. c.all_ends-ends.ensures.ends lane i low below) in
     let key : c.public_value.result ≡ leaf_key p id c.args.seed.now q =
-    c.public_value.ensures ∙ ap (λ n. public_value id q (take n (drop (67 * lane) c.all_ends-ends.result))) count ∙ ap (public_value id q) ends in
+    c.public_value.ensures ∙ ap (λ n. public_value id q (take n (drop (67 * lane) c.all_ends-ends.result))) count
+    ∙ ap (public_value id q) ends in
     record {
       many = length-set c.loop-lane.keys lane c.public_value.result ∙ kept.many;
-      keys = set-more (λ k key. key ≡ leaf_key p id c.args.seed.now (c.args.first + k)) c.loop-lane.keys lane c.public_value.result [] inside kept.keys key;
+      keys = set-more (λ k key. key ≡ leaf_key p id c.args.seed.now (c.args.first + k)) c.loop-lane.keys lane c.public_value.result []
+          inside kept.keys key;
     }

@@ -6,6 +6,7 @@ use Rattle.lm_ots.proofs.leaf_row.seed_messages.Given as goal
 abbrev pub invariant-loop-lane : goal.invariant-loop-lane
 invariant-loop-lane l = record {
   many : length l.messages ≡ 8;
-  messages : (k : ℕ) → k < l.lane → slice_index_or l.messages k [] ≡ l.identifier ++ to_be_bytes w32 (l.first + k) ++ to_be_bytes w16 l.index ++ (255 ∷ []) ++ l.seed;
+  messages : (k : ℕ) → k < l.lane
+      → slice_index_or l.messages k [] ≡ l.identifier ++ to_be_bytes w32 (l.first + k) ++ to_be_bytes w16 l.index ++ (255 ∷ []) ++ l.seed;
   named : 0 < l.lane → length l.identifier ≡ 16;
 }

@@ -16,6 +16,7 @@ returns-clause-items c =
     let all : c.from.result ≡ chains_of c.args.params.width = c.from.ensures ∙ c.chains.ensures in
     let front = c.append-2.ensures.items ∙ ap (λ zs. zs ++ randomizer) c.append.ensures.items ∙ append_assoc before code randomizer in
     c.append_each.ensures.items ∙ ap (λ zs. zs ++ joined) front ∙ append_assoc before (code ++ randomizer) joined
-    ∙ ap (λ zs. before ++ zs) (leaf_signature-is c.args.params c.args.identifier.now c.args.seed.now c.args.message.now code randomizer c.message_digest-digest.result ends c.args.leaf
+    ∙ ap (λ zs. before ++ zs) (leaf_signature-is c.args.params c.args.identifier.now c.args.seed.now c.args.message.now code randomizer
+    c.message_digest-digest.result ends c.args.leaf
     (c.to_be_bytes.ensures ∙ ap (to_be_bytes w32) c.code.ensures) c.randomizer-randomizer.ensures c.message_digest-digest.ensures
     (ap (λ n. take n c.signed_ends-ends.result) all ∙ c.signed_ends-ends.ensures))

@@ -8,4 +8,5 @@ pub returns : goal.returns
 unfolding randomizer
 returns c =
     c.digest.ensures ∙ ap sha256 c.step_message.ensures.message
-    ∙ ap (λ seed. sha256 (c.args.identifier.now ++ to_be_bytes w32 c.args.leaf ++ to_be_bytes w16 0xfffd ++ (255 ∷ []) ++ seed)) c.as_bytes.ensures.bytes
+    ∙ ap (λ seed. sha256 (c.args.identifier.now ++ to_be_bytes w32 c.args.leaf ++ to_be_bytes w16 0xfffd ++ (255 ∷ []) ++ seed))
+    c.as_bytes.ensures.bytes

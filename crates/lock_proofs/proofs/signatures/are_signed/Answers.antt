@@ -8,4 +8,5 @@ use Rattle.lock_proofs.proofs.signatures.are_signed.Goals as goal
 pub returns : goal.returns
 returns c =
     let ring = c.args.ring.now in
-    c.do_verify.ensures ∙ ap (list_all (is_lent_signed ring)) c.lent_reports.ensures ∙ list_all-map (is_lent_signed ring) lent_of (proof_of c.args.frame.now.statement)
+    c.do_verify.ensures ∙ ap (list_all (is_lent_signed ring)) c.lent_reports.ensures
+    ∙ list_all-map (is_lent_signed ring) lent_of (proof_of c.args.frame.now.statement)

@@ -1,7 +1,8 @@
 use Rattle.std.proofs.Common.{◌≡◌}
 use Rattle.std.specs.Prelude.{drop, option_copied}
-use Rattle.ledger_model.specs.Tallies.{all_read}
-use Rattle.ledger_model.specs.Phases.{reports_of, is_found_by}
+use Rattle.tally.specs.Tallies.{all_read}
+use Rattle.tally.specs.Readings.{reports_of}
+use Rattle.phase_core.specs.Choices.{is_found_by}
 use Rattle.phase_core.specs.Least.{least_of}
 use Rattle.phase_core.proofs.choice.least_listed.Given as goal
 

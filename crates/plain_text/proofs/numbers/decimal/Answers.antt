@@ -5,7 +5,9 @@ use Rattle.plain_text.proofs.NumberLemmas.{too_large}
 use Rattle.plain_text.proofs.numbers.decimal.Goals as goal
 
 pub returns-clause-none : goal.returns-clause-none
-returns-clause-none c = subst (λ (o : Option ℕ). IfNone o (IsTrue (is_decimal c.args.text.now) → 4294967296 ≤ digits_value 10 c.args.text.now)) (sym c.ok.ensures.value) (too_large c.args.text.now c.parse.result c.parse.ensures.value.0)
+returns-clause-none c = subst (λ (o : Option ℕ). IfNone o
+    (IsTrue (is_decimal c.args.text.now) → 4294967296 ≤ digits_value 10 c.args.text.now)) (sym c.ok.ensures.value)
+    (too_large c.args.text.now c.parse.result c.parse.ensures.value.0)
 
 pub returns-clause-value : goal.returns-clause-value
 returns-clause-value c = search rules

@@ -10,7 +10,8 @@ pub returns-clause-some : goal.returns-clause-some
 returns-clause-some c =
     let is : c.is_empty.result ≡ true = search rules in
     let none : length c.loop-rest.rest.now ≡ 0 = eqb-true (length c.loop-rest.rest.now) 0 (sym c.is_empty.ensures ∙ is) in
-    subst (StandsFor c.args.text.now) (append-nil c.loop-rest.bytes.items) (c.loop-rest.invariant.0 [] (nil_from_length c.loop-rest.rest.now none))
+    subst (StandsFor c.args.text.now) (append-nil c.loop-rest.bytes.items)
+    (c.loop-rest.invariant.0 [] (nil_from_length c.loop-rest.rest.now none))
 
 pub returns-in_default-clause-none : goal.returns-in_default-clause-none
 returns-in_default-clause-none c = λ bytes stands.
@@ -40,10 +41,13 @@ loop-rest-preserved c =
     let first : first_byte c.loop-rest.rest.now ≡ Some (c.in-Some.byte, c.in-Some.after.now) = search rules in
     let grown : c.push.new.self.items ≡ c.loop-rest.bytes.items ++ c.in-Some.byte ∷ [] = search rules in (
       λ more stands. subst (λ (read : List ℕ). StandsFor c.args.text.now (read ++ more)) (sym grown)
-          (reads_on c.args.text.now c.loop-rest.rest.now c.in-Some.after.now c.loop-rest.bytes.items c.in-Some.byte first c.loop-rest.invariant.0 more stands),
+          (reads_on c.args.text.now c.loop-rest.rest.now c.in-Some.after.now c.loop-rest.bytes.items c.in-Some.byte first
+          c.loop-rest.invariant.0 more stands),
       (
-        λ bytes stands. let more = c.loop-rest.invariant.1.0 bytes stands in stands_on c.loop-rest.rest.now c.in-Some.after.now c.in-Some.byte first more.0 more.1,
+        λ bytes stands. let more = c.loop-rest.invariant.1.0 bytes stands
+            in stands_on c.loop-rest.rest.now c.in-Some.after.now c.in-Some.byte first more.0 more.1,
         subst (λ (read : List ℕ). ReadsTo c.args.text.now read c.in-Some.after.now) (sym grown)
-            (reads_to c.args.text.now c.loop-rest.bytes.items c.loop-rest.rest.now c.in-Some.after.now c.in-Some.byte c.loop-rest.invariant.1.1 first),
+            (reads_to c.args.text.now c.loop-rest.bytes.items c.loop-rest.rest.now c.in-Some.after.now c.in-Some.byte
+            c.loop-rest.invariant.1.1 first),
       ),
     )

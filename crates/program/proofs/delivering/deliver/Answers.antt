@@ -1,4 +1,4 @@
-use Rattle.program_streams.proofs.Faults.{on_error}
+use Rattle.byte_streams.proofs.Faults.{on_error}
 use Rattle.program.specs.Streams.{StopsDelivery}
 use Rattle.program.proofs.CauseLemmas.{passed, stops_delivery_anyway}
 use Rattle.program.proofs.DeliveringLemmas.{halted_at_first}
@@ -9,4 +9,5 @@ returns-in_err-state-clause-delivers g c = on_error _ _ c.from_residual.ensures.
 
 pub returns-in_err-state-clause-cause : goal.returns-in_err-state-clause-cause
 returns-in_err-state-clause-cause g c =
-    passed _ c.in_err-state.field-0.0 (StopsDelivery c.args.settings.now _ _ _ _) c.from_residual.ensures.1 (stops_delivery_anyway c.args.settings.now _ _ _ _ _ c.in_err-state.ensures.fault)
+    passed _ c.in_err-state.field-0.0 (StopsDelivery c.args.settings.now _ _ _ _) c.from_residual.ensures.1
+    (stops_delivery_anyway c.args.settings.now _ _ _ _ _ c.in_err-state.ensures.fault)

@@ -1,4 +1,4 @@
-use Rattle.program_streams.proofs.Faults.{on_error}
+use Rattle.byte_streams.proofs.Faults.{on_error}
 use Rattle.program.specs.Streams.{StopsDelivery}
 use Rattle.program.proofs.CauseLemmas.{passed, stops_delivery, stops_delivery_anyway}
 use Rattle.program.proofs.DeliveringLemmas.{done_to_end, filled_before, filled_within, halted_at_end, halted_before, halted_within}
@@ -8,30 +8,37 @@ pub deliver_pieces-requires : goal.deliver_pieces-requires
 deliver_pieces-requires g c = c.new-frames.ensures
 
 pub returns-in_err-start-clause-delivers : goal.returns-in_err-start-clause-delivers
-returns-in_err-start-clause-delivers g c = on_error _ _ c.from_residual.ensures.0 (halted_before c.args.settings.now _ _ _ _ c.requires c.in_err-start.ensures.answers)
+returns-in_err-start-clause-delivers g c =
+    on_error _ _ c.from_residual.ensures.0 (halted_before c.args.settings.now _ _ _ _ c.requires c.in_err-start.ensures.answers)
 
 pub returns-in_err-end-clause-delivers : goal.returns-in_err-end-clause-delivers
 returns-in_err-end-clause-delivers g c =
-    on_error _ _ c.from_residual-in_err-end.ensures.0 (halted_within c.args.settings.now _ _ _ _ _ _ _ c.requires c.in_ok-start.ensures.answers c.in_err-end.ensures.ends)
+    on_error _ _ c.from_residual-in_err-end.ensures.0
+    (halted_within c.args.settings.now _ _ _ _ _ _ _ c.requires c.in_ok-start.ensures.answers c.in_err-end.ensures.ends)
 
 pub returns-in_err-print_end-clause-delivers : goal.returns-in_err-print_end-clause-delivers
 returns-in_err-print_end-clause-delivers g c =
     on_error _ _ c.from_residual-in_err-print_end.ensures.0
-    (halted_at_end c.args.settings.now _ _ _ _ _ _ _ _ c.in_ok-end.end c.requires c.in_ok-start.ensures.answers c.in_ok-end.ensures.ends c.in_err-print_end.ensures.written)
+    (halted_at_end c.args.settings.now _ _ _ _ _ _ _ _ c.in_ok-end.end c.requires c.in_ok-start.ensures.answers c.in_ok-end.ensures.ends
+    c.in_err-print_end.ensures.written)
 
 pub returns-clause-delivers : goal.returns-clause-delivers
 returns-clause-delivers g c =
-    done_to_end c.args.settings.now _ _ _ _ _ _ _ _ c.in_ok-end.end c.requires c.in_ok-start.ensures.answers c.in_ok-end.ensures.ends c.in_ok-print_end.ensures.written
+    done_to_end c.args.settings.now _ _ _ _ _ _ _ _ c.in_ok-end.end c.requires c.in_ok-start.ensures.answers c.in_ok-end.ensures.ends
+    c.in_ok-print_end.ensures.written
 
 pub returns-in_err-start-clause-cause : goal.returns-in_err-start-clause-cause
 returns-in_err-start-clause-cause g c =
     passed _ c.in_err-start.field-0.0 (StopsDelivery c.args.settings.now _ _ _ _) c.from_residual.ensures.1
-    (stops_delivery c.args.settings.now _ _ _ _ _ _ (filled_before c.args.settings.now _ _ _ _ c.requires c.in_err-start.ensures.answers) c.in_err-start.ensures.cause)
+    (stops_delivery c.args.settings.now _ _ _ _ _ _ (filled_before c.args.settings.now _ _ _ _ c.requires c.in_err-start.ensures.answers)
+    c.in_err-start.ensures.cause)
 
 pub returns-in_err-end-clause-cause : goal.returns-in_err-end-clause-cause
 returns-in_err-end-clause-cause g c =
     passed _ c.in_err-end.field-0.0 (StopsDelivery c.args.settings.now _ _ _ _) c.from_residual-in_err-end.ensures.1
-    (stops_delivery c.args.settings.now _ _ _ _ _ _ (filled_within c.args.settings.now _ _ _ _ _ _ _ c.requires c.in_ok-start.ensures.answers c.in_err-end.ensures.ends) c.in_err-end.ensures.cause)
+    (stops_delivery c.args.settings.now _ _ _ _ _ _
+    (filled_within c.args.settings.now _ _ _ _ _ _ _ c.requires c.in_ok-start.ensures.answers c.in_err-end.ensures.ends)
+    c.in_err-end.ensures.cause)
 
 pub returns-in_err-print_end-clause-cause : goal.returns-in_err-print_end-clause-cause
 returns-in_err-print_end-clause-cause g c =

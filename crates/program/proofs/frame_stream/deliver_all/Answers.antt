@@ -2,15 +2,11 @@ use Rattle.std.proofs.Common.{◌≡◌, List, [], ◌∷◌, ◌++◌, rules, l
 use Rattle.std.specs.Vec.Iter.{into_iter_items}
 use Rattle.ledger_model.specs.declared.statement.SignedStatement.{SignedStatement}
 use Rattle.program.specs.Answering.{Printed, PrintedSome, deliveries}
-use Rattle.program_streams.proofs.Faults.{on_error}
+use Rattle.byte_streams.proofs.Faults.{on_error}
 use Rattle.program.proofs.PrintingLemmas.{printed_none, printed_both, printed_after, printed_longer}
 use Rattle.program.proofs.PieceLemmas.{deliveries-append}
 use Rattle.program.proofs.frame_stream.deliver_all.Goals as goal
-
--- of no length is the empty list alone
-none_of : (xs : List SignedStatement) → length xs ≡ 0 → xs ≡ []
-none_of [] is = search rules
-none_of (x ∷ xs) is = absurd cc
+use Rattle.std.proofs.lemmas.List.{nil_from_length}
 
 pub loop-frame-init : goal.loop-frame-init
 loop-frame-init g c = ([], (search rules, printed_none _ _))
@@ -22,7 +18,8 @@ loop-frame-preserved g c =
       done ++ one,
       (
         kept.0 ∙ ap (λ l. done ++ l) c.in-Some.ensures.steps.0 ∙ sym (append_assoc done one (into_iter_items c.next.new.self)),
-        subst (λ l. Printed c.args.state.now l c.deliver_frame.new.state (g.W.Write.contents c.args.writer.now) (g.W.Write.contents c.deliver_frame.new.writer)) (deliveries-append done one)
+        subst (λ l. Printed c.args.state.now l c.deliver_frame.new.state (g.W.Write.contents c.args.writer.now)
+            (g.W.Write.contents c.deliver_frame.new.writer)) (deliveries-append done one)
             (printed_both _ _ _ (deliveries done) (deliveries one) _ _ _ kept.1 c.in_ok-deliver_frame.ensures.prints),
       ),
     )
@@ -30,9 +27,11 @@ loop-frame-preserved g c =
 pub returns-clause-prints : goal.returns-clause-prints
 returns-clause-prints g c =
     let (done, kept) = c.loop-frame.invariant in
-    let none : into_iter_items c.loop-frame.frame-iterator ≡ [] = none_of _ (sym c.loop-frame.frame-iterator.rest.ok.0 ∙ c.in-None.ensures.steps.0) in
+    let none : into_iter_items c.loop-frame.frame-iterator ≡ [] =
+    nil_from_length _ (sym c.loop-frame.frame-iterator.rest.ok.0 ∙ c.in-None.ensures.steps.0) in
     let all : c.args.frames.items ≡ done = kept.0 ∙ ap (λ l. done ++ l) none ∙ append-nil done in
-    subst (λ l. Printed c.args.state.now (deliveries l) c.loop-frame.state (g.W.Write.contents c.args.writer.now) (g.W.Write.contents c.loop-frame.writer)) (sym all) kept.1
+    subst (λ l. Printed c.args.state.now (deliveries l) c.loop-frame.state (g.W.Write.contents c.args.writer.now)
+    (g.W.Write.contents c.loop-frame.writer)) (sym all) kept.1
 
 pub returns-in_err-deliver_frame-clause-prints : goal.returns-in_err-deliver_frame-clause-prints
 returns-in_err-deliver_frame-clause-prints g c =
@@ -43,6 +42,7 @@ returns-in_err-deliver_frame-clause-prints g c =
     append_assoc (deliveries done) (deliveries one) (deliveries rest) ∙ deliveries-append done (c.in-Some.frame ∷ rest)
     ∙ ap (λ l. deliveries l) (sym (kept.0 ∙ ap (λ l. done ++ l) c.in-Some.ensures.steps.0)) in
     on_error _ _ c.from_residual.ensures.0
-    (subst (λ l. PrintedSome c.args.state.now l c.deliver_frame.new.state (g.W.Write.contents c.args.writer.now) (g.W.Write.contents c.deliver_frame.new.writer)) all
+    (subst (λ l. PrintedSome c.args.state.now l c.deliver_frame.new.state (g.W.Write.contents c.args.writer.now)
+    (g.W.Write.contents c.deliver_frame.new.writer)) all
     (printed_longer _ _ (deliveries done ++ deliveries one) (deliveries rest) _ _
     (printed_after _ _ _ (deliveries done) (deliveries one) _ _ _ kept.1 c.in_err-deliver_frame.ensures.prints)))

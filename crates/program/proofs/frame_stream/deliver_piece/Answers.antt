@@ -1,6 +1,6 @@
 use Rattle.std.proofs.Common.{◌++◌, subst}
 use Rattle.signed_frames.specs.Reader.{HandsOut}
-use Rattle.program_streams.proofs.Faults.{on_error}
+use Rattle.byte_streams.proofs.Faults.{on_error}
 use Rattle.program.specs.Faults.{StopsAt}
 use Rattle.program.proofs.CauseLemmas.{if_stops, passed, stops_anyway}
 use Rattle.program.proofs.StreamLemmas.{reading_unfailed}
@@ -14,27 +14,40 @@ fault_of-requires g c =
 
 pub fault_behind-requires : goal.fault_behind-requires
 fault_behind-requires g c =
-    let (kept, reading) = c.requires in
-    (kept ++ c.args.piece.now, (c.in-Ok.found.items, subst (λ r. HandsOut r c.args.piece.now c.in-Ok.found.items c.feed.new.self) reading c.in-Ok.ensures.frames))
+    let (kept, reading) = c.requires in (
+      kept ++ c.args.piece.now,
+      (
+        c.in-Ok.found.items,
+        subst (λ r. HandsOut r c.args.piece.now c.in-Ok.found.items c.feed.new.self) reading
+            c.in-Ok.ensures.frames,
+      ),
+    )
 
 pub returns-in_ok-deliver_all-in-Ok-clause-goes : goal.returns-in_ok-deliver_all-in-Ok-clause-goes
 returns-in_ok-deliver_all-in-Ok-clause-goes g c = λ start unread now left before so_far read.
-    piece_behind start _ _ unread now left before _ _ _ c.args.piece.now so_far read _ _ _ _ c.in-Ok.ensures.frames c.in_ok-deliver_all-in-Ok.ensures.prints c.fault_behind.ensures.behind
+    piece_behind start _ _ unread now left before _ _ _ c.args.piece.now so_far read _ _ _ _ c.in-Ok.ensures.frames
+    c.in_ok-deliver_all-in-Ok.ensures.prints c.fault_behind.ensures.behind
 
 pub returns-in_err-deliver_all-in-Ok-clause-goes : goal.returns-in_err-deliver_all-in-Ok-clause-goes
 returns-in_err-deliver_all-in-Ok-clause-goes g c = λ start unread now left before so_far read.
-    on_error _ _ c.from_residual.ensures.0 (piece_stops start _ _ unread now left before _ _ _ c.args.piece.now so_far read _ _ c.in-Ok.ensures.frames c.in_err-deliver_all-in-Ok.ensures.prints)
+    on_error _ _ c.from_residual.ensures.0
+    (piece_stops start _ _ unread now left before _ _ _ c.args.piece.now so_far read _ _ c.in-Ok.ensures.frames
+    c.in_err-deliver_all-in-Ok.ensures.prints)
 
 pub returns-in_ok-fault_of-in-Err-clause-goes : goal.returns-in_ok-fault_of-in-Err-clause-goes
 returns-in_ok-fault_of-in-Err-clause-goes g c = λ start unread now left before so_far read.
-    piece_told start _ start unread now left before _ before _ c.args.piece.now so_far read _ _ _ c.in-Err.ensures.fault c.in_ok-fault_of-in-Err.ensures.told
+    piece_told start _ start unread now left before _ before _ c.args.piece.now so_far read _ _ _ c.in-Err.ensures.fault
+    c.in_ok-fault_of-in-Err.ensures.told
 
 pub returns-in_err-fault_of-in-Err-clause-goes : goal.returns-in_err-fault_of-in-Err-clause-goes
 returns-in_err-fault_of-in-Err-clause-goes g c = λ start unread now left before so_far read.
-    on_error _ _ c.from_residual-in_err-fault_of-in-Err.ensures.0 (piece_lost start _ start unread now left before _ before _ c.args.piece.now so_far read)
+    on_error _ _ c.from_residual-in_err-fault_of-in-Err.ensures.0
+    (piece_lost start _ start unread now left before _ before _ c.args.piece.now so_far read)
 
 pub returns-in_ok-deliver_all-in-Ok-clause-cause : goal.returns-in_ok-deliver_all-in-Ok-clause-cause
 returns-in_ok-deliver_all-in-Ok-clause-cause g c = if_stops _ _ c.fault_behind.ensures.memory
 
 pub returns-in_err-fault_of-in-Err-clause-cause : goal.returns-in_err-fault_of-in-Err-clause-cause
-returns-in_err-fault_of-in-Err-clause-cause g c = passed _ c.in_err-fault_of-in-Err.field-0.0 (StopsAt _) c.from_residual-in_err-fault_of-in-Err.ensures.1 (stops_anyway _ _ c.in_err-fault_of-in-Err.ensures.memory)
+returns-in_err-fault_of-in-Err-clause-cause g c =
+    passed _ c.in_err-fault_of-in-Err.field-0.0 (StopsAt _) c.from_residual-in_err-fault_of-in-Err.ensures.1
+    (stops_anyway _ _ c.in_err-fault_of-in-Err.ensures.memory)

@@ -8,4 +8,5 @@ returns-then-is_between-clause-stands c = λ input given kept reading splits.
 
 pub returns-else-is_between-clause-stands : goal.returns-else-is_between-clause-stands
 returns-else-is_between-clause-stands c = λ input given kept reading splits.
-    cut_stands c.args.frames.now input kept given (λ between. let same = sym c.if-is_between.false ∙ c.is_between.ensures.1 between in absurd cc) reading splits
+    cut_stands c.args.frames.now input kept given (λ between. let same =
+    sym c.if-is_between.false ∙ c.is_between.ensures.1 between in absurd cc) reading splits

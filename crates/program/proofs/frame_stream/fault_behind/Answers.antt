@@ -12,5 +12,6 @@ pub returns-clause-behind : goal.returns-clause-behind
 returns-clause-behind c = λ bytes given leaves.
     elim c.match-feed.branch [
       | in-Ok w ↦ rw w.result-is (behind_none _ _ bytes given _ leaves w.in-Ok.ensures.frames w.in-Ok.ensures.whole)
-      | in-Err+in_ok-fault_of-in-Err w ↦ rw w.result-is (behind_some _ _ bytes given _ _ leaves w.in-Err.ensures.fault w.in_ok-fault_of-in-Err.ensures.told)
+      | in-Err+in_ok-fault_of-in-Err w ↦
+          rw w.result-is (behind_some _ _ bytes given _ _ leaves w.in-Err.ensures.fault w.in_ok-fault_of-in-Err.ensures.told)
     ]

@@ -1,5 +1,5 @@
 use Rattle.program.specs.Lines.{ended}
-use Rattle.program_streams.proofs.WritingLemmas.{nothing_some}
+use Rattle.byte_streams.proofs.WritingLemmas.{nothing_some}
 use Rattle.program.proofs.line_printing.print_line.Goals as goal
 
 pub returns-in_default-clause-written : goal.returns-in_default-clause-written

@@ -9,10 +9,11 @@ pub unreachable-requires : goal.unreachable-requires
 unreachable-requires g c =
     let s = c.args.scenario.now in
     let may = subst (λ l. MayLie s.setup.config l) (sym c.deref-2.ensures.value) (may_lie s c.requires) in
-    not_too_many s.setup.config c.deref-2.result.now may (c.in-Err-TooManyLiars.ensures.too_many.0 (ap Err c.in-Err-TooManyLiars.field-0-is))
+    not_too_many s.setup.config c.deref-2.result.now may
+    (c.in-Err-TooManyLiars.ensures.too_many.0 (ap Err c.in-Err-TooManyLiars.field-0-is))
 
-pub returns-in-Ok : goal.returns-in-Ok
-returns-in-Ok g c = search rules
+pub returns-in-Ok-clause-opening : goal.returns-in-Ok-clause-opening
+returns-in-Ok-clause-opening g c = search rules
 
 pub unreachable-requires-in-Err-NoSuchReplica : goal.unreachable-requires-in-Err-NoSuchReplica
 unreachable-requires-in-Err-NoSuchReplica g c = grind (arith, common_steps)

@@ -6,4 +6,5 @@ use Rattle.history_bytes.specs.Histories.{history_bytes}
 use Rattle.program.proofs.playing.write_histories.Given as goal
 
 abbrev pub invariant-loop-history : goal.invariant-loop-history
-invariant-loop-history g l = Appends (g.W.Write.contents l.initial.writer) (g.W.Write.contents l.writer) (flat_map history_bytes (take l.history-index l.histories))
+invariant-loop-history g l = Appends (g.W.Write.contents l.initial.writer) (g.W.Write.contents l.writer)
+    (flat_map history_bytes (take l.history-index l.histories))

@@ -2,7 +2,7 @@ use Rattle.std.proofs.Common.{◌≡◌, ◌+◌, ◌-◌, [], ◌∷◌, replic
 use Rattle.std.proofs.lemmas.List.{replicate_more, replicate-append-replicate}
 use Rattle.ledger_model.specs.declared.event.Event.TheVariants as event
 use Rattle.program.specs.Answering.{Answers, AnswersSome}
-use Rattle.program_streams.proofs.Faults.{on_error}
+use Rattle.byte_streams.proofs.Faults.{on_error}
 use Rattle.program.proofs.AnsweringLemmas.{answers_none, answers_both, some_none, some_after}
 use Rattle.program.proofs.replica.end_rounds.Goals as goal
 
@@ -12,7 +12,8 @@ loop-init c = answers_none _
 pub loop-preserved : goal.loop-preserved
 loop-preserved c =
     subst (λ l. Answers c.args.state.now l [] c.end_round.new.state) (replicate_more c.loop.counter event.RoundEnd)
-    (answers_both _ _ _ (replicate c.loop.counter event.RoundEnd) (event.RoundEnd ∷ []) [] [] c.loop.invariant c.in_ok-end_round.ensures.answers)
+    (answers_both _ _ _ (replicate c.loop.counter event.RoundEnd) (event.RoundEnd ∷ []) [] [] c.loop.invariant
+    c.in_ok-end_round.ensures.answers)
 
 pub returns-clause-answers : goal.returns-clause-answers
 returns-clause-answers c =
@@ -24,6 +25,7 @@ returns-in_err-end_round-clause-answers c =
     let k = c.loop.counter in
     let left : k + (c.args.rounds - k) ≡ c.args.rounds = omega (arith, c.loop-test.true) in
     on_error _ _ c.from_residual.ensures.0
-    (subst (λ l. AnswersSome c.args.state.now l [] c.end_round.new.state) (replicate-append-replicate k (c.args.rounds - k) event.RoundEnd ∙ ap (λ n. replicate n event.RoundEnd) left)
+    (subst (λ l. AnswersSome c.args.state.now l [] c.end_round.new.state)
+    (replicate-append-replicate k (c.args.rounds - k) event.RoundEnd ∙ ap (λ n. replicate n event.RoundEnd) left)
     (some_after _ _ _ (replicate k event.RoundEnd) (replicate (c.args.rounds - k) event.RoundEnd) [] [] c.loop.invariant
     (some_none _ _ (replicate (c.args.rounds - k) event.RoundEnd) c.in_err-end_round.ensures.answers)))

@@ -2,7 +2,7 @@ use Rattle.std.proofs.Common.{[], ◌∷◌, List, replicate, ◌≡◌, refl, �
 use Rattle.ledger_model.specs.declared.event.Event.{Event}
 use Rattle.ledger_model.specs.declared.event.Event.TheVariants as event
 use Rattle.program.specs.Answering.{Answers, starting}
-use Rattle.program_streams.proofs.Faults.{on_error, each_way}
+use Rattle.byte_streams.proofs.Faults.{on_error, each_way}
 use Rattle.program.proofs.AnsweringLemmas.{answers_both, some_none, some_after}
 use Rattle.program.proofs.replica.start.Goals as goal
 
@@ -12,7 +12,8 @@ returns-clause-answers c =
     let same : c.in-Ok.value ≡ s.value = c.in-Ok.ensures ∙ c.as_bytes.ensures.bytes in
     let submitted = subst (λ b. Answers c.args.state.now (event.Submit b ∷ []) [] c.submit.new.state) same c.in_ok-submit.ensures.answers in
     let rest : List Event = replicate s.rounds event.RoundEnd in
-    let first = answers_both c.args.state.now _ _ (event.Submit s.value ∷ []) (event.Propose s.height ∷ []) [] [] submitted c.in_ok-propose.ensures.answers in
+    let first = answers_both c.args.state.now _ _ (event.Submit s.value ∷ []) (event.Propose s.height ∷ []) [] [] submitted
+    c.in_ok-propose.ensures.answers in
     each_way _ _ _ _ c.end_rounds.result
     (λ _ all. answers_both c.args.state.now _ _ (event.Submit s.value ∷ event.Propose s.height ∷ []) rest [] [] first all)
     (λ _ some. some_after c.args.state.now _ _ (event.Submit s.value ∷ event.Propose s.height ∷ []) rest [] [] first some)
@@ -28,7 +29,8 @@ returns-in_err-propose-clause-answers c =
     (some_after c.args.state.now _ _ (event.Submit s.value ∷ []) rest [] [] submitted (some_none _ _ rest c.in_err-propose.ensures.answers))
 
 pub returns-in_err-submit-clause-answers : goal.returns-in_err-submit-clause-answers
-returns-in_err-submit-clause-answers c = on_error _ _ c.from_residual.ensures.0 (some_none _ _ (starting c.args.settings.now) c.in_err-submit.ensures.answers)
+returns-in_err-submit-clause-answers c =
+    on_error _ _ c.from_residual.ensures.0 (some_none _ _ (starting c.args.settings.now) c.in_err-submit.ensures.answers)
 
 pub returns-in_default-clause-answers : goal.returns-in_default-clause-answers
 returns-in_default-clause-answers c = some_none _ _ (starting c.args.settings.now) (record { same = refl })

@@ -7,5 +7,6 @@ use Rattle.replica_core.proofs.comparing.is_same_proposed.Goals as goal
 pub returns-in-Ok-Ok : goal.returns-in-Ok-Ok
 returns-in-Ok-Ok c = rw (c.in-Ok-Ok.is-0, c.in-Ok-Ok.is-1, c.eq.ensures) (
   λ same. (let equal = same_value-equal c.in-Ok-Ok.one c.in-Ok-Ok.other same in cc),
-  λ is. (let equal : c.in-Ok-Ok.one ≡ c.in-Ok-Ok.other = cc in subst (λ (v : Value). same_value c.in-Ok-Ok.one v ≡ true) equal (same_value-refl c.in-Ok-Ok.one)),
+  λ is. (let equal : c.in-Ok-Ok.one ≡ c.in-Ok-Ok.other =
+      cc in subst (λ (v : Value). same_value c.in-Ok-Ok.one v ≡ true) equal (same_value-refl c.in-Ok-Ok.one)),
 )

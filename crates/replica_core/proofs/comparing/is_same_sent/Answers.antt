@@ -9,7 +9,10 @@ use Rattle.replica_core.proofs.comparing.is_same_sent.Goals as goal
 -- bytes spell a statement in one way
 pub returns-then-eq-clause-only : goal.returns-then-eq-clause-only
 returns-then-eq-clause-only c = λ alike.
-    let due = reading-spells c.args.due.now.frame alike.signed (subst IsBytes c.bytes_of.ensures.frame c.bytes_of.ensures.bytes) alike.one_reads in
-    let told = reading-spells c.args.told.now.frame alike.signed (subst IsBytes c.bytes_of-then-eq.ensures.frame c.bytes_of-then-eq.ensures.bytes) alike.other_reads in
+    let due = reading-spells c.args.due.now.frame alike.signed (subst IsBytes c.bytes_of.ensures.frame c.bytes_of.ensures.bytes)
+    alike.one_reads in
+    let shown = reading-spells c.args.shown.now.frame alike.signed
+    (subst IsBytes c.bytes_of-then-eq.ensures.frame c.bytes_of-then-eq.ensures.bytes) alike.other_reads in
     rw (c.eq-then-eq.ensures, c.bytes_of.ensures.frame, c.bytes_of-then-eq.ensures.frame)
-    (subst (λ (bytes : List ℕ). pointwise nat_eq c.args.due.now.frame bytes ≡ true) (due.1 ∙ sym told.1) (pointwise_refl nat_eq (λ x. eq-eqb x x refl) c.args.due.now.frame))
+    (subst (λ (bytes : List ℕ). pointwise nat_eq c.args.due.now.frame bytes ≡ true) (due.1 ∙ sym shown.1)
+    (pointwise_refl nat_eq (λ x. eq-eqb x x refl) c.args.due.now.frame))

@@ -14,7 +14,8 @@ pub loop-spelled-preserved : goal.loop-spelled-preserved
 loop-spelled-preserved c =
     let done = c.in_ok-make.ensures in
     rw (c.in_ok-push.ensures.items, map-append)
-    (signs_next (rw c.in-Some.ensures.steps.0 at c.loop-spelled.invariant) c.in_ok-make.field-0 done.ending done.signs done.verified done.frame done.used)
+    (signs_next (rw c.in-Some.ensures.steps.0 at c.loop-spelled.invariant) c.in_ok-make.field-0 done.ending done.signs done.verified
+    done.frame done.used)
 
 pub returns-in_err-push-clause-most : goal.returns-in_err-push-clause-most
 returns-in_err-push-clause-most c = most_next (rw c.in-Some.ensures.steps.0 at c.loop-spelled.invariant) c.make.ensures.used

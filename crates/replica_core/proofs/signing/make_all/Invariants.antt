@@ -7,4 +7,5 @@ use Rattle.replica_core.proofs.signing.make_all.Given as goal
 
 abbrev pub invariant-loop-spelled : goal.invariant-loop-spelled
 invariant-loop-spelled l =
-    IsSigning l.initial.signer l.fn.plans.items (map plan_spelled l.yielded) (map plan_spelled (into_iter_items l.spelled-iterator)) l.closings.items l.signer
+    IsSigning l.initial.signer l.fn.plans.items (map plan_spelled l.yielded) (map plan_spelled (into_iter_items l.spelled-iterator))
+    l.closings.items l.signer

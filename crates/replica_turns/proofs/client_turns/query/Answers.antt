@@ -21,7 +21,8 @@ pub returns-clause-answer : goal.returns-clause-answer
 returns-clause-answer g c =
     let old = c.args.state.now in
     let added = c.in_ok-index.ensures.added in
-    let told : query_reply_at (slice_get c.apply.new.self.entries c.in_ok-index.index) ≡ Some (query_reply old.config.kind (commits_of old.config old.id old.entries) c.args.key 0) =
+    let told : query_reply_at (slice_get c.apply.new.self.entries c.in_ok-index.index)
+    ≡ Some (query_reply old.config.kind (commits_of old.config old.id old.entries) c.args.key 0) =
     query_added old.config old.ring old.id old.entries c.apply.new.self.entries c.args.key c.new.result added.0 c.in_ok-index.index
     c.in_ok-index.ensures.index c.new.ensures added.1.0 added.1.1 in
     cc (told, c.in_ok-answer_at.ensures)

@@ -1,8 +1,8 @@
 use Rattle.std.proofs.lemmas.Grind.{common_steps}
 use Rattle.std.proofs.Common.{◌≡◌, [], ◌∷◌, ◌++◌, Some, slice_get, sym, ap, ◌∙◌, rules, arith}
 use Rattle.ledger_model.specs.declared.reply.Sent.{Sent}
-use Rattle.batch_pool.proofs.Entries.{take-next}
 use Rattle.replica_turns.proofs.sent.copied.Goals as goal
+use Rattle.ledger_model.proofs.Lists.{take-next}
 
 pub loop-index-preserved : goal.loop-index-preserved
 loop-index-preserved c =

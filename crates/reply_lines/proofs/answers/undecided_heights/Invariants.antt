@@ -8,5 +8,6 @@ use Rattle.reply_lines.proofs.answers.undecided_heights.Given as goal
 abbrev pub invariant-loop-height : goal.invariant-loop-height
 invariant-loop-height g l = record {
   from : l.first ≤ l.height;
-  pushed : l.heights.items ≡ filter (λ h. not (is_some (decided_at l.state.config l.state.id l.state.entries h))) (range_with_len l.first (l.height - l.first));
+  pushed : l.heights.items ≡ filter (λ h. not (is_some (decided_at l.state.config l.state.id l.state.entries h)))
+      (range_with_len l.first (l.height - l.first));
 }

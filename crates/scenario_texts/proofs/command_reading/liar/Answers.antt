@@ -7,16 +7,13 @@ use Rattle.std.proofs.lemmas.Iterator.Consumers.{YieldsList-from_copied}
 use Rattle.std.proofs.lemmas.Iterator.Search.{find_from_yields_List}
 use Rattle.scenario_texts.specs.Reading.{liar_of, number_of}
 use Rattle.scenario_texts.proofs.command_reading.liar.Goals as goal
-
--- the option as it is
-unmapped : (o : Option ℕ) → option_map (λ x. x) o ≡ o
-unmapped None = refl
-unmapped (Some x) = refl
+use Rattle.std.proofs.lemmas.Iterator.Adapters.{option_map_id}
 
 pub returns : goal.returns
 unfolding liar_of
 returns c =
     let named : number_of c.args.word.now ≡ Some c.in_ok-number.number = search rules in
     let found : option_map (λ x. x) c.find.result ≡ find (λ liar. liar == c.in_ok-number.number) c.args.liars.now =
-    find_from_yields_List (λ liar. liar == c.in_ok-number.number) _ _ c.find.result c.find.ensures.ran (YieldsList-from_copied (YieldsList-from_slice c.args.liars.now (cc))) (λ x b q k. search (rules, tests)) in
-    rw named (sym (unmapped c.find.result) ∙ found)
+    find_from_yields_List (λ liar. liar == c.in_ok-number.number) _ _ c.find.result c.find.ensures.ran
+    (YieldsList-from_copied (YieldsList-from_slice c.args.liars.now (cc))) (λ x b q k. search (rules, tests)) in
+    rw named (sym (option_map_id c.find.result) ∙ found)

@@ -15,5 +15,6 @@ pub loop-i-preserved : goal.loop-i-preserved
 loop-i-preserved c = record {
   whole = search (rules, overwrites);
   front = digest_more c.loop-i.digest (lane c.args.j c.args.state.now) _ c.loop-i.i _ c.loop-i.invariant.front (omega arith)
-      (c.copy_from_slice.ensures.after ∙ c.to_be_bytes.ensures ∙ ap (to_be_bytes w32) (sym (value_of c.args.state.now c.args.j c.loop-i.i (omega arith))));
+      (c.copy_from_slice.ensures.after ∙ c.to_be_bytes.ensures
+      ∙ ap (to_be_bytes w32) (sym (value_of c.args.state.now c.args.j c.loop-i.i (omega arith))));
 }

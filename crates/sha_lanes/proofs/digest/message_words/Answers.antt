@@ -8,16 +8,20 @@ use Rattle.sha_lanes.proofs.digest.message_words.Goals as goal
 pub loop-k-preserved : goal.loop-k-preserved
 loop-k-preserved c =
     let i = c.loop-k.k in
-    let blocks : List (List ℕ) = c.padded.result ∷ c.padded-2.result ∷ c.padded-3.result ∷ c.padded-4.result ∷ c.padded-5.result ∷ c.padded-6.result ∷ c.padded-7.result ∷ c.padded-8.result ∷ [] in
+    let blocks : List (List ℕ) = c.padded.result ∷ c.padded-2.result ∷ c.padded-3.result ∷ c.padded-4.result ∷ c.padded-5.result
+    ∷ c.padded-6.result ∷ c.padded-7.result ∷ c.padded-8.result ∷ [] in
     let block : (j : ℕ) → j < 8 → slice_index_or blocks j [] ≡ padded_message (slice_index_or c.args.messages.now j []) =
-    below_eight _ c.padded.ensures.block c.padded-2.ensures.block c.padded-3.ensures.block c.padded-4.ensures.block c.padded-5.ensures.block c.padded-6.ensures.block c.padded-7.ensures.block c.padded-8.ensures.block in
+    below_eight _ c.padded.ensures.block c.padded-2.ensures.block c.padded-3.ensures.block c.padded-4.ensures.block
+    c.padded-5.ensures.block c.padded-6.ensures.block c.padded-7.ensures.block c.padded-8.ensures.block in
     record {
       whole = search rules;
       read = λ j k low below. elim (cases_lt k i) [
-        | inl before ↦ ap (λ v. slice_index v j) (get_or-set_other c.loop-k.words i k c.words_at.result [] (omega arith)) ∙ c.loop-k.invariant.read j k low before
+        | inl before ↦ ap (λ v. slice_index v j) (get_or-set_other c.loop-k.words i k c.words_at.result [] (omega arith))
+            ∙ c.loop-k.invariant.read j k low before
         | inr here ↦
             let e : i ≡ k = omega arith in
-            rw (← e) (ap (λ v. slice_index v j) (get_or-set_same c.loop-k.words i c.words_at.result [] (omega arith)) ∙ c.words_at.ensures j low ∙ ap (λ b. word_at b (4 * i)) (block j low))
+            rw (← e) (ap (λ v. slice_index v j) (get_or-set_same c.loop-k.words i c.words_at.result [] (omega arith))
+            ∙ c.words_at.ensures j low ∙ ap (λ b. word_at b (4 * i)) (block j low))
       ];
     }
 

@@ -9,4 +9,5 @@ returns c j h =
     let x = Each1-get_or bound c.args.x j 0 (omega (arith, c.fits-x.0)) (below_from_Fits w32 c.args.x c.fits-x.1) in
     let y = Each1-get_or bound c.args.y j 0 (omega (arith, c.fits-y.0)) (below_from_Fits w32 c.args.y c.fits-y.1) in
     let z = Each1-get_or bound c.args.z j 0 (omega (arith, c.fits-z.0)) (below_from_Fits w32 c.args.z c.fits-z.1) in
-    rw (c.xor-2.ensures j h, c.and.ensures j h, c.xor.ensures j h) (ch_short w32 (slice_index c.args.x j) (slice_index c.args.y j) (slice_index c.args.z j) x y z)
+    rw (c.xor-2.ensures j h, c.and.ensures j h, c.xor.ensures j h)
+    (ch_short w32 (slice_index c.args.x j) (slice_index c.args.y j) (slice_index c.args.z j) x y z)

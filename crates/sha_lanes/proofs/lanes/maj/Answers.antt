@@ -3,4 +3,5 @@ use Rattle.sha_lanes.proofs.ChMaj.{maj_short}
 use Rattle.sha_lanes.proofs.lanes.maj.Goals as goal
 
 pub returns : goal.returns
-returns c j h = rw (c.xor-3.ensures j h, c.and.ensures j h, c.xor-2.ensures j h, c.xor.ensures j h) (maj_short (slice_index c.args.x j) (slice_index c.args.y j) (slice_index c.args.z j))
+returns c j h = rw (c.xor-3.ensures j h, c.and.ensures j h, c.xor-2.ensures j h, c.xor.ensures j h)
+    (maj_short (slice_index c.args.x j) (slice_index c.args.y j) (slice_index c.args.z j))

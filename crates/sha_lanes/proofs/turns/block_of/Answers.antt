@@ -11,7 +11,8 @@ loop-k-preserved c =
     record {
       whole = search (rules, overwrites);
       front = λ b whole bytes read.
-          take-put_mid (4 * k) _ c.loop-k.block ys (4 * (k + 1)) (omega (arith, ap length (c.copy_from_slice.ensures.after ∙ c.to_be_bytes.ensures))) (omega (arith, c.loop-k.invariant.whole))
+          take-put_mid (4 * k) _ c.loop-k.block ys (4 * (k + 1))
+          (omega (arith, ap length (c.copy_from_slice.ensures.after ∙ c.to_be_bytes.ensures))) (omega (arith, c.loop-k.invariant.whole))
           ∙ ap (λ front. front ++ ys) (c.loop-k.invariant.front b whole bytes read)
           ∙ ap (λ word. take (4 * k) b ++ word) (c.copy_from_slice.ensures.after ∙ c.to_be_bytes.ensures)
           ∙ take-word b k _ whole (omega arith) bytes (read k (omega arith));

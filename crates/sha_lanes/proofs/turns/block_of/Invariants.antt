@@ -8,5 +8,6 @@ use Rattle.sha_lanes.proofs.turns.block_of.Given as goal
 abbrev pub invariant-loop-k : goal.invariant-loop-k
 invariant-loop-k l = record {
   whole : length l.block ≡ 64;
-  front : (b : List ℕ) → length b ≡ 64 → AreBytes b → ((k : ℕ) → k < 16 → lane_at l.words k l.j ≡ word_at b (4 * k)) → take (4 * l.k) l.block ≡ take (4 * l.k) b;
+  front : (b : List ℕ) → length b ≡ 64 → AreBytes b → ((k : ℕ) → k < 16 → lane_at l.words k l.j ≡ word_at b (4 * k))
+      → take (4 * l.k) l.block ≡ take (4 * l.k) b;
 }

@@ -7,7 +7,8 @@ use Rattle.sha_lanes.proofs.turns.take_turns.Given as goal
 
 abbrev pub invariant-loop-turn : goal.invariant-loop-turn
 invariant-loop-turn l = record {
-  words : (j k : ℕ) → j < 8 → k < 16 → lane_at l.words k j ≡ word_at (padded_message (after_turns l.turn (slice_index_or l.messages j []))) (4 * k);
+  words : (j k : ℕ) → j < 8 → k < 16
+      → lane_at l.words k j ≡ word_at (padded_message (after_turns l.turn (slice_index_or l.messages j []))) (4 * k);
   front : (j k : ℕ) → j < 8 → k < 5 → lane_at l.words k j ≡ word_at (padded_message (slice_index_or l.messages j [])) (4 * k);
 }
 

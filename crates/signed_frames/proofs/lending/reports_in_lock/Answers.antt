@@ -7,7 +7,12 @@ use Rattle.signed_frames.proofs.lending.reports_in_lock.Goals as goal
 pub overflow_sub-bytes : goal.overflow_sub-bytes
 overflow_sub-bytes c =
     let l = c.args.lock.now in
-    omega (arith, c.reports_len.ensures.len, reports_fit c.args.bytes.now l 0 c.as_slice-reports.result.now c.requires.bytes c.as_slice-reports.ensures)
+    omega (
+      arith,
+      c.reports_len.ensures.len,
+      reports_fit c.args.bytes.now l 0 c.as_slice-reports.result.now c.requires.bytes
+          c.as_slice-reports.ensures,
+    )
 
 pub invariant_of-result : goal.invariant_of-result
 invariant_of-result c =
@@ -16,5 +21,6 @@ invariant_of-result c =
     let reports = c.as_slice-reports.result.now in
     record {
       each = subst (AllByRecursion IsSigned) (sym c.as_slice-reports.ensures) c.requires.spelled.each;
-      spelled = c.split_at.ensures.back ∙ ap (λ (n : ℕ). drop (length bytes - n) bytes) c.reports_len.ensures.len ∙ reports_part bytes l 0 reports c.requires.bytes c.as_slice-reports.ensures;
+      spelled = c.split_at.ensures.back ∙ ap (λ (n : ℕ). drop (length bytes - n) bytes) c.reports_len.ensures.len
+          ∙ reports_part bytes l 0 reports c.requires.bytes c.as_slice-reports.ensures;
     }

@@ -11,7 +11,8 @@ loop-place-preserved c =
     elim c.match-frame.branch [
       | in-Some+in_ok-add_passes_of_frame w ↦
           rw w.passes-is
-          (passes_next c.args.correct.now c.args.from c.args.before c.in_ok-index.index frames i (record { addressee = w.in-Some.sent.addressee; frame = w.in-Some.sent.frame.now }) c.args.passes.now.items _ _
+          (passes_next c.args.correct.now c.args.from c.args.before c.in_ok-index.index frames i
+          (record { addressee = w.in-Some.sent.addressee; frame = w.in-Some.sent.frame.now }) c.args.passes.now.items _ _
           (sym w.in-Some.ensures) c.in_ok-index.ensures c.loop-place.invariant w.in_ok-add_passes_of_frame.ensures)
       | in_default w ↦
           let below : i < length frames = omega (arith, c.loop-place-test.true, c.len-place-end.ensures) in

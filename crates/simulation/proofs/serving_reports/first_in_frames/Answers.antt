@@ -12,7 +12,8 @@ returns-then-is_some-clause-found c =
     let i = c.loop-bytes.bytes-index in
     let item = c.bytes-item.result in
     let upto = next_item frames i item (slice_get_read frames _ i item refl c.loop-bytes-test.true c.bytes-item.is) in
-    found_here c.args.lie.now c.args.replica (take i frames) (item ∷ []) (drop (i + 1) frames) frames c.in_ok-found.found (whole_list frames _ i upto) c.loop-bytes.invariant c.in_ok-found.ensures.found cc
+    found_here c.args.lie.now c.args.replica (take i frames) (item ∷ []) (drop (i + 1) frames) frames c.in_ok-found.found
+    (whole_list frames _ i upto) c.loop-bytes.invariant c.in_ok-found.ensures.found cc
 
 pub loop-bytes-preserved : goal.loop-bytes-preserved
 loop-bytes-preserved c =
@@ -20,4 +21,5 @@ loop-bytes-preserved c =
     let i = c.loop-bytes.bytes-index in
     let item = c.bytes-item.result in
     let upto = next_item frames i item (slice_get_read frames _ i item refl c.loop-bytes-test.true c.bytes-item.is) in
-    none_here c.args.lie.now c.args.replica (take i frames) (item ∷ []) (take (i + 1) frames) c.in_ok-found.found upto c.loop-bytes.invariant c.in_ok-found.ensures.found cc
+    none_here c.args.lie.now c.args.replica (take i frames) (item ∷ []) (take (i + 1) frames) c.in_ok-found.found upto
+    c.loop-bytes.invariant c.in_ok-found.ensures.found cc

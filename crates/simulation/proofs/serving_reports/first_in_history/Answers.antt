@@ -15,7 +15,8 @@ returns-then-is_some-clause-found g c =
     let entries = c.args.state.now.entries in
     let i = c.loop-index.index in
     let below : i < length entries = omega (arith, c.loop-index-test.true, c.len-index-end.ensures.len) in
-    found_here c.args.lie.now c.args.replica (frames_sent (take i entries)) (frames_of (slice_get entries i)) (frames_sent (drop (i + 1) entries)) (frames_sent entries)
+    found_here c.args.lie.now c.args.replica (frames_sent (take i entries)) (frames_of (slice_get entries i))
+    (frames_sent (drop (i + 1) entries)) (frames_sent entries)
     c.in_ok-found.found (whole_sent entries i below) c.loop-index.invariant c.in_ok-found.ensures.found cc
 
 pub loop-index-preserved : goal.loop-index-preserved
@@ -23,7 +24,8 @@ loop-index-preserved g c =
     let entries = c.args.state.now.entries in
     let i = c.loop-index.index in
     let below : i < length entries = omega (arith, c.loop-index-test.true, c.len-index-end.ensures.len) in
-    none_here c.args.lie.now c.args.replica (frames_sent (take i entries)) (frames_of (slice_get entries i)) (frames_sent (take (i + 1) entries))
+    none_here c.args.lie.now c.args.replica (frames_sent (take i entries)) (frames_of (slice_get entries i))
+    (frames_sent (take (i + 1) entries))
     c.in_ok-found.found (next_sent entries i below) c.loop-index.invariant c.in_ok-found.ensures.found cc
 
 pub returns-clause-found : goal.returns-clause-found

@@ -5,8 +5,5 @@ use Rattle.std.proofs.lemmas.Grind.{common_steps}
 pub loop-tx-preserved : goal.loop-tx-preserved
 loop-tx-preserved c = grind (arith, common_steps)
 
-pub put_tx-requires : goal.put_tx-requires
-put_tx-requires c = grind (arith, common_steps)
-
 pub returns : goal.returns
 returns c = grind (arith, common_steps)

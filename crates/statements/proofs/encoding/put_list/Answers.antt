@@ -5,8 +5,5 @@ use Rattle.std.proofs.lemmas.Grind.{common_steps}
 pub loop-batch-preserved : goal.loop-batch-preserved
 loop-batch-preserved c = grind (arith, common_steps)
 
-pub put_batch-requires : goal.put_batch-requires
-put_batch-requires c = grind (arith, common_steps)
-
 pub returns : goal.returns
 returns c = grind (arith, common_steps)

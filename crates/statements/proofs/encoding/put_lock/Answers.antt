@@ -13,5 +13,8 @@ returns c =
     let old : List ℕ = c.args.out.now.items in
     let place : List ℕ = 2 ∷ to_be_bytes w32 l.height ++ to_be_bytes w32 l.phase ++ l.signer ∷ [] in
     let value = joins old place (value_bytes l.value) c.in_ok-put_place.ensures c.in_ok-put_batch.ensures in
-    let count = joins old (place ++ value_bytes l.value) (length l.proof ∷ []) value (rw c.as_slice-reports.ensures at c.in_ok-put_u8.ensures.ok) in
-    on_ok_weaker c.put_reports.result (λ e. joins old (place ++ value_bytes l.value ++ length l.proof ∷ []) (flat_map signed_bytes l.proof) count (rw c.as_slice-reports.ensures at e)) c.put_reports.ensures
+    let count = joins old (place ++ value_bytes l.value) (length l.proof ∷ []) value
+    (rw c.as_slice-reports.ensures at c.in_ok-put_u8.ensures.ok) in
+    on_ok_weaker c.put_reports.result
+    (λ e. joins old (place ++ value_bytes l.value ++ length l.proof ∷ []) (flat_map signed_bytes l.proof) count
+    (rw c.as_slice-reports.ensures at e)) c.put_reports.ensures

@@ -16,4 +16,5 @@ returns c =
     let flagged = joins old place all c.in_ok-put_place.ensures c.in_ok-put_flag.ensures in
     let initial = joins old (place ++ all) (value_bytes r.initial) flagged c.in_ok-put_batch.ensures in
     let proper = joins old (place ++ all ++ value_bytes r.initial) (list_bytes r.proper) initial c.in_ok-put_list.ensures in
-    on_ok_weaker c.put_list-2.result (λ e. joins old (place ++ all ++ value_bytes r.initial ++ list_bytes r.proper) (list_bytes r.locked) proper e) c.put_list-2.ensures
+    on_ok_weaker c.put_list-2.result
+    (λ e. joins old (place ++ all ++ value_bytes r.initial ++ list_bytes r.proper) (list_bytes r.locked) proper e) c.put_list-2.ensures

@@ -1,6 +1,6 @@
 use Rattle.std.proofs.Common.{ap, ◌∙◌}
 use Rattle.ledger_model.specs.Applications.{Machine, run}
-use Rattle.abci_executor.proofs.Running.{opens, reached_first}
+use Rattle.abci_executor.proofs.Blocks.{opens, reached_first}
 use Rattle.abci_executor.proofs.executor.Executor.new.Goals as goal
 
 pub init_chain-requires : goal.init_chain-requires

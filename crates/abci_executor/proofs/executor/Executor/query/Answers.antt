@@ -14,8 +14,10 @@ returns-clause-reply g c =
     let m : Machine = g.A.Application.machine c.self.inside.app in
     let last = c.new.ensures ∙ c.height.ensures.height ∙ sym (ap (λ (n : Machine). n.height) c.self.view_is) in
     let held = subst (AnswersTo m c.args.key.now) (sym c.in_ok-shared.ensures.bytes) c.in_ok-held.ensures.answer in
-    subst (λ (n : Machine). Replies n c.args.key.now c.args.height (Ok (record { height = c.new.result; value = c.in_ok-shared.field-0 }))) c.self.view_is
-    (replies_held m c.args.key.now c.args.height c.new.result c.in_ok-shared.field-0 held (λ other. let no = c.in_ok-held.ensures.not_held.1 other in absurd cc) last)
+    subst (λ (n : Machine). Replies n c.args.key.now c.args.height (Ok (record { height = c.new.result; value = c.in_ok-shared.field-0 })))
+    c.self.view_is
+    (replies_held m c.args.key.now c.args.height c.new.result c.in_ok-shared.field-0 held (λ other. let no =
+    c.in_ok-held.ensures.not_held.1 other in absurd cc) last)
 
 pub returns-in_err-held-clause-reply : goal.returns-in_err-held-clause-reply
 returns-in_err-held-clause-reply g c =

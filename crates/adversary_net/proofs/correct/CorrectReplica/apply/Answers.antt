@@ -18,12 +18,16 @@ invariant_of-self-in-Ok g c =
     let counted : c.frames_of-frames.result ≡ sent_by e = c.frames_of-frames.ensures e there in
     let small : c.frames_of-frames.result < 18446744073709551616 = c.frames_of-frames.type_inv in
     record {
-      indexed = indexed_after s.sent.sending.items c.reserve.new.self.sending.items c.add.new.self.sending.items s.sent.total c.reserve.new.self.total c.add.new.self.total
-          c.frames_of-frames.result c.in-Ok.index old.entries c.apply.new.self.entries e c.self.invariant.indexed counted small c.reserve.ensures.sending c.reserve.ensures.total place
+      indexed = indexed_after s.sent.sending.items c.reserve.new.self.sending.items c.add.new.self.sending.items s.sent.total
+          c.reserve.new.self.total c.add.new.self.total
+          c.frames_of-frames.result c.in-Ok.index old.entries c.apply.new.self.entries e c.self.invariant.indexed counted small
+          c.reserve.ensures.sending c.reserve.ensures.total place
           c.add.ensures.sending c.add.ensures.total grown;
       machine = c.in-Ok.ensures.machine;
     }
 
 pub returns-in-Err-clause-err : goal.returns-in-Err-clause-err
 returns-in-Err-clause-err g c =
-    rw (sym c.self.view_is) (stays c.self.inside.state c.apply.new.self c.self.invariant.machine c.in-Err.ensures.machine c.in-Err.ensures.history_stays c.in-Err.ensures.rest_stays c.in-Err.ensures.leaves)
+    rw (sym c.self.view_is) (stays c.self.inside.state c.apply.new.self c.self.invariant.machine c.in-Err.ensures.machine
+    c.in-Err.ensures.history_stays c.in-Err.ensures.rest_stays c.in-Err.ensures.leaves
+    c.args.event c.in-Err.ensures.spared c.in-Err.ensures.within)

@@ -2,7 +2,7 @@ use Rattle.std.proofs.Common.{◌≡◌, rules}
 use Rattle.std.proofs.lemmas.Result.{err_from_is_err_and}
 use Rattle.ledger_model.specs.declared.event.Event.TheVariants as event
 use Rattle.ledger_model.specs.Worlds.{asks, event_of}
-use Rattle.adversary_net.specs.Clusters.{world_of}
+use Rattle.adversary_net.specs.WorldViews.{world_of}
 use Rattle.adversary_net.proofs.Asking.{no_memory}
 use Rattle.adversary_net.proofs.world.World.event_of.Goals as goal
 
@@ -51,17 +51,24 @@ returns-in_err-delivery-in-Pass g c =
 pub returns-in_default : goal.returns-in_default
 unfolding event_of
 returns-in_default g c =
-    rw c.in-Submit.is (no_memory c.args.self.now (asks c.args.self.now.config (world_of c.args.self.now) c.in-Submit.replica (event.Submit c.in-Submit.bytes)) c.in-Submit.replica (event.Submit c.in-Submit.bytes) (c.in_ok-room-in-Submit.ensures.ready (event.Submit c.in-Submit.bytes)))
+    rw c.in-Submit.is (no_memory c.args.self.now
+    (asks c.args.self.now.config (world_of c.args.self.now) c.in-Submit.replica (event.Submit c.in-Submit.bytes)) c.in-Submit.replica
+    (event.Submit c.in-Submit.bytes) (c.in_ok-room-in-Submit.ensures.ready (event.Submit c.in-Submit.bytes)))
 
 pub returns-in_default-copy : goal.returns-in_default-copy
 unfolding event_of
 returns-in_default-copy g c =
-    rw c.in-Query.is (no_memory c.args.self.now (asks c.args.self.now.config (world_of c.args.self.now) c.in-Query.replica (event.Query c.in-Query.key c.in-Query.height)) c.in-Query.replica (event.Query c.in-Query.key c.in-Query.height) (c.in_ok-room-in-Query.ensures.ready (event.Query c.in-Query.key c.in-Query.height)))
+    rw c.in-Query.is (no_memory c.args.self.now
+    (asks c.args.self.now.config (world_of c.args.self.now) c.in-Query.replica (event.Query c.in-Query.key c.in-Query.height))
+    c.in-Query.replica (event.Query c.in-Query.key c.in-Query.height)
+    (c.in_ok-room-in-Query.ensures.ready (event.Query c.in-Query.key c.in-Query.height)))
 
 pub returns-in_default-clone : goal.returns-in_default-clone
 unfolding event_of
 returns-in_default-clone g c =
-    rw c.in-Inject.is (no_memory c.args.self.now (asks c.args.self.now.config (world_of c.args.self.now) c.in-Inject.to (event.Deliver c.in-Inject.bytes)) c.in-Inject.to (event.Deliver c.in-Inject.bytes) (c.in_ok-room-in-Inject.ensures.ready (event.Deliver c.in-Inject.bytes)))
+    rw c.in-Inject.is (no_memory c.args.self.now
+    (asks c.args.self.now.config (world_of c.args.self.now) c.in-Inject.to (event.Deliver c.in-Inject.bytes)) c.in-Inject.to
+    (event.Deliver c.in-Inject.bytes) (c.in_ok-room-in-Inject.ensures.ready (event.Deliver c.in-Inject.bytes)))
 
 pub returns-in_ok-room-in-Propose : goal.returns-in_ok-room-in-Propose
 unfolding event_of

@@ -8,7 +8,8 @@ loop-party-preserved g c =
     c.in_ok-add_history.ensures
     ∙ ap (λ hs. hs ++ histories (c.party-item.result ∷ [])) c.loop-party.invariant
     ∙ sym (histories_more (take c.loop-party.party-index c.deref-party-items.result.now) c.party-item.result)
-    ∙ ap histories (sym (take_next c.deref-party-items.result.now c.loop-party.party-index c.party-item.result c.loop-party-test.true c.party-item.is))
+    ∙ ap histories (sym (take_next c.deref-party-items.result.now c.loop-party.party-index c.party-item.result c.loop-party-test.true
+    c.party-item.is))
 
 pub returns : goal.returns
 returns g c = grind (arith, common_steps)

@@ -1,6 +1,6 @@
 use Rattle.std.proofs.Common.{◌≡◌, map, take}
 use Rattle.std.specs.List.{filter_map}
-use Rattle.adversary_net.specs.Clusters.{state_in, history_in}
+use Rattle.adversary_net.specs.WorldViews.{state_in, history_in}
 use Rattle.adversary_net.proofs.world.World.histories.Given as goal
 
 -- the histories of the correct replicas so far

@@ -1,5 +1,5 @@
 use Rattle.std.proofs.Common.{subst}
-use Rattle.adversary_net.specs.Clusters.{IsCluster}
+use Rattle.adversary_net.specs.WorldViews.{IsCluster}
 use Rattle.adversary_net.proofs.Headline.{one_ledger}
 use Rattle.adversary_net.proofs.UsedLeaves.{accounts}
 use Rattle.adversary_net.proofs.world.World.order.Goals as goal

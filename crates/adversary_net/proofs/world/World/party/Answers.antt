@@ -1,6 +1,6 @@
 use Rattle.std.proofs.Common.{subst, arith}
 use Rattle.std.proofs.lemmas.Grind.{elements}
-use Rattle.adversary_net.specs.Clusters.{IsCluster}
+use Rattle.adversary_net.specs.WorldViews.{IsCluster}
 use Rattle.adversary_net.proofs.world.World.party.Goals as goal
 
 pub returns-clause-cluster : goal.returns-clause-cluster

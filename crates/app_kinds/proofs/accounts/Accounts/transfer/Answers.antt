@@ -1,7 +1,8 @@
 -- What the sender pays the receiver gets.
 use Rattle.std.proofs.Common.{◌≡◌, ◌+◌, ◌<◌, ◌≤◌, length, get_or, ap, sym, ◌∙◌, arith}
 use Rattle.app_kinds.specs.Purses.{shown, balance_at, total_of}
-use Rattle.app_kinds.proofs.Transfers.{Held, nothing, shown-transfer, total-transfer, two-le-total, length-shown, length-charged, shown-at}
+use Rattle.app_kinds.proofs.Transfers.{Balance, nothing, shown-transfer, total-transfer, two-le-total, length-shown, length-charged}
+use Rattle.app_kinds.proofs.Transfers.{shown-at}
 use Rattle.app_kinds.proofs.accounts.Accounts.transfer.Goals as goal
 
 pub overflow_add-self-2 : goal.overflow_add-self-2
@@ -11,8 +12,11 @@ overflow_add-self-2 c =
     let hs : c.from-from.result < length ps = omega (arith, c.ranges.from.fits) in
     let hr : c.from-to.result < length ps = omega (arith, c.ranges.to.fits) in
     let covered : c.args.amount ≤ balance_at ps c.from-from.result = rw (c.from-from.ensures, c.self.view_is) c.requires.covered in
-    let most : balance_at ps c.from-from.result + balance_at ps c.from-to.result ≤ total_of ps = two-le-total ps c.from-from.result c.from-to.result hs hr (λ e. c.requires.apart (sym c.from-from.ensures ∙ e ∙ c.from-to.ensures)) in
-    let at : balance_at ps c.from-to.result ≡ (get_or c.self.inside.accounts c.from-to.result nothing).balance = ap (λ (h : Held). h.0) (shown-at c.self.inside.accounts c.from-to.result) in
+    let most : balance_at ps c.from-from.result + balance_at ps c.from-to.result ≤ total_of ps =
+    two-le-total ps c.from-from.result c.from-to.result hs hr (λ e. c.requires.apart (sym c.from-from.ensures ∙ e ∙ c.from-to.ensures))
+    in
+    let at : balance_at ps c.from-to.result ≡ (get_or c.self.inside.accounts c.from-to.result nothing).balance =
+    ap (λ (h : Balance). h.0) (shown-at c.self.inside.accounts c.from-to.result) in
     let all : total_of ps ≡ 256000 = c.self.invariant.1 in
     omega arith
 
@@ -22,12 +26,15 @@ invariant_of-self c =
     let long : length (shown accounts) ≡ 256 = length-shown accounts ∙ c.self.invariant.0 in
     let hs : c.from-from.result < length (shown accounts) = omega (arith, c.ranges.from.fits) in
     let hr : c.from-to.result < length (shown accounts) = omega (arith, c.ranges.to.fits) in
-    let covered : c.args.amount ≤ balance_at (shown accounts) c.from-from.result = rw (c.from-from.ensures, c.self.view_is) c.requires.covered in (
+    let covered : c.args.amount ≤ balance_at (shown accounts) c.from-from.result =
+    rw (c.from-from.ensures, c.self.view_is) c.requires.covered in (
       length-charged accounts c.from-from.result c.from-to.result c.args.amount ∙ c.self.invariant.0,
       ap total_of (shown-transfer accounts c.from-from.result c.from-to.result c.args.amount)
-          ∙ total-transfer (shown accounts) c.from-from.result c.from-to.result c.args.amount hs hr (λ e. c.requires.apart (sym c.from-from.ensures ∙ e ∙ c.from-to.ensures)) covered
+          ∙ total-transfer (shown accounts) c.from-from.result c.from-to.result c.args.amount hs hr
+          (λ e. c.requires.apart (sym c.from-from.ensures ∙ e ∙ c.from-to.ensures)) covered
           ∙ c.self.invariant.1,
     )
 
 pub returns : goal.returns
-returns c = rw (← c.self.view_is, ← c.from-from.ensures, ← c.from-to.ensures) (shown-transfer c.self.inside.accounts c.from-from.result c.from-to.result c.args.amount)
+returns c = rw (← c.self.view_is, ← c.from-from.ensures, ← c.from-to.ensures)
+    (shown-transfer c.self.inside.accounts c.from-from.result c.from-to.result c.args.amount)

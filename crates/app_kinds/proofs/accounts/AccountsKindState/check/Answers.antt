@@ -8,15 +8,21 @@ returns-in_default c = λ done e. c.code.ensures ∙ sym (check-misspelled done 
 
 pub returns-then-transfer-account : goal.returns-then-transfer-account
 returns-then-transfer-account c = λ done e.
-    let h = check-judged done c.args.tx.now _ _ (judged done _ c.args.tx.now c.in-Some.transfer c.account.result e c.in-Some.ensures.read c.account.ensures.balance c.account.ensures.nonce) in
+    let h = check-judged done c.args.tx.now _ _
+    (judged done _ c.args.tx.now c.in-Some.transfer c.account.result e c.in-Some.ensures.read c.account.ensures.balance
+    c.account.ensures.nonce) in
     grind (arith, h)
 
 pub returns-then-transfer : goal.returns-then-transfer
 returns-then-transfer c = λ done e.
-    let h = check-judged done c.args.tx.now _ _ (judged done _ c.args.tx.now c.in-Some.transfer c.account.result e c.in-Some.ensures.read c.account.ensures.balance c.account.ensures.nonce) in
+    let h = check-judged done c.args.tx.now _ _
+    (judged done _ c.args.tx.now c.in-Some.transfer c.account.result e c.in-Some.ensures.read c.account.ensures.balance
+    c.account.ensures.nonce) in
     grind (arith, h)
 
 pub returns : goal.returns
 returns c = λ done e.
-    let h = check-judged done c.args.tx.now _ _ (judged done _ c.args.tx.now c.in-Some.transfer c.account.result e c.in-Some.ensures.read c.account.ensures.balance c.account.ensures.nonce) in
+    let h = check-judged done c.args.tx.now _ _
+    (judged done _ c.args.tx.now c.in-Some.transfer c.account.result e c.in-Some.ensures.read c.account.ensures.balance
+    c.account.ensures.nonce) in
     grind (arith, h)

@@ -7,8 +7,11 @@ use Rattle.app_kinds.proofs.accounts.AccountsKindState.deliver.Goals as goal
 
 pub returns-in-Ok : goal.returns-in-Ok
 returns-in-Ok c = λ txs e.
-    let passes = c.in-Ok.ensures.passes _ e in
-    (sym passes, state-transferred txs c.args.tx.now _ _ c.in-Ok.transfer e passes c.in-Ok.ensures.transfer c.in-Ok.ensures.possible.apart c.transfer.ensures)
+    let passes = c.in-Ok.ensures.passes _ e in (
+      sym passes,
+      state-transferred txs c.args.tx.now _ _ c.in-Ok.transfer e passes c.in-Ok.ensures.transfer c.in-Ok.ensures.possible.apart
+          c.transfer.ensures,
+    )
 
 pub returns-in-Err : goal.returns-in-Err
 returns-in-Err c = λ txs e.

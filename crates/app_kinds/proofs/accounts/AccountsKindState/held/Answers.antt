@@ -6,7 +6,8 @@ use Rattle.app_kinds.proofs.accounts.AccountsKindState.held.Goals as goal
 pub returns : goal.returns
 returns c = λ done e.
     ap Some (c.in_ok-from_slice.ensures.items ∙ c.to_bytes-bytes.ensures)
-    ∙ sym (held-account done c.args.self.now c.args.key.now c.account.result e c.if-key-ne1.false (omega (arith, c.type_inv.key 0)) c.account.ensures.balance c.account.ensures.nonce)
+    ∙ sym (held-account done c.args.self.now c.args.key.now c.account.result e c.if-key-ne1.false (omega (arith, c.type_inv.key 0))
+    c.account.ensures.balance c.account.ensures.nonce)
 
 pub returns-then-key-ne1 : goal.returns-then-key-ne1
 returns-then-key-ne1 c = λ done e. sym (held-no_account done c.args.key.now c.if-key-ne1.true)

@@ -5,4 +5,6 @@ use Rattle.app_kinds.proofs.Entries.{lookup-shown, items_of-found}
 use Rattle.app_kinds.proofs.pairs.Pairs.get.Goals as goal
 
 pub returns : goal.returns
-returns c = rw (← c.self.view_is) (items_of-found c.get.result ∙ ap (option_map (λ (v : Vec ℕ Global). v.items)) c.get.ensures.value ∙ lookup-shown c.args.key.now c.self.inside.values.entries)
+returns c = rw (← c.self.view_is)
+    (items_of-found c.get.result ∙ ap (option_map (λ (v : Vec ℕ Global). v.items)) c.get.ensures.value
+    ∙ lookup-shown c.args.key.now c.self.inside.values.entries)

@@ -5,7 +5,7 @@ use Rattle.indexmap.proofs.CallerLemmas.{filter-RetainsPairs}
 use Rattle.ledger_model.specs.Applications.{Machine}
 use Rattle.ledger_model.specs.Pools.{is_among}
 use Rattle.ledger_model.specs.Replies.{check_reply}
-use Rattle.batch_pool.specs.Keyed.{Kept}
+use Rattle.batch_pool.specs.Keyed.{PoolEntry}
 use Rattle.batch_pool.proofs.Entries.{txs_of, filter-txs, keyed-retained}
 use Rattle.batch_pool.proofs.pool.Pool.after_block.Goals as goal
 
@@ -22,6 +22,6 @@ returns g c =
     let m : Machine = g.A.Application.machine c.args.app.now in
     let is_new : List ℕ → Bool = λ tx. not (is_among c.args.block.now tx) in
     let passes : List ℕ → Bool = λ tx. check_reply m.kind batches tx == 0 in
-    let first = filter-RetainsPairs _ (λ (e : Kept). is_new e.1) _ (λ k v b w h call. search rules) _ _ c.retain.ensures.filtered in
-    let second = filter-RetainsPairs _ (λ (e : Kept). passes e.1) _ (λ k v b w h call. search rules) _ _ c.retain-2.ensures.filtered in
+    let first = filter-RetainsPairs _ (λ (e : PoolEntry). is_new e.1) _ (λ k v b w h call. search rules) _ _ c.retain.ensures.filtered in
+    let second = filter-RetainsPairs _ (λ (e : PoolEntry). passes e.1) _ (λ k v b w h call. search rules) _ _ c.retain-2.ensures.filtered in
     ap txs_of second ∙ filter-txs passes _ ∙ ap (filter passes) (ap txs_of first ∙ filter-txs is_new _ ∙ ap (filter is_new) c.self.view_is)

@@ -1,8 +1,8 @@
 use Rattle.std.proofs.Common.{sym, ◌∙◌, rules, arith}
 use Rattle.std.specs.Map.{values_of}
 use Rattle.std.proofs.lemmas.Grind.{common_steps}
-use Rattle.batch_pool.proofs.Entries.{take-next}
 use Rattle.batch_pool.proofs.pool.Pool.reap.Goals as goal
+use Rattle.ledger_model.proofs.Lists.{take-next}
 
 pub loop-index-preserved : goal.loop-index-preserved
 loop-index-preserved c =

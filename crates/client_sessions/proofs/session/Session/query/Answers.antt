@@ -6,7 +6,9 @@ pub returns-in-Err-clause-answers : goal.returns-in-Err-clause-answers
 returns-in-Err-clause-answers g c = by_one _ _ _ _ _ _ _ _ _ c.in-Err.ensures.asked (search rules)
 
 pub returns-then-is_behind-clause-answers : goal.returns-then-is_behind-clause-answers
-returns-then-is_behind-clause-answers g c = query_behind _ _ _ _ _ _ _ _ _ c.in-Ok.ensures.asked (search rules) (sym c.is_behind.ensures ∙ c.if-is_behind.true)
+returns-then-is_behind-clause-answers g c =
+    query_behind _ _ _ _ _ _ _ _ _ c.in-Ok.ensures.asked (search rules) (sym c.is_behind.ensures ∙ c.if-is_behind.true)
 
 pub returns-clause-answers : goal.returns-clause-answers
-returns-clause-answers g c = query_told _ _ _ _ _ _ _ _ _ _ c.in-Ok.ensures.asked (search rules) (sym c.is_behind.ensures ∙ c.if-is_behind.false) (search rules)
+returns-clause-answers g c = query_told _ _ _ _ _ _ _ _ _ _ c.in-Ok.ensures.asked (search rules)
+    (sym c.is_behind.ensures ∙ c.if-is_behind.false) (search rules)

@@ -13,7 +13,11 @@ close_each-requires-clause-closings c =
 pub invariant_of-self : goal.invariant_of-self
 invariant_of-self c =
     let rows = c.self.inside.instances.items in
-    rw (written_back c.self.inside.instances.ok.0 c.deref_mut.ensures.value c.close_each.auto.instances, c.close_each.ensures, c.deref_mut.ensures.value) (
+    rw (
+      written_back c.self.inside.instances.ok.0 c.deref_mut.ensures.value c.close_each.auto.instances,
+      c.close_each.ensures,
+      c.deref_mut.ensures.value,
+    ) (
       c.self.invariant.0,
       closed_own (c.args.clock + 1) c.self.inside.config c.self.inside.id rows _ c.self.invariant.1,
       closed_ascend (c.args.clock + 1) rows _ c.self.invariant.2,
@@ -21,12 +25,20 @@ invariant_of-self c =
 
 pub returns-clause-ascend : goal.returns-clause-ascend
 returns-clause-ascend c =
-    rw (written_back c.self.inside.instances.ok.0 c.deref_mut.ensures.value c.close_each.auto.instances, c.close_each.ensures, c.deref_mut.ensures.value)
+    rw (
+      written_back c.self.inside.instances.ok.0 c.deref_mut.ensures.value c.close_each.auto.instances,
+      c.close_each.ensures,
+      c.deref_mut.ensures.value,
+    )
     (closed_ascend (c.args.clock + 1) c.self.inside.instances.items _ c.self.invariant.2)
 
 pub returns-clause-own : goal.returns-clause-own
 returns-clause-own c =
-    rw (written_back c.self.inside.instances.ok.0 c.deref_mut.ensures.value c.close_each.auto.instances, c.close_each.ensures, c.deref_mut.ensures.value)
+    rw (
+      written_back c.self.inside.instances.ok.0 c.deref_mut.ensures.value c.close_each.auto.instances,
+      c.close_each.ensures,
+      c.deref_mut.ensures.value,
+    )
     (own_at _ _ _ (closed_own (c.args.clock + 1) c.self.inside.config c.self.inside.id c.self.inside.instances.items _ c.self.invariant.1))
 
 pub returns-clause-rows : goal.returns-clause-rows

@@ -6,7 +6,8 @@ use Rattle.height_row.proofs.row.HeightRow.get.Goals as goal
 pub returns-clause-row : goal.returns-clause-row
 returns-clause-row c =
     rw (sym c.self.view_is)
-    (c.find_height.ensures ∙ ap (find (is_of c.args.height)) c.deref.ensures.value ∙ sym (row_at-find c.self.inside.instances.items c.args.height))
+    (c.find_height.ensures ∙ ap (find (is_of c.args.height)) c.deref.ensures.value
+    ∙ sym (row_at-find c.self.inside.instances.items c.args.height))
 
 pub returns-clause-own : goal.returns-clause-own
 returns-clause-own c = rw (sym c.self.view_is) (own_at _ _ c.self.inside.instances.items c.self.invariant.1)

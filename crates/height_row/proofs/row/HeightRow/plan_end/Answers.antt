@@ -7,18 +7,21 @@ use Rattle.height_row.proofs.row.HeightRow.plan_end.Goals as goal
 
 pub index-requires : goal.index-requires
 index-requires c =
-    let within = place_within c.self.inside.instances.items c.args.height c.position-place.result (rw (sym c.self.view_is) at c.position-place.ensures) in
+    let within = place_within c.self.inside.instances.items c.args.height c.position-place.result
+    (rw (sym c.self.view_is) at c.position-place.ensures) in
     omega (arith, within, c.self.inside.instances.ok.0)
 
 pub returns-clause-statement : goal.returns-clause-statement
 returns-clause-statement c =
     let held = is_held c.index.result.now (rw (sym c.self.view_is) at c.position-place.ensures) c.index.ensures in
-    IfOk-weaker c.plan_end.result _ _ (λ plan is row was. rw (sym (held.only row (rw (sym c.self.view_is) at was))) is) c.plan_end.ensures.statement
+    IfOk-weaker c.plan_end.result _ _ (λ plan is row was. rw (sym (held.only row (rw (sym c.self.view_is) at was))) is)
+    c.plan_end.ensures.statement
 
 pub returns-clause-ending : goal.returns-clause-ending
 returns-clause-ending c =
     let held = is_held c.index.result.now (rw (sym c.self.view_is) at c.position-place.ensures) c.index.ensures in
-    IfOk-weaker c.plan_end.result _ _ (λ plan is row was. rw (sym (held.only row (rw (sym c.self.view_is) at was))) is) c.plan_end.ensures.ending
+    IfOk-weaker c.plan_end.result _ _ (λ plan is row was. rw (sym (held.only row (rw (sym c.self.view_is) at was))) is)
+    c.plan_end.ensures.ending
 
 pub returns-clause-may : goal.returns-clause-may
 returns-clause-may c =
@@ -36,8 +39,10 @@ returns-clause-proofs c =
 pub returns-clause-signer : goal.returns-clause-signer
 returns-clause-signer c =
     let held = is_held c.index.result.now (rw (sym c.self.view_is) at c.position-place.ensures) c.index.ensures in
-    let same = all_there _ c.self.inside.instances.items c.position-place.result c.index.result.now c.self.invariant.1 held.within c.index.ensures in
-    IfOk-weaker c.plan_end.result _ _ (λ plan is. rw (sym c.self.view_is) (own_signer c.index.result.now plan.statement same.1 is)) c.plan_end.ensures.own
+    let same = all_there _ c.self.inside.instances.items c.position-place.result c.index.result.now c.self.invariant.1 held.within
+    c.index.ensures in
+    IfOk-weaker c.plan_end.result _ _ (λ plan is. rw (sym c.self.view_is) (own_signer c.index.result.now plan.statement same.1 is))
+    c.plan_end.ensures.own
 
 pub returns-clause-height : goal.returns-clause-height
 returns-clause-height c =

@@ -9,13 +9,15 @@ use Rattle.height_row.proofs.row.HeightRow.read.Goals as goal
 
 pub index_mut-requires : goal.index_mut-requires
 index_mut-requires c =
-    let within = place_within c.self.inside.instances.items c.height.result c.position-place.result (rw (sym c.self.view_is) at c.position-place.ensures) in
+    let within = place_within c.self.inside.instances.items c.height.result c.position-place.result
+    (rw (sym c.self.view_is) at c.position-place.ensures) in
     omega (arith, within, c.self.inside.instances.ok.0)
 
 pub read-requires-clause-signer : goal.read-requires-clause-signer
 read-requires-clause-signer c =
     let held = is_held c.index_mut.result.now (rw (sym c.self.view_is) at c.position-place.ensures) c.index_mut.ensures.value in
-    let same = all_there _ c.self.inside.instances.items c.position-place.result c.index_mut.result.now c.self.invariant.1 held.within c.index_mut.ensures.value in
+    let same = all_there _ c.self.inside.instances.items c.position-place.result c.index_mut.result.now c.self.invariant.1 held.within
+    c.index_mut.ensures.value in
     rw same.0 (rw (sym c.self.view_is) at c.requires.signer)
 
 pub read-requires-clause-height : goal.read-requires-clause-height
@@ -61,15 +63,22 @@ returns-clause-own c =
     let height = c.height.ensures ∙ ap height_of c.statement.ensures.statement in
     let found = rw (sym c.self.view_is, height) at c.position-place.ensures in
     let held = is_held c.index_mut.result.now found c.index_mut.ensures.value in
-    let same = all_there _ c.self.inside.instances.items c.position-place.result c.index_mut.result.now c.self.invariant.1 held.within c.index_mut.ensures.value in
-    own_put _ _ c.self.inside.instances.items _ c.position-place.result c.read.new.self c.self.invariant.1 found
-    (c.read.ensures.same.config ∙ same.0, c.read.ensures.same.id ∙ same.1, c.read.ensures.same.height ∙ held.height, subst (λ n. n ≤ max_height) held.height same.2)
+    let same = all_there _ c.self.inside.instances.items c.position-place.result c.index_mut.result.now c.self.invariant.1 held.within
+    c.index_mut.ensures.value in
+    own_put _ _ c.self.inside.instances.items _ c.position-place.result c.read.new.self c.self.invariant.1 found (
+      c.read.ensures.same.config ∙ same.0,
+      c.read.ensures.same.id ∙ same.1,
+      c.read.ensures.same.height
+          ∙ held.height,
+      subst (λ n. n ≤ max_height) held.height same.2,
+    )
 
 pub invariant_of-self : goal.invariant_of-self
 invariant_of-self c =
     let rows = c.self.inside.instances.items in
     let held = is_held c.index_mut.result.now (rw (sym c.self.view_is) at c.position-place.ensures) c.index_mut.ensures.value in
-    let kept = put_keeps _ _ rows c.position-place.result c.index_mut.result.now c.read.new.self c.self.invariant.1 c.self.invariant.2 held.within c.index_mut.ensures.value held.alike c.read.ensures.same in
+    let kept = put_keeps _ _ rows c.position-place.result c.index_mut.result.now c.read.new.self c.self.invariant.1 c.self.invariant.2
+    held.within c.index_mut.ensures.value held.alike c.read.ensures.same in
     (c.self.invariant.0, kept.0, kept.1)
 
 pub returns-clause-err : goal.returns-clause-err

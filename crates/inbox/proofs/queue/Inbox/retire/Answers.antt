@@ -1,9 +1,9 @@
 use Rattle.std.proofs.Common.{sym, ap, ◌∙◌, subst}
 use Rattle.inbox.specs.declared.log.Log.{Log}
-use Rattle.inbox.specs.Passes.{Putter, Taker}
-use Rattle.inbox.specs.Kept.{log_of, Behind}
+use Rattle.inbox.specs.Passes.{PuttingPassView, TakingPassView}
+use Rattle.inbox.specs.InboxRule.{log_of, Behind}
 use Rattle.inbox.proofs.Moves.{merges, behind}
-use Rattle.inbox.proofs.Told.{shared}
+use Rattle.inbox.proofs.PassEnds.{shared}
 use Rattle.inbox.proofs.queue.Inbox.retire.Goals as goal
 
 pub absorb-requires-clause-rule : goal.absorb-requires-clause-rule
@@ -15,8 +15,9 @@ learn_as-requires-clause-rule c = behind _ _ (ap (λ v. v.takes) c.absorb.ensure
 pub returns-clause-shared : goal.returns-clause-shared
 returns-clause-shared c =
     let told = c.learn_as.ensures.rule in
-    let number = c.putting.invariant.3 ∙ ap (λ (p : Putter). p.number) c.putting.view_is in
-    let put = ap (λ (p : Putter). p.put) c.putting.view_is in
-    let taken = ap (λ (p : Taker). p.taken) c.taking.view_is in
-    let found = shared (log_of c.taking.inside.seat) (log_of c.putting.inside.seat) told.0 (subst (λ (v : Log). Behind v told.0) c.absorb.ensures.rule told.1) in
+    let number = c.putting.invariant.3 ∙ ap (λ (p : PuttingPassView). p.number) c.putting.view_is in
+    let put = ap (λ (p : PuttingPassView). p.put) c.putting.view_is in
+    let taken = ap (λ (p : TakingPassView). p.taken) c.taking.view_is in
+    let found = shared (log_of c.taking.inside.seat) (log_of c.putting.inside.seat) told.0
+    (subst (λ (v : Log). Behind v told.0) c.absorb.ensures.rule told.1) in
     (told.0, rw (sym number, sym put, sym taken) found)

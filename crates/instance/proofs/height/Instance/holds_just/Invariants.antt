@@ -6,4 +6,5 @@ use Rattle.lock_proofs.specs.Tables.{values_of}
 use Rattle.instance.proofs.height.Instance.holds_just.Given as goal
 
 abbrev pub invariant-loop-place : goal.invariant-loop-place
-invariant-loop-place l = pointwise same_value (drop l.place l.values) (values_of (drop l.place l.held)) ≡ pointwise same_value l.values (values_of l.held)
+invariant-loop-place l = pointwise same_value (drop l.place l.values) (values_of (drop l.place l.held))
+    ≡ pointwise same_value l.values (values_of l.held)

@@ -9,17 +9,20 @@ use Rattle.instance.proofs.height.Instance.plan_end.Goals as goal
 
 pub returns-clause-may : goal.returns-clause-may
 returns-clause-may c = λ ring log matches clock.
-    let may = subst (MaySend c.args.self.now (c.args.clock + 1)) (sym c.in_ok-chosen_statement.ensures) (chooses_at ring c.args.self.now log c.args.clock matches clock) in
+    let may = subst (MaySend c.args.self.now (c.args.clock + 1)) (sym c.in_ok-chosen_statement.ensures)
+    (chooses_at ring c.args.self.now log c.args.clock matches clock) in
     allows_at ring c.args.self.now log c.args.clock matches clock _ may
 
 pub returns-clause-proofs : goal.returns-clause-proofs
 returns-clause-proofs c = λ ring log matches clock.
-    let may = subst (MaySend c.args.self.now (c.args.clock + 1)) (sym c.in_ok-chosen_statement.ensures) (chooses_at ring c.args.self.now log c.args.clock matches clock) in
+    let may = subst (MaySend c.args.self.now (c.args.clock + 1)) (sym c.in_ok-chosen_statement.ensures)
+    (chooses_at ring c.args.self.now log c.args.clock matches clock) in
     signed_at ring c.args.self.now log c.args.clock matches clock _ may
 
 pub returns-clause-own : goal.returns-clause-own
 returns-clause-own c =
-    subst (λ o. IfSome o (IsOwnStatement c.args.self.now)) (sym c.in_ok-chosen_statement.ensures) (chosen_own_statement c.args.self.now (c.args.clock + 1))
+    subst (λ o. IfSome o (IsOwnStatement c.args.self.now)) (sym c.in_ok-chosen_statement.ensures)
+    (chosen_own_statement c.args.self.now (c.args.clock + 1))
 
 pub returns-clause-spelled : goal.returns-clause-spelled
 returns-clause-spelled c =

@@ -10,12 +10,14 @@ pub invariant_of-self : goal.invariant_of-self
 invariant_of-self c =
     let i = c.self.invariant in
     let lock : IsLock c.of_own.result.lock = (subst IsFrame (sym c.of_own.ensures) c.statement.ensures.frame).statement in
-    let taken : Some c.args.taken ≡ Some c.of_own.result.lock.value = sym c.requires.taken ∙ ap (λ (f : SignedStatement). lock_value f.statement) (sym c.of_own.ensures) in
+    let taken : Some c.args.taken ≡ Some c.of_own.result.lock.value =
+    sym c.requires.taken ∙ ap (λ (f : SignedStatement). lock_value f.statement) (sym c.of_own.ensures) in
     (i.0, i.1, i.2, i.3, keeps_lock i.4 c.of_own.result _ _ _ lock.value (search rules) (search rules) taken)
 
 pub invariant_of-self-then-is_ok-2 : goal.invariant_of-self-then-is_ok-2
 invariant_of-self-then-is_ok-2 c =
     let i = c.self.invariant in
     let lock : IsLock c.of_own.result.lock = (subst IsFrame (sym c.of_own.ensures) c.statement.ensures.frame).statement in
-    let taken : Some c.args.taken ≡ Some c.of_own.result.lock.value = sym c.requires.taken ∙ ap (λ (f : SignedStatement). lock_value f.statement) (sym c.of_own.ensures) in
+    let taken : Some c.args.taken ≡ Some c.of_own.result.lock.value =
+    sym c.requires.taken ∙ ap (λ (f : SignedStatement). lock_value f.statement) (sym c.of_own.ensures) in
     (i.0, i.1, i.2, i.3, keeps_lock i.4 c.of_own.result _ _ _ lock.value (search rules) (search rules) taken)

@@ -5,5 +5,11 @@ use Rattle.instance.proofs.height.Instance.put_taken.Goals as goal
 
 pub invariant_of-self : goal.invariant_of-self
 invariant_of-self c =
-    let i = c.self.invariant in
-    (i.0, i.1, i.2, i.3, keeps_lock i.4 _ _ _ _ c.requires.lock.value (sym c.in-Ok.ensures.full) c.in-Ok.ensures.taken (ap Some c.requires.value))
+    let i = c.self.invariant in (
+      i.0,
+      i.1,
+      i.2,
+      i.3,
+      keeps_lock i.4 _ _ _ _ c.requires.lock.value (sym c.in-Ok.ensures.full) c.in-Ok.ensures.taken
+          (ap Some c.requires.value),
+    )

@@ -9,30 +9,53 @@ returns-in-Err-clause-answer c = λ log matches clock.
     early c.args.self.now c.args.ring.now c.args.clock c.args.frame c.in-Err.cause (search rules)
     ∙ answers_at c.args.ring.now c.args.self.now log c.args.clock matches clock c.args.frame c.requires.signer
 
-of_report : (c : goal.After-read_report) → Outcome c.args.ring.now c.args.self.now c.read_report.new.self c.args.clock c.args.frame c.read_report.result
+of_report : (c : goal.After-read_report)
+    → Outcome c.args.ring.now c.args.self.now c.read_report.new.self c.args.clock c.args.frame c.read_report.result
 of_report c =
-    outcome c.args.ring.now c.args.self.now c.read_report.new.self c.args.clock c.args.frame c.read_report.result c.requires.signer c.requires.height c.statement.ensures.frame
+    outcome c.args.ring.now c.args.self.now c.read_report.new.self c.args.clock c.args.frame c.read_report.result c.requires.signer
+    c.requires.height c.statement.ensures.frame
     (by_row c.read_report.result _ _ c.read_report.ensures.answer
-    (report_answer c.args.self.now c.args.ring.now c.args.clock c.args.frame.signature tt c.args.frame.statement (search rules) (search rules)))
+    (report_answer c.args.self.now c.args.ring.now c.args.clock c.args.frame.signature tt c.args.frame.statement (search rules)
+    (search rules)))
     (c.read_report.ensures.after c.args.clock) c.read_report.ensures.err
 
 pub returns-in-Report : goal.returns-in-Report
-returns-in-Report c = let o = of_report c in record { answer = o.answer; read = o.read; ignored = o.ignored; err = c.read_report.ensures.err; same = o.same }
+returns-in-Report c = let o = of_report c in record {
+  answer = o.answer;
+  read = o.read;
+  ignored = o.ignored;
+  err =
+      c.read_report.ensures.err;
+  same = o.same;
+}
 
-of_lock : (c : goal.After-read_lock) → Outcome c.args.ring.now c.args.self.now c.read_lock.new.self c.args.clock c.args.frame c.read_lock.result
+of_lock : (c : goal.After-read_lock)
+    → Outcome c.args.ring.now c.args.self.now c.read_lock.new.self c.args.clock c.args.frame c.read_lock.result
 of_lock c =
-    outcome c.args.ring.now c.args.self.now c.read_lock.new.self c.args.clock c.args.frame c.read_lock.result c.requires.signer c.requires.height c.statement.ensures.frame
+    outcome c.args.ring.now c.args.self.now c.read_lock.new.self c.args.clock c.args.frame c.read_lock.result c.requires.signer
+    c.requires.height c.statement.ensures.frame
     (by_row c.read_lock.result _ _ c.read_lock.ensures.answer
-    (lock_answer c.args.self.now c.args.ring.now c.args.clock c.args.frame.signature tt c.args.frame.statement (search rules) (search rules)))
+    (lock_answer c.args.self.now c.args.ring.now c.args.clock c.args.frame.signature tt c.args.frame.statement (search rules)
+    (search rules)))
     c.read_lock.ensures.after c.read_lock.ensures.err
 
 pub returns-in-Lock : goal.returns-in-Lock
-returns-in-Lock c = let o = of_lock c in record { answer = o.answer; read = o.read; ignored = o.ignored; err = c.read_lock.ensures.err; same = o.same }
+returns-in-Lock c = let o = of_lock c in record {
+  answer = o.answer;
+  read = o.read;
+  ignored = o.ignored;
+  err =
+      c.read_lock.ensures.err;
+  same = o.same;
+}
 
-of_ack : (c : goal.After-read_ack) → Outcome {E = Unit {0}} c.args.ring.now c.args.self.now c.read_ack.new.self c.args.clock c.args.frame (Ok c.read_ack.result)
+of_ack : (c : goal.After-read_ack)
+    → Outcome {E = Unit {0}} c.args.ring.now c.args.self.now c.read_ack.new.self c.args.clock c.args.frame (Ok c.read_ack.result)
 of_ack c =
-    outcome c.args.ring.now c.args.self.now c.read_ack.new.self c.args.clock c.args.frame (Ok c.read_ack.result) c.requires.signer c.requires.height c.statement.ensures.frame
-    (c.read_ack.ensures.answer ∙ ack_answer c.args.self.now c.args.ring.now c.args.clock c.args.frame.signature tt c.args.frame.statement (search rules) (search rules))
+    outcome c.args.ring.now c.args.self.now c.read_ack.new.self c.args.clock c.args.frame (Ok c.read_ack.result) c.requires.signer
+    c.requires.height c.statement.ensures.frame
+    (c.read_ack.ensures.answer ∙ ack_answer c.args.self.now c.args.ring.now c.args.clock c.args.frame.signature tt c.args.frame.statement
+    (search rules) (search rules))
     (c.read_ack.ensures.after c.args.clock) tt
 
 pub returns-in-Ack : goal.returns-in-Ack

@@ -5,7 +5,7 @@ use Rattle.ledger_model.specs.Rules.{first_of}
 use Rattle.ledger_model.specs.Spelling.{IsStatement}
 use Rattle.lock_proofs.specs.Faults.{faults}
 use Rattle.lock_proofs.specs.LockFrames.{lock_in}
-use Rattle.instance.specs.Rows.{Row}
+use Rattle.instance.specs.Instances.{InstanceView}
 use Rattle.instance.proofs.AtClock.{by_row}
 use Rattle.instance.proofs.KindCauses.{lock_fault, lock_room}
 use Rattle.instance.proofs.height.Instance.read_lock.Goals as goal
@@ -13,17 +13,21 @@ use Rattle.instance.proofs.height.Instance.read_lock.Goals as goal
 pub returns-in-Err-clause-answer : goal.returns-in-Err-clause-answer
 returns-in-Err-clause-answer c =
     ap Err c.cause_of.ensures
-    ∙ lock_fault c.args.self.now c.args.ring.now c.args.round c.args.frame.statement c.args.frame.signature c.in-Err.fault c.requires.kind c.requires.owner (search rules)
+    ∙ lock_fault c.args.self.now c.args.ring.now c.args.round c.args.frame.statement c.args.frame.signature c.in-Err.fault c.requires.kind
+    c.requires.owner (search rules)
 
 pub read_valid-requires-clause-lock : goal.read_valid-requires-clause-lock
-read_valid-requires-clause-lock c = subst (λ (s : SignedStatement). IsStatement s.statement) (sym c.in-Ok.ensures.lock) c.requires.frame.statement
+read_valid-requires-clause-lock c =
+    subst (λ (s : SignedStatement). IsStatement s.statement) (sym c.in-Ok.ensures.lock) c.requires.frame.statement
 
 pub returns-in-Ok-clause-answer : goal.returns-in-Ok-clause-answer
 returns-in-Ok-clause-answer c =
-    let valid = subst (λ (s : SignedStatement). Ok tt ≡ first_of (faults c.self.inside.config c.args.ring.now (lock_in s))) (sym c.in-Ok.ensures.lock) c.in-Ok.ensures.fault in
+    let valid = subst (λ (s : SignedStatement). Ok tt ≡ first_of (faults c.self.inside.config c.args.ring.now (lock_in s)))
+    (sym c.in-Ok.ensures.lock) c.in-Ok.ensures.fault in
     rw (sym c.in-Ok.ensures.lock)
     (by_row c.read_valid.result _ _ c.read_valid.ensures.answer
-    (lock_room c.args.self.now c.args.ring.now c.args.round c.in-Ok.lock (subst (λ (row : Row). Ok tt ≡ first_of (faults row.config c.args.ring.now c.in-Ok.lock)) c.self.view_is valid)))
+    (lock_room c.args.self.now c.args.ring.now c.args.round c.in-Ok.lock
+    (subst (λ (row : InstanceView). Ok tt ≡ first_of (faults row.config c.args.ring.now c.in-Ok.lock)) c.self.view_is valid)))
 
 pub returns-in-Ok-clause-after : goal.returns-in-Ok-clause-after
 returns-in-Ok-clause-after c = rw (sym c.in-Ok.ensures.lock) c.read_valid.ensures.after

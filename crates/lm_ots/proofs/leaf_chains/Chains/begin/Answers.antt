@@ -9,7 +9,8 @@ pub returns-clause-end : goal.returns-clause-end
 returns-clause-end c =
     let left : c.from.result + 1 ≡ c.args.steps + 1 = omega arith in
     let many = c.set.ensures.many in
-    end_of-set c.args.self.now c.set.new.self c.args.index 255 (c.from.result + 1) c.as_bytes.result.now c.set.ensures.set (omega (arith, many.0)) (omega (arith, many.1)) (omega (arith, many.2))
+    end_of-set c.args.self.now c.set.new.self c.args.index 255 (c.from.result + 1) c.as_bytes.result.now c.set.ensures.set
+    (omega (arith, many.0)) (omega (arith, many.1)) (omega (arith, many.2))
     ∙ (λ i. walk (place_of c.args.self.now c.args.index) 255 (left i) (c.as_bytes.ensures.bytes i))
     ∙ walk-begun c.args.self.now.identifier c.args.seed.now c.args.self.now.leaf c.args.index c.args.steps (omega arith)
 

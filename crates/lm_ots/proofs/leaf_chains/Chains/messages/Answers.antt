@@ -10,6 +10,7 @@ loop-lane-preserved c =
     let inside : lane < length c.loop-lane.messages = omega (arith, c.loop-lane-test.true, kept.many) in
     record {
       many = length-set c.loop-lane.messages lane c.message.result ∙ kept.many;
-      messages = set-more (λ k message. message ≡ message_of c.args.self.now (slice_index c.args.picks.now k)) c.loop-lane.messages lane c.message.result [] inside kept.messages c.message.ensures.message;
+      messages = set-more (λ k message. message ≡ message_of c.args.self.now (slice_index c.args.picks.now k)) c.loop-lane.messages lane
+          c.message.result [] inside kept.messages c.message.ensures.message;
       named = λ _. c.message.ensures.named;
     }

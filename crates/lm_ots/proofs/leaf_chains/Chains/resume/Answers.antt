@@ -9,9 +9,11 @@ pub returns-clause-end : goal.returns-clause-end
 returns-clause-end c =
     let left : c.from.result ≡ c.args.to - c.args.from = c.from.ensures in
     let many = c.set.ensures.many in
-    end_of-set c.args.self.now c.set.new.self c.args.index c.args.from c.from.result c.args.value.now c.set.ensures.set (omega (arith, many.0)) (omega (arith, many.1)) (omega (arith, many.2))
+    end_of-set c.args.self.now c.set.new.self c.args.index c.args.from c.from.result c.args.value.now c.set.ensures.set
+    (omega (arith, many.0)) (omega (arith, many.1)) (omega (arith, many.2))
     ∙ ap (λ n. walk (place_of c.args.self.now c.args.index) c.args.from n c.args.value.now) left
-    ∙ walk-chain c.args.self.now.identifier c.args.self.now.leaf c.args.index c.args.from (c.args.to - c.args.from) c.args.value.now (omega arith)
+    ∙ walk-chain c.args.self.now.identifier c.args.self.now.leaf c.args.index c.args.from (c.args.to - c.args.from) c.args.value.now
+    (omega arith)
 
 pub returns-clause-others : goal.returns-clause-others
 returns-clause-others c = end_of-others c.args.self.now c.set.new.self c.args.index _ _ _ c.set.ensures.set

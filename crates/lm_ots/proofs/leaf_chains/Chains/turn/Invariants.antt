@@ -8,6 +8,7 @@ invariant-loop-lane l = record {
   identifier : l.self.identifier ≡ l.fn.self.identifier;
   leaf : l.self.leaf ≡ l.fn.self.leaf;
   ends : (i : ℕ) → i < 67 → end_of l.self i ≡ end_of l.fn.self i;
-  taken : (k : ℕ) → k < l.lane → slice_index l.self.left (slice_index l.picks k) ≡ slice_index l.fn.self.left (slice_index l.picks k) - l.count;
+  taken : (k : ℕ) → k < l.lane → slice_index l.self.left (slice_index l.picks k)
+      ≡ slice_index l.fn.self.left (slice_index l.picks k) - l.count;
   fewer : (i : ℕ) → i < 67 → slice_index l.self.left i ≤ slice_index l.fn.self.left i;
 }

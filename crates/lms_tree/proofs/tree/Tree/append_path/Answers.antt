@@ -25,13 +25,16 @@ loop-preserved c =
     let kept_by = c.loop.invariant in
     let P : Secret → Type 0 = λ t. KeepsNodes (numbers_of t.params) t.identifier t.seed 1 items in
     let kept : KeepsNodes (numbers_of s.params) s.identifier s.seed 1 items = subst P c.self.view_is c.self.invariant.1 in
-    let height : levels ≡ (numbers_of s.params).height = c.levels-levels.ensures ∙ ap (λ (t : Secret). levels_of t.params.height) c.self.view_is in
+    let height : levels ≡ (numbers_of s.params).height =
+    c.levels-levels.ensures ∙ ap (λ (t : Secret). levels_of t.params.height) c.self.view_is in
     let at = beside levels level number c.loop-test.true kept_by.low kept_by.high in
     let inside : c.sibling.result < length items = omega (arith, c.sibling.ensures, at.inside, kept.whole, ap (λ n. 2 ^ n) height) in
-    let hash = get_or_read items c.sibling.result c.index.result.now inside c.index.ensures [] ∙ ap (λ k. get_or items k []) c.sibling.ensures
+    let hash = get_or_read items c.sibling.result c.index.result.now inside c.index.ensures []
+    ∙ ap (λ k. get_or items k []) c.sibling.ensures
     ∙ kept.hashes level (levels - level) (sibling number) (omega arith) at.low at.high at.some in
     record {
-      whole = path-next (numbers_of s.params) s.identifier s.seed levels level number c.loop.bytes.items c.extend_from_slice.new.self.items c.index.result.now c.loop-test.true
+      whole = path-next (numbers_of s.params) s.identifier s.seed levels level number c.loop.bytes.items c.extend_from_slice.new.self.items
+          c.index.result.now c.loop-test.true
           (pushed c.index.result.now refl c.in_ok-extend_from_slice.was c.extend_from_slice.ensures.items) hash
           ∙ kept_by.whole;
       low = half-low levels level number c.loop-test.true kept_by.low;
@@ -42,7 +45,8 @@ pub returns : goal.returns
 returns c =
     let s = c.args.self.now in
     let levels = c.levels-levels.result in
-    let height : levels ≡ (numbers_of s.params).height = c.levels-levels.ensures ∙ ap (λ (t : Secret). levels_of t.params.height) c.self.view_is in
+    let height : levels ≡ (numbers_of s.params).height =
+    c.levels-levels.ensures ∙ ap (λ (t : Secret). levels_of t.params.height) c.self.view_is in
     sym (path-end (numbers_of s.params) s.identifier s.seed levels c.loop.counter c.loop.number c.loop.bytes.items (omega arith))
     ∙ c.loop.invariant.whole
     ∙ ap (λ n. c.args.bytes.now.items ++ path (numbers_of s.params) s.identifier s.seed n 0 (2 ^ n + c.args.leaf)) height

@@ -8,7 +8,8 @@ use Rattle.lms_tree.proofs.tree.Tree.build.Given as goal
 abbrev pub invariant-loop-row : goal.invariant-loop-row
 invariant-loop-row l = record {
   long : length l.nodes.items ≡ 2 * l.leaves;
-  hashes : (q : ℕ) → q < 8 * l.row → get_or l.nodes.items (l.leaves + q) [] ≡ node (numbers_of l.params) l.identifier l.seed 0 (l.leaves + q);
+  hashes : (q : ℕ) → q < 8 * l.row
+      → get_or l.nodes.items (l.leaves + q) [] ≡ node (numbers_of l.params) l.identifier l.seed 0 (l.leaves + q);
 }
 
 abbrev pub invariant-loop-number : goal.invariant-loop-number

@@ -17,8 +17,11 @@ returns-clause-signature c =
     let number = to_be_bytes w32 q in
     let signed = λ (v : Secret). leaf_signature (numbers_of v.params) v.identifier v.seed q c.args.message.now in
     let way = path (numbers_of s.params) s.identifier s.seed (numbers_of s.params).height 0 (2 ^ (numbers_of s.params).height + q) in
-    let head = pushed c.to_be_bytes.result c.in_ok-signature.ensures.items c.in_ok-extend_from_slice.was c.extend_from_slice.ensures.items ∙ c.to_be_bytes.ensures in
-    let with_ots = c.append_signature.ensures.items ∙ ap (λ zs. zs ++ signed (record { params = t.params; identifier = t.identifier; seed = t.seed })) head ∙ ap (λ (v : Secret). number ++ signed v) c.self.view_is in
+    let head = pushed c.to_be_bytes.result c.in_ok-signature.ensures.items c.in_ok-extend_from_slice.was c.extend_from_slice.ensures.items
+    ∙ c.to_be_bytes.ensures in
+    let with_ots = c.append_signature.ensures.items
+    ∙ ap (λ zs. zs ++ signed (record { params = t.params; identifier = t.identifier; seed = t.seed })) head
+    ∙ ap (λ (v : Secret). number ++ signed v) c.self.view_is in
     let code : c.to_be_bytes-2.result ≡ to_be_bytes w32 (lms_code_of s.params.height) =
     c.to_be_bytes-2.ensures ∙ ap (to_be_bytes w32) (c.code.ensures ∙ ap (λ (v : Secret). lms_code_of v.params.height) c.self.view_is) in
     let with_code = pushed c.to_be_bytes-2.result with_ots c.in_ok-extend_from_slice-2.was c.extend_from_slice-2.ensures.items in

@@ -1,10 +1,11 @@
 use Rattle.std.proofs.Common.{◌≡◌, ◌≤◌, [], length, lit≤, sym, subst}
 use Rattle.ledger_model.specs.Lawful.{Replay, ReplaysFrom}
 use Rattle.key_ring.specs.Signers.{leaves_of}
-use Rattle.replica_core.specs.Holding.{Matches}
+use Rattle.replica_core.specs.ReplicaStates.{MatchesHistory}
 use Rattle.replica_core.specs.Leaves.{LeafAccount}
 use Rattle.replica_core.proofs.SpentLeaves.{account_none}
 use Rattle.locked_replica.proofs.state.State.new.Goals as goal
+use Rattle.ledger_model.specs.Limits.{max_history_len}
 
 -- nothing happened yet
 pub invariant_of-result : goal.invariant_of-result
@@ -14,8 +15,9 @@ invariant_of-result g c =
     let keys = c.in_ok-new.field-0.keys in
     let none : c.new-2.result.items ≡ [] = c.new-2.ensures.items in
     record {
-      few = subst (λ entries. length entries ≤ 65536) (sym none) (lit≤ tt);
+      few = subst (λ entries. length entries ≤ max_history_len) (sym none) (lit≤ tt);
       replay = subst (Replay held.config held.ring held.id) (sym none) tt;
-      matches = subst (Matches held) (sym none) c.in_ok-new.ensures.matches;
-      account = subst (LeafAccount held.config held.id (leaves_of keys.secret) keys.used) (sym none) (account_none held.config held.id (leaves_of keys.secret) keys.used);
+      matches = subst (MatchesHistory held) (sym none) c.in_ok-new.ensures.matches;
+      account = subst (LeafAccount held.config held.id (leaves_of keys.secret) keys.used) (sym none)
+          (account_none held.config held.id (leaves_of keys.secret) keys.used);
     }

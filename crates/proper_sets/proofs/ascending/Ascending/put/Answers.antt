@@ -17,7 +17,8 @@ placed : (c : goal.In_ok-insert) → c.insert.new.self.items ≡ with_value c.ar
 placed c =
     let missing : list_any (λ w. same_value w c.args.value.now) c.self.inside.values.items ≡ false =
     ap (list_any (λ w. same_value w c.args.value.now)) (sym c.deref.ensures.value) ∙ sym c.contains.ensures.value ∙ c.if-contains.false in
-    let sought : c.unwrap_or-place.result ≡ unwrap_or (position (is_below c.args.value.now) c.self.inside.values.items) (length c.self.inside.values.items) = search rules in
+    let sought : c.unwrap_or-place.result ≡ unwrap_or (position (is_below c.args.value.now) c.self.inside.values.items)
+    (length c.self.inside.values.items) = search rules in
     let copied : c.in_ok-copy.field-0 ≡ c.args.value.now = c.in_ok-copy.ensures.same in
     c.in_ok-insert.ensures.items ∙ ap (λ (v : Value). insert c.self.inside.values.items c.unwrap_or-place.result v) copied
     ∙ sym (with_value-placed c.args.value.now c.self.inside.values.items c.unwrap_or-place.result missing sought)

@@ -2,8 +2,9 @@ use Rattle.std.proofs.Common.{◌≡◌, ◌||◌, ◌++◌, refl, ◌∙◌, no
 use Rattle.std.specs.Prelude.{filter}
 use Rattle.ledger_model.specs.Values.{same_value, with_value}
 use Rattle.ledger_model.specs.Proper.{cut}
-use Rattle.ledger_model.specs.Tallies.{all_read}
-use Rattle.ledger_model.specs.Phases.{reports_of, named_values, initials, are_all_named_by, is_split_among}
+use Rattle.tally.specs.Tallies.{all_read}
+use Rattle.tally.specs.Readings.{reports_of}
+use Rattle.proper_sets.specs.Propriety.{named_values, initials, are_all_named_by, is_split_among}
 use Rattle.proper_sets.specs.Puts.{with_values}
 use Rattle.proper_sets.proofs.Cuts.{IsSmall-cut, cut-put, absorbed-parts}
 use Rattle.proper_sets.proofs.proper.Proper.absorb.Goals as goal
@@ -34,7 +35,10 @@ invariant_of-self c =
 
 pub returns-clause-ok : goal.returns-clause-ok
 returns-clause-ok c =
-    let cut_is : c.put.new.self ≡ cut c.self.inside.own (c.self.inside.explicit ++ named_values c.self.inside.config c.args.own (reports_of (all_read c.args.reports.now))) =
-    explicit_is c ∙ cut-put c.self.inside.own c.self.inside.explicit (named_values c.self.inside.config c.args.own (reports_of (all_read c.args.reports.now))) c.in_ok-explicit.ensures.ascend in
+    let cut_is : c.put.new.self ≡ cut c.self.inside.own
+    (c.self.inside.explicit ++ named_values c.self.inside.config c.args.own (reports_of (all_read c.args.reports.now))) =
+    explicit_is c ∙ cut-put c.self.inside.own c.self.inside.explicit
+    (named_values c.self.inside.config c.args.own (reports_of (all_read c.args.reports.now))) c.in_ok-explicit.ensures.ascend in
     rw (← c.self.view_is, inside_is c)
-    (absorbed-parts c.self.inside.config c.args.own (reports_of (all_read c.args.reports.now)) c.self.inside.own c.self.inside.all c.if-self.all c.self.inside.explicit c.put.new.self (all_is c) cut_is)
+    (absorbed-parts c.self.inside.config c.args.own (reports_of (all_read c.args.reports.now)) c.self.inside.own c.self.inside.all
+    c.if-self.all c.self.inside.explicit c.put.new.self (all_is c) cut_is)

@@ -1,8 +1,9 @@
 use Rattle.std.proofs.Common.{◌≡◌, take}
 use Rattle.std.specs.Prelude.{filter}
 use Rattle.std.specs.List.{flat_map}
-use Rattle.ledger_model.specs.Tallies.{all_read}
-use Rattle.ledger_model.specs.Phases.{reports_of, is_named_by}
+use Rattle.tally.specs.Tallies.{all_read}
+use Rattle.tally.specs.Readings.{reports_of}
+use Rattle.proper_sets.specs.Propriety.{is_named_by}
 use Rattle.ledger_model.specs.Proper.{listed_by_other}
 use Rattle.proper_sets.specs.Puts.{with_values}
 use Rattle.proper_sets.proofs.reported.PhaseReports.put_named.Given as goal

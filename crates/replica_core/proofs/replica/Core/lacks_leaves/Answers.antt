@@ -6,24 +6,29 @@ use Rattle.key_ring.specs.Signers.{leaves_of}
 use Rattle.height_row.specs.Heights.{plan_of}
 use Rattle.replica_core.specs.Signing.{due_in}
 use Rattle.replica_core.specs.RoundEnds.{due}
-use Rattle.replica_core.specs.Replicas.{Replica, due_then}
+use Rattle.replica_core.specs.Cores.{CoreView, due_then}
 use Rattle.replica_core.proofs.SignedPlans.{due_in-plans}
 use Rattle.replica_core.proofs.Endings.{short_of}
 use Rattle.replica_core.proofs.replica.Core.lacks_leaves.Goals as goal
 
 pub returns-clause-lacks : goal.returns-clause-lacks
 returns-clause-lacks g c =
-    let plans = subst (λ (x : Replica). c.args.plans.now ≡ map (plan_of (x.held.clock + 1)) x.held.rows) (sym c.self.view_is) c.requires.plans in
+    let plans = subst (λ (x : CoreView). c.args.plans.now ≡ map (plan_of (x.held.clock + 1)) x.held.rows) (sym c.self.view_is)
+    c.requires.plans in
     let counted = c.count_due.ensures ∙ ap due_in plans ∙ due_in-plans (c.self.inside.kept.clock + 1) c.self.inside.kept.rows in
     rw (sym c.self.view_is)
     (ap (ltb c.leaves_left-left.result) counted
-    ∙ short_of c.leaves_left-left.result (due (c.self.inside.kept.clock + 1) c.self.inside.kept.rows) (leaves_of c.self.inside.signer.secret) c.self.inside.signer.used c.leaves_left-left.ensures)
+    ∙ short_of c.leaves_left-left.result (due (c.self.inside.kept.clock + 1) c.self.inside.kept.rows)
+    (leaves_of c.self.inside.signer.secret) c.self.inside.signer.used c.leaves_left-left.ensures)
 
 pub returns-clause-leaves : goal.returns-clause-leaves
 returns-clause-leaves g c = λ enough.
-    let plans = subst (λ (x : Replica). c.args.plans.now ≡ map (plan_of (x.held.clock + 1)) x.held.rows) (sym c.self.view_is) c.requires.plans in
+    let plans = subst (λ (x : CoreView). c.args.plans.now ≡ map (plan_of (x.held.clock + 1)) x.held.rows) (sym c.self.view_is)
+    c.requires.plans in
     let counted = c.count_due.ensures ∙ ap due_in plans ∙ due_in-plans (c.self.inside.kept.clock + 1) c.self.inside.kept.rows in
-    subst (λ (x : Replica). x.keys.used + due_then x ≤ leaves_of x.keys.secret) c.self.view_is
-    (ltb-false (leaves_of c.self.inside.signer.secret) (c.self.inside.signer.used + due (c.self.inside.kept.clock + 1) c.self.inside.kept.rows)
-    (sym (short_of c.leaves_left-left.result (due (c.self.inside.kept.clock + 1) c.self.inside.kept.rows) (leaves_of c.self.inside.signer.secret) c.self.inside.signer.used c.leaves_left-left.ensures)
+    subst (λ (x : CoreView). x.keys.used + due_then x ≤ leaves_of x.keys.secret) c.self.view_is
+    (ltb-false (leaves_of c.self.inside.signer.secret)
+    (c.self.inside.signer.used + due (c.self.inside.kept.clock + 1) c.self.inside.kept.rows)
+    (sym (short_of c.leaves_left-left.result (due (c.self.inside.kept.clock + 1) c.self.inside.kept.rows)
+    (leaves_of c.self.inside.signer.secret) c.self.inside.signer.used c.leaves_left-left.ensures)
     ∙ sym (ap (ltb c.leaves_left-left.result) counted) ∙ enough))

@@ -7,7 +7,8 @@ use Rattle.replica_core.proofs.replica.Core.step.Goals as goal
 
 -- src/replica.rt:66:5
 pub returns-in_ok-submit-in-Submit-clause-step : goal.returns-in_ok-submit-in-Submit-clause-step
-returns-in_ok-submit-in-Submit-clause-step g c = rw (sym c.self.view_is, c.in-Submit.is, c.in_ok-submit-in-Submit.ensures.after, sym c.deref.ensures)
+returns-in_ok-submit-in-Submit-clause-step g c =
+    rw (sym c.self.view_is, c.in-Submit.is, c.in_ok-submit-in-Submit.ensures.after, sym c.deref.ensures)
     (submits c.self.inside.kept c.deref.result.now c.in_ok-submit-in-Submit.field-0 c.in_ok-submit-in-Submit.ensures.answer)
 
 -- src/replica.rt:66:5
@@ -19,15 +20,18 @@ returns-in_ok-propose-in-Propose-clause-step g c = rw (sym c.self-in-Propose.vie
 
 -- src/replica.rt:66:5
 pub returns-in_ok-execute-in-Execute-clause-step : goal.returns-in_ok-execute-in-Execute-clause-step
-returns-in_ok-execute-in-Execute-clause-step g c = rw (sym c.self-in-Execute.view_is, c.in-Execute.is, c.in_ok-execute-in-Execute.ensures.after)
-    (executes c.self-in-Execute.inside.kept c.in_ok-execute-in-Execute.field-0 c.in_ok-execute-in-Execute.ensures.one c.in_ok-execute-in-Execute.ensures.answer)
+returns-in_ok-execute-in-Execute-clause-step g c =
+    rw (sym c.self-in-Execute.view_is, c.in-Execute.is, c.in_ok-execute-in-Execute.ensures.after)
+    (executes c.self-in-Execute.inside.kept c.in_ok-execute-in-Execute.field-0 c.in_ok-execute-in-Execute.ensures.one
+    c.in_ok-execute-in-Execute.ensures.answer)
 
 -- src/replica.rt:66:5
 pub returns-in_ok-query-in-Query-clause-step : goal.returns-in_ok-query-in-Query-clause-step
 returns-in_ok-query-in-Query-clause-step g c = rw (sym c.self-in-Query.view_is, c.in-Query.is)
     (queries c.self-in-Query.inside.kept c.in-Query.key c.in-Query.height c.in_ok-query-in-Query.field-0
     (c.in_ok-query-in-Query.ensures
-    ∙ ap (λ key. query_reply c.self-in-Query.inside.kept.config.kind c.self-in-Query.inside.kept.commits key c.number.result) c.as_bytes.ensures
+    ∙ ap (λ key. query_reply c.self-in-Query.inside.kept.config.kind c.self-in-Query.inside.kept.commits key c.number.result)
+    c.as_bytes.ensures
     ∙ ap (query_reply c.self-in-Query.inside.kept.config.kind c.self-in-Query.inside.kept.commits c.in-Query.key) c.number.ensures))
 
 pub returns-in_ok-query-in-Query-clause-leaves : goal.returns-in_ok-query-in-Query-clause-leaves

@@ -21,5 +21,6 @@ invariant_of-self c =
     record {
       each = (subst (AllByRecursion IsSigned) is c.self.invariant.each).1;
       spelled = append_cancel_left (signed_bytes first) c.split_report-lent.result.1.now (flat_map signed_bytes others)
-          (sym c.split_report-lent.ensures.behind ∙ c.self.invariant.spelled ∙ ap (flat_map signed_bytes) is ∙ flat_map-cons signed_bytes first others);
+          (sym c.split_report-lent.ensures.behind ∙ c.self.invariant.spelled ∙ ap (flat_map signed_bytes) is
+          ∙ flat_map-cons signed_bytes first others);
     }

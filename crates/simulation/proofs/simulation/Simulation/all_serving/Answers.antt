@@ -2,11 +2,11 @@ use Rattle.std.proofs.Common.{◌≡◌, [], ◌∷◌, ap, sym, subst, ◌∙�
 use Rattle.std.specs.Prelude.{Some, None}
 use Rattle.std.specs.List.{AllByRecursion}
 use Rattle.ledger_model.specs.Spelling.{IsSigned}
-use Rattle.replica_core.proofs.Elements.{each_append}
 use Rattle.simulation.specs.Playing.{serving}
 use Rattle.simulation.proofs.Ranges.{found_kept, found_left}
 use Rattle.simulation.proofs.simulation.Simulation.all_serving.Goals.{in-Some+in_ok-push, in_default}
 use Rattle.simulation.proofs.simulation.Simulation.all_serving.Goals as goal
+use Rattle.ledger_model.proofs.Lists.{each_append}
 
 pub loop-number-preserved : goal.loop-number-preserved
 loop-number-preserved g c =
@@ -16,8 +16,10 @@ loop-number-preserved g c =
       | in-Some+in_ok-push w ↦
           let more = ap (λ v. v.items) w.reports-is ∙ w.in_ok-push.ensures.items in
           let at : serving c.args.self.now c.args.lie.now c.loop-number.number ≡ Some w.in-Some.report = here ∙ w.in-Some.is in (
-            more ∙ found_kept (serving c.args.self.now c.args.lie.now) c.loop-number.number c.loop-number.reports.items w.in-Some.report found at,
-            subst (AllByRecursion IsSigned) (sym more) (each_append IsSigned _ (w.in-Some.report ∷ []) spelled (rw w.in-Some.is at c.in_ok-report.ensures.spelled, tt)),
+            more ∙ found_kept (serving c.args.self.now c.args.lie.now) c.loop-number.number c.loop-number.reports.items w.in-Some.report
+                found at,
+            subst (AllByRecursion IsSigned) (sym more)
+                (each_append IsSigned _ (w.in-Some.report ∷ []) spelled (rw w.in-Some.is at c.in_ok-report.ensures.spelled, tt)),
           )
       | in_default w ↦
           let same = ap (λ v. v.items) w.reports-is in

@@ -2,7 +2,7 @@ use Rattle.std.proofs.Common.{◌≡◌}
 use Rattle.std.specs.Prelude.{filter}
 use Rattle.std.specs.List.{range_with_len}
 use Rattle.ledger_model.specs.Groups.{is_correct}
-use Rattle.adversary_net.specs.Clusters.{world_of}
+use Rattle.adversary_net.specs.WorldViews.{world_of}
 use Rattle.simulation.proofs.simulation.Simulation.correct.Given as goal
 
 -- the correct replicas so far

@@ -10,7 +10,8 @@ loop-replica-init g c = (ended_none _ _ _ _, refl, stays _)
 pub loop-replica-preserved : goal.loop-replica-preserved
 loop-replica-preserved g c =
     let (ended, lies, goes) = c.loop-replica.invariant in (
-      ended_next c.args.correct.now _ _ _ c.loop-replica.replica-index c.replica-item.result _ _ _ _ _ _ c.loop-replica-test.true c.replica-item.is ended c.in_ok-end.ensures.done,
+      ended_next c.args.correct.now _ _ _ c.loop-replica.replica-index c.replica-item.result _ _ _ _ _ _ c.loop-replica-test.true
+          c.replica-item.is ended c.in_ok-end.ensures.done,
       c.in_ok-end.ensures.lies ∙ lies,
       goes_on _ _ _ goes c.in_ok-end.ensures.goes_on,
     )

@@ -12,7 +12,8 @@ loop-receiver-init g c = (stepped_none step_text _ _, refl, stays _)
 pub loop-receiver-preserved : goal.loop-receiver-preserved
 loop-receiver-preserved g c =
     let (stepped, lies, goes) = c.loop-receiver.invariant in (
-      injected_next _ _ _ c.args.receivers.now (frame_bytes c.args.frame.now) c.loop-receiver.receiver-index c.receiver-item.result _ _ _ _ c.loop-receiver-test.true c.receiver-item.is stepped (rw c.in_ok-share.ensures at c.in_ok-step.ensures.done),
+      injected_next _ _ _ c.args.receivers.now (frame_bytes c.args.frame.now) c.loop-receiver.receiver-index c.receiver-item.result _ _ _ _
+          c.loop-receiver-test.true c.receiver-item.is stepped (rw c.in_ok-share.ensures at c.in_ok-step.ensures.done),
       c.in_ok-step.ensures.lies ∙ lies,
       goes_on _ _ _ goes c.in_ok-step.ensures.goes_on,
     )

@@ -11,7 +11,8 @@ loop-step-init g c = (stepped_none pass_text _ _, refl, stays _)
 pub loop-step-preserved : goal.loop-step-preserved
 loop-step-preserved g c =
     let (stepped, lies, goes) = c.loop-step.invariant in (
-      stepped_next pass_text _ _ _ c.args.passes.now c.loop-step.step-index c.step-item.result _ _ _ _ c.loop-step-test.true c.step-item.is stepped c.in_ok-pass.ensures.done.1,
+      stepped_next pass_text _ _ _ c.args.passes.now c.loop-step.step-index c.step-item.result _ _ _ _ c.loop-step-test.true c.step-item.is
+          stepped c.in_ok-pass.ensures.done.1,
       c.in_ok-pass.ensures.lies ∙ lies,
       goes_on _ _ _ goes c.in_ok-pass.ensures.goes_on,
     )

@@ -5,14 +5,17 @@ use Rattle.ledger_model.specs.Validity.{ascends_within, signers_of}
 use Rattle.simulation.specs.Playing.{proof_for}
 use Rattle.simulation.proofs.Serving.{proof_ascends}
 use Rattle.simulation.proofs.simulation.Simulation.proof.Goals as goal
+use Rattle.ledger_model.specs.Rounds.{quorum}
 
 pub returns-clause-ascend : goal.returns-clause-ascend
 returns-clause-ascend g c =
-    let same : c.config-config.result.now ≡ c.args.self.now.cluster.config = c.config-config.ensures ∙ ap (λ s. s.cluster.config) c.self.view_is in
+    let same : c.config-config.result.now ≡ c.args.self.now.cluster.config =
+    c.config-config.ensures ∙ ap (λ s. s.cluster.config) c.self.view_is in
     let fits : c.config-config.result.now.replicas ≤ 256 = search rules in
     let items : c.truncate.new.self.items ≡ proof_for c.args.self.now c.args.lie.now =
-    c.truncate.ensures.items ∙ ap (λ n. take n c.in_ok-reports.reports.items) (c.from-count.ensures ∙ ap (λ config. config.replicas - config.faults) same)
-    ∙ ap (take (c.args.self.now.cluster.config.replicas - c.args.self.now.cluster.config.faults)) c.in_ok-reports.ensures.found in
+    c.truncate.ensures.items ∙ ap (λ n. take n c.in_ok-reports.reports.items)
+    (c.from-count.ensures ∙ c.quorum.ensures ∙ ap (λ config. quorum config) same)
+    ∙ ap (take (quorum c.args.self.now.cluster.config)) c.in_ok-reports.ensures.found in
     subst (λ rs. IsTrue (ascends_within 0 256 (signers_of rs))) (sym items) (proof_ascends c.args.self.now c.args.lie.now (rw same at fits))
 
 pub returns-then-len-count-clause-none : goal.returns-then-len-count-clause-none

@@ -11,7 +11,8 @@ returns-clause-done g c =
     let same : c.self.inside.world ≡ c.args.self.now.cluster = ap (λ s. s.cluster) c.self.view_is in
     let signed = c.sign_as-answer in
     rw (same, c.in_ok-unsigned.ensures) at
-    (c.signing_of.ensures c.args.liar c.self.inside.world signed.new.self (rw c.statement_bytes.ensures at signed.ensures.signs) signed.ensures.none signed.ensures.same)
+    (c.signing_of.ensures c.args.liar c.self.inside.world signed.new.self (rw c.statement_bytes.ensures at signed.ensures.signs)
+    signed.ensures.none signed.ensures.same)
 
 pub returns-clause-goes_on : goal.returns-clause-goes_on
 returns-clause-goes_on g c =

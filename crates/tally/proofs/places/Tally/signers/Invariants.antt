@@ -1,5 +1,5 @@
 use Rattle.std.proofs.Common.{◌≡◌, take}
-use Rattle.ledger_model.specs.Tallies.{signers_from}
+use Rattle.tally.specs.Tallies.{signers_from}
 use Rattle.tally.proofs.places.Tally.signers.Given as goal
 
 abbrev pub invariant-loop-signer : goal.invariant-loop-signer

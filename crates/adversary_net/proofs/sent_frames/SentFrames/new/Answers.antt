@@ -1,8 +1,0 @@
-use Rattle.std.proofs.Common.{refl, arith}
-use Rattle.ledger_model.specs.Worlds.{frames_sent}
-use Rattle.adversary_net.proofs.sent_frames.SentFrames.new.Goals as goal
-
--- an empty history sent nothing
-pub returns : goal.returns
-unfolding frames_sent
-returns c = record { places = c.new.ensures.items; counts = refl; bound = omega arith }

@@ -1,0 +1,65 @@
+-- What an exchange of a session with a running replica is, by that replica as it was then.
+use Rattle.std.specs.Prelude.{◌≡◌, ℕ, ◌<◌, ◌≤◌, ⊤, true, List, [], ◌∷◌, length, Option, None, Result, Ok, Err}
+use Rattle.ledger_model.specs.declared.event.Event.TheVariants as event
+use Rattle.ledger_model.specs.declared.reply.QueryAnswer.{QueryAnswer}
+use Rattle.ledger_model.specs.declared.reply.SubmitRefusal.{SubmitRefusal}
+use Rattle.ledger_model.specs.Commits.{commits_of, submit_reply}
+use Rattle.ledger_model.specs.Lawful.{Replay}
+use Rattle.ledger_model.specs.Replies.{query_reply}
+use Rattle.ledger_model.specs.Sessions.{Exchange, Submits, Queries, Heights, Blocks, Fault, Full, Want_of_memory}
+use Rattle.ledger_model.specs.Values.{Value}
+use Rattle.commit_board.specs.Seats.{ReadAtOnce}
+use Rattle.replica_core.specs.Facts.{block_at}
+use Rattle.locked_replica.specs.States.{StateView}
+use Rattle.replica_turns.specs.Clients.{is_tx_len, submit_events}
+use Rattle.replica_turns.specs.Turns.{GoesOn, Takes}
+
+-- a replica took the transaction: its history grew by that event and no other, and the answer is its pool's, by the history before
+pub record IsSubmitted (tx : List ℕ) (answer : Result (Unit {0}) SubmitRefusal) : Type 0 where
+  pub old : StateView
+  pub new : StateView
+  pub went : GoesOn old new
+  pub took : Takes old.entries (submit_events tx) new.entries
+  pub answered : answer ≡ submit_reply old.config old.id old.entries tx
+
+-- a replica took the query: its history grew by that event and no other, and the answer is its application's, as of the last block;
+-- a key that is too long has no value, and is no event
+pub record IsQueried (key : List ℕ) (answer : QueryAnswer) : Type 0 where
+  pub old : StateView
+  pub new : StateView
+  pub went : GoesOn old new
+  pub took : length key ≤ 64 → Takes old.entries (event.Query key 0 ∷ []) new.entries
+  pub answered : length key ≤ 64 → Ok answer ≡ query_reply old.config.kind (commits_of old.config old.id old.entries) key 0
+  pub long_same : 64 < length key → new ≡ old
+  pub long : 64 < length key → answer ≡ record { height = length (commits_of old.config old.id old.entries); value = None }
+
+-- a replica with a lawful history had committed this batch at the height, or none
+pub record IsCommitted (height : ℕ) (answer : Option Value) : Type 0 where
+  pub state : StateView
+  pub replay : Replay state.config state.ring state.id state.entries
+  pub answered : answer ≡ block_at (commits_of state.config state.id state.entries) height
+
+-- what an answer to a transaction says; only a transaction that a pool may take is refused by a fault
+abbrev pub AnswersSubmit : List ℕ → Result (Result (Unit {0}) SubmitRefusal) Fault → Type 0
+AnswersSubmit tx (Ok answer) = IsSubmitted tx answer
+AnswersSubmit tx (Err fault) = is_tx_len tx ≡ true
+
+-- what an answer to a query says; a history is too full for a key that is short enough alone
+abbrev pub AnswersQuery : List ℕ → Result QueryAnswer Fault → Type 0
+AnswersQuery key (Ok answer) = IsQueried key answer
+AnswersQuery key (Err Full) = length key ≤ 64
+AnswersQuery key (Err Want_of_memory) = ⊤
+
+-- what an answer about a block says; a history is never too full for it
+abbrev pub AnswersBlock : ℕ → Result (Option Value) Fault → Type 0
+AnswersBlock height (Ok answer) = IsCommitted height answer
+AnswersBlock height (Err Full) = ⊥
+AnswersBlock height (Err Want_of_memory) = ⊤
+
+-- the exchange is with the replicas of a running cluster; the session's seat of the board had found some heights before, and then
+-- these: one more where it was asked for the height, which was on the board at one step
+abbrev pub IsExchange : List (ℕ × ℕ) → Exchange → List (ℕ × ℕ) → Type 0
+IsExchange before (Submits r tx answer) after = AnswersSubmit tx answer × (after ≡ before)
+IsExchange before (Queries r key answer) after = AnswersQuery key answer × (after ≡ before)
+IsExchange before (Heights r height) after = ReadAtOnce before r height after
+IsExchange before (Blocks r height answer) after = AnswersBlock height answer × (after ≡ before)

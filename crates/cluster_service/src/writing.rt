@@ -1,0 +1,32 @@
+//! Writes and flushes the lines of a cluster.
+ghost use Rattle.byte_streams.specs.Writing.{Writes};
+ghost use Rattle.cluster_service.specs.Reporting.{commit_lines, port_line};
+
+use crate::lines::{commit_lines, port_line};
+use program_streams::{ProgramFault, flush_output, write_output};
+use std::alloc::Global;
+use std::io::Write;
+
+/// Writes a line for each replica.
+pub fn write_commits<W: Write>(
+    alloc: Global,
+    heights: &[u32],
+    writer: &mut W,
+) -> Result<(), ProgramFault>
+    ensures { Writes result (W.contents writer.old) (W.contents writer.new) (commit_lines 0 heights.now) }
+{
+    let text = commit_lines(alloc, heights)?;
+    write_output(writer, text.as_bytes())?;
+    flush_output(writer)?;
+    Ok(())
+}
+
+/// Writes the line with the port, and flushes it, so that its reader has it at once.
+pub fn write_port<W: Write>(alloc: Global, port: u16, writer: &mut W) -> Result<(), ProgramFault>
+    ensures { Writes result (W.contents writer.old) (W.contents writer.new) (port_line port) }
+{
+    let line = port_line(alloc, port)?;
+    write_output(writer, line.as_bytes())?;
+    flush_output(writer)?;
+    Ok(())
+}

@@ -1,0 +1,39 @@
+use Rattle.std.proofs.Common.{◌≡◌, ◌++◌, ◌∷◌, [], sym, ap, ◌∙◌, rules, arith}
+use Rattle.std.specs.Arc.{arc_value}
+use Rattle.std.specs.Vec.Iter.{into_iter_items}
+use Rattle.std.proofs.lemmas.Grind.{common_steps}
+use Rattle.std.proofs.lemmas.List.FromFn.{map-range_with_len_more}
+use Rattle.commit_board.specs.Seats.{WriterSeatView}
+use Rattle.cluster_workers.specs.RunningClusters.{WorkerView, all_workers}
+use Rattle.cluster_workers.proofs.SeatsLeft.{one_taken}
+use Rattle.cluster_workers.proofs.running_cluster.workers_of.Goals as goal
+
+pub new-turn_taker-requires : goal.new-turn_taker-requires
+new-turn_taker-requires g c =
+    let taken = one_taken (arc_value c.args.board.now) c.args.count c.loop-number.number (into_iter_items c.loop-number.seats)
+    c.in-Some.seat (into_iter_items c.next.new.self) c.loop-number-test.true
+    c.loop-number.invariant.seats c.in-Some.ensures.cases.0 in
+    let board = ap (λ (w : WriterSeatView). w.board) taken.0 in
+    cc (board, c.in_ok-try_clone.ensures)
+
+pub loop-number-preserved : goal.loop-number-preserved
+loop-number-preserved g c =
+    let rounds = c.args.rounds in
+    let number = c.loop-number.number in
+    let taken = one_taken (arc_value c.args.board.now) c.args.count number (into_iter_items c.loop-number.seats) c.in-Some.seat
+    (into_iter_items c.next.new.self) c.loop-number-test.true
+    c.loop-number.invariant.seats c.in-Some.ensures.cases.0 in
+    let worker : WorkerView = c.new.result in
+    let grown : c.push.new.self.items ≡ c.loop-number.workers.items ++ worker ∷ [] = search rules in
+    let own = ap (λ (w : WriterSeatView). w.replica) taken.0 in
+    let turn_taker = ap (λ (w : WriterSeatView). w.replica) c.new-turn_taker.ensures in
+    let is : worker ≡ record { replica = number; rounds = rounds } =
+    c.new.ensures ∙ ap (λ k. record { replica = k; rounds = rounds }) (turn_taker ∙ own) in
+    record {
+      workers = grown ∙ ap (λ l. l ++ worker ∷ []) c.loop-number.invariant.workers
+          ∙ ap (λ k. all_workers number rounds ++ k ∷ []) is
+          ∙ sym (map-range_with_len_more (λ r. record { replica = r; rounds = rounds }) 0 number number (omega arith));
+      seats = taken.1;
+      receivers = grind (arith, common_steps);
+      senders = grind (arith, common_steps);
+    }

@@ -1,0 +1,22 @@
+-- A running cluster as contracts see it.
+use Rattle.std.specs.Prelude.{◌≡◌, ℕ, List, map}
+use Rattle.std.specs.List.{range_with_len}
+use Rattle.commit_board.specs.Seats.{BoardId, WriterSeatView, new_writer}
+
+-- the number of its replicas, and the board of their heights
+pub record RunningClusterView : Type 0 where
+  pub replicas : ℕ
+  pub board : BoardId
+
+-- the seats of `count` replicas from number `first` on, in order, through which nothing was published
+abbrev pub AreDealt : BoardId → ℕ → ℕ → List WriterSeatView → Type 0
+AreDealt board first count seats = seats ≡ map (λ r. new_writer board r) (range_with_len first count)
+
+-- a worker: its replica's number, and the number of rounds that it ends
+pub record WorkerView : Type 0 where
+  pub replica : ℕ
+  pub rounds : ℕ
+
+-- a worker for each of n replicas, by number
+abbrev pub all_workers : ℕ → ℕ → List WorkerView
+all_workers replicas rounds = map (λ r. record { replica = r; rounds = rounds }) (range_with_len 0 replicas)

@@ -1,0 +1,142 @@
+//! The ends of inboxes that a worker holds: it takes from its own inbox, and puts into those of all replicas.
+ghost use Rattle.std.specs.Prelude.{◌≡◌, length, vec_len, IfOk};
+ghost use Rattle.std.specs.Arc.{arc_value};
+
+use crate::bell::Bell;
+use bytes::Bytes;
+use inbox::{Inbox, Item, PuttingPass, TakingPass};
+use ledger_model::ReplicaId;
+use std::alloc::{AllocError, Global};
+use std::sync::{Arc, Wait};
+use std::time::Duration;
+
+/// An inbox with the right to take from it, and the bell that rings for each frame put into it.
+#[derive(Drop)]
+pub(crate) struct Receiver {
+    inbox: Arc<Inbox>,
+    bell: Arc<Bell>,
+    pass: TakingPass,
+    ghost tied: { pass.inbox ≡ arc_value inbox },
+}
+
+/// The inbox of a replica, with a right to put into it.
+#[derive(Drop)]
+pub(crate) struct Sender {
+    to: ReplicaId,
+    inbox: Arc<Inbox>,
+    bell: Arc<Bell>,
+    pass: PuttingPass,
+    ghost tied: { pass.inbox ≡ arc_value inbox },
+}
+
+impl Receiver {
+    /// Takes the oldest frame, if there is one.
+    pub(crate) fn take<R: Wait>(&mut self, rt: &R) -> Option<Bytes> {
+        let item = self.inbox.take(rt, &mut self.pass)?;
+        Some(item.into_bytes())
+    }
+
+    /// The number of frames that were put in, modulo 2^32.
+    pub(crate) fn rings(&self) -> u32 {
+        self.bell.rings()
+    }
+
+    /// Sleeps until the bell's count differs from `rings`, at most for `most`. It may return earlier.
+    pub(crate) fn sleep<R: Wait>(&self, rt: &R, rings: u32, most: Duration) {
+        self.bell.sleep(rt, rings, most);
+    }
+}
+
+impl Sender {
+    /// The replica whose inbox it is.
+    pub(crate) fn to(&self) -> ReplicaId
+        ensures { result ≡ self.now.to }
+    {
+        self.to
+    }
+
+    /// Puts a frame in without copying its bytes, and wakes the taker. Returns false if the frame is lost: the inbox
+    /// was full, or memory ran out.
+    pub(crate) fn send<R: Wait>(&mut self, rt: &R, frame: &Bytes) -> bool {
+        let Ok(bytes) = frame.clone() else {
+            return false;
+        };
+        let item = Item::new(self.pass.number(), bytes);
+        let is_put = self.inbox.put(rt, &mut self.pass, item).is_ok();
+        if is_put {
+            self.bell.ring();
+        }
+        is_put
+    }
+}
+
+/// A new inbox of the replica `to`: the end to take from, and for each of `owners` owners an end to put into, by number.
+fn new_inbox(
+    alloc: Global,
+    to: ReplicaId,
+    owners: u8,
+) -> Result<(Receiver, Vec<Sender>), AllocError> {
+    let (inbox, taking, putting) = Inbox::new(alloc, u32::from(owners))?;
+    let inbox = Arc::new(alloc, inbox)?;
+    let bell = Arc::new(alloc, Bell::new())?;
+    let mut senders = Vec::with_capacity(alloc, usize::from(owners))?;
+    for pass in putting {
+        senders.push(Sender {
+            to,
+            inbox: Arc::try_clone(&inbox)?,
+            bell: Arc::try_clone(&bell)?,
+            pass,
+        })?;
+    }
+    Ok((
+        Receiver {
+            inbox,
+            bell,
+            pass: taking,
+        },
+        senders,
+    ))
+}
+
+/// Appends the next sender to each owner's senders, in order.
+fn add_row(owners: &mut [Vec<Sender>], row: Vec<Sender>) -> Result<(), AllocError>
+    ensures { length owners.new ≡ length owners.old }
+{
+    for (senders, sender) in owners.iter_mut().zip(row) {
+        senders.push(sender)?;
+    }
+    Ok(())
+}
+
+/// The inboxes of all replicas: the end that each replica takes from, and the ends that each replica puts into.
+#[derive(Drop)]
+pub(crate) struct Inboxes {
+    pub(crate) receivers: Vec<Receiver>,
+    pub(crate) senders: Vec<Vec<Sender>>,
+}
+
+/// `owners` owners with no sender.
+fn no_senders(alloc: Global, owners: u8) -> Result<Vec<Vec<Sender>>, AllocError>
+    ensures { IfOk result (λ senders. vec_len senders ≡ owners) }
+{
+    let mut senders = Vec::with_capacity(alloc, usize::from(owners))?;
+    for _owner in 0..owners {
+        senders.push(Vec::new(alloc))?;
+    }
+    Ok(senders)
+}
+
+/// The inboxes of `replicas` replicas.
+pub(crate) fn inboxes_of(alloc: Global, replicas: u8) -> Result<Inboxes, AllocError>
+    ensures receivers { IfOk result (λ inboxes. vec_len inboxes.receivers ≡ replicas) }
+    ensures senders { IfOk result (λ inboxes. vec_len inboxes.senders ≡ replicas) }
+{
+    let mut receivers = Vec::with_capacity(alloc, usize::from(replicas))?;
+    let mut senders = no_senders(alloc, replicas)?;
+    for to in 0..replicas {
+        let (receiver, row) = new_inbox(alloc, ReplicaId::new(to), replicas)?;
+        receivers.push(receiver)?;
+        add_row(&mut senders, row)?;
+    }
+    Ok(Inboxes { receivers, senders })
+}

@@ -1,0 +1,146 @@
+//! A running cluster: what its workers share.
+ghost use Rattle.std.specs.Prelude.{◌≡◌, length, vec_len, IfOk};
+ghost use Rattle.std.specs.Arc.{arc_value};
+ghost use Rattle.cluster_workers.specs.RunningClusters.{AreDealt, all_workers};
+
+use crate::inboxes::{Inboxes, inboxes_of};
+use crate::turn_taker::TurnTaker;
+use crate::worker::Worker;
+use abci::Application;
+use commit_board::{Board, ReaderSeat, WriterSeat};
+use ledger_model::{Config, ReplicaId};
+use locked_replica::State;
+use replica_turns::LockedReplica;
+use std::alloc::{AllocError, Global};
+use std::marker::Model;
+use std::sync::{Arc, Mutex};
+
+/// The replicas of a running cluster by number, and the board of their heights. Threads share it by `&`.
+pub struct RunningCluster<A: Application> {
+    replicas: Vec<Arc<LockedReplica<A>>>,
+    board: Arc<Board>,
+}
+
+// An own `Drop` keeps proofs short: an owner drops it by one call. See docs/WORKING.md.
+impl<A: Application> Drop for RunningCluster<A> {
+    fn drop(self) {
+        let RunningCluster {
+            replicas: _replicas,
+            board: _board,
+        } = self;
+    }
+}
+
+impl<A: Application> Model for RunningCluster<A> {
+    ghost use Rattle.std.specs.Prelude.{◌≡◌, ◌<◌, vec_len};
+    ghost use Rattle.std.specs.Arc.{arc_value};
+    ghost use Rattle.commit_board.specs.Seats.{replicas_of};
+    ghost use Rattle.cluster_workers.specs.RunningClusters.{RunningClusterView};
+
+    ghost Value = { RunningClusterView };
+
+    ghost view = { λ c. record { replicas = vec_len c.replicas; board = arc_value c.board } };
+
+    ghost invariant = { λ c. (vec_len c.replicas ≡ replicas_of (arc_value c.board)) × (0 < vec_len c.replicas) };
+}
+
+/// The replicas, each behind a lock, in order.
+fn lock_all<A: Application>(
+    alloc: Global,
+    states: Vec<State<A>>,
+) -> Result<Vec<Arc<LockedReplica<A>>>, AllocError>
+    ensures { IfOk result (λ replicas. vec_len replicas ≡ vec_len states) }
+{
+    let mut replicas = Vec::with_capacity(alloc, states.len())?;
+    for state in states {
+        replicas.push(Arc::new(alloc, Mutex::new(state))?)?;
+    }
+    Ok(replicas)
+}
+
+/// The workers of these replicas, by number. The seats of the board are in the same order. Each worker ends `rounds` rounds.
+fn workers_of<A: Application>(
+    alloc: Global,
+    board: &Arc<Board>,
+    seats: Vec<WriterSeat>,
+    replicas: &[Arc<LockedReplica<A>>],
+    count: u8,
+    rounds: u32,
+) -> Result<Vec<Worker<A>>, AllocError>
+    requires seats { AreDealt (arc_value board.now) 0 count seats.items }
+    requires replicas { length replicas.now ≡ count }
+    ensures { IfOk result (λ workers. workers.items ≡ all_workers count rounds) }
+{
+    let Inboxes { receivers, senders } = inboxes_of(alloc, count)?;
+    let mut seats = seats.into_iter();
+    let mut receivers = receivers.into_iter();
+    let mut senders = senders.into_iter();
+    let mut workers = Vec::with_capacity(alloc, usize::from(count))?;
+    for number in 0..count {
+        let Some(seat) = seats.next() else {
+            unreachable!();
+        };
+        let Some(receiver) = receivers.next() else {
+            unreachable!();
+        };
+        let Some(senders) = senders.next() else {
+            unreachable!();
+        };
+        let replica = Arc::try_clone(&replicas[usize::from(number)])?;
+        let turn_taker = TurnTaker::new(Arc::try_clone(board)?, seat);
+        workers.push(Worker::new(alloc, replica, turn_taker, receiver, senders, rounds))?;
+    }
+    Ok(workers)
+}
+
+impl<A: Application> RunningCluster<A> {
+    ghost use Rattle.std.specs.Prelude.{ℕ, ◌<◌, Some, slice_get};
+    ghost use Rattle.commit_board.specs.Seats.{replicas_of, new_reader};
+
+    /// The cluster of these replicas, a worker for each, which ends `rounds` rounds, and `readers` readers' seats of
+    /// the board. The replicas must be in ascending order of their numbers, from 0 on; a worker drops its events if its
+    /// replica has another number. The only error is allocation failure.
+    pub fn new(
+        alloc: Global,
+        config: &Config,
+        states: Vec<State<A>>,
+        rounds: u32,
+        readers: u32,
+    ) -> Result<(RunningCluster<A>, Vec<Worker<A>>, Vec<ReaderSeat>), AllocError>
+        requires { vec_len states ≡ config.now.replicas }
+        ensures replicas { IfOk result (λ r. r.0.replicas ≡ config.now.replicas) }
+        // The worker of each replica, by number.
+        ensures workers { IfOk result (λ r. r.1.items ≡ all_workers config.now.replicas rounds) }
+        ensures reader_count { IfOk result (λ r. vec_len r.2 ≡ readers) }
+        ensures readers { IfOk result (λ r. (k : ℕ) → k < readers → slice_get r.2.items k ≡ Some (new_reader r.0.board)) }
+    {
+        let (board, seats, reading) = Board::new(alloc, config, readers)?;
+        let board = Arc::new(alloc, board)?;
+        let replicas = lock_all(alloc, states)?;
+        let workers = workers_of(alloc, &board, seats, &replicas, config.replicas, rounds)?;
+        Ok((RunningCluster { replicas, board }, workers, reading))
+    }
+
+    /// The number of replicas.
+    pub fn len(&self) -> usize
+        ensures len { result ≡ self.now.replicas }
+        ensures some { 0 < result }
+    {
+        self.replicas.len()
+    }
+
+    /// The replica with this number. Locking it waits until no other thread has it locked.
+    pub fn replica(&self, id: ReplicaId) -> &LockedReplica<A>
+        requires { id < self.now.replicas }
+    {
+        &self.replicas[usize::from(id.number())]
+    }
+
+    /// The board of the committed heights.
+    pub fn board(&self) -> &Board
+        ensures board { result.now ≡ self.now.board }
+        ensures replicas { self.now.replicas ≡ replicas_of self.now.board }
+    {
+        &self.board
+    }
+}

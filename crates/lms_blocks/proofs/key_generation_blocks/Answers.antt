@@ -1,5 +1,0 @@
-use Rattle.std.proofs.Common.{rules}
-use Rattle.lms_blocks.proofs.key_generation_blocks.Goals as goal
-
-pub returns : goal.returns
-returns c = search rules

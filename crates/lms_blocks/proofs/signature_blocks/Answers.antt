@@ -1,5 +1,0 @@
-use Rattle.std.proofs.Common.{rules}
-use Rattle.lms_blocks.proofs.signature_blocks.Goals as goal
-
-pub returns-clause-signing : goal.returns-clause-signing
-returns-clause-signing c = search rules

@@ -1,7 +1,0 @@
--- what is gone from `left` was written
-use Rattle.std.proofs.Common.{◌≡◌, ℕ, List, ◌++◌}
-use Rattle.std.specs.Io.KnownBytes.{Appends}
-use Rattle.program_streams.proofs.writing.write_whole.Given as goal
-
-abbrev pub invariant-loop : goal.invariant-loop
-invariant-loop g l = (done : List ℕ) × ((l.initial.left ≡ done ++ l.left) × Appends (g.W.Write.contents l.initial.writer) (g.W.Write.contents l.writer) done)

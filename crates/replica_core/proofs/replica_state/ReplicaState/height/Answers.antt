@@ -1,0 +1,18 @@
+use Rattle.std.proofs.Common.{◌≡◌, ◌≤◌, subst, sym, ◌∙◌, length}
+use Rattle.ledger_model.specs.Limits.{max_height}
+use Rattle.replica_core.proofs.Machines.{height_is}
+use Rattle.replica_core.proofs.replica_state.ReplicaState.height.Goals as goal
+
+-- src/replica_state.rt:84:5
+pub returns-clause-height : goal.returns-clause-height
+returns-clause-height g c = rw (sym c.self.view_is)
+    (c.height.ensures.height ∙ height_is (c.self.inside.executor) (c.self.inside.config.kind) (c.self.inside.committed.items)
+    (c.self.invariant.3))
+
+-- src/replica_state.rt:84:5
+pub returns-clause-most : goal.returns-clause-most
+returns-clause-most g c =
+    let height : c.height.result ≡ length c.self.inside.committed.items =
+    c.height.ensures.height ∙ height_is (c.self.inside.executor) (c.self.inside.config.kind) (c.self.inside.committed.items)
+    (c.self.invariant.3) in
+    subst (λ n. n ≤ max_height) (sym height) (c.self.invariant.4)

@@ -1,0 +1,40 @@
+use Rattle.std.proofs.Common.{◌≡◌, ◌∙◌, ap, [], false, arith}
+use Rattle.ledger_model.specs.Applications.{run}
+use Rattle.height_row.specs.Heights.{HeightRowView}
+use Rattle.replica_core.proofs.Machines.{kind_is, reached}
+use Rattle.replica_core.proofs.replica_state.ReplicaState.new.Goals as goal
+
+-- src/replica_state.rt:75:23
+pub new-requires : goal.new-requires
+new-requires g c = reached (g.A.Application.machine c.args.app) (c.args.config.kind) [] (c.requires.opening)
+
+-- src/replica_state.rt:69:9
+pub invariant_of-result : goal.invariant_of-result
+invariant_of-result g c = rw c.new-4.ensures.items (
+  c.requires.member,
+  ap (λ (x : HeightRowView). x.config) (c.new-2.ensures.row),
+  ap (λ (x : HeightRowView). x.id) (c.new-2.ensures.row),
+  c.in_ok-executor.ensures ∙ ap (λ k. run k []) (kind_is (g.A.Application.machine c.args.app) (c.args.config.kind) [] (c.requires.opening)),
+  omega arith,
+  omega arith,
+)
+
+-- src/replica_state.rt:59:5
+pub returns : goal.returns
+returns g c =
+    let rows : c.new-2.result.rows ≡ [] = ap (λ (x : HeightRowView). x.rows) c.new-2.ensures.row in
+    let commits : c.new-4.result.items ≡ [] = c.new-4.ensures.items in
+    let machine : c.in_ok-executor.executor ≡ run c.args.config.kind [] =
+    c.in_ok-executor.ensures ∙ ap (λ k. run k [])
+    (kind_is (g.A.Application.machine c.args.app) (c.args.config.kind) [] (c.requires.opening)) in
+    λ i. record {
+      config = c.args.config;
+      id = c.args.id;
+      ring = c.args.ring;
+      rows = rows i;
+      pool = c.new-3.ensures i;
+      commits = commits i;
+      machine = machine i;
+      clock = 0;
+      mute = false;
+    }

@@ -1,0 +1,30 @@
+use Rattle.std.proofs.Common.{◌≡◌, true, subst, refl, sym}
+use Rattle.std.specs.Prelude.{Some, is_some}
+use Rattle.ledger_model.specs.Logs.{height_of}
+use Rattle.instance.specs.Instances.{InstanceView}
+use Rattle.height_row.specs.Heights.{row_at}
+use Rattle.replica_core.specs.ReplicaStates.{ReplicaStateView}
+use Rattle.replica_core.proofs.Delivers.{judged_there}
+use Rattle.replica_core.proofs.replica_state.ReplicaState.read.Goals as goal
+
+-- src/delivering.rt:38:5
+pub returns-clause-step : goal.returns-clause-step
+returns-clause-step g c =
+    let held : ReplicaStateView = record {
+      config = c.self.inside.config;
+      id = c.self.inside.id;
+      ring = c.self.inside.ring;
+      rows = c.self.inside.rows.rows;
+      pool = c.self.inside.pool;
+      commits = c.self.inside.committed.items;
+      machine = c.self.inside.executor;
+      clock = c.self.inside.clock;
+      mute = c.self.inside.mute;
+    } in
+    rw (sym c.self.view_is)
+    (judged_there held c.args.frame c.self.inside.rows c.read.new.self c.read.result refl
+    (subst (λ (x : ReplicaStateView). is_some (row_at x.rows (height_of c.args.frame.statement)) ≡ true) (sym c.self.view_is)
+    c.requires.there)
+    (subst (λ (x : ReplicaStateView). (row : InstanceView) → row_at x.rows (height_of c.args.frame.statement) ≡ Some row → row.config
+    ≡ x.config) (sym c.self.view_is) c.requires.own)
+    c.read.ensures.answer c.read.ensures.read c.read.ensures.ignored c.read.ensures.open c.read.ensures.apart)

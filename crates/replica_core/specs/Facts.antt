@@ -1,0 +1,14 @@
+-- What a replica's core returns about itself: its blocks by height, and its application.
+use Rattle.std.specs.Prelude.{ℕ, ◌-◌, ◌==◌, List, length, Option, None, slice_get, if◌then◌else◌}
+use Rattle.ledger_model.specs.declared.config.AppKind.{AppKind}
+use Rattle.ledger_model.specs.Values.{Value}
+use Rattle.ledger_model.specs.Applications.{hash_of}
+use Rattle.abci.specs.declared.info.Info.{Info}
+
+-- the committed batch of a height; None at height 0 and above the committed height
+abbrev pub block_at : List Value → ℕ → Option Value
+block_at commits h = if h == 0 then None else slice_get commits (h - 1)
+
+-- what the application returns for Info after it ran alone on the batches
+abbrev pub info_reply : AppKind → List Value → Info
+info_reply kind batches = record { height = length batches; hash = hash_of kind batches }

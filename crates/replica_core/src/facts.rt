@@ -1,0 +1,159 @@
+//! The accessors of a replica's core. None of them changes it.
+use crate::replica::Core;
+use crate::replica_state::ReplicaState;
+use abci::{Application, Info};
+use key_ring::KeyRing;
+use ledger_model::{Batch, Config, Height, ReplicaId};
+
+impl<A: Application> ReplicaState<A> {
+    ghost use Rattle.std.specs.Prelude.{◌≡◌, ◌<◌, ◌≤◌};
+    ghost use Rattle.std.specs.Option.{option_copied};
+    ghost use Rattle.ledger_model.specs.Limits.{last_round};
+    ghost use Rattle.height_row.specs.Heights.{row_at, decided_in};
+    ghost use Rattle.replica_core.specs.ReplicaStates.{IsOneCluster};
+    ghost use Rattle.replica_core.specs.Facts.{block_at, info_reply};
+
+    fn id(&self) -> ReplicaId
+        ensures id { result ≡ self.now.id }
+        ensures member { self.now.id < self.now.config.replicas }
+    {
+        self.id
+    }
+
+    fn config(&self) -> &Config
+        ensures { result.now ≡ self.now.config }
+    {
+        &self.config
+    }
+
+    fn ring(&self) -> &KeyRing
+        ensures { result.now ≡ self.now.ring }
+    {
+        &self.ring
+    }
+
+    pub(crate) fn clock(&self) -> u32
+        ensures clock { result ≡ self.now.clock }
+        ensures early { result ≤ last_round }
+    {
+        self.clock
+    }
+
+    pub(crate) fn block(&self, height: Height) -> Option<&Batch>
+        ensures { option_copied result ≡ block_at self.now.commits height }
+    {
+        let number = height.number() as usize;
+        if number == 0 {
+            return None;
+        }
+        self.committed.get(number - 1)
+    }
+
+    fn decided_at(&self, height: Height) -> Option<&Batch>
+        ensures row { option_copied result ≡ decided_in (row_at self.now.rows height) }
+        ensures one { IsOneCluster self.now }
+    {
+        self.rows.decided_at(height)
+    }
+
+    fn info(&self) -> Info
+        ensures { result ≡ info_reply self.now.config.kind self.now.commits }
+    {
+        self.executor.info()
+    }
+}
+
+impl<A: Application> Core<A> {
+    ghost use Rattle.std.specs.Prelude.{◌≡◌, ◌<◌, ◌≤◌, ◌+◌, List, Some, length, slice_get};
+    ghost use Rattle.std.specs.Option.{option_copied};
+    ghost use Rattle.ledger_model.specs.declared.history.Entry.{Entry};
+    ghost use Rattle.ledger_model.specs.Limits.{max_height, last_round};
+    ghost use Rattle.ledger_model.specs.Commits.{decided_at};
+    ghost use Rattle.key_ring.specs.Signers.{key_of, leaves_of};
+    ghost use Rattle.height_row.specs.Heights.{row_at, decided_in};
+    ghost use Rattle.replica_core.specs.ReplicaStates.{MatchesHistory};
+    ghost use Rattle.replica_core.specs.Leaves.{due_by};
+    ghost use Rattle.replica_core.specs.Cores.{due_then};
+    ghost use Rattle.replica_core.specs.Facts.{block_at, info_reply};
+
+    /// The number of the replica.
+    pub fn id(&self) -> ReplicaId
+        ensures id { result ≡ self.now.held.id }
+        ensures member { self.now.held.id < self.now.held.config.replicas }
+        // The ring has the replica's own key at its number.
+        ensures own_key { slice_get self.now.held.ring self.now.held.id ≡ Some (key_of self.now.keys.secret) }
+    {
+        self.kept.id()
+    }
+
+    /// The configuration of its cluster.
+    pub fn config(&self) -> &Config
+        ensures { result.now ≡ self.now.held.config }
+    {
+        self.kept.config()
+    }
+
+    /// The public keys of the replicas, by number.
+    pub fn ring(&self) -> &KeyRing
+        ensures { result.now ≡ self.now.held.ring }
+    {
+        self.kept.ring()
+    }
+
+    /// The number of the open round, 0 before the first.
+    pub fn clock(&self) -> u32
+        ensures clock { result ≡ self.now.held.clock }
+        ensures early { result ≤ last_round }
+    {
+        self.kept.clock()
+    }
+
+    /// Whether the replica is mute: it will never sign a statement again.
+    pub fn is_mute(&self) -> bool
+        ensures mute { result ≡ self.now.held.mute }
+        // The next round end has as many statements to sign as every matched history makes due.
+        ensures due { (entries : List Entry) → MatchesHistory self.now.held entries
+            → due_then self.now ≡ due_by self.now.held.config self.now.held.id entries }
+    {
+        self.kept.is_mute()
+    }
+
+    /// The number of statements that the replica can still sign.
+    pub fn leaves_left(&self) -> u32
+        ensures { self.now.keys.used + result ≡ leaves_of self.now.keys.secret }
+    {
+        self.signer.leaves_left()
+    }
+
+    /// The number of committed blocks.
+    pub fn height(&self) -> u32
+        ensures height { result ≡ length self.now.held.commits }
+        ensures most { result ≤ max_height }
+    {
+        self.kept.height()
+    }
+
+    /// The number of blocks that the application committed, and the hash of its state (ABCI's Info).
+    pub fn info(&self) -> Info
+        ensures { result ≡ info_reply self.now.held.config.kind self.now.held.commits }
+    {
+        self.kept.info()
+    }
+
+    /// The committed batch of a height; `None` at height 0 and above the committed height.
+    pub fn block(&self, height: Height) -> Option<&Batch>
+        ensures { option_copied result ≡ block_at self.now.held.commits height }
+    {
+        self.kept.block(height)
+    }
+
+    /// The batch that was decided at a height, committed or not; `None` if none was.
+    pub fn decided_at(&self, height: Height) -> Option<&Batch>
+        ensures row { option_copied result ≡ decided_in (row_at self.now.held.rows height) }
+        // It is the batch that every matched history decided.
+        ensures decided { (entries : List Entry) → MatchesHistory self.now.held entries
+            → option_copied result ≡ decided_at self.now.held.config self.now.held.id entries height }
+    {
+        self.kept.decided_at(height)
+    }
+}

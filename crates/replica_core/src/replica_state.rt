@@ -1,0 +1,110 @@
+//! What a replica derives from its history.
+use abci::Application;
+use abci_executor::Executor;
+use batch_pool::Pool;
+use height_row::HeightRow;
+use key_ring::KeyRing;
+use ledger_model::{Batch, Config, ReplicaId};
+use std::alloc::{AllocError, Global};
+use std::hash::RandomState;
+use std::marker::Model;
+
+/// The open heights, the pool, the application and what was committed to it, the open round, and whether the replica is mute.
+/// Contracts see a `ReplicaStateView`.
+pub(crate) struct ReplicaState<A: Application> {
+    pub(crate) config: Config,
+    pub(crate) id: ReplicaId,
+    pub(crate) ring: KeyRing,
+    pub(crate) rows: HeightRow,
+    pub(crate) pool: Pool,
+    pub(crate) executor: Executor<A>,
+    pub(crate) committed: Vec<Batch>,
+    pub(crate) clock: u32,
+    pub(crate) mute: bool,
+}
+
+// An own `Drop` keeps proofs short: an owner drops it by one call. See docs/WORKING.md.
+impl<A: Application> Drop for ReplicaState<A> {
+    fn drop(self) {
+        let ReplicaState {
+            config: _config,
+            id: _id,
+            ring: _ring,
+            rows: _rows,
+            pool: _pool,
+            executor: _executor,
+            committed: _committed,
+            clock: _clock,
+            mute: _mute,
+        } = self;
+    }
+}
+
+impl<A: Application> Model for ReplicaState<A> {
+    ghost use Rattle.std.specs.Prelude.{◌≡◌, ◌<◌, ◌≤◌, length};
+    ghost use Rattle.ledger_model.specs.Limits.{max_height, last_round};
+    ghost use Rattle.ledger_model.specs.Applications.{run};
+    ghost use Rattle.replica_core.specs.ReplicaStates.{ReplicaStateView};
+
+    ghost Value = { ReplicaStateView };
+
+    ghost view = { λ k. record {
+      config = k.config;
+      id = k.id;
+      ring = k.ring;
+      rows = k.rows.rows;
+      pool = k.pool;
+      commits = k.committed.items;
+      machine = k.executor;
+      clock = k.clock;
+      mute = k.mute;
+    } };
+
+    ghost invariant = { λ k. (k.id < k.config.replicas) × (k.rows.config ≡ k.config) × (k.rows.id ≡ k.id)
+        × (k.executor ≡ run k.config.kind k.committed.items)
+        × (length k.committed.items ≤ max_height) × (k.clock ≤ last_round) };
+}
+
+impl<A: Application> ReplicaState<A> {
+    ghost use Rattle.std.specs.Prelude.{◌≡◌, ◌<◌, ◌≤◌, [], length, IfOk};
+    ghost use Rattle.ledger_model.specs.Limits.{max_height};
+    ghost use Rattle.ledger_model.specs.Applications.{run};
+    ghost use Rattle.replica_core.specs.ReplicaStates.{new_replica_state};
+
+    /// The state before the first event. The application must be in its opening state, of the configured kind.
+    pub(crate) fn new(
+        alloc: Global,
+        config: Config,
+        id: ReplicaId,
+        ring: KeyRing,
+        app: A,
+        random: RandomState,
+    ) -> Result<Self, AllocError>
+        requires member { id < config.replicas }
+        requires opening { A.machine app ≡ run config.kind [] }
+        ensures { IfOk result (λ kept. kept ≡ new_replica_state config id ring) }
+    {
+        let executor = Executor::new(app)?;
+        Ok(ReplicaState {
+            config,
+            id,
+            ring,
+            rows: HeightRow::new(alloc, &config, id),
+            pool: Pool::new(alloc, random),
+            executor,
+            committed: Vec::new(alloc),
+            clock: 0,
+            mute: false,
+        })
+    }
+
+    /// The number of committed blocks.
+    pub(crate) fn height(&self) -> u32
+        ensures height { result ≡ length self.now.commits }
+        ensures most { result ≤ max_height }
+    {
+        // This read opens the invariant for the proof: the application ran as many blocks.
+        let _ = &self.config;
+        self.executor.height()
+    }
+}

@@ -1,5 +1,0 @@
-use Rattle.std.proofs.Common.{rules}
-use Rattle.replica_turns.proofs.own.own_of.Goals as goal
-
-pub returns : goal.returns
-returns g c = search rules

@@ -1,0 +1,52 @@
+-- What a replica does by itself next, and the events of its turn.
+use Rattle.std.specs.Prelude.{ℕ, ◌+◌, nat_lt, nat_le, Bool, ◌&&◌, List, [], ◌∷◌, ◌++◌, map, Option, Some, None, is_some, Ok, if◌then◌else◌}
+use Rattle.ledger_model.specs.declared.event.Event.{Event}
+use Rattle.ledger_model.specs.declared.event.Event.TheVariants as event
+use Rattle.ledger_model.specs.declared.history.Entry.{Entry}
+use Rattle.ledger_model.specs.declared.reply.Reply.{Reply}
+use Rattle.ledger_model.specs.declared.reply.Reply.TheVariants as reply
+use Rattle.ledger_model.specs.declared.reply.Sent.{Sent}
+use Rattle.ledger_model.specs.Commits.{decided_at}
+use Rattle.ledger_model.specs.Limits.{max_height}
+use Rattle.locked_replica.specs.States.{StateView}
+use Rattle.replica_turns.specs.Turns.{height_in}
+use Rattle.replica_turns.specs.declared.own_events.OwnEvents.{OwnEvents}
+
+-- the height after the committed one is decided
+abbrev pub is_next_decided : StateView → Bool
+is_next_decided r = is_some (decided_at r.config r.id r.entries (height_in r + 1))
+
+-- the next height to open: the one after the committed ones, counting the block that is run first
+abbrev pub next_open : StateView → ℕ
+next_open r = if is_next_decided r then height_in r + 2 else height_in r + 1
+
+-- that height, unless it or a greater one was proposed, or it is above the last height
+abbrev pub proposal_of : StateView → ℕ → Option ℕ
+proposal_of r proposed = if nat_lt proposed (next_open r) && nat_le (next_open r) max_height then Some (next_open r) else None
+
+-- the replica runs the decided block, if there is one, and opens the next height, if that was not proposed yet
+abbrev pub own_of : StateView → ℕ → OwnEvents
+own_of r proposed = record { is_decided = is_next_decided r; proposal = proposal_of r proposed }
+
+-- the event that opens the height, if there is one to open
+abbrev pub opening : Option ℕ → List Event
+opening None = []
+opening (Some h) = event.Propose h ∷ []
+
+-- what the replica does by itself, as events
+abbrev pub own_events : OwnEvents → List Event
+own_events own = (if own.is_decided then event.Execute ∷ [] else []) ++ opening own.proposal
+
+-- these events, followed by the delivery of each frame
+abbrev pub events_of : OwnEvents → List (List ℕ) → List Event
+events_of own frames = own_events own ++ map event.Deliver frames
+
+-- the frames that a reply sends
+abbrev pub sent_in : Reply → List Sent
+sent_in (reply.RoundEnded (Ok ended)) = ended.frames
+sent_in _ = []
+
+-- the frames that the entry sent, if there is one
+abbrev pub sent_at : Option Entry → List Sent
+sent_at None = []
+sent_at (Some e) = sent_in e.reply

@@ -1,0 +1,75 @@
+//! Decodes reports, locks and acknowledgements, each without its first byte.
+
+ghost use Rattle.std.specs.Prelude.{◌≡◌};
+ghost use Rattle.ledger_model.specs.Reading.{place_at, report_at, ack_at};
+ghost use Rattle.statements.specs.Reads.{Reads, ReadsAs};
+ghost use Rattle.statements.specs.Headers.{header_of};
+
+use crate::DecodeFault;
+use crate::fields::{take_byte, take_flag, take_positive};
+use crate::values::{take_batch, take_list};
+use ledger_model::{Ack, Height, Phase, ReplicaId, Report};
+use octets::Cursor;
+use std::alloc::Global;
+
+/// The fields that every statement starts with, after its first byte.
+#[derive(Drop)]
+pub struct Header {
+    pub height: Height,
+    pub phase: Phase,
+    pub signer: ReplicaId,
+}
+
+/// Takes a header: a height, a phase and a signer.
+#[tactic(auto, unfolding(ledger_model::specs::Reading::place_at))]
+pub fn take_place(cursor: &mut Cursor) -> Result<Header, DecodeFault>
+    ensures { ReadsAs header_of result cursor.new (place_at cursor.old) }
+{
+    let height = take_positive(cursor)?;
+    let phase = take_positive(cursor)?;
+    let signer = take_byte(cursor)?;
+    Ok(Header {
+        height: Height::new(height),
+        phase: Phase::new(phase),
+        signer: ReplicaId::new(signer),
+    })
+}
+
+/// Takes a report, without its first byte.
+#[tactic(auto, unfolding(ledger_model::specs::Reading::report_at))]
+pub fn take_report(alloc: Global, cursor: &mut Cursor) -> Result<Report, DecodeFault>
+    ensures { Reads result cursor.new (report_at cursor.old) }
+{
+    let place = take_place(cursor)?;
+    let all = take_flag(cursor)?;
+    let initial = take_batch(alloc, cursor)?;
+    let proper = take_list(alloc, cursor)?;
+    if proper.as_slice().is_empty() {
+        return Err(DecodeFault::Malformed);
+    }
+    let locked = take_list(alloc, cursor)?;
+    Ok(Report {
+        height: place.height,
+        phase: place.phase,
+        signer: place.signer,
+        all,
+        initial,
+        proper,
+        locked,
+    })
+}
+
+/// Takes an acknowledgement, without its first byte.
+#[tactic(auto, unfolding(ledger_model::specs::Reading::ack_at))]
+pub fn take_ack(alloc: Global, cursor: &mut Cursor) -> Result<Ack, DecodeFault>
+    ensures { Reads result cursor.new (ack_at cursor.old) }
+{
+    let place = take_place(cursor)?;
+    let value = take_batch(alloc, cursor)?;
+    Ok(Ack {
+        height: place.height,
+        phase: place.phase,
+        signer: place.signer,
+        value,
+    })
+}
