@@ -121,7 +121,8 @@ impl<A: Application> CorrectReplica<A> {
 
     /// Takes one event and returns the index of the new entry. The history has room.
     ///
-    /// The only error is want of memory. Then all is as before, but a round end may have used leaves: as many as were to sign.
+    /// The only error is allocation failure. It changes nothing, except that a round end may have used leaves: at most one for each
+    /// statement that it was to sign.
     pub(crate) fn apply(&mut self, event: Event) -> Result<usize, AllocError>
         requires room { length self.old.entries < max_history_len }
         ensures applied { IfOk result (λ index. Applies self.old event index self.new) }

@@ -32,7 +32,7 @@ pub(crate) fn submit<A: Application>(
     ensures full { IsErrOf result TargetFault.HistoryFull
         ↔ ((is_tx_len tx.now ≡ true) × ((entries.old ≡ 0) ⊎ (max_history_len ≤ length state.old.entries))) }
     ensures same { OnErr result (state.new ≡ state.old) }
-    // As a session tells it.
+    // The result as a session sees it.
     ensures told { AnswersSubmit tx.now (told result) }
 {
     match replica_turns::submit(alloc, state, entries, tx) {
@@ -72,7 +72,7 @@ pub(crate) fn query<A: Application>(
     ensures long_same { 64 < length key.now → state.new ≡ state.old }
     ensures short { IfOk result (λ answer. IfSome answer.value (λ v. length v ≤ max_value_len)) }
     ensures used { length state.new.entries + entries.new ≡ length state.old.entries + entries.old }
-    // As a session tells it.
+    // The result as a session sees it.
     ensures told { AnswersQuery key.now (told result) }
 {
     let Ok(key) = key_of(alloc, key) else {
@@ -93,7 +93,7 @@ pub(crate) fn query<A: Application>(
     }
 }
 
-/// The batch that the replica committed at a height, copied. The only fault is want of memory.
+/// The batch that the replica committed at a height, copied. The only fault is allocation failure.
 pub(crate) fn block<A: Application>(
     state: &State<A>,
     height: Height,

@@ -1,13 +1,13 @@
 //! Whole clusters that run in this process, and their clients.
 //!
-//! [`run_cluster`] and [`serve_cluster`] are what runs under `abft cluster` and `abft serve`: they make the replicas, run a worker for
-//! each in a thread, by the machine's clock, and store how the cluster stands in a [`SharedStatus`], of which [`start_reporter`] tells a [`Watcher`]. [`LiveTargets`] are the replicas of a
-//! cluster for one session: a request is at most one event under the replica's lock, and heights are those of the commit board. Each
-//! connection is served in a thread of its own, so that a client that disappears, sends no request or sends nothing harms no other
-//! session; and all clients together use no more of a replica's history than the settings say.
+//! [`run_cluster`] and [`serve_cluster`] run under `abft cluster` and `abft serve`. They make the replicas, run a worker for each in a
+//! thread, by the machine's clock, and store the state of the cluster in a [`SharedStatus`]. [`start_reporter`] starts the thread that
+//! writes it to a [`Watcher`]. [`LiveTargets`] are the replicas of a cluster for one session: a request is at most one event under the
+//! replica's lock, and heights are those of the commit board. Each connection is served in a thread of its own, so a client that
+//! disappears or sends no request harms no other session. All clients together use no more of a replica's history than the settings say.
 //!
-//! Four things are tested, not proved: that the workers run concurrently, that a target is the replica, what TCP
-//! delivers, and what the watcher gets.
+//! Five things are tested, not proved: that the workers run concurrently, that a target is the replica with the number that was asked
+//! for, that clients share one count of entries, what TCP delivers, and what the watcher gets.
 #![tactic(auto)]
 
 mod asking;

@@ -18,7 +18,7 @@ pub passed : {T : Type 0} (r : Result T ProgramFault) (e : ProgramFault) (P : Pr
 passed (Ok x) e P is p = tt
 passed (Err y) e P is p = subst P (sym is) p
 
--- want of memory, or a resource that the system refused, stops whatever the history is
+-- allocation failure, or a resource that the system refused, stops the program whatever the history is
 pub stops_anyway : (entries : List Entry) (e : ProgramFault) → IsMemoryOrRefusal e → StopsAt entries e
 stops_anyway entries fault.NoMemory is = tt
 stops_anyway entries (fault.Refused resource error) is = tt

@@ -18,7 +18,7 @@ endings xs = map (λ x. x.ending) xs
 abbrev pub mades : List RoundClosing → List RoundStatement
 mades xs = map (λ x. x.made) xs
 
--- of these heights and endings so many are told of, with these statements and endings left
+-- the number of these heights and effects that the frames have shown, with the statements and effects that are left
 pub record IsShowing (rows : List InstanceView) (ends : List RoundEffectsView) (all left : List SignedStatement) (place : ℕ)
     (rest : List RoundEffectsView) (closings : List RoundClosing) : Type 0 where
   pub so_far : place ≡ length closings
@@ -66,7 +66,7 @@ module _ (rows : List InstanceView) (ends : List RoundEffectsView) (all left : L
           omega arith in drop-cons rows place row below ∙ ap (λ r. r ∷ drop (suc place) rows) (sym is)
           ∙ ap (λ n. row ∷ drop n rows) (sym one)
 
-  -- in the end all are told of
+  -- in the end the frames have shown all of them
   pub showing_ends : IsShowing rows ends all left place [] closings → endings closings ≡ ends
   showing_ends showing = sym (append-nil (endings closings)) ∙ showing.ended
 

@@ -166,11 +166,11 @@ module _ (held : ReplicaStateView) (entries : List Entry) (end : RoundEnded) (is
   sends_all : AllByRecursion (IsSentBy held.config held.ring end.mute c) held.rows
   sends_all = each_found (IsSentBy held.config held.ring end.mute c) held.rows is_held.ascend sends_there
 
-  -- the frames spell all that is told, in order
+  -- the frames spell all statements that they show, in order
   same_sent : statements_in (frames_of held.config c held.rows shown_all.ms) ≡ ss
   same_sent = shown_all.sent ∙ all_parted held.rows ss is_held.ascend lawful.order none_unopened
 
-  -- what is told is what was made
+  -- what the frames show is what was made
   made_is_shown : made_shown end.mute c held.rows ss ≡ shown_all.ms
   made_is_shown =
       ap (λ ts. made_shown end.mute c held.rows ts) (sym same_sent)

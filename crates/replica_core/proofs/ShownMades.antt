@@ -47,7 +47,7 @@ pub none_before : (c : ℕ) (rows : List InstanceView) → nat_eq (place_of c) r
 none_before c [] early = refl
 none_before c (row ∷ rows) early = rw (none_on row c early) (none_before c rows early)
 
--- ---- what is made is told
+-- ---- the frames show what is made
 
 -- the next statement is of a later height
 pub skipped : (h : ℕ) (ss : List SignedStatement) → AllByRecursion (λ s. h < height_in s) ss
@@ -118,7 +118,7 @@ module _ (config : Config) (ring : Ring) (c : ℕ) where
   unsent_shown (row ∷ rows) (made.Sent f ∷ ms) last is =
       let none = none_made row c last (made.Sent f) (may_make ring false c row (made.Sent f) is.0) in absurd (cc none)
 
-  -- whatever was made is what is told
+  -- the frames show whatever was made
   pub is_shown : (mute : Bool) (rows : List InstanceView) (ms : List RoundStatement) → AreAscending rows
       → AllByRecursion (IsSentBy config ring mute c) rows → AreMade ring mute c rows ms
       → made_shown mute c rows (statements_in (frames_of config c rows ms)) ≡ ms

@@ -38,7 +38,7 @@ use Rattle.replica_core.proofs.Followed.{refused}
 abbrev pub mades : List RoundClosing → List RoundStatement
 mades xs = map (λ x. x.made) xs
 
--- as many are told of as heights are open
+-- the frames show a result for each open height, and no more
 pub shown_count : (c : ℕ) (rows : List InstanceView) (xs : List RoundClosing) → map (λ x. x.ending) xs ≡ map (λ row. ended row c) rows
     → length (mades xs) ≡ length rows
 shown_count c rows xs endings =
@@ -136,7 +136,7 @@ module _ (held : ReplicaStateView) (end : RoundEnded) (is_held : IsWithinLimits 
     })
 
     module _ (none_on : releases c held.rows ≡ false) (frames : AllByRecursion IsFrame ss) where
-      -- what the frames tell of each height
+      -- what the frames show of each height
       shows_each : (entries : List Entry) → MatchesHistory held entries → KeepsEnd held entries end
           → AreMade held.ring false c held.rows (made_each (map (λ row. row.height) held.rows) ss)
           × ShowsFrames held end (made_each (map (λ row. row.height) held.rows) ss)
@@ -165,7 +165,7 @@ module _ (held : ReplicaStateView) (end : RoundEnded) (is_held : IsWithinLimits 
 
   -- ---- the end is followed
 
-  -- what may be made is told: the frames that it makes are compared with those of the end
+  -- the frames show what may be made: the frames that it makes are compared with those of the end
   pub compared_end : (new : ReplicaStateView) (ms : List RoundStatement) (due : RoundEnded) (kept : Bool)
       → (held.mute ≡ true → end.mute ≡ true) → IsShown held end ms → due ≡ round_ended held end.mute ms
       → new ≡ after_end held end.mute ms → (kept ≡ true → due.frames ≡ end.frames) → (AreShownAlike due.frames end.frames → kept ≡ true)

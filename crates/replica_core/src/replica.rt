@@ -62,8 +62,8 @@ impl<A: Application> Core<A> {
 
     /// Takes one event, and returns the reply.
     ///
-    /// The only error is want of memory. It changes nothing but that leaves may be used, by a round end alone, where the replica
-    /// is not mute then.
+    /// The only error is allocation failure. It changes nothing, except that a round end of a replica that is not mute may have used
+    /// leaves.
     pub fn step(&mut self, alloc: Global, event: &Event) -> Result<Reply, AllocError>
         // After every history that the core matches, the reply is lawful and signed, and the core then matches the
         // history with this entry.

@@ -1,4 +1,4 @@
--- those so far end as it was prepared, and make what is told
+-- those so far end as it was prepared, and make what the frames show
 use Rattle.std.specs.Vec.Iter.{into_iter_items}
 use Rattle.replica_core.proofs.ShownClosings.{IsShowing}
 use Rattle.replica_core.proofs.shown_frames.show_each.Given as goal

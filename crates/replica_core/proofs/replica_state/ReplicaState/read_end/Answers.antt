@@ -32,7 +32,7 @@ may_make_all-requires-clause-count g c =
     let ends = c.in_ok-closings.ensures.endings ∙ c.requires.endings in
     ap length c.deref.ensures.value ∙ closing_count (held.clock + 1) held.rows c.in_ok-closings.closings.items ends
 
--- what is told may be made
+-- what the frames show may be made
 pub returns-then-may_make_all-clause-shown : goal.returns-then-may_make_all-clause-shown
 returns-then-may_make_all-clause-shown g c =
     let held : ReplicaStateView = c.args.self.now in

@@ -37,7 +37,7 @@ returns-in_ok-make_nothing-2-clause-shown g c =
 pub returns-in_ok-make_nothing-2-clause-endings : goal.returns-in_ok-make_nothing-2-clause-endings
 returns-in_ok-make_nothing-2-clause-endings g c = c.in_ok-make_nothing-2.ensures.endings ∙ c.requires.endings
 
--- one that tells more
+-- an end whose frames show more
 pub returns-else-send_locks-clause-shown : goal.returns-else-send_locks-clause-shown
 returns-else-send_locks-clause-shown g c = c.read_end.ensures.shown
 
