@@ -10,7 +10,7 @@ import os
 import subprocess
 import sys
 
-EVENTS = {1: "submit", 2: "propose", 3: "deliver", 4: "round end", 5: "execute", 6: "query"}
+EVENTS = {1: "submit", 2: "propose", 3: "deliver", 4: "round end", 5: "execute", 6: "query", 7: "retire"}
 
 
 class Reader:
@@ -41,7 +41,7 @@ def read_event(reader):
     kind = reader.number(1)
     if kind in (1, 3):
         reader.take(reader.number(4))
-    elif kind == 2:
+    elif kind in (2, 7):
         reader.take(4)
     elif kind == 6:
         reader.take(4)
@@ -100,6 +100,8 @@ def read_reply(reader, kind, reports):
             return "0 absent"
         reader.take(reader.number(1))
         return "0 present"
+    elif kind == 7:
+        reader.take(4)
     return "0"
 
 

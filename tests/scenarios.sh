@@ -46,6 +46,8 @@ prints 'a text with no step' "$setup" ''
 prints 'comments and empty lines' $'\n# first\nconfig 4 1 1\n\n#\ninfo 4\n' $'refused 2\n'
 prints 'a height is opened or refused by its cause' "$setup"$'submit 0 a=1\npropose 0 4097\npropose 0 5\npropose 0 4\npropose 0 4\n' \
     $'submit 0 ok\npropose 0 4097 refused 3\npropose 0 5 refused 1\npropose 0 4 [a=1]\npropose 0 4 refused 2\n'
+prints 'a floor that may not be raised' "${setup}liar 1"$'\nretire 0 0\nretire 0 1\nretire 0 2\nretire 0 4294967295\nretire 1 2\nretire 4 2\n' \
+    $'retire 0 0 refused 2\nretire 0 1 refused 2\nretire 0 2 refused 1\nretire 0 4294967295 refused 1\nrefused 3\nrefused 2\n'
 prints 'an empty value' "$setup"$'query 0 x\n' $'query 0 0 absent\n'
 
 # Bad texts, each with the line that is bad.
@@ -91,6 +93,10 @@ Execute 0
 executes 0
 frames 1
 query 0 \\61
+retire 0
+retire 0 1 2
+retire 0 01
+retire 0 4294967296
 query 0 \\5C
 query 0 \\5
 submit 0  a

@@ -135,6 +135,7 @@ loss_here config w (step.RoundEnd q) r e ok x =
     ap (λ b. cond b (may_lose x event.RoundEnd) 0) (eq-eqb r q (sym is.0)) ∙ ap (may_lose x) is.1
 loss_here config w (step.Execute q) r e ok x = ap (may_lose x) (asked config w q r event.Execute e ok).1
 loss_here config w (step.Query q key h) r e ok x = ap (may_lose x) (asked config w q r (event.Query key h) e ok).1
+loss_here config w (step.Retire q floor) r e ok x = ap (may_lose x) (asked config w q r (event.Retire floor) e ok).1
 loss_here config w (step.Pass from index to) r e ok x = sym (passed config w from index to r e ok x)
 loss_here config w (step.Inject q bytes) r e ok x = ap (may_lose x) (asked config w q r (event.Deliver bytes) e ok).1
 

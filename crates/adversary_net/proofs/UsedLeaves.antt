@@ -11,7 +11,7 @@ use Rattle.replica_core.specs.Leaves.{signed_by}
 use Rattle.locked_replica.specs.States.{StateView, UsesAsSigned}
 use Rattle.adversary_net.specs.declared.party.Party.{Party}
 use Rattle.adversary_net.specs.declared.party.Party.TheVariants as party
-use Rattle.adversary_net.specs.WorldViews.{WorldView, IsCluster, AllAccountForLeaves, UsesAsAnswered, is_out_of_memory, state_in}
+use Rattle.adversary_net.specs.WorldViews.{WorldView, IsCluster, AllAccountForLeaves, AllReplay, UsesAsAnswered, is_out_of_memory, state_in}
 use Rattle.adversary_net.specs.Leaves.{UsesButFor, EachUses, IsAnswered, AreAnswered, loss_at, lost_at}
 
 -- ---- one party in the place of another
@@ -137,6 +137,10 @@ answered_more c d e [] (b ∷ bs) s a given next = absurd given
 answered_more c d e (t ∷ ts) [] s a given next = absurd given
 
 -- ---- why replicas are mute
+
+-- the history of each member is a replay
+pub replays : (c : WorldView) → IsCluster c → AllReplay c
+replays c cluster r s is = (cluster.members r s is).replay
 
 -- each member accounts for its leaves
 pub accounts : (c : WorldView) → IsCluster c → AllAccountForLeaves c

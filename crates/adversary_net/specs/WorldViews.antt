@@ -124,6 +124,12 @@ pub record IsSameCluster (old new : WorldView) : Type 0 where
   pub ring : new.ring ≡ old.ring
   pub roles : map role_of new.parties ≡ map role_of old.parties
 
+-- ---- replays
+
+-- the history of each correct replica is a replay: each entry is lawful after those before it, and what it sends is signed
+abbrev pub AllReplay : WorldView → Type 0
+AllReplay c = (r : ℕ) (s : StateView) → state_at c r ≡ Some s → Replay c.config c.ring r s.entries
+
 -- ---- leaves
 
 -- each leaf of each correct replica is accounted for, and the replica is mute only if too few were left

@@ -43,7 +43,7 @@ impl<A: Application> World<A> {
     ghost use Rattle.ledger_model.specs.declared.event.Event.{Event};
     ghost use Rattle.ledger_model.specs.Timelines.{AreReplicas};
     ghost use Rattle.ledger_model.specs.Worlds.{entries_in, asks, passes, fault_of_two, Runs, OwnMachines};
-    ghost use Rattle.adversary_net.specs.WorldViews.{world_of, correct_of, machine_in, AllAccountForLeaves, HasRun, IsCluster, IsSameCluster, OwnReplies, UsesAsAnswered};
+    ghost use Rattle.adversary_net.specs.WorldViews.{world_of, correct_of, machine_in, AllAccountForLeaves, AllReplay, HasRun, IsCluster, IsSameCluster, OwnReplies, UsesAsAnswered};
     ghost use Rattle.adversary_net.specs.Headline.{IsUnforged, IsOneLedger};
     ghost use Rattle.adversary_net.specs.Leaves.{AreAnswered};
     ghost use Rattle.adversary_net.specs.Steps.{Refused, IsReady, Asks, Went};
@@ -123,6 +123,10 @@ impl<A: Application> World<A> {
                 };
                 Ok((*replica, Event::Query(key, *height)))
             }
+            WorldStep::Retire(replica, floor) => {
+                self.room(*replica)?;
+                Ok((*replica, Event::Retire(*floor)))
+            }
             WorldStep::Pass { from, index, to } => Ok((*to, self.delivery(*from, *index, *to)?)),
             WorldStep::Inject { to, bytes } => {
                 self.room(*to)?;
@@ -193,6 +197,8 @@ impl<A: Application> World<A> {
         ensures machines { OwnMachines self.new.config (world_of self.new).histories (machine_in self.new) }
         ensures replies { OwnReplies self.new.config (world_of self.new).histories }
         ensures same { IsSameCluster self.old self.new }
+        // Each entry of a correct replica is lawful after those before it, and what it sends is signed.
+        ensures replay { AllReplay self.new }
         // A correct replica is mute only if too few leaves were left.
         ensures account { AllAccountForLeaves self.new }
         // If memory didn't run out, each replica used one leaf for each statement of its own that it sent, and no other.

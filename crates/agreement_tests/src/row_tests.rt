@@ -45,6 +45,21 @@ impl OpenHeights {
         Some(answer.err())
     }
 
+    // Why the height may not be opened while no block is committed, if it may not.
+    fn refusal(&self, height: u32) -> Option<ProposeRefusal> {
+        self.row.may_open(Height::new(height), 0).err()
+    }
+
+    // Gives up the heights below this one, unless it is itself given up already. Returns whether it did.
+    fn retires(&mut self, floor: u32) -> bool {
+        let floor = Height::new(floor);
+        if floor < self.row.floor() {
+            return false;
+        }
+        self.row.retire(floor);
+        true
+    }
+
     // Opens these heights in this order. Returns the first that isn't opened, if there is one.
     fn first_unopened(&mut self, heights: &[u32]) -> Option<u32> {
         for height in heights {
@@ -161,6 +176,18 @@ fn open_heights_ascend(rt: HostRuntime) {
     let mut replica = OpenHeights::new(rt.alloc()).expect(&rt, "a replica");
     assert_eq!(rt; replica.first_unopened(&[3, 1, 4, 2]), None);
     assert!(rt; replica.has_open([1, 2, 3, 4]));
+}
+
+// The first of three.
+#[test]
+fn a_retired_height_is_not_open(rt: HostRuntime) {
+    let mut replica = OpenHeights::new(rt.alloc()).expect(&rt, "a replica");
+    assert_eq!(rt; replica.first_unopened(&[1, 2, 3]), None);
+    assert!(rt; replica.retires(2));
+    assert_eq!(rt; replica.row.floor().number(), 2);
+    assert!(rt; !replica.is_open(1) && replica.is_open(2) && replica.is_open(3));
+    assert!(rt; replica.refuses(1, 0) == Some(Some(ProposeRefusal::Retired)));
+    assert!(rt; replica.refusal(0) == Some(ProposeRefusal::Closed));
 }
 
 fn ends_phase(replica: &mut OpenHeights) -> bool {

@@ -48,3 +48,4 @@ first_goes cluster tx id new (reply.Delivered r) goes = absurd goes.lawful
 first_goes cluster tx id new (reply.RoundEnded r) goes = absurd goes.lawful
 first_goes cluster tx id new (reply.Executed r) goes = absurd goes.lawful
 first_goes cluster tx id new (reply.Queried r) goes = absurd goes.lawful
+first_goes cluster tx id new (reply.Retired r) goes = absurd goes.lawful

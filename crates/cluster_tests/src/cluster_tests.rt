@@ -1,7 +1,8 @@
-//! Four replicas that run concurrently, and commit.
+//! Four replicas that run concurrently, commit, and give up what all of them committed.
 ghost use Rattle.std.specs.Prelude.{◌≡◌, ◌<◌, ℕ, Some, vec_len, slice_get, IfOk};
 ghost use Rattle.commit_board.specs.Seats.{new_reader};
 
+use crate::following::is_followed;
 use crate::meeting_gate::MeetingGate;
 use crate::quiet_clock::QuietClock;
 use crate::replicas::{four, replicas};
@@ -11,10 +12,12 @@ use commit_board::ReaderSeat;
 use ledger_model::{Height, ReplicaId};
 use locked_replica::State;
 use replica_turns::LockedReplica;
+use std::alloc::Global;
+use std::random::RandomSource;
 use std::sync::Wait;
 use std::test::Fail;
 
-const ROUNDS: u32 = 16;
+const ROUNDS: u32 = 32;
 
 /// Whether the first block is `[a=1]`.
 fn has_first_block(state: &State<AnyKind>) -> bool {
@@ -27,13 +30,16 @@ fn has_first_block(state: &State<AnyKind>) -> bool {
     }
 }
 
-/// Whether the replica committed that block, up to the height that it published.
+/// Whether the replica committed that block, up to the height that it published, and gave up height 1.
 fn has_committed<R: Wait>(rt: &R, replica: &LockedReplica<AnyKind>, published: u32) -> bool {
     let state = replica.lock(rt);
-    published >= 1 && state.height() == published && has_first_block(&*state)
+    published >= 1
+        && state.height() == published
+        && has_first_block(&*state)
+        && state.floor().number() > 1
 }
 
-/// Whether this replica committed that block, up to the height that this reader reads.
+/// Whether this replica did so, up to the height that this reader reads.
 fn is_done<R: Wait>(
     rt: &R,
     cluster: &RunningCluster<AnyKind>,
@@ -81,6 +87,17 @@ fn reader_of(
     }
 }
 
+/// Whether a follower takes the history of replica 0.
+fn is_first_followed<R: RandomSource + Wait>(
+    rt: &R,
+    alloc: Global,
+    cluster: &RunningCluster<AnyKind>,
+) -> Result<bool, Fail> {
+    // The cluster has a replica: their number is read for the proof.
+    let _ = cluster.len();
+    is_followed(rt, alloc, cluster.replica(ReplicaId::new(0)))
+}
+
 #[test]
 fn four_replicas_commit_and_two_workers_meet(rt: HostRuntime) -> Result<(), Fail> {
     let alloc = rt.alloc();
@@ -96,5 +113,6 @@ fn four_replicas_commit_and_two_workers_meet(rt: HostRuntime) -> Result<(), Fail
         first_behind(&rt, &cluster, reader, keys.config.replicas),
         None
     );
+    assert!(rt; is_first_followed(&rt, alloc, &cluster)?);
     Ok(())
 }

@@ -4,6 +4,8 @@
 #[cfg(test)]
 mod cluster_tests;
 #[cfg(test)]
+mod following;
+#[cfg(test)]
 mod key_tests;
 #[cfg(test)]
 mod lock_tests;

@@ -1,9 +1,9 @@
--- The writers' seats that remain as they are taken one by one, in ascending order of numbers.
-use Rattle.std.proofs.Common.{◌≡◌, ℕ, suc, ◌+◌, ◌-◌, ◌<◌, List, ◌∷◌, length, map, sym, ap, ◌∙◌, Some, slice_get, arith}
-use Rattle.std.specs.List.{range_with_len}
+-- The seats that remain as they are taken one by one: the writers' in ascending order of numbers, and the readers'.
+use Rattle.std.proofs.Common.{◌≡◌, ℕ, zero, suc, ◌+◌, ◌-◌, ◌<◌, ◌≤◌, List, [], ◌∷◌, length, map, take, refl, sym, ap, ◌∙◌, Some, slice_get, arith}
+use Rattle.std.specs.List.{All, range_with_len}
 use Rattle.std.proofs.lemmas.List.FromFn.{fill_by_all}
 use Rattle.std.proofs.lemmas.Option.{get_or_from_slice_get}
-use Rattle.commit_board.specs.Seats.{BoardId, WriterSeatView, new_writer}
+use Rattle.commit_board.specs.Seats.{BoardId, WriterSeatView, ReaderSeatView, new_writer, new_reader}
 use Rattle.cluster_workers.specs.RunningClusters.{AreDealt}
 
 -- the seats of the replicas from a on, of n
@@ -37,3 +37,23 @@ pub one_taken : (board : BoardId) (n a : ℕ) (left : List WriterSeatView) (x : 
     → left ≡ seats_from board n a → left ≡ x ∷ rest
     → (x ≡ new_writer board a) × (rest ≡ seats_from board n (a + 1))
 one_taken board n a left x rest lt is taken = let both = sym taken ∙ is ∙ first_left board n a lt in (cc, cc)
+
+-- the readers' seats that a board deals out are of that board
+pub all_reading : (board : BoardId) (n : ℕ) (seats : List ReaderSeatView) → length seats ≤ n
+    → ((k : ℕ) → k < n → slice_get seats k ≡ Some (new_reader board))
+    → All (λ (s : ReaderSeatView). s.board ≡ board) seats
+all_reading board n seats few dealt k d within =
+    let here : k < n = omega arith in
+    ap (λ (s : ReaderSeatView). s.board) (get_or_from_slice_get seats k (new_reader board) d (dealt k here))
+
+-- what is taken of a list is there as it was
+pub get_take : {X : Type 0} (n k : ℕ) (xs : List X) → k < n → slice_get (take n xs) k ≡ slice_get xs k
+get_take zero k xs lt = absurd (omega arith)
+get_take (suc n) k [] lt = refl
+get_take (suc n) zero (x ∷ xs) lt = refl
+get_take (suc n) (suc k) (x ∷ xs) lt = get_take n k xs (omega arith)
+
+-- the seat that is taken is of the board
+pub first_reading : (board : BoardId) (x : ReaderSeatView) (rest : List ReaderSeatView)
+    → All (λ (s : ReaderSeatView). s.board ≡ board) (x ∷ rest) → x.board ≡ board
+first_reading board x rest all = all 0 x (omega arith)

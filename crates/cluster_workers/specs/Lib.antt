@@ -1,1 +1,2 @@
 pub mod RunningClusters
+pub mod Looks

@@ -1,7 +1,7 @@
 -- A running cluster as contracts see it.
-use Rattle.std.specs.Prelude.{◌≡◌, ℕ, List, map}
-use Rattle.std.specs.List.{range_with_len}
-use Rattle.commit_board.specs.Seats.{BoardId, WriterSeatView, new_writer}
+use Rattle.std.specs.Prelude.{◌≡◌, ℕ, ◌≤◌, List, length, map}
+use Rattle.std.specs.List.{All, range_with_len}
+use Rattle.commit_board.specs.Seats.{BoardId, WriterSeatView, ReaderSeatView, new_writer}
 
 -- the number of its replicas, and the board of their heights
 pub record RunningClusterView : Type 0 where
@@ -11,6 +11,11 @@ pub record RunningClusterView : Type 0 where
 -- the seats of `count` replicas from number `first` on, in order, through which nothing was published
 abbrev pub AreDealt : BoardId → ℕ → ℕ → List WriterSeatView → Type 0
 AreDealt board first count seats = seats ≡ map (λ r. new_writer board r) (range_with_len first count)
+
+-- at least `count` readers' seats of the board
+pub record AreReading (board : BoardId) (count : ℕ) (seats : List ReaderSeatView) : Type 0 where
+  pub enough : count ≤ length seats
+  pub all : All (λ s. s.board ≡ board) seats
 
 -- a worker: its replica's number, and the number of rounds that it ends
 pub record WorkerView : Type 0 where

@@ -1,9 +1,10 @@
 //! The workers of a running cluster: a thread for each replica, which delivers the replica's frames and ends its rounds.
 //!
 //! A [`Worker`] takes frames from its replica's inbox, opens the height after the committed one, runs the decided
-//! blocks, and ends the rounds that are due. It changes the replica only by turns, each under the replica's lock, so
-//! the invariant behind the lock holds whatever the threads do: each history is a replay. The frames that a round end
-//! sends go into the inboxes of their addressees; a full inbox loses the frame.
+//! blocks, gives up the heights that all replicas committed, as it reads on the commit board, and ends the rounds that
+//! are due. It changes the replica only by turns, each under the replica's lock, so the invariant behind the lock holds
+//! whatever the threads do: each history is a replay. The frames that a round end sends go into the inboxes of their
+//! addressees; a full inbox loses the frame.
 //!
 //! [`RunningCluster::new`] makes a worker for each replica, and what the workers share. [`run_all`] runs each in a
 //! thread of its own until its rounds are over, or a [`Stop`] asks it to end. The workers are generic over a

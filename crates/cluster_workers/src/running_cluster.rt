@@ -1,7 +1,8 @@
 //! A running cluster: what its workers share.
-ghost use Rattle.std.specs.Prelude.{◌≡◌, length, vec_len, IfOk};
+ghost use Rattle.std.specs.Prelude.{◌≡◌, ℕ, ◌<◌, Some, length, slice_get, vec_len, IfOk};
 ghost use Rattle.std.specs.Arc.{arc_value};
-ghost use Rattle.cluster_workers.specs.RunningClusters.{AreDealt, all_workers};
+ghost use Rattle.commit_board.specs.Seats.{replicas_of, new_reader};
+ghost use Rattle.cluster_workers.specs.RunningClusters.{AreDealt, AreReading, all_workers};
 
 use crate::inboxes::{Inboxes, inboxes_of};
 use crate::turn_taker::TurnTaker;
@@ -58,26 +59,54 @@ fn lock_all<A: Application>(
     Ok(replicas)
 }
 
-/// The workers of these replicas, by number. The seats of the board are in the same order. Each worker ends `rounds` rounds.
+/// A board on which nothing is published, a writer's and a reader's seat for the worker of each replica, and `readers`
+/// more readers' seats.
+fn board_of(
+    alloc: Global,
+    config: &Config,
+    readers: u32,
+) -> Result<(Board, Vec<WriterSeat>, Vec<ReaderSeat>, Vec<ReaderSeat>), AllocError>
+    ensures replicas { IfOk result (λ r. replicas_of r.0 ≡ config.now.replicas) }
+    ensures writers { IfOk result (λ r. AreDealt r.0 0 config.now.replicas r.1.items) }
+    ensures looking { IfOk result (λ r. AreReading r.0 config.now.replicas r.2.items) }
+    ensures reader_count { IfOk result (λ r. vec_len r.3 ≡ readers) }
+    ensures readers { IfOk result (λ r. (k : ℕ) → k < readers → slice_get r.3.items k ≡ Some (new_reader r.0)) }
+{
+    let Some(all) = readers.checked_add(u32::from(config.replicas)) else {
+        return Err(AllocError);
+    };
+    let (board, writing, mut reading) = Board::new(alloc, config, all)?;
+    let looking = reading.split_off(readers as usize)?;
+    Ok((board, writing, looking, reading))
+}
+
+/// The workers of these replicas, by number. The writers' seats of the board are in the same order; each worker takes one
+/// of the readers' seats. Each worker ends `rounds` rounds.
 fn workers_of<A: Application>(
     alloc: Global,
     board: &Arc<Board>,
     seats: Vec<WriterSeat>,
+    looking: Vec<ReaderSeat>,
     replicas: &[Arc<LockedReplica<A>>],
     count: u8,
     rounds: u32,
 ) -> Result<Vec<Worker<A>>, AllocError>
     requires seats { AreDealt (arc_value board.now) 0 count seats.items }
+    requires looking { AreReading (arc_value board.now) count looking.items }
     requires replicas { length replicas.now ≡ count }
     ensures { IfOk result (λ workers. workers.items ≡ all_workers count rounds) }
 {
     let Inboxes { receivers, senders } = inboxes_of(alloc, count)?;
     let mut seats = seats.into_iter();
+    let mut looking = looking.into_iter();
     let mut receivers = receivers.into_iter();
     let mut senders = senders.into_iter();
     let mut workers = Vec::with_capacity(alloc, usize::from(count))?;
     for number in 0..count {
         let Some(seat) = seats.next() else {
+            unreachable!();
+        };
+        let Some(reader) = looking.next() else {
             unreachable!();
         };
         let Some(receiver) = receivers.next() else {
@@ -87,18 +116,15 @@ fn workers_of<A: Application>(
             unreachable!();
         };
         let replica = Arc::try_clone(&replicas[usize::from(number)])?;
-        let turn_taker = TurnTaker::new(Arc::try_clone(board)?, seat);
+        let turn_taker = TurnTaker::new(Arc::try_clone(board)?, seat, reader);
         workers.push(Worker::new(alloc, replica, turn_taker, receiver, senders, rounds))?;
     }
     Ok(workers)
 }
 
 impl<A: Application> RunningCluster<A> {
-    ghost use Rattle.std.specs.Prelude.{ℕ, ◌<◌, Some, slice_get};
-    ghost use Rattle.commit_board.specs.Seats.{replicas_of, new_reader};
-
     /// The cluster of these replicas, a worker for each, which ends `rounds` rounds, and `readers` readers' seats of
-    /// the board. The replicas must be in ascending order of their numbers, from 0 on; a worker drops its events if its
+    /// the board, besides those of the workers. The replicas must be in ascending order of their numbers, from 0 on; a worker drops its events if its
     /// replica has another number. The only error is allocation failure.
     pub fn new(
         alloc: Global,
@@ -114,10 +140,18 @@ impl<A: Application> RunningCluster<A> {
         ensures reader_count { IfOk result (λ r. vec_len r.2 ≡ readers) }
         ensures readers { IfOk result (λ r. (k : ℕ) → k < readers → slice_get r.2.items k ≡ Some (new_reader r.0.board)) }
     {
-        let (board, seats, reading) = Board::new(alloc, config, readers)?;
+        let (board, seats, looking, reading) = board_of(alloc, config, readers)?;
         let board = Arc::new(alloc, board)?;
         let replicas = lock_all(alloc, states)?;
-        let workers = workers_of(alloc, &board, seats, &replicas, config.replicas, rounds)?;
+        let workers = workers_of(
+            alloc,
+            &board,
+            seats,
+            looking,
+            &replicas,
+            config.replicas,
+            rounds,
+        )?;
         Ok((RunningCluster { replicas, board }, workers, reading))
     }
 

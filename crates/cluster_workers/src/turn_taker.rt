@@ -1,21 +1,26 @@
-//! Takes the turns of a worker, and publishes its replica's height.
+//! Takes the turns of a worker, publishes its replica's height, and reads which heights all replicas committed.
 ghost use Rattle.std.specs.Prelude.{◌≡◌, ◌≤◌, ◌+◌, length};
 ghost use Rattle.std.specs.Arc.{arc_value};
+ghost use Rattle.ledger_model.specs.Lawful.{clock_at};
 ghost use Rattle.ledger_model.specs.Limits.{max_history_len};
+ghost use Rattle.commit_board.specs.Seats.{IsLeastRead};
+ghost use Rattle.cluster_workers.specs.Looks.{IsLooked};
 
 use abci::Application;
-use commit_board::{Board, WriterSeat};
-use ledger_model::{Event, ReplicaId};
+use commit_board::{Board, ReaderSeat, WriterSeat};
+use ledger_model::{Event, Height, ReplicaId};
 use locked_replica::{ApplyFault, State};
-use replica_turns::{ReplicaStatus, turn};
+use replica_turns::{OwnEvents, ReplicaStatus, own_of, turn};
 use std::sync::Arc;
 
-/// A board with the right to raise the word of one replica.
+/// A board with the right to raise the word of one replica, and to read all.
 #[derive(Drop)]
 pub(crate) struct TurnTaker {
     board: Arc<Board>,
     seat: WriterSeat,
+    reader: ReaderSeat,
     ghost tied: { seat.board ≡ arc_value board },
+    ghost reads: { reader.board ≡ arc_value board },
 }
 
 /// The outcome of a turn.
@@ -33,11 +38,16 @@ pub(crate) struct TurnOutcome {
 }
 
 impl TurnTaker {
-    pub(crate) fn new(board: Arc<Board>, seat: WriterSeat) -> Self
-        requires { seat.board ≡ arc_value board }
+    pub(crate) fn new(board: Arc<Board>, seat: WriterSeat, reader: ReaderSeat) -> Self
+        requires seat { seat.board ≡ arc_value board }
+        requires reader { reader.board ≡ arc_value board }
         ensures { result.seat ≡ seat }
     {
-        TurnTaker { board, seat }
+        TurnTaker {
+            board,
+            seat,
+            reader,
+        }
     }
 
     /// The replica whose word it raises.
@@ -45,6 +55,27 @@ impl TurnTaker {
         ensures { result ≡ self.now.seat.replica }
     {
         self.seat.replica()
+    }
+
+    /// The least height that it reads of all replicas: each of them committed that height.
+    fn least(&mut self) -> Height
+        ensures { IsLeastRead self.old.reader self.new.reader (arc_value self.old.board) result }
+    {
+        self.board.least(&mut self.reader)
+    }
+
+    /// The replica's round, and what it does by itself next: it gives up the heights up to the least that this call reads
+    /// of all replicas. `proposed` is the greatest height that the replica has proposed.
+    pub(crate) fn look<A: Application>(
+        &mut self,
+        state: &State<A>,
+        proposed: u32,
+    ) -> (u32, OwnEvents)
+        ensures round { result.0 ≡ clock_at state.now.entries }
+        ensures own { IsLooked self.old.reader self.new.reader (arc_value self.old.board) state.now proposed result.1 }
+    {
+        let least = self.least();
+        (state.clock(), own_of(state, proposed, least))
     }
 
     /// A turn of this replica. If `state` is another replica, no event is taken.

@@ -11,7 +11,7 @@ use abci::Application;
 use bytes::Bytes;
 use ledger_model::{Event, ReplicaId, Sent};
 use locked_replica::ApplyFault;
-use replica_turns::{LockedReplica, OwnEvents, WaitingFrames, events_of, offered, own_of, sent_at};
+use replica_turns::{LockedReplica, OwnEvents, WaitingFrames, events_of, offered, sent_at};
 use std::alloc::{AllocError, Global};
 use std::marker::Model;
 use std::mem;
@@ -124,10 +124,10 @@ impl<A: Application> Worker<A> {
         self.turn_taker.replica()
     }
 
-    /// The replica's round, and what it does by itself next.
-    fn look<R: Wait>(&self, rt: &R) -> (u32, OwnEvents) {
+    /// The replica's round, and what it does by itself next, under its lock.
+    fn look<R: Wait>(&mut self, rt: &R) -> (u32, OwnEvents) {
         let state = self.replica.lock(rt);
-        (state.clock(), own_of(&*state, self.proposed))
+        self.turn_taker.look(&*state, self.proposed)
     }
 
     /// Takes as many frames from the inbox as there is room for, while the round `clock` is open. Returns how many it took.
@@ -183,9 +183,7 @@ impl<A: Application> Worker<A> {
             return 0;
         }
         let outcome = self.turn(rt, gate, events);
-        if own.len() <= outcome.taken {
-            self.proposed = own.proposed_after(self.proposed);
-        }
+        self.proposed = own.proposed_after(self.proposed, outcome.taken);
         self.note_fault(outcome.fault, offered(own, outcome.taken));
         outcome.taken
     }

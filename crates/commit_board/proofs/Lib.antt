@@ -3,3 +3,4 @@ pub mod Heights
 pub mod Seating
 pub mod Moves
 pub mod Makes
+pub mod Least

@@ -1,5 +1,6 @@
 -- A commit board and its seats as contracts see them, and the outcomes of its calls.
-use Rattle.std.specs.Prelude.{◌≡◌, ℕ, List, [], Some, slice_get}
+use Rattle.std.specs.Prelude.{◌≡◌, ℕ, ◌≤◌, List, [], ◌∷◌, ◌++◌, map, Some, slice_get}
+use Rattle.std.specs.List.{All, Contains, range_with_len}
 use Rattle.atomic_table.specs.Seated.{TableId}
 use Rattle.ledger_model.specs.Boards.{Board, IsBoard, Reads, Raises}
 
@@ -56,3 +57,21 @@ pub record RaisedAtOnce (before r height after : ℕ) : Type 0 where
 -- if r's writer's seat was handed back, the height is the one that it had published
 abbrev pub IsLast : List (ℕ × ℕ) → ℕ → ℕ → Type 0
 IsLast closed r height = (k last : ℕ) → slice_get closed k ≡ Some (r, last) → height ≡ last
+
+-- each of these (replica, height) pairs was read in one atomic step, in order, by a reader that had read `before`
+abbrev pub ReadOneByOne : List (ℕ × ℕ) → List (ℕ × ℕ) → Type 0
+ReadOneByOne before [] = Unit {0}
+ReadOneByOne before (p ∷ ps) = ReadAtOnce before p.0 p.1 (before ++ p ∷ []) × ReadOneByOne (before ++ p ∷ []) ps
+
+-- the reader read these (replica, height) pairs: one of each replica below `count`, in order of number
+pub record ReadsInOrder (old new : ReaderSeatView) (count : ℕ) (reads : List (ℕ × ℕ)) : Type 0 where
+  pub each : map (λ p. p.0) reads ≡ range_with_len 0 count
+  pub seen : new ≡ record old { seen = old.seen ++ reads }
+  pub steps : ReadOneByOne old.seen reads
+
+-- the reader read each replica of the board once, in order of number, and this is the least of the heights that it read
+pub record IsLeastRead (old new : ReaderSeatView) (board : BoardId) (least : ℕ) : Type 0 where
+  pub reads : List (ℕ × ℕ)
+  pub in_order : ReadsInOrder old new (replicas_of board) reads
+  pub below : All (λ p. least ≤ p.1) reads
+  pub one : Contains (map (λ p. p.1) reads) least

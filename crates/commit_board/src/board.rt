@@ -20,13 +20,13 @@ impl Model for Board {
 
     ghost view = { λ b. b.table.shared.table_id };
 
-    ghost invariant = { λ b. (b.table.shared.key ≡ b.table.shared.table_id.words) × (0 < b.table.shared.table_id.words) };
+    ghost invariant = { λ b. (b.table.shared.key ≡ b.table.shared.table_id.words) × (0 < b.table.shared.table_id.words) × (b.table.shared.table_id.words < 256) };
 }
 
 impl Board {
     ghost use Rattle.std.specs.Prelude.{◌≡◌, ℕ, ◌<◌, ◌≤◌, ◌+◌, max, true, false, IsTrue, List, [], ◌∷◌, ◌++◌, Some, slice_get, vec_len, vec_capacity, IfOk};
     ghost use Rattle.ledger_model.specs.Boards.{heights_of, rises_to};
-    ghost use Rattle.commit_board.specs.Seats.{replicas_of, new_writer, new_reader, ReadAtOnce, RaisedAtOnce, IsLast};
+    ghost use Rattle.commit_board.specs.Seats.{replicas_of, new_writer, new_reader, ReadAtOnce, RaisedAtOnce, IsLast, IsLeastRead};
 
     /// A board on which nothing is published, a writer's seat for each replica, and `readers` readers' seats.
     pub fn new(
@@ -149,6 +149,26 @@ impl Board {
         found as u32
     }
 
+    /// The number of replicas.
+    fn replicas(&self) -> u8
+        ensures count { result ≡ replicas_of self.now }
+        ensures some { 0 < result }
+    {
+        self.table.word_count() as u8
+    }
+
+    /// Reads the word of each replica, in order, and returns the least height that it read.
+    pub fn least(&self, seat: &mut ReaderSeat) -> Height
+        requires { seat.old.board ≡ self.now }
+        ensures { IsLeastRead seat.old seat.new self.now result }
+    {
+        let mut least = u32::MAX;
+        for replica in 0..self.replicas() {
+            least = least.min(self.read(seat, ReplicaId::new(replica)));
+        }
+        Height::new(least)
+    }
+
     /// The greatest height published through this seat.
     pub fn own(&self, seat: &mut WriterSeat) -> u32
         requires { seat.old.board ≡ self.now }
@@ -161,7 +181,7 @@ impl Board {
     }
 
     /// Hands a writer's seat back to this reader, which from now on reads exactly what was published through that seat.
-    pub fn retire(&self, reader: &mut ReaderSeat, writer: WriterSeat)
+    pub fn hand_back(&self, reader: &mut ReaderSeat, writer: WriterSeat)
         requires reader { reader.old.board ≡ self.now }
         requires writer { writer.board ≡ self.now }
         ensures { reader.new ≡ record reader.old { closed = reader.old.closed ++ (writer.replica, writer.height) ∷ [] } }

@@ -1,9 +1,10 @@
 //! The commit board: one word for each replica, which its worker raises and any thread reads.
 //!
 //! [`Board::new`] returns the board, a writer's seat for each replica and the readers' seats. [`Board::publish`] raises
-//! the word of the writer's replica to a height, with one atomic maximum. [`Board::own`] loads that word, and
-//! [`Board::read`] loads the word of any replica. [`Board::retire`] hands a writer's seat back to a reader. No call
-//! waits or allocates memory, except `new`, which allocates.
+//! the word of the writer's replica to a height, with one atomic maximum. [`Board::own`] loads that word,
+//! [`Board::read`] loads the word of any replica, and [`Board::least`] loads those of all replicas, one by one, and
+//! returns the least. [`Board::hand_back`] hands a writer's seat back to a reader. No call waits or allocates memory,
+//! except `new`, which allocates.
 //!
 //! Proved for every schedule of the threads: each word is the greatest height that was published through its replica's
 //! seat; the heights that a reader reads of one replica never fall, and the last is at most the word (`IsBoard`).

@@ -136,15 +136,19 @@ ascending_found (x ∷ xs) ascend (suc place) row is =
 
 -- ---- a row of the same replica and height in the place of one
 
-pub put_keeps : (config : Config) (id : ℕ) (rows : List InstanceView) (place : ℕ) (now new : InstanceView)
-    → AllByRecursion (IsOf config id) rows → AreAscending rows
+pub put_keeps : (config : Config) (id floor : ℕ) (rows : List InstanceView) (place : ℕ) (now new : InstanceView)
+    → AllByRecursion (IsOf config id floor) rows → AreAscending rows
     → place < length rows → now ≡ get_or rows place now
     → ((old : InstanceView) → slice_get rows place ≡ Some old → old.height ≡ now.height) → IsSameHeight now new
-    → AllByRecursion (IsOf config id) (slice_set rows place new) × AreAscending (slice_set rows place new)
-put_keeps config id rows place now new all ascend within value alike same =
-    let own = all_there (IsOf config id) rows place now all within value in (
-      all_put (IsOf config id) rows place new all
-          (same.config ∙ own.0, same.id ∙ own.1, subst (λ n. n ≤ max_height) (sym same.height) own.2),
+    → AllByRecursion (IsOf config id floor) (slice_set rows place new) × AreAscending (slice_set rows place new)
+put_keeps config id floor rows place now new all ascend within value alike same =
+    let own = all_there (IsOf config id floor) rows place now all within value in (
+      all_put (IsOf config id floor) rows place new all (
+        same.config ∙ own.0,
+        same.id ∙ own.1,
+        subst (λ n. n ≤ max_height) (sym same.height) own.2,
+        subst (λ n. floor ≤ n) (sym same.height) own.3,
+      ),
       ascends_set rows place new
           (λ row is. alike row is ∙ sym same.height) ascend,
     )

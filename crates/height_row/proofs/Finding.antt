@@ -117,35 +117,36 @@ is_put {rows} {h} {place} new found same =
 
 -- ---- whose they are
 
--- the row is of this cluster and this replica, at a height that can be opened
-abbrev pub IsOf : Config → ℕ → InstanceView → Type 0
-IsOf config id row = (row.config ≡ config) × (row.id ≡ id) × (row.height ≤ max_height)
+-- the row is of this cluster and this replica, at a height from the floor on that can be opened
+abbrev pub IsOf : Config → ℕ → ℕ → InstanceView → Type 0
+IsOf config id floor row = (row.config ≡ config) × (row.id ≡ id) × (row.height ≤ max_height) × (floor ≤ row.height)
 
--- and stands for a height that can be opened
-abbrev pub IsOwn : Config → ℕ → ℕ → InstanceView → Type 0
-IsOwn config id h row = (row.config ≡ config) × (row.id ≡ id) × (row.height ≡ h) × (h ≤ max_height)
+-- and stands for such a height
+abbrev pub IsOwn : Config → ℕ → ℕ → ℕ → InstanceView → Type 0
+IsOwn config id floor h row = (row.config ≡ config) × (row.id ≡ id) × (row.height ≡ h) × (h ≤ max_height) × (floor ≤ h)
 
-module _ (config : Config) (id : ℕ) where
-  pub own_at : (rows : List InstanceView) → AllByRecursion (IsOf config id) rows → (h : ℕ) (row : InstanceView) → row_at rows h ≡ Some row
-      → IsOwn config id h row
+module _ (config : Config) (id floor : ℕ) where
+  pub own_at : (rows : List InstanceView) → AllByRecursion (IsOf config id floor) rows → (h : ℕ) (row : InstanceView)
+      → row_at rows h ≡ Some row → IsOwn config id floor h row
   own_at [] all h row is = absurd (cc is)
   own_at (x ∷ xs) all h row is =
       elim (cases_Bool (x.height == h)) [
         | inl here ↦ (let same : x ≡ row = cc (rw here at is) in let at =
-            eqb-true x.height h here in subst (IsOwn config id h) same (all.0.0, all.0.1, at, subst (λ n. n ≤ max_height) at all.0.2))
+            eqb-true x.height h here in subst (IsOwn config id floor h) same
+            (all.0.0, all.0.1, at, subst (λ n. n ≤ max_height) at all.0.2, subst (λ n. floor ≤ n) at all.0.3))
         | inr there ↦ own_at xs all.1 h row (rw there at is)
       ]
 
   -- and of that which is put in the place of another
-  pub own_put : (rows : List InstanceView) (h place : ℕ) (new : InstanceView) → AllByRecursion (IsOf config id) rows
-      → position (is_of h) rows ≡ Some place → IsOwn config id h new
-      → (other : ℕ) (row : InstanceView) → row_at (slice_set rows place new) other ≡ Some row → IsOwn config id other row
+  pub own_put : (rows : List InstanceView) (h place : ℕ) (new : InstanceView) → AllByRecursion (IsOf config id floor) rows
+      → position (is_of h) rows ≡ Some place → IsOwn config id floor h new
+      → (other : ℕ) (row : InstanceView) → row_at (slice_set rows place new) other ≡ Some row → IsOwn config id floor other row
   own_put rows h place new all found own other row is =
       let put : IsPut rows h place new = is_put new found own.2 in
       elim (cases_Bool (other == h)) [
         | inl here ↦ (let same = eqb-true other h here
-            in subst (λ n. IsOwn config id n row) (sym same)
-            (subst (IsOwn config id h) (put.only row (subst (λ n. row_at (slice_set rows place new) n ≡ Some row) same is)) own))
+            in subst (λ n. IsOwn config id floor n row) (sym same)
+            (subst (IsOwn config id floor h) (put.only row (subst (λ n. row_at (slice_set rows place new) n ≡ Some row) same is)) own))
         | inr there ↦ own_at rows all other row (sym (put.apart other (λ e. false≢true (sym there ∙ eq-eqb other h e))) ∙ is)
       ]
 

@@ -3,3 +3,4 @@ pub mod Ascending
 pub mod Placing
 pub mod Opening
 pub mod Turns
+pub mod Floors

@@ -20,14 +20,14 @@ abbrev pub mades : List RoundClosing → List RoundStatement
 mades xs = map (λ x. x.made) xs
 
 -- where each ends as its height prepares, and makes nothing of another's, they are the heights' closings
-pub are_closings : (c id : ℕ) (config : Config) (rows : List InstanceView) (xs : List RoundClosing)
+pub are_closings : (c id floor : ℕ) (config : Config) (rows : List InstanceView) (xs : List RoundClosing)
     → map (λ x. x.ending) xs ≡ map (λ row. ended row c) rows
-    → AllByRecursion (IsOf config id) rows → AllByRecursion (λ x. IsOwnMade id x.made) xs → AreClosings c rows xs
-are_closings c id config [] [] endings of own = tt
-are_closings c id config [] (x ∷ xs) endings of own = absurd cc
-are_closings c id config (row ∷ rows) [] endings of own = absurd cc
-are_closings c id config (row ∷ rows) (x ∷ xs) endings of own =
-    (cc, subst (λ n. IsOwnMade n x.made) (sym of.0.1) own.0, are_closings c id config rows xs (cc) of.1 own.1)
+    → AllByRecursion (IsOf config id floor) rows → AllByRecursion (λ x. IsOwnMade id x.made) xs → AreClosings c rows xs
+are_closings c id floor config [] [] endings of own = tt
+are_closings c id floor config [] (x ∷ xs) endings of own = absurd cc
+are_closings c id floor config (row ∷ rows) [] endings of own = absurd cc
+are_closings c id floor config (row ∷ rows) (x ∷ xs) endings of own =
+    (cc, subst (λ n. IsOwnMade n x.made) (sym of.0.1) own.0, are_closings c id floor config rows xs (cc) of.1 own.1)
 
 module _ (c : ℕ) where
   -- as it begins
@@ -116,15 +116,20 @@ module _ (c : ℕ) where
 
   -- ---- they are the same replica's, at the same heights
 
-  pub closed_own : (config : Config) (id : ℕ) (rows : List InstanceView) (ms : List RoundStatement) → AllByRecursion (IsOf config id) rows
-      → AllByRecursion (IsOf config id) (closed_each c rows ms)
-  closed_own config id [] [] all = tt
-  closed_own config id [] (m ∷ ms) all = tt
-  closed_own config id (row ∷ rows) [] all = all
-  closed_own config id (row ∷ rows) (m ∷ ms) all =
+  pub closed_own : (config : Config) (id floor : ℕ) (rows : List InstanceView) (ms : List RoundStatement)
+      → AllByRecursion (IsOf config id floor) rows → AllByRecursion (IsOf config id floor) (closed_each c rows ms)
+  closed_own config id floor [] [] all = tt
+  closed_own config id floor [] (m ∷ ms) all = tt
+  closed_own config id floor (row ∷ rows) [] all = all
+  closed_own config id floor (row ∷ rows) (m ∷ ms) all =
       let same = same_closed row c m in (
-        (same.config ∙ all.0.0, same.id ∙ all.0.1, subst (λ n. n ≤ max_height) (sym same.height) all.0.2),
-        closed_own config id rows ms
+        (
+          same.config ∙ all.0.0,
+          same.id ∙ all.0.1,
+          subst (λ n. n ≤ max_height) (sym same.height) all.0.2,
+          subst (λ n. floor ≤ n) (sym same.height) all.0.3,
+        ),
+        closed_own config id floor rows ms
             all.1,
       )
 

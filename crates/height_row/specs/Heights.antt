@@ -1,7 +1,8 @@
--- The heights that a replica has opened.
+-- The heights that a replica has opened and not retired.
 use Rattle.std.specs.List.{AllByRecursion}
-use Rattle.std.specs.Prelude.{◌≡◌, ℕ, ◌+◌, ◌<◌, ◌≤◌, ◌==◌, nat_lt, slice_get, suc, ◌||◌, List, [], ◌∷◌, Option, Some, None, is_some, Result}
-use Rattle.std.specs.Prelude.{if◌then◌else◌}
+use Rattle.std.specs.Prelude.{◌≡◌, ℕ, ◌+◌, ◌<◌, ◌≤◌, ◌==◌, nat_lt, nat_le, slice_get, suc, ◌||◌, List, [], ◌∷◌, Option, Some, None}
+use Rattle.std.specs.Prelude.{is_some, Result}
+use Rattle.std.specs.Prelude.{filter, if◌then◌else◌}
 use Rattle.ledger_model.specs.Limits.{max_height, max_ahead}
 use Rattle.ledger_model.specs.declared.config.Config.{Config}
 use Rattle.ledger_model.specs.declared.reply.ProposeRefusal.{ProposeRefusal}
@@ -13,10 +14,11 @@ use Rattle.instance.specs.declared.round_plan.RoundPlan.{RoundPlan}
 use Rattle.instance.specs.Plans.{chosen_statement, ended, closed}
 use Rattle.instance.specs.Instances.{InstanceView}
 
--- a replica of a cluster, and the instance of each height that it has opened
+-- a replica of a cluster, its floor, and the instance of each height from there on that it has opened
 pub record HeightRowView : Type 0 where
   pub config : Config
   pub id : ℕ
+  pub floor : ℕ
   pub rows : List InstanceView
 
 -- the instance of a height, if the height is open
@@ -29,10 +31,15 @@ abbrev pub decided_in : Option InstanceView → Option Value
 decided_in None = None
 decided_in (Some row) = row.decided
 
+-- the instances of the heights from the floor on
+abbrev pub rows_from : ℕ → List InstanceView → List InstanceView
+rows_from floor rows = filter (λ row. nat_le floor row.height) rows
+
 -- whether a height may be opened, if `committed` blocks are committed; if not, the first refusal that applies
-abbrev pub open_answer : List InstanceView → ℕ → ℕ → Result (Unit {0}) ProposeRefusal
-open_answer rows committed h = first_fault (
+abbrev pub open_answer : ℕ → List InstanceView → ℕ → ℕ → Result (Unit {0}) ProposeRefusal
+open_answer floor rows committed h = first_fault (
     ((h == 0) || nat_lt max_height h, refusal.Closed)
+    ∷ (nat_lt h floor, refusal.Retired)
     ∷ (is_some (row_at rows h), refusal.AlreadyOpen)
     ∷ (nat_lt (committed + max_ahead) h, refusal.TooFar)
     ∷ []) tt
@@ -55,11 +62,11 @@ AreFound rows = (place : ℕ) (row : InstanceView) → slice_get rows place ≡ 
 abbrev pub AreApart : ℕ → List InstanceView → List InstanceView → Type 0
 AreApart h old new = (other : ℕ) → (other ≡ h → ⊥) → row_at new other ≡ row_at old other
 
--- each open height belongs to this replica and this cluster, and is at most the last height
+-- each open height belongs to this replica and this cluster, is at most the last height, and isn't below the floor
 abbrev pub AreOwn : HeightRowView → Type 0
 AreOwn heights =
     (h : ℕ) (row : InstanceView) → row_at heights.rows h ≡ Some row
-    → (row.config ≡ heights.config) × (row.id ≡ heights.id) × (row.height ≡ h) × (h ≤ max_height)
+    → (row.config ≡ heights.config) × (row.id ≡ heights.id) × (row.height ≡ h) × (h ≤ max_height) × (heights.floor ≤ h)
 
 -- the plan for a height as round c opens
 abbrev pub plan_of : ℕ → InstanceView → RoundPlan
@@ -71,7 +78,8 @@ closed_each c (row ∷ rows) (m ∷ ms) = closed row c (ended row c) m ∷ close
 closed_each c (row ∷ rows) [] = row ∷ rows
 closed_each c [] ms = []
 
--- both rows are of the same replica
+-- both rows are of the same replica, and have the same floor
 pub record IsSameReplica (old new : HeightRowView) : Type 0 where
   pub config : new.config ≡ old.config
   pub id : new.id ≡ old.id
+  pub floor : new.floor ≡ old.floor

@@ -1,4 +1,4 @@
-//! The heights that a replica has opened, each an instance of agreement.
+//! The heights from a replica's floor on that it has opened, each an instance of agreement.
 ghost use Rattle.std.specs.Prelude.{◌≡◌, ◌==◌};
 ghost use Rattle.std.specs.List.{find, position};
 ghost use Rattle.std.specs.Option.{option_copied};
@@ -12,11 +12,13 @@ use signed_frames::Frame;
 use std::alloc::{AllocError, Global};
 use std::marker::Model;
 
-/// The heights that a replica has opened, in ascending order. Contracts see a `HeightRowView`.
+/// The heights that a replica has opened and not retired, in ascending order, and its floor, below which all are retired.
+/// Contracts see a `HeightRowView`.
 #[derive(Drop)]
 pub struct HeightRow {
     config: Config,
     id: ReplicaId,
+    floor: Height,
     instances: Vec<Instance>,
 }
 
@@ -28,15 +30,17 @@ impl Model for HeightRow {
 
     ghost Value = { HeightRowView };
 
-    ghost view = { λ r. record { config = r.config; id = r.id; rows = r.instances.items } };
+    ghost view = { λ r. record { config = r.config; id = r.id; floor = r.floor; rows = r.instances.items } };
 
     ghost invariant = { λ r. (r.id < r.config.replicas)
-        × AllByRecursion (λ row. (row.config ≡ r.config) × (row.id ≡ r.id) × (row.height ≤ max_height)) r.instances.items
+        × AllByRecursion (λ row.
+        (row.config ≡ r.config) × (row.id ≡ r.id) × (row.height ≤ max_height) × (r.floor ≤ row.height)) r.instances.items
         × AreAscending r.instances.items };
 }
 
 impl HeightRow {
-    ghost use Rattle.std.specs.Prelude.{◌≡◌, ◌<◌, ◌≤◌, ◌+◌, ◌++◌, ◌∷◌, ℕ, ◌==◌, List, [], map, Some, is_some, true, IsTrue, IfOk, IfSome, OnOk, OnErr};
+    ghost use Rattle.std.specs.Prelude.{◌≡◌, ◌<◌, ◌≤◌, ◌+◌, ◌++◌, ◌∷◌, ℕ, ◌==◌, List, [], map, Some, None, is_some, true, IsTrue};
+    ghost use Rattle.std.specs.Prelude.{IfOk, IfSome, OnOk, OnErr};
     ghost use Rattle.std.specs.List.{position, AllByRecursion};
     ghost use Rattle.std.specs.Option.{option_copied};
     ghost use Rattle.ledger_model.specs.Rounds.{place_of, release_place};
@@ -51,23 +55,25 @@ impl HeightRow {
     ghost use Rattle.instance.specs.Reads.{opened_row, IsSameHeight};
     ghost use Rattle.instance.specs.Plans.{chosen_statement, ended, IsOwnMade};
     ghost use Rattle.instance.specs.Laws.{MayBeSent, MayClose, IsSignedMade, IsLockSentOn, opened_by};
-    ghost use Rattle.height_row.specs.Heights.{row_at, decided_in, open_answer, plan_of, closed_each, AreApart, AreAscending, AreFound, AreOwn, IsSameReplica};
+    ghost use Rattle.height_row.specs.Heights.{row_at, rows_from, decided_in, open_answer, plan_of, closed_each};
+    ghost use Rattle.height_row.specs.Heights.{AreApart, AreAscending, AreFound, AreOwn, IsSameReplica};
     ghost use Rattle.ledger_model.specs.Limits.{last_round, max_height};
 
-    /// A row with no open height.
+    /// A row with no open height, whose floor is 1.
     pub fn new(alloc: Global, config: &Config, id: ReplicaId) -> Self
         requires { id < config.now.replicas }
-        ensures row { result ≡ record { config = config.now; id = id; rows = [] } }
+        ensures row { result ≡ record { config = config.now; id = id; floor = 1; rows = [] } }
         ensures own { AreOwn result }
     {
         HeightRow {
             config: *config,
             id,
+            floor: Height::new(1),
             instances: Vec::new(alloc),
         }
     }
 
-    /// The instance of the height, if the height is open.
+    /// The instance of the height, if the height is open: it was opened, and it isn't below the floor.
     pub fn get(&self, height: Height) -> Option<&Instance>
         ensures row { option_copied result ≡ row_at self.now.rows height }
         ensures own { AreOwn self.now }
@@ -75,7 +81,7 @@ impl HeightRow {
         find_height(&self.instances, height)
     }
 
-    /// The instances of the open heights, in ascending order.
+    /// The instances of the open heights, none of them below the floor, in ascending order.
     pub fn instances(&self) -> &[Instance]
         ensures rows { result.now ≡ self.now.rows }
         ensures ascend { AreAscending self.now.rows }
@@ -86,7 +92,14 @@ impl HeightRow {
         self.instances.as_slice()
     }
 
-    /// The value that was decided at the height, if one was.
+    /// The least height that isn't retired.
+    pub fn floor(&self) -> Height
+        ensures { result ≡ self.now.floor }
+    {
+        self.floor
+    }
+
+    /// The value that was decided at the height, if one was and the height isn't retired.
     pub fn decided_at(&self, height: Height) -> Option<&Batch>
         ensures row { option_copied result ≡ decided_in (row_at self.now.rows height) }
         // It is the value that was decided by every log that the height matches.
@@ -98,13 +111,17 @@ impl HeightRow {
     }
 
     /// Whether a height may be opened if `committed` blocks are committed. The refusals are tested in this order: Closed (height 0,
-    /// or above the last), AlreadyOpen, TooFar (more than [`Height::MAX_AHEAD`] above `committed`). Allocates nothing.
+    /// or above the last), Retired (below the floor), AlreadyOpen, TooFar (more than [`Height::MAX_AHEAD`] above `committed`).
+    /// Allocates nothing.
     pub fn may_open(&self, height: Height, committed: u32) -> Result<(), ProposeRefusal>
         requires committed { committed ≤ max_height }
-        ensures { result ≡ open_answer self.now.rows committed height }
+        ensures { result ≡ open_answer self.now.floor self.now.rows committed height }
     {
         if height.number() == 0 || Height::MAX < height.number() {
             return Err(ProposeRefusal::Closed);
+        }
+        if height < self.floor {
+            return Err(ProposeRefusal::Retired);
         }
         if self.get(height).is_some() {
             return Err(ProposeRefusal::AlreadyOpen);
@@ -125,7 +142,7 @@ impl HeightRow {
         committed: u32,
     ) -> Result<Result<(), ProposeRefusal>, AllocError>
         requires committed { committed ≤ max_height }
-        ensures answer { IfOk result (λ r. r ≡ open_answer self.old.rows committed height) }
+        ensures answer { IfOk result (λ r. r ≡ open_answer self.old.floor self.old.rows committed height) }
         // The height is open then, and matches every log of opened rounds that ends with this proposal.
         ensures opened { IfOk result (λ r. OnOk r (row_at self.new.rows height ≡ Some (opened_row self.old.config self.old.id height initial.now))) }
         ensures matches { IfOk result (λ r. OnOk r ((row : InstanceView) → row_at self.new.rows height ≡ Some row → (ring : Ring) (log : List Note)
@@ -143,6 +160,19 @@ impl HeightRow {
         let place = count_below(&self.instances, height);
         self.instances.insert(place, instance)?;
         Ok(Ok(()))
+    }
+
+    /// Gives up the heights below the new floor. Allocates nothing.
+    pub fn retire(&mut self, floor: Height)
+        requires above { self.old.floor ≤ floor }
+        ensures retired { self.new ≡ record self.old { floor = floor; rows = rows_from floor self.old.rows } }
+        // No height below the floor is open then, and each from there on is as before.
+        ensures below { (h : ℕ) → h < floor → row_at self.new.rows h ≡ None }
+        ensures from { (h : ℕ) → floor ≤ h → row_at self.new.rows h ≡ row_at self.old.rows h }
+        ensures own { AreOwn self.new }
+    {
+        self.instances.retain(|instance| instance.height() >= floor);
+        self.floor = floor;
     }
 
     /// The index of the instance of an open height.

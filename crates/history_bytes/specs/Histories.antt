@@ -11,17 +11,13 @@ use Rattle.ledger_model.specs.declared.reply.BlockResult.{BlockResult}
 use Rattle.ledger_model.specs.declared.reply.QueryAnswer.{QueryAnswer}
 use Rattle.ledger_model.specs.declared.reply.RoundEnded.{RoundEnded}
 use Rattle.ledger_model.specs.declared.reply.Addressee.TheVariants as addressee
-use Rattle.ledger_model.specs.declared.reply.Ignored.{Ignored}
-use Rattle.ledger_model.specs.declared.reply.Ignored.TheVariants as cause
-use Rattle.ledger_model.specs.declared.reply.ProposeRefusal.{ProposeRefusal}
-use Rattle.ledger_model.specs.declared.reply.ProposeRefusal.TheVariants as unopened
 use Rattle.ledger_model.specs.declared.reply.Reply.{Reply}
 use Rattle.ledger_model.specs.declared.reply.Reply.TheVariants as reply
 use Rattle.ledger_model.specs.declared.reply.Sent.{Sent}
 use Rattle.ledger_model.specs.declared.reply.SubmitRefusal.{SubmitRefusal}
 use Rattle.ledger_model.specs.declared.reply.SubmitRefusal.TheVariants as refusal
 use Rattle.ledger_model.specs.Values.{value_bytes}
-use Rattle.ledger_model.specs.Causes.{cause_number}
+use Rattle.ledger_model.specs.Causes.{submit_refusal_number, propose_refusal_number, retire_refusal_number, cause_number}
 
 -- a count in one, two or four bytes: its low bytes, if it doesn't fit
 abbrev pub count_in_1 : ℕ → List ℕ
@@ -41,20 +37,16 @@ event_bytes (event.Deliver bytes) = 3 ∷ count_in_4 (length bytes) ++ bytes
 event_bytes event.RoundEnd = 4 ∷ []
 event_bytes event.Execute = 5 ∷ []
 event_bytes (event.Query key height) = 6 ∷ to_be_bytes w32 height ++ count_in_1 (length key) ++ key
+event_bytes (event.Retire floor) = 7 ∷ to_be_bytes w32 floor
+
+-- the application's code, if the application rejected the transaction
+abbrev pub code_bytes : SubmitRefusal → List ℕ
+code_bytes (refusal.Rejected code) = to_be_bytes w32 code
+code_bytes _ = []
 
 -- why a transaction was refused: the reason's number, followed by the application's code if it has one
 abbrev pub refusal_bytes : SubmitRefusal → List ℕ
-refusal_bytes refusal.Empty = 1 ∷ []
-refusal_bytes refusal.TooLong = 2 ∷ []
-refusal_bytes refusal.Duplicate = 3 ∷ []
-refusal_bytes refusal.Full = 4 ∷ []
-refusal_bytes (refusal.Rejected code) = 5 ∷ to_be_bytes w32 code
-
--- why a height was not opened
-abbrev pub unopened_number : ProposeRefusal → ℕ
-unopened_number unopened.TooFar = 1
-unopened_number unopened.AlreadyOpen = 2
-unopened_number unopened.Closed = 3
+refusal_bytes r = submit_refusal_number r ∷ code_bytes r
 
 -- a flag
 abbrev pub flag : Bool → ℕ
@@ -91,7 +83,7 @@ abbrev pub reply_bytes : Reply → List ℕ
 reply_bytes (reply.Submitted (Ok _)) = 1 ∷ 0 ∷ []
 reply_bytes (reply.Submitted (Err r)) = 1 ∷ refusal_bytes r
 reply_bytes (reply.Proposed (Ok batch)) = 2 ∷ 0 ∷ value_bytes batch
-reply_bytes (reply.Proposed (Err r)) = 2 ∷ unopened_number r ∷ []
+reply_bytes (reply.Proposed (Err r)) = 2 ∷ propose_refusal_number r ∷ []
 reply_bytes (reply.Delivered (Ok _)) = 3 ∷ 0 ∷ []
 reply_bytes (reply.Delivered (Err c)) = 3 ∷ cause_number c ∷ []
 reply_bytes (reply.RoundEnded (Ok ended)) = 4 ∷ 0 ∷ ended_bytes ended
@@ -100,6 +92,8 @@ reply_bytes (reply.Executed (Ok block)) = 5 ∷ 0 ∷ block_bytes block
 reply_bytes (reply.Executed (Err _)) = 5 ∷ 1 ∷ []
 reply_bytes (reply.Queried (Ok answer)) = 6 ∷ 0 ∷ answer_bytes answer
 reply_bytes (reply.Queried (Err _)) = 6 ∷ 1 ∷ []
+reply_bytes (reply.Retired (Ok floor)) = 7 ∷ 0 ∷ to_be_bytes w32 floor
+reply_bytes (reply.Retired (Err r)) = 7 ∷ retire_refusal_number r ∷ []
 
 -- an entry
 abbrev pub entry_bytes : Entry → List ℕ

@@ -47,5 +47,9 @@ pub(crate) fn put_event(out: &mut Vec<u8>, event: &Event) -> Result<(), AllocErr
             put_u32(out, height.number())?;
             put_short(out, key.as_bytes())
         }
+        Event::Retire(floor) => {
+            put_u8(out, 7)?;
+            put_u32(out, floor.number())
+        }
     }
 }

@@ -3,13 +3,11 @@ ghost use Rattle.std.specs.Prelude.{◌≡◌, ◌∷◌, ◌++◌, [], length, 
 ghost use Rattle.std.specs.List.{flat_map};
 ghost use Rattle.std.specs.Int.{w32, to_be_bytes};
 ghost use Rattle.ledger_model.specs.Values.{value_bytes};
-ghost use Rattle.history_bytes.specs.Histories.{refusal_bytes, unopened_number, addressee_number, sent_bytes, present_bytes, ended_bytes, block_bytes, answer_bytes, reply_bytes};
+ghost use Rattle.history_bytes.specs.Histories.{refusal_bytes, addressee_number, sent_bytes, present_bytes, ended_bytes, block_bytes, answer_bytes, reply_bytes};
 
 use crate::counts::{put_count_1, put_count_2};
 use crate::events::put_short;
-use ledger_model::{
-    Addressee, BlockResult, ProposeRefusal, QueryAnswer, Reply, RoundEnded, Sent, SubmitRefusal,
-};
+use ledger_model::{Addressee, BlockResult, QueryAnswer, Reply, RoundEnded, Sent, SubmitRefusal};
 use octets::{put_bytes, put_u8, put_u32};
 use statements::put_batch;
 use std::alloc::AllocError;
@@ -18,26 +16,10 @@ use std::alloc::AllocError;
 fn put_refusal(out: &mut Vec<u8>, refusal: SubmitRefusal) -> Result<(), AllocError>
     ensures { OnOk result (out.new.items ≡ out.old.items ++ refusal_bytes refusal) }
 {
+    put_u8(out, refusal.number())?;
     match refusal {
-        SubmitRefusal::Empty => put_u8(out, 1),
-        SubmitRefusal::TooLong => put_u8(out, 2),
-        SubmitRefusal::Duplicate => put_u8(out, 3),
-        SubmitRefusal::Full => put_u8(out, 4),
-        SubmitRefusal::Rejected(code) => {
-            put_u8(out, 5)?;
-            put_u32(out, code)
-        }
-    }
-}
-
-/// The number of the reason for which a height was not opened.
-fn unopened_number(refusal: ProposeRefusal) -> u8
-    ensures { result ≡ unopened_number refusal }
-{
-    match refusal {
-        ProposeRefusal::TooFar => 1,
-        ProposeRefusal::AlreadyOpen => 2,
-        ProposeRefusal::Closed => 3,
+        SubmitRefusal::Rejected(code) => put_u32(out, code),
+        _ => Ok(()),
     }
 }
 
@@ -122,7 +104,7 @@ pub(crate) fn put_reply(out: &mut Vec<u8>, reply: &Reply) -> Result<(), AllocErr
             put_bytes(out, &[2, 0])?;
             put_batch(out, batch)
         }
-        Reply::Proposed(Err(refusal)) => put_bytes(out, &[2, unopened_number(*refusal)]),
+        Reply::Proposed(Err(refusal)) => put_bytes(out, &[2, refusal.number()]),
         Reply::Delivered(Ok(())) => put_bytes(out, &[3, 0]),
         Reply::Delivered(Err(cause)) => put_bytes(out, &[3, cause.number()]),
         Reply::RoundEnded(Ok(ended)) => {
@@ -140,5 +122,10 @@ pub(crate) fn put_reply(out: &mut Vec<u8>, reply: &Reply) -> Result<(), AllocErr
             put_answer(out, answer)
         }
         Reply::Queried(Err(_)) => put_bytes(out, &[6, 1]),
+        Reply::Retired(Ok(floor)) => {
+            put_bytes(out, &[7, 0])?;
+            put_u32(out, floor.number())
+        }
+        Reply::Retired(Err(refusal)) => put_bytes(out, &[7, refusal.number()]),
     }
 }

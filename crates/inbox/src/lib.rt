@@ -2,7 +2,7 @@
 //!
 //! [`Inbox::new`] returns the inbox, its one taking pass and its putting passes. Each thread that puts has a pass of
 //! its own. [`Inbox::put`] appends an item to what that pass put, and [`Inbox::take`] appends the item that it returns
-//! to what was taken. [`Inbox::retire`] hands a putting pass back to the taking pass.
+//! to what was taken. [`Inbox::hand_back`] hands a putting pass back to the taking pass.
 //!
 //! Proved for every schedule of the threads: the items that a pass put, in order, are those that were taken followed by
 //! those in the inbox, and the inbox has at most 1024 items (`IsInbox`). So each item is taken at most once, in the

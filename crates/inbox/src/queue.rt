@@ -100,7 +100,7 @@ impl Inbox {
     }
 
     /// Hands a putting pass back: the items that it put, in order, are those that were taken followed by those in the inbox.
-    pub fn retire(&self, taking: &mut TakingPass, putting: PuttingPass)
+    pub fn hand_back(&self, taking: &mut TakingPass, putting: PuttingPass)
         requires taking { taking.old.inbox ≡ self.now }
         requires putting { putting.inbox ≡ self.now }
         ensures ended { taking.new ≡ record taking.old { ended = taking.old.ended ++ (putting.number, putting.put) ∷ [] } }

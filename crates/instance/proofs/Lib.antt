@@ -1,4 +1,5 @@
 -- ---- the laws
+pub mod OpenLogs
 pub mod KeptPlaces
 pub mod ProperStays
 pub mod OneNote

@@ -4,7 +4,7 @@ use Rattle.std.specs.Prelude.{nat_eq, Option, Some, None, map}
 use Rattle.std.proofs.lemmas.Bool.{cases_Bool, and_parts}
 use Rattle.ledger_model.specs.Values.{Value}
 use Rattle.ledger_model.specs.Rounds.{phase_of, place_of, owner_of, ack_place, report_place}
-use Rattle.ledger_model.specs.Notes.{Note, clock_of, Has}
+use Rattle.ledger_model.specs.Notes.{Note, clock_of, open_of, Has}
 use Rattle.ledger_model.specs.Locks.{value_taken, is_supported}
 use Rattle.ledger_model.specs.Logs.{own_ack}
 use Rattle.ledger_model.specs.Rules.{Ring, MayMake, MayMakeOpen, MayLock, IsOwnLock, is_signed, with_signature, report_of, acks_of}
@@ -41,11 +41,11 @@ use Rattle.phase_core.proofs.Choosing.{chosen_found, none_chosen}
 use Rattle.instance.proofs.OwnLocks.{own_lock_right}
 
 -- by the value that was taken
-of_taken : (row : InstanceView) (log : List Note) (c : ℕ) → place_of c ≡ ack_place → (taken : Option Value)
-    → taken ≡ value_taken log (phase_of c)
+of_taken : (row : InstanceView) (log : List Note) (c : ℕ) → open_of log ≡ Some row.proper.own → place_of c ≡ ack_place
+    → (taken : Option Value) → taken ≡ value_taken log (phase_of c)
     → own_ack row.config row.id row.height log c false ≡ unsent_frames (unsent_ack row (phase_of c) taken)
 unfolding own_ack
-of_taken row log c place taken is = rw place (grind arith)
+of_taken row log c opened place taken is = rw (opened, place) (grind arith)
 
 -- each leads to the other
 abbrev Alike : Type 0 → Type 0 → Type 0
@@ -79,13 +79,13 @@ module _ (ring : Ring) (row : InstanceView) (log : List Note) (m : MatchesLog ri
   own_ack_is : own_ack row.config row.id row.height log c false ≡ unsent_frames (ended row c).unsent
   unfolding own_ack ended
   own_ack_is = elim (at_place c) [
-    | at_reports e ↦ rw e refl
-    | at_lock e ↦ rw e refl
+    | at_reports e ↦ rw (m.opened, e) refl
+    | at_lock e ↦ rw (m.opened, e) refl
     | at_acks e ↦
         let same : phase_of (clock_of log) ≡ phase_of c = omega (arith, e) in
         let unsent : unsent_ack row (phase_of c) row.taken ≡ (ended row c).unsent = rw e refl in
-        of_taken row log c e row.taken (rw same at m.lock.taken) ∙ ap unsent_frames unsent
-    | at_release e ↦ rw e refl
+        of_taken row log c m.opened e row.taken (rw same at m.lock.taken) ∙ ap unsent_frames unsent
+    | at_release e ↦ rw (m.opened, e) refl
   ]
 
   -- so what is made is the same

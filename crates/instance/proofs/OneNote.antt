@@ -9,7 +9,7 @@ use Rattle.ledger_model.specs.declared.statement.SignedReport.{SignedReport}
 use Rattle.ledger_model.specs.declared.statement.Statement.{Statement}
 use Rattle.ledger_model.specs.Rounds.{round_at, phase_of, ack_place, lock_place, report_place, rounds_in_phase}
 use Rattle.ledger_model.specs.Notes.{Note, is_report, is_lock, is_ack, was_read, was_made, Round, OwnStatement, Read, Has, clock_of}
-use Rattle.ledger_model.specs.Notes.{reads_in, makes_in}
+use Rattle.ledger_model.specs.Notes.{reads_in, makes_in, retires}
 use Rattle.ledger_model.specs.Locks.{took, value_read, lock_value, value_taken, decided_by, decided_of}
 use Rattle.tally.specs.Readings.{reports_of}
 use Rattle.proper_sets.specs.Propriety.{ProperSet}
@@ -30,11 +30,11 @@ use Rattle.lock_proofs.specs.LockTables.{SignedLock, as_statement}
 use Rattle.ledger_model.specs.Lawful.{held_locks}
 use Rattle.tally.specs.Tallies.{Places}
 use Rattle.ledger_model.proofs.Lists.{has_left, has_cases, has_filter_map}
-use Rattle.ledger_model.proofs.Goodness.{initial_of-append}
 use Rattle.lock_proofs.specs.Laws.{IsTimely, is_on_time}
 use Rattle.lock_proofs.proofs.TimelyLogs.{stays_timely}
 use Rattle.proper_sets.specs.Laws.{proper_at}
 use Rattle.instance.specs.Instances.{InstanceView}
+use Rattle.instance.proofs.OpenLogs.{open_of-append}
 use Rattle.instance.proofs.ProperStays.{NoneRead, proper_at-stays}
 use Rattle.std.proofs.lemmas.List.Elements.{filter_map-append}
 
@@ -165,11 +165,12 @@ module _ (log : List Note) (n : Note) where
 
 -- ---- a note that may come next
 
--- what it reads and makes is of the open round
+-- what it reads and makes is of the open round, and it doesn't retire the height
 pub record IsNext (log : List Note) (n : Note) : Type 0 where
   pub on_time : is_on_time (clock_of log) n ≡ true
   pub reads : (c : ℕ) (s : SignedStatement) → n ≡ Read c s → c ≡ clock_of log
   pub makes : (c : ℕ) (s : Statement) → n ≡ OwnStatement c s → c ≡ clock_of log
+  pub keeps : retires n ≡ false
 
 -- such are the opening of a round, and what is made or read in the open one
 pub next_round : (log : List Note) (c : ℕ) → IsNext log (Round c)
@@ -219,7 +220,7 @@ module _ (ring : Ring) (row : InstanceView) (log : List Note) (old : MatchesLog 
   assembled proper table reports acks taken made decided c clock later sound own is held decides are lock ack = record {
     member = old.member;
     sound = sound;
-    opened = initial_of-append log (n ∷ []) row.proper.own old.opened ∙ ap Some (sym own);
+    opened = open_of-append log (n ∷ []) row.proper.own old.opened (rw next.keeps refl) ∙ ap Some (sym own);
     timely = stays_timely log n old.timely next.on_time;
     made_by_now = λ d s has. elim (has_last log n (OwnStatement d s) has) [
       | inl before ↦

@@ -10,7 +10,7 @@ use Rattle.ledger_model.specs.declared.statement.SignedStatement.{SignedStatemen
 use Rattle.ledger_model.specs.declared.statement.Statement.{Statement}
 use Rattle.ledger_model.specs.Values.{Value}
 use Rattle.ledger_model.specs.Rounds.{round_at, count_from, lock_place, report_place, rounds_in_phase}
-use Rattle.ledger_model.specs.Notes.{Note, Proposed, Round, OwnStatement, Read, Has, clock_of, initial_of, was_read, was_made}
+use Rattle.ledger_model.specs.Notes.{Note, Proposed, Round, OwnStatement, Read, Has, clock_of, initial_of, open_of, was_read, was_made}
 use Rattle.ledger_model.specs.Locks.{value_read, value_made, held_values, decided_by, decided_of}
 use Rattle.ledger_model.specs.Lawful.{held_locks}
 use Rattle.ledger_model.specs.Proper.{is_split, are_all_named, is_all_proper, cut, proper_values}
@@ -24,6 +24,7 @@ use Rattle.ledger_model.proofs.LockSafety.{read_has, made_has}
 use Rattle.ledger_model.proofs.Staying.{any_append}
 use Rattle.instance.proofs.OneNote.{no_reports, no_acks, no_lock}
 use Rattle.instance.proofs.KeptPlaces.{none_there}
+use Rattle.instance.proofs.OpenLogs.{is_retired-append, only_rounds_kept, open_from}
 use Rattle.instance.proofs.ProperStays.{proper_at-stays}
 
 -- ---- nothing was read or made
@@ -56,6 +57,11 @@ no_values own f round proposed (n ∷ log) h = let rest = no_values own f round 
 begins : (own : Value) (log : List Note) → only_rounds log ≡ true → initial_of (log ++ Proposed own ∷ []) ≡ Some own
 begins own [] h = refl
 begins own (n ∷ log) h = let rest = begins own log in grind arith
+
+begins_open : (own : Value) (log : List Note) → only_rounds log ≡ true → open_of (log ++ Proposed own ∷ []) ≡ Some own
+begins_open own log h =
+    open_from (log ++ Proposed own ∷ []) own (is_retired-append log (Proposed own ∷ []) ∙ ap (λ b. b || false) (only_rounds_kept log h))
+    (begins own log h)
 
 -- ---- nothing is held or decided
 
@@ -114,7 +120,7 @@ opens config id height own ring log member heights value only =
         };
         held = λ s none. absurd none;
       };
-      opened = begins own log only;
+      opened = begins_open own log only;
       timely = record {
         past = λ c s has. absurd (none_read own log only c s has);
         of_phase =

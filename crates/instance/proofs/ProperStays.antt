@@ -14,7 +14,7 @@ use Rattle.ledger_model.specs.declared.statement.Statement.{Statement}
 use Rattle.ledger_model.specs.Values.{Value, same_value}
 use Rattle.ledger_model.specs.Locks.{names}
 use Rattle.ledger_model.specs.Rounds.{round_at, number_of, report_place}
-use Rattle.ledger_model.specs.Notes.{Note, Proposed, Round, OwnStatement, Read, Has, reads_in, was_read, is_report}
+use Rattle.ledger_model.specs.Notes.{Note, Proposed, Round, OwnStatement, Read, Retired, Has, reads_in, was_read, is_report}
 use Rattle.ledger_model.specs.Proper.{others_reported, is_named, listed_by_other, values_in, has_initial, is_split, are_all_named}
 use Rattle.ledger_model.specs.Proper.{is_all_proper, cut, proper_values}
 use Rattle.ledger_model.proofs.LockSafety.{read_has}
@@ -56,6 +56,7 @@ values_none part j (Read d s ∷ more) none =
 values_none part j (Proposed v ∷ more) none = values_none part j more (λ u has. none u (inr has))
 values_none part j (Round d ∷ more) none = values_none part j more (λ u has. none u (inr has))
 values_none part j (OwnStatement d s ∷ more) none = values_none part j more (λ u has. none u (inr has))
+values_none part j (Retired f ∷ more) none = values_none part j more (λ u has. none u (inr has))
 
 -- ---- one phase
 

@@ -9,7 +9,7 @@ use Rattle.ledger_model.specs.declared.statement.Report.{Report}
 use Rattle.ledger_model.specs.declared.statement.SignedReport.{SignedReport}
 use Rattle.ledger_model.specs.declared.statement.Statement.{Statement}
 use Rattle.ledger_model.specs.Rounds.{phase_of, place_of, round_at, ack_place, lock_place, report_place}
-use Rattle.ledger_model.specs.Notes.{Note, Proposed, Round, OwnStatement, Read, Has, clock_of, initial_of, is_report, is_lock, is_ack}
+use Rattle.ledger_model.specs.Notes.{Note, Round, OwnStatement, Read, Has, clock_of, open_of, is_report, is_lock, is_ack}
 use Rattle.ledger_model.specs.Notes.{was_read, was_made}
 use Rattle.ledger_model.specs.Values.{Value, IsValue}
 use Rattle.ledger_model.specs.Locks.{value_taken, decided_of}
@@ -95,7 +95,7 @@ pub record IsSound (ring : Ring) (row : InstanceView) : Type 0 where
 pub record MatchesIn (ring : Ring) (row : InstanceView) (log : List Note) (k : ℕ) : Type 0 where
   pub member : row.id < row.config.replicas
   pub sound : IsSound ring row
-  pub opened : initial_of log ≡ Some row.proper.own
+  pub opened : open_of log ≡ Some row.proper.own
   pub timely : IsTimely log
   pub made_by_now : (c : ℕ) (s : Statement) → Has log (OwnStatement c s) → c ≤ clock_of log
   pub proper : row.proper ≡ proper_at row.config row.id log (proper_phase (clock_of log)) row.proper.own
@@ -113,9 +113,7 @@ MatchesLog ring row log = MatchesIn ring row log (phase_of (clock_of log))
 -- the note opens a round
 abbrev pub is_round : Note → Bool
 is_round (Round c) = true
-is_round (Proposed v) = false
-is_round (OwnStatement c s) = false
-is_round (Read c s) = false
+is_round _ = false
 
 -- the log contains only opened rounds: the height was not opened yet
 abbrev pub only_rounds : List Note → Bool

@@ -1,7 +1,7 @@
 -- If nothing was forged, every statement that correct replicas read is backed.
 use Rattle.std.proofs.Common.{◌≡◌, ℕ, ◌+◌, ◌≤◌, Bool, true, false, not, ◌&&◌, cond, inl, inr, List, [], ◌∷◌, ◌++◌, map, refl, sym, ap}
 use Rattle.std.proofs.Common.{subst, ◌∙◌, append_assoc}
-use Rattle.std.specs.Prelude.{nat_eq, Option, Some, None, Ok, is_some}
+use Rattle.std.specs.Prelude.{nat_eq, nat_lt, Option, Some, None, Ok, is_some}
 use Rattle.std.specs.List.{list_any, list_all, flat_map}
 use Rattle.std.proofs.lemmas.List.{append-nil}
 use Rattle.std.proofs.lemmas.Bool.{and_parts, cases_Bool, eqb-true, eq-eqb, not-false}
@@ -19,7 +19,7 @@ use Rattle.ledger_model.specs.declared.statement.Statement.{Statement}
 use Rattle.ledger_model.specs.declared.statement.Statement.TheVariants as statement
 use Rattle.ledger_model.specs.Values.{Value}
 use Rattle.ledger_model.specs.Rounds.{phase_of, round_at, report_place}
-use Rattle.ledger_model.specs.Notes.{Note, Proposed, OwnStatement, Read, Has, clock_of, signer_of, is_lock}
+use Rattle.ledger_model.specs.Notes.{Note, Proposed, OwnStatement, Read, Retired, Has, clock_of, signer_of, is_lock}
 use Rattle.ledger_model.specs.Locks.{value_taken}
 use Rattle.ledger_model.specs.Validity.{is_quorate, is_supporting}
 use Rattle.ledger_model.specs.Logs.{height_of, if_some, made_notes, statements_made, notes_of, log_after, log_of}
@@ -201,6 +201,11 @@ module _ (config : Config) (ring : Ring) (correct : List ℕ) where
   no_read true v d s (inr none) = none
   no_read false v d s none = none
 
+  none_retired : (b : Bool) (f d : ℕ) (s : SignedStatement) → Has (cond b (Retired f ∷ []) []) (Read d s) → ⊥
+  none_retired true f d s (inl e) = cc
+  none_retired true f d s (inr none) = none
+  none_retired false f d s none = none
+
   -- what is made as a round opens is backed once its entry stands
   pub made_whole : (front : List Added) (a : Added) (h : ℕ) → ReadsBacked config (histories_at correct front) h
       → is_correct (histories_at correct front) a.replica ≡ true
@@ -276,6 +281,8 @@ module _ (config : Config) (ring : Ring) (correct : List ℕ) where
         | inr y ↦ (note_read (clock_of log + 1) ss d s (made_note log (clock_of log + 1) ss (Read d s) y)).1
       ] in
       made_whole front a h backed is ended same_e same_r (lawful.1) s its
+  new_read front a h backed is (event.Retire g) (reply.Retired (Ok f)) same_e same_r lawful unforged d s has =
+      absurd (none_retired (nat_lt h f) f d s has)
   new_read front a h backed is e r same_e same_r lawful unforged d s has = absurd has
 
   -- all that is read stays backed as the run goes on

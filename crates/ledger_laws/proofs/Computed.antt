@@ -16,7 +16,7 @@ use Rattle.ledger_model.specs.Reading.{flag_at, value_at, txs_at, tx_at, list_at
 use Rattle.ledger_model.specs.Signatures.{coef, checksum}
 use Rattle.ledger_model.specs.Applications.{codes, code_after, check_after, accepted, held_at}
 use Rattle.ledger_model.specs.Replies.{check_reply, query_reply}
-use Rattle.ledger_model.specs.Commits.{submit_reply, propose_reply, execute_reply, commits_of, pool_of, pool_after}
+use Rattle.ledger_model.specs.Commits.{submit_reply, propose_reply, execute_reply, commits_of, floor_of, pool_of, pool_after}
 use Rattle.ledger_model.specs.Logs.{log_of, log_after, notes_of, statements_made, statements_sent, own_ack}
 use Rattle.ledger_model.specs.Rules.{MayMake, causes}
 use Rattle.ledger_model.specs.Worlds.{World, beginning, with_entry, Runs, event_of, frames_sent}
@@ -83,8 +83,8 @@ unfolding codes code_after query_reply accepted held_at
 purse_pays = (refl, refl)
 
 pub first_entries_replay : FirstEntriesReplay
-unfolding Replay ReplaysFrom submit_reply propose_reply execute_reply commits_of pool_of pool_after check_reply check_after accepted log_of
-    log_after notes_of decided_of
+unfolding Replay ReplaysFrom submit_reply propose_reply execute_reply commits_of floor_of pool_of pool_after check_reply check_after
+    accepted log_of log_after notes_of decided_of
 first_entries_replay = (refl, refl, (refl, refl, (refl, refl, (refl, refl, (refl, refl, (refl, refl, tt))))))
 
 pub own_listing_is_no_others : OwnListingIsNoOthers
@@ -101,8 +101,8 @@ unfolding held_locks held_values holds
 lock_sent_on = refl
 
 pub round_entries_replay : RoundEntriesReplay
-unfolding Replay ReplaysFrom propose_reply commits_of pool_of pool_after log_of log_after notes_of statements_made statements_sent own_ack
-    MayMake causes reading body_reading statement_at place_at positive_at flag_at tx_at report_at value_at txs_at list_at values_at
+unfolding Replay ReplaysFrom propose_reply commits_of floor_of pool_of pool_after log_of log_after notes_of statements_made statements_sent
+    own_ack MayMake causes reading body_reading statement_at place_at positive_at flag_at tx_at report_at value_at txs_at list_at values_at
     signature_at frame_bytes body_bytes statement_bytes
 round_entries_replay = (
   (

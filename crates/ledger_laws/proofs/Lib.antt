@@ -7,3 +7,4 @@ pub mod WorldRuns
 pub mod Computed
 mod Refuted
 mod Unforged
+pub mod Floors

@@ -9,7 +9,7 @@ use Rattle.ledger_model.specs.declared.reply.QueryAnswer.{QueryAnswer}
 use Rattle.ledger_model.specs.declared.reply.NotHeld.{NotHeld}
 use Rattle.ledger_model.specs.declared.reply.BlockResult.{BlockResult}
 use Rattle.ledger_model.specs.Values.{Value, same_value}
-use Rattle.ledger_model.specs.Commits.{commits_of}
+use Rattle.ledger_model.specs.Commits.{commits_of, floor_of, propose_reply, retire_reply}
 use Rattle.ledger_model.specs.Replies.{block_reply, query_reply}
 use Rattle.ledger_model.specs.Groups.{history_of, is_correct, log_in, AllProposed}
 use Rattle.ledger_model.specs.Notes.{initial_of}
@@ -26,7 +26,7 @@ use Rattle.ledger_laws.specs.Examples.{four, a, b}
 use Rattle.ledger_laws.specs.Vacuity.{NoLedger, NoRunWithoutLedger, NoRunThatRewrites, LedgerIsUnique, forked, forked_world}
 use Rattle.ledger_laws.specs.Vacuity.{ForkHasNoLedger, ForkExample, WrongBlockHasNoLedger, WrongQueryHasNoLedger, WrongCodeHasNoLedger}
 use Rattle.ledger_laws.specs.Vacuity.{UnproposedBatchHasNoLedger, UnproposedBatchExample, AgreementHasLedger, proposes, commits, runs_block}
-use Rattle.ledger_laws.specs.Vacuity.{answers_query, rejects, first_result, three}
+use Rattle.ledger_laws.specs.Vacuity.{answers_query, rejects, first_result, three, FloorExample}
 use Rattle.std.proofs.Math.Seq.{take-length}
 use Rattle.std.proofs.lemmas.List.{length-take}
 use Rattle.ledger_laws.proofs.Backing.{correct_at}
@@ -300,3 +300,11 @@ module _ (key : List ℕ) where
 
 pub agreement_has_ledger : AgreementHasLedger
 agreement_has_ledger = is_agreed
+
+-- ---- a floor
+
+pub floor_example : FloorExample
+unfolding commits_of floor_of retire_reply propose_reply decided_of log_of log_after notes_of statements_made statements_sent own_ack
+    held_values holds statement_bytes body_bytes frame_bytes reading body_reading statement_at report_at lock_at ack_at proof_at signed_at
+    place_at positive_at flag_at value_at txs_at tx_at list_at values_at signature_at
+floor_example = (refl, refl, refl, refl, refl, refl)

@@ -21,12 +21,12 @@ use Rattle.ledger_model.specs.declared.world.WorldStep.TheVariants as step
 use Rattle.ledger_model.specs.declared.world.WorldRefusal.{WorldRefusal}
 use Rattle.ledger_model.specs.Values.{Value, same_value}
 use Rattle.ledger_model.specs.Rounds.{place_of, round_at, lock_place, release_place}
-use Rattle.ledger_model.specs.Notes.{Note, Proposed, Round, OwnStatement, Read, Has, clock_of, is_lock, reads_in}
+use Rattle.ledger_model.specs.Notes.{Note, Proposed, Round, OwnStatement, Read, Retired, Has, clock_of, is_lock, is_open, reads_in}
 use Rattle.ledger_model.specs.Locks.{phase_taken, held_values}
 use Rattle.ledger_model.specs.Logs.{height_of, statements_sent, statements_made, own_ack, log_after, log_of}
 use Rattle.ledger_model.specs.Reading.{reading}
 use Rattle.ledger_model.specs.Rules.{Ring}
-use Rattle.ledger_model.specs.Lawful.{Lawful, first_some, lock_read, held_locks}
+use Rattle.ledger_model.specs.Lawful.{Lawful, first_some, lock_read, held_locks, locks_sent_on}
 use Rattle.ledger_model.specs.Groups.{is_correct, log_in, BackedWhole, ReadsBacked}
 use Rattle.ledger_model.specs.Worlds.{World, entries_in, frames_in, frames_sent, asks, passes, event_of, world_at, IsUnforged, NoForgery}
 use Rattle.ledger_model.specs.Timelines.{Added, entries_at, histories_at, AcceptsUnforged, RunsFrom, UnforgedFrom}
@@ -72,6 +72,7 @@ lock_was_read v c (Read d u) s is = (d, ap (Read d) (kept_if (reads_in c (is_loc
 lock_was_read v c (Proposed w) s is = cc
 lock_was_read v c (Round d) s is = cc
 lock_was_read v c (OwnStatement d u) s is = cc
+lock_was_read v c (Retired f) s is = cc
 
 held_was_read : (log : List Note) (s : SignedStatement) → Has (held_locks log) s → (d : ℕ) × Has log (Read d s)
 unfolding held_locks
@@ -83,6 +84,14 @@ held_was_read log s has =
     (first_has (filter_map (lock_read v (round_at lock_place (phase_taken log v))) log) s (by_value.1.1)) in
     let read = lock_was_read v (round_at lock_place (phase_taken log v)) (by_note.0) s (by_note.1.1) in
     (read.0, subst (Has log) (read.1) (by_note.1.0))
+
+-- what is sent on at place 4 is held
+sent_held : (log : List Note) (s : SignedStatement) → Has (locks_sent_on log) s → Has (held_locks log) s
+sent_held log s has = where_open (is_open log) (held_locks log) has
+  where
+    where_open : (b : Bool) (ss : List SignedStatement) → Has (cond b ss []) s → Has ss s
+    where_open true ss has = has
+    where_open false ss has = absurd has
 
 -- ---- what a round end sends is among the statements of its height
 
@@ -173,6 +182,8 @@ delivers config w (step.RoundEnd x) r bytes ok = absurd (let e = (asks_only conf
 delivers config w (step.Execute x) r bytes ok = absurd (let e = (asks_only config w x r event.Execute (event.Deliver bytes) ok).1 in cc)
 delivers config w (step.Query x key h) r bytes ok =
     absurd (let e = (asks_only config w x r (event.Query key h) (event.Deliver bytes) ok).1 in cc)
+delivers config w (step.Retire x f) r bytes ok =
+    absurd (let e = (asks_only config w x r (event.Retire f) (event.Deliver bytes) ok).1 in cc)
 delivers config w (step.Pass from index to) r bytes ok = inl (passes_sent config w from index to r bytes ok)
 delivers config w (step.Inject x xs) r bytes ok = let e =
     asks_only config w x r (event.Deliver xs) (event.Deliver bytes) ok in inr (inject_is x r xs bytes (e.0) (e.1))
@@ -212,7 +223,8 @@ module _ (config : Config) (ring : Ring) (correct : List ℕ) where
       let sent : Has (statements_sent (height_of s.statement) ended) s = sent_statement ended bytes s has spelled in
       elim (cases_Bool (nat_eq (place_of (clock_of log + 1)) release_place)) [
         | inl at_4 ↦
-            let held = held_was_read log s (subst (λ ss. Has ss s) ((lawful.1).sends_on (height_of s.statement) at_4) sent) in
+            let held = held_was_read log s
+            (sent_held log s (subst (λ ss. Has ss s) ((lawful.1).sends_on (height_of s.statement) at_4) sent)) in
             let read : Has (log_in config (histories_at correct front) (height_of s.statement) a.replica) (Read (held.0) s) =
             subst (λ l. Has l (Read (held.0) s)) (sym (log_at config ring correct front (height_of s.statement) (a.replica) is)) (held.1) in
             whole_later config ring correct front a (s.statement) (reads (height_of s.statement) (a.replica) (held.0) s is read)
@@ -225,12 +237,14 @@ module _ (config : Config) (ring : Ring) (correct : List ℕ) where
   new_sent front a reads is (event.Deliver xs) (reply.RoundEnded (Ok ended)) same_e same_r lawful bytes s has spelled = absurd lawful
   new_sent front a reads is event.Execute (reply.RoundEnded (Ok ended)) same_e same_r lawful bytes s has spelled = absurd lawful
   new_sent front a reads is (event.Query key h) (reply.RoundEnded (Ok ended)) same_e same_r lawful bytes s has spelled = absurd lawful
+  new_sent front a reads is (event.Retire f) (reply.RoundEnded (Ok ended)) same_e same_r lawful bytes s has spelled = absurd lawful
   new_sent front a reads is e (reply.RoundEnded (Err last)) same_e same_r lawful bytes s has spelled = absurd has
   new_sent front a reads is e (reply.Submitted given) same_e same_r lawful bytes s has spelled = absurd has
   new_sent front a reads is e (reply.Proposed given) same_e same_r lawful bytes s has spelled = absurd has
   new_sent front a reads is e (reply.Delivered given) same_e same_r lawful bytes s has spelled = absurd has
   new_sent front a reads is e (reply.Executed given) same_e same_r lawful bytes s has spelled = absurd has
   new_sent front a reads is e (reply.Queried given) same_e same_r lawful bytes s has spelled = absurd has
+  new_sent front a reads is e (reply.Retired given) same_e same_r lawful bytes s has spelled = absurd has
 
   -- what was sent is backed after one entry more
   sent_step : (front : List Added) (a : Added) → BackedTraffic front → is_correct (histories_at correct front) a.replica ≡ true

@@ -172,6 +172,7 @@ names_correct config w (step.Propose x h) r e ok = asked config w x r (event.Pro
 names_correct config w (step.RoundEnd x) r e ok = asked config w x r event.RoundEnd e ok
 names_correct config w (step.Execute x) r e ok = asked config w x r event.Execute e ok
 names_correct config w (step.Query x key h) r e ok = asked config w x r (event.Query key h) e ok
+names_correct config w (step.Retire x f) r e ok = asked config w x r (event.Retire f) e ok
 names_correct config w (step.Pass from index to) r e ok = passed config w from index to r e ok
 names_correct config w (step.Inject to bytes) r e ok = asked config w to r (event.Deliver bytes) e ok
 

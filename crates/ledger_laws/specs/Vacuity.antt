@@ -1,6 +1,6 @@
 -- The laws are not vacuous. They exclude something: there are histories that no ledger explains. Their premises can be met:
 -- there are runs in which nothing is forged. The examples have a cluster of four, of which the replicas 0, 1 and 2 are correct.
-use Rattle.std.specs.Prelude.{◌≡◌, ℕ, ◌+◌, ◌<◌, false, List, [], ◌∷◌, ◌++◌, length, replicate, Result, Some, Ok, Err, slice_get}
+use Rattle.std.specs.Prelude.{◌≡◌, ℕ, ◌+◌, ◌<◌, true, false, List, [], ◌∷◌, ◌++◌, length, replicate, Result, Some, Ok, Err, slice_get}
 use Rattle.ledger_model.specs.declared.config.Config.{Config}
 use Rattle.ledger_model.specs.declared.config.AppKind.TheVariants.{KvStore}
 use Rattle.ledger_model.specs.declared.statement.SignedStatement.{SignedStatement}
@@ -14,15 +14,18 @@ use Rattle.ledger_model.specs.declared.reply.BlockResult.{BlockResult}
 use Rattle.ledger_model.specs.declared.reply.QueryAnswer.{QueryAnswer}
 use Rattle.ledger_model.specs.declared.reply.NotHeld.{NotHeld}
 use Rattle.ledger_model.specs.declared.reply.SubmitRefusal.TheVariants as refusal
+use Rattle.ledger_model.specs.declared.reply.ProposeRefusal.TheVariants as closed
+use Rattle.ledger_model.specs.declared.reply.RetireRefusal.TheVariants as kept
 use Rattle.ledger_model.specs.declared.world.WorldStep.{WorldStep}
 use Rattle.ledger_model.specs.declared.world.WorldStep.TheVariants as step
 use Rattle.ledger_model.specs.declared.world.WorldReply.{WorldReply}
 use Rattle.ledger_model.specs.Values.{Value}
 use Rattle.ledger_model.specs.Spelling.{frame_bytes}
-use Rattle.ledger_model.specs.Commits.{commits_of}
+use Rattle.ledger_model.specs.Logs.{log_of}
+use Rattle.ledger_model.specs.Commits.{commits_of, propose_reply, retire_reply}
 use Rattle.ledger_model.specs.Replies.{block_reply, query_reply, check_reply}
 use Rattle.ledger_model.specs.Groups.{history_of, AllProposed}
-use Rattle.ledger_model.specs.Notes.{Has}
+use Rattle.ledger_model.specs.Notes.{Has, is_open}
 use Rattle.ledger_model.specs.Reading.{reading}
 use Rattle.ledger_model.specs.Rules.{Ring}
 use Rattle.ledger_model.specs.Worlds.{World, beginning, entries_in, Runs, world_at, IsUnforged, NoForgery, Begins, IsLedger, Refines}
@@ -194,6 +197,25 @@ AgreementHasLedger =
     → IsLedger (four KvStore)
     (three [] (commits a a (first_result a) ++ answers_query key (query_reply KvStore (a ∷ []) key 0) ∷ []) (commits a a (first_result a)))
     (a ∷ [])
+
+-- ---- a floor
+
+-- the replica gives up the heights below this one
+abbrev pub retires_below : ℕ → Entry
+retires_below floor = record { event = event.Retire floor; reply = reply.Retired (Ok floor) }
+
+-- After it committed [a=1] at height 1, replica 1 may raise its floor to 2 and to nothing else. That closes the height,
+-- which it then doesn't open again.
+abbrev pub FloorExample : Type 0
+FloorExample =
+    let before = commits a a (first_result a) in
+    let after = commits a a (first_result a) ++ retires_below 2 ∷ [] in
+    (retire_reply (four KvStore) 1 before 1 ≡ Err kept.NotAbove)
+    × (retire_reply (four KvStore) 1 before 2 ≡ Ok 2)
+    × (retire_reply (four KvStore) 1 before 3 ≡ Err kept.NotCommitted)
+    × (is_open (log_of (four KvStore) 1 1 before) ≡ true)
+    × (is_open (log_of (four KvStore) 1 1 after) ≡ false)
+    × (propose_reply (four KvStore) 1 after 1 ≡ Err closed.Retired)
 
 -- ---- what liars can forge
 

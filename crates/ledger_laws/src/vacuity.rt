@@ -1,6 +1,6 @@
 //! The laws are not vacuous. They exclude something: histories that no ledger explains. Their premises can be met:
 //! there are histories without a fault, and runs in which nothing is forged.
-ghost use Rattle.ledger_laws.specs.Vacuity.{NoRunWithoutLedger, NoRunThatRewrites, LedgerIsUnique, ForkHasNoLedger, ForkExample, WrongBlockHasNoLedger, WrongQueryHasNoLedger, WrongCodeHasNoLedger, UnproposedBatchHasNoLedger, UnproposedBatchExample, AgreementHasLedger, OnlyInjectionsForge, SilentRunsForgeNothing, SilentRunsRefine};
+ghost use Rattle.ledger_laws.specs.Vacuity.{NoRunWithoutLedger, NoRunThatRewrites, LedgerIsUnique, ForkHasNoLedger, ForkExample, WrongBlockHasNoLedger, WrongQueryHasNoLedger, WrongCodeHasNoLedger, UnproposedBatchHasNoLedger, UnproposedBatchExample, AgreementHasLedger, FloorExample, OnlyInjectionsForge, SilentRunsForgeNothing, SilentRunsRefine};
 
 /// If the histories of a world have no ledger, the world is not the run of a ledger.
 pub fn no_run_without_ledger()
@@ -53,6 +53,12 @@ pub fn unproposed_batch_has_no_ledger()
 /// The ledger of replicas 1 and 2 is `[a=1]` if both proposed and committed it, with the replies of the application run alone.
 pub fn agreement_has_ledger()
     ensures { AgreementHasLedger }
+{}
+
+/// A replica that committed `[a=1]` at height 1 may raise its floor to 2, and to nothing else. Then height 1 is closed,
+/// and isn't opened again.
+pub fn committed_height_is_given_up()
+    ensures { FloorExample }
 {}
 
 /// What correct replicas send is never forged, so the premise that nothing is forged matters only for injected bytes.

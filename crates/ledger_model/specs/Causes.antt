@@ -1,7 +1,33 @@
--- Why a delivered frame is ignored: the number and the name of each cause.
+-- Why a replica refuses an event or ignores a frame: the number of each reason, and the name of each cause.
 use Rattle.std.specs.Prelude.{ℕ, List, codes}
 use Rattle.ledger_model.specs.declared.reply.Ignored.{Ignored}
 use Rattle.ledger_model.specs.declared.reply.Ignored.TheVariants as cause
+use Rattle.ledger_model.specs.declared.reply.SubmitRefusal.{SubmitRefusal}
+use Rattle.ledger_model.specs.declared.reply.SubmitRefusal.TheVariants as submit
+use Rattle.ledger_model.specs.declared.reply.ProposeRefusal.{ProposeRefusal}
+use Rattle.ledger_model.specs.declared.reply.ProposeRefusal.TheVariants as propose
+use Rattle.ledger_model.specs.declared.reply.RetireRefusal.{RetireRefusal}
+use Rattle.ledger_model.specs.declared.reply.RetireRefusal.TheVariants as retire
+
+-- the number of a reason to refuse a transaction
+abbrev pub submit_refusal_number : SubmitRefusal → ℕ
+submit_refusal_number submit.Empty = 1
+submit_refusal_number submit.TooLong = 2
+submit_refusal_number submit.Duplicate = 3
+submit_refusal_number submit.Full = 4
+submit_refusal_number (submit.Rejected code) = 5
+
+-- the number of a reason not to open a height
+abbrev pub propose_refusal_number : ProposeRefusal → ℕ
+propose_refusal_number propose.TooFar = 1
+propose_refusal_number propose.AlreadyOpen = 2
+propose_refusal_number propose.Closed = 3
+propose_refusal_number propose.Retired = 4
+
+-- the number of a reason not to raise the floor
+abbrev pub retire_refusal_number : RetireRefusal → ℕ
+retire_refusal_number retire.NotCommitted = 1
+retire_refusal_number retire.NotAbove = 2
 
 -- the number of a cause
 abbrev pub cause_number : Ignored → ℕ

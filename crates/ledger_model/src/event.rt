@@ -18,6 +18,8 @@ pub enum Event {
     Execute,
     /// A client queries the application for a key. Height 0 asks for the latest state.
     Query(Key, Height),
+    /// The replica gives up the heights below this one, its floor from then on.
+    Retire(Height),
 }
 
 impl Event {
@@ -34,6 +36,7 @@ impl Event {
             Event::RoundEnd => Event::RoundEnd,
             Event::Execute => Event::Execute,
             Event::Query(key, height) => Event::Query(key.copy()?, *height),
+            Event::Retire(floor) => Event::Retire(*floor),
         })
     }
 }

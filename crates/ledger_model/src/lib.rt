@@ -23,7 +23,7 @@ pub use ledger::Ledger;
 pub use order::are_ascending;
 pub use reply::{
     Addressee, BlockResult, Codes, Ignored, LastRound, NotHeld, NothingDecided, ProposeRefusal,
-    QueryAnswer, Reply, RoundEnded, Sent, SentFrames, SubmitRefusal,
+    QueryAnswer, Reply, RetireRefusal, RoundEnded, Sent, SentFrames, SubmitRefusal,
 };
 pub use rounds::{Place, has_phase, has_place, phase_of, place_of};
 pub use statement::{

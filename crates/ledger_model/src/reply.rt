@@ -22,9 +22,72 @@ pub enum SubmitRefusal {
 /// Why a replica doesn't open a height.
 #[derive(Clone, Copy, Debug, PartialEq, Eq)]
 pub enum ProposeRefusal {
+    /// More than four heights lie between the last that is committed and this one.
     TooFar,
     AlreadyOpen,
+    /// No ledger has such a height: it is 0, or above the last.
     Closed,
+    /// The height is below the replica's floor.
+    Retired,
+}
+
+/// Why a replica doesn't raise its floor.
+#[derive(Clone, Copy, Debug, PartialEq, Eq)]
+pub enum RetireRefusal {
+    /// A height below the new floor isn't committed.
+    NotCommitted,
+    /// The new floor isn't above the floor.
+    NotAbove,
+}
+
+impl SubmitRefusal {
+    ghost use Rattle.std.specs.Prelude.{◌≡◌};
+    ghost use Rattle.ledger_model.specs.Causes.{submit_refusal_number};
+
+    /// The number of the refusal, from 1 on, in the order in which refusals are looked for.
+    pub fn number(self) -> u8
+        ensures { result ≡ submit_refusal_number self }
+    {
+        match self {
+            SubmitRefusal::Empty => 1,
+            SubmitRefusal::TooLong => 2,
+            SubmitRefusal::Duplicate => 3,
+            SubmitRefusal::Full => 4,
+            SubmitRefusal::Rejected(_) => 5,
+        }
+    }
+}
+
+impl ProposeRefusal {
+    ghost use Rattle.std.specs.Prelude.{◌≡◌};
+    ghost use Rattle.ledger_model.specs.Causes.{propose_refusal_number};
+
+    /// The number of the refusal, from 1 on.
+    pub fn number(self) -> u8
+        ensures { result ≡ propose_refusal_number self }
+    {
+        match self {
+            ProposeRefusal::TooFar => 1,
+            ProposeRefusal::AlreadyOpen => 2,
+            ProposeRefusal::Closed => 3,
+            ProposeRefusal::Retired => 4,
+        }
+    }
+}
+
+impl RetireRefusal {
+    ghost use Rattle.std.specs.Prelude.{◌≡◌};
+    ghost use Rattle.ledger_model.specs.Causes.{retire_refusal_number};
+
+    /// The number of the refusal, from 1 on, in the order in which refusals are looked for.
+    pub fn number(self) -> u8
+        ensures { result ≡ retire_refusal_number self }
+    {
+        match self {
+            RetireRefusal::NotCommitted => 1,
+            RetireRefusal::NotAbove => 2,
+        }
+    }
 }
 
 /// Why a replica ignores a delivered frame, which then changes nothing: the first cause that fits. `Display` shows its
@@ -35,7 +98,7 @@ pub enum Ignored {
     Malformed,
     /// The signer is no replica of the cluster.
     Signer,
-    /// This replica has not opened the height.
+    /// The height isn't open at this replica: it has not opened it, or has retired it.
     NoRow,
     /// Statements of this kind are not read in the open round.
     WrongRound,
@@ -310,6 +373,8 @@ pub enum Reply {
     RoundEnded(Result<RoundEnded, LastRound>),
     Executed(Result<BlockResult, NothingDecided>),
     Queried(Result<QueryAnswer, NotHeld>),
+    /// The new floor, or why it stays.
+    Retired(Result<Height, RetireRefusal>),
 }
 
 impl Reply {
@@ -333,6 +398,7 @@ impl Reply {
             Reply::Executed(Err(nothing)) => Reply::Executed(Err(*nothing)),
             Reply::Queried(Ok(answer)) => Reply::Queried(Ok(answer.copy()?)),
             Reply::Queried(Err(refusal)) => Reply::Queried(Err(*refusal)),
+            Reply::Retired(answer) => Reply::Retired(*answer),
         })
     }
 }

@@ -11,7 +11,7 @@ use Rattle.ledger_model.specs.declared.statement.Statement.{Statement}
 use Rattle.ledger_model.specs.declared.statement.Statement.TheVariants as statement
 use Rattle.ledger_model.specs.Values.{Value, same_value}
 use Rattle.ledger_model.specs.Rounds.{phase_of, round_at, lock_place}
-use Rattle.ledger_model.specs.Notes.{Note, Proposed, Round, OwnStatement, Read, clock_of, is_lock, reads_in}
+use Rattle.ledger_model.specs.Notes.{Note, Proposed, Round, OwnStatement, Read, Retired, clock_of, is_lock, reads_in}
 use Rattle.ledger_model.specs.Locks.{took, last_taken, phase_taken, releases, holds}
 use Rattle.ledger_model.specs.Lawful.{lock_read, first_some}
 use Rattle.ledger_model.proofs.LockSafety.{read_has}
@@ -51,12 +51,14 @@ reads_none (Read c s) v d p h = false_from_ne_true (nat_eq c d && of_phase p v s
 reads_none (Proposed w) v d p h = refl
 reads_none (Round c) v d p h = refl
 reads_none (OwnStatement c s) v d p h = refl
+reads_none (Retired f) v d p h = refl
 
 lock_unread : (n : Note) (v : Value) (d : ℕ) → reads_in d (is_lock_on v) n ≡ false → lock_read v d n ≡ None
 lock_unread (Read c s) v d h = rw h refl
 lock_unread (Proposed w) v d h = refl
 lock_unread (Round c) v d h = refl
 lock_unread (OwnStatement c s) v d h = refl
+lock_unread (Retired f) v d h = refl
 
 last_same : (log more : List Note) (v : Value) (n : ℕ) → ((p : ℕ) → 1 ≤ p → took more v p ≡ took log v p)
     → last_taken more v n ≡ last_taken log v n

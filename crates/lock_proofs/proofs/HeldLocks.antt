@@ -11,7 +11,7 @@ use Rattle.ledger_model.specs.declared.statement.SignedStatement.{SignedStatemen
 use Rattle.ledger_model.specs.Values.{Value, same_value, ascending}
 use Rattle.ledger_model.specs.Spelling.{are_ascending}
 use Rattle.ledger_model.specs.Rounds.{phase_of, round_at, lock_place}
-use Rattle.ledger_model.specs.Notes.{Note, Proposed, Round, OwnStatement, Read, Has, clock_of, is_lock, was_read}
+use Rattle.ledger_model.specs.Notes.{Note, Proposed, Round, OwnStatement, Read, Retired, Has, clock_of, is_lock, was_read}
 use Rattle.ledger_model.specs.Locks.{took, last_taken, phase_taken, releases, holds, held_values, value_read}
 use Rattle.ledger_model.specs.Lawful.{lock_read, first_some, held_locks}
 use Rattle.lock_proofs.specs.LockTables.{SignedLock, as_statement}
@@ -53,6 +53,7 @@ first_lock v d [] h = cc
 first_lock v d (Proposed w ∷ log) h = further (Proposed w) (first_lock v d log h)
 first_lock v d (Round c ∷ log) h = further (Round c) (first_lock v d log h)
 first_lock v d (OwnStatement c s ∷ log) h = further (OwnStatement c s) (first_lock v d log h)
+first_lock v d (Retired f ∷ log) h = further (Retired f) (first_lock v d log h)
 first_lock v d (Read c s ∷ log) h =
     elim (cases_Bool (nat_eq c d && is_lock_on v s.statement)) [
       | inl here ↦

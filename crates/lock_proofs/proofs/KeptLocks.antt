@@ -9,7 +9,7 @@ use Rattle.ledger_model.specs.declared.statement.Statement.{Statement}
 use Rattle.ledger_model.specs.declared.statement.Statement.TheVariants as statement
 use Rattle.ledger_model.specs.Values.{Value, same_value}
 use Rattle.ledger_model.specs.Rounds.{place_of, round_at, lock_place, release_place}
-use Rattle.ledger_model.specs.Notes.{Note, Proposed, Round, OwnStatement, Read, Has, is_lock}
+use Rattle.ledger_model.specs.Notes.{Note, Proposed, Round, OwnStatement, Read, Retired, Has, is_lock}
 use Rattle.ledger_model.specs.Locks.{phase_taken, releases, holds, held_values, value_read, lock_value}
 use Rattle.ledger_model.specs.Lawful.{held_locks}
 use Rattle.lock_proofs.specs.Laws.{IsTimely, KeepsLocks}
@@ -28,12 +28,14 @@ any_passes log (Read c s) v timely e =
     (is_no_lock (λ l. same_value v l.value) s.statement e)) refl
 any_passes log (Proposed w) v timely e = read_passes log (Proposed w) v (λ p some. refl) refl
 any_passes log (OwnStatement c s) v timely e = read_passes log (OwnStatement c s) v (λ p some. refl) refl
+any_passes log (Retired f) v timely e = read_passes log (Retired f) v (λ p some. refl) refl
 any_passes log (Round c) v timely e = round_passes log c v timely
 
 releases_none : (n : Note) (v : Value) (p : ℕ) → value_read n ≡ None → releases v p n ≡ false
 releases_none (Read c s) v p e = and_right (nat_eq (place_of c) release_place) _ (is_no_lock _ s.statement e)
 releases_none (Proposed w) v p e = refl
 releases_none (OwnStatement c s) v p e = refl
+releases_none (Retired f) v p e = refl
 releases_none (Round c) v p e = refl
 
 filter_map_same : {X Y : Type 0} (f g : X → Option Y) (xs : List X) → ((x : X) → Has xs x → f x ≡ g x) → filter_map f xs ≡ filter_map g xs

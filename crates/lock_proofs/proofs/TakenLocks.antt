@@ -16,7 +16,7 @@ use Rattle.ledger_model.specs.Values.{Value, same_value, with_value}
 use Rattle.ledger_model.specs.OrderLaws.{same_value-equiv}
 use Rattle.ledger_model.specs.Spelling.{are_ascending}
 use Rattle.ledger_model.specs.Rounds.{phase_of, place_of, round_at, lock_place, release_place}
-use Rattle.ledger_model.specs.Notes.{Note, Proposed, Round, OwnStatement, Read, Has, clock_of, is_lock, was_read}
+use Rattle.ledger_model.specs.Notes.{Note, Proposed, Round, OwnStatement, Read, Retired, Has, clock_of, is_lock, was_read}
 use Rattle.ledger_model.specs.Locks.{took, last_taken, phase_taken, releases, holds, held_values}
 use Rattle.ledger_model.specs.Lawful.{lock_read, first_some}
 use Rattle.lock_proofs.specs.LockTables.{SignedLock, as_statement, with_lock}
@@ -45,6 +45,7 @@ none_first v c [] h = refl
 none_first v c (Proposed w ∷ log) h = none_first v c log h
 none_first v c (Round d ∷ log) h = none_first v c log h
 none_first v c (OwnStatement d s ∷ log) h = none_first v c log h
+none_first v c (Retired f ∷ log) h = none_first v c log h
 none_first v c (Read d s ∷ log) h =
     let parts = or_parts (nat_eq d c && is_lock (λ l. true) s.statement) (was_read log c (is_lock (λ l. true))) h in
     let unread : (nat_eq d c && is_lock_on v s.statement) ≡ false = elim (cases_Bool (nat_eq d c)) [
@@ -75,6 +76,7 @@ none_release log v k past some =
     late (Proposed w) has e = cc
     late (Round c) has e = cc
     late (OwnStatement c s) has e = cc
+    late (Retired f) has e = cc
 
 module _ (log : List Note) (k : ℕ) (s : SignedLock) (timely : IsTimely log) (some : 1 ≤ k) (now : clock_of log ≡ round_at lock_place k)
     (phase : s.lock.phase ≡ k)

@@ -1,7 +1,7 @@
 -- The log of a lawful history is timely.
 use Rattle.std.proofs.Common.{◌≡◌, ℕ, ◌+◌, Bool, true, false, not, cond, inl, inr, List, [], ◌∷◌, ◌++◌, refl, sym, subst, ◌∙◌, append_assoc}
 use Rattle.std.proofs.Common.{arith}
-use Rattle.std.specs.Prelude.{map, nat_eq, Option, Some, None, Ok}
+use Rattle.std.specs.Prelude.{map, nat_eq, nat_lt, Option, Some, None, Ok}
 use Rattle.std.specs.List.{flat_map}
 use Rattle.std.proofs.lemmas.List.{append-nil}
 use Rattle.std.proofs.lemmas.Bool.{and_parts, eqb-true, ne_eqb, not-false}
@@ -15,7 +15,7 @@ use Rattle.ledger_model.specs.declared.history.Entry.{Entry}
 use Rattle.ledger_model.specs.declared.statement.SignedStatement.{SignedStatement}
 use Rattle.ledger_model.specs.Values.{Value}
 use Rattle.ledger_model.specs.Rounds.{phase_of, place_of, round_at, lock_place, release_place}
-use Rattle.ledger_model.specs.Notes.{Note, Proposed, Round, OwnStatement, Read, Has, clock_of}
+use Rattle.ledger_model.specs.Notes.{Note, Proposed, Round, OwnStatement, Read, Retired, Has, clock_of}
 use Rattle.ledger_model.specs.Logs.{height_of, if_some, made_notes, statements_made, notes_of, log_after, log_of}
 use Rattle.ledger_model.specs.Reading.{reading}
 use Rattle.ledger_model.specs.Rules.{MayMake, Ring, causes, answer_to, has_phase}
@@ -54,6 +54,7 @@ pub stays_timely : StaysTimely
 stays_timely log (Proposed v) timely on_time = timely_more log (Proposed v) timely (λ c s e. absurd (cc))
 stays_timely log (Round d) timely on_time = timely_more log (Round d) timely (λ c s e. absurd (cc))
 stays_timely log (OwnStatement d u) timely on_time = timely_more log (OwnStatement d u) timely (λ c s e. absurd (cc))
+stays_timely log (Retired f) timely on_time = timely_more log (Retired f) timely (λ c s e. absurd (cc))
 stays_timely log (Read d u) timely on_time =
     let parts = and_parts (nat_eq d (clock_of log)) (has_phase (clock_of log) u.statement) on_time in
     let now : d ≡ clock_of log = eqb-true d (clock_of log) (parts.0) in
@@ -77,6 +78,11 @@ proposed_of_phase : (b : Bool) (v : Value) → AreOfPhase (cond b (Proposed v �
 unfolding AreOfPhase
 proposed_of_phase true v c s has place = elim has [ inl e ↦ absurd (cc) | inr none ↦ absurd none ]
 proposed_of_phase false v c s has place = absurd has
+
+retired_of_phase : (b : Bool) (f : ℕ) → AreOfPhase (cond b (Retired f ∷ []) [])
+unfolding AreOfPhase
+retired_of_phase true f c s has place = elim has [ inl e ↦ absurd (cc) | inr none ↦ absurd none ]
+retired_of_phase false f c s has place = absurd has
 
 read_of_phase : (d : ℕ) (b : Bool) (u : SignedStatement) → (b ≡ true → has_phase d u.statement ≡ true)
     → AreOfPhase (cond b (Read d u ∷ []) [])
@@ -130,6 +136,7 @@ module _ (config : Config) (ring : Ring) (id h : ℕ) where
   entry_of_phase front event.RoundEnd (reply.RoundEnded (Ok ended)) lawful =
       made_of_phase (log_of config id h front) ended.mute
       (statements_made config id h (log_of config id h front) (clock_of (log_of config id h front) + 1) ended) ((lawful.1).makes h)
+  entry_of_phase front (event.Retire g) (reply.Retired (Ok f)) lawful = retired_of_phase (nat_lt h f) f
   entry_of_phase front e r lawful = none_of_phase
 
   joined_of_phase : (log notes : List Note) → AreOfPhase log → AreOfPhase notes → AreOfPhase (log ++ notes)

@@ -5,7 +5,7 @@ use Rattle.ledger_model.specs.declared.history.Entry.{Entry}
 use Rattle.ledger_model.specs.declared.statement.SignedStatement.{SignedStatement}
 use Rattle.ledger_model.specs.Values.{Value}
 use Rattle.ledger_model.specs.Rounds.{phase_of, place_of, round_at, lock_place, release_place}
-use Rattle.ledger_model.specs.Notes.{Note, Proposed, Round, OwnStatement, Read, Has, clock_of, is_lock, was_read}
+use Rattle.ledger_model.specs.Notes.{Note, Read, Has, clock_of, is_lock, was_read}
 use Rattle.ledger_model.specs.Locks.{held_values, is_full, value_read}
 use Rattle.ledger_model.specs.Logs.{log_of}
 use Rattle.ledger_model.specs.Rules.{Ring, has_phase}
@@ -62,9 +62,7 @@ FullAlike =
 -- the note may come next: if it reads a statement, it does so in the open round, and the statement is of that round's phase
 abbrev pub is_on_time : ℕ → Note → Bool
 is_on_time c (Read d s) = (d == c) && has_phase c s.statement
-is_on_time c (Proposed v) = true
-is_on_time c (Round d) = true
-is_on_time c (OwnStatement d s) = true
+is_on_time c _ = true
 
 -- a timely log stays timely under such notes
 abbrev pub StaysTimely : Type 0

@@ -71,6 +71,7 @@ mute_by core entries (event.Propose h) matches due = sym matches.mute ∙ sym (o
 mute_by core entries (event.Deliver bytes) matches due = sym matches.mute ∙ sym (or-false (is_mute entries))
 mute_by core entries event.Execute matches due = sym matches.mute ∙ sym (or-false (is_mute entries))
 mute_by core entries (event.Query key height) matches due = sym matches.mute ∙ sym (or-false (is_mute entries))
+mute_by core entries (event.Retire floor) matches due = sym matches.mute ∙ sym (or-false (is_mute entries))
 
 -- where too few leaves are left, they are fewer than are due
 lacks_few : (r : StateView) (e : Event) → lacks_leaves r e ≡ true → leaves_of r.secret < r.used + due_next r
@@ -82,6 +83,7 @@ lacks_few r (event.Propose h) lacks = cc
 lacks_few r (event.Deliver bytes) lacks = cc
 lacks_few r event.Execute lacks = cc
 lacks_few r (event.Query key height) lacks = cc
+lacks_few r (event.Retire floor) lacks = cc
 
 -- what a step does
 pub record IsTaken (old new : Core) (before after : List Entry) (e : Entry) : Type 0 where

@@ -19,6 +19,7 @@ event_lent (lent_event.Deliver bytes) = event.Deliver bytes.now
 event_lent lent_event.RoundEnd = event.RoundEnd
 event_lent lent_event.Execute = event.Execute
 event_lent (lent_event.Query key height) = event.Query key.now height
+event_lent (lent_event.Retire floor) = event.Retire floor
 
 -- the reply that is borrowed
 abbrev pub reply_lent : ReplyView → Reply
@@ -31,6 +32,7 @@ reply_lent (lent_reply.Executed (Ok block)) = reply.Executed (Ok block.now)
 reply_lent (lent_reply.Executed (Err nothing)) = reply.Executed (Err nothing)
 reply_lent (lent_reply.Queried (Ok answer)) = reply.Queried (Ok answer.now)
 reply_lent (lent_reply.Queried (Err refusal)) = reply.Queried (Err refusal)
+reply_lent (lent_reply.Retired r) = reply.Retired r
 
 -- the frame that is borrowed, with its addressee
 abbrev pub sent_lent : SentView → Sent

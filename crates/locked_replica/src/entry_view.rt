@@ -39,6 +39,7 @@ impl<'a> EntryView<'a> {
             Event::RoundEnd => EventView::RoundEnd,
             Event::Execute => EventView::Execute,
             Event::Query(key, height) => EventView::Query(key.as_bytes(), *height),
+            Event::Retire(floor) => EventView::Retire(*floor),
         }
     }
 
@@ -57,6 +58,7 @@ impl<'a> EntryView<'a> {
             Reply::Executed(Err(nothing)) => ReplyView::Executed(Err(*nothing)),
             Reply::Queried(Ok(answer)) => ReplyView::Queried(Ok(answer)),
             Reply::Queried(Err(refusal)) => ReplyView::Queried(Err(*refusal)),
+            Reply::Retired(answer) => ReplyView::Retired(*answer),
         }
     }
 }

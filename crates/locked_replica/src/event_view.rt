@@ -16,4 +16,6 @@ pub enum EventView<'a> {
     Execute,
     /// A client queried the application for a key, at a height; 0 means the latest.
     Query(&'a [u8], Height),
+    /// The replica was to give up the heights below this one.
+    Retire(Height),
 }

@@ -1,8 +1,8 @@
 //! A borrowed view of a reply of a history.
 use bytes::Bytes;
 use ledger_model::{
-    Addressee, Batch, BlockResult, Ignored, LastRound, NotHeld, NothingDecided, ProposeRefusal,
-    QueryAnswer, RoundEnded, SubmitRefusal,
+    Addressee, Batch, BlockResult, Height, Ignored, LastRound, NotHeld, NothingDecided,
+    ProposeRefusal, QueryAnswer, RetireRefusal, RoundEnded, SubmitRefusal,
 };
 use std::marker::Model;
 
@@ -15,6 +15,7 @@ pub enum ReplyView<'a> {
     RoundEnded(Result<RoundEndView<'a>, LastRound>),
     Executed(Result<&'a BlockResult, NothingDecided>),
     Queried(Result<&'a QueryAnswer, NotHeld>),
+    Retired(Result<Height, RetireRefusal>),
 }
 
 /// The reply to a round end: its frames one by one, and whether the replica is mute. Contracts see a `RoundEnded`.

@@ -50,12 +50,12 @@ impl<A: Application> State<A> {
     ghost use Rattle.ledger_model.specs.declared.reply.Reply.{Reply};
     ghost use Rattle.ledger_model.specs.Limits.{max_height, max_history_len};
     ghost use Rattle.ledger_model.specs.Applications.{run};
-    ghost use Rattle.ledger_model.specs.Commits.{commits_of, decided_at};
+    ghost use Rattle.ledger_model.specs.Commits.{commits_of, floor_of, decision_at};
     ghost use Rattle.ledger_model.specs.Lawful.{Lawful, Replay, clock_at, is_signed_reply};
     ghost use Rattle.ledger_model.specs.Logs.{is_mute};
     ghost use Rattle.key_ring.specs.Signers.{key_of, leaves_of};
     ghost use Rattle.replica_core.specs.Steps.{UsesLeaves};
-    ghost use Rattle.replica_core.specs.Facts.{block_at, info_reply};
+    ghost use Rattle.replica_core.specs.Facts.{block_at, info_reply, AreClosed};
     ghost use Rattle.locked_replica.specs.States.{StateView, IsMember, AccountsForLeaves, RunsAlone, UsesAsSigned, due_next, is_mute_after, keys_in, new_state, signs_at};
 
     /// A replica with an empty history. The application must be in its opening state, of the configured kind. The ring
@@ -191,9 +191,19 @@ impl<A: Application> State<A> {
         self.core.block(height)
     }
 
-    /// The batch that was decided at a height, committed or not; `None` if none was.
+    /// The floor: the least height that the replica hasn't given up, 1 at first.
+    pub fn floor(&self) -> Height
+        ensures floor { result ≡ floor_of self.now.entries }
+        // Every height below it is committed, and none of them is open.
+        ensures low { result ≤ length (commits_of self.now.config self.now.id self.now.entries) + 1 }
+        ensures closed { AreClosed self.now.config self.now.id self.now.entries result }
+    {
+        self.core.floor()
+    }
+
+    /// The batch that was decided at a height from the floor on, committed or not; `None` if none was, and below the floor.
     pub fn decided_at(&self, height: Height) -> Option<&Batch>
-        ensures { option_copied result ≡ decided_at self.now.config self.now.id self.now.entries height }
+        ensures { option_copied result ≡ decision_at self.now.config self.now.id self.now.entries height }
     {
         self.core.decided_at(height)
     }

@@ -104,6 +104,7 @@ submit_silent a bytes (reply.Delivered r) lawful = absurd lawful
 submit_silent a bytes (reply.RoundEnded r) lawful = refl
 submit_silent a bytes (reply.Executed r) lawful = refl
 submit_silent a bytes (reply.Queried r) lawful = refl
+submit_silent a bytes (reply.Retired r) lawful = refl
 
 pub propose_silent : (a : StateView) (h : ℕ) (r : Reply) → Lawful a.config a.ring a.id a.entries (event.Propose h) r → reply_text r ≡ []
 propose_silent a h (reply.Submitted r) lawful = refl
@@ -112,6 +113,7 @@ propose_silent a h (reply.Delivered r) lawful = absurd lawful
 propose_silent a h (reply.RoundEnded r) lawful = refl
 propose_silent a h (reply.Executed r) lawful = refl
 propose_silent a h (reply.Queried r) lawful = refl
+propose_silent a h (reply.Retired r) lawful = refl
 
 pub round_end_silent : (a : StateView) (r : Reply) → Lawful a.config a.ring a.id a.entries event.RoundEnd r → reply_text r ≡ []
 round_end_silent a (reply.Submitted r) lawful = refl
@@ -120,6 +122,7 @@ round_end_silent a (reply.Delivered r) lawful = absurd lawful
 round_end_silent a (reply.RoundEnded r) lawful = refl
 round_end_silent a (reply.Executed r) lawful = refl
 round_end_silent a (reply.Queried r) lawful = refl
+round_end_silent a (reply.Retired r) lawful = refl
 
 -- an event that prints nothing, taken or not
 pub taken_silently : {E F : Type 0} (old new : StateView) (e : Event) (outcome : Result ℕ E) (result : Result (Unit {0}) F)

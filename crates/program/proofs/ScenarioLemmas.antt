@@ -6,7 +6,7 @@ use Rattle.std.specs.Prelude.{◌⊎◌, Option, if◌then◌else◌}
 use Rattle.std.specs.Io.KnownBytes.{Appends, Consumes, IsAtEnd}
 use Rattle.std.proofs.KnownBytes.{Appends-trans, Consumes-trans}
 use Rattle.ledger_model.specs.declared.config.Config.{Config}
-use Rattle.adversary_net.specs.WorldViews.{AllAccountForLeaves, HasRun}
+use Rattle.adversary_net.specs.WorldViews.{AllAccountForLeaves, AllReplay, HasRun}
 use Rattle.adversary_net.specs.Headline.{IsUnforged, IsOneLedger}
 use Rattle.scenario_texts.specs.declared.fault.TextFault.{TextFault}
 use Rattle.scenario_texts.specs.declared.fault.TextFault.TheVariants as fault
@@ -52,9 +52,9 @@ PlayedBegun s p before after = (text : List ℕ) × ((PlayedSome s p text ⊎ Pl
 module _ (s : SimulateSettings) (p : Plan) (config : Config) (sized : IsConfigOf p config) where
   -- all commands were played
   played_of : (a b : SimulationView) (lines : List ℕ) → a ≡ opening s.seed config p → PlaysAll a p.commands lines b → HasRun b.cluster
-      → (IsUnforged b.cluster → IsOneLedger b.cluster) → AllAccountForLeaves b.cluster
+      → (IsUnforged b.cluster → IsOneLedger b.cluster) → AllReplay b.cluster → AllAccountForLeaves b.cluster
       → Played s p (if s.histories then histories_of b.cluster else lines)
-  played_of a b lines opens plays since one_ledger account = record {
+  played_of a b lines opens plays since one_ledger replay account = record {
     config = config;
     sized = sized;
     lines = lines;
@@ -62,6 +62,7 @@ module _ (s : SimulateSettings) (p : Plan) (config : Config) (sized : IsConfigOf
     plays = subst (λ x. PlaysAll x p.commands lines b) opens plays;
     since = since;
     one_ledger = one_ledger;
+    replay = replay;
     account = account;
     written = refl;
   }
@@ -69,12 +70,12 @@ module _ (s : SimulateSettings) (p : Plan) (config : Config) (sized : IsConfigOf
   -- and what is wanted was written
   pub played_whole : (a b : SimulationView) (before mid after : Option (List ℕ)) → a ≡ opening s.seed config p
       → PlaysWritten (not s.histories) a p.commands b before mid
-      → HasRun b.cluster → (IsUnforged b.cluster → IsOneLedger b.cluster) → AllAccountForLeaves b.cluster
+      → HasRun b.cluster → (IsUnforged b.cluster → IsOneLedger b.cluster) → AllReplay b.cluster → AllAccountForLeaves b.cluster
       → Appends mid after (if s.histories then histories_of b.cluster else []) → PlayedWritten s p before after
-  played_whole a b before mid after opens (lines, (plays, first)) since one_ledger account last = (
+  played_whole a b before mid after opens (lines, (plays, first)) since one_ledger replay account last = (
     if s.histories then histories_of b.cluster else lines,
     (
-      played_of a b lines opens plays since one_ledger account,
+      played_of a b lines opens plays since one_ledger replay account,
       text_written s.histories lines (histories_of b.cluster) before mid after
           first last,
     ),
@@ -83,12 +84,12 @@ module _ (s : SimulateSettings) (p : Plan) (config : Config) (sized : IsConfigOf
   -- or a beginning of it
   pub played_begun : (a b : SimulationView) (before mid after : Option (List ℕ)) → a ≡ opening s.seed config p
       → PlaysWritten (not s.histories) a p.commands b before mid
-      → HasRun b.cluster → (IsUnforged b.cluster → IsOneLedger b.cluster) → AllAccountForLeaves b.cluster
+      → HasRun b.cluster → (IsUnforged b.cluster → IsOneLedger b.cluster) → AllReplay b.cluster → AllAccountForLeaves b.cluster
       → AppendsSome mid after (if s.histories then histories_of b.cluster else []) → PlayedBegun s p before after
-  played_begun a b before mid after opens (lines, (plays, first)) since one_ledger account last = (
+  played_begun a b before mid after opens (lines, (plays, first)) since one_ledger replay account last = (
     if s.histories then histories_of b.cluster else lines,
     (
-      inr (played_of a b lines opens plays since one_ledger account),
+      inr (played_of a b lines opens plays since one_ledger replay account),
       text_begun s.histories lines (histories_of b.cluster) before mid after
           first last,
     ),

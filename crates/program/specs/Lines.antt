@@ -37,6 +37,7 @@ reply_text (reply.Delivered r) = ended (line_of r)
 reply_text (reply.RoundEnded r) = []
 reply_text (reply.Executed r) = []
 reply_text (reply.Queried r) = []
+reply_text (reply.Retired r) = []
 
 -- the text for a history: a line for each frame, in order
 abbrev pub lines_of : List Entry → List ℕ

@@ -6,7 +6,7 @@ use Rattle.std.specs.Io.KnownBytes.{Appends, Consumes, IsAtEnd}
 use Rattle.ledger_model.specs.declared.config.Config.{Config}
 use Rattle.cluster_keys.specs.declared.cluster_seed.ClusterSeed.{ClusterSeed}
 use Rattle.cluster_keys.specs.Keys.{secret_of}
-use Rattle.adversary_net.specs.WorldViews.{WorldView, AllAccountForLeaves, HasRun, world_of}
+use Rattle.adversary_net.specs.WorldViews.{WorldView, AllAccountForLeaves, AllReplay, HasRun, world_of}
 use Rattle.adversary_net.specs.Headline.{IsUnforged, IsOneLedger}
 use Rattle.adversary_net.specs.Openings.{new_cluster}
 use Rattle.history_bytes.specs.Histories.{history_bytes}
@@ -45,8 +45,9 @@ histories_of c = flat_map history_bytes (world_of c).histories
 abbrev pub if_wanted : Bool → List ℕ → List ℕ
 if_wanted wanted lines = if wanted then lines else []
 
--- The commands of the plan were played in a run from the start, which is a run of one sequential ledger if nothing was forged. Each
--- correct replica is mute only if too few leaves were left. The text is the lines of the commands, or the histories at the end.
+-- The commands of the plan were played in a run from the start, which is a run of one sequential ledger if nothing was forged. The
+-- history of each correct replica is a replay, and it is mute only if too few leaves were left. The text is the lines of the
+-- commands, or the histories at the end.
 pub record Played (s : SimulateSettings) (p : Plan) (text : List ℕ) : Type 0 where
   pub config : Config
   pub sized : IsConfigOf p config
@@ -55,6 +56,7 @@ pub record Played (s : SimulateSettings) (p : Plan) (text : List ℕ) : Type 0 w
   pub plays : PlaysAll (opening s.seed config p) p.commands lines final
   pub since : HasRun final.cluster
   pub one_ledger : IsUnforged final.cluster → IsOneLedger final.cluster
+  pub replay : AllReplay final.cluster
   pub account : AllAccountForLeaves final.cluster
   pub written : text ≡ if s.histories then histories_of final.cluster else lines
 

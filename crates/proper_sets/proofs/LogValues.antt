@@ -8,7 +8,7 @@ use Rattle.ledger_model.specs.declared.statement.Report.{Report}
 use Rattle.ledger_model.specs.declared.statement.Statement.{Statement}
 use Rattle.ledger_model.specs.declared.statement.Statement.TheVariants as statement
 use Rattle.ledger_model.specs.Rounds.{round_at, report_place}
-use Rattle.ledger_model.specs.Notes.{Note, Proposed, Round, OwnStatement, Read, Has, is_report, was_read}
+use Rattle.ledger_model.specs.Notes.{Note, Proposed, Round, OwnStatement, Read, Retired, Has, is_report, was_read}
 use Rattle.ledger_model.specs.Values.{Value, same_value}
 use Rattle.ledger_model.specs.Proper.{values_in}
 use Rattle.tally.specs.Readings.{AreReadIn}
@@ -55,6 +55,7 @@ module _ (part : Report → List Value) (k : ℕ) where
   in_read (Proposed w ∷ log) v h = in_read log v h
   in_read (Round c ∷ log) v h = in_read log v h
   in_read (OwnStatement c s ∷ log) v h = in_read log v h
+  in_read (Retired f ∷ log) v h = in_read log v h
   in_read (Read c s ∷ log) v h = read_note c s.statement s.signature log v (in_read log v) h
 
   -- and what was read is in the notes
@@ -87,6 +88,7 @@ module _ (part : Report → List Value) (k : ℕ) where
   was_in (Proposed w ∷ log) v h = was_in log v h
   was_in (Round c ∷ log) v h = was_in log v h
   was_in (OwnStatement c s ∷ log) v h = was_in log v h
+  was_in (Retired f ∷ log) v h = was_in log v h
   was_in (Read c s ∷ log) v h = note_read c s.statement s.signature log v (was_in log v) h
 
   module _ (config : Config) (log : List Note) (reports : List Report) (read : AreReadIn config log k reports) where

@@ -1,5 +1,5 @@
 -- Bytes arrive from the network.
-use Rattle.std.proofs.Common.{◌≡◌, ℕ, ◌<◌, ◌≤◌, true, cond, inl, inr, List, [], ◌∷◌, ◌++◌, refl, sym, ap, subst, ◌∙◌, arith}
+use Rattle.std.proofs.Common.{◌≡◌, ℕ, ◌<◌, ◌≤◌, true, false, cond, inl, inr, List, [], ◌∷◌, ◌++◌, refl, sym, ap, subst, ◌∙◌, arith}
 use Rattle.std.specs.Prelude.{nat_eq, Option, Some, None, is_some, Result, Ok, Err, IfOk, OnErr}
 use Rattle.std.proofs.lemmas.Bool.{cases_eq, eq-eqb, ne_eqb, lt-ltb, le-ltb, false≢true}
 use Rattle.ledger_model.specs.declared.event.Event.TheVariants as event
@@ -8,7 +8,7 @@ use Rattle.ledger_model.specs.declared.reply.Ignored.{Ignored}
 use Rattle.ledger_model.specs.declared.reply.Ignored.TheVariants as cause
 use Rattle.ledger_model.specs.declared.reply.Reply.TheVariants as reply
 use Rattle.ledger_model.specs.declared.statement.SignedStatement.{SignedStatement}
-use Rattle.ledger_model.specs.Notes.{Note, Read, clock_of, signer_of}
+use Rattle.ledger_model.specs.Notes.{Note, Read, clock_of, is_open, signer_of}
 use Rattle.ledger_model.specs.Logs.{log_of, height_of, if_some, notes_of}
 use Rattle.ledger_model.specs.Reading.{reading}
 use Rattle.ledger_model.specs.Rules.{causes, answer_to}
@@ -21,7 +21,7 @@ use Rattle.std.specs.declared.alloc.AllocError.{AllocError}
 use Rattle.replica_core.specs.ReplicaStates.{ReplicaStateView, MatchesHistory}
 use Rattle.replica_core.specs.Steps.{IsStep}
 use Rattle.replica_core.proofs.Quiet.{log_then, log_stays, quiet, unheard}
-use Rattle.replica_core.proofs.Unopened.{no_initial}
+use Rattle.replica_core.proofs.Unopened.{closed_there}
 
 -- what a frame that is judged changes: the height that it is of alone, and only where it is read
 pub record Judged (held : ReplicaStateView) (s : SignedStatement) (row : InstanceView) (new : List InstanceView)
@@ -40,7 +40,7 @@ module _ (held : ReplicaStateView) (bytes : List ℕ) where
       → MatchesHistory held (entries ++ record { event = event.Deliver bytes; reply = reply.Delivered (Err f) } ∷ [])
   unfolding notes_of
   ignored f entries matches = unheard held entries (record { event = event.Deliver bytes; reply = reply.Delivered (Err f) }) matches refl
-      refl refl held.pool refl (λ h. refl)
+      refl refl (λ floor. refl) held.pool refl (λ h. refl)
 
   -- bytes that are no frame
   pub malformed : reading bytes ≡ None → IsStep held (event.Deliver bytes) (reply.Delivered (Err cause.Malformed)) held
@@ -69,8 +69,7 @@ module _ (held : ReplicaStateView) (bytes : List ℕ) where
       sym (ap (answer held.config held.ring held.id entries) is
           ∙ simp (
             lt-ltb (signer_of s.statement) held.config.replicas low,
-            no_initial
-                (log_of held.config held.id (height_of s.statement) entries) (matches.unopened (height_of s.statement) none),
+            closed_there held entries matches (height_of s.statement) none,
           ) refl),
       refl,
       ignored cause.NoRow entries matches,
@@ -109,7 +108,7 @@ module _ (held : ReplicaStateView) (bytes : List ℕ) where
       read_more : (row : InstanceView) (new : List InstanceView) → row_at held.rows (height_of s.statement) ≡ Some row
           → Judged held s row new (Ok tt) → MatchesHistory (record held { rows = new }) (entries ++ entry ∷ [])
       read_more row new at judged =
-          quiet held entries entry matches refl refl refl new held.pool refl clocks opened unopened
+          quiet held entries entry matches refl refl refl (λ floor. refl) new held.pool refl clocks opened unopened retired
         where
           clocks : (g : ℕ) → clock_of (log_of held.config held.id g (entries ++ entry ∷ [])) ≡ held.clock
           clocks g = elim (cases_eq g (height_of s.statement)) [
@@ -130,10 +129,18 @@ module _ (held : ReplicaStateView) (bytes : List ℕ) where
                 (matches.opened g next (sym (judged.apart g other) ∙ is_next))
           ]
 
-          unopened : (g : ℕ) → row_at new g ≡ None → only_rounds (log_of held.config held.id g (entries ++ entry ∷ [])) ≡ true
-          unopened g none = elim (cases_eq g (height_of s.statement)) [
+          retired : (g : ℕ) → g < held.floor → is_open (log_of held.config held.id g (entries ++ entry ∷ [])) ≡ false
+          retired g below = elim (cases_eq g (height_of s.statement)) [
+            | inl here ↦ absurd (false≢true (sym (matches.retired g below) ∙ ap is_some ((matches.opened g row
+                (ap (row_at held.rows) here ∙ at)).opened)))
+            | inr other ↦ ap is_open (log_there g other) ∙ matches.retired g below
+          ]
+
+          unopened : (g : ℕ) → held.floor ≤ g → row_at new g ≡ None
+              → only_rounds (log_of held.config held.id g (entries ++ entry ∷ [])) ≡ true
+          unopened g from none = elim (cases_eq g (height_of s.statement)) [
             | inl here ↦ absurd (false≢true (sym (ap is_some (ap (row_at new) (sym here) ∙ none)) ∙ judged.stays_open))
-            | inr other ↦ ap only_rounds (log_there g other) ∙ matches.unopened g (sym (judged.apart g other) ∙ none)
+            | inr other ↦ ap only_rounds (log_there g other) ∙ matches.unopened g from (sym (judged.apart g other) ∙ none)
           ]
 
     -- a frame of an open height

@@ -11,7 +11,7 @@ use Rattle.ledger_model.specs.declared.history.Entry.{Entry}
 use Rattle.ledger_model.specs.declared.statement.Report.{Report}
 use Rattle.ledger_model.specs.Values.{Value}
 use Rattle.ledger_model.specs.Rounds.{phase_of, place_of, owner_of, count_from, report_place}
-use Rattle.ledger_model.specs.Notes.{Note, Proposed, Round, OwnStatement, Read, Has, clock_of, initial_of}
+use Rattle.ledger_model.specs.Notes.{Note, Has, clock_of, open_of}
 use Rattle.ledger_model.specs.Locks.{is_supported}
 use Rattle.ledger_model.specs.Logs.{log_of}
 use Rattle.ledger_model.specs.Proper.{values_in}
@@ -25,7 +25,7 @@ use Rattle.proper_sets.proofs.LogValues.{values_noted}
 use Rattle.phase_core.proofs.Choosing.{chosen_found, none_chosen, chosen_named}
 use Rattle.phase_core.proofs.Logs.{found_is_supported}
 use Rattle.instance.specs.Instances.{InstanceView}
-use Rattle.instance.specs.Matching.{MatchesLog, MatchesIn, only_rounds}
+use Rattle.instance.specs.Matching.{MatchesLog, MatchesIn}
 use Rattle.instance.specs.Plans.{chosen_statement, chosen_lock, sent_ack}
 use Rattle.ledger_model.proofs.AtPlace.{at_place, at_reports, at_lock, at_acks, at_release}
 use Rattle.instance.proofs.KeptPlaces.{are_read_in}
@@ -34,6 +34,7 @@ use Rattle.replica_core.specs.ReplicaStates.{ReplicaStateView, IsWithinLimits, M
 use Rattle.replica_core.specs.RoundEnds.{due}
 use Rattle.replica_core.specs.Leaves.{is_some_supported, is_due, due_within, due_by}
 use Rattle.replica_core.proofs.AscendingRows.{each_found}
+use Rattle.replica_core.proofs.Unopened.{closed_there}
 
 -- ---- at one height
 
@@ -102,17 +103,10 @@ choice_at : (ring : Ring) (row : InstanceView) (log : List Note) (n : ℕ) → M
 choice_at ring row log n matches clock =
     subst (λ n. is_some (chosen_statement row (n + 1)) ≡ is_due row.config row.id log (n + 1)) clock (choice_is ring row log matches)
 
--- a height that was not opened
-not_opened : (log : List Note) → only_rounds log ≡ true → initial_of log ≡ None
-not_opened [] only = refl
-not_opened (Proposed v ∷ log) only = cc
-not_opened (Round c ∷ log) only = not_opened log only
-not_opened (OwnStatement c s ∷ log) only = cc
-not_opened (Read c s ∷ log) only = cc
-
-none_due : (config : Config) (id : ℕ) (log : List Note) (c : ℕ) → only_rounds log ≡ true → is_due config id log c ≡ false
+-- a height that isn't open
+none_due : (config : Config) (id : ℕ) (log : List Note) (c : ℕ) → open_of log ≡ None → is_due config id log c ≡ false
 unfolding is_due
-none_due config id log c only = rw (not_opened log only) refl
+none_due config id log c closed = rw closed refl
 
 -- ---- over all heights
 
@@ -200,7 +194,7 @@ due_at : (held : ReplicaStateView) (entries : List Entry) → IsWithinLimits hel
     → (h : ℕ) (o : Option InstanceView) → row_at held.rows h ≡ o
     → is_due held.config held.id (log_of held.config held.id h entries) (held.clock + 1) ≡ is_chosen (held.clock + 1) o
 due_at held entries is_held matches h None is =
-    none_due held.config held.id (log_of held.config held.id h entries) (held.clock + 1) (matches.unopened h is)
+    none_due held.config held.id (log_of held.config held.id h entries) (held.clock + 1) (closed_there held entries matches h is)
 due_at held entries is_held matches h (Some row) is =
     let own = is_held.own h row is in
     let log = log_of held.config held.id h entries in

@@ -129,8 +129,8 @@ unfolding notes_of
 over held last entries matches = (
   matches.clock ∙ last,
   refl,
-  unheard held entries (record { event = event.RoundEnd; reply = reply.RoundEnded (Err (record {})) }) matches refl refl refl held.pool
-      refl (λ h. refl),
+  unheard held entries (record { event = event.RoundEnd; reply = reply.RoundEnded (Err (record {})) }) matches refl refl refl
+      (λ floor. refl) held.pool refl (λ h. refl),
 )
 
 -- what is planned, by what is kept

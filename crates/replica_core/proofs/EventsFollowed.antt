@@ -9,24 +9,27 @@ use Rattle.ledger_model.specs.declared.reply.NothingDecided.{NothingDecided}
 use Rattle.ledger_model.specs.declared.reply.ProposeRefusal.{ProposeRefusal}
 use Rattle.ledger_model.specs.declared.reply.QueryAnswer.{QueryAnswer}
 use Rattle.ledger_model.specs.declared.reply.Reply.TheVariants as reply
+use Rattle.ledger_model.specs.declared.reply.RetireRefusal.{RetireRefusal}
 use Rattle.ledger_model.specs.declared.reply.SubmitRefusal.{SubmitRefusal}
 use Rattle.ledger_model.specs.Values.{Value}
 use Rattle.ledger_model.specs.Notes.{Note, Proposed}
 use Rattle.ledger_model.specs.Reading.{reading}
 use Rattle.ledger_model.specs.Rules.{Ring}
-use Rattle.ledger_model.specs.Commits.{commits_of, submit_reply, propose_reply, execute_reply}
+use Rattle.ledger_model.specs.Commits.{commits_of, submit_reply, propose_reply, execute_reply, retire_reply}
 use Rattle.ledger_model.specs.Replies.{query_reply}
 use Rattle.ledger_model.specs.Lawful.{answer}
 use Rattle.instance.specs.Instances.{InstanceView}
 use Rattle.instance.specs.Matching.{MatchesLog, only_rounds}
 use Rattle.height_row.specs.Heights.{row_at, AreApart}
 use Rattle.replica_core.specs.ReplicaStates.{ReplicaStateView, IsOneCluster}
-use Rattle.replica_core.specs.Steps.{IsStep, submit_held, pool_with, propose_held, execute_held, next_decided, after_execute}
+use Rattle.replica_core.specs.Steps.{IsStep, submit_held, pool_with, propose_held, execute_held, next_decided, after_execute, retire_held}
+use Rattle.replica_core.specs.Steps.{after_retire}
 use Rattle.replica_core.specs.Following.{IsFollowed}
 use Rattle.replica_core.proofs.Followed.{compared}
 use Rattle.replica_core.proofs.Submits.{submits, queries}
 use Rattle.replica_core.proofs.Proposes.{proposes}
 use Rattle.replica_core.proofs.Executes.{executes}
+use Rattle.replica_core.proofs.Retires.{retires}
 
 -- a transaction is handed in
 pub submit_followed : (held new : ReplicaStateView) (tx : List ℕ) (due shown : Result (Unit {0}) SubmitRefusal) (kept : Bool)
@@ -76,3 +79,11 @@ query_followed held key h due shown kept same is =
     compared held held (event.Query key h) (λ r. reply.Queried r)
     (λ entries. query_reply held.config.kind (commits_of held.config held.id entries) key h) due shown kept same
     (λ entries r lawful. lawful) (λ r. refl) (queries held key h due is)
+
+-- heights are given up
+pub retire_followed : (held new : ReplicaStateView) (floor : ℕ) (due shown : Result ℕ RetireRefusal) (kept : Bool)
+    → (kept ≡ true ↔ due ≡ shown) → due ≡ retire_held held floor → new ≡ after_retire held due
+    → IsFollowed held (event.Retire floor) (reply.Retired shown) kept new
+retire_followed held new floor due shown kept same is after =
+    compared held new (event.Retire floor) (λ r. reply.Retired r) (λ entries. retire_reply held.config held.id entries floor) due shown kept
+    same (λ entries r lawful. lawful) (λ r. refl) (retires held new floor due is after)

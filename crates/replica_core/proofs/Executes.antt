@@ -8,17 +8,19 @@ use Rattle.ledger_model.specs.declared.reply.BlockResult.{BlockResult}
 use Rattle.ledger_model.specs.declared.reply.NothingDecided.{NothingDecided}
 use Rattle.ledger_model.specs.declared.reply.Reply.TheVariants as reply
 use Rattle.ledger_model.specs.Values.{Value}
-use Rattle.ledger_model.specs.Notes.{clock_of}
+use Rattle.std.proofs.lemmas.List.{length-append}
+use Rattle.ledger_model.specs.Notes.{clock_of, is_open}
 use Rattle.ledger_model.specs.Logs.{log_of, notes_of, is_mute}
 use Rattle.ledger_model.specs.Replies.{block_reply}
 use Rattle.ledger_model.specs.Commits.{executed, decided_at, commits_of, pool_of, pool_step, pool_after_block, last_block, block_of}
 use Rattle.ledger_model.specs.Commits.{execute_reply}
+use Rattle.ledger_model.proofs.Floors.{floor_of-snoc}
 use Rattle.instance.specs.Matching.{MatchesLog, only_rounds}
 use Rattle.replica_core.specs.ReplicaStates.{ReplicaStateView, IsOneCluster, MatchesHistory}
 use Rattle.replica_core.specs.Steps.{IsStep, next_decided, execute_held, with_block, after_execute}
 use Rattle.replica_core.proofs.Histories.{pool_more, clock_more, mute_more, count_commits, commits_more, blocks_more}
 use Rattle.replica_core.proofs.Quiet.{log_stays, unheard}
-use Rattle.replica_core.proofs.Unopened.{decided_there}
+use Rattle.replica_core.proofs.Unopened.{decided_from}
 
 -- the last of the batches is the one that was put behind them
 last_of : (vs : List Value) (v : Value) → last_block (vs ++ v ∷ []) ≡ v
@@ -30,7 +32,7 @@ module _ (held : ReplicaStateView) (one : IsOneCluster held) (entries : List Ent
   -- the height after the committed ones is decided by what is kept as by the history
   decided_next : next_decided held ≡ decided_at held.config held.id entries (length (commits_of held.config held.id entries) + 1)
   decided_next =
-      decided_there held entries matches one (length held.commits + 1)
+      decided_from held entries matches one (length held.commits + 1) matches.low
       ∙ ap (λ vs. decided_at held.config held.id entries (length vs + 1)) (sym matches.commits)
 
   -- what is answered by what is kept is what is answered by the history
@@ -45,7 +47,7 @@ module _ (held : ReplicaStateView) (one : IsOneCluster held) (entries : List Ent
   unchanged : MatchesHistory held (entries ++ record { event = event.Execute; reply = reply.Executed (Err (record {})) } ∷ [])
   unfolding notes_of
   unchanged = unheard held entries (record { event = event.Execute; reply = reply.Executed (Err (record {})) }) matches refl refl refl
-      held.pool refl (λ h. refl)
+      (λ floor. refl) held.pool refl (λ h. refl)
 
   -- a block is run
   with_one : (v : Value) (b : BlockResult) → next_decided held ≡ Some v
@@ -55,7 +57,10 @@ module _ (held : ReplicaStateView) (one : IsOneCluster held) (entries : List Ent
     clock = clock_more entries entry ∙ (let c = matches.clock in omega (arith, c));
     clocks = λ h. ap clock_of (same h) ∙ matches.clocks h;
     opened = λ h row at. subst (λ l. MatchesLog held.ring row l) (sym (same h)) (matches.opened h row at);
-    unopened = λ h none. ap only_rounds (same h) ∙ matches.unopened h none;
+    unopened = λ h from none. ap only_rounds (same h) ∙ matches.unopened h from none;
+    retired = λ h below. ap is_open (same h) ∙ matches.retired h below;
+    floor = floor_of-snoc entries entry ∙ matches.floor;
+    low = (let low = matches.low in let one_more = length-append held.commits (v ∷ []) in omega (arith, low, one_more));
     pool =
         pool_more held.config held.id entries entry
         ∙ ap (λ vs. pool_step held.config vs (pool_of held.config held.id entries) event.Execute (reply.Executed (Ok b))) commits

@@ -1,6 +1,6 @@
 -- An entry is taken if its reply is the one that is due.
 use Rattle.std.proofs.Common.{◌≡◌, ℕ, Bool, true, false, List, [], ◌∷◌, ◌++◌, refl, sym, ap, subst, ◌∙◌}
-use Rattle.std.specs.Prelude.{◌↔◌, IsTrue, Option, Some, None, Result}
+use Rattle.std.specs.Prelude.{◌↔◌, IsTrue, Option, Some, None, Result, Ok, Err}
 use Rattle.ledger_model.specs.declared.event.Event.{Event}
 use Rattle.ledger_model.specs.declared.event.Event.TheVariants as event
 use Rattle.ledger_model.specs.declared.history.Entry.{Entry}
@@ -13,12 +13,13 @@ use Rattle.ledger_model.specs.declared.reply.ProposeRefusal.{ProposeRefusal}
 use Rattle.ledger_model.specs.declared.reply.QueryAnswer.{QueryAnswer}
 use Rattle.ledger_model.specs.declared.reply.Reply.{Reply}
 use Rattle.ledger_model.specs.declared.reply.Reply.TheVariants as reply
+use Rattle.ledger_model.specs.declared.reply.RetireRefusal.{RetireRefusal}
 use Rattle.ledger_model.specs.declared.reply.RoundEnded.{RoundEnded}
 use Rattle.ledger_model.specs.declared.reply.SubmitRefusal.{SubmitRefusal}
 use Rattle.ledger_model.specs.Values.{Value}
 use Rattle.ledger_model.specs.Lawful.{Lawful, is_signed_reply}
 use Rattle.replica_core.specs.ReplicaStates.{ReplicaStateView, MatchesHistory}
-use Rattle.replica_core.specs.Steps.{IsStep, after_execute}
+use Rattle.replica_core.specs.Steps.{IsStep, after_execute, after_retire}
 use Rattle.replica_core.specs.Following.{KeepsReplay, IsFollowed, IsSameReplicaState}
 
 -- an entry that keeps no replay one is refused
@@ -62,6 +63,12 @@ pub same_run : (old new : ReplicaStateView) (block : Option Value) → new ≡ a
 same_run old new None is = same_kept old new is
 same_run old new (Some block) is = record { config = ap (λ h. h.config) is; id = ap (λ h. h.id) is; ring = ap (λ h. h.ring) is }
 
+-- where heights were given up
+pub same_retired : (old new : ReplicaStateView) (answer : Result ℕ RetireRefusal) → new ≡ after_retire old answer
+    → IsSameReplicaState old new
+same_retired old new (Err f) is = same_kept old new is
+same_retired old new (Ok f) is = record { config = ap (λ h. h.config) is; id = ap (λ h. h.id) is; ring = ap (λ h. h.ring) is }
+
 -- ---- each event has replies of its own
 
 module _ (held : ReplicaStateView) (entries : List Entry) where
@@ -76,6 +83,7 @@ module _ (held : ReplicaStateView) (entries : List Entry) where
   submitted_only tx (reply.RoundEnded r) other lawful = lawful
   submitted_only tx (reply.Executed r) other lawful = lawful
   submitted_only tx (reply.Queried r) other lawful = lawful
+  submitted_only tx (reply.Retired r) other lawful = lawful
 
   pub proposed_only : (h : ℕ) (shown : Reply) → ((r : Result Value ProposeRefusal) → shown ≡ reply.Proposed r → ⊥)
       → LawfulTo (event.Propose h) shown → ⊥
@@ -85,6 +93,7 @@ module _ (held : ReplicaStateView) (entries : List Entry) where
   proposed_only h (reply.RoundEnded r) other lawful = lawful
   proposed_only h (reply.Executed r) other lawful = lawful
   proposed_only h (reply.Queried r) other lawful = lawful
+  proposed_only h (reply.Retired r) other lawful = lawful
 
   pub delivered_only : (bytes : List ℕ) (shown : Reply) → ((r : Result (Unit {0}) Ignored) → shown ≡ reply.Delivered r → ⊥)
       → LawfulTo (event.Deliver bytes) shown → ⊥
@@ -94,6 +103,7 @@ module _ (held : ReplicaStateView) (entries : List Entry) where
   delivered_only bytes (reply.RoundEnded r) other lawful = lawful
   delivered_only bytes (reply.Executed r) other lawful = lawful
   delivered_only bytes (reply.Queried r) other lawful = lawful
+  delivered_only bytes (reply.Retired r) other lawful = lawful
 
   pub ended_only : (shown : Reply) → ((r : Result RoundEnded LastRound) → shown ≡ reply.RoundEnded r → ⊥) → LawfulTo event.RoundEnd shown
       → ⊥
@@ -103,6 +113,7 @@ module _ (held : ReplicaStateView) (entries : List Entry) where
   ended_only (reply.RoundEnded r) other lawful = other r refl
   ended_only (reply.Executed r) other lawful = lawful
   ended_only (reply.Queried r) other lawful = lawful
+  ended_only (reply.Retired r) other lawful = lawful
 
   pub executed_only : (shown : Reply) → ((r : Result BlockResult NothingDecided) → shown ≡ reply.Executed r → ⊥)
       → LawfulTo event.Execute shown → ⊥
@@ -112,6 +123,7 @@ module _ (held : ReplicaStateView) (entries : List Entry) where
   executed_only (reply.RoundEnded r) other lawful = lawful
   executed_only (reply.Executed r) other lawful = other r refl
   executed_only (reply.Queried r) other lawful = lawful
+  executed_only (reply.Retired r) other lawful = lawful
 
   pub queried_only : (key : List ℕ) (h : ℕ) (shown : Reply) → ((r : Result QueryAnswer NotHeld) → shown ≡ reply.Queried r → ⊥)
       → LawfulTo (event.Query key h) shown → ⊥
@@ -121,3 +133,14 @@ module _ (held : ReplicaStateView) (entries : List Entry) where
   queried_only key h (reply.RoundEnded r) other lawful = lawful
   queried_only key h (reply.Executed r) other lawful = lawful
   queried_only key h (reply.Queried r) other lawful = other r refl
+  queried_only key h (reply.Retired r) other lawful = lawful
+
+  pub retired_only : (floor : ℕ) (shown : Reply) → ((r : Result ℕ RetireRefusal) → shown ≡ reply.Retired r → ⊥)
+      → LawfulTo (event.Retire floor) shown → ⊥
+  retired_only floor (reply.Submitted r) other lawful = lawful
+  retired_only floor (reply.Proposed r) other lawful = lawful
+  retired_only floor (reply.Delivered r) other lawful = lawful
+  retired_only floor (reply.RoundEnded r) other lawful = lawful
+  retired_only floor (reply.Executed r) other lawful = lawful
+  retired_only floor (reply.Queried r) other lawful = lawful
+  retired_only floor (reply.Retired r) other lawful = other r refl

@@ -3,6 +3,7 @@ pub mod Quiet
 pub mod Submits
 pub mod Unopened
 pub mod Proposes
+pub mod Retires
 pub mod Delivers
 pub mod Executes
 pub mod Machines

@@ -3,17 +3,20 @@ use Rattle.std.proofs.Common.{ℕ, [], refl, arith}
 use Rattle.ledger_model.specs.declared.config.Config.{Config}
 use Rattle.ledger_model.specs.Rules.{Ring}
 use Rattle.ledger_model.specs.Logs.{log_of, log_after}
-use Rattle.ledger_model.specs.Commits.{commits_of, pool_of, pool_after}
+use Rattle.ledger_model.specs.Commits.{commits_of, floor_of, pool_of, pool_after}
 use Rattle.replica_core.specs.ReplicaStates.{new_replica_state, MatchesHistory}
 
 -- before the first event
 pub new_matches : (config : Config) (id : ℕ) (ring : Ring) → MatchesHistory (new_replica_state config id ring) []
-unfolding pool_of pool_after log_of log_after commits_of
+unfolding pool_of pool_after log_of log_after commits_of floor_of
 new_matches config id ring = record {
   clock = refl;
   clocks = λ h. refl;
   opened = λ h row at. cc;
-  unopened = λ h none. refl;
+  unopened = λ h from none. refl;
+  retired = λ h below. refl;
+  floor = refl;
+  low = omega arith;
   pool = refl;
   commits = refl;
   machine = refl;

@@ -9,7 +9,7 @@ use Rattle.ledger_model.specs.declared.reply.RoundEnded.{RoundEnded}
 use Rattle.ledger_model.specs.declared.reply.Sent.{Sent}
 use Rattle.ledger_model.specs.declared.statement.SignedStatement.{SignedStatement}
 use Rattle.ledger_model.specs.Rounds.{place_of, ack_place, lock_place, release_place, report_place}
-use Rattle.ledger_model.specs.Notes.{Note, Has, clock_of}
+use Rattle.ledger_model.specs.Notes.{Note, Has, clock_of, is_open}
 use Rattle.ledger_model.specs.Logs.{statements_sent, own_ack, statements_made}
 use Rattle.ledger_model.specs.Reading.{reading}
 use Rattle.ledger_model.specs.Rules.{Ring, MayMake}
@@ -68,7 +68,7 @@ no_ack : (config : Config) (id h : ℕ) (log : List Note) (c : ℕ) (mute : Bool
     → own_ack config id h log c mute ≡ []
 unfolding own_ack
 no_ack config id h log c true other = refl
-no_ack config id h log c false other = rw other refl
+no_ack config id h log c false other = elim (cases_Bool (is_open log)) [ inl is ↦ rw (is, other) refl | inr none ↦ rw none refl ]
 
 -- nothing is made at place 4
 pub none_made : (row : InstanceView) (c : ℕ) → nat_eq (place_of c) release_place ≡ true → (m : RoundStatement) → MayMakeOf row c m

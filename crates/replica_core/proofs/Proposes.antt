@@ -1,7 +1,8 @@
 -- The replica opens a height.
-use Rattle.std.proofs.Common.{◌≡◌, ℕ, ◌+◌, Bool, true, false, cond, inl, inr, List, [], ◌∷◌, ◌++◌, length, refl, sym, ap, subst, ◌∙◌, arith}
+use Rattle.std.proofs.Common.{◌≡◌, ℕ, ◌+◌, ◌<◌, ◌≤◌, Bool, true, false, cond, inl, inr, List, [], ◌∷◌, ◌++◌, length, refl, sym, ap, subst}
+use Rattle.std.proofs.Common.{◌∙◌, arith}
 use Rattle.std.specs.Prelude.{◌==◌, ◌||◌, nat_lt, take, Option, Some, None, is_some, Result, Ok, Err, OnErr, IfOk, OnOk}
-use Rattle.std.proofs.lemmas.Bool.{cases_eq, eq-eqb, ne_eqb, false≢true}
+use Rattle.std.proofs.lemmas.Bool.{cases_eq, eq-eqb, ne_eqb, ltb-false, false≢true}
 use Rattle.ledger_model.specs.Limits.{max_height, max_ahead, max_batch_len}
 use Rattle.ledger_model.specs.declared.event.Event.TheVariants as event
 use Rattle.ledger_model.specs.declared.history.Entry.{Entry}
@@ -9,10 +10,10 @@ use Rattle.ledger_model.specs.declared.reply.ProposeRefusal.{ProposeRefusal}
 use Rattle.ledger_model.specs.declared.reply.ProposeRefusal.TheVariants as refusal
 use Rattle.ledger_model.specs.declared.reply.Reply.TheVariants as reply
 use Rattle.ledger_model.specs.Values.{Value}
-use Rattle.ledger_model.specs.Notes.{Note, Proposed, clock_of, initial_of}
+use Rattle.ledger_model.specs.Notes.{Note, Proposed, clock_of, is_open}
 use Rattle.ledger_model.specs.Logs.{log_of, notes_of}
 use Rattle.ledger_model.specs.Rules.{Ring}
-use Rattle.ledger_model.specs.Commits.{first_fault, commits_of, propose_reply}
+use Rattle.ledger_model.specs.Commits.{first_fault, commits_of, floor_of, propose_reply}
 use Rattle.ledger_model.proofs.Goodness.{clock_of-append}
 use Rattle.instance.specs.Instances.{InstanceView}
 use Rattle.instance.specs.Matching.{MatchesLog, only_rounds}
@@ -22,38 +23,49 @@ use Rattle.replica_core.specs.Steps.{IsStep, with_value, propose_held}
 use Rattle.replica_core.proofs.Quiet.{log_then, log_stays, quiet, unheard}
 use Rattle.replica_core.proofs.Unopened.{opened_there}
 
--- the first fault of three, or a value
-valued : (a b c : Bool) (v : Value)
-    → with_value (first_fault ((a, refusal.Closed) ∷ (b, refusal.AlreadyOpen) ∷ (c, refusal.TooFar) ∷ []) tt) v
-    ≡ first_fault ((a, refusal.Closed) ∷ (b, refusal.AlreadyOpen) ∷ (c, refusal.TooFar) ∷ []) v
-valued true b c v = refl
-valued false true c v = refl
-valued false false true v = refl
-valued false false false v = refl
+-- the faults in order, each with whether it applies
+abbrev faults : Bool → Bool → Bool → Bool → List (Bool × ProposeRefusal)
+faults closed retired there far =
+    (closed, refusal.Closed) ∷ (retired, refusal.Retired) ∷ (there, refusal.AlreadyOpen) ∷ (far, refusal.TooFar) ∷ []
+
+-- the first of them, or a value
+valued : (a r b c : Bool) (v : Value) → with_value (first_fault (faults a r b c) tt) v ≡ first_fault (faults a r b c) v
+valued true r b c v = refl
+valued false true b c v = refl
+valued false false true c v = refl
+valued false false false true v = refl
+valued false false false false v = refl
+
+-- what it takes to open a height
+fits : (a r b c : Bool) (v w : Value) → Ok v ≡ with_value (first_fault (faults a r b c) tt) w → (r ≡ false) × (b ≡ false)
+fits true r b c v w e = cc
+fits false true b c v w e = cc
+fits false false true c v w e = cc
+fits false false false c v w e = (refl, refl)
 
 module _ (held : ReplicaStateView) (h : ℕ) (entries : List Entry) (matches : MatchesHistory held entries) where
   -- what is answered by what is kept is what is answered by the history
   answered : propose_held held h ≡ propose_reply held.config held.id entries h
   unfolding propose_reply
   answered =
-      valued ((h == 0) || nat_lt max_height h) (is_some (row_at held.rows h)) (nat_lt (length held.commits + max_ahead) h)
-      (take max_batch_len held.pool)
-      ∙ ap (λ b. first_fault (((h == 0) || nat_lt max_height h, refusal.Closed) ∷ (b, refusal.AlreadyOpen)
-      ∷ (nat_lt (length held.commits + max_ahead) h, refusal.TooFar) ∷ []) (take max_batch_len held.pool))
-      (opened_there held entries matches h)
-      ∙ ap (λ vs. first_fault (((h == 0) || nat_lt max_height h, refusal.Closed)
-      ∷ (is_some (initial_of (log_of held.config held.id h entries)), refusal.AlreadyOpen)
-      ∷ (nat_lt (length vs + max_ahead) h, refusal.TooFar) ∷ []) (take max_batch_len held.pool)) (sym matches.commits)
-      ∙ ap (λ p. first_fault (((h == 0) || nat_lt max_height h, refusal.Closed)
-      ∷ (is_some (initial_of (log_of held.config held.id h entries)), refusal.AlreadyOpen)
-      ∷ (nat_lt (length (commits_of held.config held.id entries) + max_ahead) h, refusal.TooFar) ∷ []) (take max_batch_len p))
-      (sym matches.pool)
+      valued ((h == 0) || nat_lt max_height h) (nat_lt h held.floor) (is_some (row_at held.rows h))
+      (nat_lt (length held.commits + max_ahead) h) (take max_batch_len held.pool)
+      ∙ ap (λ n. first_fault (faults ((h == 0) || nat_lt max_height h) (nat_lt h n) (is_some (row_at held.rows h))
+      (nat_lt (length held.commits + max_ahead) h)) (take max_batch_len held.pool)) (sym matches.floor)
+      ∙ ap (λ b. first_fault (faults ((h == 0) || nat_lt max_height h) (nat_lt h (floor_of entries)) b
+      (nat_lt (length held.commits + max_ahead) h)) (take max_batch_len held.pool)) (opened_there held entries matches h)
+      ∙ ap (λ vs. first_fault (faults ((h == 0) || nat_lt max_height h) (nat_lt h (floor_of entries))
+      (is_open (log_of held.config held.id h entries)) (nat_lt (length vs + max_ahead) h)) (take max_batch_len held.pool))
+      (sym matches.commits)
+      ∙ ap (λ p. first_fault (faults ((h == 0) || nat_lt max_height h) (nat_lt h (floor_of entries))
+      (is_open (log_of held.config held.id h entries)) (nat_lt (length (commits_of held.config held.id entries) + max_ahead) h))
+      (take max_batch_len p)) (sym matches.pool)
 
   -- a height that is refused
   refused : (f : ProposeRefusal) → MatchesHistory held (entries ++ record { event = event.Propose h; reply = reply.Proposed (Err f) } ∷ [])
   unfolding notes_of
-  refused f = unheard held entries (record { event = event.Propose h; reply = reply.Proposed (Err f) }) matches refl refl refl held.pool
-      refl (λ g. refl)
+  refused f = unheard held entries (record { event = event.Propose h; reply = reply.Proposed (Err f) }) matches refl refl refl
+      (λ floor. refl) held.pool refl (λ g. refl)
 
   module _ (v : Value) where
     -- the entry of a height that is opened
@@ -75,16 +87,16 @@ module _ (held : ReplicaStateView) (h : ℕ) (entries : List Entry) (matches : M
     opened_more : (rows : List InstanceView) → is_some (row_at rows h) ≡ true → AreApart h held.rows rows
         → ((row : InstanceView) → row_at rows h ≡ Some row → (ring : Ring) (log : List Note) → only_rounds log ≡ true
         → MatchesLog ring row (log ++ Proposed v ∷ []))
-        → is_some (row_at held.rows h) ≡ false
+        → is_some (row_at held.rows h) ≡ false → held.floor ≤ h
         → MatchesHistory (record held { rows = rows }) (entries ++ entry ∷ [])
-    opened_more rows there apart fresh closed =
-        quiet held entries entry matches refl refl refl rows held.pool refl clocks opened unopened
+    opened_more rows there apart fresh closed from =
+        quiet held entries entry matches refl refl refl (λ floor. refl) rows held.pool refl clocks opened unopened retired
       where
         before : only_rounds (log_of held.config held.id h entries) ≡ true
         before = by (row_at held.rows h) refl
           where
             by : (o : Option InstanceView) → row_at held.rows h ≡ o → only_rounds (log_of held.config held.id h entries) ≡ true
-            by None is = matches.unopened h is
+            by None is = matches.unopened h from is
             by (Some row) is = absurd (false≢true (sym closed ∙ ap is_some is))
 
         clocks : (g : ℕ) → clock_of (log_of held.config held.id g (entries ++ entry ∷ [])) ≡ held.clock
@@ -104,10 +116,14 @@ module _ (held : ReplicaStateView) (h : ℕ) (entries : List Entry) (matches : M
           | inr other ↦ subst (λ l. MatchesLog held.ring row l) (sym (log_there g other)) (matches.opened g row (sym (apart g other) ∙ is))
         ]
 
-        unopened : (g : ℕ) → row_at rows g ≡ None → only_rounds (log_of held.config held.id g (entries ++ entry ∷ [])) ≡ true
-        unopened g is = elim (cases_eq g h) [
+        retired : (g : ℕ) → g < held.floor → is_open (log_of held.config held.id g (entries ++ entry ∷ [])) ≡ false
+        retired g below = ap is_open (log_there g (λ here. omega (arith, here, below, from))) ∙ matches.retired g below
+
+        unopened : (g : ℕ) → held.floor ≤ g → row_at rows g ≡ None
+            → only_rounds (log_of held.config held.id g (entries ++ entry ∷ [])) ≡ true
+        unopened g high is = elim (cases_eq g h) [
           | inl here ↦ absurd (false≢true (sym (ap is_some (ap (row_at rows) (sym here) ∙ is)) ∙ there))
-          | inr other ↦ ap only_rounds (log_there g other) ∙ matches.unopened g (sym (apart g other) ∙ is)
+          | inr other ↦ ap only_rounds (log_there g other) ∙ matches.unopened g high (sym (apart g other) ∙ is)
         ]
 
 -- a height is opened, or refused
@@ -121,21 +137,12 @@ proposes held new h (Ok v) is rest err there apart fresh entries matches = (
   is ∙ answered held h entries matches,
   refl,
   subst (λ x. MatchesHistory x (entries ++ record { event = event.Propose h; reply = reply.Proposed (Ok v) } ∷ [])) (sym rest)
-      (opened_more held h entries matches v new.rows there apart fresh (was_closed (is_some (row_at held.rows h)) refl)),
+      (opened_more held h entries matches v new.rows there apart fresh may.1 (ltb-false h held.floor may.0)),
 )
   where
-    was_closed : (b : Bool) → is_some (row_at held.rows h) ≡ b → is_some (row_at held.rows h) ≡ false
-    was_closed false e = e
-    was_closed true e = absurd (taken ((h == 0) || nat_lt max_height h) (nat_lt (length held.commits + max_ahead) h)
-        (is ∙ ap (λ b. with_value (first_fault
-        (((h == 0) || nat_lt max_height h, refusal.Closed) ∷ (b, refusal.AlreadyOpen)
-        ∷ (nat_lt (length held.commits + max_ahead) h, refusal.TooFar) ∷ []) tt) (take max_batch_len held.pool)) e))
-      where
-        taken : (a c : Bool) → Ok v ≡ with_value
-            (first_fault ((a, refusal.Closed) ∷ (true, refusal.AlreadyOpen) ∷ (c, refusal.TooFar) ∷ []) tt) (take max_batch_len held.pool)
-            → ⊥
-        taken true c e = cc
-        taken false c e = cc
+    may : (nat_lt h held.floor ≡ false) × (is_some (row_at held.rows h) ≡ false)
+    may = fits ((h == 0) || nat_lt max_height h) (nat_lt h held.floor) (is_some (row_at held.rows h))
+        (nat_lt (length held.commits + max_ahead) h) v (take max_batch_len held.pool) is
 proposes held new h (Err f) is rest err there apart fresh entries matches = (
   is ∙ answered held h entries matches,
   refl,

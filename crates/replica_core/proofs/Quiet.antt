@@ -1,15 +1,16 @@
--- An entry that opens no round and runs no block: what it leaves unchanged of what a history makes.
-use Rattle.std.proofs.Common.{◌≡◌, ℕ, ◌+◌, true, false, cond, List, [], ◌∷◌, ◌++◌, sym, ap, subst, ◌∙◌, arith}
+-- An entry that opens no round, runs no block and raises no floor: what it leaves unchanged of what a history makes.
+use Rattle.std.proofs.Common.{◌≡◌, ℕ, ◌+◌, ◌<◌, ◌≤◌, true, false, cond, List, [], ◌∷◌, ◌++◌, sym, ap, subst, ◌∙◌, arith}
 use Rattle.std.specs.Prelude.{◌||◌, Some, None}
 use Rattle.std.proofs.lemmas.List.{append-nil}
 use Rattle.std.proofs.Math.Bool.{or-false}
 use Rattle.ledger_model.specs.declared.history.Entry.{Entry}
 use Rattle.ledger_model.specs.Values.{Value}
-use Rattle.ledger_model.specs.Notes.{Note, clock_of}
+use Rattle.ledger_model.specs.Notes.{Note, clock_of, is_open}
 use Rattle.ledger_model.specs.Logs.{log_of, notes_of, is_mute, says_mute}
-use Rattle.ledger_model.specs.Commits.{is_block, pool_of, pool_step}
+use Rattle.ledger_model.specs.Commits.{is_block, floor_step, floor_of, pool_of, pool_step}
 use Rattle.ledger_model.specs.Lawful.{clock_at, is_opened}
 use Rattle.ledger_model.proofs.Steps.{log_of-snoc}
+use Rattle.ledger_model.proofs.Floors.{floor_of-snoc}
 use Rattle.instance.specs.Instances.{InstanceView}
 use Rattle.instance.specs.Matching.{MatchesLog, only_rounds}
 use Rattle.height_row.specs.Heights.{row_at}
@@ -35,7 +36,7 @@ module _ (held : ReplicaStateView) (entries : List Entry) (e : Entry) where
   log_stays h none = log_then h ∙ ap (λ ns. log_at h ++ ns) none ∙ append-nil (log_at h)
 
   module _ (matches : MatchesHistory held entries) (no_round : is_opened e.reply ≡ false) (no_block : is_block e.reply ≡ false)
-      (loud : says_mute e.reply ≡ false) where
+      (loud : says_mute e.reply ≡ false) (no_floor : (floor : ℕ) → floor_step floor e.reply ≡ floor) where
     -- the pool then
     pub pool_then : pool_of held.config held.id (entries ++ e ∷ []) ≡ pool_step held.config held.commits held.pool e.event e.reply
     pool_then =
@@ -50,13 +51,17 @@ module _ (held : ReplicaStateView) (entries : List Entry) (e : Entry) where
         → ((h : ℕ) → clock_of (log_of held.config held.id h (entries ++ e ∷ [])) ≡ held.clock)
         → ((h : ℕ) (row : InstanceView) → row_at rows h ≡ Some row
         → MatchesLog held.ring row (log_of held.config held.id h (entries ++ e ∷ [])))
-        → ((h : ℕ) → row_at rows h ≡ None → only_rounds (log_of held.config held.id h (entries ++ e ∷ [])) ≡ true)
+        → ((h : ℕ) → held.floor ≤ h → row_at rows h ≡ None → only_rounds (log_of held.config held.id h (entries ++ e ∷ [])) ≡ true)
+        → ((h : ℕ) → h < held.floor → is_open (log_of held.config held.id h (entries ++ e ∷ [])) ≡ false)
         → MatchesHistory (record held { rows = rows; pool = pool }) (entries ++ e ∷ [])
-    quiet rows pool same_pool clocks opened unopened = record {
+    quiet rows pool same_pool clocks opened unopened retired = record {
       clock = clock_more entries e ∙ ap (λ b. clock_at entries + cond b 1 0) no_round ∙ (let c = matches.clock in omega (arith, c));
       clocks = clocks;
       opened = opened;
       unopened = unopened;
+      retired = retired;
+      floor = floor_of-snoc entries e ∙ no_floor (floor_of entries) ∙ matches.floor;
+      low = matches.low;
       pool = pool_then ∙ same_pool;
       commits = commits_stay held.config held.id entries e matches.blocks no_block ∙ matches.commits;
       machine = matches.machine;
@@ -71,4 +76,5 @@ module _ (held : ReplicaStateView) (entries : List Entry) (e : Entry) where
         quiet held.rows pool same_pool
         (λ h. ap clock_of (log_stays h (none h)) ∙ matches.clocks h)
         (λ h row is. subst (λ l. MatchesLog held.ring row l) (sym (log_stays h (none h))) (matches.opened h row is))
-        (λ h is. ap only_rounds (log_stays h (none h)) ∙ matches.unopened h is)
+        (λ h from is. ap only_rounds (log_stays h (none h)) ∙ matches.unopened h from is)
+        (λ h below. ap is_open (log_stays h (none h)) ∙ matches.retired h below)

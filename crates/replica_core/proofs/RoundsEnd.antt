@@ -1,17 +1,18 @@
 -- The end of a round, over all open heights: it is lawful and signed, and the state afterwards matches the longer history.
-use Rattle.std.proofs.Common.{◌≡◌, ℕ, ◌+◌, ◌<◌, Bool, true, List, [], ◌∷◌, ◌++◌, refl, sym, ap, subst, ◌∙◌, arith}
-use Rattle.std.specs.Prelude.{nat_eq, map, Option, Some, None, ◌||◌}
+use Rattle.std.proofs.Common.{◌≡◌, ℕ, ◌+◌, ◌<◌, ◌≤◌, Bool, true, false, List, [], ◌∷◌, ◌++◌, refl, sym, ap, subst, ◌∙◌, arith}
+use Rattle.std.specs.Prelude.{nat_eq, map, Option, Some, None, is_some, ◌||◌, if◌then◌else◌}
 use Rattle.std.specs.List.{AllByRecursion}
 use Rattle.ledger_model.specs.Limits.{last_round}
 use Rattle.ledger_model.specs.declared.history.Entry.{Entry}
 use Rattle.ledger_model.specs.declared.reply.RoundEnded.{RoundEnded}
 use Rattle.ledger_model.specs.declared.statement.SignedStatement.{SignedStatement}
 use Rattle.ledger_model.specs.Rounds.{place_of, release_place}
-use Rattle.ledger_model.specs.Notes.{Note, clock_of}
+use Rattle.ledger_model.specs.Notes.{Note, clock_of, open_of, is_open}
 use Rattle.ledger_model.specs.Logs.{log_of, statements_sent, statements_made}
 use Rattle.ledger_model.specs.Rules.{MayMake}
-use Rattle.ledger_model.specs.Lawful.{LawfulRoundEnd, held_locks}
+use Rattle.ledger_model.specs.Lawful.{LawfulRoundEnd, held_locks, locks_sent_on}
 use Rattle.instance.specs.declared.round_statement.RoundStatement.{RoundStatement}
+use Rattle.ledger_model.proofs.Floors.{floor_of-snoc}
 use Rattle.instance.specs.Instances.{InstanceView}
 use Rattle.instance.specs.Matching.{MatchesLog, only_rounds}
 use Rattle.instance.specs.Plans.{ended, closed}
@@ -22,11 +23,12 @@ use Rattle.replica_core.specs.ReplicaStates.{ReplicaStateView, IsWithinLimits, I
 use Rattle.replica_core.specs.RoundEnds.{AreMade, frames_at, round_ended, after_end, RoundsEnd}
 use Rattle.replica_core.proofs.Histories.{pool_more, clock_more, mute_more, commits_stay, blocks_stay}
 use Rattle.replica_core.proofs.Quiet.{log_then}
+use Rattle.replica_core.proofs.Unopened.{closed_there, none_below}
 use Rattle.replica_core.proofs.AscendingRows.{each_found}
 use Rattle.replica_core.proofs.SentFrames.{statements_in, frames_sent}
 use Rattle.replica_core.proofs.AllHeights.{IsSentBy, all_right, all_signed, ascend_sent, none_unopened, IsMadeThere, made_there}
 use Rattle.replica_core.proofs.ClosedRows.{none_closed, ascend_closed}
-use Rattle.replica_core.proofs.UnopenedEnds.{no_locks, nothing_made, may_nothing, rounds_still}
+use Rattle.replica_core.proofs.UnopenedEnds.{no_locks, nothing_made, may_nothing, rounds_still, open_still}
 use Rattle.replica_core.proofs.OpenEnds.{locks_alone, closes_there, made_is, may_there}
 use Rattle.replica_core.proofs.RoundNotes.{end_entry, round_notes, notes_are, clock_then, mute_then}
 
@@ -70,24 +72,27 @@ module _ (held : ReplicaStateView) (mute : Bool) (ms : List RoundStatement) (ent
   -- ---- a height that is not open
 
   module _ (h : ℕ) (none : row_at held.rows h ≡ None) where
-    only : only_rounds (log_at h) ≡ true
-    only = matches.unopened h none
+    closed_here : open_of (log_at h) ≡ None
+    closed_here = closed_there held entries matches h none
 
     none_sent : statements_sent h end ≡ []
     unfolding statements_sent
     none_sent = none_unopened held.config held.ring mute c h held.rows ms none each_sends are_made
 
     none_made : made_at h ≡ []
-    none_made = nothing_made (log_at h) only held.config held.id h c end none_sent
+    none_made = nothing_made (log_at h) closed_here held.config held.id h c end none_sent
 
     may_none : MayMakeAt h (made_at h)
-    may_none = subst (MayMakeAt h) (sym none_made) (may_nothing (log_at h) only held.config held.id h c mute)
+    may_none = subst (MayMakeAt h) (sym none_made) (may_nothing (log_at h) closed_here held.config held.id h c mute)
 
-    none_held : statements_sent h end ≡ held_locks (log_at h)
-    none_held = none_sent ∙ sym (no_locks (log_at h) only)
+    none_held : statements_sent h end ≡ locks_sent_on (log_at h)
+    none_held = none_sent ∙ sym (no_locks (log_at h) closed_here)
 
-    rounds_with : only_rounds (log_with h) ≡ true
-    rounds_with = ap only_rounds (log_is h [] none_made) ∙ rounds_still (log_at h) only c
+    rounds_with : held.floor ≤ h → only_rounds (log_with h) ≡ true
+    rounds_with from = ap only_rounds (log_is h [] none_made) ∙ rounds_still (log_at h) (matches.unopened h from none) c
+
+    closed_with : is_open (log_with h) ≡ false
+    closed_with = ap is_open (log_is h [] none_made) ∙ ap is_some (open_still (log_at h) c ∙ closed_here)
 
   -- ---- an open height
 
@@ -116,9 +121,9 @@ module _ (held : ReplicaStateView) (mute : Bool) (ms : List RoundStatement) (ent
         (may_there held.config held.ring row (log_at h) held.clock before (matches.clocks h) mute there.made there.is_made held.id h
         own.config own.id own.height)
 
-    locks_sent : nat_eq (place_of c) release_place ≡ true → statements_sent h end ≡ held_locks (log_at h)
+    locks_sent : nat_eq (place_of c) release_place ≡ true → statements_sent h end ≡ locks_sent_on (log_at h)
     locks_sent last = sent_there ∙ locks_alone held.config held.ring row (log_at h) held.clock before (matches.clocks h) mute there.made
-        there.is_made last
+        there.is_made last ∙ sym (ap (λ o. if is_some o then held_locks (log_at h) else []) before.opened)
 
     -- what is kept of it then
     module _ (new : InstanceView) (found : row_at (closed_each c held.rows ms) h ≡ Some new) where
@@ -146,10 +151,10 @@ module _ (held : ReplicaStateView) (mute : Bool) (ms : List RoundStatement) (ent
       by None none = may_none h none
       by (Some row) is = may_open h row is
 
-  sends_on : (h : ℕ) → nat_eq (place_of c) release_place ≡ true → statements_sent h end ≡ held_locks (log_at h)
+  sends_on : (h : ℕ) → nat_eq (place_of c) release_place ≡ true → statements_sent h end ≡ locks_sent_on (log_at h)
   sends_on h last = by (row_at held.rows h) refl
     where
-      by : (o : Option InstanceView) → row_at held.rows h ≡ o → statements_sent h end ≡ held_locks (log_at h)
+      by : (o : Option InstanceView) → row_at held.rows h ≡ o → statements_sent h end ≡ locks_sent_on (log_at h)
       by None none = none_held h none
       by (Some row) is = locks_sent h row is last
 
@@ -171,7 +176,10 @@ module _ (held : ReplicaStateView) (mute : Bool) (ms : List RoundStatement) (ent
     clock = clock_more entries (end_entry end) ∙ ap (λ n. n + 1) matches.clock;
     clocks = λ h. ap clock_of (log_is h (made_at h) refl) ∙ clock_then (log_at h) c (made_at h) ∙ ap (λ n. n + 1) (matches.clocks h);
     opened = λ h new found. opened h new found (row_at held.rows h) refl;
-    unopened = λ h gone. unopened h gone (row_at held.rows h) refl;
+    unopened = λ h from gone. unopened h from gone (row_at held.rows h) refl;
+    retired = λ h below. closed_with h (none_below held entries matches h below);
+    floor = floor_of-snoc entries (end_entry end) ∙ matches.floor;
+    low = matches.low;
     pool = pool_more held.config held.id entries (end_entry end) ∙ matches.pool;
     commits = commits_stay held.config held.id entries (end_entry end) matches.blocks refl ∙ matches.commits;
     machine = matches.machine;
@@ -184,10 +192,10 @@ module _ (held : ReplicaStateView) (mute : Bool) (ms : List RoundStatement) (ent
       opened h new found None none = absurd (cc (sym (none_closed c h held.rows ms none) ∙ found))
       opened h new found (Some row) is = matches_with h row is new found
 
-      unopened : (h : ℕ) → row_at (closed_each c held.rows ms) h ≡ None → (o : Option InstanceView) → row_at held.rows h ≡ o
-          → only_rounds (log_with h) ≡ true
-      unopened h gone None none = rounds_with h none
-      unopened h gone (Some row) is = absurd (cc (sym gone ∙ (there h row is).then))
+      unopened : (h : ℕ) → held.floor ≤ h → row_at (closed_each c held.rows ms) h ≡ None → (o : Option InstanceView)
+          → row_at held.rows h ≡ o → only_rounds (log_with h) ≡ true
+      unopened h from gone None none = rounds_with h none from
+      unopened h from gone (Some row) is = absurd (cc (sym gone ∙ (there h row is).then))
 
   held_then : held.clock < last_round → IsWithinLimits (after_end held mute ms)
   held_then early = record {

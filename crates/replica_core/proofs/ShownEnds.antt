@@ -1,6 +1,6 @@
 -- The frames of a lawful and signed round end are those of what they say was made, and each open height may make that.
 use Rattle.std.proofs.Common.{◌≡◌, ℕ, ◌+◌, inl, inr, Bool, true, false, List, [], ◌∷◌, ◌++◌, refl, sym, ap, subst, ◌∙◌}
-use Rattle.std.specs.Prelude.{nat_eq, map, Some, None}
+use Rattle.std.specs.Prelude.{nat_eq, map, Some, None, is_some, if◌then◌else◌}
 use Rattle.std.specs.List.{flat_map, list_all, AllByRecursion}
 use Rattle.std.proofs.lemmas.Bool.{cases_Bool}
 use Rattle.std.proofs.lemmas.List.Elements.{filter_map-append}
@@ -10,16 +10,16 @@ use Rattle.ledger_model.specs.declared.reply.RoundEnded.{RoundEnded}
 use Rattle.ledger_model.specs.declared.reply.Sent.{Sent}
 use Rattle.ledger_model.specs.declared.statement.SignedStatement.{SignedStatement}
 use Rattle.ledger_model.specs.Rounds.{place_of, release_place}
-use Rattle.ledger_model.specs.Notes.{Note}
+use Rattle.ledger_model.specs.Notes.{Note, open_of}
 use Rattle.ledger_model.specs.Logs.{log_of, statements_sent, own_ack, statements_made}
 use Rattle.ledger_model.specs.Reading.{reading}
 use Rattle.ledger_model.specs.Rules.{Ring, MayMake}
-use Rattle.ledger_model.specs.Lawful.{LawfulRoundEnd, held_locks}
+use Rattle.ledger_model.specs.Lawful.{LawfulRoundEnd, held_locks, locks_sent_on}
 use Rattle.ledger_model.specs.Spelling.{IsFrame}
 use Rattle.ledger_model.proofs.Lists.{all_from, all_has, each_from, each_has, filter_has}
 use Rattle.instance.specs.declared.round_statement.RoundStatement.{RoundStatement}
 use Rattle.instance.specs.Instances.{InstanceView}
-use Rattle.instance.specs.Matching.{MatchesLog, only_rounds}
+use Rattle.instance.specs.Matching.{MatchesLog}
 use Rattle.height_row.specs.Heights.{row_at}
 use Rattle.replica_core.specs.ReplicaStates.{ReplicaStateView, IsWithinLimits, IsOwnRow, MatchesHistory}
 use Rattle.replica_core.specs.RoundEnds.{AreMade, frames_at, frames_of}
@@ -27,7 +27,7 @@ use Rattle.replica_core.specs.ShownEnds.{statements_shown, releases, made_shown,
 use Rattle.replica_core.proofs.AscendingRows.{each_found}
 use Rattle.replica_core.proofs.SentFrames.{statements_in, is_all_signed, frames_sent}
 use Rattle.replica_core.proofs.AllHeights.{of_height, IsSentBy, all_right}
-use Rattle.replica_core.proofs.Unopened.{no_initial}
+use Rattle.replica_core.proofs.Unopened.{closed_there}
 use Rattle.replica_core.proofs.UnopenedEnds.{no_locks}
 use Rattle.replica_core.proofs.SortedStatements.{all_parted}
 use Rattle.replica_core.proofs.ShownHeights.{IsShownAt, shown_mute, shown_one, shown_release}
@@ -97,8 +97,8 @@ module _ (held : ReplicaStateView) (entries : List Entry) (end : RoundEnded) (is
       (map (λ s. s.statement) (statements_made held.config held.id h (log_at h) (n + 1) end)))
       (matches.clocks h) (lawful.makes h))
 
-  -- at place 4 the held locks are sent
-  locks_sent : (h : ℕ) → nat_eq (place_of c) release_place ≡ true → of_height h ss ≡ held_locks (log_at h)
+  -- at place 4 the held locks are sent, where the height is open
+  locks_sent : (h : ℕ) → nat_eq (place_of c) release_place ≡ true → of_height h ss ≡ locks_sent_on (log_at h)
   unfolding statements_sent
   locks_sent h last = lawful.sends_on h (subst (λ n. nat_eq (place_of (n + 1)) release_place ≡ true) (sym (matches.clocks h)) last)
 
@@ -120,7 +120,8 @@ module _ (held : ReplicaStateView) (entries : List Entry) (end : RoundEnded) (is
     shown_there : IsShownAt held.config held.ring end.mute c ss row
     shown_there = elim (cases_Bool (nat_eq (place_of c) release_place)) [
       | inl last ↦ shown_release held.ring row (log_at h) held.clock before (matches.clocks h) held.config ss end.mute last
-          (ap (λ n. of_height n ss) own.height ∙ locks_sent h last)
+          (ap (λ n. of_height n ss) own.height ∙ locks_sent h last
+          ∙ ap (λ o. if is_some o then held_locks (log_at h) else []) before.opened)
       | inr early ↦ by end.mute refl early (may_row early)
     ]
       where
@@ -143,17 +144,17 @@ module _ (held : ReplicaStateView) (entries : List Entry) (end : RoundEnded) (is
   -- ---- a height that is not open
 
   -- nothing is made there
-  none_made_of : (log : List Note) → only_rounds log ≡ true → (config : Config) (id h : ℕ) (mute : Bool) (xs ys : List SignedStatement)
+  none_made_of : (log : List Note) → open_of log ≡ None → (config : Config) (id h : ℕ) (mute : Bool) (xs ys : List SignedStatement)
       → MayMake config id h log c mute (map (λ s. s.statement) (xs ++ ys)) → xs ≡ []
   unfolding MayMake
-  none_made_of log only config id h mute [] ys may = refl
-  none_made_of log only config id h true (x ∷ xs) ys may = absurd (cc may)
-  none_made_of log only config id h false (x ∷ xs) ys may = (let none = rw (no_initial log only) at may in absurd (cc none))
+  none_made_of log closed config id h mute [] ys may = refl
+  none_made_of log closed config id h true (x ∷ xs) ys may = absurd (cc may)
+  none_made_of log closed config id h false (x ∷ xs) ys may = (let none = rw closed at may in absurd (cc none))
 
   none_unopened : (h : ℕ) → row_at held.rows h ≡ None → of_height h ss ≡ []
   none_unopened h none = elim (cases_Bool (nat_eq (place_of c) release_place)) [
-    | inl last ↦ locks_sent h last ∙ no_locks (log_at h) (matches.unopened h none)
-    | inr early ↦ none_made_of (log_at h) (matches.unopened h none) held.config held.id h end.mute (of_height h ss)
+    | inl last ↦ locks_sent h last ∙ no_locks (log_at h) (closed_there held entries matches h none)
+    | inr early ↦ none_made_of (log_at h) (closed_there held entries matches h none) held.config held.id h end.mute (of_height h ss)
         (own_ack held.config held.id h (log_at h) c end.mute) (may_make h early)
   ]
 

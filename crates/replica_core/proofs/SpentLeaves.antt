@@ -49,6 +49,7 @@ uses_signed old new clock (reply.Proposed r) uses = let same = ap (λ (k : Signe
 uses_signed old new clock (reply.Delivered r) uses = let same = ap (λ (k : SignerView). k.used) uses in omega (arith, same)
 uses_signed old new clock (reply.Executed r) uses = let same = ap (λ (k : SignerView). k.used) uses in omega (arith, same)
 uses_signed old new clock (reply.Queried r) uses = let same = ap (λ (k : SignerView). k.used) uses in omega (arith, same)
+uses_signed old new clock (reply.Retired r) uses = let same = ap (λ (k : SignerView). k.used) uses in omega (arith, same)
 
 -- ---- why it is mute
 

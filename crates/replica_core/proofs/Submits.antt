@@ -22,7 +22,7 @@ submits held tx answer is entries matches = (
   is ∙ ap (λ p. submit_answer p tx (check_reply held.config.kind held.commits tx)) (sym matches.pool)
       ∙ ap (λ vs. submit_answer (pool_of held.config held.id entries) tx (check_reply held.config.kind vs tx)) (sym matches.commits),
   refl,
-  unheard held entries (record { event = event.Submit tx; reply = reply.Submitted answer }) matches refl refl refl
+  unheard held entries (record { event = event.Submit tx; reply = reply.Submitted answer }) matches refl refl refl (λ floor. refl)
       (pool_with held.pool tx answer) (shown answer) (λ h. refl),
 )
   where
@@ -39,6 +39,6 @@ unfolding notes_of
 queries held key height answer is entries matches = (
   is ∙ ap (λ vs. query_reply held.config.kind vs key height) (sym matches.commits),
   refl,
-  unheard held entries (record { event = event.Query key height; reply = reply.Queried answer }) matches refl refl refl held.pool refl
-      (λ h. refl),
+  unheard held entries (record { event = event.Query key height; reply = reply.Queried answer }) matches refl refl refl (λ floor. refl)
+      held.pool refl (λ h. refl),
 )

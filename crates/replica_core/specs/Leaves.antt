@@ -9,7 +9,7 @@ use Rattle.ledger_model.specs.declared.reply.Reply.{Reply}
 use Rattle.ledger_model.specs.declared.reply.Reply.TheVariants as reply
 use Rattle.ledger_model.specs.Values.{Value}
 use Rattle.ledger_model.specs.Rounds.{phase_of, place_of, owner_of, count_from, ack_place, lock_place, release_place, report_place}
-use Rattle.ledger_model.specs.Notes.{Note, initial_of}
+use Rattle.ledger_model.specs.Notes.{Note, open_of}
 use Rattle.ledger_model.specs.Locks.{value_taken, is_supported}
 use Rattle.ledger_model.specs.Logs.{log_of, says_mute, is_mute}
 use Rattle.ledger_model.specs.Proper.{values_in}
@@ -21,7 +21,7 @@ use Rattle.ledger_model.specs.Lawful.{clock_at, is_opened}
 abbrev pub is_some_supported : Config → List Note → ℕ → Value → Bool
 is_some_supported config log k own = list_any (is_supported config log k) (own ∷ values_in (λ p. p.proper ++ p.locked) k log)
 
--- Whether a replica that isn't mute sends a statement of its own as round c opens, at a height that it opened with the value `own`:
+-- Whether a replica that isn't mute sends a statement of its own as round c opens, at a height that is open with the value `own`:
 -- its report; as the owner, a lock, if some value is supported; to another owner, an acknowledgement of the lock that it took.
 abbrev pub is_due_open : Config → ℕ → List Note → ℕ → Value → Bool
 is_due_open config id log c own =
@@ -30,9 +30,9 @@ is_due_open config id log c own =
     else if place_of c == ack_place then not (owner_of config (phase_of c) == id) && is_some (value_taken log (phase_of c))
     else false
 
--- the same for the height of any log: nothing is sent if the height was not opened
+-- the same for the height of any log: nothing is sent if the height isn't open
 unfoldable pub is_due : Config → ℕ → List Note → ℕ → Bool
-is_due config id log c = option_map_or (is_due_open config id log c) (initial_of log) false
+is_due config id log c = option_map_or (is_due_open config id log c) (open_of log) false
 
 -- the number of heights from 1 to n at which it sends a statement as the next round opens after these entries
 unfoldable pub due_within : Config → ℕ → List Entry → ℕ → ℕ

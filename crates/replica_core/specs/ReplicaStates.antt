@@ -5,21 +5,22 @@ use Rattle.ledger_model.specs.declared.config.Config.{Config}
 use Rattle.ledger_model.specs.declared.history.Entry.{Entry}
 use Rattle.ledger_model.specs.Values.{Value}
 use Rattle.ledger_model.specs.Applications.{Machine, run}
-use Rattle.ledger_model.specs.Notes.{clock_of}
+use Rattle.ledger_model.specs.Notes.{clock_of, is_open}
 use Rattle.ledger_model.specs.Logs.{log_of, is_mute}
 use Rattle.ledger_model.specs.Rules.{Ring}
-use Rattle.ledger_model.specs.Commits.{executed, decided_at, commits_of, pool_of}
+use Rattle.ledger_model.specs.Commits.{executed, decided_at, commits_of, floor_of, pool_of}
 use Rattle.ledger_model.specs.Lawful.{clock_at}
 use Rattle.instance.specs.Instances.{InstanceView}
 use Rattle.instance.specs.Matching.{MatchesLog, only_rounds}
 use Rattle.height_row.specs.Heights.{row_at, AreAscending}
 
--- the state of a replica's core: the open heights in ascending order, the pool, the committed batches from height 1 on,
+-- the state of a replica's core: the floor, the open heights in ascending order, the pool, the committed batches from height 1 on,
 -- the application's machine, the number of the open round, and whether the replica is mute
 pub record ReplicaStateView : Type 0 where
   pub config : Config
   pub id : ℕ
   pub ring : Ring
+  pub floor : ℕ
   pub rows : List InstanceView
   pub pool : Value
   pub commits : List Value
@@ -33,6 +34,7 @@ new_replica_state config id ring = record {
   config = config;
   id = id;
   ring = ring;
+  floor = 1;
   rows = [];
   pool = [];
   commits = [];
@@ -68,10 +70,13 @@ AreDecided config id entries = (h : ℕ) → 1 ≤ h → h < 1 + executed entrie
 pub record MatchesHistory (held : ReplicaStateView) (entries : List Entry) : Type 0 where
   pub clock : clock_at entries ≡ held.clock
   pub clocks : (h : ℕ) → clock_of (log_of held.config held.id h entries) ≡ held.clock
-  -- each open height matches its log, and every other log contains only rounds
+  -- each open height matches its log; every other log from the floor on contains only rounds, and no height below the floor is open
   pub opened : (h : ℕ) (row : InstanceView) → row_at held.rows h ≡ Some row
       → MatchesLog held.ring row (log_of held.config held.id h entries)
-  pub unopened : (h : ℕ) → row_at held.rows h ≡ None → only_rounds (log_of held.config held.id h entries) ≡ true
+  pub unopened : (h : ℕ) → held.floor ≤ h → row_at held.rows h ≡ None → only_rounds (log_of held.config held.id h entries) ≡ true
+  pub retired : (h : ℕ) → h < held.floor → is_open (log_of held.config held.id h entries) ≡ false
+  pub floor : floor_of entries ≡ held.floor
+  pub low : held.floor ≤ length held.commits + 1
   pub pool : pool_of held.config held.id entries ≡ held.pool
   pub commits : commits_of held.config held.id entries ≡ held.commits
   -- the machine is the application run alone on the committed batches

@@ -1,13 +1,16 @@
 -- One event at a replica: the reply, and the core state after it.
 use Rattle.std.specs.Prelude.{◌≡◌, ℕ, ◌+◌, ◌==◌, IsTrue, MatchBool, List, [], ◌∷◌, ◌++◌, length, take, Option, Some, None, Result, Ok, Err}
-use Rattle.std.specs.Prelude.{is_ok, if◌then◌else◌}
+use Rattle.std.specs.Prelude.{nat_lt, nat_le, Bool, true, false, is_ok, if◌then◌else◌}
 use Rattle.std.specs.List.{filter_map}
 use Rattle.ledger_model.specs.Limits.{max_batch_len}
 use Rattle.ledger_model.specs.declared.event.Event.{Event}
+use Rattle.ledger_model.specs.declared.event.Event.TheVariants as event
 use Rattle.ledger_model.specs.declared.history.Entry.{Entry}
 use Rattle.ledger_model.specs.declared.reply.BlockResult.{BlockResult}
 use Rattle.ledger_model.specs.declared.reply.NothingDecided.{NothingDecided}
 use Rattle.ledger_model.specs.declared.reply.ProposeRefusal.{ProposeRefusal}
+use Rattle.ledger_model.specs.declared.reply.RetireRefusal.{RetireRefusal}
+use Rattle.ledger_model.specs.declared.reply.RetireRefusal.TheVariants as kept
 use Rattle.ledger_model.specs.declared.reply.Reply.{Reply}
 use Rattle.ledger_model.specs.declared.reply.Reply.TheVariants as reply
 use Rattle.ledger_model.specs.declared.reply.SubmitRefusal.{SubmitRefusal}
@@ -18,11 +21,11 @@ use Rattle.ledger_model.specs.Spelling.{statement_bytes}
 use Rattle.ledger_model.specs.Reading.{reading}
 use Rattle.ledger_model.specs.Applications.{run}
 use Rattle.ledger_model.specs.Replies.{check_reply}
-use Rattle.ledger_model.specs.Pools.{submit_answer, left_after}
+use Rattle.ledger_model.specs.Pools.{first_fault, submit_answer, left_after}
 use Rattle.ledger_model.specs.Commits.{block_of}
 use Rattle.ledger_model.specs.Lawful.{Lawful, is_signed_reply}
 use Rattle.key_ring.specs.Signers.{SignerView, signed_with}
-use Rattle.height_row.specs.Heights.{row_at, decided_in, open_answer}
+use Rattle.height_row.specs.Heights.{row_at, rows_from, decided_in, open_answer}
 use Rattle.replica_core.specs.ReplicaStates.{ReplicaStateView, MatchesHistory}
 
 -- for every history that the old state matches, the reply is lawful and signed, and the new state matches that history
@@ -50,7 +53,7 @@ with_value (Err f) x = Err f
 
 -- the reply to opening a height
 abbrev pub propose_held : ReplicaStateView → ℕ → Result Value ProposeRefusal
-propose_held held h = with_value (open_answer held.rows (length held.commits) h) (take max_batch_len held.pool)
+propose_held held h = with_value (open_answer held.floor held.rows (length held.commits) h) (take max_batch_len held.pool)
 
 -- the batch that is decided for the height after the committed ones, if one is
 abbrev pub next_decided : ReplicaStateView → Option Value
@@ -72,6 +75,23 @@ with_block held block = record held {
 abbrev pub after_execute : ReplicaStateView → Option Value → ReplicaStateView
 after_execute held None = held
 after_execute held (Some block) = with_block held block
+
+-- the reply to giving up the heights below a new floor
+abbrev pub retire_held : ReplicaStateView → ℕ → Result ℕ RetireRefusal
+retire_held held floor = first_fault (
+    (nat_lt (length held.commits + 1) floor, kept.NotCommitted)
+    ∷ (nat_le floor held.floor, kept.NotAbove)
+    ∷ []) floor
+
+-- the state after that reply
+abbrev pub after_retire : ReplicaStateView → Result ℕ RetireRefusal → ReplicaStateView
+after_retire held (Ok floor) = record held { floor = floor; rows = rows_from floor held.rows }
+after_retire held (Err why) = held
+
+-- whether the event gives heights up, which takes no memory
+abbrev pub gives_up : Event → Bool
+gives_up (event.Retire floor) = true
+gives_up _ = false
 
 -- ---- the leaves that are used
 

@@ -4,8 +4,8 @@ ghost use Rattle.ledger_model.specs.GrammarLaws.{IsBytes};
 ghost use Rattle.replica_core.specs.ShownEnds.{IsShownAlike, AreShownAlike};
 
 use ledger_model::{
-    Batch, BlockResult, Ignored, NotHeld, NothingDecided, ProposeRefusal, QueryAnswer, Sent,
-    SubmitRefusal,
+    Batch, BlockResult, Height, Ignored, NotHeld, NothingDecided, ProposeRefusal, QueryAnswer,
+    RetireRefusal, Sent, SubmitRefusal,
 };
 
 /// Whether both replies take the transaction, or refuse it for the same cause.
@@ -42,6 +42,20 @@ pub(crate) fn is_same_delivered(due: &Result<(), Ignored>, shown: &Result<(), Ig
 {
     match (due, shown) {
         (Ok(()), Ok(())) => true,
+        (Err(one), Err(other)) => one == other,
+        _ => false,
+    }
+}
+
+/// Whether both replies raise the floor to the same height, or refuse it for the same cause.
+pub(crate) fn is_same_retired(
+    due: &Result<Height, RetireRefusal>,
+    shown: &Result<Height, RetireRefusal>,
+) -> bool
+    ensures { result ≡ true ↔ due.now ≡ shown.now }
+{
+    match (due, shown) {
+        (Ok(one), Ok(other)) => one == other,
         (Err(one), Err(other)) => one == other,
         _ => false,
     }

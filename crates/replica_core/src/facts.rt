@@ -6,7 +6,7 @@ use key_ring::KeyRing;
 use ledger_model::{Batch, Config, Height, ReplicaId};
 
 impl<A: Application> ReplicaState<A> {
-    ghost use Rattle.std.specs.Prelude.{◌≡◌, ◌<◌, ◌≤◌};
+    ghost use Rattle.std.specs.Prelude.{◌≡◌, ◌<◌, ◌≤◌, ◌+◌, length};
     ghost use Rattle.std.specs.Option.{option_copied};
     ghost use Rattle.ledger_model.specs.Limits.{last_round};
     ghost use Rattle.height_row.specs.Heights.{row_at, decided_in};
@@ -49,6 +49,15 @@ impl<A: Application> ReplicaState<A> {
         self.committed.get(number - 1)
     }
 
+    fn floor(&self) -> Height
+        ensures floor { result ≡ self.now.floor }
+        ensures low { result ≤ length self.now.commits + 1 }
+    {
+        // This read opens the invariant for the proof: a height below the floor is committed.
+        let _ = &self.config;
+        self.rows.floor()
+    }
+
     fn decided_at(&self, height: Height) -> Option<&Batch>
         ensures row { option_copied result ≡ decided_in (row_at self.now.rows height) }
         ensures one { IsOneCluster self.now }
@@ -68,13 +77,13 @@ impl<A: Application> Core<A> {
     ghost use Rattle.std.specs.Option.{option_copied};
     ghost use Rattle.ledger_model.specs.declared.history.Entry.{Entry};
     ghost use Rattle.ledger_model.specs.Limits.{max_height, last_round};
-    ghost use Rattle.ledger_model.specs.Commits.{decided_at};
+    ghost use Rattle.ledger_model.specs.Commits.{floor_of, decision_at};
     ghost use Rattle.key_ring.specs.Signers.{key_of, leaves_of};
     ghost use Rattle.height_row.specs.Heights.{row_at, decided_in};
     ghost use Rattle.replica_core.specs.ReplicaStates.{MatchesHistory};
     ghost use Rattle.replica_core.specs.Leaves.{due_by};
     ghost use Rattle.replica_core.specs.Cores.{due_then};
-    ghost use Rattle.replica_core.specs.Facts.{block_at, info_reply};
+    ghost use Rattle.replica_core.specs.Facts.{block_at, info_reply, AreClosed};
 
     /// The number of the replica.
     pub fn id(&self) -> ReplicaId
@@ -147,12 +156,25 @@ impl<A: Application> Core<A> {
         self.kept.block(height)
     }
 
-    /// The batch that was decided at a height, committed or not; `None` if none was.
+    /// The floor: the least height that the replica hasn't given up, 1 at first.
+    pub fn floor(&self) -> Height
+        ensures floor { result ≡ self.now.held.floor }
+        // Every height below it is committed.
+        ensures low { result ≤ length self.now.held.commits + 1 }
+        // It is the floor of every matched history, and no height below it is open there.
+        ensures same { (entries : List Entry) → MatchesHistory self.now.held entries → floor_of entries ≡ result }
+        ensures closed { (entries : List Entry) → MatchesHistory self.now.held entries
+            → AreClosed self.now.held.config self.now.held.id entries result }
+    {
+        self.kept.floor()
+    }
+
+    /// The batch that was decided at a height from the floor on, committed or not; `None` if none was, and below the floor.
     pub fn decided_at(&self, height: Height) -> Option<&Batch>
         ensures row { option_copied result ≡ decided_in (row_at self.now.held.rows height) }
         // It is the batch that every matched history decided.
         ensures decided { (entries : List Entry) → MatchesHistory self.now.held entries
-            → option_copied result ≡ decided_at self.now.held.config self.now.held.id entries height }
+            → option_copied result ≡ decision_at self.now.held.config self.now.held.id entries height }
     {
         self.kept.decided_at(height)
     }

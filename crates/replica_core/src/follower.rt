@@ -31,6 +31,7 @@ impl<A: Application> Follower<A> {
     ghost use Rattle.ledger_model.specs.Applications.{run};
     ghost use Rattle.replica_core.specs.ReplicaStates.{new_replica_state, MatchesHistory};
     ghost use Rattle.replica_core.specs.Facts.{block_at};
+    ghost use Rattle.replica_core.specs.Steps.{gives_up};
     ghost use Rattle.replica_core.specs.Following.{KeepsReplay, IsSameReplicaState};
 
     /// A follower of the history of replica `id`, before its first entry. The ring has the keys that signatures are
@@ -59,7 +60,8 @@ impl<A: Application> Follower<A> {
     /// Takes the next entry. Returns whether its reply is lawful after the entries before it, and everything that it sends is
     /// signed. After the first entry for which that is false, the follower is lost and returns false for every later entry.
     ///
-    /// The only error is allocation failure. It changes nothing, so the caller may pass the entry again.
+    /// The only error is allocation failure. It changes nothing, so the caller may pass the entry again. An event that gives heights
+    /// up needs no memory.
     pub fn follow(
         &mut self,
         alloc: Global,
@@ -76,6 +78,7 @@ impl<A: Application> Follower<A> {
         // A follower that is lost stays lost.
         ensures for_good { IfOk result (λ kept. self.old.lost ≡ true → kept ≡ false) }
         ensures err { OnErr result (self.new ≡ self.old) }
+        ensures free { OnErr result (gives_up event.now ≡ false) }
         ensures same { IsSameReplicaState self.old.held self.new.held }
     {
         if self.lost {

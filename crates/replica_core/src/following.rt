@@ -2,7 +2,7 @@
 use crate::closings::make_nothing;
 use crate::comparing::{
     is_same_delivered, is_same_executed, is_same_frames, is_same_proposed, is_same_queried,
-    is_same_submitted,
+    is_same_retired, is_same_submitted,
 };
 use crate::replica_state::ReplicaState;
 use crate::shown_frames::{make_shown, read_frames, send_locks};
@@ -20,6 +20,7 @@ impl<A: Application> ReplicaState<A> {
     ghost use Rattle.ledger_model.specs.Limits.{last_round};
     ghost use Rattle.instance.specs.Plans.{ended};
     ghost use Rattle.replica_core.specs.ReplicaStates.{IsWithinLimits};
+    ghost use Rattle.replica_core.specs.Steps.{gives_up};
     ghost use Rattle.replica_core.specs.Following.{IsFollowed, IsSameReplicaState};
     ghost use Rattle.replica_core.specs.ShownEnds.{releases, IsShown, KeepsNone};
 
@@ -131,6 +132,7 @@ impl<A: Application> ReplicaState<A> {
         ensures followed { IfOk result (λ kept. IsFollowed self.old event.now reply.now kept self.new) }
         ensures same { IsSameReplicaState self.old self.new }
         ensures err { OnErr result (self.new ≡ self.old) }
+        ensures free { OnErr result (gives_up event.now ≡ false) }
     {
         match (event, reply) {
             (Event::Submit(bytes), Reply::Submitted(shown)) => {
@@ -149,6 +151,9 @@ impl<A: Application> ReplicaState<A> {
             (Event::Query(key, height), Reply::Queried(shown)) => {
                 let due = self.query(key.as_bytes(), height.number())?;
                 Ok(is_same_queried(&due, shown))
+            }
+            (Event::Retire(floor), Reply::Retired(shown)) => {
+                Ok(is_same_retired(&self.retire(*floor), shown))
             }
             _ => Ok(false),
         }

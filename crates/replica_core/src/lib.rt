@@ -1,6 +1,6 @@
 //! The core of a replica, and the one step that changes it: one event, one lawful reply.
 //!
-//! A [`Core`] has the open heights, the pool, the application and the blocks committed to it, the open round, and the
+//! A [`Core`] has its floor and the open heights, the pool, the application and the blocks committed to it, the open round, and the
 //! replica's keys. It stores no history. `specs/ReplicaStates` defines when this state matches a history.
 //! [`Core::step`] ensures that the state then matches the history with one more entry.
 //!
@@ -21,6 +21,7 @@ mod proposing;
 mod querying;
 mod replica;
 mod replica_state;
+mod retiring;
 mod sending;
 mod shown_frames;
 mod signing;

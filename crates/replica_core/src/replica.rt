@@ -27,13 +27,13 @@ impl<A: Application> Model for Core<A> {
 }
 
 impl<A: Application> Core<A> {
-    ghost use Rattle.std.specs.Prelude.{◌≡◌, ◌<◌, ◌≤◌, ◌+◌, [], slice_get, Some, length, IfOk, OnErr};
+    ghost use Rattle.std.specs.Prelude.{◌≡◌, ◌<◌, ◌≤◌, ◌+◌, [], slice_get, Some, length, false, IfOk, OnErr};
     ghost use Rattle.std.specs.Option.{option_copied};
     ghost use Rattle.ledger_model.specs.Limits.{max_height, last_round};
     ghost use Rattle.ledger_model.specs.Applications.{run};
     ghost use Rattle.key_ring.specs.Signers.{key_of, leaves_of};
     ghost use Rattle.replica_core.specs.ReplicaStates.{new_replica_state, MatchesHistory};
-    ghost use Rattle.replica_core.specs.Steps.{IsStep, UsesLeaves};
+    ghost use Rattle.replica_core.specs.Steps.{IsStep, UsesLeaves, gives_up};
     ghost use Rattle.replica_core.specs.Cores.{CoreView, IsSameReplica, leaves_due, is_mute_then};
 
     /// A core before the first event. The application must be in its opening state, of the configured kind, and the ring must
@@ -63,7 +63,7 @@ impl<A: Application> Core<A> {
     /// Takes one event, and returns the reply.
     ///
     /// The only error is allocation failure. It changes nothing, except that a round end of a replica that is not mute may have used
-    /// leaves.
+    /// leaves. Giving heights up takes no memory.
     pub fn step(&mut self, alloc: Global, event: &Event) -> Result<Reply, AllocError>
         // After every history that the core matches, the reply is lawful and signed, and the core then matches the
         // history with this entry.
@@ -73,6 +73,7 @@ impl<A: Application> Core<A> {
         // The core is mute if it was before, or if a round end had more statements to sign than leaves were left.
         ensures mute { IfOk result (λ _. self.new.held.mute ≡ is_mute_then self.old event.now) }
         ensures err { OnErr result (self.new ≡ record self.old { keys = self.new.keys }) }
+        ensures free { OnErr result (gives_up event.now ≡ false) }
         ensures least { self.old.keys.used ≤ self.new.keys.used }
         ensures most { self.new.keys.used ≤ self.old.keys.used + leaves_due self.old event.now }
         ensures same { IsSameReplica self.old self.new }
@@ -86,6 +87,7 @@ impl<A: Application> Core<A> {
             Event::Query(key, height) => {
                 Ok(Reply::Queried(self.kept.query(key.as_bytes(), height.number())?))
             }
+            Event::Retire(floor) => Ok(Reply::Retired(self.kept.retire(*floor))),
         }
     }
 }

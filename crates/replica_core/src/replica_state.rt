@@ -9,7 +9,7 @@ use std::alloc::{AllocError, Global};
 use std::hash::RandomState;
 use std::marker::Model;
 
-/// The open heights, the pool, the application and what was committed to it, the open round, and whether the replica is mute.
+/// The floor and the open heights, the pool, the application and what was committed to it, the open round, and whether the replica is mute.
 /// Contracts see a `ReplicaStateView`.
 pub(crate) struct ReplicaState<A: Application> {
     pub(crate) config: Config,
@@ -41,7 +41,7 @@ impl<A: Application> Drop for ReplicaState<A> {
 }
 
 impl<A: Application> Model for ReplicaState<A> {
-    ghost use Rattle.std.specs.Prelude.{◌≡◌, ◌<◌, ◌≤◌, length};
+    ghost use Rattle.std.specs.Prelude.{◌≡◌, ◌<◌, ◌≤◌, ◌+◌, length};
     ghost use Rattle.ledger_model.specs.Limits.{max_height, last_round};
     ghost use Rattle.ledger_model.specs.Applications.{run};
     ghost use Rattle.replica_core.specs.ReplicaStates.{ReplicaStateView};
@@ -52,6 +52,7 @@ impl<A: Application> Model for ReplicaState<A> {
       config = k.config;
       id = k.id;
       ring = k.ring;
+      floor = k.rows.floor;
       rows = k.rows.rows;
       pool = k.pool;
       commits = k.committed.items;
@@ -62,7 +63,8 @@ impl<A: Application> Model for ReplicaState<A> {
 
     ghost invariant = { λ k. (k.id < k.config.replicas) × (k.rows.config ≡ k.config) × (k.rows.id ≡ k.id)
         × (k.executor ≡ run k.config.kind k.committed.items)
-        × (length k.committed.items ≤ max_height) × (k.clock ≤ last_round) };
+        × (length k.committed.items ≤ max_height) × (k.clock ≤ last_round)
+        × (k.rows.floor ≤ length k.committed.items + 1) };
 }
 
 impl<A: Application> ReplicaState<A> {

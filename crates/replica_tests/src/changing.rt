@@ -3,7 +3,7 @@ use crate::ending_changes::changed_end;
 use bytes::Bytes;
 use ledger_model::{
     Batch, BlockResult, Codes, Height, Ignored, LastRound, NotHeld, NothingDecided, ProposeRefusal,
-    QueryAnswer, Reply, RoundEnded, SubmitRefusal,
+    QueryAnswer, Reply, RetireRefusal, RoundEnded, SubmitRefusal,
 };
 use std::alloc::{AllocError, Global};
 
@@ -201,6 +201,21 @@ fn changed_query(
     }
 }
 
+fn changed_retire(told: Result<Height, RetireRefusal>, change: Change) -> Option<Reply> {
+    match (change, told) {
+        (Change::Outcome, Ok(_)) => Some(Reply::Retired(Err(RetireRefusal::NotAbove))),
+        (Change::Outcome, Err(_)) => Some(Reply::Retired(Ok(Height::new(2)))),
+        (Change::Number, Ok(floor)) => { Some(Reply::Retired(Ok(Height::new(floor.number() ^ 1)))) }
+        (Change::Cause, Err(RetireRefusal::NotAbove)) => {
+            Some(Reply::Retired(Err(RetireRefusal::NotCommitted)))
+        }
+        (Change::Cause, Err(RetireRefusal::NotCommitted)) => {
+            Some(Reply::Retired(Err(RetireRefusal::NotAbove)))
+        }
+        _ => None,
+    }
+}
+
 fn changed_round_end(
     alloc: Global,
     told: &Result<RoundEnded, LastRound>,
@@ -226,5 +241,6 @@ pub(crate) fn changed(
         Reply::RoundEnded(told) => changed_round_end(alloc, told, change),
         Reply::Executed(told) => changed_execute(alloc, told, change),
         Reply::Queried(told) => changed_query(alloc, told, change),
+        Reply::Retired(told) => Ok(changed_retire(*told, change)),
     }
 }

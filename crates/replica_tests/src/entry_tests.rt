@@ -43,7 +43,7 @@ fn kind_of(event: &Event) -> Kind {
         Event::Propose(_) => Propose,
         Event::RoundEnd => RoundEnd,
         Event::Deliver(bytes) => kind_of_frame(bytes),
-        Event::Execute | Event::Query(_, _) => Other,
+        Event::Execute | Event::Query(_, _) | Event::Retire(_) => Other,
     }
 }
 

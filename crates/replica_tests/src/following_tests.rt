@@ -5,7 +5,8 @@ use crate::playing::{history_of, played};
 use crate::refusing::refuses_changes;
 use crate::scripts::{
     COUNTER, EMPTY_BLOCKS, FOUR_HEIGHTS, FOUR_PROPOSALS, LATE_ACKNOWLEDGEMENT, LOCK_RELEASED,
-    NO_LEAF_LEFT, NO_LEAVES_FOR_FOUR, OTHER_PHASES, PLAIN, PURSE, REFUSALS, Script, TWO_PROPOSALS,
+    NO_LEAF_LEFT, NO_LEAVES_FOR_FOUR, OTHER_PHASES, PLAIN, PURSE, REFUSALS, RETIRED, Script,
+    TWO_PROPOSALS,
 };
 use app_kinds::AnyKind;
 use locked_replica::Snapshot;
@@ -76,8 +77,9 @@ fn is_script_followed(
 }
 
 /// Scripts, each with a replica, and the number of entries of all its histories.
-const CASES: [(Script, u8, usize); 13] = [
+const CASES: [(Script, u8, usize); 14] = [
     (PLAIN, 0, 199),
+    (RETIRED, 0, 204),
     (EMPTY_BLOCKS, 2, 99),
     (COUNTER, 1, 63),
     (PURSE, 1, 59),

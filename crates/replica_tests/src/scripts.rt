@@ -20,6 +20,16 @@ pub(crate) const PLAIN: Script = &[
     ),
 ];
 
+/// The same, and then replica 0 gives height 1 up, which is refused where it has or may not; the others go on.
+pub(crate) const RETIRED: Script = &[
+    FOUR_ALIKE,
+    (b"round\n", 16),
+    (
+        b"execute 0\nexecute 1\nexecute 2\nexecute 3\nretire 0 2\nretire 0 2\nretire 0 3\npropose 0 1\nend 0\nend 1\npass 1 12 0\nquery 0 a\n",
+        1,
+    ),
+];
+
 /// Four different proposals.
 pub(crate) const FOUR_PROPOSALS: Script = &[
     (

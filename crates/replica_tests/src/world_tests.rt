@@ -42,6 +42,10 @@ fn round_end(replica: u8) -> WorldStep {
     WorldStep::RoundEnd(ReplicaId::new(replica))
 }
 
+fn retire(replica: u8) -> WorldStep {
+    WorldStep::Retire(ReplicaId::new(replica), Height::new(2))
+}
+
 fn pass(from: u8, index: usize, to: u8) -> WorldStep {
     WorldStep::Pass {
         from: ReplicaId::new(from),
@@ -89,6 +93,8 @@ fn steps(alloc: Global) -> Result<Vec<WorldStep>, Fault> {
         inject(2),
         inject(3),
         submit(0, b""),
+        retire(0),
+        retire(3),
     ];
     match steps {
         Ok(steps) => Ok(steps),
@@ -107,7 +113,7 @@ const NO_REPLICA: WorldReply = WorldReply::Refused(WorldRefusal::NoSuchReplica);
 const LIAR: WorldReply = WorldReply::Refused(WorldRefusal::Liar);
 
 /// The replies to the steps, in order.
-fn answers() -> [WorldReply; 20] {
+fn answers() -> [WorldReply; 22] {
     [
         done(0, 0),
         done(0, 1),
@@ -129,11 +135,13 @@ fn answers() -> [WorldReply; 20] {
         done(2, 2),
         LIAR,
         done(0, 5),
+        done(0, 6),
+        LIAR,
     ]
 }
 
 /// For each entry, the replica that it was added at.
-const ORDER: [u8; 13] = [0, 0, 1, 2, 0, 1, 2, 1, 1, 0, 0, 2, 0];
+const ORDER: [u8; 14] = [0, 0, 1, 2, 0, 1, 2, 1, 1, 0, 0, 2, 0, 0];
 
 /// Takes the steps one by one.
 fn run_one_by_one(

@@ -33,6 +33,7 @@ lawful_query config ring id entries key h (reply.Proposed r) law = absurd law
 lawful_query config ring id entries key h (reply.Delivered r) law = absurd law
 lawful_query config ring id entries key h (reply.RoundEnded r) law = absurd law
 lawful_query config ring id entries key h (reply.Executed r) law = absurd law
+lawful_query config ring id entries key h (reply.Retired r) law = absurd law
 
 -- the last entry
 get_last : (entries : List Entry) (e : Entry) → slice_get (entries ++ e ∷ []) (length entries) ≡ Some e

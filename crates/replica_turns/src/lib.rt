@@ -6,7 +6,7 @@
 //! neither waits nor takes a lock.
 //!
 //! The decisions of a replica's worker are here too: what the replica does by itself next ([`own_of`], [`events_of`]),
-//! which frames arrive one round early ([`early_of`]), which frames an entry of the history sent ([`sent_at`]), and
+//! among it which heights it gives up, which frames arrive one round early ([`early_of`]), which frames an entry of the history sent ([`sent_at`]), and
 //! which replicas a frame goes to ([`goes_to`]). [`new_replica`] makes the replicas of a cluster.
 #![tactic(auto)]
 

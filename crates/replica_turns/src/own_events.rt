@@ -1,7 +1,9 @@
-//! What a replica does by itself: it runs the decided block, and opens the height after the committed one.
-ghost use Rattle.std.specs.Prelude.{◌≡◌, ◌<◌, ◌≤◌, ◌+◌, ◌-◌, ◌^◌, length, unwrap_or, IfOk};
+//! What a replica does by itself: it runs the decided block, opens the height after the committed one, and gives up the
+//! heights that all replicas committed.
+ghost use Rattle.std.specs.Prelude.{◌≡◌, ◌<◌, ◌≤◌, ◌+◌, ◌-◌, ◌^◌, length, take, IfOk};
+ghost use Rattle.ledger_model.specs.Commits.{floor_of};
 ghost use Rattle.replica_turns.specs.Turns.{height_in};
-ghost use Rattle.replica_turns.specs.OwnEvents.{is_next_decided, own_of, own_events, events_of};
+ghost use Rattle.replica_turns.specs.OwnEvents.{is_next_decided, raised_floor, own_of, own_events, events_of, proposed_in};
 
 use abci::Application;
 use bytes::Bytes;
@@ -16,21 +18,40 @@ pub struct OwnEvents {
     pub is_decided: bool,
     /// The height that it then opens, if any.
     pub proposal: Option<Height>,
+    /// The floor that it then raises, if any: it gives up all heights below.
+    pub floor: Option<Height>,
 }
 
 /// Whether the height `next`, which follows the committed one, is decided.
 fn is_decided_at<A: Application>(state: &State<A>, next: u32) -> bool
-    requires { next ≡ height_in state.now + 1 }
+    requires next { next ≡ height_in state.now + 1 }
+    requires kept { floor_of state.now.entries ≤ next }
     ensures { result ≡ is_next_decided state.now }
 {
     state.decided_at(Height::new(next)).is_some()
 }
 
-/// What the replica does by itself next. `proposed` is the greatest height that it has proposed.
-pub fn own_of<A: Application>(state: &State<A>, proposed: u32) -> OwnEvents
-    ensures { result ≡ own_of state.now proposed }
+/// The floor above `least`, if the replica committed that height and didn't give it up before.
+fn raised_floor<A: Application>(state: &State<A>, least: Height) -> Option<Height>
+    ensures { result ≡ raised_floor state.now least }
+{
+    let is_kept = state.floor() <= least;
+    let is_committed = least.number() <= state.height();
+    if is_kept && is_committed {
+        Some(Height::new(least.number() + 1))
+    } else {
+        None
+    }
+}
+
+/// What the replica does by itself next. `proposed` is the greatest height that it has proposed, and `least` is a height
+/// that all replicas committed.
+pub fn own_of<A: Application>(state: &State<A>, proposed: u32, least: Height) -> OwnEvents
+    ensures { result ≡ own_of state.now proposed least }
 {
     let committed = state.height();
+    // The floor is at most one above the committed height: it is read for the proof.
+    let _ = state.floor();
     let is_decided = is_decided_at(state, committed + 1);
     let next = if is_decided {
         committed + 2
@@ -45,6 +66,7 @@ pub fn own_of<A: Application>(state: &State<A>, proposed: u32) -> OwnEvents
         } else {
             None
         },
+        floor: raised_floor(state, least),
     }
 }
 
@@ -52,18 +74,21 @@ impl OwnEvents {
     /// The number of these events.
     pub fn len(&self) -> usize
         ensures len { result ≡ length (own_events self.now) }
-        ensures most { result ≤ 2 }
+        ensures most { result ≤ 3 }
     {
-        usize::from(self.is_decided) + usize::from(self.proposal.is_some())
+        usize::from(self.is_decided)
+            + usize::from(self.proposal.is_some())
+            + usize::from(self.floor.is_some())
     }
 
-    /// The greatest proposed height after these events, given that it was `before`.
-    pub fn proposed_after(&self, before: u32) -> u32
-        ensures { result ≡ unwrap_or self.now.proposal before }
+    /// The greatest height that the replica has proposed once it took the first `taken` events of its turn, given that it
+    /// was `before`.
+    pub fn proposed_after(&self, before: u32, taken: usize) -> u32
+        ensures { result ≡ proposed_in before (take taken (own_events self.now)) }
     {
         match self.proposal {
-            Some(height) => height.number(),
-            None => before,
+            Some(height) if usize::from(self.is_decided) < taken => before.max(height.number()),
+            _ => before,
         }
     }
 
@@ -77,6 +102,9 @@ impl OwnEvents {
         }
         if let Some(height) = self.proposal {
             events.push(Event::Propose(height))?;
+        }
+        if let Some(floor) = self.floor {
+            events.push(Event::Retire(floor))?;
         }
         Ok(events)
     }

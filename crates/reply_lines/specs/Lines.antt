@@ -10,7 +10,7 @@ use Rattle.ledger_model.specs.declared.reply.Reply.TheVariants as reply
 use Rattle.ledger_model.specs.declared.reply.SubmitRefusal.{SubmitRefusal}
 use Rattle.ledger_model.specs.declared.reply.SubmitRefusal.TheVariants as submit
 use Rattle.ledger_model.specs.declared.reply.ProposeRefusal.{ProposeRefusal}
-use Rattle.ledger_model.specs.declared.reply.ProposeRefusal.TheVariants as propose
+use Rattle.ledger_model.specs.declared.reply.RetireRefusal.{RetireRefusal}
 use Rattle.ledger_model.specs.declared.reply.Ignored.{Ignored}
 use Rattle.ledger_model.specs.declared.reply.Ignored.TheVariants as cause
 use Rattle.ledger_model.specs.declared.reply.RoundEnded.{RoundEnded}
@@ -26,7 +26,7 @@ use Rattle.ledger_model.specs.declared.world.WorldRefusal.{WorldRefusal}
 use Rattle.ledger_model.specs.declared.world.WorldRefusal.TheVariants as refused
 use Rattle.ledger_model.specs.Values.{Value}
 use Rattle.ledger_model.specs.Limits.{max_ahead}
-use Rattle.ledger_model.specs.Commits.{commits_of, decided_at}
+use Rattle.ledger_model.specs.Commits.{commits_of, decision_at}
 use Rattle.ledger_model.specs.Lawful.{clock_at}
 use Rattle.ledger_model.specs.Worlds.{World, entries_in}
 use Rattle.abci.specs.declared.info.Info.{Info}
@@ -34,7 +34,7 @@ use Rattle.hex.specs.Hex.{encode_lower}
 use Rattle.replica_core.specs.Facts.{block_at}
 use Rattle.plain_text.specs.Transactions.{bytes_text}
 use Rattle.scenario_texts.specs.Texts.{batch_text}
-use Rattle.ledger_model.specs.Causes.{cause_text}
+use Rattle.ledger_model.specs.Causes.{cause_text, submit_refusal_number, propose_refusal_number, retire_refusal_number}
 
 -- a line, with its line feed
 abbrev pub ended : List ℕ → List ℕ
@@ -47,13 +47,14 @@ batch_text_of (Some v) = batch_text v
 
 -- ---- a submitted transaction
 
+-- the application's code, if it refused the transaction
+abbrev pub code_text : SubmitRefusal → List ℕ
+code_text (submit.Rejected code) = codes " code " ++ decimal code
+code_text _ = []
+
 -- why it was refused
 abbrev pub submit_refusal_text : SubmitRefusal → List ℕ
-submit_refusal_text submit.Empty = codes "1"
-submit_refusal_text submit.TooLong = codes "2"
-submit_refusal_text submit.Duplicate = codes "3"
-submit_refusal_text submit.Full = codes "4"
-submit_refusal_text (submit.Rejected code) = codes "5 code " ++ decimal code
+submit_refusal_text why = decimal (submit_refusal_number why) ++ code_text why
 
 -- `submit R ok`, `submit R refused 3`, `submit R refused 5 code 2`
 abbrev pub submitted_text : ℕ → Result (Unit {0}) SubmitRefusal → List ℕ
@@ -62,16 +63,11 @@ submitted_text r (Err why) = codes "submit " ++ decimal r ++ codes " refused " +
 
 -- ---- opening a height
 
--- why it was refused
-abbrev pub propose_refusal_text : ProposeRefusal → List ℕ
-propose_refusal_text propose.TooFar = codes "1"
-propose_refusal_text propose.AlreadyOpen = codes "2"
-propose_refusal_text propose.Closed = codes "3"
-
 -- `propose R H BATCH`, `propose R H refused 1`
 abbrev pub proposed_text : ℕ → ℕ → Result Value ProposeRefusal → List ℕ
 proposed_text r h (Ok batch) = codes "propose " ++ decimal r ++ codes " " ++ decimal h ++ codes " " ++ batch_text batch
-proposed_text r h (Err why) = codes "propose " ++ decimal r ++ codes " " ++ decimal h ++ codes " refused " ++ propose_refusal_text why
+proposed_text r h (Err why) =
+    codes "propose " ++ decimal r ++ codes " " ++ decimal h ++ codes " refused " ++ decimal (propose_refusal_number why)
 
 -- ---- bytes from the network
 
@@ -116,12 +112,12 @@ decision_lines r h None = []
 
 -- the heights above the committed ones that may be open and aren't decided
 abbrev pub undecided : Config → ℕ → List Entry → List ℕ
-undecided config r entries = filter (λ h. not (is_some (decided_at config r entries h)))
+undecided config r entries = filter (λ h. not (is_some (decision_at config r entries h)))
     (range_with_len (length (commits_of config r entries) + 1) max_ahead)
 
 -- the lines of these heights that are decided by now, ascending
 abbrev pub decided_lines : Config → ℕ → List ℕ → List Entry → List ℕ
-decided_lines config r heights entries = flat_map (λ h. decision_lines r h (decided_at config r entries h)) heights
+decided_lines config r heights entries = flat_map (λ h. decision_lines r h (decision_at config r entries h)) heights
 
 -- ---- a block that is run
 
@@ -164,6 +160,14 @@ abbrev pub queried_text : ℕ → Result QueryAnswer NotHeld → List ℕ
 queried_text r (Ok found) = found_text r found
 queried_text r (Err why) = not_held_text r
 
+-- ---- giving heights up
+
+-- `retire R H ok`, `retire R H refused 1`
+abbrev pub retired_text : ℕ → ℕ → Result ℕ RetireRefusal → List ℕ
+retired_text r floor (Ok raised) = codes "retire " ++ decimal r ++ codes " " ++ decimal floor ++ codes " ok"
+retired_text r floor (Err why) =
+    codes "retire " ++ decimal r ++ codes " " ++ decimal floor ++ codes " refused " ++ decimal (retire_refusal_number why)
+
 -- ---- the state of the application
 
 -- `info R H` and the hash of its state
@@ -181,6 +185,7 @@ reply_text config r before after event.RoundEnd (reply.RoundEnded given) =
     ended (end_text r (clock_at after) given) ++ decided_lines config r before after
 reply_text config r before after event.Execute (reply.Executed given) = ended (executed_text r (commits_of config r after) given)
 reply_text config r before after (event.Query key h) (reply.Queried given) = ended (queried_text r given)
+reply_text config r before after (event.Retire floor) (reply.Retired given) = ended (retired_text r floor given)
 reply_text config r before after _ _ = []
 
 -- the text for an entry of a replica

@@ -7,7 +7,7 @@ ghost use Rattle.reply_lines.specs.Lines.{ended, end_text, executed_text, querie
 
 use crate::lines::{
     add_decision, add_delivered, add_end, add_executed, add_found, add_last_end, add_not_held,
-    add_nothing, add_proposed, add_submitted,
+    add_nothing, add_proposed, add_retired, add_submitted,
 };
 use crate::text::Text;
 use abci::Application;
@@ -130,6 +130,10 @@ fn add_reply<A: Application>(
         },
         EventView::Query(_, _) => match entry.reply() {
             ReplyView::Queried(answer) => add_answer(out, replica, answer),
+            _ => Ok(()),
+        },
+        EventView::Retire(floor) => match entry.reply() {
+            ReplyView::Retired(answer) => add_retired(out, replica, floor, answer),
             _ => Ok(()),
         },
     }

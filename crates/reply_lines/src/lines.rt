@@ -3,25 +3,22 @@ ghost use Rattle.std.specs.Prelude.{◌≡◌, ◌++◌, OnOk, codes, decimal};
 ghost use Rattle.std.specs.List.{flat_map};
 ghost use Rattle.std.specs.Option.{option_copied};
 ghost use Rattle.std.specs.Result.{result_map_both};
-ghost use Rattle.reply_lines.specs.Lines.{ended, batch_text_of, submit_refusal_text, submitted_text, propose_refusal_text, proposed_text, delivered_text, ended_round_text, last_round_text, decision_lines, codes_text, block_text, nothing_text, found_text, not_held_text, refusal_text, told_text};
+ghost use Rattle.reply_lines.specs.Lines.{ended, batch_text_of, submit_refusal_text, submitted_text, proposed_text, retired_text, delivered_text, ended_round_text, last_round_text, decision_lines, codes_text, block_text, nothing_text, found_text, not_held_text, refusal_text, told_text};
 
 use crate::text::Text;
 use abci::Info;
 use ledger_model::{
     Batch, BlockResult, Height, Ignored, NotHeld, NothingDecided, ProposeRefusal, QueryAnswer,
-    ReplicaId, SubmitRefusal, WorldRefusal,
+    ReplicaId, RetireRefusal, SubmitRefusal, WorldRefusal,
 };
 use std::alloc::AllocError;
 
-/// The number of a refused proposal.
-fn propose_refusal(refusal: ProposeRefusal) -> &'static str
-    ensures { result.now ≡ propose_refusal_text refusal }
+/// The number of a refusal.
+fn add_number(out: &mut Text, number: u8) -> Result<(), AllocError>
+    ensures { OnOk result (out.new ≡ out.old ++ decimal number) }
 {
-    match refusal {
-        ProposeRefusal::TooFar => "1",
-        ProposeRefusal::AlreadyOpen => "2",
-        ProposeRefusal::Closed => "3",
-    }
+    let text = format!(in out.allocator(); "{number}")?;
+    out.add(&text)
 }
 
 /// The text of a refused step.
@@ -49,15 +46,13 @@ pub fn add_refusal(out: &mut Text, refusal: WorldRefusal) -> Result<(), AllocErr
 fn add_submit_refusal(out: &mut Text, refusal: SubmitRefusal) -> Result<(), AllocError>
     ensures { OnOk result (out.new ≡ out.old ++ submit_refusal_text refusal) }
 {
+    add_number(out, refusal.number())?;
     match refusal {
-        SubmitRefusal::Empty => out.add("1"),
-        SubmitRefusal::TooLong => out.add("2"),
-        SubmitRefusal::Duplicate => out.add("3"),
-        SubmitRefusal::Full => out.add("4"),
         SubmitRefusal::Rejected(code) => {
-            let text = format!(in out.allocator(); "5 code {code}")?;
+            let text = format!(in out.allocator(); " code {code}")?;
             out.add(&text)
         }
+        _ => Ok(()),
     }
 }
 
@@ -105,10 +100,30 @@ pub(crate) fn add_proposed(
         Ok(batch) => out.add_batch(batch)?,
         Err(refusal) => {
             out.add("refused ")?;
-            out.add(propose_refusal(refusal))?;
+            add_number(out, refusal.number())?;
         }
     }
     out.add("\n")
+}
+
+/// `retire R H ok`, `retire R H refused 1`.
+pub(crate) fn add_retired(
+    out: &mut Text,
+    replica: ReplicaId,
+    floor: Height,
+    answer: Result<Height, RetireRefusal>,
+) -> Result<(), AllocError>
+    ensures { OnOk result (out.new ≡ out.old ++ ended (retired_text replica floor answer)) }
+{
+    add_head(out, "retire", replica, floor.number())?;
+    match answer {
+        Ok(_) => out.add("ok\n"),
+        Err(refusal) => {
+            out.add("refused ")?;
+            add_number(out, refusal.number())?;
+            out.add("\n")
+        }
+    }
 }
 
 /// `deliver R accepted`, `deliver R ignored 7 Repeated`.

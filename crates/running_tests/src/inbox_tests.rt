@@ -189,8 +189,8 @@ fn holds_by_two<R: Wait>(
     let mut second = putting.pop().unwrap();
     let first = putting.pop().unwrap();
     let are_held = holds_by_one(rt, alloc, inbox, taking, &mut second);
-    inbox.retire(taking, second);
-    inbox.retire(taking, first);
+    inbox.hand_back(taking, second);
+    inbox.hand_back(taking, first);
     let others_come = comes_in_order(rt, inbox, taking, 1, 3);
     let is_empty = is_empty(rt, inbox, taking);
     Ok(are_held? && are_two && others_come && is_empty)

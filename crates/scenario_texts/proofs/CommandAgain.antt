@@ -12,8 +12,8 @@ use Rattle.scenario_texts.specs.Plans.{Plan}
 use Rattle.scenario_texts.specs.Words.{keyword_text}
 use Rattle.scenario_texts.specs.Lawful.{IsNumber, IsBytes, IsTowards, IsLie, IsCommand}
 use Rattle.scenario_texts.specs.Texts.{bytes_words, hex_words, lie_words, command_words, towards_text}
-use Rattle.scenario_texts.specs.Reading.{submit_of, inject_of, query_of, propose_of, pass_of, simple_of, lying_of, command_of, with_command}
-use Rattle.scenario_texts.specs.Reading.{going_on}
+use Rattle.scenario_texts.specs.Reading.{submit_of, inject_of, query_of, propose_of, retire_of, pass_of, simple_of, lying_of, command_of}
+use Rattle.scenario_texts.specs.Reading.{with_command, going_on}
 use Rattle.scenario_texts.specs.declared.keyword.Keyword.{Keyword}
 use Rattle.scenario_texts.specs.declared.keyword.Keyword.TheVariants as keyword
 use Rattle.scenario_texts.specs.declared.command.Towards.{Towards}
@@ -39,7 +39,7 @@ pub record IsRead (liars : List ℕ) (c : Command) : Type 0 where
 
 -- a step is read again
 pub command_again : (liars : List ℕ) → ((r : ℕ) → Contains liars r → IsNumber r) → (c : Command) → IsCommand liars c → IsRead liars c
-unfolding command_of going_on submit_of inject_of query_of propose_of pass_of simple_of lying_of
+unfolding command_of going_on submit_of inject_of query_of propose_of retire_of pass_of simple_of lying_of
 command_again liars small (command.Submit replica bytes) (number, fits) = record {
   keyword = keyword.Submit;
   fields = number_text replica ∷ bytes_words bytes;
@@ -89,6 +89,13 @@ command_again liars small (command.Query replica key) (number, fits, short) = re
   reads =
       let few : nat_le (length key) max_key_len ≡ true = grind (arith, nat_tests, short) in
       rw (number_of-again replica number, optional_bytes-again key fits, few) refl;
+  is_step = λ p. refl;
+}
+command_again liars small (command.Retire replica floor) (number, fits) = record {
+  keyword = keyword.Retire;
+  fields = number_text replica ∷ number_text floor ∷ [];
+  spelled = refl;
+  reads = rw (two_numbers-again replica floor number fits) refl;
   is_step = λ p. refl;
 }
 command_again liars small (command.Info replica) number = record {
@@ -174,6 +181,8 @@ words_of_command liars small (command.Inject to bytes) (number, fits) =
 words_of_command liars small (command.Execute replica) number = (seen_word (codes "execute") refl, (IsWord-number_text replica number, tt))
 words_of_command liars small (command.Query replica key) (number, fits, short) =
     (seen_word (codes "query") refl, (IsWord-number_text replica number, words_of_bytes key fits))
+words_of_command liars small (command.Retire replica floor) (number, fits) =
+    (seen_word (codes "retire") refl, (IsWord-number_text replica number, (IsWord-number_text floor fits, tt)))
 words_of_command liars small (command.Info replica) number = (seen_word (codes "info") refl, (IsWord-number_text replica number, tt))
 words_of_command liars small command.Silent is = (seen_word (codes "silent") refl, tt)
 words_of_command liars small command.Round is = (seen_word (codes "round") refl, tt)

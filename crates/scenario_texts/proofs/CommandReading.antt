@@ -15,7 +15,7 @@ use Rattle.scenario_texts.specs.Lawful.{IsNumber, IsLie, IsCommand}
 use Rattle.scenario_texts.specs.Texts.{lie_words, command_words}
 use Rattle.scenario_texts.specs.Reading.{keyword_among, all_keywords, keyword_of, number_of, positive_of, one_number, two_numbers}
 use Rattle.scenario_texts.specs.Reading.{three_numbers, optional_bytes, optional_hex, batch_of, towards_of, liar_of, lie_at, lie_of}
-use Rattle.scenario_texts.specs.Reading.{submit_of, inject_of, query_of, propose_of, pass_of, simple_of, lying_of, command_of}
+use Rattle.scenario_texts.specs.Reading.{submit_of, inject_of, query_of, propose_of, retire_of, pass_of, simple_of, lying_of, command_of}
 use Rattle.scenario_texts.specs.declared.keyword.Keyword.{Keyword}
 use Rattle.scenario_texts.specs.declared.keyword.Keyword.TheVariants as keyword
 use Rattle.scenario_texts.specs.declared.command.Towards.{Towards}
@@ -42,6 +42,7 @@ keyword_of-again keyword.Pass = refl
 keyword_of-again keyword.Inject = refl
 keyword_of-again keyword.Execute = refl
 keyword_of-again keyword.Query = refl
+keyword_of-again keyword.Retire = refl
 keyword_of-again keyword.Info = refl
 keyword_of-again keyword.Silent = refl
 keyword_of-again keyword.Round = refl
@@ -213,6 +214,13 @@ propose_of-sound liars fields c e =
     let spelled = two_numbers-sound fields n.0 n.1 read in
     subst (λ (x : Command). Says liars (codes "propose") fields x) equal (ap (λ f. codes "propose" ∷ f) spelled.0, spelled.1)
 
+retire_of-sound : (liars : List ℕ) (fields : List (List ℕ)) (c : Command) → retire_of fields ≡ Some c → Says liars (codes "retire") fields c
+unfolding retire_of
+retire_of-sound liars fields c e =
+    let (n, (read, equal)) = map_some (λ (n : ℕ × ℕ). command.Retire n.0 n.1) (two_numbers fields) c e in
+    let spelled = two_numbers-sound fields n.0 n.1 read in
+    subst (λ (x : Command). Says liars (codes "retire") fields x) equal (ap (λ f. codes "retire" ∷ f) spelled.0, spelled.1)
+
 pass_of-sound : (liars : List ℕ) (fields : List (List ℕ)) (c : Command) → pass_of fields ≡ Some c → Says liars (codes "pass") fields c
 unfolding pass_of
 pass_of-sound liars fields c e =
@@ -247,6 +255,7 @@ command_of-sound liars keyword.Propose fields c e = propose_of-sound liars field
 command_of-sound liars keyword.Pass fields c e = pass_of-sound liars fields c e
 command_of-sound liars keyword.Inject fields c e = inject_of-sound liars fields c e
 command_of-sound liars keyword.Query fields c e = query_of-sound liars fields c e
+command_of-sound liars keyword.Retire fields c e = retire_of-sound liars fields c e
 command_of-sound liars keyword.LieReport fields c e =
     lying_sound liars (codes "lie-report") command.LieReport (λ lie. refl) (λ lie is. is) fields c e
 command_of-sound liars keyword.LieLock fields c e =

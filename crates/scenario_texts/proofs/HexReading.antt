@@ -1,7 +1,7 @@
 -- Hexadecimal digits are read back from their text.
 use Rattle.std.proofs.Common.{◌≡◌, ◌∙◌, ℕ, ◌+◌, ◌-◌, ◌*◌, ◌/◌, ◌%◌, ◌<◌, ◌≤◌, zero, suc, Bool, true, false, cond, List, [], ◌∷◌, refl, sym}
 use Rattle.std.proofs.Common.{ap, arith}
-use Rattle.std.specs.Prelude.{◌||◌, ◌&&◌, nat_le, Option, Some, None, Result, Ok, Err, slice_index}
+use Rattle.std.specs.Prelude.{◌&&◌, nat_le, Option, Some, None, Result, Ok, Err, slice_index}
 use Rattle.std.specs.Char.{is_ascii_uppercase}
 use Rattle.std.specs.List.{list_any, AllByRecursion}
 use Rattle.std.specs.Result.{result_ok}

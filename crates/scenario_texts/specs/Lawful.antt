@@ -40,6 +40,7 @@ IsCommand liars (command.Pass from index to) = IsNumber from × IsNumber index �
 IsCommand liars (command.Inject to bytes) = IsNumber to × IsBytes bytes
 IsCommand liars (command.Execute replica) = IsNumber replica
 IsCommand liars (command.Query replica key) = IsNumber replica × IsBytes key × (length key ≤ max_key_len)
+IsCommand liars (command.Retire replica floor) = IsNumber replica × IsNumber floor
 IsCommand liars (command.Info replica) = IsNumber replica
 IsCommand liars command.Silent = Unit {0}
 IsCommand liars command.Round = Unit {0}

@@ -41,8 +41,8 @@ keyword_among (k ∷ ks) word = if bytes_eq word (keyword_text k) then Some k el
 abbrev pub all_keywords : List Keyword
 all_keywords =
     keyword.Config ∷ keyword.Keys ∷ keyword.Liar ∷ keyword.Submit ∷ keyword.Propose ∷ keyword.End ∷ keyword.Pass ∷ keyword.Inject
-    ∷ keyword.Execute ∷ keyword.Query ∷ keyword.Info ∷ keyword.Silent ∷ keyword.Round ∷ keyword.LieReport ∷ keyword.LieLock
-    ∷ keyword.LieAck ∷ []
+    ∷ keyword.Execute ∷ keyword.Query ∷ keyword.Retire ∷ keyword.Info ∷ keyword.Silent ∷ keyword.Round ∷ keyword.LieReport
+    ∷ keyword.LieLock ∷ keyword.LieAck ∷ []
 
 -- the keyword that the word is
 unfoldable pub keyword_of : List ℕ → Option Keyword
@@ -225,6 +225,10 @@ query_of (r ∷ rest) = do
 unfoldable pub propose_of : List (List ℕ) → Option Command
 propose_of fields = option_map (λ n. command.Propose n.0 n.1) (two_numbers fields)
 
+-- `retire`
+unfoldable pub retire_of : List (List ℕ) → Option Command
+retire_of fields = option_map (λ n. command.Retire n.0 n.1) (two_numbers fields)
+
 -- `pass`
 unfoldable pub pass_of : List (List ℕ) → Option Command
 pass_of fields = option_map (λ n. command.Pass n.0 n.1 n.2) (three_numbers fields)
@@ -252,6 +256,7 @@ command_of liars keyword.Propose fields = propose_of fields
 command_of liars keyword.Pass fields = pass_of fields
 command_of liars keyword.Inject fields = inject_of fields
 command_of liars keyword.Query fields = query_of fields
+command_of liars keyword.Retire fields = retire_of fields
 command_of liars keyword.LieReport fields = lying_of liars keyword.LieReport fields
 command_of liars keyword.LieLock fields = lying_of liars keyword.LieLock fields
 command_of liars keyword.LieAck fields = lying_of liars keyword.LieAck fields

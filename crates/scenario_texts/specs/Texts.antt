@@ -52,6 +52,7 @@ command_words (command.Pass from index to) = codes "pass" ∷ number_text from �
 command_words (command.Inject to bytes) = codes "inject" ∷ number_text to ∷ hex_words bytes
 command_words (command.Execute replica) = codes "execute" ∷ number_text replica ∷ []
 command_words (command.Query replica key) = codes "query" ∷ number_text replica ∷ bytes_words key
+command_words (command.Retire replica floor) = codes "retire" ∷ number_text replica ∷ number_text floor ∷ []
 command_words (command.Info replica) = codes "info" ∷ number_text replica ∷ []
 command_words command.Silent = codes "silent" ∷ []
 command_words command.Round = codes "round" ∷ []

@@ -44,6 +44,8 @@ pub enum Command {
     Execute { replica: u32 },
     /// `query R KEY`
     Query { replica: u32, key: Key },
+    /// `retire R H`
+    Retire { replica: u32, floor: Height },
     /// `info R`
     Info { replica: u32 },
     /// `silent`

@@ -1,6 +1,6 @@
 //! Reads the commands of a scenario, one from each line.
 ghost use Rattle.std.specs.Prelude.{◌≡◌, ◌==◌, map, IfOk};
-ghost use Rattle.scenario_texts.specs.Reading.{liar_of, lie_of, submit_of, inject_of, query_of, propose_of, pass_of, simple_of, lying_of, command_of};
+ghost use Rattle.scenario_texts.specs.Reading.{liar_of, lie_of, submit_of, inject_of, query_of, propose_of, retire_of, pass_of, simple_of, lying_of, command_of};
 
 use crate::batch::batch;
 use crate::command::{Command, Lie};
@@ -124,6 +124,18 @@ fn propose(fields: &[&str]) -> Option<Command>
     })
 }
 
+/// `retire R H`
+#[tactic(auto, unfolding(crate::specs::Reading::retire_of))]
+fn retire(fields: &[&str]) -> Option<Command>
+    ensures { result ≡ retire_of (map (λ field. field.now) fields.now) }
+{
+    let (replica, floor) = two_numbers(fields)?;
+    Some(Command::Retire {
+        replica,
+        floor: Height::new(floor),
+    })
+}
+
 /// `pass FROM INDEX TO`
 #[tactic(auto, unfolding(crate::specs::Reading::pass_of))]
 fn pass(fields: &[&str]) -> Option<Command>
@@ -190,6 +202,7 @@ pub(crate) fn command(
         Keyword::Inject => inject(alloc, fields),
         Keyword::Query => query(alloc, fields),
         Keyword::Propose => Ok(propose(fields)),
+        Keyword::Retire => Ok(retire(fields)),
         Keyword::Pass => Ok(pass(fields)),
         Keyword::LieReport | Keyword::LieLock | Keyword::LieAck => {
             lying(alloc, liars, keyword, fields)

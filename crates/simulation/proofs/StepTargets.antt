@@ -71,6 +71,7 @@ done_at config ring w new s r i steps = by s (asked_at config ring w new (event_
     by (step.RoundEnd q) found = one_named config w q r _ found.0 found.1
     by (step.Execute q) found = one_named config w q r _ found.0 found.1
     by (step.Query q key h) found = one_named config w q r _ found.0 found.1
+    by (step.Retire q floor) found = one_named config w q r _ found.0 found.1
     by (step.Pass from index to) found = two_named config w from index to r found.0 found.1
     by (step.Inject to bytes) found = one_named config w to r _ found.0 found.1
 

@@ -229,6 +229,7 @@ step_of (command.Pass from index to) = Some (step.Pass (named from) index (named
 step_of (command.Inject r bytes) = Some (step.Inject (named r) bytes)
 step_of (command.Execute r) = Some (step.Execute (named r))
 step_of (command.Query r key) = Some (step.Query (named r) key 0)
+step_of (command.Retire r floor) = Some (step.Retire (named r) floor)
 step_of _ = None
 
 -- what the other commands do, and what is printed for them
@@ -265,6 +266,7 @@ target (step.Propose r h) = r
 target (step.RoundEnd r) = r
 target (step.Execute r) = r
 target (step.Query r key h) = r
+target (step.Retire r floor) = r
 target (step.Pass from index to) = to
 target (step.Inject r bytes) = r
 

@@ -36,6 +36,7 @@ fn step_of(command: &Command) -> Result<Option<WorldStep>, AllocError>
             let last = Height::new(0);
             Some(WorldStep::Query(named(*replica), key.copy()?, last))
         }
+        Command::Retire { replica, floor } => { Some(WorldStep::Retire(named(*replica), *floor)) }
         _ => None,
     })
 }

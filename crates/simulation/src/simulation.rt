@@ -36,7 +36,7 @@ impl<A: Application> Simulation<A> {
     ghost use Rattle.std.specs.Prelude.{◌≡◌, ◌<◌, ◌≤◌, ◌↔◌, [], vec_len, length, All, Any, IfOk, IsErrOf};
     ghost use Rattle.ledger_model.specs.Applications.{run};
     ghost use Rattle.cluster_keys.specs.Keys.{secret_of};
-    ghost use Rattle.adversary_net.specs.WorldViews.{AllAccountForLeaves, HasRun};
+    ghost use Rattle.adversary_net.specs.WorldViews.{AllAccountForLeaves, AllReplay, HasRun};
     ghost use Rattle.adversary_net.specs.Headline.{IsUnforged, IsOneLedger};
     ghost use Rattle.adversary_net.specs.Openings.{MayLie, new_cluster, correct_without, different};
     ghost use Rattle.simulation.specs.Playing.{correct_in};
@@ -72,6 +72,8 @@ impl<A: Application> Simulation<A> {
         ensures world { result.now ≡ self.now.cluster }
         ensures since { HasRun self.now.cluster }
         ensures one_ledger { IsUnforged self.now.cluster → IsOneLedger self.now.cluster }
+        // Each entry of a correct replica is lawful after those before it, and what it sends is signed.
+        ensures replay { AllReplay self.now.cluster }
         // A correct replica is mute only if too few leaves were left.
         ensures account { AllAccountForLeaves self.now.cluster }
     {

@@ -19,7 +19,8 @@ fn target(step: &WorldStep) -> ReplicaId
         | WorldStep::Propose(replica, _)
         | WorldStep::RoundEnd(replica)
         | WorldStep::Execute(replica)
-        | WorldStep::Query(replica, _, _) => *replica,
+        | WorldStep::Query(replica, _, _)
+        | WorldStep::Retire(replica, _) => *replica,
         WorldStep::Pass { to, .. } | WorldStep::Inject { to, .. } => *to,
     }
 }

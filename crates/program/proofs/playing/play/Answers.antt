@@ -25,11 +25,13 @@ returns-clause-plays g c =
     (g.W.Write.contents c.play_all.new.writer)) c.deref.ensures.value c.in_ok-play_all.ensures.plays in
     each_way _ _ _ _ c.write_end.result
     (λ _ w. played_whole s (plan_of scenario) scenario.setup.config (record { replicas = refl; faults = refl; kind = refl }) first last _ _
-    _ c.in_ok-simulation.ensures.opening played c.world.ensures.since c.world.ensures.one_ledger c.world.ensures.account
+    _ c.in_ok-simulation.ensures.opening played c.world.ensures.since c.world.ensures.one_ledger c.world.ensures.replay
+    c.world.ensures.account
     (subst (λ x. Appends (g.W.Write.contents c.play_all.new.writer) (g.W.Write.contents c.write_end.new.writer)
     (if s.histories then histories_of x else [])) c.world.ensures.world w))
     (λ _ w. played_begun s (plan_of scenario) scenario.setup.config (record { replicas = refl; faults = refl; kind = refl }) first last _ _
-    _ c.in_ok-simulation.ensures.opening played c.world.ensures.since c.world.ensures.one_ledger c.world.ensures.account
+    _ c.in_ok-simulation.ensures.opening played c.world.ensures.since c.world.ensures.one_ledger c.world.ensures.replay
+    c.world.ensures.account
     (subst (λ x. AppendsSome (g.W.Write.contents c.play_all.new.writer) (g.W.Write.contents c.write_end.new.writer)
     (if s.histories then histories_of x else [])) c.world.ensures.world w))
     c.write_end.ensures.written

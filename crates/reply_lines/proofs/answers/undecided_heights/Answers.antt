@@ -1,7 +1,7 @@
 use Rattle.std.proofs.Common.{◌≡◌, ◌∙◌, ◌+◌, ◌-◌, ◌++◌, ◌∷◌, [], ℕ, Bool, true, false, not, length, sym, ap, rules, tests, arith}
 use Rattle.std.specs.Prelude.{is_some, is_none, filter}
 use Rattle.std.specs.List.{range_with_len}
-use Rattle.ledger_model.specs.Commits.{commits_of, decided_at}
+use Rattle.ledger_model.specs.Commits.{commits_of, decision_at}
 use Rattle.reply_lines.proofs.HeightRanges.{passes, fails, none_copied, some_copied}
 use Rattle.reply_lines.proofs.answers.undecided_heights.Goals as goal
 use Rattle.reply_lines.proofs.answers.undecided_heights.Goals.{then-is_none+in_ok-push, else-is_none}
@@ -10,13 +10,13 @@ pub loop-height-preserved : goal.loop-height-preserved
 loop-height-preserved g c =
     let s = c.args.state.now in
     let h = c.loop-height.height in
-    let p : ℕ → Bool = λ h. not (is_some (decided_at s.config s.id s.entries h)) in
+    let p : ℕ → Bool = λ h. not (is_some (decision_at s.config s.id s.entries h)) in
     let from = c.loop-height.invariant.from in
     elim c.if-is_none.branch [
       | then-is_none+in_ok-push w ↦
           let none : is_none c.decided_at.result ≡ true = search (rules, tests) in
           let is : p h ≡ true = none_copied c.decided_at.result _
-          (c.decided_at.ensures ∙ ap (decided_at s.config s.id s.entries) c.new.ensures) none in
+          (c.decided_at.ensures ∙ ap (decision_at s.config s.id s.entries) c.new.ensures) none in
           let pushed : c.if-is_none.heights.items ≡ c.loop-height.heights.items ++ h ∷ [] = search rules in
           record {
             from = omega (arith, from);
@@ -26,7 +26,7 @@ loop-height-preserved g c =
       | else-is_none w ↦
           let some : is_none c.decided_at.result ≡ false = search (rules, tests) in
           let is : p h ≡ false = some_copied c.decided_at.result _
-          (c.decided_at.ensures ∙ ap (decided_at s.config s.id s.entries) c.new.ensures) some in
+          (c.decided_at.ensures ∙ ap (decision_at s.config s.id s.entries) c.new.ensures) some in
           let same : c.if-is_none.heights.items ≡ c.loop-height.heights.items = search rules in
           record {
             from = omega (arith, from);
@@ -38,7 +38,7 @@ loop-height-preserved g c =
 pub returns : goal.returns
 returns g c =
     let s = c.args.state.now in
-    let p : ℕ → Bool = λ h. not (is_some (decided_at s.config s.id s.entries h)) in
+    let p : ℕ → Bool = λ h. not (is_some (decision_at s.config s.id s.entries h)) in
     let all : c.loop-height.height - (c.height-first.result + 1) ≡ 4 = search (rules, arith) in
     let first : c.height-first.result + 1 ≡ length (commits_of s.config s.id s.entries) + 1 =
     ap (λ n. n + 1) c.height-first.ensures.height in

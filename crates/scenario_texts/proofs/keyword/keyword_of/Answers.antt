@@ -42,6 +42,10 @@ pub returns-in-query : goal.returns-in-query
 unfolding keyword_of
 returns-in-query c = ap keyword_of (sym c.in-query.is)
 
+pub returns-in-retire : goal.returns-in-retire
+unfolding keyword_of
+returns-in-retire c = ap keyword_of (sym c.in-retire.is)
+
 pub returns-in-info : goal.returns-in-info
 unfolding keyword_of
 returns-in-info c = ap keyword_of (sym c.in-info.is)

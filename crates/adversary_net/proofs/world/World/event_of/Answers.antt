@@ -36,6 +36,12 @@ returns-in_err-room-in-Query g c =
     let p = err_from_is_err_and c.from_residual-in_err-room-in-Query.result c.from_residual-in_err-room-in-Query.ensures.1 in
     rw (c.in-Query.is, p.1, p.2) (c.in_err-room-in-Query.ensures.refused (event.Query c.in-Query.key c.in-Query.height))
 
+pub returns-in_err-room-in-Retire : goal.returns-in_err-room-in-Retire
+unfolding event_of
+returns-in_err-room-in-Retire g c =
+    let p = err_from_is_err_and c.from_residual-in_err-room-in-Retire.result c.from_residual-in_err-room-in-Retire.ensures.1 in
+    rw (c.in-Retire.is, p.1, p.2) (c.in_err-room-in-Retire.ensures.refused (event.Retire c.in-Retire.floor))
+
 pub returns-in_err-room-in-Inject : goal.returns-in_err-room-in-Inject
 unfolding event_of
 returns-in_err-room-in-Inject g c =
@@ -81,6 +87,10 @@ returns-in_ok-room-in-RoundEnd g c = rw c.in-RoundEnd.is (c.in_ok-room-in-RoundE
 pub returns-in_ok-room-in-Execute : goal.returns-in_ok-room-in-Execute
 unfolding event_of
 returns-in_ok-room-in-Execute g c = rw c.in-Execute.is (c.in_ok-room-in-Execute.ensures.ready (event.Execute))
+
+pub returns-in_ok-room-in-Retire : goal.returns-in_ok-room-in-Retire
+unfolding event_of
+returns-in_ok-room-in-Retire g c = rw c.in-Retire.is (c.in_ok-room-in-Retire.ensures.ready (event.Retire c.in-Retire.floor))
 
 pub returns-in-Ok : goal.returns-in-Ok
 unfolding event_of

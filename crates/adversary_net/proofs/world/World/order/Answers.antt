@@ -1,7 +1,7 @@
 use Rattle.std.proofs.Common.{subst}
 use Rattle.adversary_net.specs.WorldViews.{IsCluster}
 use Rattle.adversary_net.proofs.Headline.{one_ledger}
-use Rattle.adversary_net.proofs.UsedLeaves.{accounts}
+use Rattle.adversary_net.proofs.UsedLeaves.{accounts, replays}
 use Rattle.adversary_net.proofs.world.World.order.Goals as goal
 
 pub returns-clause-one_ledger : goal.returns-clause-one_ledger
@@ -9,3 +9,6 @@ returns-clause-one_ledger g c = one_ledger c.args.self.now (subst IsCluster c.se
 
 pub returns-clause-account : goal.returns-clause-account
 returns-clause-account g c = accounts c.args.self.now (subst IsCluster c.self.view_is c.self.invariant)
+
+pub returns-clause-replay : goal.returns-clause-replay
+returns-clause-replay g c = replays c.args.self.now (subst IsCluster c.self.view_is c.self.invariant)

@@ -1,7 +1,7 @@
 use Rattle.std.proofs.Common.{sym, subst, rules}
 use Rattle.adversary_net.specs.WorldViews.{IsCluster}
 use Rattle.adversary_net.proofs.Headline.{one_ledger}
-use Rattle.adversary_net.proofs.UsedLeaves.{accounts}
+use Rattle.adversary_net.proofs.UsedLeaves.{accounts, replays}
 use Rattle.adversary_net.proofs.Telling.{own_machines, own_replies}
 use Rattle.adversary_net.proofs.world.World.run.Goals as goal
 
@@ -46,3 +46,12 @@ returns-clause-account g c = accounts c.run_each.new.self c.run_each.ensures.clu
 
 pub returns-clause-leaves : goal.returns-clause-leaves
 returns-clause-leaves g c = rw (sym c.self.view_is) c.run_each.ensures.leaves
+
+pub returns-in_err-answers-clause-replay : goal.returns-in_err-answers-clause-replay
+returns-in_err-answers-clause-replay g c = replays c.args.self.now (subst IsCluster c.self.view_is c.self.invariant)
+
+pub returns-in_err-reserve-clause-replay : goal.returns-in_err-reserve-clause-replay
+returns-in_err-reserve-clause-replay g c = replays _ c.self.invariant
+
+pub returns-clause-replay : goal.returns-clause-replay
+returns-clause-replay g c = replays c.run_each.new.self c.run_each.ensures.cluster

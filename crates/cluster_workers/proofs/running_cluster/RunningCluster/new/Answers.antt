@@ -1,7 +1,6 @@
-use Rattle.std.proofs.Common.{◌∙◌, sym, subst, arith}
+use Rattle.std.proofs.Common.{sym, subst, arith}
 use Rattle.std.proofs.lemmas.Grind.{common_steps, elements}
-use Rattle.cluster_workers.specs.RunningClusters.{AreDealt}
-use Rattle.cluster_workers.proofs.SeatsLeft.{all_dealt}
+use Rattle.cluster_workers.specs.RunningClusters.{AreDealt, AreReading}
 use Rattle.cluster_workers.proofs.running_cluster.RunningCluster.new.Goals as goal
 
 pub returns-in_err-board-clause-reader_count : goal.returns-in_err-board-clause-reader_count
@@ -36,6 +35,10 @@ returns-clause-readers g c = grind (arith, elements)
 
 pub workers_of-requires-clause-seats : goal.workers_of-requires-clause-seats
 workers_of-requires-clause-seats g c =
-    let dealt = all_dealt c.in_ok-board.board c.args.config.now.replicas c.in_ok-board.seats.items
-    (sym c.in_ok-board.seats.ok.0 ∙ c.in_ok-board.ensures.writer_count) c.in_ok-board.ensures.writers in
-    subst (λ b. AreDealt b 0 c.args.config.now.replicas c.in_ok-board.seats.items) (sym c.in_ok-board-2.ensures.ok) dealt
+    subst (λ b. AreDealt b 0 c.args.config.now.replicas c.in_ok-board.seats.items) (sym c.in_ok-board-2.ensures.ok)
+    c.in_ok-board.ensures.writers
+
+pub workers_of-requires-clause-looking : goal.workers_of-requires-clause-looking
+workers_of-requires-clause-looking g c =
+    subst (λ b. AreReading b c.args.config.now.replicas c.in_ok-board.looking.items) (sym c.in_ok-board-2.ensures.ok)
+    c.in_ok-board.ensures.looking

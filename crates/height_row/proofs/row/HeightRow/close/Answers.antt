@@ -51,18 +51,19 @@ returns-clause-own c =
     let old = is_held c.index_mut.result.now found c.index_mut.ensures.value in
     let same = all_there _ c.self.inside.instances.items c.position-place.result c.index_mut.result.now c.self.invariant.1 old.within
     c.index_mut.ensures.value in
-    own_put _ _ c.self.inside.instances.items c.args.height c.position-place.result c.close.new.self c.self.invariant.1 found (
+    own_put _ _ _ c.self.inside.instances.items c.args.height c.position-place.result c.close.new.self c.self.invariant.1 found (
       c.close.ensures.same.config ∙ same.0,
       c.close.ensures.same.id ∙ same.1,
       c.close.ensures.same.height
           ∙ old.height,
       subst (λ n. n ≤ max_height) old.height same.2,
+      subst (λ n. c.self.inside.floor ≤ n) old.height same.3,
     )
 
 pub invariant_of-self : goal.invariant_of-self
 invariant_of-self c =
     let rows = c.self.inside.instances.items in
     let held = is_held c.index_mut.result.now (rw (sym c.self.view_is) at c.position-place.ensures) c.index_mut.ensures.value in
-    let kept = put_keeps _ _ rows c.position-place.result c.index_mut.result.now c.close.new.self c.self.invariant.1 c.self.invariant.2
+    let kept = put_keeps _ _ _ rows c.position-place.result c.index_mut.result.now c.close.new.self c.self.invariant.1 c.self.invariant.2
     held.within c.index_mut.ensures.value held.alike c.close.ensures.same in
     (c.self.invariant.0, kept.0, kept.1)

@@ -7,8 +7,8 @@ use Rattle.height_row.proofs.row.HeightRow.close_all.Goals as goal
 pub close_each-requires-clause-closings : goal.close_each-requires-clause-closings
 close_each-requires-clause-closings c =
     rw c.deref_mut.ensures.value
-    (are_closings (c.args.clock + 1) c.self.inside.id c.self.inside.config c.self.inside.instances.items c.args.closings.items
-    (rw (sym c.self.view_is) at c.requires.endings) c.self.invariant.1 (rw (sym c.self.view_is) at c.requires.own))
+    (are_closings (c.args.clock + 1) c.self.inside.id c.self.inside.floor c.self.inside.config c.self.inside.instances.items
+    c.args.closings.items (rw (sym c.self.view_is) at c.requires.endings) c.self.invariant.1 (rw (sym c.self.view_is) at c.requires.own))
 
 pub invariant_of-self : goal.invariant_of-self
 invariant_of-self c =
@@ -19,7 +19,7 @@ invariant_of-self c =
       c.deref_mut.ensures.value,
     ) (
       c.self.invariant.0,
-      closed_own (c.args.clock + 1) c.self.inside.config c.self.inside.id rows _ c.self.invariant.1,
+      closed_own (c.args.clock + 1) c.self.inside.config c.self.inside.id c.self.inside.floor rows _ c.self.invariant.1,
       closed_ascend (c.args.clock + 1) rows _ c.self.invariant.2,
     )
 
@@ -39,7 +39,8 @@ returns-clause-own c =
       c.close_each.ensures,
       c.deref_mut.ensures.value,
     )
-    (own_at _ _ _ (closed_own (c.args.clock + 1) c.self.inside.config c.self.inside.id c.self.inside.instances.items _ c.self.invariant.1))
+    (own_at _ _ _ _ (closed_own (c.args.clock + 1) c.self.inside.config c.self.inside.id c.self.inside.floor
+    c.self.inside.instances.items _ c.self.invariant.1))
 
 pub returns-clause-rows : goal.returns-clause-rows
 returns-clause-rows c = grind (arith, common_steps)

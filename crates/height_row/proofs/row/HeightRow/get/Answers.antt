@@ -10,4 +10,4 @@ returns-clause-row c =
     ∙ sym (row_at-find c.self.inside.instances.items c.args.height))
 
 pub returns-clause-own : goal.returns-clause-own
-returns-clause-own c = rw (sym c.self.view_is) (own_at _ _ c.self.inside.instances.items c.self.invariant.1)
+returns-clause-own c = rw (sym c.self.view_is) (own_at _ _ _ c.self.inside.instances.items c.self.invariant.1)

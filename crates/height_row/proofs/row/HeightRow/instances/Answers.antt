@@ -7,4 +7,4 @@ pub returns-clause-found : goal.returns-clause-found
 returns-clause-found c = rw (sym c.self.view_is) (ascending_found c.self.inside.instances.items c.self.invariant.2)
 
 pub returns-clause-own : goal.returns-clause-own
-returns-clause-own c = rw (sym c.self.view_is) (own_at _ _ c.self.inside.instances.items c.self.invariant.1)
+returns-clause-own c = rw (sym c.self.view_is) (own_at _ _ _ c.self.inside.instances.items c.self.invariant.1)

@@ -56,7 +56,7 @@ returns-clause-sends_on c =
     is ring log (rw (sym (held.only row (rw (sym c.self.view_is) at was))) at matches)) c.plan_end.ensures.sends_on
 
 pub returns-clause-own : goal.returns-clause-own
-returns-clause-own c = rw (sym c.self.view_is) (own_at _ _ c.self.inside.instances.items c.self.invariant.1)
+returns-clause-own c = rw (sym c.self.view_is) (own_at _ _ _ c.self.inside.instances.items c.self.invariant.1)
 
 pub returns-clause-readable : goal.returns-clause-readable
 returns-clause-readable c =

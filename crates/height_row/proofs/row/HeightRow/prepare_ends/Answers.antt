@@ -3,7 +3,7 @@ use Rattle.height_row.proofs.Finding.{own_at}
 use Rattle.height_row.proofs.row.HeightRow.prepare_ends.Goals as goal
 
 pub returns-clause-own : goal.returns-clause-own
-returns-clause-own c = rw (sym c.self.view_is) (own_at _ _ c.self.inside.instances.items c.self.invariant.1)
+returns-clause-own c = rw (sym c.self.view_is) (own_at _ _ _ c.self.inside.instances.items c.self.invariant.1)
 
 pub returns-clause-endings : goal.returns-clause-endings
 returns-clause-endings c = search rules

@@ -65,19 +65,20 @@ returns-clause-own c =
     let held = is_held c.index_mut.result.now found c.index_mut.ensures.value in
     let same = all_there _ c.self.inside.instances.items c.position-place.result c.index_mut.result.now c.self.invariant.1 held.within
     c.index_mut.ensures.value in
-    own_put _ _ c.self.inside.instances.items _ c.position-place.result c.read.new.self c.self.invariant.1 found (
+    own_put _ _ _ c.self.inside.instances.items _ c.position-place.result c.read.new.self c.self.invariant.1 found (
       c.read.ensures.same.config ∙ same.0,
       c.read.ensures.same.id ∙ same.1,
       c.read.ensures.same.height
           ∙ held.height,
       subst (λ n. n ≤ max_height) held.height same.2,
+      subst (λ n. c.self.inside.floor ≤ n) held.height same.3,
     )
 
 pub invariant_of-self : goal.invariant_of-self
 invariant_of-self c =
     let rows = c.self.inside.instances.items in
     let held = is_held c.index_mut.result.now (rw (sym c.self.view_is) at c.position-place.ensures) c.index_mut.ensures.value in
-    let kept = put_keeps _ _ rows c.position-place.result c.index_mut.result.now c.read.new.self c.self.invariant.1 c.self.invariant.2
+    let kept = put_keeps _ _ _ rows c.position-place.result c.index_mut.result.now c.read.new.self c.self.invariant.1 c.self.invariant.2
     held.within c.index_mut.ensures.value held.alike c.read.ensures.same in
     (c.self.invariant.0, kept.0, kept.1)
 

@@ -3,6 +3,7 @@ use Rattle.ledger_model.specs.Replies.{query_reply}
 use Rattle.replica_core.proofs.Submits.{submits, queries}
 use Rattle.replica_core.proofs.Proposes.{proposes}
 use Rattle.replica_core.proofs.Executes.{executes}
+use Rattle.replica_core.proofs.Retires.{retires}
 use Rattle.replica_core.proofs.replica.Core.step.Goals as goal
 
 -- src/replica.rt:66:5
@@ -42,3 +43,8 @@ returns-in_ok-query-in-Query-clause-most g c = search rules
 
 pub returns-in_err-query-in-Query-clause-most : goal.returns-in_err-query-in-Query-clause-most
 returns-in_err-query-in-Query-clause-most g c = search rules
+
+pub returns-in-Retire-clause-step : goal.returns-in-Retire-clause-step
+returns-in-Retire-clause-step g c = rw (sym c.self-in-Retire.view_is, c.in-Retire.is)
+    (retires c.self-in-Retire.inside.kept c.retire.new.self c.in-Retire.floor c.retire.result c.retire.ensures.answer
+    c.retire.ensures.after)

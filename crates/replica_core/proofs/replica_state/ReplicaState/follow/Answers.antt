@@ -6,8 +6,9 @@ use Rattle.replica_core.specs.ReplicaStates.{ReplicaStateView}
 use Rattle.replica_core.specs.Steps.{next_decided}
 use Rattle.replica_core.specs.Following.{IsFollowed}
 use Rattle.replica_core.proofs.Followed.{refused, same_rows, same_run, submitted_only, proposed_only, delivered_only, ended_only}
-use Rattle.replica_core.proofs.Followed.{executed_only, queried_only}
+use Rattle.replica_core.proofs.Followed.{executed_only, queried_only, retired_only, same_retired}
 use Rattle.replica_core.proofs.EventsFollowed.{submit_followed, propose_followed, deliver_followed, execute_followed, query_followed}
+use Rattle.replica_core.proofs.EventsFollowed.{retire_followed}
 use Rattle.replica_core.proofs.replica_state.ReplicaState.follow.Goals as goal
 
 -- a transaction is handed in
@@ -109,3 +110,20 @@ returns-in_default-6-clause-followed g c =
     rw c.in_default.is-0 (refused held held (event.Query c.in_default.field-0-0 c.in_default.field-1-0) c.args.reply.now
     (λ entries matches keeps. queried_only held entries c.in_default.field-0-0 c.in_default.field-1-0 c.args.reply.now
     c.in_default.not-Queried-1 keeps.lawful))
+
+pub returns-in_default-7-clause-followed : goal.returns-in_default-7-clause-followed
+returns-in_default-7-clause-followed g c =
+    let held : ReplicaStateView = c.args.self.now in
+    rw c.in_default.is-0 (refused held held (event.Retire c.in_default.field-0-0) c.args.reply.now
+    (λ entries matches keeps. retired_only held entries c.in_default.field-0-0 c.args.reply.now c.in_default.not-Retired-1
+    keeps.lawful))
+
+-- heights are given up
+pub returns-in-Retire-Retired-clause-followed : goal.returns-in-Retire-Retired-clause-followed
+returns-in-Retire-Retired-clause-followed g c =
+    rw (c.in-Retire-Retired.is-0, c.in-Retire-Retired.is-1)
+    (retire_followed c.args.self.now c.retire.new.self c.in-Retire-Retired.floor c.retire.result c.in-Retire-Retired.shown
+    c.is_same_retired.result c.is_same_retired.ensures c.retire.ensures.answer c.retire.ensures.after)
+
+pub returns-in-Retire-Retired-clause-same : goal.returns-in-Retire-Retired-clause-same
+returns-in-Retire-Retired-clause-same g c = same_retired c.args.self.now c.retire.new.self c.retire.result c.retire.ensures.after

@@ -17,12 +17,14 @@ invariant_of-result g c = rw c.new-4.ensures.items (
   c.in_ok-executor.ensures ∙ ap (λ k. run k []) (kind_is (g.A.Application.machine c.args.app) (c.args.config.kind) [] (c.requires.opening)),
   omega arith,
   omega arith,
+  (let first : c.new-2.result.floor ≡ 1 = ap (λ (x : HeightRowView). x.floor) c.new-2.ensures.row in omega (arith, first)),
 )
 
 -- src/replica_state.rt:59:5
 pub returns : goal.returns
 returns g c =
     let rows : c.new-2.result.rows ≡ [] = ap (λ (x : HeightRowView). x.rows) c.new-2.ensures.row in
+    let floor : c.new-2.result.floor ≡ 1 = ap (λ (x : HeightRowView). x.floor) c.new-2.ensures.row in
     let commits : c.new-4.result.items ≡ [] = c.new-4.ensures.items in
     let machine : c.in_ok-executor.executor ≡ run c.args.config.kind [] =
     c.in_ok-executor.ensures ∙ ap (λ k. run k [])
@@ -31,6 +33,7 @@ returns g c =
       config = c.args.config;
       id = c.args.id;
       ring = c.args.ring;
+      floor = floor i;
       rows = rows i;
       pool = c.new-3.ensures i;
       commits = commits i;

@@ -14,6 +14,7 @@ returns-clause-step g c =
       config = c.self.inside.config;
       id = c.self.inside.id;
       ring = c.self.inside.ring;
+      floor = c.self.inside.rows.floor;
       rows = c.self.inside.rows.rows;
       pool = c.self.inside.pool;
       commits = c.self.inside.committed.items;
@@ -21,7 +22,7 @@ returns-clause-step g c =
       clock = c.self.inside.clock;
       mute = c.self.inside.mute;
     } in
-    rw (sym c.self.view_is)
+    rw (sym c.self.view_is, c.read.ensures.same.floor)
     (judged_there held c.args.frame c.self.inside.rows c.read.new.self c.read.result refl
     (subst (λ (x : ReplicaStateView). is_some (row_at x.rows (height_of c.args.frame.statement)) ≡ true) (sym c.self.view_is)
     c.requires.there)

@@ -29,6 +29,11 @@ invariant_of-self-2 g c =
           ∙ ap (run c.self.inside.config.kind) (sym items),
       (let count = ap length items ∙ length-append c.self.inside.committed.items (c.args.block ∷ []) in omega (arith, count, fits)),
       c.self.invariant.5,
+      (
+          let count = ap length items ∙ length-append c.self.inside.committed.items (c.args.block ∷ []) in
+          let low = c.self.invariant.6 in
+          omega (arith, count, low)
+          ),
     )
 
 -- src/executing.rt:23:5
@@ -50,6 +55,7 @@ returns-clause-after g c =
       config = c.self.inside.config;
       id = c.self.inside.id;
       ring = c.self.inside.ring;
+      floor = c.self.inside.rows.floor;
       rows = c.self.inside.rows.rows;
       pool = pool;
       commits = c.self.inside.committed.items ++ c.args.block ∷ [];

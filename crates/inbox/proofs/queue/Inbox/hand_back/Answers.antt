@@ -4,7 +4,7 @@ use Rattle.inbox.specs.Passes.{PuttingPassView, TakingPassView}
 use Rattle.inbox.specs.InboxRule.{log_of, Behind}
 use Rattle.inbox.proofs.Moves.{merges, behind}
 use Rattle.inbox.proofs.PassEnds.{shared}
-use Rattle.inbox.proofs.queue.Inbox.retire.Goals as goal
+use Rattle.inbox.proofs.queue.Inbox.hand_back.Goals as goal
 
 pub absorb-requires-clause-rule : goal.absorb-requires-clause-rule
 absorb-requires-clause-rule c = let i = c.taking.invariant in merges _ _ _ _ i.1 i.2 c.putting.invariant.1

@@ -1,7 +1,7 @@
 use Rattle.std.proofs.Common.{sym, ap, ◌∙◌}
 use Rattle.commit_board.specs.Seats.{ReaderSeatView, WriterSeatView}
 use Rattle.commit_board.proofs.Makes.{hands_back}
-use Rattle.commit_board.proofs.board.Board.retire.Goals as goal
+use Rattle.commit_board.proofs.board.Board.hand_back.Goals as goal
 
 pub join_seat-requires : goal.join_seat-requires
 join_seat-requires c =
