@@ -7,6 +7,8 @@ import socket
 import subprocess
 import sys
 
+sys.dont_write_bytecode = True  # no file beside sessions.py
+
 from sessions import ask
 
 

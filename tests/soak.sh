@@ -37,6 +37,13 @@ for run in {1..10}; do
     notes "histories that are full, run $run" $?
 done
 
+# How many blocks the keys of a cluster come to: it runs until all replicas are mute.
+for size in '4 1 200' '7 2 300' '13 4 600'; do
+    read -r n t base_ms <<<"$size"
+    tests/key_ends.py "$abft" "$n" "$t" 10 "$base_ms"
+    notes "the keys of $n replicas" $?
+done
+
 # How much of a processor an idle server takes.
 for size in '4 1' '13 4'; do
     read -r n t <<<"$size"
