@@ -3,6 +3,7 @@ ghost use Rattle.std.specs.Prelude.{◌≡◌, ◌⊎◌, ◌≤◌, ◌<◌, �
 ghost use Rattle.ledger_model.specs.Commits.{commits_of, submit_reply};
 ghost use Rattle.ledger_model.specs.Replies.{query_reply};
 ghost use Rattle.ledger_model.specs.declared.event.Event.TheVariants as events;
+ghost use Rattle.replica_core.specs.Facts.{block_at};
 ghost use Rattle.replica_turns.specs.Clients.{is_tx_len, submit_events};
 ghost use Rattle.replica_turns.specs.Turns.{Takes};
 ghost use Rattle.client_sessions.specs.Asking.{max_value_len, told};
@@ -98,7 +99,9 @@ pub(crate) fn block<A: Application>(
     state: &State<A>,
     height: Height,
 ) -> Result<Option<Batch>, TargetFault>
-    ensures { AnswersBlock height (told result) }
+    ensures block { IfOk result (λ b. b ≡ block_at (commits_of state.now.config state.now.id state.now.entries) height) }
+    // The result as a session sees it.
+    ensures told { AnswersBlock height (told result) }
 {
     // The history is a replay: its length is read for the proof.
     let _ = state.len();

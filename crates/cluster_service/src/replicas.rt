@@ -1,7 +1,7 @@
 //! The replicas of a cluster at its start, and the heights that they committed at its end.
 ghost use Rattle.std.specs.Prelude.{◌≡◌, ◌<◌, [], vec_len, IfOk, IfErr, OnOk};
 ghost use Rattle.cluster_keys.specs.Keys.{ring_of, secret_of, unused};
-ghost use Rattle.program_streams.specs.Faults.{IsMemoryOrRefusal};
+ghost use Rattle.program_streams.specs.Faults.{IsMemoryOrRandom};
 ghost use Rattle.cluster_service.specs.Replicas.{all_begun, begun, submitted};
 
 use abci::Application;
@@ -22,7 +22,7 @@ use std::thread::Threads;
 
 /// The random key of a replica's hashes.
 fn random<R: RandomSource>(source: &R) -> Result<RandomState, ProgramFault>
-    ensures { IfErr result IsMemoryOrRefusal }
+    ensures { IfErr result IsMemoryOrRandom }
 {
     match RandomState::new(source) {
         Ok(key) => Ok(key),
@@ -32,7 +32,7 @@ fn random<R: RandomSource>(source: &R) -> Result<RandomState, ProgramFault>
 
 /// The random keys of a replica's hashes.
 fn randoms<R: RandomSource>(source: &R) -> Result<[RandomState; 2], ProgramFault>
-    ensures { IfErr result IsMemoryOrRefusal }
+    ensures { IfErr result IsMemoryOrRandom }
 {
     Ok([random(source)?, random(source)?])
 }
@@ -46,7 +46,7 @@ fn submit(
 ) -> Result<(), ProgramFault>
     requires fresh { state.old ≡ begun cluster.now [] state.old.id }
     ensures begun { OnOk result (state.new ≡ begun cluster.now (submitted cluster.now tx.now state.old.id) state.old.id) }
-    ensures fault { IfErr result IsMemoryOrRefusal }
+    ensures fault { IfErr result IsMemoryOrRandom }
 {
     let tx = Bytes::copy_from_slice(alloc, tx.as_bytes())?;
     match state.apply(Event::Submit(tx)) {
@@ -70,7 +70,7 @@ fn empty_state<R: RandomSource>(
     requires signer { signer ≡ unused (secret_of cluster.now id) }
     requires ring { ring.now ≡ ring_of cluster.now }
     ensures begun { IfOk result (λ state. state ≡ begun cluster.now [] id) }
-    ensures fault { IfErr result IsMemoryOrRefusal }
+    ensures fault { IfErr result IsMemoryOrRandom }
 {
     let randoms = randoms(source)?;
     let app = AnyKind::new(alloc, cluster.config.kind);
@@ -92,7 +92,7 @@ fn new_state<R: RandomSource>(
     requires signer { signer ≡ unused (secret_of cluster.now id) }
     requires ring { ring.now ≡ ring_of cluster.now }
     ensures begun { IfOk result (λ state. state ≡ begun cluster.now (submitted cluster.now tx.now id) id) }
-    ensures fault { IfErr result IsMemoryOrRefusal }
+    ensures fault { IfErr result IsMemoryOrRandom }
 {
     let mut state = empty_state(source, alloc, cluster, id, signer, ring)?;
     submit(alloc, cluster, &mut state, tx)?;
@@ -109,8 +109,7 @@ pub fn new_replicas<R: RandomSource + Threads + Sync>(
 ) -> Result<Vec<State<AnyKind>>, ProgramFault>
     ensures count { IfOk result (λ states. vec_len states ≡ cluster.now.config.replicas) }
     ensures replicas { IfOk result (λ states. states.items ≡ all_begun cluster.now tx.now) }
-    // There are no random bytes where their stream fails.
-    ensures fault { IfErr result IsMemoryOrRefusal }
+    ensures fault { IfErr result IsMemoryOrRandom }
 {
     let ClusterKeys { signers, ring } = all_keys_in_parallel(source, alloc, cluster)?;
     let mut signers = signers.into_iter();

@@ -1,9 +1,10 @@
 //! Takes the turns of a worker, publishes its replica's height, and reads which heights all replicas committed.
-ghost use Rattle.std.specs.Prelude.{◌≡◌, ◌≤◌, ◌+◌, length};
+ghost use Rattle.std.specs.Prelude.{◌≡◌, ◌≤◌, ◌+◌, length, MatchOption};
 ghost use Rattle.std.specs.Arc.{arc_value};
 ghost use Rattle.ledger_model.specs.Lawful.{clock_at};
 ghost use Rattle.ledger_model.specs.Limits.{max_history_len};
 ghost use Rattle.commit_board.specs.Seats.{IsLeastRead};
+ghost use Rattle.replica_turns.specs.Turns.{Takes, TakesSome};
 ghost use Rattle.cluster_workers.specs.Looks.{IsLooked};
 
 use abci::Application;
@@ -57,7 +58,7 @@ impl TurnTaker {
         self.seat.replica()
     }
 
-    /// The least height that it reads of all replicas: each of them committed that height.
+    /// The least height that it reads of all replicas. A replica's `turn` publishes only what it committed.
     fn least(&mut self) -> Height
         ensures { IsLeastRead self.old.reader self.new.reader (arc_value self.old.board) result }
     {
@@ -78,6 +79,26 @@ impl TurnTaker {
         (state.clock(), own_of(state, proposed, least))
     }
 
+    /// Gives the events to this replica, and returns why one was refused, if one was. Another replica gets none.
+    fn give<A: Application>(
+        &mut self,
+        state: &mut State<A>,
+        events: Vec<Event>,
+    ) -> Option<ApplyFault>
+        ensures events { state.old.id ≡ self.old.seat.replica → MatchOption result (Takes state.old.entries events.items state.new.entries)
+            (λ _. TakesSome state.old.entries events.items state.new.entries) }
+        ensures other { (state.old.id ≡ self.old.seat.replica → ⊥) → state.new ≡ state.old }
+        ensures grows { length state.old.entries ≤ length state.new.entries }
+    {
+        if state.id() != self.seat.replica() {
+            return None;
+        }
+        match turn(state, events, &self.board, &mut self.seat) {
+            Ok(_) => None,
+            Err(fault) => Some(fault),
+        }
+    }
+
     /// A turn of this replica. If `state` is another replica, no event is taken.
     pub(crate) fn turn<A: Application>(
         &mut self,
@@ -86,12 +107,13 @@ impl TurnTaker {
     ) -> TurnOutcome
         ensures first { result.first ≡ length state.old.entries }
         ensures taken { length state.old.entries + result.taken ≡ length state.new.entries }
+        // The events are taken in order: all, or those before the one that was refused.
+        ensures events { state.old.id ≡ self.old.seat.replica → MatchOption result.fault (Takes state.old.entries events.items state.new.entries)
+            (λ _. TakesSome state.old.entries events.items state.new.entries) }
+        ensures other { (state.old.id ≡ self.old.seat.replica → ⊥) → state.new ≡ state.old }
     {
         let first = state.len();
-        let mut fault = None;
-        if state.id() == self.seat.replica() {
-            fault = turn(state, events, &self.board, &mut self.seat).err();
-        }
+        let fault = self.give(state, events);
         TurnOutcome {
             first,
             taken: state.len() - first,

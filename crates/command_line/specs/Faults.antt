@@ -1,10 +1,10 @@
 -- The faults of words that give no settings: each names what is wrong with the words.
-use Rattle.std.specs.Prelude.{◌≡◌, ◌≢◌, ◌⊎◌, ℕ, ◌<◌, ◌+◌, ◌*◌, ⊤, List, [], ◌∷◌, codes, slice_get, slice_index, Option, Some, None}
+use Rattle.std.specs.Prelude.{◌≡◌, ◌≢◌, ◌⊎◌, ℕ, ◌<◌, ◌+◌, ◌*◌, ⊤, List, [], ◌∷◌, length, codes, slice_get, slice_index, Option, Some, None}
 use Rattle.clap.specs.Words.{HasKind, IsAmong, Kinds, Row, Text, fault_of, first_of, subcommand_of}
 use Rattle.clap.specs.declared.error.ErrorKind.TheVariants as kind
 use Rattle.ledger_model.specs.declared.config.AppKind.{AppKind}
 use Rattle.ledger_model.specs.Replies.{check_reply}
-use Rattle.plain_text.specs.Transactions.{Misspells}
+use Rattle.plain_text.specs.Transactions.{Misspells, StandsFor}
 use Rattle.plain_text.specs.declared.spelling_fault.SpellingFault.{SpellingFault}
 use Rattle.settings.specs.declared.sign.What.{What}
 use Rattle.command_line.specs.Grammar.{abft_app}
@@ -67,9 +67,12 @@ pub record IsMisspelled (rows : List Row) (option : Text) (why : SpellingFault) 
   pub has : first_of option rows ≡ Some word
   pub misspells : Misspells word why
 
--- the word is the option's value, but no transaction
-abbrev pub IsNoTransaction : List Row → Text → Text → Type 0
-IsNoTransaction rows option word = (first_of option rows ≡ Some word) × ((tx : List ℕ) → IsWritten rows option tx → ⊥)
+-- the word is the option's value, and stands for bytes that are no transaction: none, or more than 64
+pub record IsNoTransaction (rows : List Row) (option word : Text) : Type 0 where
+  pub has : first_of option rows ≡ Some word
+  pub bytes : List ℕ
+  pub stands : StandsFor word bytes
+  pub wrong_length : (length bytes ≡ 0) ⊎ (64 < length bytes)
 
 -- The word is the option's value, a transaction for which an application of the cluster's kind returns this code in its
 -- opening state.

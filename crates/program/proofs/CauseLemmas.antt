@@ -1,13 +1,13 @@
 -- Why `abft deliver` stops, from call to call.
-use Rattle.std.proofs.Common.{◌≡◌, ℕ, ◌≤◌, List, length, subst, sym}
-use Rattle.std.specs.Prelude.{Option, Result, Ok, Err, IfErr}
+use Rattle.std.proofs.Common.{◌≡◌, ℕ, ◌≤◌, true, List, length, refl, subst, sym}
+use Rattle.std.specs.Prelude.{Option, Result, Ok, Err, IfErr, IsTrue}
 use Rattle.std.specs.Result.{IsErrAnd}
 use Rattle.ledger_model.specs.declared.history.Entry.{Entry}
 use Rattle.settings.specs.declared.deliver.DeliverSettings.{DeliverSettings}
 use Rattle.program_streams.specs.declared.program_fault.ProgramFault.{ProgramFault}
 use Rattle.program_streams.specs.declared.program_fault.ProgramFault.TheVariants as fault
 use Rattle.program_streams.specs.declared.resource.Resource.{Resource}
-use Rattle.program_streams.specs.Faults.{IsRefusalOf, IsMemoryOrRefusal}
+use Rattle.program_streams.specs.Faults.{IsMemoryOrAsked, is_asked}
 use Rattle.program.specs.Faults.{IsReadFault, StopsAt}
 use Rattle.program.specs.Streams.{FillsHistory, StopsDelivery}
 use Rattle.ledger_model.specs.Limits.{max_history_len}
@@ -19,37 +19,28 @@ passed (Ok x) e P is p = tt
 passed (Err y) e P is p = subst P (sym is) p
 
 -- allocation failure, or a resource that the system refused, stops the program whatever the history is
-pub stops_anyway : (entries : List Entry) (e : ProgramFault) → IsMemoryOrRefusal e → StopsAt entries e
+pub stops_anyway : (entries : List Entry) (e : ProgramFault) → IsMemoryOrAsked e → StopsAt entries e
 stops_anyway entries fault.NoMemory is = tt
-stops_anyway entries (fault.Refused resource error) is = tt
+stops_anyway entries (fault.Refused resource error) is = is
 stops_anyway entries fault.HistoryFull is = absurd is
 stops_anyway entries (fault.NoListener port error) is = absurd is
 stops_anyway entries fault.NoThread is = absurd is
 
--- what the system refused is no history that is full
-pub is_refusal : {T : Type 0} (r : Result T ProgramFault) (resource : Resource) → IfErr r (IsRefusalOf resource) → IfErr r IsMemoryOrRefusal
-is_refusal (Ok x) resource is = tt
-is_refusal (Err fault.NoMemory) resource is = absurd is
-is_refusal (Err (fault.Refused refused error)) resource is = tt
-is_refusal (Err fault.HistoryFull) resource is = absurd is
-is_refusal (Err (fault.NoListener port error)) resource is = absurd is
-is_refusal (Err fault.NoThread) resource is = absurd is
-
 pub read_stops : (entries : List Entry) (e : ProgramFault) → IsReadFault e → StopsAt entries e
 read_stops entries fault.NoMemory is = tt
-read_stops entries (fault.Refused resource error) is = tt
+read_stops entries (fault.Refused resource error) is = subst (λ r. IsTrue (is_asked r)) (sym is.0) refl
 read_stops entries fault.HistoryFull is = absurd is
 read_stops entries (fault.NoListener port error) is = absurd is
 read_stops entries fault.NoThread is = absurd is
 
-pub read_is : (e : ProgramFault) → IsReadFault e → IsMemoryOrRefusal e
+pub read_is : (e : ProgramFault) → IsReadFault e → IsMemoryOrAsked e
 read_is fault.NoMemory is = tt
-read_is (fault.Refused resource error) is = tt
+read_is (fault.Refused resource error) is = subst (λ r. IsTrue (is_asked r)) (sym is.0) refl
 read_is fault.HistoryFull is = absurd is
 read_is (fault.NoListener port error) is = absurd is
 read_is fault.NoThread is = absurd is
 
-pub if_stops : {T : Type 0} (r : Result T ProgramFault) (entries : List Entry) → IfErr r IsMemoryOrRefusal → IfErr r (StopsAt entries)
+pub if_stops : {T : Type 0} (r : Result T ProgramFault) (entries : List Entry) → IfErr r IsMemoryOrAsked → IfErr r (StopsAt entries)
 if_stops (Ok x) entries is = tt
 if_stops (Err e) entries is = stops_anyway entries e is
 
@@ -59,15 +50,15 @@ module _ (s : DeliverSettings) (unread left before after : Option (List ℕ)) wh
       → (max_history_len ≤ length entries → FillsHistory s unread left before after)
       → StopsAt entries e → StopsDelivery s unread left before after e
   stops_delivery entries fault.NoMemory filled is = tt
-  stops_delivery entries (fault.Refused resource error) filled is = tt
+  stops_delivery entries (fault.Refused resource error) filled is = is
   stops_delivery entries fault.HistoryFull filled is = filled is
   stops_delivery entries (fault.NoListener port error) filled is = absurd is
   stops_delivery entries fault.NoThread filled is = absurd is
 
   -- other faults stop it anyway
-  pub stops_delivery_anyway : (e : ProgramFault) → IsMemoryOrRefusal e → StopsDelivery s unread left before after e
+  pub stops_delivery_anyway : (e : ProgramFault) → IsMemoryOrAsked e → StopsDelivery s unread left before after e
   stops_delivery_anyway fault.NoMemory is = tt
-  stops_delivery_anyway (fault.Refused resource error) is = tt
+  stops_delivery_anyway (fault.Refused resource error) is = is
   stops_delivery_anyway fault.HistoryFull is = absurd is
   stops_delivery_anyway (fault.NoListener port error) is = absurd is
   stops_delivery_anyway fault.NoThread is = absurd is

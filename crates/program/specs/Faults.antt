@@ -1,11 +1,12 @@
 -- Which faults stop the program, and when.
-use Rattle.std.specs.Prelude.{◌≡◌, ◌≤◌, ⊤, List, length}
+use Rattle.std.specs.Prelude.{◌≡◌, ◌≤◌, ⊤, IsTrue, List, length}
 use Rattle.ledger_model.specs.declared.history.Entry.{Entry}
 use Rattle.std.specs.IoError.{error_kind}
 use Rattle.std.specs.declared.io.ErrorKind.TheVariants.{Interrupted}
 use Rattle.program_streams.specs.declared.program_fault.ProgramFault.{ProgramFault}
 use Rattle.program_streams.specs.declared.program_fault.ProgramFault.TheVariants as fault
 use Rattle.ledger_model.specs.Limits.{max_history_len}
+use Rattle.program_streams.specs.Faults.{is_asked}
 use Rattle.program_streams.specs.declared.resource.Resource.TheVariants.{Input}
 
 -- a read of standard input failed, and was not just interrupted
@@ -16,10 +17,11 @@ IsReadFault fault.HistoryFull = ⊥
 IsReadFault (fault.NoListener port error) = ⊥
 IsReadFault fault.NoThread = ⊥
 
--- memory ran out, the system refused a resource, or the replica's history has all the entries that a history takes
+-- memory ran out, the system refused standard input, standard output or random bytes, or the replica's history has all the entries
+-- that a history takes
 abbrev pub StopsAt : List Entry → ProgramFault → Type 0
 StopsAt entries fault.NoMemory = ⊤
-StopsAt entries (fault.Refused resource error) = ⊤
+StopsAt entries (fault.Refused resource error) = IsTrue (is_asked resource)
 StopsAt entries fault.HistoryFull = max_history_len ≤ length entries
 StopsAt entries (fault.NoListener port error) = ⊥
 StopsAt entries fault.NoThread = ⊥

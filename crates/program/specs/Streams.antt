@@ -1,5 +1,5 @@
 -- A stream whose frames are delivered: how it ends, and what is printed.
-use Rattle.std.specs.Prelude.{◌≡◌, ◌⊎◌, ℕ, ◌≤◌, List, [], ◌++◌, length, map, Option, Some, None, ⊤}
+use Rattle.std.specs.Prelude.{◌≡◌, ◌⊎◌, ℕ, ◌≤◌, List, [], ◌++◌, length, map, Option, Some, None, IsTrue, ⊤}
 use Rattle.std.specs.Io.KnownBytes.{Appends, Consumes, IsAtEnd}
 use Rattle.ledger_model.specs.declared.event.Event.{Event}
 use Rattle.ledger_model.specs.declared.history.Entry.{Entry}
@@ -26,6 +26,7 @@ use Rattle.byte_streams.specs.Writing.{AppendsSome}
 use Rattle.byte_streams.specs.Responding.{Responds, RespondsSome}
 use Rattle.program.specs.Answering.{Answers, AnswersSome, deliveries, starting}
 use Rattle.ledger_model.specs.Limits.{max_history_len}
+use Rattle.program_streams.specs.Faults.{is_asked}
 
 -- after these frames come bytes that no frame starts with
 abbrev pub Breaks : StreamFault → List ℕ → List SignedStatement → Type 0
@@ -151,7 +152,7 @@ FillsHistory s unread left before after =
 -- why `abft deliver` stopped: memory ran out, a stream failed, or the history was full
 abbrev pub StopsDelivery : DeliverSettings → Option (List ℕ) → Option (List ℕ) → Option (List ℕ) → Option (List ℕ) → ProgramFault → Type 0
 StopsDelivery s unread left before after fault.NoMemory = ⊤
-StopsDelivery s unread left before after (fault.Refused resource error) = ⊤
+StopsDelivery s unread left before after (fault.Refused resource error) = IsTrue (is_asked resource)
 StopsDelivery s unread left before after fault.HistoryFull = FillsHistory s unread left before after
 StopsDelivery s unread left before after (fault.NoListener port error) = ⊥
 StopsDelivery s unread left before after fault.NoThread = ⊥

@@ -7,7 +7,7 @@ ghost use Rattle.signed_frames.specs.declared.fault.FrameFault.TheVariants as fa
 ghost use Rattle.signed_frames.specs.Reader.{Leaves, Reading};
 ghost use Rattle.locked_replica.specs.States.{StateView};
 ghost use Rattle.program.specs.Answering.{Prints, deliveries};
-ghost use Rattle.program_streams.specs.Faults.{IsMemoryOrRefusal};
+ghost use Rattle.program_streams.specs.Faults.{IsMemoryOrAsked};
 ghost use Rattle.program.specs.Faults.{StopsAt};
 ghost use Rattle.program.specs.Streams.{Ended, GoesBehind, GoesOn, IsFed, IsReadTo, IsReading, IsTold, Stands, Stopped, UnderWay};
 
@@ -57,7 +57,7 @@ fn deliver_all<W: Write>(
 fn fault_of(fault: FrameFault) -> Result<StreamFault, ProgramFault>
     requires { fault ≢ faults.Failed }
     ensures told { IfOk result (λ found. IsTold fault found) }
-    ensures memory { IfErr result IsMemoryOrRefusal }
+    ensures memory { IfErr result IsMemoryOrAsked }
 {
     match fault {
         FrameFault::TooLong => Ok(StreamFault::TooLong),
@@ -72,7 +72,7 @@ fn fault_behind(frames: &mut FrameReader) -> Result<Option<StreamFault>, Program
     requires { IsFed frames.old }
     ensures behind { (bytes : List ℕ) (given : List SignedStatement) → Leaves bytes given frames.old
         → IfOk result (λ found. GoesBehind bytes given frames.new found) }
-    ensures memory { IfErr result IsMemoryOrRefusal }
+    ensures memory { IfErr result IsMemoryOrAsked }
 {
     match frames.feed(&[]) {
         Ok(_) => Ok(None),

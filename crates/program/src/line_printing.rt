@@ -1,6 +1,6 @@
 //! Prints the lines of `abft deliver`, each with one write if the writer takes it whole.
 ghost use Rattle.std.specs.Prelude.{IfErr};
-ghost use Rattle.program_streams.specs.Faults.{IsMemoryOrRefusal};
+ghost use Rattle.program_streams.specs.Faults.{IsMemoryOrAsked};
 ghost use Rattle.program.specs.Lines.{ended, last_line};
 ghost use Rattle.byte_streams.specs.Writing.{Writes};
 
@@ -17,7 +17,7 @@ pub(crate) fn print_line<W: Write>(
     line: Line,
 ) -> Result<(), ProgramFault>
     ensures written { Writes result (W.contents writer.old) (W.contents writer.new) (ended line) }
-    ensures fault { IfErr result IsMemoryOrRefusal }
+    ensures fault { IfErr result IsMemoryOrAsked }
 {
     let Ok(text) = format!(in alloc; "{line}\n") else {
         return Err(ProgramFault::NoMemory);
@@ -32,7 +32,7 @@ pub(crate) fn print_end<W: Write>(
     end: StreamEnd,
 ) -> Result<(), ProgramFault>
     ensures written { Writes result (W.contents writer.old) (W.contents writer.new) (last_line end) }
-    ensures fault { IfErr result IsMemoryOrRefusal }
+    ensures fault { IfErr result IsMemoryOrAsked }
 {
     match end {
         StreamEnd::Whole => Ok(()),

@@ -4,7 +4,7 @@ ghost use Rattle.ledger_model.specs.Applications.{run};
 ghost use Rattle.app_kinds.specs.Chosen.{machine_of};
 ghost use Rattle.scenario_texts.specs.Lawful.{IsPlan};
 ghost use Rattle.scenario_texts.specs.Plans.{plan_of};
-ghost use Rattle.program_streams.specs.Faults.{IsMemoryOrRefusal};
+ghost use Rattle.program_streams.specs.Faults.{IsMemoryOrAsked};
 ghost use Rattle.program.specs.Simulating.{opening};
 
 use crate::replica::new_keys;
@@ -39,7 +39,7 @@ fn new_randoms<S: RandomSource>(
     count: usize,
 ) -> Result<Vec<[RandomState; 2]>, ProgramFault>
     ensures count { IfOk result (λ randoms. vec_len randoms ≡ count) }
-    ensures fault { IfErr result IsMemoryOrRefusal }
+    ensures fault { IfErr result IsMemoryOrAsked }
 {
     let mut randoms = Vec::with_capacity(alloc, count)?;
     for _ in 0..count {
@@ -57,7 +57,7 @@ pub(crate) fn new_simulation<S: RandomSource>(
 ) -> Result<Simulation<AnyKind>, ProgramFault>
     requires { IsPlan (plan_of scenario.now) }
     ensures opening { IfOk result (λ simulation. simulation ≡ opening settings.now.seed scenario.now.setup.config (plan_of scenario.now)) }
-    ensures fault { IfErr result IsMemoryOrRefusal }
+    ensures fault { IfErr result IsMemoryOrAsked }
 {
     let setup = &scenario.setup;
     let cluster = ClusterSeed {

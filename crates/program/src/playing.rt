@@ -5,7 +5,7 @@ ghost use Rattle.history_bytes.specs.Histories.{history_bytes};
 ghost use Rattle.scenario_texts.specs.Lawful.{IsPlan};
 ghost use Rattle.scenario_texts.specs.Plans.{plan_of};
 ghost use Rattle.byte_streams.specs.Writing.{Writes};
-ghost use Rattle.program_streams.specs.Faults.{IsMemoryOrRefusal};
+ghost use Rattle.program_streams.specs.Faults.{IsMemoryOrAsked};
 ghost use Rattle.program.specs.Simulating.{PlansWritten, PlaysWritten, PlaysWrittenSome, histories_of};
 
 use crate::opening::new_simulation;
@@ -31,7 +31,7 @@ fn play_command<W: Write>(
     ensures plays { MatchResult result
         (λ _. PlaysWritten has_lines simulation.old (command.now ∷ []) simulation.new (W.contents writer.old) (W.contents writer.new))
         (λ _. PlaysWrittenSome has_lines simulation.old (command.now ∷ []) (W.contents writer.old) (W.contents writer.new)) }
-    ensures fault { IfErr result IsMemoryOrRefusal }
+    ensures fault { IfErr result IsMemoryOrAsked }
 {
     let lines = simulation.play(command)?;
     if has_lines {
@@ -50,7 +50,7 @@ fn play_all<W: Write>(
     ensures plays { MatchResult result
         (λ _. PlaysWritten has_lines simulation.old commands.now simulation.new (W.contents writer.old) (W.contents writer.new))
         (λ _. PlaysWrittenSome has_lines simulation.old commands.now (W.contents writer.old) (W.contents writer.new)) }
-    ensures fault { IfErr result IsMemoryOrRefusal }
+    ensures fault { IfErr result IsMemoryOrAsked }
 {
     for command in commands {
         play_command(simulation, command, has_lines, writer)?;
@@ -65,7 +65,7 @@ fn write_histories<W: Write>(
     writer: &mut W,
 ) -> Result<(), ProgramFault>
     ensures written { Writes result (W.contents writer.old) (W.contents writer.new) (flat_map history_bytes histories.now) }
-    ensures fault { IfErr result IsMemoryOrRefusal }
+    ensures fault { IfErr result IsMemoryOrAsked }
 {
     for history in histories {
         let bytes = history_bytes(alloc, history)?;
@@ -82,7 +82,7 @@ fn write_end<W: Write>(
     writer: &mut W,
 ) -> Result<(), ProgramFault>
     ensures written { Writes result (W.contents writer.old) (W.contents writer.new) (if has_histories then histories_of world.now else []) }
-    ensures fault { IfErr result IsMemoryOrRefusal }
+    ensures fault { IfErr result IsMemoryOrAsked }
 {
     if !has_histories {
         return Ok(());
@@ -101,7 +101,7 @@ pub(crate) fn play<S: RandomSource, W: Write>(
 ) -> Result<(), ProgramFault>
     requires { IsPlan (plan_of scenario.now) }
     ensures plays { PlansWritten result settings.now (plan_of scenario.now) (W.contents writer.old) (W.contents writer.new) }
-    ensures fault { IfErr result IsMemoryOrRefusal }
+    ensures fault { IfErr result IsMemoryOrAsked }
 {
     let mut simulation = new_simulation(source, alloc, settings, scenario)?;
     play_all(

@@ -4,7 +4,7 @@ ghost use Rattle.ledger_model.specs.declared.history.Entry.{Entry};
 ghost use Rattle.ledger_model.specs.declared.event.Event.TheVariants as event;
 ghost use Rattle.program.specs.Lines.{ended};
 ghost use Rattle.program.specs.Answering.{Answers, AnswersSome, Refuses, fresh, starting};
-ghost use Rattle.program_streams.specs.Faults.{IsMemoryOrRefusal};
+ghost use Rattle.program_streams.specs.Faults.{IsMemoryOrAsked};
 ghost use Rattle.program.specs.Faults.{StopsAt};
 ghost use Rattle.ledger_model.specs.Limits.{max_history_len};
 
@@ -22,7 +22,7 @@ use std::random::RandomSource;
 
 /// A random key for hashes.
 fn new_key<S: RandomSource>(source: &S) -> Result<RandomState, ProgramFault>
-    ensures { IfErr result IsMemoryOrRefusal }
+    ensures { IfErr result IsMemoryOrAsked }
 {
     match RandomState::new(source) {
         Ok(key) => Ok(key),
@@ -32,7 +32,7 @@ fn new_key<S: RandomSource>(source: &S) -> Result<RandomState, ProgramFault>
 
 /// The two random keys of a replica.
 pub(crate) fn new_keys<S: RandomSource>(source: &S) -> Result<[RandomState; 2], ProgramFault>
-    ensures { IfErr result IsMemoryOrRefusal }
+    ensures { IfErr result IsMemoryOrAsked }
 {
     Ok([new_key(source)?, new_key(source)?])
 }
@@ -44,7 +44,7 @@ pub(crate) fn new_replica<S: RandomSource>(
     settings: &DeliverSettings,
 ) -> Result<State<AnyKind>, ProgramFault>
     ensures fresh { IfOk result (λ state. state ≡ fresh settings.now) }
-    ensures fault { IfErr result IsMemoryOrRefusal }
+    ensures fault { IfErr result IsMemoryOrAsked }
 {
     let randoms = new_keys(source)?;
     let config = settings.cluster.config;

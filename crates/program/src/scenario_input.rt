@@ -2,7 +2,7 @@
 ghost use Rattle.std.specs.Prelude.{◌⊎◌, ℕ, List, MatchResult, IfErr};
 ghost use Rattle.std.specs.Io.KnownBytes.{Consumes, IsAtEnd};
 ghost use Rattle.scenario_texts.specs.Lines.{IsTooLarge};
-ghost use Rattle.program_streams.specs.Faults.{IsMemoryOrRefusal};
+ghost use Rattle.program_streams.specs.Faults.{IsMemoryOrAsked};
 ghost use Rattle.program.specs.Simulating.{IsRead, IsReadInTime};
 
 use crate::reading::{PIECE_LEN, read_piece};
@@ -26,7 +26,7 @@ fn read_text<R: Read>(alloc: Global, reader: &mut R) -> Result<Vec<u8>, ProgramF
         (λ text. Consumes (R.remaining reader.old) (R.remaining reader.new) text.items
         × (IsReadInTime text.items × (IsAtEnd (R.remaining reader.new) ⊎ IsTooLarge text.items)))
         (λ _. (input : List ℕ) × (Consumes (R.remaining reader.old) (R.remaining reader.new) input × IsReadInTime input)) }
-    ensures fault { IfErr result IsMemoryOrRefusal }
+    ensures fault { IfErr result IsMemoryOrAsked }
 {
     let mut text = Vec::new(alloc);
     let mut lines = LineCount::new();
@@ -52,7 +52,7 @@ pub(crate) fn read_scenario<R: Read>(
     ensures read { MatchResult result
         (λ found. IsRead found (R.remaining reader.old) (R.remaining reader.new))
         (λ _. (input : List ℕ) × (Consumes (R.remaining reader.old) (R.remaining reader.new) input × IsReadInTime input)) }
-    ensures fault { IfErr result IsMemoryOrRefusal }
+    ensures fault { IfErr result IsMemoryOrAsked }
 {
     let text = read_text(alloc, reader)?;
     match read(alloc, &text) {

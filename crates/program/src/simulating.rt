@@ -1,7 +1,7 @@
 //! `abft simulate`: reads a scenario, and then plays it.
 ghost use Rattle.std.specs.Prelude.{◌≡◌, ◌++◌, codes, decimal, MatchResult, IfErr};
 ghost use Rattle.byte_streams.specs.Writing.{Writes};
-ghost use Rattle.program_streams.specs.Faults.{IsMemoryOrRefusal};
+ghost use Rattle.program_streams.specs.Faults.{IsMemoryOrAsked};
 ghost use Rattle.program.specs.Simulating.{PlaysText, PlaysTextSome, bad_line};
 
 use crate::playing::play;
@@ -16,7 +16,7 @@ use std::random::RandomSource;
 /// Writes the line with the number of a bad line.
 fn print_bad_line<W: Write>(alloc: Global, writer: &mut W, number: u32) -> Result<(), ProgramFault>
     ensures written { Writes result (W.contents writer.old) (W.contents writer.new) (bad_line number) }
-    ensures fault { IfErr result IsMemoryOrRefusal }
+    ensures fault { IfErr result IsMemoryOrAsked }
 {
     let line = format!(in alloc; "line {number} bad\n")?;
     write_output(writer, line.as_bytes())
@@ -35,7 +35,7 @@ pub fn simulate<S: RandomSource, R: Read, W: Write>(
     ensures plays { MatchResult result
         (λ end. PlaysText settings.now end (R.remaining reader.old) (R.remaining reader.new) (W.contents writer.old) (W.contents writer.new))
         (λ _. PlaysTextSome settings.now (R.remaining reader.old) (R.remaining reader.new) (W.contents writer.old) (W.contents writer.new)) }
-    ensures fault { IfErr result IsMemoryOrRefusal }
+    ensures fault { IfErr result IsMemoryOrAsked }
 {
     match read_scenario(alloc, reader)? {
         ScenarioInput::Scenario(scenario) => {

@@ -1,21 +1,37 @@
 -- Which faults stop the program.
-use Rattle.std.specs.Prelude.{◌≡◌, ⊤}
+use Rattle.std.specs.Prelude.{◌≡◌, Bool, true, false, IsTrue, ⊤}
 use Rattle.program_streams.specs.declared.program_fault.ProgramFault.{ProgramFault}
 use Rattle.program_streams.specs.declared.program_fault.ProgramFault.TheVariants as fault
 use Rattle.program_streams.specs.declared.resource.Resource.{Resource}
+use Rattle.program_streams.specs.declared.resource.Resource.TheVariants as resource
 
 -- the system refused this resource
 abbrev pub IsRefusalOf : Resource → ProgramFault → Type 0
-IsRefusalOf resource fault.NoMemory = ⊥
-IsRefusalOf resource (fault.Refused refused error) = refused ≡ resource
-IsRefusalOf resource fault.HistoryFull = ⊥
-IsRefusalOf resource (fault.NoListener port error) = ⊥
-IsRefusalOf resource fault.NoThread = ⊥
+IsRefusalOf wanted fault.NoMemory = ⊥
+IsRefusalOf wanted (fault.Refused refused error) = refused ≡ wanted
+IsRefusalOf wanted fault.HistoryFull = ⊥
+IsRefusalOf wanted (fault.NoListener port error) = ⊥
+IsRefusalOf wanted fault.NoThread = ⊥
 
--- memory ran out, or the system refused a resource
-abbrev pub IsMemoryOrRefusal : ProgramFault → Type 0
-IsMemoryOrRefusal fault.NoMemory = ⊤
-IsMemoryOrRefusal (fault.Refused resource error) = ⊤
-IsMemoryOrRefusal fault.HistoryFull = ⊥
-IsMemoryOrRefusal (fault.NoListener port error) = ⊥
-IsMemoryOrRefusal fault.NoThread = ⊥
+-- memory ran out, or the system refused random bytes
+abbrev pub IsMemoryOrRandom : ProgramFault → Type 0
+IsMemoryOrRandom fault.NoMemory = ⊤
+IsMemoryOrRandom (fault.Refused refused error) = refused ≡ resource.Random
+IsMemoryOrRandom fault.HistoryFull = ⊥
+IsMemoryOrRandom (fault.NoListener port error) = ⊥
+IsMemoryOrRandom fault.NoThread = ⊥
+
+-- a program that reads standard input and writes standard output asks for this: one of the two, or random bytes
+abbrev pub is_asked : Resource → Bool
+is_asked resource.Input = true
+is_asked resource.Output = true
+is_asked resource.Random = true
+is_asked _ = false
+
+-- memory ran out, or the system refused standard input, standard output or random bytes
+abbrev pub IsMemoryOrAsked : ProgramFault → Type 0
+IsMemoryOrAsked fault.NoMemory = ⊤
+IsMemoryOrAsked (fault.Refused refused error) = IsTrue (is_asked refused)
+IsMemoryOrAsked fault.HistoryFull = ⊥
+IsMemoryOrAsked (fault.NoListener port error) = ⊥
+IsMemoryOrAsked fault.NoThread = ⊥

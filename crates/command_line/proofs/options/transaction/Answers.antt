@@ -1,7 +1,8 @@
 use Rattle.command_line.specs.Faults.{IsRightOf}
 use Rattle.clap.specs.Words.{found_of, rows_of}
 use Rattle.clap.proofs.TakesLemmas.{passed_up}
-use Rattle.std.proofs.Common.{◌≡◌, ◌∙◌, ◌≤◌, length, ap, rules, sym, subst, false}
+use Rattle.std.proofs.Common.{◌≡◌, ◌∙◌, ◌≤◌, ℕ, List, inl, inr, length, ap, rules, sym, subst, false, arith}
+use Rattle.std.proofs.lemmas.Bool.{cases_lt}
 use Rattle.std.specs.Prelude.{is_ok}
 use Rattle.std.specs.Vec.{vec_len}
 use Rattle.std.proofs.lemmas.Option.{same_Some}
@@ -22,7 +23,31 @@ returns-in_default-clause-none c = λ tx i.
     (subst (λ n. 1 ≤ n) len i.some) (subst (λ n. n ≤ 64) len i.short)
 
 pub returns-in_default-clause-right : goal.returns-in_default-clause-right
-returns-in_default-clause-right c = λ table has. (has, (c.in_ok-text.ensures.some, returns-in_default-clause-none c))
+returns-in_default-clause-right c =
+    let text : List ℕ = c.in_ok-text.text.now in
+    let bytes : List ℕ = c.in_ok-bytes.bytes.items in
+    let none = returns-in_default-clause-none c bytes in
+    λ table has. (
+      has,
+      record {
+        has = c.in_ok-text.ensures.some;
+        bytes = bytes;
+        stands = c.in_ok-bytes.ensures.some;
+        wrong_length = elim (cases_lt 64 (length bytes)) [
+          | inl long ↦ inr long
+          | inr short ↦ elim (cases_lt 0 (length bytes)) [
+            | inl some ↦ absurd (none (record {
+              text = text;
+              has = c.in_ok-text.ensures.some;
+              bytes = c.in_ok-bytes.ensures.some;
+              some = omega (arith, some);
+              short = short;
+            }))
+            | inr empty ↦ inl (omega (arith, empty))
+          ]
+        ];
+      },
+    )
 
 pub returns-in_err-text-clause-right : goal.returns-in_err-text-clause-right
 returns-in_err-text-clause-right c =

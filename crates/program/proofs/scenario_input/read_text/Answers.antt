@@ -1,4 +1,4 @@
-use Rattle.program_streams.specs.Faults.{IsMemoryOrRefusal}
+use Rattle.program_streams.specs.Faults.{IsMemoryOrAsked}
 use Rattle.program.proofs.CauseLemmas.{passed, read_is}
 use Rattle.std.proofs.Common.{◌≡◌, ◌<◌, ◌≤◌, ◌++◌, inl, inr, length, rules, subst, sym, take}
 use Rattle.std.proofs.KnownBytes.{Consumes-kept, Consumes-nil}
@@ -72,4 +72,4 @@ loop-preserved g c = record {
 
 pub returns-in_err-count-clause-fault : goal.returns-in_err-count-clause-fault
 returns-in_err-count-clause-fault g c =
-    passed _ c.in_err-count.field-0.0 IsMemoryOrRefusal c.from_residual.ensures.1 (read_is _ c.in_err-count.ensures.fault)
+    passed _ c.in_err-count.field-0.0 IsMemoryOrAsked c.from_residual.ensures.1 (read_is _ c.in_err-count.ensures.fault)
