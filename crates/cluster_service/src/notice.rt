@@ -39,6 +39,14 @@ impl Notice {
     pub(crate) fn is_progress(&self) -> bool {
         matches!(self, Notice::Keys(_))
     }
+
+    /// Whether the workers have ended, so that no progress follows the notice.
+    pub(crate) fn is_end(&self) -> bool {
+        matches!(
+            self,
+            Notice::RoundsOver | Notice::ServesOn | Notice::Stopped
+        )
+    }
 }
 
 impl fmt::Display for Notice {

@@ -49,6 +49,8 @@ pub(crate) struct Reporter<P: Write + Drop> {
     replicas: Vec<ReplicaStatus>,
     /// The last round of replica 0 that it reported.
     told: u32,
+    /// Whether it reported that the workers have ended.
+    is_ended: bool,
 }
 
 /// Erases the rest of the terminal's line.
@@ -108,6 +110,7 @@ impl<P: Write + Drop> Reporter<P> {
             notices: Vec::new(alloc),
             replicas: unknown(alloc, replicas)?,
             told: 0,
+            is_ended: false,
         })
     }
 
@@ -160,6 +163,10 @@ impl<P: Write + Drop> Reporter<P> {
         if let Ok(line) = self.notice_line(notice) {
             self.write(&line);
         }
+        if notice.is_end() {
+            self.is_ended = true;
+            self.shared.end_told();
+        }
     }
 
     /// Reports everything that it took.
@@ -169,7 +176,7 @@ impl<P: Write + Drop> Reporter<P> {
             self.tell(*notice);
         }
         self.notices = notices;
-        if !self.watcher.is_log() && self.has_progress() {
+        if !self.watcher.is_log() && !self.is_ended && self.has_progress() {
             if let Ok(line) = self.progress_line() {
                 self.write(&line);
             }

@@ -11,7 +11,8 @@ use std::alloc::{AllocError, Global};
 use std::sync::{Mutex, Wait};
 use std::time::Duration;
 
-/// The most milliseconds that the end of a cluster waits until the reporter has written everything.
+/// The most milliseconds that a cluster waits until the reporter has written that its workers have ended, and at its end until the
+/// reporter has written everything.
 const LAST_MS: u64 = 1000;
 
 /// The status of a cluster, and the bells that wake the reporter and the end of the cluster. No thread holds the lock
@@ -23,6 +24,8 @@ pub struct SharedStatus {
     is_quiet: bool,
     /// Rung when there is news.
     news: Bell,
+    /// Rung when the reporter has written that the workers have ended.
+    over: Bell,
     /// Rung when the reporter has written everything.
     end: Bell,
 }
@@ -39,6 +42,7 @@ impl SharedStatus {
             status: Mutex::new(ClusterStatus::new(alloc, replicas, has_log)?),
             is_quiet,
             news: Bell::new(),
+            over: Bell::new(),
             end: Bell::new(),
         })
     }
@@ -71,6 +75,18 @@ impl SharedStatus {
         self.news.ring();
         self.end.sleep(rt, 0, Duration::from_millis(LAST_MS));
         status
+    }
+
+    /// Waits until the reporter has written that the workers have ended, at most for a second.
+    fn wait_for_end<R: Wait>(&self, rt: &R) {
+        if !self.is_quiet {
+            self.over.sleep(rt, 0, Duration::from_millis(LAST_MS));
+        }
+    }
+
+    /// Announces that the reporter has written that the workers have ended.
+    pub(crate) fn end_told(&self) {
+        self.over.ring();
     }
 
     /// Announces that the reporter has written everything.
@@ -119,6 +135,12 @@ impl<'a, R: Wait> ReportingGate<'a, R> {
     /// Passes a notice to the reporter.
     pub(crate) fn tell(&self, notice: Notice) {
         self.shared.tell(self.rt, notice);
+    }
+
+    /// Waits until the reporter has written that the workers have ended, at most for a second, so that what the program then writes
+    /// comes after that line.
+    pub(crate) fn wait_for_end(&self) {
+        self.shared.wait_for_end(self.rt);
     }
 }
 

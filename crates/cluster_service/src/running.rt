@@ -122,6 +122,7 @@ fn run_through<R: Clock + RandomSource + Threads + Wait + Sync>(
     let (cluster, workers, _) = new_cluster(rt, alloc, settings, 0)?;
     run_workers(rt, settings, workers, gate, stop)?;
     gate.tell(end_of(stop, Notice::RoundsOver));
+    gate.wait_for_end();
     heights_of(rt, alloc, &cluster, settings.cluster.config.replicas)
 }
 
@@ -209,8 +210,13 @@ where
             return Err(ProgramFault::NoThread);
         }
         let done = run_workers(rt, settings, workers, gate, stop);
-        gate.tell(end_of(stop, Notice::ServesOn));
+        if done.is_ok() {
+            gate.tell(end_of(stop, Notice::ServesOn));
+        }
         end_sessions(rt, port, settings.stops_at_eof, stop, door);
+        if done.is_ok() {
+            gate.wait_for_end();
+        }
         done
     })
 }

@@ -11,3 +11,5 @@ mod ring_tests;
 mod tree_tests;
 #[cfg(test)]
 mod vectors;
+#[cfg(test)]
+mod verifier_tests;

@@ -1,0 +1,143 @@
+//! A verifier answers from memory what it was asked or told before.
+
+use super::vectors::{IDENTIFIER, MESSAGE, SEED};
+use bytes::Bytes;
+use key_ring::{KeyRing, Signer};
+use ledger_model::ReplicaId;
+use lm_ots::{Identifier, Params, Seed, TreeHeight, Width};
+use lms_tree::{PublicKey, verify};
+use std::alloc::Global;
+use std::hash::RandomState;
+use std::test::Fail;
+use verify_cache::Verifier;
+
+fn signer_of(alloc: Global, width: Width) -> Option<Signer> {
+    let params = Params {
+        width,
+        height: TreeHeight::H5,
+    };
+    Signer::new(alloc, params, Identifier::new(IDENTIFIER), Seed::new(SEED)).ok()
+}
+
+// A key that is no replica's signer here.
+fn other_key(alloc: Global) -> Option<PublicKey> {
+    Some(signer_of(alloc, Width::W8)?.public())
+}
+
+// A verifier under these keys of replicas 0 and 1.
+fn verifier_under(alloc: Global, random: RandomState, keys: [PublicKey; 2]) -> Option<Verifier> {
+    let ring = KeyRing::new(Vec::from_slice(alloc, &keys).ok()?);
+    Verifier::new(alloc, ring, random).ok()
+}
+
+// A verifier that has the signer's key at replica 1, and another at replica 0.
+fn verifier_of(alloc: Global, random: RandomState, signer: &Signer) -> Option<Verifier> {
+    verifier_under(alloc, random, [other_key(alloc)?, signer.public()])
+}
+
+fn signature_of(alloc: Global, signer: &mut Signer) -> Option<Bytes> {
+    Bytes::from_vec(signer.sign(alloc, MESSAGE).ok()?).ok()
+}
+
+// The verifier's answer, and how many checks it computed by then.
+fn asks(verifier: &mut Verifier, signer: u8, message: &Bytes, signature: &Bytes) -> (bool, u64) {
+    let answer = verifier.check(ReplicaId::new(signer), message, signature);
+    (answer, verifier.computed())
+}
+
+// The same for replica 1's signature: three times under its own number, and then under another.
+fn asks_again(verifier: &mut Verifier, message: &Bytes, signature: &Bytes) -> [(bool, u64); 4] {
+    [
+        asks(verifier, 1, message, signature),
+        asks(verifier, 1, message, signature),
+        asks(verifier, 1, message, signature),
+        asks(verifier, 0, message, signature),
+    ]
+}
+
+#[test]
+fn a_check_is_computed_once(rt: HostRuntime) -> Result<(), Fail> {
+    let mut signer = signer_of(rt.alloc(), Width::W4).expect(&rt, "a signer");
+    let random = RandomState::new(&rt)?;
+    let mut verifier = verifier_of(rt.alloc(), random, &signer).expect(&rt, "a verifier");
+    let signature = signature_of(rt.alloc(), &mut signer).expect(&rt, "a signature");
+    let answers = asks_again(&mut verifier, &Bytes::from_static(MESSAGE), &signature);
+    assert_eq!(rt; answers, [(true, 1), (true, 1), (true, 1), (false, 2)]);
+    Ok(())
+}
+
+// The same for a message of this number, with bytes that are no signature.
+fn asks_of_garbage(alloc: Global, verifier: &mut Verifier, number: u16) -> Option<(bool, u64)> {
+    let message = Bytes::copy_from_slice(alloc, &number.to_be_bytes()).ok()?;
+    Some(asks(verifier, 0, &message, &Bytes::from_static(b"garbage")))
+}
+
+// The first of the 1,025 numbers at which the answers are wrong, if there is one.
+fn first_wrong_number(alloc: Global, verifier: &mut Verifier) -> Option<u16> {
+    for number in 0..1025u16 {
+        if asks_of_garbage(alloc, verifier, number) != Some((false, u64::from(number) + 1)) {
+            return Some(number);
+        }
+    }
+    None
+}
+
+// The 1,025th answer takes the place of the first, which is computed again; the last is still known.
+#[test]
+fn a_verifier_knows_1024_answers(rt: HostRuntime) -> Result<(), Fail> {
+    let signer = signer_of(rt.alloc(), Width::W4).expect(&rt, "a signer");
+    let random = RandomState::new(&rt)?;
+    let mut verifier = verifier_of(rt.alloc(), random, &signer).expect(&rt, "a verifier");
+    assert_eq!(rt; first_wrong_number(rt.alloc(), &mut verifier), None);
+    assert_eq!(rt;
+        asks_of_garbage(rt.alloc(), &mut verifier, 0),
+        Some((false, 1026))
+    );
+    assert_eq!(rt;
+        asks_of_garbage(rt.alloc(), &mut verifier, 1024),
+        Some((false, 1026))
+    );
+    Ok(())
+}
+
+// Tells the verifier what replica 1's signature is worth under this key, and then asks it.
+fn asks_primed(
+    verifier: &mut Verifier,
+    key: &PublicKey,
+    message: &Bytes,
+    signature: &Bytes,
+) -> (bool, u64) {
+    let answer = verify(key, message, signature);
+    verifier.prime(ReplicaId::new(1), key, message, signature, answer);
+    asks(verifier, 1, message, signature)
+}
+
+#[test]
+fn a_primed_answer_is_not_computed(rt: HostRuntime) -> Result<(), Fail> {
+    let mut signer = signer_of(rt.alloc(), Width::W4).expect(&rt, "a signer");
+    let random = RandomState::new(&rt)?;
+    let mut verifier = verifier_of(rt.alloc(), random, &signer).expect(&rt, "a verifier");
+    let signature = signature_of(rt.alloc(), &mut signer).expect(&rt, "a signature");
+    let message = Bytes::from_static(MESSAGE);
+    let answer = asks_primed(&mut verifier, &signer.public(), &message, &signature);
+    assert_eq!(rt; answer, (true, 0));
+    Ok(())
+}
+
+// The verifier leaves out an answer that was computed under a key that its ring doesn't have there.
+#[test]
+fn an_answer_under_another_key_is_left_out(rt: HostRuntime) -> Result<(), Fail> {
+    let mut signer = signer_of(rt.alloc(), Width::W4).expect(&rt, "a signer");
+    let random = RandomState::new(&rt)?;
+    let mut verifier = verifier_of(rt.alloc(), random, &signer).expect(&rt, "a verifier");
+    let signature = signature_of(rt.alloc(), &mut signer).expect(&rt, "a signature");
+    let other = other_key(rt.alloc()).expect(&rt, "a key");
+    let answer = asks_primed(
+        &mut verifier,
+        &other,
+        &Bytes::from_static(MESSAGE),
+        &signature,
+    );
+    assert_eq!(rt; answer, (true, 1));
+    Ok(())
+}

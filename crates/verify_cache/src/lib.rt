@@ -1,0 +1,11 @@
+//! A verifier of signatures that remembers the answers of its last checks.
+//!
+//! A replica meets most signatures more than once: in a frame, and again in the proofs that other frames cite. A
+//! [`Verifier`] hashes each once, and answers from its memory while the check is among the last 1024.
+#![tactic(auto)]
+
+mod signed;
+mod verifier;
+
+pub use signed::SignedMessage;
+pub use verifier::Verifier;

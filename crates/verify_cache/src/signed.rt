@@ -1,0 +1,56 @@
+//! What a check is of: the signer, the message and the signature.
+use bytes::Bytes;
+use ledger_model::ReplicaId;
+use std::alloc::AllocError;
+
+/// A signature, the message that it is of, and who is said to have signed.
+#[derive(PartialEq, Eq, Hash)]
+pub struct SignedMessage {
+    /// The replica that is said to have signed.
+    pub signer: ReplicaId,
+    /// The bytes that it is said to have signed.
+    pub message: Bytes,
+    /// The signature's bytes, right or wrong.
+    pub signature: Bytes,
+}
+
+// An own `Drop` keeps proofs short: an owner drops it by one call. See docs/WORKING.md.
+impl Drop for SignedMessage {
+    fn drop(self) {
+        let SignedMessage {
+            signer: _signer,
+            message: _message,
+            signature: _signature,
+        } = self;
+    }
+}
+
+impl SignedMessage {
+    ghost use Rattle.std.specs.Prelude.{◌≡◌, IfOk};
+    ghost use Rattle.verify_cache.specs.Same.{same, signed_of};
+
+    /// The signer, with the message and the signature that share the bytes of these. The only error is allocation
+    /// failure.
+    pub fn sharing(
+        signer: ReplicaId,
+        message: &Bytes,
+        signature: &Bytes,
+    ) -> Result<Self, AllocError>
+        ensures { IfOk result (λ signed. signed ≡ signed_of signer message.now signature.now) }
+    {
+        Ok(SignedMessage {
+            signer,
+            message: message.clone()?,
+            signature: signature.clone()?,
+        })
+    }
+
+    /// Whether it is this message, by this signer, with this signature.
+    pub fn is(&self, signer: ReplicaId, message: &[u8], signature: &[u8]) -> bool
+        ensures { result ≡ same (signed_of signer message.now signature.now) self.now }
+    {
+        signer == self.signer
+            && message == self.message.as_slice()
+            && signature == self.signature.as_slice()
+    }
+}
