@@ -7,7 +7,7 @@
 # bench: proves and builds the benchmark, and prints what keys and signatures cost on this machine.
 # bench-v3: the same, of a program for processors with AVX2 (x86-64-v3), which the gate doesn't build; on any other the program
 #       ends at once with status 127.
-# soak: proves and builds the program, and runs live clusters and many sessions on this machine, some minutes; no part of the gate, since
+# soak: proves and builds the program, and runs live clusters and many sessions on this machine for an hour and a half; no part of the gate, since
 #       what a clock brings differs from machine to machine.
 # prove-NAME: proves a library and what it stands on; what was said is in crates/NAME/out/said.
 # One of them at a time in one tree: the gate sets crates/*/out aside while it runs.

@@ -1,5 +1,5 @@
 #!/usr/bin/env bash
-# Clusters that run by the machine's clock, and a server under many sessions: `make soak`. It takes some minutes, and is no part of
+# Clusters that run by the machine's clock, and a server under many sessions: `make soak`. It takes an hour and a half, and is no part of
 # the gate, since what a clock brings differs from machine to machine. The last line is `N passed, M failed`.
 #
 # ABFT names the program; its figures go to standard output.
