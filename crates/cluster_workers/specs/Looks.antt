@@ -5,9 +5,9 @@ use Rattle.locked_replica.specs.States.{StateView}
 use Rattle.replica_turns.specs.OwnEvents.{own_of}
 use Rattle.replica_turns.specs.declared.own_events.OwnEvents.{OwnEvents}
 
--- this is what the replica does by itself next, by the least height that was read of all replicas between the two states of the
--- reader's seat
-pub record IsLooked (old new : ReaderSeatView) (board : BoardId) (replica : StateView) (proposed : ℕ) (own : OwnEvents) : Type 0 where
+-- The replica does this by itself next, by the least height that the reader read of all replicas: its seat was `old` before, and is
+-- `new` now.
+pub record IsNextByBoard (old new : ReaderSeatView) (board : BoardId) (replica : StateView) (proposed : ℕ) (own : OwnEvents) : Type 0 where
   pub least : ℕ
   pub read : IsLeastRead old new board least
   pub is : own ≡ own_of replica proposed least

@@ -13,7 +13,7 @@ abbrev pub AreDealt : BoardId → ℕ → ℕ → List WriterSeatView → Type 0
 AreDealt board first count seats = seats ≡ map (λ r. new_writer board r) (range_with_len first count)
 
 -- at least `count` readers' seats of the board
-pub record AreReading (board : BoardId) (count : ℕ) (seats : List ReaderSeatView) : Type 0 where
+pub record AreReadersOf (board : BoardId) (count : ℕ) (seats : List ReaderSeatView) : Type 0 where
   pub enough : count ≤ length seats
   pub all : All (λ s. s.board ≡ board) seats
 

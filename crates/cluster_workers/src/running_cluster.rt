@@ -2,7 +2,7 @@
 ghost use Rattle.std.specs.Prelude.{◌≡◌, ℕ, ◌<◌, Some, length, slice_get, vec_len, IfOk};
 ghost use Rattle.std.specs.Arc.{arc_value};
 ghost use Rattle.commit_board.specs.Seats.{replicas_of, new_reader};
-ghost use Rattle.cluster_workers.specs.RunningClusters.{AreDealt, AreReading, all_workers};
+ghost use Rattle.cluster_workers.specs.RunningClusters.{AreDealt, AreReadersOf, all_workers};
 
 use crate::inboxes::{Inboxes, inboxes_of};
 use crate::turn_taker::TurnTaker;
@@ -68,7 +68,7 @@ fn board_of(
 ) -> Result<(Board, Vec<WriterSeat>, Vec<ReaderSeat>, Vec<ReaderSeat>), AllocError>
     ensures replicas { IfOk result (λ r. replicas_of r.0 ≡ config.now.replicas) }
     ensures writers { IfOk result (λ r. AreDealt r.0 0 config.now.replicas r.1.items) }
-    ensures looking { IfOk result (λ r. AreReading r.0 config.now.replicas r.2.items) }
+    ensures looking { IfOk result (λ r. AreReadersOf r.0 config.now.replicas r.2.items) }
     ensures reader_count { IfOk result (λ r. vec_len r.3 ≡ readers) }
     ensures readers { IfOk result (λ r. (k : ℕ) → k < readers → slice_get r.3.items k ≡ Some (new_reader r.0)) }
 {
@@ -92,7 +92,7 @@ fn workers_of<A: Application>(
     rounds: u32,
 ) -> Result<Vec<Worker<A>>, AllocError>
     requires seats { AreDealt (arc_value board.now) 0 count seats.items }
-    requires looking { AreReading (arc_value board.now) count looking.items }
+    requires looking { AreReadersOf (arc_value board.now) count looking.items }
     requires replicas { length replicas.now ≡ count }
     ensures { IfOk result (λ workers. workers.items ≡ all_workers count rounds) }
 {
@@ -124,8 +124,9 @@ fn workers_of<A: Application>(
 
 impl<A: Application> RunningCluster<A> {
     /// The cluster of these replicas, a worker for each, which ends `rounds` rounds, and `readers` readers' seats of
-    /// the board, besides those of the workers. The replicas must be in ascending order of their numbers, from 0 on; a worker drops its events if its
-    /// replica has another number. The only error is allocation failure.
+    /// the board, besides those of the workers. The replicas must be in ascending order of their numbers, from 0 on; a
+    /// worker drops its events if its replica has another number. The only error is allocation failure, which is also
+    /// answered if the readers' seats, with one for each worker, are more than 2^32 - 1.
     pub fn new(
         alloc: Global,
         config: &Config,

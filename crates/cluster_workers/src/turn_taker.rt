@@ -5,7 +5,7 @@ ghost use Rattle.ledger_model.specs.Lawful.{clock_at};
 ghost use Rattle.ledger_model.specs.Limits.{max_history_len};
 ghost use Rattle.commit_board.specs.Seats.{IsLeastRead};
 ghost use Rattle.replica_turns.specs.Turns.{Takes, TakesSome};
-ghost use Rattle.cluster_workers.specs.Looks.{IsLooked};
+ghost use Rattle.cluster_workers.specs.Looks.{IsNextByBoard};
 
 use abci::Application;
 use commit_board::{Board, ReaderSeat, WriterSeat};
@@ -73,7 +73,7 @@ impl TurnTaker {
         proposed: u32,
     ) -> (u32, OwnEvents)
         ensures round { result.0 ≡ clock_at state.now.entries }
-        ensures own { IsLooked self.old.reader self.new.reader (arc_value self.old.board) state.now proposed result.1 }
+        ensures own { IsNextByBoard self.old.reader self.new.reader (arc_value self.old.board) state.now proposed result.1 }
     {
         let least = self.least();
         (state.clock(), own_of(state, proposed, least))

@@ -51,7 +51,8 @@ Learns m old new =
     → (new.computed ≡ one_more old.computed)
     × ((new.known ≡ added m (answer_by old.ring m) old.known) ⊎ (new.known ≡ old.known))
 
--- what a verifier is told: a known answer is the most recent, or a new one is added, if the key is the ring's; or nothing changes
+-- a verifier takes an answer in, if the key is the ring's: a known one becomes the most recent, and a new one is added; or nothing
+-- changes
 abbrev pub Primes : List ℕ → SignedMessage → Bool → VerifierView → VerifierView → Type 0
 Primes key m answer old new =
     (new.known ≡ old.known)

@@ -1,6 +1,6 @@
 use Rattle.std.proofs.Common.{sym, subst, arith}
 use Rattle.std.proofs.lemmas.Grind.{common_steps, elements}
-use Rattle.cluster_workers.specs.RunningClusters.{AreDealt, AreReading}
+use Rattle.cluster_workers.specs.RunningClusters.{AreDealt, AreReadersOf}
 use Rattle.cluster_workers.proofs.running_cluster.RunningCluster.new.Goals as goal
 
 pub returns-in_err-board-clause-reader_count : goal.returns-in_err-board-clause-reader_count
@@ -40,5 +40,5 @@ workers_of-requires-clause-seats g c =
 
 pub workers_of-requires-clause-looking : goal.workers_of-requires-clause-looking
 workers_of-requires-clause-looking g c =
-    subst (λ b. AreReading b c.args.config.now.replicas c.in_ok-board.looking.items) (sym c.in_ok-board-2.ensures.ok)
+    subst (λ b. AreReadersOf b c.args.config.now.replicas c.in_ok-board.looking.items) (sym c.in_ok-board-2.ensures.ok)
     c.in_ok-board.ensures.looking
