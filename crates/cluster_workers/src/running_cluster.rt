@@ -9,6 +9,7 @@ use crate::turn_taker::TurnTaker;
 use crate::worker::Worker;
 use abci::Application;
 use commit_board::{Board, ReaderSeat, WriterSeat};
+use key_ring::KeyRing;
 use ledger_model::{Config, ReplicaId};
 use locked_replica::State;
 use replica_turns::LockedReplica;
@@ -80,6 +81,29 @@ fn board_of(
     Ok((board, writing, looking, reading))
 }
 
+/// The keys of a cluster, as its first replica has them.
+fn ring_of<A: Application>(
+    alloc: Global,
+    states: &[State<A>],
+) -> Result<Arc<KeyRing>, AllocError> {
+    let ring = match states.first() {
+        Some(state) => state.ring().copy()?,
+        None => KeyRing::new(Vec::new(alloc)),
+    };
+    Ok(Arc::new(alloc, ring)?)
+}
+
+/// The replicas, each behind a lock, and the keys that they share.
+fn share_all<A: Application>(
+    alloc: Global,
+    states: Vec<State<A>>,
+) -> Result<(Vec<Arc<LockedReplica<A>>>, Arc<KeyRing>), AllocError>
+    ensures { IfOk result (λ r. vec_len r.0 ≡ vec_len states) }
+{
+    let ring = ring_of(alloc, &states)?;
+    Ok((lock_all(alloc, states)?, ring))
+}
+
 /// The workers of these replicas, by number. The writers' seats of the board are in the same order; each worker takes one
 /// of the readers' seats. Each worker ends `rounds` rounds.
 fn workers_of<A: Application>(
@@ -88,6 +112,7 @@ fn workers_of<A: Application>(
     seats: Vec<WriterSeat>,
     looking: Vec<ReaderSeat>,
     replicas: &[Arc<LockedReplica<A>>],
+    ring: &Arc<KeyRing>,
     count: u8,
     rounds: u32,
 ) -> Result<Vec<Worker<A>>, AllocError>
@@ -117,7 +142,8 @@ fn workers_of<A: Application>(
         };
         let replica = Arc::try_clone(&replicas[usize::from(number)])?;
         let turn_taker = TurnTaker::new(Arc::try_clone(board)?, seat, reader);
-        workers.push(Worker::new(alloc, replica, turn_taker, receiver, senders, rounds))?;
+        let ring = Arc::try_clone(ring)?;
+        workers.push(Worker::new(alloc, replica, turn_taker, receiver, senders, ring, rounds))?;
     }
     Ok(workers)
 }
@@ -143,13 +169,14 @@ impl<A: Application> RunningCluster<A> {
     {
         let (board, seats, looking, reading) = board_of(alloc, config, readers)?;
         let board = Arc::new(alloc, board)?;
-        let replicas = lock_all(alloc, states)?;
+        let (replicas, ring) = share_all(alloc, states)?;
         let workers = workers_of(
             alloc,
             &board,
             seats,
             looking,
             &replicas,
+            &ring,
             config.replicas,
             rounds,
         )?;

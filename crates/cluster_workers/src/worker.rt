@@ -9,13 +9,23 @@ use crate::stop::Stop;
 use crate::turn_taker::{TurnOutcome, TurnTaker};
 use abci::Application;
 use bytes::Bytes;
+use key_ring::KeyRing;
 use ledger_model::{Event, ReplicaId, Sent};
 use locked_replica::ApplyFault;
-use replica_turns::{LockedReplica, OwnEvents, WaitingFrames, events_of, offered, sent_at};
+use replica_turns::{
+    LockedReplica, OwnEvents, WaitingFrames, arrived_frames, events_of, keep_unknown, offered,
+    sent_at,
+};
+use signed_frames::Frame;
 use std::alloc::{AllocError, Global};
 use std::marker::Model;
 use std::mem;
 use std::sync::{Arc, Wait};
+use std::thread::Threads;
+use verify_pool::{NoGate, verify_all};
+
+/// The number of threads that check the signatures of frames that arrived together, this worker's among them.
+const CHECKERS: u8 = 2;
 
 /// The worker of one replica. A thread of its own runs it.
 pub struct Worker<A: Application> {
@@ -24,6 +34,8 @@ pub struct Worker<A: Application> {
     turn_taker: TurnTaker,
     receiver: Receiver,
     senders: Vec<Sender>,
+    /// The keys under which frames are checked before a turn.
+    ring: Arc<KeyRing>,
     rounds: u32,
     /// The number of rounds that have ended, including those whose end was refused.
     ended: u32,
@@ -53,9 +65,10 @@ impl<A: Application> Drop for Worker<A> {
         let Worker {
             alloc: _alloc,
             replica: _replica,
-            turn_taker: _post,
-            receiver: _inlet,
-            senders: _outlets,
+            turn_taker: _turn_taker,
+            receiver: _receiver,
+            senders: _senders,
+            ring: _ring,
             rounds: _rounds,
             ended: _ended,
             proposed: _proposed,
@@ -97,6 +110,7 @@ impl<A: Application> Worker<A> {
         turn_taker: TurnTaker,
         receiver: Receiver,
         senders: Vec<Sender>,
+        ring: Arc<KeyRing>,
         rounds: u32,
     ) -> Self
         ensures { result ≡ record { replica = turn_taker.seat.replica; rounds = rounds } }
@@ -107,6 +121,7 @@ impl<A: Application> Worker<A> {
             turn_taker,
             receiver,
             senders,
+            ring,
             rounds,
             ended: 0,
             proposed: 0,
@@ -130,10 +145,38 @@ impl<A: Application> Worker<A> {
         self.turn_taker.look(&*state, self.proposed)
     }
 
-    /// Takes as many frames from the inbox as there is room for, while the round `clock` is open. Returns how many it took.
-    fn take_in<R: Wait>(&mut self, rt: &R, clock: u32) -> usize {
+    /// The frames that arrived in time, while the round `clock` was open, and of which the replica doesn't know whether
+    /// they are signed; none if memory runs out.
+    fn unknown_frames<R: Wait>(&self, rt: &R, clock: u32, arrived: &[Bytes]) -> Vec<Frame> {
+        let Ok(mut frames) = arrived_frames(self.alloc, clock, arrived) else {
+            return Vec::new(self.alloc);
+        };
+        let state = self.replica.lock(rt);
+        keep_unknown(state.verifier(), &mut frames);
+        frames
+    }
+
+    /// Checks the signatures of the frames that arrived while other threads may use the replica, and hands it the answers.
+    /// Without memory it leaves the checks to the replica's turn.
+    fn check<R: Threads + Wait + Sync>(&self, rt: &R, clock: u32, arrived: &[Bytes]) {
+        let frames = self.unknown_frames(rt, clock, arrived);
+        if frames.is_empty() {
+            return;
+        }
+        let ring = &*self.ring;
+        let Ok(answers) = verify_all(rt, self.alloc, ring, &frames, CHECKERS, &NoGate) else {
+            return;
+        };
+        let mut state = self.replica.lock(rt);
+        state.prime(ring, &frames, &answers);
+    }
+
+    /// Takes as many frames from the inbox as there is room for, while the round `clock` is open, and checks their
+    /// signatures. Returns how many it took.
+    fn take_in<R: Threads + Wait + Sync>(&mut self, rt: &R, clock: u32) -> usize {
         let frames = take_frames(rt, self.alloc, &mut self.receiver, self.frames.room());
         let taken = frames.len();
+        self.check(rt, clock, &frames);
         let _ = self.frames.take_in(self.alloc, clock, frames);
         taken
     }
@@ -221,7 +264,7 @@ impl<A: Application> Worker<A> {
     }
 
     /// One pass of the loop. It ends a round if one is due and may end.
-    fn pass<R: Wait, C: RoundClock, G: TurnGate>(
+    fn pass<R: Threads + Wait + Sync, C: RoundClock, G: TurnGate>(
         &mut self,
         rt: &R,
         clock: &C,
@@ -264,7 +307,7 @@ impl<A: Application> Worker<A> {
     }
 
     /// Runs until the rounds are over, or the cluster is asked to stop, and then runs the blocks that are already decided.
-    pub fn run<R: Wait, C: RoundClock, G: TurnGate>(
+    pub fn run<R: Threads + Wait + Sync, C: RoundClock, G: TurnGate>(
         mut self,
         rt: &R,
         clock: &C,

@@ -106,7 +106,7 @@ fn lends(frame: &Frame, place: usize, signer: u8, signature: &[u8]) -> bool {
     match frame.lent_reports().nth(place) {
         Some(lent) => {
             lent.signer().number() == signer
-                && lent.bytes() == report.as_slice()
+                && lent.message() == report.as_slice()
                 && lent.signature() == signature
         }
         None => false,

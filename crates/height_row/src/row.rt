@@ -11,6 +11,7 @@ use ledger_model::{Batch, Config, Height, Ignored, ProposeRefusal, ReplicaId};
 use signed_frames::Frame;
 use std::alloc::{AllocError, Global};
 use std::marker::Model;
+use verify_cache::CheckSignatures;
 
 /// The heights that a replica has opened and not retired, in ascending order, and its floor, below which all are retired.
 /// Contracts see a `HeightRowView`.
@@ -211,8 +212,39 @@ impl HeightRow {
         ensures same { IsSameReplica self.old self.new }
         ensures own { AreOwn self.new }
     {
+        let mut checks = ring;
+        self.read_with(alloc, &mut checks, frame, clock)
+    }
+
+    /// Does what [`HeightRow::read`] does, under the keys of whoever checks signatures.
+    pub fn read_with<C: CheckSignatures>(
+        &mut self,
+        alloc: Global,
+        checks: &mut C,
+        frame: Frame,
+        clock: u32,
+    ) -> Result<Result<(), Ignored>, AllocError>
+        requires signer { signer_of frame.statement < self.old.config.replicas }
+        requires open { is_some (row_at self.old.rows (height_of frame.statement)) ≡ true }
+        requires clock { clock ≤ last_round }
+        // The answer and its effect are those of the definitions, on every log that the height matches.
+        ensures answer { IfOk result (λ r. (row : InstanceView) → row_at self.old.rows (height_of frame.statement) ≡ Some row → (log : List Note)
+            → MatchesLog (C.ring checks.old) row log → clock_of log ≡ clock → r ≡ answer_to row.config (C.ring checks.old) log frame) }
+        ensures read { IfOk result (λ r. (row new : InstanceView) → row_at self.old.rows (height_of frame.statement) ≡ Some row
+            → row_at self.new.rows (height_of frame.statement) ≡ Some new → (log : List Note)
+            → MatchesLog (C.ring checks.old) row log → clock_of log ≡ clock
+            → IfOk r (λ x. MatchesLog (C.ring checks.old) new (log ++ Read clock frame ∷ []))) }
+        ensures ignored { IfOk result (λ r. OnErr r (self.new ≡ self.old)) }
+        ensures err { OnErr result (self.new ≡ self.old) }
+        ensures open { is_some (row_at self.new.rows (height_of frame.statement)) ≡ true }
+        ensures apart { AreApart (height_of frame.statement) self.old.rows self.new.rows }
+        ensures same { IsSameReplica self.old self.new }
+        ensures own { AreOwn self.new }
+        // The keys are the same.
+        ensures keys { C.ring checks.new ≡ C.ring checks.old }
+    {
         let place = self.position(frame.statement().height());
-        self.instances[place].read(alloc, ring, frame, clock)
+        self.instances[place].read_with(alloc, checks, frame, clock)
     }
 
     /// The plan for opening the next round at an open height: the statement that the replica chooses to send, and all

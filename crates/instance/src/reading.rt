@@ -11,9 +11,10 @@ use ledger_model::{
     Ack, Batch, Config, Ignored, Place, Signature, SignedReport, Statement, has_phase, has_place,
     phase_of, place_of,
 };
-use lock_proofs::{LockFault, LockFrame, check_lock, is_signed};
+use lock_proofs::{LockFault, LockFrame, check_lock_with};
 use signed_frames::Frame;
 use std::alloc::{AllocError, Global};
+use verify_cache::CheckSignatures;
 
 /// Whether the statement is no lock, or a lock of its phase's owner.
 fn has_owner(config: &Config, statement: &Statement) -> bool
@@ -125,21 +126,22 @@ impl Instance {
     }
 
     /// Reads the first report of its signer in this phase, if its signature verifies.
-    fn read_report(
+    fn read_report<C: CheckSignatures>(
         &mut self,
         alloc: Global,
-        ring: &KeyRing,
+        checks: &mut C,
         frame: Frame,
     ) -> Result<Result<(), Ignored>, AllocError>
         requires kind { IsTrue (is_report (λ r. true) frame.statement) }
         requires signer { signer_of frame.statement < self.old.config.replicas }
         requires first { read_of self.old.reports (signer_of frame.statement) ≡ None }
         requires frame { IsFrame frame }
-        ensures answer { IfOk result (λ r. r ≡ first_of (report_causes ring.now frame)) }
+        ensures answer { IfOk result (λ r. r ≡ first_of (report_causes (C.ring checks.old) frame)) }
         ensures after { (round : ℕ) → IfOk result (λ r. self.new ≡ if_accepted r (after_read self.old round frame) self.old) }
         ensures err { OnErr result (self.new ≡ self.old) }
+        ensures keys { C.ring checks.new ≡ C.ring checks.old }
     {
-        if !is_signed(ring, &frame) {
+        if !checks.is_signed(&frame.signed_part()) {
             return Ok(Err(Ignored::BadSignature));
         }
         self.take_report(alloc, frame)?;
@@ -163,14 +165,15 @@ impl Instance {
     }
 
     /// Reads the first acknowledgement of its signer in this phase, if its signature verifies and it is of this replica's own lock.
-    fn read_ack(&mut self, ring: &KeyRing, frame: Frame) -> Result<(), Ignored>
+    fn read_ack<C: CheckSignatures>(&mut self, checks: &mut C, frame: Frame) -> Result<(), Ignored>
         requires kind { IsTrue (is_ack (λ a. true) frame.statement) }
         requires signer { signer_of frame.statement < self.old.config.replicas }
         requires first { read_of self.old.acks (signer_of frame.statement) ≡ None }
-        ensures answer { result ≡ first_of (ack_causes self.old ring.now frame) }
+        ensures answer { result ≡ first_of (ack_causes self.old (C.ring checks.old) frame) }
         ensures after { (round : ℕ) → self.new ≡ if_accepted result (after_read self.old round frame) self.old }
+        ensures keys { C.ring checks.new ≡ C.ring checks.old }
     {
-        if !is_signed(ring, &frame) {
+        if !checks.is_signed(&frame.signed_part()) {
             return Err(Ignored::BadSignature);
         }
         let ack = into_ack(frame);
@@ -242,9 +245,9 @@ impl Instance {
 
     /// Reads a lock of its phase's owner, if it is valid: takes it in the round of locks, and lets it release others in
     /// a lock-release round.
-    fn read_lock(
+    fn read_lock<C: CheckSignatures>(
         &mut self,
-        ring: &KeyRing,
+        checks: &mut C,
         frame: Frame,
         round: u32,
     ) -> Result<Result<(), Ignored>, AllocError>
@@ -252,11 +255,12 @@ impl Instance {
         requires round { round ≤ last_round }
         requires owner { has_owner self.old.config frame.statement ≡ true }
         requires frame { IsFrame frame }
-        ensures answer { IfOk result (λ r. r ≡ first_of (lock_causes self.old ring.now round frame)) }
+        ensures answer { IfOk result (λ r. r ≡ first_of (lock_causes self.old (C.ring checks.old) round frame)) }
         ensures after { IfOk result (λ r. self.new ≡ if_accepted r (after_read self.old round frame) self.old) }
         ensures err { OnErr result (self.new ≡ self.old) }
+        ensures keys { C.ring checks.new ≡ C.ring checks.old }
     {
-        match check_lock(&self.config, ring, frame) {
+        match check_lock_with(&self.config, checks, frame) {
             Ok(lock) => self.read_valid(lock, round),
             Err(fault) => Ok(Err(cause_of(fault))),
         }
@@ -285,13 +289,39 @@ impl Instance {
         ensures err { OnErr result (self.new ≡ self.old) }
         ensures same { IsSameHeight self.old self.new }
     {
+        let mut checks = ring;
+        self.read_with(alloc, &mut checks, frame, clock)
+    }
+
+    /// Does what [`Instance::read`] does, under the keys of whoever checks signatures.
+    pub fn read_with<C: CheckSignatures>(
+        &mut self,
+        alloc: Global,
+        checks: &mut C,
+        frame: Frame,
+        clock: u32,
+    ) -> Result<Result<(), Ignored>, AllocError>
+        requires signer { signer_of frame.statement < self.old.config.replicas }
+        requires height { height_of frame.statement ≡ self.old.height }
+        requires clock { clock ≤ last_round }
+        // The answer and its effect are those of the definitions, on every log that the instance matches.
+        ensures answer { IfOk result (λ r. (log : List Note) → MatchesLog (C.ring checks.old) self.old log → clock_of log ≡ clock
+            → r ≡ answer_to self.old.config (C.ring checks.old) log frame) }
+        ensures read { IfOk result (λ r. (log : List Note) → MatchesLog (C.ring checks.old) self.old log → clock_of log ≡ clock
+            → IfOk r (λ x. MatchesLog (C.ring checks.old) self.new (log ++ Read clock frame ∷ []))) }
+        ensures ignored { IfOk result (λ r. OnErr r (self.new ≡ self.old)) }
+        ensures err { OnErr result (self.new ≡ self.old) }
+        ensures same { IsSameHeight self.old self.new }
+        // The keys are the same.
+        ensures keys { C.ring checks.new ≡ C.ring checks.old }
+    {
         if let Err(cause) = self.judge(frame.statement(), clock) {
             return Ok(Err(cause));
         }
         match frame.statement() {
-            Statement::Report(_) => self.read_report(alloc, ring, frame),
-            Statement::Lock(_) => self.read_lock(ring, frame, clock),
-            Statement::Ack(_) => Ok(self.read_ack(ring, frame)),
+            Statement::Report(_) => self.read_report(alloc, checks, frame),
+            Statement::Lock(_) => self.read_lock(checks, frame, clock),
+            Statement::Ack(_) => Ok(self.read_ack(checks, frame)),
         }
     }
 }

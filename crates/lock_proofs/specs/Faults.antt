@@ -1,25 +1,20 @@
 -- Why a lock isn't valid, and when a statement counts as signed.
-use Rattle.std.specs.Prelude.{◌==◌, ℕ, Bool, not, ◌&&◌, IsTrue, List, [], ◌∷◌, Result, Ok, Err, slice_get}
+use Rattle.std.specs.Prelude.{◌==◌, ℕ, Bool, not, ◌&&◌, IsTrue, List, [], ◌∷◌, Result, Ok, Err}
 use Rattle.std.specs.List.{list_all}
 use Rattle.ledger_model.specs.declared.config.Config.{Config}
 use Rattle.ledger_model.specs.declared.statement.SignedReport.{SignedReport}
 use Rattle.ledger_model.specs.declared.statement.Statement.{Statement}
 use Rattle.ledger_model.specs.Rounds.{owner_of}
 use Rattle.ledger_model.specs.Notes.{Has}
-use Rattle.ledger_model.specs.Rules.{Ring, is_signed, is_signed_by, with_signature}
+use Rattle.ledger_model.specs.Rules.{Ring, is_signed, with_signature}
 use Rattle.ledger_model.specs.Validity.{is_quorate, is_supporting}
 use Rattle.lock_proofs.specs.LockTables.{SignedLock, as_statement}
-use Rattle.signed_frames.specs.Lending.{LentReportView}
 use Rattle.lock_proofs.specs.declared.fault.LockFault.{LockFault}
 use Rattle.lock_proofs.specs.declared.fault.LockFault.TheVariants as fault
 
 -- the reports of the proof have their signers' signatures
 abbrev pub are_signed : Ring → List SignedReport → Bool
 are_signed ring proof = list_all (λ p. is_signed ring (with_signature p)) proof
-
--- a report borrowed from a frame has its signer's signature
-abbrev pub is_lent_signed : Ring → LentReportView → Bool
-is_lent_signed ring l = is_signed_by (slice_get ring l.signer) l.bytes l.signature
 
 -- the faults in order, each with whether it applies
 abbrev pub faults : Config → Ring → SignedLock → List (Bool × LockFault)

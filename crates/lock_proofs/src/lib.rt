@@ -13,6 +13,6 @@ mod table;
 
 pub use checks::{is_quorate, is_supporting};
 pub use fault::{LockFault, TableFull};
-pub use lock_frame::{LockFrame, check_lock};
+pub use lock_frame::{LockFrame, check_lock, check_lock_with};
 pub use signatures::is_signed;
 pub use table::LockTable;

@@ -8,10 +8,11 @@ ghost use Rattle.lock_proofs.specs.Faults.{faults, IsBacked, IsSigned, without_l
 
 use crate::LockFault;
 use crate::checks::{is_of_owner, is_quorate, is_supporting};
-use crate::signatures::{are_signed, is_signed};
+use crate::signatures::are_signed;
 use key_ring::KeyRing;
 use ledger_model::{Batch, Config, Lock, Phase, Statement};
 use signed_frames::Frame;
+use verify_cache::CheckSignatures;
 use std::marker::Model;
 
 /// The frame of a lock, with the parts that were read from it. Contracts see the lock and its signature. The type
@@ -85,9 +86,14 @@ impl LockFrame {
 }
 
 /// Returns the first fault of the lock in the frame, if it has one.
-fn examine(config: &Config, ring: &KeyRing, frame: &Frame) -> Result<(), LockFault>
+fn examine<C: CheckSignatures>(
+    config: &Config,
+    checks: &mut C,
+    frame: &Frame,
+) -> Result<(), LockFault>
     requires { IsLockFrame frame.now }
-    ensures { result ≡ first_of (faults config.now ring.now (lock_in frame.now)) }
+    ensures fault { result ≡ first_of (faults config.now (C.ring checks.old) (lock_in frame.now)) }
+    ensures same { C.ring checks.new ≡ C.ring checks.old }
 {
     let Statement::Lock(lock) = frame.statement() else {
         unreachable!()
@@ -95,10 +101,10 @@ fn examine(config: &Config, ring: &KeyRing, frame: &Frame) -> Result<(), LockFau
     if !is_of_owner(config, lock) {
         return Err(LockFault::NotOwner);
     }
-    if !is_signed(ring, frame) {
+    if !checks.is_signed(&frame.signed_part()) {
         return Err(LockFault::BadSignature);
     }
-    if !is_quorate(config, lock) || !are_signed(ring, frame) {
+    if !is_quorate(config, lock) || !are_signed(checks, frame) {
         return Err(LockFault::BadProof);
     }
     if !is_supporting(lock) {
@@ -124,7 +130,31 @@ pub fn check_lock(config: &Config, ring: &KeyRing, frame: Frame) -> Result<LockF
     ensures only { IsSigned ring.now (lock_in frame) → ValidLock (IsBacked ring.now) config.now (lock_in frame).lock
         → IsOk result }
 {
+    let mut checks = ring;
+    check_lock_with(config, &mut checks, frame)
+}
+
+/// Does what [`check_lock`] does, under the keys of whoever checks signatures.
+pub fn check_lock_with<C: CheckSignatures>(
+    config: &Config,
+    checks: &mut C,
+    frame: Frame,
+) -> Result<LockFrame, LockFault>
+    requires { IsLockFrame frame }
+    // Returns the first fault that applies and, if none does, the lock of the frame.
+    ensures fault { without_lock result ≡ first_of (faults config.now (C.ring checks.old) (lock_in frame)) }
+    ensures lock { IfOk result (λ lock. as_statement lock ≡ frame) }
+
+    // A lock that is returned is valid.
+    ensures valid { IfOk result (λ lock. ValidLock (IsBacked (C.ring checks.old)) config.now lock.lock) }
+
+    // A valid lock whose own signatures verify is returned.
+    ensures only { IsSigned (C.ring checks.old) (lock_in frame) → ValidLock (IsBacked (C.ring checks.old)) config.now (lock_in frame).lock
+        → IsOk result }
+    // The keys are the same.
+    ensures same { C.ring checks.new ≡ C.ring checks.old }
+{
     let lock = LockFrame { frame };
-    examine(config, ring, &lock.frame)?;
+    examine(config, checks, &lock.frame)?;
     Ok(lock)
 }

@@ -4,10 +4,12 @@ ghost use Rattle.std.specs.Prelude.{◌≡◌};
 ghost use Rattle.std.specs.List.{list_all};
 ghost use Rattle.ledger_model.specs.Rules.{is_signed};
 ghost use Rattle.signed_frames.specs.Lending.{proof_of};
-ghost use Rattle.lock_proofs.specs.Faults.{are_signed, is_lent_signed};
+ghost use Rattle.lock_proofs.specs.Faults.{are_signed};
+ghost use Rattle.verify_cache.specs.Checks.{is_part_signed};
 
 use key_ring::KeyRing;
 use signed_frames::{Frame, LentReports};
+use verify_cache::CheckSignatures;
 
 /// Whether the frame's signature is its signer's.
 pub fn is_signed(ring: &KeyRing, frame: &Frame) -> bool
@@ -18,18 +20,20 @@ pub fn is_signed(ring: &KeyRing, frame: &Frame) -> bool
 }
 
 /// Whether each report in a lock's frame is signed by its signer, over the report's bytes in the frame.
-pub fn are_signed(ring: &KeyRing, frame: &Frame) -> bool
-    ensures { result ≡ are_signed ring.now (proof_of frame.now.statement) }
+pub fn are_signed<C: CheckSignatures>(checks: &mut C, frame: &Frame) -> bool
+    ensures answer { result ≡ are_signed (C.ring checks.old) (proof_of frame.now.statement) }
+    ensures same { C.ring checks.new ≡ C.ring checks.old }
 {
-    do_verify(ring, frame.lent_reports())
+    do_verify(checks, frame.lent_reports())
 }
 
 /// Whether each of the reports is signed by its signer.
-fn do_verify(ring: &KeyRing, reports: LentReports<'_>) -> bool
-    ensures { result ≡ list_all (is_lent_signed ring.now) reports.entry }
+fn do_verify<C: CheckSignatures>(checks: &mut C, reports: LentReports<'_>) -> bool
+    ensures answer { result ≡ list_all (is_part_signed (C.ring checks.old)) reports.entry }
+    ensures same { C.ring checks.new ≡ C.ring checks.old }
 {
-    for lent in reports {
-        if !ring.verifies(lent.signer(), lent.bytes(), lent.signature()) {
+    for part in reports {
+        if !checks.is_signed(&part) {
             return false;
         }
     }

@@ -8,9 +8,11 @@ use abci::{Application, Info};
 use key_ring::{KeyRing, Signer};
 use ledger_model::{Batch, Config, Entries, Entry, Event, Height, History, ReplicaId, Reply};
 use replica_core::Core;
+use signed_frames::Frame;
 use std::alloc::{AllocError, Global};
 use std::hash::RandomState;
 use std::marker::Model;
+use verify_cache::Verifier;
 
 /// The most entries of a history.
 pub const MAX_ENTRIES: usize = Entries::MAX_LEN;
@@ -45,7 +47,7 @@ impl<A: Application> Model for State<A> {
 }
 
 impl<A: Application> State<A> {
-    ghost use Rattle.std.specs.Prelude.{◌≡◌, ◌<◌, ◌≤◌, ◌+◌, ◌↔◌, ◌∷◌, ◌++◌, [], false, length, slice_get, Some, IfOk, OnErr, OnOk, IsErrOf, IsTrue, ◌==◌};
+    ghost use Rattle.std.specs.Prelude.{◌≡◌, ◌<◌, ◌≤◌, ◌+◌, ◌↔◌, ◌∷◌, ◌++◌, [], false, length, map, slice_get, Some, IfOk, OnErr, OnOk, IsErrOf, IsTrue, ◌==◌};
     ghost use Rattle.std.specs.Option.{option_copied};
     ghost use Rattle.ledger_model.specs.declared.reply.Reply.{Reply};
     ghost use Rattle.ledger_model.specs.Limits.{max_height, max_history_len};
@@ -53,14 +55,15 @@ impl<A: Application> State<A> {
     ghost use Rattle.ledger_model.specs.Commits.{commits_of, floor_of, decision_at};
     ghost use Rattle.ledger_model.specs.Lawful.{Lawful, Replay, clock_at, is_signed_reply};
     ghost use Rattle.ledger_model.specs.Logs.{is_mute};
+    ghost use Rattle.ledger_model.specs.Rules.{is_signed};
     ghost use Rattle.key_ring.specs.Signers.{key_of, leaves_of};
     ghost use Rattle.replica_core.specs.Steps.{UsesLeaves};
     ghost use Rattle.replica_core.specs.Facts.{block_at, info_reply, AreClosed};
     ghost use Rattle.locked_replica.specs.States.{StateView, IsMember, AccountsForLeaves, RunsAlone, UsesAsSigned, due_next, is_mute_after, keys_in, new_state, signs_at};
 
     /// A replica with an empty history. The application must be in its opening state, of the configured kind. The ring
-    /// has the public keys of the replicas by number. The pool hashes with the first of the random keys; the second is
-    /// reserved for a further index and not used. The only error is allocation failure.
+    /// has the public keys of the replicas by number. The pool and the verifier hash with the first of the random keys; the
+    /// second is reserved for a further index and not used. The only error is allocation failure.
     pub fn new(
         alloc: Global,
         config: Config,
@@ -96,6 +99,31 @@ impl<A: Application> State<A> {
         ensures { result.now ≡ self.now.config }
     {
         self.core.config()
+    }
+
+    /// The public keys of the replicas, by number.
+    pub fn ring(&self) -> &KeyRing
+        ensures { result.now ≡ self.now.ring }
+    {
+        self.core.ring()
+    }
+
+    /// The verifier, which has the ring and knows the answers of the last checks. What it knows is no part of the state that
+    /// contracts see.
+    pub fn verifier(&self) -> &Verifier
+        ensures { result.now.ring ≡ self.now.ring }
+    {
+        self.core.verifier()
+    }
+
+    /// Takes in what was computed elsewhere: whether each of these frames is signed under this ring's keys, in order. A
+    /// delivery of one of them, or of a frame that has the same reports, then doesn't hash it again. It is no event. Answers
+    /// under other keys than this replica's ring has are left out, and so are those for which memory is refused.
+    pub fn prime(&mut self, ring: &KeyRing, frames: &[Frame], answers: &[bool])
+        requires { answers.now ≡ map (is_signed ring.now) frames.now }
+        ensures { self.new ≡ self.old }
+    {
+        self.core.prime(ring, frames, answers);
     }
 
     /// The number of entries of the history, at most 65,536.

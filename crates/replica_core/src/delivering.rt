@@ -47,7 +47,8 @@ impl<A: Application> ReplicaState<A> {
         ensures ignored { IfOk result (λ r. OnErr r (self.new ≡ self.old)) }
         ensures err { OnErr result (self.new ≡ self.old) }
     {
-        self.rows.read(alloc, &self.ring, frame, self.clock)
+        self.rows
+            .read_with(alloc, &mut self.verifier, frame, self.clock)
     }
 
     /// Reads or ignores a frame; it is ignored with the first cause that applies, and then changes nothing.

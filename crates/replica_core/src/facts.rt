@@ -29,7 +29,7 @@ impl<A: Application> ReplicaState<A> {
     fn ring(&self) -> &KeyRing
         ensures { result.now ≡ self.now.ring }
     {
-        &self.ring
+        self.verifier.ring()
     }
 
     pub(crate) fn clock(&self) -> u32

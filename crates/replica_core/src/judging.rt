@@ -21,9 +21,10 @@ impl<A: Application> ReplicaState<A> {
     fn is_signed(&self, frame: &Frame) -> bool
         ensures { result ≡ is_signed self.now.ring frame.now }
     {
-        let signer = frame.statement().signer();
-        self.ring
-            .verifies(signer, frame.statement_bytes(), frame.signature())
+        let part = frame.signed_part();
+        self.verifier
+            .ring()
+            .verifies(part.signer(), part.message(), part.signature())
     }
 
     /// Whether a replica that is not mute may make this at the open height as the next round opens.

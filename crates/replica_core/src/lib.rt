@@ -26,6 +26,7 @@ mod sending;
 mod shown_frames;
 mod signing;
 mod submitting;
+mod verifying;
 
 pub use follower::Follower;
 pub use replica::Core;

@@ -37,7 +37,8 @@ impl<A: Application> Core<A> {
     ghost use Rattle.replica_core.specs.Cores.{CoreView, IsSameReplica, leaves_due, is_mute_then};
 
     /// A core before the first event. The application must be in its opening state, of the configured kind, and the ring must
-    /// have the replica's own key at its number. The pool hashes with the random keys. The only error is allocation failure.
+    /// have the replica's own key at its number. The pool and the verifier hash with the random keys. The only error is allocation
+    /// failure.
     pub fn new(
         alloc: Global,
         config: Config,

@@ -8,13 +8,15 @@ use ledger_model::{Batch, Config, ReplicaId};
 use std::alloc::{AllocError, Global};
 use std::hash::RandomState;
 use std::marker::Model;
+use verify_cache::Verifier;
 
 /// The floor and the open heights, the pool, the application and what was committed to it, the open round, and whether the replica is mute.
 /// Contracts see a `ReplicaStateView`.
 pub(crate) struct ReplicaState<A: Application> {
     pub(crate) config: Config,
     pub(crate) id: ReplicaId,
-    pub(crate) ring: KeyRing,
+    /// The keys, and which signatures are known to be valid under them.
+    pub(crate) verifier: Verifier,
     pub(crate) rows: HeightRow,
     pub(crate) pool: Pool,
     pub(crate) executor: Executor<A>,
@@ -29,7 +31,7 @@ impl<A: Application> Drop for ReplicaState<A> {
         let ReplicaState {
             config: _config,
             id: _id,
-            ring: _ring,
+            verifier: _verifier,
             rows: _rows,
             pool: _pool,
             executor: _executor,
@@ -51,7 +53,7 @@ impl<A: Application> Model for ReplicaState<A> {
     ghost view = { λ k. record {
       config = k.config;
       id = k.id;
-      ring = k.ring;
+      ring = k.verifier.ring;
       floor = k.rows.floor;
       rows = k.rows.rows;
       pool = k.pool;
@@ -87,10 +89,11 @@ impl<A: Application> ReplicaState<A> {
         ensures { IfOk result (λ kept. kept ≡ new_replica_state config id ring) }
     {
         let executor = Executor::new(app)?;
+        let verifier = Verifier::new(alloc, ring, random)?;
         Ok(ReplicaState {
             config,
             id,
-            ring,
+            verifier,
             rows: HeightRow::new(alloc, &config, id),
             pool: Pool::new(alloc, random),
             executor,

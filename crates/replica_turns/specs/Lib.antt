@@ -3,3 +3,4 @@ pub mod Rounds
 pub mod OwnEvents
 pub mod Clients
 pub mod Waiting
+pub mod Arrivals

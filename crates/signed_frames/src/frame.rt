@@ -1,7 +1,8 @@
 //! A frame: the bytes of a signed statement, and borrowed parts of them.
-use crate::LentReports;
-use crate::lending::reports_in;
-use crate::parsing::{message_in, parts_of};
+use crate::lending::{LentReports, reports_in};
+use crate::parsing::{LENGTH_LEN, message_in, parts_of};
+use crate::signed_part::SignedPart;
+use crate::HEADER_LEN;
 use bytes::Bytes;
 use ledger_model::Statement;
 use statements::DecodeFault;
@@ -45,7 +46,7 @@ impl Frame {
     ghost use Rattle.ledger_model.specs.Spelling.{statement_bytes, frame_bytes, IsFrame, SpellsFrame};
     ghost use Rattle.ledger_model.specs.Reading.{reading};
     ghost use Rattle.statements.specs.Reads.{Gives};
-    ghost use Rattle.signed_frames.specs.Lending.{lent_of, proof_of};
+    ghost use Rattle.signed_frames.specs.Lending.{lent_of, own_part, proof_of};
     ghost use Rattle.signed_frames.specs.Parts.{signed_by_last, HoldsFrame};
 
     /// The frame that all of the bytes are. `Malformed` comes if they are no frame, `NoMemory` if memory ran out.
@@ -108,12 +109,27 @@ impl Frame {
         &self.bytes.as_slice()[start..]
     }
 
+    /// The statement's bytes and the signature over them, with the signer.
+    pub fn signed_part(&self) -> SignedPart<'_>
+        ensures { result ≡ own_part self.now }
+    {
+        let signature_start = self.bytes.len() - self.signature_len;
+        SignedPart {
+            signer: self.statement.signer(),
+            frame: &self.bytes,
+            start: HEADER_LEN,
+            end: signature_start - LENGTH_LEN,
+            signature_start,
+            signature_end: self.bytes.len(),
+        }
+    }
+
     /// The signed reports of the lock's proof, in order; none if the statement is no lock. Nothing is copied: the
     /// iterator finds the reports in one pass over the frame.
     pub fn lent_reports(&self) -> LentReports<'_>
         ensures { result ≡ map lent_of (proof_of self.now.statement) }
     {
-        reports_in(self.statement_bytes(), &self.statement)
+        reports_in(&self.bytes, &self.statement, self.signature_len)
     }
 
     /// The bytes of the whole frame, which are shared and not copied.

@@ -7,13 +7,15 @@ pub mod laws;
 mod lending;
 mod parsing;
 mod reader;
+mod signed_part;
 mod splitting;
 mod unsigned;
 
 pub use fault::FrameFault;
 pub use frame::Frame;
-pub use lending::{LentReport, LentReports};
+pub use lending::LentReports;
 pub use reader::FrameReader;
+pub use signed_part::SignedPart;
 pub use unsigned::UnsignedFrame;
 
 /// The most bytes of a frame's body.

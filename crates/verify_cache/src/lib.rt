@@ -4,8 +4,10 @@
 //! [`Verifier`] hashes each once, and answers from its memory while the check is among the last 1024.
 #![tactic(auto)]
 
+mod checking;
 mod signed;
 mod verifier;
 
+pub use checking::CheckSignatures;
 pub use signed::SignedMessage;
 pub use verifier::Verifier;

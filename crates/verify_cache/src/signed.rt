@@ -1,6 +1,7 @@
 //! What a check is of: the signer, the message and the signature.
 use bytes::Bytes;
 use ledger_model::ReplicaId;
+use signed_frames::SignedPart;
 use std::alloc::AllocError;
 
 /// A signature, the message that it is of, and who is said to have signed.
@@ -42,6 +43,17 @@ impl SignedMessage {
             signer,
             message: message.clone()?,
             signature: signature.clone()?,
+        })
+    }
+
+    /// What is signed in a part of a frame: it shares the frame's bytes. The only error is allocation failure.
+    pub fn of_part(part: &SignedPart<'_>) -> Result<Self, AllocError>
+        ensures { IfOk result (λ signed. signed ≡ signed_of part.now.signer part.now.message part.now.signature) }
+    {
+        Ok(SignedMessage {
+            signer: part.signer(),
+            message: part.share_message()?,
+            signature: part.share_signature()?,
         })
     }
 

@@ -1,9 +1,10 @@
 //! The verifier: the ring, and the answers of its last checks.
-ghost use Rattle.std.specs.Prelude.{◌≡◌, ◌⊎◌, ◌↔◌, true, false, [], Some, None, is_some, slice_get, IfOk, IfSome, IsTrue};
+ghost use Rattle.std.specs.Prelude.{◌≡◌, ◌⊎◌, ◌↔◌, true, false, [], Some, None, is_some, slice_get, map, IfOk, IfSome, IsTrue};
 ghost use Rattle.std.specs.Map.{lookup};
 ghost use Rattle.lru.specs.LruCache.{promoted};
-ghost use Rattle.ledger_model.specs.Rules.{is_signed_by};
+ghost use Rattle.ledger_model.specs.Rules.{is_signed, is_signed_by};
 ghost use Rattle.ledger_model.specs.Signatures.{verifies};
+ghost use Rattle.verify_cache.specs.Checks.{is_part_signed};
 ghost use Rattle.verify_cache.specs.Same.{same, signed_of};
 ghost use Rattle.verify_cache.specs.Verifiers.{verifier_of, answer_by, is_known, one_more, added, Recalls, Learns, Primes};
 
@@ -13,6 +14,7 @@ use key_ring::KeyRing;
 use ledger_model::ReplicaId;
 use lms_tree::PublicKey;
 use lru::LruCache;
+use signed_frames::{Frame, SignedPart};
 use std::alloc::{AllocError, Global};
 use std::hash::RandomState;
 use std::marker::Model;
@@ -108,6 +110,17 @@ impl Verifier {
         self.ring.verifies(signer, message, signature)
     }
 
+    /// The same for a part of a frame: what is kept of it shares the frame's bytes.
+    pub(crate) fn check_part(&mut self, part: &SignedPart<'_>) -> bool
+        ensures answer { result ≡ is_part_signed self.old.ring part.now }
+        ensures ring { self.new.ring ≡ self.old.ring }
+    {
+        let (Ok(message), Ok(signature)) = (part.share_message(), part.share_signature()) else {
+            return self.check_apart(part.signer(), part.message(), part.signature());
+        };
+        self.check(part.signer(), &message, &signature)
+    }
+
     /// Takes in an answer that was computed elsewhere under this key, if it is the ring's key of that signer.
     ///
     /// Where memory is refused, what the verifier knows stays as it is.
@@ -134,6 +147,35 @@ impl Verifier {
         }
     }
 
+    /// Does what [`Verifier::prime`] does, for a part of a frame: what is kept of it shares the frame's bytes.
+    pub fn prime_part(&mut self, key: &PublicKey, part: &SignedPart<'_>, answer: bool)
+        requires { answer ≡ verifies key.now part.now.message part.now.signature }
+        ensures ring { self.new.ring ≡ self.old.ring }
+        ensures computed { self.new.computed ≡ self.old.computed }
+        ensures known { Primes key.now (signed_of part.now.signer part.now.message part.now.signature) answer self.old self.new }
+    {
+        if let (Ok(message), Ok(signature)) = (part.share_message(), part.share_signature()) {
+            self.prime(part.signer(), key, &message, &signature, answer);
+        }
+    }
+
+    /// Takes in what was computed elsewhere: whether the signature of each of these frames is valid under this ring's
+    /// keys, in order. Answers under other keys than the verifier's are left out.
+    ///
+    /// Where memory is refused, what the verifier knows stays as it is.
+    pub fn prime_all(&mut self, ring: &KeyRing, frames: &[Frame], answers: &[bool])
+        requires { answers.now ≡ map (is_signed ring.now) frames.now }
+        ensures ring { self.new.ring ≡ self.old.ring }
+        ensures computed { self.new.computed ≡ self.old.computed }
+    {
+        for (place, frame) in frames.iter().enumerate() {
+            let part = frame.signed_part();
+            if let Some(key) = ring.key(part.signer()) {
+                self.prime_part(key, &part, answers[place]);
+            }
+        }
+    }
+
     /// The answer, if it is known. It becomes the most recent.
     fn recall(&mut self, signed: &SignedMessage) -> Option<bool>
         ensures known { is_some result ≡ is_known self.old signed.now }
@@ -151,6 +193,22 @@ impl Verifier {
         ensures { (self.new ≡ verifier_of self.old.ring (added signed answer self.old.known) self.old.computed) ⊎ (self.new ≡ self.old) }
     {
         let _ = self.known.put(signed, answer);
+    }
+
+    /// Whether it knows the answer for the part, so that a check of the part doesn't hash.
+    pub fn knows(&self, part: &SignedPart<'_>) -> bool
+        ensures { result ≡ is_known self.now (signed_of part.now.signer part.now.message part.now.signature) }
+    {
+        match SignedMessage::of_part(part) {
+            Ok(signed) => self.known.contains(&signed),
+            Err(_) => find(
+                &self.known,
+                part.signer(),
+                part.message(),
+                part.signature(),
+            )
+            .is_some(),
+        }
     }
 
     /// How many checks hashed. The number stays at 2^64 - 1.

@@ -2,4 +2,4 @@ use Rattle.std.proofs.Common.{rules}
 use Rattle.instance.proofs.height.Instance.read_ack.Goals as goal
 
 pub returns-clause-answer : goal.returns-clause-answer
-returns-clause-answer c = search rules
+returns-clause-answer g c = search rules

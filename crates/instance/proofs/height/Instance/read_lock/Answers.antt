@@ -11,23 +11,23 @@ use Rattle.instance.proofs.KindCauses.{lock_fault, lock_room}
 use Rattle.instance.proofs.height.Instance.read_lock.Goals as goal
 
 pub returns-in-Err-clause-answer : goal.returns-in-Err-clause-answer
-returns-in-Err-clause-answer c =
+returns-in-Err-clause-answer g c =
     ap Err c.cause_of.ensures
-    ∙ lock_fault c.args.self.now c.args.ring.now c.args.round c.args.frame.statement c.args.frame.signature c.in-Err.fault c.requires.kind
+    ∙ lock_fault c.args.self.now (g.C.CheckSignatures.ring c.args.checks.now) c.args.round c.args.frame.statement c.args.frame.signature c.in-Err.fault c.requires.kind
     c.requires.owner (search rules)
 
 pub read_valid-requires-clause-lock : goal.read_valid-requires-clause-lock
-read_valid-requires-clause-lock c =
+read_valid-requires-clause-lock g c =
     subst (λ (s : SignedStatement). IsStatement s.statement) (sym c.in-Ok.ensures.lock) c.requires.frame.statement
 
 pub returns-in-Ok-clause-answer : goal.returns-in-Ok-clause-answer
-returns-in-Ok-clause-answer c =
-    let valid = subst (λ (s : SignedStatement). Ok tt ≡ first_of (faults c.self.inside.config c.args.ring.now (lock_in s)))
+returns-in-Ok-clause-answer g c =
+    let valid = subst (λ (s : SignedStatement). Ok tt ≡ first_of (faults c.self.inside.config (g.C.CheckSignatures.ring c.args.checks.now) (lock_in s)))
     (sym c.in-Ok.ensures.lock) c.in-Ok.ensures.fault in
     rw (sym c.in-Ok.ensures.lock)
     (by_row c.read_valid.result _ _ c.read_valid.ensures.answer
-    (lock_room c.args.self.now c.args.ring.now c.args.round c.in-Ok.lock
-    (subst (λ (row : InstanceView). Ok tt ≡ first_of (faults row.config c.args.ring.now c.in-Ok.lock)) c.self.view_is valid)))
+    (lock_room c.args.self.now (g.C.CheckSignatures.ring c.args.checks.now) c.args.round c.in-Ok.lock
+    (subst (λ (row : InstanceView). Ok tt ≡ first_of (faults row.config (g.C.CheckSignatures.ring c.args.checks.now) c.in-Ok.lock)) c.self.view_is valid)))
 
 pub returns-in-Ok-clause-after : goal.returns-in-Ok-clause-after
-returns-in-Ok-clause-after c = rw (sym c.in-Ok.ensures.lock) c.read_valid.ensures.after
+returns-in-Ok-clause-after g c = rw (sym c.in-Ok.ensures.lock) c.read_valid.ensures.after

@@ -13,7 +13,7 @@ returns-clause-step g c =
     let held : ReplicaStateView = record {
       config = c.self.inside.config;
       id = c.self.inside.id;
-      ring = c.self.inside.ring;
+      ring = c.self.inside.verifier.ring;
       floor = c.self.inside.rows.floor;
       rows = c.self.inside.rows.rows;
       pool = c.self.inside.pool;
@@ -22,10 +22,10 @@ returns-clause-step g c =
       clock = c.self.inside.clock;
       mute = c.self.inside.mute;
     } in
-    rw (sym c.self.view_is, c.read.ensures.same.floor)
-    (judged_there held c.args.frame c.self.inside.rows c.read.new.self c.read.result refl
+    rw (sym c.self.view_is, c.read_with.ensures.same.floor, c.read_with.ensures.keys)
+    (judged_there held c.args.frame c.self.inside.rows c.read_with.new.self c.read_with.result refl
     (subst (λ (x : ReplicaStateView). is_some (row_at x.rows (height_of c.args.frame.statement)) ≡ true) (sym c.self.view_is)
     c.requires.there)
     (subst (λ (x : ReplicaStateView). (row : InstanceView) → row_at x.rows (height_of c.args.frame.statement) ≡ Some row → row.config
     ≡ x.config) (sym c.self.view_is) c.requires.own)
-    c.read.ensures.answer c.read.ensures.read c.read.ensures.ignored c.read.ensures.open c.read.ensures.apart)
+    c.read_with.ensures.answer c.read_with.ensures.read c.read_with.ensures.ignored c.read_with.ensures.open c.read_with.ensures.apart)

@@ -54,7 +54,7 @@ returns-clause-after g c =
     (ap (λ pool. record {
       config = c.self.inside.config;
       id = c.self.inside.id;
-      ring = c.self.inside.ring;
+      ring = c.self.inside.verifier.ring;
       floor = c.self.inside.rows.floor;
       rows = c.self.inside.rows.rows;
       pool = pool;
