@@ -199,3 +199,39 @@ fn the_owner_of_the_first_phase_decides(rt: HostRuntime) {
         assert!(rt; has_decided == Some(number == 1), "replica {number}");
     }
 }
+
+// Four replicas, of which each proposes another value.
+fn four_different(alloc: Global) -> Option<Vec<OpenHeight>> {
+    let mut replicas = Vec::new(alloc);
+    for (number, tx) in [(0, b"a=1"), (1, b"b=1"), (2, b"c=1"), (3, b"d=1")] {
+        replicas
+            .push(OpenHeight::open_with(alloc, number, tx)?)
+            .ok()?;
+    }
+    Some(replicas)
+}
+
+// The mask of the replicas whose reports, as replica 0 has them, find [c=1].
+fn finding(replicas: &[OpenHeight]) -> Option<u16> {
+    let first = replicas.first()?;
+    let value = value(first.alloc, b"c=1").ok()?;
+    Some(first.instance.finds(&value))
+}
+
+// In the first phase only replica 2 names its value, so nobody can lock. By then all values are proper for all.
+#[test]
+fn four_different_proposals_are_found_by_all_in_the_second_phase(rt: HostRuntime) {
+    let mut cluster = TestCluster::new(rt.alloc(), 4, 1).expect(&rt, "a cluster");
+    let mut replicas = four_different(rt.alloc()).expect(&rt, "four replicas");
+    for (round, counts, mask) in [
+        (1, [1, 1, 1, 1], 4),
+        (2, [0, 0, 0, 0], 4),
+        (3, [0, 0, 0, 0], 4),
+        (4, [0, 0, 0, 0], 4),
+        (5, [1, 1, 1, 1], 15),
+    ] {
+        let are_sent = pass_round(&mut replicas, &mut cluster, counts);
+        assert!(rt; are_sent == Some(true), "round {round}");
+        assert!(rt; finding(&replicas) == Some(mask), "round {round}");
+    }
+}

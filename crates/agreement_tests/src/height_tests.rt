@@ -5,7 +5,7 @@ use bytes::Bytes;
 use instance::{RoundPlan, RoundStatement};
 use ledger_model::{Ack, Batch, Ignored, Lock, Report, Statement};
 use std::alloc::Global;
-use test_support::{TestCluster, ack_bytes, report_bytes};
+use test_support::{TestCluster, ack_bytes, report_bytes, value};
 
 // What a replica plans as a round opens.
 #[derive(Clone, Copy)]
@@ -211,6 +211,30 @@ fn a_report_round_brings_reports(rt: HostRuntime) {
     }
     let ack = ack_bytes(1, 1, 3, b'a');
     assert!(rt; scene.gives_answer(3, &ack, Some(Ignored::WrongRound)));
+}
+
+// The masks of the replicas whose reports find [a=1] and [b=1].
+fn finding(scene: &Scene) -> Option<(u16, u16)> {
+    let first = value(scene.replica.alloc, b"a=1").ok()?;
+    let second = value(scene.replica.alloc, b"b=1").ok()?;
+    let instance = &scene.replica.instance;
+    Some((instance.finds(&first), instance.finds(&second)))
+}
+
+// Replicas 1 and 2 report [a=1], and replica 3 reports [b=1]. As the next phase opens, its reports are forgotten.
+#[test]
+fn reports_find_values_until_the_next_phase(rt: HostRuntime) {
+    let mut scene = Scene::new(rt.alloc(), 0, 1).expect(&rt, "a scene");
+    assert!(rt; finding(&scene) == Some((0, 0)));
+    for &(signer, letter, wanted) in &[(2, b'a', (4, 0)), (3, b'b', (4, 8)), (1, b'a', (6, 8))] {
+        assert!(rt;
+            scene.gives_answer(signer, &report_bytes(1, 1, signer, letter), None),
+            "{signer}"
+        );
+        assert!(rt; finding(&scene) == Some(wanted), "{signer}");
+    }
+    assert!(rt; scene.replica.ends_rounds(3) && finding(&scene) == Some((6, 8)));
+    assert!(rt; scene.replica.ends_round() && finding(&scene) == Some((0, 0)));
 }
 
 // A lock is read if the phase's owner made it, with enough reports, and once.

@@ -6,6 +6,8 @@ mod callers;
 #[cfg(test)]
 mod cluster_tests;
 #[cfg(test)]
+mod finds_tests;
+#[cfg(test)]
 mod frames;
 #[cfg(test)]
 mod height_tests;

@@ -1,8 +1,10 @@
 //! Reports that were read, for the tests of proper values and of the choice.
 
-use ledger_model::{AppKind, Config, ReplicaId, SignedReport};
+ghost use Rattle.std.specs.Prelude.{◌≡◌, ◌<◌, ◌≤◌, true, length};
+
+use ledger_model::{AppKind, Config, SignedReport};
 use std::alloc::Global;
-use tally::Tally;
+use tally::PhaseReports;
 use test_support::{ReportFields, signed_report};
 
 /// Four replicas, of which one may lie.
@@ -10,19 +12,41 @@ pub(crate) fn four() -> Option<Config> {
     Config::new(4, 1, AppKind::KvStore).ok()
 }
 
-fn add_all(
+// Whether the reports have a place for this one, and a frame can have it.
+fn is_readable(reports: &PhaseReports, read: &SignedReport) -> bool
+    ensures { result ≡ true → (read.now.report.signer < length reports.now)
+        × (length read.now.report.proper ≤ 4) × (length read.now.report.locked ≤ 4) }
+{
+    usize::from(read.report.signer.number()) < reports.places().len()
+        && read.report.proper.as_slice().len() <= 4
+        && read.report.locked.as_slice().len() <= 4
+}
+
+// Stores the report. Returns whether it is the first of its signer; `None` if no frame has such a report.
+fn add(reports: &mut PhaseReports, read: SignedReport) -> Option<bool> {
+    if !is_readable(reports, &read) {
+        return None;
+    }
+    Some(reports.add(read))
+}
+
+/// Stores the report with these fields. Returns whether it is the first of its signer.
+pub(crate) fn add_one(
     alloc: Global,
-    tally: &mut Tally<SignedReport>,
-    reports: &[ReportFields<'_>],
+    reports: &mut PhaseReports,
+    fields: &ReportFields<'_>,
+) -> Option<bool> {
+    add(reports, signed_report(alloc, fields).ok()?)
+}
+
+/// Stores the reports with these fields.
+pub(crate) fn add_all(
+    alloc: Global,
+    reports: &mut PhaseReports,
+    fields: &[ReportFields<'_>],
 ) -> Option<()> {
-    for report in reports {
-        if report.signer >= tally.replicas() {
-            return None;
-        }
-        tally.add(
-            ReplicaId::new(report.signer),
-            signed_report(alloc, report).ok()?,
-        );
+    for report in fields {
+        add_one(alloc, reports, report)?;
     }
     Some(())
 }
@@ -31,9 +55,9 @@ fn add_all(
 pub(crate) fn read(
     alloc: Global,
     config: &Config,
-    reports: &[ReportFields<'_>],
-) -> Option<Tally<SignedReport>> {
-    let mut tally = Tally::new(alloc, config).ok()?;
-    add_all(alloc, &mut tally, reports)?;
-    Some(tally)
+    fields: &[ReportFields<'_>],
+) -> Option<PhaseReports> {
+    let mut reports = PhaseReports::new(alloc, config).ok()?;
+    add_all(alloc, &mut reports, fields)?;
+    Some(reports)
 }

@@ -23,11 +23,16 @@ pub(crate) struct OpenHeight {
 impl OpenHeight {
     /// A replica whose own value is [a=1], before the first round.
     pub(crate) fn open(alloc: Global, number: u8) -> Option<Self> {
+        OpenHeight::open_with(alloc, number, b"a=1")
+    }
+
+    /// A replica whose own value has this transaction, before the first round.
+    pub(crate) fn open_with(alloc: Global, number: u8, tx: &[u8]) -> Option<Self> {
         let config = Config::new(4, 1, AppKind::KvStore).ok()?;
         if number >= 4 {
             return None;
         }
-        let own = value(alloc, b"a=1").ok()?;
+        let own = value(alloc, tx).ok()?;
         let id = ReplicaId::new(number);
         let instance = Instance::open(alloc, &config, id, Height::new(1), &own).ok()?;
         Some(OpenHeight {

@@ -4,15 +4,11 @@ ghost use Rattle.std.specs.Prelude.{◌≡◌};
 
 use super::frames::parsed;
 use height_row::HeightRow;
-use instance::{Instance, RoundPlan, RoundStatement};
+use instance::{RoundPlan, RoundStatement};
 use key_ring::KeyRing;
 use ledger_model::{AppKind, Config, Height, Ignored, ProposeRefusal, ReplicaId, Statement};
 use std::alloc::Global;
 use test_support::{TestCluster, report_bytes, value};
-
-fn number_of(instance: &Instance) -> u32 {
-    instance.height().number()
-}
 
 #[derive(Drop)]
 struct OpenHeights {
@@ -133,15 +129,26 @@ impl OpenHeights {
         self.row.decided_at(Height::new(height)).is_some()
     }
 
-    // Whether these are the open heights, in order.
-    fn has_open(&self, wanted: [u32; 4]) -> bool {
-        match self.row.instances() {
-            [first, second, third, fourth] => {
-                (number_of(first), number_of(second)) == (wanted[0], wanted[1])
-                    && (number_of(third), number_of(fourth)) == (wanted[2], wanted[3])
+    // The first of these heights that isn't at its place, if there is one. A height that isn't open has none.
+    fn first_misplaced(&self, places: &[(u32, Option<usize>)]) -> Option<u32> {
+        for &(height, place) in places {
+            if self.row.place(Height::new(height)) != place {
+                return Some(height);
             }
-            _ => false,
         }
+        None
+    }
+
+    // Whether these are the open heights, in order.
+    fn has_open(&self, wanted: &[u32]) -> bool {
+        let mut open = self.row.instances();
+        for &height in wanted {
+            match open.next() {
+                Some(instance) if instance.height().number() == height => {}
+                _ => return false,
+            }
+        }
+        open.next().is_none()
     }
 }
 
@@ -175,7 +182,31 @@ fn a_height_is_refused_by_the_first_cause(rt: HostRuntime) {
 fn open_heights_ascend(rt: HostRuntime) {
     let mut replica = OpenHeights::new(rt.alloc()).expect(&rt, "a replica");
     assert_eq!(rt; replica.first_unopened(&[3, 1, 4, 2]), None);
-    assert!(rt; replica.has_open([1, 2, 3, 4]));
+    assert!(rt; replica.has_open(&[1, 2, 3, 4]));
+}
+
+// Heights 2, 3 and 5 are never opened.
+#[test]
+fn places_are_counted_from_the_floor(rt: HostRuntime) {
+    let mut replica = OpenHeights::new(rt.alloc()).expect(&rt, "a replica");
+    assert_eq!(rt; replica.first_unopened(&[4, 1]), None);
+    let opened = [(0, None), (1, Some(0)), (2, None), (4, Some(3)), (5, None)];
+    assert_eq!(rt; replica.first_misplaced(&opened), None);
+    assert!(rt; replica.retires(3));
+    assert!(rt; replica.refuses(6, 2) == Some(None));
+    let retired = [(1, None), (3, None), (4, Some(1)), (5, None), (6, Some(3))];
+    assert_eq!(rt; replica.first_misplaced(&retired), None);
+    assert!(rt; replica.has_open(&[4, 6]));
+}
+
+#[test]
+fn retiring_above_all_open_heights_leaves_none(rt: HostRuntime) {
+    let mut replica = OpenHeights::new(rt.alloc()).expect(&rt, "a replica");
+    assert_eq!(rt; replica.first_unopened(&[1, 2]), None);
+    assert!(rt; replica.retires(4));
+    assert!(rt; replica.has_open(&[]));
+    assert!(rt; replica.refuses(4, 0) == Some(None));
+    assert_eq!(rt; replica.first_misplaced(&[(2, None), (4, Some(0))]), None);
 }
 
 // The first of three.

@@ -35,6 +35,7 @@ fn has_letters(tally: &Tally<char>) -> bool {
         && (got(tally, 3), got(tally, 4)) == (Some('c'), None)
         && tally.count_where(|read| *read < 'c') == 1
         && tally.places() == [None, Some('a'), None, Some('c')].as_slice()
+        && tally.mask() == 10
 }
 
 fn has_signers(tally: &Tally<char>, wanted: &[ReplicaId]) -> Option<bool> {
@@ -44,7 +45,7 @@ fn has_signers(tally: &Tally<char>, wanted: &[ReplicaId]) -> Option<bool> {
 
 fn is_cleared(tally: &mut Tally<char>) -> bool {
     tally.clear();
-    tally.places() == [None, None, None, None].as_slice()
+    tally.places() == [None, None, None, None].as_slice() && tally.mask() == 0
 }
 
 #[test]
@@ -66,17 +67,18 @@ fn first_unstored(tally: &mut Tally<u8>) -> Option<u8> {
     None
 }
 
-// The numbers of signers, of replicas and of stored statements.
-fn counts_of(tally: &Tally<u8>) -> Option<(usize, u8, usize)> {
+// The numbers of signers, of replicas and of stored statements, and the mask.
+fn counts_of(tally: &Tally<u8>) -> Option<(usize, u8, usize, u16)> {
     let signers = tally.signers().ok()?.len();
-    Some((signers, tally.replicas(), tally.count_where(|_| true)))
+    let stored = tally.count_where(|_| true);
+    Some((signers, tally.replicas(), stored, tally.mask()))
 }
 
 #[test]
 fn every_replica_of_the_greatest_cluster_has_a_place(rt: HostRuntime) {
     let mut tally = empty(rt.alloc(), 13, 4).expect(&rt, "a tally");
     assert_eq!(rt; first_unstored(&mut tally), None);
-    assert!(rt; counts_of(&tally) == Some((13, 13, 13)));
+    assert!(rt; counts_of(&tally) == Some((13, 13, 13, 8191)));
 }
 
 // Adds acknowledgements of these replicas, phases and values.

@@ -20,4 +20,6 @@ mod seated;
 #[cfg(test)]
 mod turn_tests;
 #[cfg(test)]
+mod verifier_tests;
+#[cfg(test)]
 mod waiting_tests;

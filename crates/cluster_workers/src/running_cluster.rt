@@ -82,10 +82,7 @@ fn board_of(
 }
 
 /// The keys of a cluster, as its first replica has them.
-fn ring_of<A: Application>(
-    alloc: Global,
-    states: &[State<A>],
-) -> Result<Arc<KeyRing>, AllocError> {
+fn ring_of<A: Application>(alloc: Global, states: &[State<A>]) -> Result<Arc<KeyRing>, AllocError> {
     let ring = match states.first() {
         Some(state) => state.ring().copy()?,
         None => KeyRing::new(Vec::new(alloc)),

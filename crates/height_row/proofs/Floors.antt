@@ -1,12 +1,9 @@
 -- The rows of the heights from the floor on.
 use Rattle.std.proofs.Common.{◌≡◌, ℕ, ◌<◌, ◌≤◌, inl, inr, List, [], ◌∷◌, refl, arith}
 use Rattle.std.specs.Prelude.{◌==◌, nat_le, None}
-use Rattle.std.specs.List.{AllByRecursion}
 use Rattle.std.proofs.lemmas.Bool.{cases_Bool, leb-true, leb-false, ne_eqb}
-use Rattle.ledger_model.specs.declared.config.Config.{Config}
 use Rattle.instance.specs.Instances.{InstanceView}
-use Rattle.height_row.specs.Heights.{row_at, rows_from, AreAscending}
-use Rattle.height_row.proofs.Finding.{IsOf}
+use Rattle.height_row.specs.Heights.{row_at, rows_from}
 
 module _ (floor : ℕ) where
   -- none of a lower height is left
@@ -30,27 +27,4 @@ module _ (floor : ℕ) where
     | inr gone ↦
         let below = leb-false floor row.height gone in
         rw (gone, ne_eqb row.height h (λ e. omega (arith, e, below))) (same_from rows h high)
-  ]
-
-  -- what holds of all holds of those that are left
-  left_all : (P : InstanceView → Type 0) (rows : List InstanceView) → AllByRecursion P rows → AllByRecursion P (rows_from floor rows)
-  left_all P [] all = tt
-  left_all P (row ∷ rows) all = elim (cases_Bool (nat_le floor row.height)) [
-    | inl kept ↦ rw kept (all.0, left_all P rows all.1)
-    | inr gone ↦ rw gone (left_all P rows all.1)
-  ]
-
-  pub left_ascend : (rows : List InstanceView) → AreAscending rows → AreAscending (rows_from floor rows)
-  left_ascend [] ascend = tt
-  left_ascend (row ∷ rows) ascend = elim (cases_Bool (nat_le floor row.height)) [
-    | inl kept ↦ rw kept (left_all (λ later. row.height < later.height) rows ascend.0, left_ascend rows ascend.1)
-    | inr gone ↦ rw gone (left_ascend rows ascend.1)
-  ]
-
-  pub left_own : (config : Config) (id old : ℕ) (rows : List InstanceView) → AllByRecursion (IsOf config id old) rows
-      → AllByRecursion (IsOf config id floor) (rows_from floor rows)
-  left_own config id old [] all = tt
-  left_own config id old (row ∷ rows) all = elim (cases_Bool (nat_le floor row.height)) [
-    | inl kept ↦ rw kept ((all.0.0, all.0.1, all.0.2, leb-true floor row.height kept), left_own config id old rows all.1)
-    | inr gone ↦ rw gone (left_own config id old rows all.1)
   ]

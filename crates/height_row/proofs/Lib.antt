@@ -1,6 +1,5 @@
-pub mod Finding
-pub mod Ascending
-pub mod Placing
+pub mod HeightSlots
+pub mod OpenRows
 pub mod Opening
 pub mod Turns
 pub mod Floors

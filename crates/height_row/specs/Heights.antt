@@ -1,6 +1,6 @@
 -- The heights that a replica has opened and not retired.
 use Rattle.std.specs.List.{AllByRecursion}
-use Rattle.std.specs.Prelude.{◌≡◌, ℕ, ◌+◌, ◌<◌, ◌≤◌, ◌==◌, nat_lt, nat_le, slice_get, suc, ◌||◌, List, [], ◌∷◌, Option, Some, None}
+use Rattle.std.specs.Prelude.{◌≡◌, ℕ, ◌+◌, ◌<◌, ◌≤◌, ◌==◌, nat_lt, nat_le, slice_get, ◌||◌, List, [], ◌∷◌, Option, Some, None}
 use Rattle.std.specs.Prelude.{is_some, Result}
 use Rattle.std.specs.Prelude.{filter, if◌then◌else◌}
 use Rattle.ledger_model.specs.Limits.{max_height, max_ahead}
@@ -43,11 +43,6 @@ open_answer floor rows committed h = first_fault (
     ∷ (is_some (row_at rows h), refusal.AlreadyOpen)
     ∷ (nat_lt (committed + max_ahead) h, refusal.TooFar)
     ∷ []) tt
-
--- the number of rows before the first that is not of a lower height
-abbrev pub place_for : ℕ → List InstanceView → ℕ
-place_for h [] = 0
-place_for h (row ∷ rows) = if nat_lt row.height h then suc (place_for h rows) else 0
 
 -- the heights ascend strictly
 abbrev pub AreAscending : List InstanceView → Type 0

@@ -1,2 +1,3 @@
 pub mod Heights
 pub mod Closings
+pub mod Slots

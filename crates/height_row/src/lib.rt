@@ -2,8 +2,11 @@
 //! height leaves the others unchanged.
 #![tactic(auto)]
 
+mod open_instances;
 mod round_closing;
 mod row;
+mod slots;
 
+pub use open_instances::OpenInstances;
 pub use round_closing::RoundClosing;
 pub use row::HeightRow;

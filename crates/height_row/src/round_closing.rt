@@ -1,11 +1,14 @@
 //! How each open height closes its round.
-ghost use Rattle.std.specs.Prelude.{◌≡◌, ◌<◌, ◌≤◌, ◌+◌, map, IfOk, IfSome};
+ghost use Rattle.std.specs.Prelude.{◌≡◌, ◌<◌, ◌≤◌, ◌+◌, ℕ, map, IfOk, IfSome};
 ghost use Rattle.std.specs.List.{AllByRecursion};
 ghost use Rattle.ledger_model.specs.Limits.{last_round};
+ghost use Rattle.ledger_model.specs.declared.config.Config.{Config};
 ghost use Rattle.ledger_model.specs.Spelling.{IsStatement};
 ghost use Rattle.instance.specs.Plans.{ended};
 ghost use Rattle.height_row.specs.Closings.{AreClosings};
 ghost use Rattle.height_row.specs.Heights.{plan_of, closed_each};
+ghost use Rattle.height_row.specs.Slots.{AreSlots};
+ghost use Rattle.tally.specs.Tallies.{all_read};
 
 use instance::{Instance, RoundEffects, RoundPlan, RoundStatement};
 use std::alloc::{AllocError, Global};
@@ -17,46 +20,56 @@ pub struct RoundClosing {
     pub made: RoundStatement,
 }
 
-/// The plan for each height as the next round opens, in order.
+/// The plan for each open height as the next round opens, in order.
 pub(crate) fn plan_each(
     alloc: Global,
-    instances: &[Instance],
+    slots: &[Option<Instance>],
     clock: u32,
 ) -> Result<Vec<RoundPlan>, AllocError>
     requires clock { clock < last_round }
-    ensures plans { IfOk result (λ plans. plans.items ≡ map (plan_of (clock + 1)) instances.now) }
+    ensures plans { IfOk result (λ plans. plans.items ≡ map (plan_of (clock + 1)) (all_read slots.now)) }
     ensures spelled { IfOk result (λ plans. AllByRecursion (λ plan. IfSome plan.statement IsStatement) plans.items) }
 {
-    let mut plans = Vec::with_capacity(alloc, instances.len())?;
-    for instance in instances {
-        plans.push(instance.plan_end(alloc, clock)?)?;
+    let mut plans = Vec::with_capacity(alloc, slots.len())?;
+    for slot in slots {
+        if let Some(instance) = slot {
+            plans.push(instance.plan_end(alloc, clock)?)?;
+        }
     }
     Ok(plans)
 }
 
-/// Prepares the effects of ending round `clock` at each height, in order, which don't depend on what is sent.
+/// Prepares the effects of ending round `clock` at each open height, in order, which don't depend on what is sent.
 pub(crate) fn prepare_each(
     alloc: Global,
-    instances: &[Instance],
+    slots: &[Option<Instance>],
     clock: u32,
 ) -> Result<Vec<RoundEffects>, AllocError>
     requires clock { clock < last_round }
-    ensures { IfOk result (λ endings. endings.items ≡ map (λ row. ended row (clock + 1)) instances.now) }
+    ensures { IfOk result (λ endings. endings.items ≡ map (λ row. ended row (clock + 1)) (all_read slots.now)) }
 {
-    let mut endings = Vec::with_capacity(alloc, instances.len())?;
-    for instance in instances {
-        endings.push(instance.prepare_end(alloc, clock)?)?;
+    let mut endings = Vec::with_capacity(alloc, slots.len())?;
+    for slot in slots {
+        if let Some(instance) = slot {
+            endings.push(instance.prepare_end(alloc, clock)?)?;
+        }
     }
     Ok(endings)
 }
 
-/// Opens the next round at each height, in order. Allocates nothing.
-pub(crate) fn close_each(instances: &mut [Instance], closings: Vec<RoundClosing>, clock: u32)
+/// Opens the next round at each open height, in order. Allocates nothing.
+pub(crate) fn close_each(slots: &mut [Option<Instance>], closings: Vec<RoundClosing>, clock: u32)
     requires clock { clock < last_round }
-    requires closings { AreClosings (clock + 1) instances.old closings.items }
-    ensures { instances.new ≡ closed_each (clock + 1) instances.old (map (λ c. c.made) closings.items) }
+    requires closings { AreClosings (clock + 1) (all_read slots.old) closings.items }
+    ensures rows { all_read slots.new ≡ closed_each (clock + 1) (all_read slots.old) (map (λ c. c.made) closings.items) }
+    // Each slot keeps its height.
+    ensures slots { (config : Config) (id floor : ℕ) → AreSlots config id floor slots.old → AreSlots config id floor slots.new }
 {
-    for (place, closing) in closings.into_iter().enumerate() {
-        instances[place].close(closing.ending, closing.made, clock);
+    let mut closings = closings.into_iter();
+    for slot in slots.iter_mut() {
+        if let Some(instance) = slot {
+            let closing = closings.next().unwrap();
+            instance.close(closing.ending, closing.made, clock);
+        }
     }
 }

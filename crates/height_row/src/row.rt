@@ -1,10 +1,7 @@
 //! The heights from a replica's floor on that it has opened, each an instance of agreement.
-ghost use Rattle.std.specs.Prelude.{◌≡◌, ◌==◌};
-ghost use Rattle.std.specs.List.{find, position};
-ghost use Rattle.std.specs.Option.{option_copied};
-ghost use Rattle.height_row.specs.Heights.{place_for, AreAscending};
-
+use crate::open_instances::OpenInstances;
 use crate::round_closing::{RoundClosing, close_each, plan_each, prepare_each};
+use crate::slots::make_room;
 use instance::{Instance, RoundEffects, RoundPlan, RoundStatement};
 use key_ring::KeyRing;
 use ledger_model::{Batch, Config, Height, Ignored, ProposeRefusal, ReplicaId};
@@ -20,29 +17,27 @@ pub struct HeightRow {
     config: Config,
     id: ReplicaId,
     floor: Height,
-    instances: Vec<Instance>,
+    /// One for each height from the floor on, up to the highest that was opened: empty if the height isn't open.
+    slots: Vec<Option<Instance>>,
 }
 
 impl Model for HeightRow {
-    ghost use Rattle.std.specs.Prelude.{◌≡◌, ◌<◌, ◌≤◌, List};
-    ghost use Rattle.std.specs.List.{AllByRecursion};
-    ghost use Rattle.ledger_model.specs.Limits.{max_height};
-    ghost use Rattle.height_row.specs.Heights.{HeightRowView, AreAscending};
+    ghost use Rattle.std.specs.Prelude.{◌<◌};
+    ghost use Rattle.tally.specs.Tallies.{all_read};
+    ghost use Rattle.height_row.specs.Heights.{HeightRowView};
+    ghost use Rattle.height_row.specs.Slots.{AreSlots};
 
     ghost Value = { HeightRowView };
 
-    ghost view = { λ r. record { config = r.config; id = r.id; floor = r.floor; rows = r.instances.items } };
+    ghost view = { λ r. record { config = r.config; id = r.id; floor = r.floor; rows = all_read r.slots.items } };
 
-    ghost invariant = { λ r. (r.id < r.config.replicas)
-        × AllByRecursion (λ row.
-        (row.config ≡ r.config) × (row.id ≡ r.id) × (row.height ≤ max_height) × (r.floor ≤ row.height)) r.instances.items
-        × AreAscending r.instances.items };
+    ghost invariant = { λ r. (r.id < r.config.replicas) × AreSlots r.config r.id r.floor r.slots.items };
 }
 
 impl HeightRow {
-    ghost use Rattle.std.specs.Prelude.{◌≡◌, ◌<◌, ◌≤◌, ◌+◌, ◌++◌, ◌∷◌, ℕ, ◌==◌, List, [], map, Some, None, is_some, true, IsTrue};
-    ghost use Rattle.std.specs.Prelude.{IfOk, IfSome, OnOk, OnErr};
-    ghost use Rattle.std.specs.List.{position, AllByRecursion};
+    ghost use Rattle.std.specs.Prelude.{◌≡◌, ◌<◌, ◌≤◌, ◌+◌, ◌-◌, ◌++◌, ◌∷◌, ℕ, List, [], map, Some, None, is_some, true, IsTrue};
+    ghost use Rattle.std.specs.Prelude.{IfOk, IfSome, OnOk, OnErr, nat_le, if◌then◌else◌};
+    ghost use Rattle.std.specs.List.{AllByRecursion};
     ghost use Rattle.std.specs.Option.{option_copied};
     ghost use Rattle.ledger_model.specs.Rounds.{place_of, release_place};
     ghost use Rattle.ledger_model.specs.Notes.{Note, Proposed, Read, clock_of, signer_of};
@@ -70,7 +65,7 @@ impl HeightRow {
             config: *config,
             id,
             floor: Height::new(1),
-            instances: Vec::new(alloc),
+            slots: Vec::new(alloc),
         }
     }
 
@@ -79,18 +74,26 @@ impl HeightRow {
         ensures row { option_copied result ≡ row_at self.now.rows height }
         ensures own { AreOwn self.now }
     {
-        find_height(&self.instances, height)
+        self.slots.get(self.index_of(height)?)?.as_ref()
+    }
+
+    /// The place of an open height, counted from the floor; `None` if the height isn't open. Allocates nothing.
+    pub fn place(&self, height: Height) -> Option<usize>
+        ensures { result ≡ (if is_some (row_at self.now.rows height) then Some (height - self.now.floor) else None) }
+    {
+        self.get(height)?;
+        self.index_of(height)
     }
 
     /// The instances of the open heights, none of them below the floor, in ascending order.
-    pub fn instances(&self) -> &[Instance]
-        ensures rows { result.now ≡ self.now.rows }
+    pub fn instances(&self) -> OpenInstances<'_>
+        ensures rows { result ≡ self.now.rows }
         ensures ascend { AreAscending self.now.rows }
         // Each instance is the one of its height.
         ensures found { AreFound self.now.rows }
         ensures own { AreOwn self.now }
     {
-        self.instances.as_slice()
+        OpenInstances::new(&self.slots)
     }
 
     /// The least height that isn't retired.
@@ -158,8 +161,9 @@ impl HeightRow {
             return Ok(Err(refusal));
         }
         let instance = Instance::open(alloc, &self.config, self.id, height, initial)?;
-        let place = count_below(&self.instances, height);
-        self.instances.insert(place, instance)?;
+        let place = (height.number() - self.floor.number()) as usize;
+        make_room(&mut self.slots, place)?;
+        self.slots[place] = Some(instance);
         Ok(Ok(()))
     }
 
@@ -172,19 +176,17 @@ impl HeightRow {
         ensures from { (h : ℕ) → floor ≤ h → row_at self.new.rows h ≡ row_at self.old.rows h }
         ensures own { AreOwn self.new }
     {
-        self.instances.retain(|instance| instance.height() >= floor);
+        let retired = (floor.number() - self.floor.number()) as usize;
+        self.slots.drain(..retired.min(self.slots.len()));
         self.floor = floor;
     }
 
-    /// The index of the instance of an open height.
-    fn position(&self, height: Height) -> usize
-        requires open { is_some (row_at self.now.rows height) ≡ true }
-        ensures { position (λ row. row.height == height) self.now.rows ≡ Some result }
+    /// The index of the slot of a height that isn't below the floor.
+    fn index_of(&self, height: Height) -> Option<usize>
+        ensures { result ≡ (if nat_le self.now.floor height then Some (height - self.now.floor) else None) }
     {
-        match position_of(&self.instances, height) {
-            Some(place) => place,
-            None => unreachable!(),
-        }
+        let above = height.number().checked_sub(self.floor.number())?;
+        Some(above as usize)
     }
 
     /// Reads or ignores a frame of an open height, whose signer is in the cluster, while round `clock` is open. A frame is
@@ -243,8 +245,11 @@ impl HeightRow {
         // The keys are the same.
         ensures keys { C.ring checks.new ≡ C.ring checks.old }
     {
-        let place = self.position(frame.statement().height());
-        self.instances[place].read_with(alloc, checks, frame, clock)
+        let place = self.place(frame.statement().height()).unwrap();
+        self.slots[place]
+            .as_mut()
+            .unwrap()
+            .read_with(alloc, checks, frame, clock)
     }
 
     /// The plan for opening the next round at an open height: the statement that the replica chooses to send, and all
@@ -277,8 +282,7 @@ impl HeightRow {
             → MatchesLog ring row log → AllByRecursion (IsLockSentOn ring height) plan.ending.sends_on) }
         ensures own { AreOwn self.now }
     {
-        let place = self.position(height);
-        self.instances[place].plan_end(alloc, clock)
+        self.get(height).unwrap().plan_end(alloc, clock)
     }
 
     /// The plans for opening the next round at each open height, in order.
@@ -290,7 +294,7 @@ impl HeightRow {
         ensures ascend { AreAscending self.now.rows }
         ensures own { AreOwn self.now }
     {
-        plan_each(alloc, &self.instances, clock)
+        plan_each(alloc, &self.slots, clock)
     }
 
     /// Prepares the effects of ending round `clock` at each open height, in ascending order. Chooses no statement and
@@ -301,7 +305,7 @@ impl HeightRow {
         ensures ascend { AreAscending self.now.rows }
         ensures own { AreOwn self.now }
     {
-        prepare_each(alloc, &self.instances, clock)
+        prepare_each(alloc, &self.slots, clock)
     }
 
     /// Opens the next round at an open height: stores what was prepared for the end of the round, and the replica's own
@@ -321,8 +325,11 @@ impl HeightRow {
         ensures same { IsSameReplica self.old self.new }
         ensures own { AreOwn self.new }
     {
-        let place = self.position(height);
-        self.instances[place].close(ending, made, clock);
+        let place = self.place(height).unwrap();
+        self.slots[place]
+            .as_mut()
+            .unwrap()
+            .close(ending, made, clock);
     }
 
     /// Opens the next round at each open height, in order, as [`HeightRow::close`] does at one. Allocates nothing.
@@ -335,37 +342,6 @@ impl HeightRow {
         ensures same { IsSameReplica self.old self.new }
         ensures own { AreOwn self.new }
     {
-        close_each(&mut self.instances, closings, clock);
+        close_each(&mut self.slots, closings, clock);
     }
-}
-
-/// The number of instances of lower heights, which is the index for an instance of this height.
-fn count_below(instances: &[Instance], height: Height) -> usize
-    requires ascend { AreAscending instances.now }
-    ensures { result ≡ place_for height instances.now }
-{
-    instances.partition_point(|instance| instance.height() < height)
-}
-
-/// The index of the instance of the height, if there is one.
-fn position_of(instances: &[Instance], height: Height) -> Option<usize>
-    requires ascend { AreAscending instances.now }
-    ensures { result ≡ position (λ row. row.height == height) instances.now }
-{
-    let place = count_below(instances, height);
-    let instance = instances.get(place)?;
-    if instance.height() == height {
-        Some(place)
-    } else {
-        None
-    }
-}
-
-/// The instance of the height, if there is one.
-fn find_height(instances: &[Instance], height: Height) -> Option<&Instance>
-    requires ascend { AreAscending instances.now }
-    ensures { option_copied result ≡ find (λ row. row.height == height) instances.now }
-{
-    let place = position_of(instances, height)?;
-    instances.get(place)
 }

@@ -32,7 +32,8 @@ use Rattle.instance.specs.Instances.{InstanceView}
 use Rattle.instance.specs.Matching.{MatchesLog, MatchesIn, proper_phase, IsHeldLock}
 use Rattle.instance.specs.Plans.{decides_first, forgotten, own_report, own_ack_of, unsent_ack, unsent_frames, ended, MaySend, made_by}
 use Rattle.instance.specs.Plans.{with_all, closed}
-use Rattle.instance.proofs.KeptPlaces.{are_read_in, are_acks_in, taken_place, none_there}
+use Rattle.tally.proofs.Puts.{none_there}
+use Rattle.instance.proofs.KeptPlaces.{are_read_in, are_acks_in, taken_place}
 use Rattle.instance.proofs.OneNote.{no_reports, no_acks, no_lock, more, unread, unmade, read_same, made_same, reports_stay, acks_stay}
 use Rattle.instance.proofs.OneNote.{lock_stays, next_round, proper_same, decided_same, assembled}
 use Rattle.instance.proofs.ProperStays.{proper_at-stays}

@@ -1,14 +1,15 @@
 -- Lists with one place for each replica: what was read, one more element, and the places of an instance that matches.
-use Rattle.std.proofs.Common.{◌≡◌, ℕ, zero, suc, ◌+◌, ◌≤◌, true, inl, inr, List, [], ◌∷◌, length, refl, sym, ap, subst, arith, ◌<◌, Bool}
+use Rattle.std.proofs.Common.{◌≡◌, ℕ, zero, suc, ◌+◌, ◌≤◌, true, List, [], ◌∷◌, length, refl, sym, ap, subst, arith, ◌<◌, Bool}
 use Rattle.std.proofs.Common.{◌||◌, ◌⊎◌, ◌∙◌}
 use Rattle.std.specs.Prelude.{map, Option, Some, None, nat_eq, is_some, slice_set, replicate}
 use Rattle.std.proofs.lemmas.Simd.{map-map}
-use Rattle.ledger_model.specs.Notes.{Note, Has}
+use Rattle.ledger_model.specs.Notes.{Note}
 use Rattle.tally.specs.Tallies.{all_read, read_of, Places}
 use Rattle.ledger_model.specs.Validity.{ascends_within}
 use Rattle.ledger_model.specs.Rules.{Ring}
 use Rattle.tally.specs.Readings.{reports_of, AreReadIn, AreAcksIn}
 use Rattle.ledger_model.proofs.Counting.{ascends_from, ascends_lower}
+use Rattle.tally.proofs.Puts.{read_at, at_read, read_put}
 use Rattle.instance.specs.Instances.{InstanceView}
 use Rattle.instance.specs.Matching.{MatchesIn}
 use Rattle.std.specs.List.{list_any}
@@ -38,17 +39,6 @@ pub read_ascends : {X : Type 0} (key : X → ℕ) (replicas : ℕ) (places : Lis
     → ((r : ℕ) (x : X) → read_of places r ≡ Some x → key x ≡ r) → ascends_within 0 replicas (map key (all_read places)) ≡ true
 read_ascends key replicas places len at = keys_ascend key 0 replicas places (omega arith) (λ r x h. let e = at r x h in omega (arith, e))
 
--- what was read stands at a place, and what stands at one was read
-pub read_at : {X : Type 0} (places : List (Option X)) (x : X) → Has (all_read places) x → (r : ℕ) × (read_of places r ≡ Some x)
-read_at [] x h = absurd h
-read_at (None ∷ places) x h = let p = read_at places x h in (suc p.0, p.1)
-read_at (Some y ∷ places) x (inl e) = (0, ap Some e)
-read_at (Some y ∷ places) x (inr h) = let p = read_at places x h in (suc p.0, p.1)
-
-at_read : {X : Type 0} (places : List (Option X)) (r : ℕ) (x : X) → read_of places r ≡ Some x → Has (all_read places) x
-at_read [] r x h = cc
-at_read (place ∷ places) r x h = let rest = at_read places in grind arith
-
 some_value : {X : Type 0} (o : Option X) → is_some o ≡ true → (x : X) × (o ≡ Some x)
 some_value (Some x) h = (x, refl)
 some_value None h = cc
@@ -75,24 +65,6 @@ any_put test [] r x below none = absurd (omega arith)
 any_put test (place ∷ places) zero x below none = grind arith
 any_put test (place ∷ places) (suc r) x below none = let rest = any_put test places r x in grind arith
 
--- what stands at a place afterwards is the new element, or stood there
-pub read_put : {X : Type 0} (places : Places X) (r q : ℕ) (x y : X) → read_of (slice_set places r (Some x)) q ≡ Some y
-    → ((q ≡ r) × (x ≡ y)) ⊎ (read_of places q ≡ Some y)
-read_put [] r q x y h = inr h
-read_put (place ∷ places) zero q x y h = grind arith
-read_put (place ∷ places) (suc r) q x y h = let rest = read_put places r in grind arith
-
--- what is put into a place stands there, and what stood at another still does
-pub there_now : {X : Type 0} (places : Places X) (r : ℕ) (x : X) → r < length places → read_of (slice_set places r (Some x)) r ≡ Some x
-there_now [] r x below = absurd (omega arith)
-there_now (place ∷ places) r x below = let rest = there_now places in grind arith
-
-pub there_still : {X : Type 0} (places : Places X) (r q : ℕ) (x y : X) → read_of places r ≡ None → read_of places q ≡ Some y
-    → read_of (slice_set places r (Some x)) q ≡ Some y
-there_still [] r q x y none some = cc
-there_still (place ∷ places) zero q x y none some = grind arith
-there_still (place ∷ places) (suc r) q x y none some = let rest = there_still places r in grind arith
-
 -- the same where it is kept only if nothing was there
 pub read_added : {X : Type 0} (places : Places X) (r q : ℕ) (x y : X) → read_of (added places r x) q ≡ Some y
     → ((q ≡ r) × (x ≡ y)) ⊎ (read_of places q ≡ Some y)
@@ -103,11 +75,6 @@ read_added places r q x y h = grind (arith, read_put)
 pub none_read : {X : Type 0} (n : ℕ) → all_read {X = X} (replicate n None) ≡ []
 none_read zero = refl
 none_read (suc n) = none_read n
-
-pub none_there : {X : Type 0} (n r : ℕ) → read_of {X = X} (replicate n None) r ≡ None
-none_there zero r = refl
-none_there (suc n) zero = refl
-none_there (suc n) (suc r) = none_there n r
 
 -- ---- a row that matches a log
 

@@ -17,7 +17,8 @@ use Rattle.ledger_model.specs.Rules.{Ring, with_signature, has_phase}
 use Rattle.ledger_model.proofs.LockSafety.{has_read, read_has, made_has, took_tells}
 use Rattle.ledger_model.proofs.Staying.{find_none, From, decided_stays, find_same, find_append}
 use Rattle.instance.specs.Matching.{ReportsMatch, LockMatches, AcksMatch, MatchesLog, IsKept, IsSound, proper_phase}
-use Rattle.instance.proofs.KeptPlaces.{none_read, none_there}
+use Rattle.tally.proofs.Puts.{none_there}
+use Rattle.instance.proofs.KeptPlaces.{none_read}
 use Rattle.std.proofs.Math.Bool.{or-false}
 use Rattle.std.proofs.lemmas.List.Folds.{list_any-append}
 use Rattle.std.proofs.lemmas.Bool.{false_from_ne_true}

@@ -35,7 +35,8 @@ use Rattle.instance.specs.Matching.{MatchesLog, ReportsMatch, LockMatches, AcksM
 use Rattle.instance.specs.Reads.{row_causes, is_kept_already, with_statement}
 use Rattle.instance.specs.Laws.{Reads}
 use Rattle.instance.proofs.Answering.{OnTime, on_time}
-use Rattle.instance.proofs.KeptPlaces.{any_put, read_put, there_now, there_still}
+use Rattle.tally.proofs.Puts.{read_put, there_now, there_still}
+use Rattle.instance.proofs.KeptPlaces.{any_put}
 use Rattle.instance.proofs.OneNote.{more, IsNext, next_made, next_read, read_more, made_more, read_same, made_same, taken_same, has_last}
 use Rattle.instance.proofs.OneNote.{kept_stays, reports_stay, acks_stay, lock_stays, decided_same, proper_same, assembled}
 use Rattle.instance.proofs.SpelledRows.{still_sound, sound_report, reads_sound, sound_lock}

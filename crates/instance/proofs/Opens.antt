@@ -23,7 +23,7 @@ use Rattle.ledger_model.proofs.Lists.{all_has, has_cases}
 use Rattle.ledger_model.proofs.LockSafety.{read_has, made_has}
 use Rattle.ledger_model.proofs.Staying.{any_append}
 use Rattle.instance.proofs.OneNote.{no_reports, no_acks, no_lock}
-use Rattle.instance.proofs.KeptPlaces.{none_there}
+use Rattle.tally.proofs.Puts.{none_there}
 use Rattle.instance.proofs.OpenLogs.{is_retired-append, only_rounds_kept, open_from}
 use Rattle.instance.proofs.ProperStays.{proper_at-stays}
 

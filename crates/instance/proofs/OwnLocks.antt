@@ -19,7 +19,8 @@ use Rattle.instance.specs.Instances.{InstanceView}
 use Rattle.instance.specs.Matching.{MatchesIn, IsSpelled}
 use Rattle.instance.specs.Plans.{own_lock, IsOwnLockOf}
 use Rattle.ledger_model.proofs.Counting.{filter-within, take-within}
-use Rattle.instance.proofs.KeptPlaces.{read_at, read_ascends}
+use Rattle.tally.proofs.Puts.{read_at}
+use Rattle.instance.proofs.KeptPlaces.{read_ascends}
 
 module _ (row : InstanceView) (h : IsSpelled row) (places : length row.reports ≡ row.config.replicas) (k : ℕ) (v : Value) where
   abbrev finding : List SignedReport

@@ -39,7 +39,8 @@ use Rattle.instance.specs.Instances.{InstanceView}
 use Rattle.instance.specs.Reads.{row_causes, with_statement}
 use Rattle.instance.specs.Plans.{added, forgotten}
 use Rattle.instance.specs.Laws.{ReadsSound}
-use Rattle.instance.proofs.KeptPlaces.{read_at, read_put, read_added, none_there}
+use Rattle.tally.proofs.Puts.{read_at, read_put, none_there}
+use Rattle.instance.proofs.KeptPlaces.{read_added}
 
 -- ---- tables
 

@@ -64,8 +64,7 @@ impl Instance {
         let Statement::Report(report) = frame.into_statement() else {
             unreachable!()
         };
-        self.reports
-            .add(self.id, SignedReport { report, signature });
+        self.reports.add(SignedReport { report, signature });
     }
 
     /// Stores the replica's own lock. Its value is passed twice: as the value of the lock that was made and, if the

@@ -1,12 +1,12 @@
 //! The state of the agreement at one height, and how it starts.
 ghost use Rattle.std.specs.Prelude.{◌≡◌, None, IfOk, replicate};
 
-use ledger_model::{Ack, Batch, Config, Height, ReplicaId, SignedReport};
+use ledger_model::{Ack, Batch, Config, Height, ReplicaId};
 use lock_proofs::LockTable;
 use proper_sets::Proper;
 use std::alloc::{AllocError, Global};
 use std::marker::Model;
-use tally::Tally;
+use tally::{PhaseReports, Tally};
 
 /// The agreement at one height, as one replica sees it. Contracts see an `InstanceView`.
 pub struct Instance {
@@ -15,7 +15,7 @@ pub struct Instance {
     pub(crate) height: Height,
     pub(crate) proper: Proper,
     pub(crate) locks: LockTable,
-    pub(crate) reports: Tally<SignedReport>,
+    pub(crate) reports: PhaseReports,
     pub(crate) acks: Tally<Ack>,
     /// The value of the lock that was taken in the open phase.
     pub(crate) taken: Option<Batch>,
@@ -79,10 +79,13 @@ impl Model for Instance {
 }
 
 impl Instance {
-    ghost use Rattle.std.specs.Prelude.{◌≡◌, ◌<◌, ◌≤◌, ◌++◌, ◌∷◌, List, [], IfOk, true};
-    ghost use Rattle.std.specs.Option.{option_copied};
+    ghost use Rattle.std.specs.Prelude.{◌≡◌, ◌<◌, ◌≤◌, ◌++◌, ◌∷◌, ℕ, List, [], IfOk, true, false, if◌then◌else◌};
+    ghost use Rattle.std.specs.Int.{bit_at};
+    ghost use Rattle.std.specs.Option.{option_copied, option_map_or};
+    ghost use Rattle.tally.specs.Masks.{mask_of};
+    ghost use Rattle.tally.specs.Tallies.{read_of};
     ghost use Rattle.ledger_model.specs.Notes.{Note, Proposed};
-    ghost use Rattle.ledger_model.specs.Locks.{decided_of};
+    ghost use Rattle.ledger_model.specs.Locks.{decided_of, finds};
     ghost use Rattle.ledger_model.specs.Rules.{Ring};
     ghost use Rattle.ledger_model.specs.Limits.{max_height};
     ghost use Rattle.instance.specs.Matching.{MatchesLog, only_rounds};
@@ -127,6 +130,16 @@ impl Instance {
         self.height
     }
 
+    /// The replicas whose reports, read in the open phase, find the value, as a mask: bit r is one exactly where that of replica
+    /// r does. Allocates nothing.
+    pub fn finds(&self, value: &Batch) -> u16
+        ensures mask { result ≡ mask_of (λ s. finds s.report value.now) self.now.reports }
+        ensures bits { (r : ℕ) → bit_at result r
+            ≡ (if option_map_or (λ s. finds s.report value.now) (read_of self.now.reports r) false then 1 else 0) }
+    {
+        self.reports.finds(value)
+    }
+
     /// The value that was decided, if one was. A decision never changes.
     pub fn decided(&self) -> Option<&Batch>
         ensures row { option_copied result ≡ self.now.decided }
@@ -138,12 +151,12 @@ impl Instance {
 }
 
 /// Places for the reports and the acknowledgements of a phase, before the first is read.
-fn empty_places(
-    alloc: Global,
-    config: &Config,
-) -> Result<(Tally<SignedReport>, Tally<Ack>), AllocError>
+fn empty_places(alloc: Global, config: &Config) -> Result<(PhaseReports, Tally<Ack>), AllocError>
     ensures reports { IfOk result (λ places. places.0 ≡ replicate config.now.replicas None) }
     ensures acks { IfOk result (λ places. places.1 ≡ replicate config.now.replicas None) }
 {
-    Ok((Tally::new(alloc, config)?, Tally::new(alloc, config)?))
+    Ok((
+        PhaseReports::new(alloc, config)?,
+        Tally::new(alloc, config)?,
+    ))
 }

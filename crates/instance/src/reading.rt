@@ -107,8 +107,7 @@ impl Instance {
         let Statement::Report(report) = frame.into_statement() else {
             unreachable!()
         };
-        self.reports
-            .add(report.signer, SignedReport { report, signature });
+        self.reports.add(SignedReport { report, signature });
     }
 
     /// Stores the first report of its signer in this phase, whose signature verifies.

@@ -7,3 +7,4 @@ pub mod TakenLocks
 pub mod ReleasedLocks
 pub mod KeptLocks
 pub mod TimelyLogs
+pub mod SignerMasks

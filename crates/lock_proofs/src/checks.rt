@@ -18,13 +18,14 @@ pub fn is_of_owner(config: &Config, lock: &Lock) -> bool
 fn do_signers_ascend(config: &Config, reports: &[SignedReport]) -> bool
     ensures { result ≡ ascends_within 0 config.now.replicas (signers_of reports.now) }
 {
-    let mut least = 0;
+    let mut mask: u16 = 0;
     for signed in reports {
         let signer = signed.report.signer.number();
-        if signer < least || config.replicas <= signer {
+        // The signer's bit has to be above all bits of the mask.
+        if config.replicas <= signer || mask >> signer != 0 {
             return false;
         }
-        least = signer + 1;
+        mask |= 1 << signer;
     }
     true
 }

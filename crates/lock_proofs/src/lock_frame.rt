@@ -12,8 +12,8 @@ use crate::signatures::are_signed;
 use key_ring::KeyRing;
 use ledger_model::{Batch, Config, Lock, Phase, Statement};
 use signed_frames::Frame;
-use verify_cache::CheckSignatures;
 use std::marker::Model;
+use verify_cache::CheckSignatures;
 
 /// The frame of a lock, with the parts that were read from it. Contracts see the lock and its signature. The type
 /// doesn't say whether the lock is valid: [`check_lock`] ensures it of the locks that it returns.

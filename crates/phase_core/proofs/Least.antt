@@ -1,18 +1,15 @@
 -- The least value found one by one is the first of the ascending list.
-use Rattle.std.proofs.Common.{◌≡◌, ℕ, ◌+◌, ◌<◌, length, drop, get_or, Bool, true, false, inl, inr, List, [], ◌∷◌, ◌++◌, refl, sym, ap}
+use Rattle.std.proofs.Common.{◌≡◌, Bool, true, false, inl, inr, List, [], ◌∷◌, ◌++◌, refl, sym, ap}
 use Rattle.std.proofs.Common.{subst, ◌∙◌}
 use Rattle.std.specs.Prelude.{filter, Option, Some, None, if◌then◌else◌}
-use Rattle.std.proofs.lemmas.List.{drop_more}
 use Rattle.std.proofs.lemmas.Bool.{false≢true, and_parts, and_from, cases_Bool}
 use Rattle.ledger_model.specs.Values.{Value, same_value, is_below, with_value, ascending}
 use Rattle.ledger_model.specs.Spelling.{are_ascending}
 use Rattle.phase_core.specs.Choices.{first_value}
-use Rattle.ledger_model.proofs.Lists.{same_value-refl, same_value-equal}
-use Rattle.ledger_model.proofs.Below.{below_trans, below_itself, below_other, below_or, ascending_ascends, tail_ascends}
-use Rattle.ledger_model.specs.declared.statement.SignedReport.{SignedReport}
-use Rattle.tally.specs.Tallies.{all_read}
-use Rattle.tally.specs.Readings.{reports_of}
-use Rattle.phase_core.specs.Least.{least_with, least_of, values_named}
+use Rattle.ledger_model.specs.Notes.{Has}
+use Rattle.ledger_model.proofs.Lists.{same_value-refl, same_value-equal, has_ascending, ascending_has}
+use Rattle.ledger_model.proofs.Below.{below_trans, below_itself, below_other, below_or, ascending_ascends, tail_ascends, one_list}
+use Rattle.phase_core.specs.Least.{least_with, least_of}
 
 -- the lesser of two that may be there
 abbrev least_both : Option Value → Option Value → Option Value
@@ -144,21 +141,12 @@ least_from_none test vs = least_is_first test None vs ∙ none_both (first_passi
     none_both None = refl
     none_both (Some v) = refl
 
--- ---- reports one by one
-
--- what is found by the report at a place, and then by those behind it
-pub told_more : (test : Value → Bool) (found : Option Value) (places : List (Option SignedReport)) (i : ℕ) (signed : SignedReport)
-    → i < length places → Some signed ≡ get_or places i (Some signed)
-    → least_of test found (values_named (reports_of (all_read (drop i places))))
-    ≡ least_of test (least_of test (least_of test found signed.report.proper) signed.report.locked)
-    (values_named (reports_of (all_read (drop (i + 1) places))))
-told_more test found places i signed lt is =
-    let rest = values_named (reports_of (all_read (drop (i + 1) places))) in
-    ap (λ ps. least_of test found (values_named (reports_of (all_read ps))))
-    (drop_more places i (Some signed) lt ∙ ap (λ p. p ∷ drop (i + 1) places) (sym is))
-    ∙ least_of-append test found (signed.report.proper ++ signed.report.locked) rest
-    ∙ ap (λ o. least_of test o rest) (least_of-append test found signed.report.proper signed.report.locked)
-
-pub told_none : (places : List (Option SignedReport)) (i : ℕ) → i < length places → None ≡ get_or places i None
-    → all_read (drop i places) ≡ all_read (drop (i + 1) places)
-told_none places i lt is = ap all_read (drop_more places i None lt ∙ ap (λ p. p ∷ drop (i + 1) places) (sym is))
+-- which values there are says which is the least
+pub least_same : (test : Value → Bool) (vs ws : List Value) → ((x : Value) → Has vs x → Has ws x) → ((x : Value) → Has ws x → Has vs x)
+    → least_of test None vs ≡ least_of test None ws
+least_same test vs ws f g =
+    least_from_none test vs
+    ∙ ap (first_passing test)
+    (one_list (ascending vs) (ascending ws) (ascending_ascends vs) (ascending_ascends ws)
+    (λ x h. has_ascending ws x (f x (ascending_has vs x h))) (λ x h. has_ascending vs x (g x (ascending_has ws x h))))
+    ∙ sym (least_from_none test ws)

@@ -2,3 +2,4 @@ pub mod Least
 pub mod Counts
 pub mod Choosing
 pub mod Logs
+pub mod Listed

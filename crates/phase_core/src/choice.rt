@@ -1,22 +1,29 @@
 //! How the owner of a phase chooses the value that it locks.
-ghost use Rattle.std.specs.Prelude.{◌≡◌, true, false, Some, None, ◌++◌, option_copied, IfOk, IfSome, IfNone};
-ghost use Rattle.std.specs.List.{flat_map};
+ghost use Rattle.std.specs.Prelude.{◌≡◌, true, false, nat_le, count_ones, Some, None, option_copied, IfOk, IfSome, IfNone};
+ghost use Rattle.ledger_model.specs.Rounds.{quorum};
 ghost use Rattle.ledger_model.specs.Values.{Value};
 ghost use Rattle.tally.specs.Tallies.{all_read};
 ghost use Rattle.tally.specs.Readings.{reports_of};
+ghost use Rattle.tally.specs.ReportMasks.{IsReported};
 ghost use Rattle.phase_core.specs.Choices.{is_found_by, chosen};
-ghost use Rattle.phase_core.specs.Least.{least_with, least_of, values_named};
+ghost use Rattle.phase_core.specs.Least.{least_with, least_of, values_named, listed, found};
 
-use ledger_model::{Batch, Config, SignedReport};
+use ledger_model::{Batch, Config};
 use std::alloc::AllocError;
-use tally::Tally;
+use tally::{PhaseReports, ReportedValue};
+
+/// Whether the replicas of a mask are a quorum.
+fn is_quorum(config: &Config, mask: u16) -> bool
+    ensures { result ≡ nat_le (quorum config.now) (count_ones mask) }
+{
+    mask.count_ones() >= u32::from(config.quorum())
+}
 
 /// Whether a quorum's reports find the value, as a lock on it needs.
-fn is_found(config: &Config, reports: &Tally<SignedReport>, value: &Batch) -> bool
+fn is_found(config: &Config, reports: &PhaseReports, value: &Batch) -> bool
     ensures { result ≡ is_found_by config.now (reports_of (all_read reports.now)) value.now }
 {
-    let count = reports.count_where(|signed| signed.report.finds(value));
-    count >= usize::from(config.quorum())
+    is_quorum(config, reports.finds(value))
 }
 
 /// The lesser of the two values.
@@ -29,34 +36,42 @@ fn lesser<'a>(least: Option<&'a Batch>, value: &'a Batch) -> &'a Batch
     }
 }
 
-/// The least value that a quorum's reports find, among the one found before and the listed ones.
-fn least_listed<'a>(
-    config: &Config,
-    reports: &Tally<SignedReport>,
-    values: &'a [Batch],
-    found: Option<&'a Batch>,
-) -> Option<&'a Batch>
-    ensures { option_copied result ≡ least_of (is_found_by config.now (reports_of (all_read reports.now))) (option_copied found.entry) values.now }
+/// The value, if a report lists it as proper or as locked.
+fn listed<'a>(reports: &'a PhaseReports, reported: &ReportedValue) -> Option<&'a Batch>
+    ensures { option_copied result ≡ listed reports.now reported.now }
 {
-    let mut least = found;
-    for value in values {
-        if is_found(config, reports, value) {
-            least = Some(lesser(least, value));
-        }
+    if reported.masks.proper == 0 && reported.masks.locked == 0 {
+        return None;
     }
-    least
+    reports.value(reported)
 }
 
-/// The least value that a quorum's reports find, among the values that reports list as proper or as locked.
-fn least_named<'a>(config: &Config, reports: &'a Tally<SignedReport>) -> Option<&'a Batch>
+/// The value, if a report lists it as proper or as locked and a quorum's reports find it.
+fn found<'a>(
+    config: &Config,
+    reports: &'a PhaseReports,
+    reported: &ReportedValue,
+) -> Option<&'a Batch>
+    ensures { IsReported reports.now reports.now reported.now → option_copied result ≡ found config.now reports.now reported.now }
+{
+    let value = listed(reports, reported)?;
+    if is_quorum(config, reports.finding(reported.masks)) {
+        Some(value)
+    } else {
+        None
+    }
+}
+
+/// The least value that a quorum's reports find, among the values that reports list as proper or as locked. Asks for each
+/// value once.
+fn least_found<'a>(config: &Config, reports: &'a PhaseReports) -> Option<&'a Batch>
     ensures { option_copied result ≡ least_of (is_found_by config.now (reports_of (all_read reports.now))) None
         (values_named (reports_of (all_read reports.now))) }
 {
     let mut least = None;
-    for place in reports.places() {
-        if let Some(signed) = place {
-            least = least_listed(config, reports, signed.report.proper.as_slice(), least);
-            least = least_listed(config, reports, signed.report.locked.as_slice(), least);
+    for reported in reports.values() {
+        if let Some(value) = found(config, reports, reported) {
+            least = Some(lesser(least, value));
         }
     }
     least
@@ -67,7 +82,7 @@ fn least_named<'a>(config: &Config, reports: &'a Tally<SignedReport>) -> Option<
 /// the byte order of encodings. Allocates nothing.
 pub fn chosen_value<'a>(
     config: &Config,
-    reports: &'a Tally<SignedReport>,
+    reports: &'a PhaseReports,
     own: &'a Batch,
 ) -> Option<&'a Batch>
     ensures chosen { option_copied result ≡ chosen config.now (reports_of (all_read reports.now)) own.now }
@@ -79,13 +94,13 @@ pub fn chosen_value<'a>(
     if is_found(config, reports, own) {
         return Some(own);
     }
-    least_named(config, reports)
+    least_found(config, reports)
 }
 
 /// A copy of the value that the owner of a phase locks ([`chosen_value`]).
 pub fn choose(
     config: &Config,
-    reports: &Tally<SignedReport>,
+    reports: &PhaseReports,
     own: &Batch,
 ) -> Result<Option<Batch>, AllocError>
     ensures chosen { IfOk result (λ value. value ≡ chosen config.now (reports_of (all_read reports.now)) own.now) }

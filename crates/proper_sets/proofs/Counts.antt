@@ -1,34 +1,20 @@
 -- Counting reports with their signatures and without them.
-use Rattle.std.proofs.Common.{◌≡◌, ℕ, suc, ◌+◌, ◌<◌, Bool, true, false, not, ◌&&◌, List, [], ◌∷◌, ◌++◌, length, take, get_or, refl, sym, ap}
-use Rattle.std.proofs.Common.{◌∙◌, cond, arith, append-nil}
-use Rattle.std.specs.Prelude.{map, filter, nat_eq, Option, Some, None, ◌==◌}
+use Rattle.std.proofs.Common.{◌≡◌, ℕ, suc, ◌+◌, Bool, true, false, not, ◌&&◌, List, [], ◌∷◌, length, refl, sym, ap}
+use Rattle.std.proofs.Common.{◌∙◌, cond, arith}
+use Rattle.std.specs.Prelude.{map, filter, nat_eq, ◌==◌}
 use Rattle.std.specs.Int.{from_bool}
-use Rattle.std.specs.List.{list_all, flat_map, cons_option}
+use Rattle.std.specs.List.{list_all}
 use Rattle.std.proofs.lemmas.Bool.{ne_eqb}
-use Rattle.std.proofs.lemmas.List.{take_more, map-append, length-map}
-use Rattle.std.proofs.lemmas.List.Elements.{filter-append}
-use Rattle.std.proofs.lemmas.Grind.{flat_map-append}
+use Rattle.std.proofs.lemmas.List.{length-map}
 use Rattle.ledger_model.specs.declared.statement.Report.{Report}
 use Rattle.ledger_model.specs.declared.statement.SignedReport.{SignedReport}
 use Rattle.ledger_model.specs.Values.{Value}
-use Rattle.ledger_model.specs.Proper.{listed_by_other}
 use Rattle.tally.specs.Tallies.{Places, all_read, count_where}
 use Rattle.tally.specs.Readings.{reports_of}
 use Rattle.proper_sets.specs.Propriety.{others_where, initials}
-use Rattle.tally.proofs.Readings.{all_read_more}
+use Rattle.tally.proofs.Counts.{count_where-map}
 
 -- ---- counts
-
-pub count_where-map : {X Y : Type 0} (f : X → Y) (test : Y → Bool) (xs : List X)
-    → count_where test (map f xs) ≡ count_where (λ x. test (f x)) xs
-count_where-map f test [] = refl
-count_where-map f test (x ∷ xs) =
-    let rest = count_where-map f test xs in
-    elim (test (f x)) as (λ b. length (cond b (f x ∷ filter test (map f xs)) (filter test (map f xs)))
-    ≡ length (cond b (x ∷ filter (λ y. test (f y)) xs) (filter (λ y. test (f y)) xs))) [
-      | true ↦ ap suc rest
-      | false ↦ rest
-    ]
 
 pub count_where-filter : {X : Type 0} (kept test : X → Bool) (xs : List X)
     → count_where test (filter kept xs) ≡ count_where (λ x. kept x && test x) xs
@@ -103,33 +89,3 @@ initials_pass own initial test places =
     (count_where-map (λ p. p.initial) (λ v. not (test v)) (filter (λ p. not (p.signer == own)) (reports_of (all_read places)))
     ∙ count_where-filter (λ p. not (p.signer == own)) (λ p. not (test p.initial)) (reports_of (all_read places))
     ∙ others_counted own (λ p. not (test p.initial)) places))
-
--- ---- listed values
-
--- the values that the report at a place lists, where it is another's
-abbrev pub listed_at : ℕ → Option SignedReport → List Value
-listed_at own None = []
-listed_at own (Some s) = listed_by_other own s.report
-
-pub listed_more : (own : ℕ) (test : Value → Bool) (places : Places SignedReport) (i : ℕ) (place : Option SignedReport) → i < length places
-    → place ≡ get_or places i place
-    → filter test (flat_map (listed_by_other own) (reports_of (all_read (take (i + 1) places))))
-    ≡ filter test (flat_map (listed_by_other own) (reports_of (all_read (take i places)))) ++ filter test (listed_at own place)
-listed_more own test places i place h is =
-    ap (λ signed. filter test (flat_map (listed_by_other own) (reports_of signed))) (all_read_more places i place h is)
-    ∙ ap (λ reports. filter test (flat_map (listed_by_other own) reports))
-    (map-append (λ s. s.report) (all_read (take i places)) (cons_option place []))
-    ∙ ap (filter test) (flat_map-append (listed_by_other own) (reports_of (all_read (take i places))) (reports_of (cons_option place [])))
-    ∙ filter-append test (flat_map (listed_by_other own) (reports_of (all_read (take i places))))
-    (flat_map (listed_by_other own) (reports_of (cons_option place [])))
-    ∙ ap (λ vs. filter test (flat_map (listed_by_other own) (reports_of (all_read (take i places)))) ++ filter test vs) (alone place)
-  where
-    alone : (place : Option SignedReport) → flat_map (listed_by_other own) (reports_of (cons_option place [])) ≡ listed_at own place
-    alone None = refl
-    alone (Some s) = append-nil (listed_by_other own s.report)
-
-pub filter_more : {X : Type 0} (test : X → Bool) (xs : List X) (i : ℕ) (x : X) → i < length xs → x ≡ get_or xs i x
-    → filter test (take (i + 1) xs) ≡ filter test (take i xs) ++ filter test (x ∷ [])
-filter_more test xs i x h is =
-    ap (filter test) (take_more xs i x h) ∙ filter-append test (take i xs) (get_or xs i x ∷ [])
-    ∙ ap (λ y. filter test (take i xs) ++ filter test (y ∷ [])) (sym is)

@@ -5,3 +5,4 @@ pub mod Recuts
 pub mod LogCounts
 pub mod LogValues
 pub mod Absorbing
+pub mod Numbers

@@ -1,10 +1,10 @@
 //! The proper values of a replica: its own initial value, others by name, or all.
 use crate::ascending::Ascending;
-use crate::reported::PhaseReports;
-use ledger_model::{Batch, Config, ReplicaId, SignedReport};
+use crate::reported::Absorption;
+use ledger_model::{Batch, Config, ReplicaId};
 use std::alloc::{AllocError, Global};
 use std::marker::Model;
-use tally::Tally;
+use tally::PhaseReports;
 
 /// The proper values of a replica at one height: its own initial value, and those that the reports which it read make proper.
 ///
@@ -70,16 +70,12 @@ impl Proper {
     /// count among the others'.
     ///
     /// If memory runs out, nothing changes.
-    pub fn absorb(
-        &mut self,
-        own: ReplicaId,
-        reports: &Tally<SignedReport>,
-    ) -> Result<(), AllocError>
+    pub fn absorb(&mut self, own: ReplicaId, reports: &PhaseReports) -> Result<(), AllocError>
         ensures ok { OnOk result (self.new.set ≡ absorbed self.old.config own (reports_of (all_read reports.now)) self.old.set) }
         ensures config { self.new.config ≡ self.old.config }
         ensures err { OnErr result (self.new.set ≡ self.old.set) }
     {
-        let phase = PhaseReports {
+        let phase = Absorption {
             config: &self.config,
             own,
             initial: &self.own,

@@ -1,9 +1,8 @@
 -- What an open height may make, by the log that it matches.
-use Rattle.std.proofs.Common.{◌≡◌, ℕ, ◌+◌, ◌<◌, true, false, List, [], ◌∷◌, map, zero, suc, length, get_or, refl, ap, sym, subst, ◌∙◌}
-use Rattle.std.proofs.Common.{arith, below_more}
-use Rattle.std.proofs.lemmas.Option.{slice_get-get_or}
-use Rattle.std.specs.Prelude.{Some, None}
+use Rattle.std.proofs.Common.{◌≡◌, ℕ, ◌+◌, ◌⊎◌, true, false, List, [], ◌∷◌, map, suc, length, refl, arith}
+use Rattle.std.specs.Prelude.{Some, None, slice_get}
 use Rattle.std.specs.List.{AllByRecursion}
+use Rattle.ledger_model.specs.declared.history.Entry.{Entry}
 use Rattle.ledger_model.specs.declared.statement.SignedStatement.{SignedStatement}
 use Rattle.ledger_model.specs.Notes.{Note, clock_of}
 use Rattle.ledger_model.specs.Rules.{Ring, is_signed}
@@ -17,6 +16,8 @@ use Rattle.height_row.specs.Heights.{row_at, AreFound}
 use Rattle.height_row.specs.declared.round_closing.RoundClosing.{RoundClosing}
 use Rattle.instance.proofs.AtClock.{allows_at, allowed_at}
 use Rattle.instance.proofs.MaySend.{own_if_sent}
+use Rattle.replica_core.proofs.PairedLists.{both_ended}
+use Rattle.replica_core.specs.ReplicaStates.{ReplicaStateView, MatchesHistory}
 use Rattle.replica_core.specs.RoundEnds.{IsMadeAt, AreMade}
 
 module _ (ring : Ring) (row : InstanceView) (log : List Note) (clock : ℕ) (old : MatchesLog ring row log) (now : clock_of log ≡ clock) where
@@ -47,69 +48,73 @@ module _ (ring : Ring) (row : InstanceView) (log : List Note) (clock : ℕ) (old
 
 -- ---- at each height
 
--- what is made at each height may be made, of the first so many
-abbrev pub EachMade : Ring → ℕ → List InstanceView → List RoundClosing → ℕ → Type 0
-EachMade ring c rows xs n = (k : ℕ) → k < n → (row : InstanceView) (x : RoundClosing) → row ≡ get_or rows k row → x ≡ get_or xs k x
-    → IsMadeAt ring false c row x.made
+-- what is left of the heights, and of what they make, decides of them all
+pub record IsJudging (held : ReplicaStateView) (xs : List RoundClosing) (rows_left : List InstanceView) (left : List RoundClosing) : Type 0
+  where
+    pub count : length left ≡ length rows_left
+    -- each of these heights is open
+    pub found : AllByRecursion (λ row. row_at held.rows row.height ≡ Some row) rows_left
+    pub own : AllByRecursion (λ x. IsOwnMade held.id x.made) left → AllByRecursion (λ x. IsOwnMade held.id x.made) xs
+    pub may : (entries : List Entry) → MatchesHistory held entries
+        → AreMade held.ring false (held.clock + 1) rows_left (map (λ x. x.made) left)
+        → AreMade held.ring false (held.clock + 1) held.rows (map (λ x. x.made) xs)
+    pub only : AreMade held.ring false (held.clock + 1) held.rows (map (λ x. x.made) xs)
+        → AreMade held.ring false (held.clock + 1) rows_left (map (λ x. x.made) left)
 
--- and is the replica's own
-abbrev pub EachOwn : ℕ → List RoundClosing → ℕ → Type 0
-EachOwn id xs n = (k : ℕ) → k < n → (x : RoundClosing) → x ≡ get_or xs k x → IsOwnMade id x.made
+each_there : (P : InstanceView → Type 0) (rows : List InstanceView)
+    → ((place : ℕ) (row : InstanceView) → slice_get rows place ≡ Some row → P row) → AllByRecursion P rows
+each_there P [] each = tt
+each_there P (row ∷ rows) each = (each 0 row refl, each_there P rows (λ place x is. each (suc place) x is))
 
--- what holds of each of them holds of all
-pub made_from : (ring : Ring) (c : ℕ) (rows : List InstanceView) (xs : List RoundClosing) → length xs ≡ length rows
-    → EachMade ring c rows xs (length xs) → AreMade ring false c rows (map (λ x. x.made) xs)
-made_from ring c [] [] same each = tt
-made_from ring c [] (x ∷ xs) same each = absurd (omega arith)
-made_from ring c (row ∷ rows) [] same each = absurd (omega arith)
-made_from ring c (row ∷ rows) (x ∷ xs) same each = (
-  each 0 (omega arith) row x refl refl,
-  made_from ring c rows xs (omega arith)
-      (λ k below r y at is. each (suc k) (omega arith) r y at is),
-)
+module _ (held : ReplicaStateView) (xs : List RoundClosing) where
+  pub judging_begins : AreFound held.rows → length xs ≡ length held.rows → IsJudging held xs held.rows xs
+  judging_begins found count = record {
+    count = count;
+    found = each_there (λ row. row_at held.rows row.height ≡ Some row) held.rows found;
+    own = λ own. own;
+    may = λ entries matches made. made;
+    only = λ made. made;
+  }
 
--- and the other way round
-pub made_at : (ring : Ring) (c : ℕ) (rows : List InstanceView) (xs : List RoundClosing) → AreMade ring false c rows (map (λ x. x.made) xs)
-    → EachMade ring c rows xs (length xs)
-made_at ring c [] [] made k below row x at is = absurd (omega arith)
-made_at ring c [] (y ∷ xs) made k below row x at is = absurd made
-made_at ring c (r ∷ rows) [] made k below row x at is = absurd made
-made_at ring c (r ∷ rows) (y ∷ xs) made zero below row x at is =
-    subst (λ v. IsMadeAt ring false c v x.made) (sym at) (subst (λ (v : RoundClosing). IsMadeAt ring false c r v.made) (sym is) made.0)
-made_at ring c (r ∷ rows) (y ∷ xs) made (suc k) below row x at is = made_at ring c rows xs made.1 k (omega arith) row x at is
+  -- the next height may make what it does
+  pub judging_next : {rows_left : List InstanceView} {left : List RoundClosing} (row : InstanceView) (rows : List InstanceView)
+      (x : RoundClosing) (later : List RoundClosing) → IsJudging held xs rows_left left → rows_left ≡ row ∷ rows → left ≡ x ∷ later
+      → IsOwnMade held.id x.made
+      → ((entries : List Entry) → MatchesHistory held entries → IsMadeAt held.ring false (held.clock + 1) row x.made)
+      → IsJudging held xs rows later
+  judging_next row rows x later judging first next own made =
+      let at = rw (first, next) at judging in
+      record {
+        count = let count = at.count in omega (arith, count);
+        found = at.found.1;
+        own = λ others. at.own (own, others);
+        may = λ entries matches others. at.may entries matches (made entries matches, others);
+        only = λ all. (at.only all).1;
+      }
 
--- each is the replica's own
-pub own_from : (id : ℕ) (xs : List RoundClosing) → EachOwn id xs (length xs) → AllByRecursion (λ x. IsOwnMade id x.made) xs
-own_from id [] each = tt
-own_from id (x ∷ xs) each = (each 0 (omega arith) x refl, own_from id xs (λ k below y is. each (suc k) (omega arith) y is))
+  -- each is open, and what it makes is one of them
+  pub judged_row : {rows_left : List InstanceView} {left : List RoundClosing} (row : InstanceView) (rows : List InstanceView)
+      → IsJudging held xs rows_left left → rows_left ≡ row ∷ rows → row_at held.rows row.height ≡ Some row
+  judged_row row rows judging first = (rw first at judging.found).0
 
--- ---- one more of them
+  pub judged_made : {rows_left : List InstanceView} {left : List RoundClosing} (row : InstanceView) (rows : List InstanceView)
+      (x : RoundClosing) (later : List RoundClosing) → IsJudging held xs rows_left left → rows_left ≡ row ∷ rows → left ≡ x ∷ later
+      → AreMade held.ring false (held.clock + 1) held.rows (map (λ x. x.made) xs)
+      → IsMadeAt held.ring false (held.clock + 1) row x.made
+  judged_made row rows x later judging first next all = ((rw (first, next) at judging).only all).0
 
--- at a place stands one
-one_there : {X : Type 0} (xs : List X) (n : ℕ) (x y : X) → n < length xs → x ≡ get_or xs n x → y ≡ get_or xs n y → x ≡ y
-one_there xs n x y below is other =
-    let first = slice_get-get_or xs n x below ∙ ap (λ v. Some v) (sym is) in
-    let second = slice_get-get_or xs n y below ∙ ap (λ v. Some v) (sym other) in
-    cc
+  -- in the end they are judged
+  both_end : {rows_left : List InstanceView} {left : List RoundClosing} → IsJudging held xs rows_left left
+      → (rows_left ≡ []) ⊎ (length left ≡ 0) → IsJudging held xs [] []
+  both_end {rows_left = rows_left} {left = left} judging end =
+      let ended = both_ended rows_left left judging.count end in
+      rw (ended.0, ended.1) at judging
 
--- the first so many, and one more
-pub each_made_more : (ring : Ring) (c : ℕ) (rows : List InstanceView) (xs : List RoundClosing) (n : ℕ) (row : InstanceView)
-    (x : RoundClosing) → n < length rows → n < length xs → row ≡ get_or rows n row → x ≡ get_or xs n x
-    → EachMade ring c rows xs n → IsMadeAt ring false c row x.made → EachMade ring c rows xs (n + 1)
-each_made_more ring c rows xs n row x in_rows in_xs at is so_far made =
-    below_more (λ k. (r : InstanceView) (y : RoundClosing) → r ≡ get_or rows k r → y ≡ get_or xs k y → IsMadeAt ring false c r y.made) n
-    so_far
-    (λ r y r_at y_is.
-    subst (λ v. IsMadeAt ring false c v y.made) (one_there rows n row r in_rows at r_at)
-    (subst (λ (v : RoundClosing). IsMadeAt ring false c row v.made) (one_there xs n x y in_xs is y_is) made))
+  pub judged_may : {rows_left : List InstanceView} {left : List RoundClosing} → IsJudging held xs rows_left left
+      → (rows_left ≡ []) ⊎ (length left ≡ 0) → (entries : List Entry) → MatchesHistory held entries
+      → AreMade held.ring false (held.clock + 1) held.rows (map (λ x. x.made) xs)
+  judged_may judging end entries matches = (both_end judging end).may entries matches tt
 
-pub each_own_more : (id : ℕ) (xs : List RoundClosing) (n : ℕ) (x : RoundClosing) → n < length xs → x ≡ get_or xs n x → EachOwn id xs n
-    → IsOwnMade id x.made → EachOwn id xs (n + 1)
-each_own_more id xs n x in_xs is so_far own =
-    below_more (λ k. (y : RoundClosing) → y ≡ get_or xs k y → IsOwnMade id y.made) n so_far
-    (λ y y_is. subst (λ (v : RoundClosing). IsOwnMade id v.made) (one_there xs n x y in_xs is y_is) own)
-
--- the height that stands there is open
-pub open_there : (rows : List InstanceView) (n : ℕ) (row : InstanceView) → AreFound rows → n < length rows → row ≡ get_or rows n row
-    → row_at rows row.height ≡ Some row
-open_there rows n row found below is = found n row (slice_get-get_or rows n row below ∙ ap (λ v. Some v) (sym is))
+  pub judged_own : {rows_left : List InstanceView} {left : List RoundClosing} → IsJudging held xs rows_left left
+      → (rows_left ≡ []) ⊎ (length left ≡ 0) → AllByRecursion (λ x. IsOwnMade held.id x.made) xs
+  judged_own judging end = (both_end judging end).own tt

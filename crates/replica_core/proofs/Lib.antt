@@ -29,6 +29,7 @@ pub mod ShownMades
 pub mod ShownEnds
 pub mod AlikeFrames
 pub mod ShownClosings
+pub mod PairedLists
 pub mod JudgedMades
 pub mod Followed
 pub mod EventsFollowed

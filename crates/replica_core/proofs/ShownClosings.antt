@@ -1,12 +1,12 @@
 -- How each height closes its round according to the frames, one height after the other.
-use Rattle.std.proofs.Common.{◌≡◌, ℕ, suc, ◌+◌, ◌<◌, List, [], ◌∷◌, ◌++◌, length, map, drop, get_or, sym, ap, ◌∙◌, arith, append-nil}
-use Rattle.std.proofs.lemmas.List.{append_assoc, map-append, length-append, length-map, drop_all}
-use Rattle.std.proofs.Math.Seq.{drop-cons}
+use Rattle.std.proofs.Common.{◌≡◌, ℕ, ◌⊎◌, List, [], ◌∷◌, ◌++◌, length, map, sym, ap, ◌∙◌, arith, append-nil}
+use Rattle.std.proofs.lemmas.List.{append_assoc, map-append}
 use Rattle.ledger_model.specs.declared.statement.SignedStatement.{SignedStatement}
 use Rattle.instance.specs.declared.round_statement.RoundStatement.{RoundStatement}
 use Rattle.instance.specs.Instances.{InstanceView}
 use Rattle.instance.specs.Plans.{RoundEffectsView}
 use Rattle.height_row.specs.declared.round_closing.RoundClosing.{RoundClosing}
+use Rattle.replica_core.proofs.PairedLists.{both_ended}
 use Rattle.replica_core.specs.ShownEnds.{next_shown, left_next, made_of, made_each}
 
 abbrev pub heights : List InstanceView → List ℕ
@@ -18,61 +18,48 @@ endings xs = map (λ x. x.ending) xs
 abbrev pub mades : List RoundClosing → List RoundStatement
 mades xs = map (λ x. x.made) xs
 
--- the number of these heights and effects that the frames have shown, with the statements and effects that are left
-pub record IsShowing (rows : List InstanceView) (ends : List RoundEffectsView) (all left : List SignedStatement) (place : ℕ)
-    (rest : List RoundEffectsView) (closings : List RoundClosing) : Type 0 where
-  pub so_far : place ≡ length closings
-  pub ended : endings closings ++ rest ≡ ends
-  pub makes : mades closings ++ made_each (heights (drop place rows)) left ≡ made_each (heights rows) all
+-- what these frames have shown so far, and the heights, effects and statements that are left
+pub record IsShowing (rows : List InstanceView) (ends : List RoundEffectsView) (all : List SignedStatement) (rows_left : List InstanceView)
+    (ends_left : List RoundEffectsView) (left : List SignedStatement) (closings : List RoundClosing) : Type 0 where
+  pub count : length ends_left ≡ length rows_left
+  pub ended : endings closings ++ ends_left ≡ ends
+  pub makes : mades closings ++ made_each (heights rows_left) left ≡ made_each (heights rows) all
 
-module _ (rows : List InstanceView) (ends : List RoundEffectsView) (all left : List SignedStatement) (place : ℕ)
-    (closings : List RoundClosing) (count : length ends ≡ length rows) where
-  -- the next height is there
-  pub showing_below : (ending : RoundEffectsView) (rest : List RoundEffectsView)
-      → IsShowing rows ends all left place (ending ∷ rest) closings → place < length rows
-  showing_below ending rest showing =
-      let so_far = showing.so_far in
-      let both = sym (length-append (endings closings) (ending ∷ rest)) ∙ ap length showing.ended in
-      let first = length-map closings (λ (x : RoundClosing). x.ending) in
-      omega (arith, so_far, both, first, count)
-
-  -- with it there is one more
-  pub showing_next : (ending : RoundEffectsView) (rest : List RoundEffectsView) (row : InstanceView) (closing : RoundClosing)
-      (later : List SignedStatement)
-      → IsShowing rows ends all left place (ending ∷ rest) closings → row ≡ get_or rows place row
+module _ (rows : List InstanceView) (ends : List RoundEffectsView) (all : List SignedStatement) where
+  -- with the next height there is one more
+  pub showing_next : {rows_left : List InstanceView} {ends_left : List RoundEffectsView} (left : List SignedStatement)
+      (closings : List RoundClosing) (row : InstanceView) (others : List InstanceView) (ending : RoundEffectsView)
+      (rest : List RoundEffectsView) (closing : RoundClosing) (later : List SignedStatement)
+      → IsShowing rows ends all rows_left ends_left left closings → rows_left ≡ row ∷ others → ends_left ≡ ending ∷ rest
       → closing.ending ≡ ending → closing.made ≡ made_of (next_shown row.height left) → later ≡ left_next row.height left
-      → IsShowing rows ends all later (place + 1) rest (closings ++ closing ∷ [])
-  showing_next ending rest row closing later showing is ends_so made left_is =
-      let below : place < length rows = showing_below ending rest showing in
-      let so_far = showing.so_far in
-      let one = length-append closings (closing ∷ []) in
+      → IsShowing rows ends all others rest later (closings ++ closing ∷ [])
+  showing_next left closings row others ending rest closing later showing first next ends_so made left_is =
+      let at = rw (first, next) at showing in
       record {
-        so_far = omega (arith, so_far, one);
+        count = let count = at.count in omega (arith, count);
         ended = ap (λ xs. xs ++ rest) (map-append (λ (x : RoundClosing). x.ending) closings (closing ∷ []))
             ∙ append_assoc (endings closings) (closing.ending ∷ []) rest
             ∙ ap (λ e. endings closings ++ e ∷ rest) ends_so
-            ∙ showing.ended;
-        makes = ap (λ ms. ms ++ made_each (heights (drop (place + 1) rows)) later)
-            (map-append (λ (x : RoundClosing). x.made) closings (closing ∷ []))
-            ∙ append_assoc (mades closings) (closing.made ∷ []) (made_each (heights (drop (place + 1) rows)) later)
-            ∙ ap (λ m. mades closings ++ m ∷ made_each (heights (drop (place + 1) rows)) later) made
-            ∙ ap (λ ss. mades closings ++ made_of (next_shown row.height left) ∷ made_each (heights (drop (place + 1) rows)) ss) left_is
-            ∙ sym (ap (λ rs. mades closings ++ made_each (heights rs) left) (dropped below is))
-            ∙ showing.makes;
+            ∙ at.ended;
+        makes = ap (λ ms. ms ++ made_each (heights others) later) (map-append (λ (x : RoundClosing). x.made) closings (closing ∷ []))
+            ∙ append_assoc (mades closings) (closing.made ∷ []) (made_each (heights others) later)
+            ∙ ap (λ m. mades closings ++ m ∷ made_each (heights others) later) made
+            ∙ ap (λ ss. mades closings ++ made_of (next_shown row.height left) ∷ made_each (heights others) ss) left_is
+            ∙ at.makes;
       }
-    where
-      dropped : place < length rows → row ≡ get_or rows place row → drop place rows ≡ row ∷ drop (place + 1) rows
-      dropped below is = let one : place + 1 ≡ suc place =
-          omega arith in drop-cons rows place row below ∙ ap (λ r. r ∷ drop (suc place) rows) (sym is)
-          ∙ ap (λ n. row ∷ drop n rows) (sym one)
 
   -- in the end the frames have shown all of them
-  pub showing_ends : IsShowing rows ends all left place [] closings → endings closings ≡ ends
-  showing_ends showing = sym (append-nil (endings closings)) ∙ showing.ended
+  both_end : {rows_left : List InstanceView} {ends_left : List RoundEffectsView} (left : List SignedStatement)
+      (closings : List RoundClosing) → IsShowing rows ends all rows_left ends_left left closings
+      → (rows_left ≡ []) ⊎ (length ends_left ≡ 0) → IsShowing rows ends all [] [] left closings
+  both_end {rows_left = rows_left} {ends_left = ends_left} left closings showing end =
+      let ended = both_ended rows_left ends_left showing.count end in
+      rw (ended.0, ended.1) at showing
 
-  pub showing_makes : IsShowing rows ends all left place [] closings → mades closings ≡ made_each (heights rows) all
-  showing_makes showing =
-      let so_far = showing.so_far in
-      let counted = sym (length-map closings (λ (x : RoundClosing). x.ending)) ∙ ap length (showing_ends showing) in
-      let none : drop place rows ≡ [] = drop_all place rows (omega (arith, so_far, counted, count)) in
-      sym (append-nil (mades closings)) ∙ sym (ap (λ rs. mades closings ++ made_each (heights rs) left) none) ∙ showing.makes
+  module _ {rows_left : List InstanceView} {ends_left : List RoundEffectsView} (left : List SignedStatement) (closings : List RoundClosing)
+      (showing : IsShowing rows ends all rows_left ends_left left closings) (end : (rows_left ≡ []) ⊎ (length ends_left ≡ 0)) where
+    pub showing_ends : endings closings ≡ ends
+    showing_ends = sym (append-nil (endings closings)) ∙ (both_end left closings showing end).ended
+
+    pub showing_makes : mades closings ≡ made_each (heights rows) all
+    showing_makes = sym (append-nil (mades closings)) ∙ (both_end left closings showing end).makes

@@ -58,9 +58,8 @@ impl<A: Application> ReplicaState<A> {
             → AreMade self.now.ring false (self.now.clock + 1) self.now.rows (map (λ c. c.made) closings.now) → result ≡ true }
         ensures own { result ≡ true → AllByRecursion (λ c. IsOwnMade self.now.id c.made) closings.now }
     {
-        let instances = self.rows.instances();
-        for (place, closing) in closings.iter().enumerate() {
-            if !self.may_make(&instances[place], &closing.made) {
+        for (instance, closing) in self.rows.instances().zip(closings) {
+            if !self.may_make(instance, &closing.made) {
                 return false;
             }
         }

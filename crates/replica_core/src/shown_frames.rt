@@ -5,8 +5,8 @@ ghost use Rattle.ledger_model.specs.Spelling.{IsFrame};
 ghost use Rattle.instance.specs.Laws.{IsFrameMade};
 ghost use Rattle.replica_core.specs.ShownEnds.{statements_shown, next_shown, left_next, made_of, made_each, is_some_there, AreSpelled};
 
-use height_row::RoundClosing;
-use instance::{Instance, OwnFrame, RoundEffects, RoundStatement};
+use height_row::{OpenInstances, RoundClosing};
+use instance::{OwnFrame, RoundEffects, RoundStatement};
 use ledger_model::{Height, Sent};
 use signed_frames::Frame;
 use statements::DecodeFault;
@@ -93,23 +93,18 @@ fn push_shown(
 /// How each height closes its round, in order: each takes the next remaining frame if it is of that height.
 fn show_each(
     alloc: Global,
-    instances: &[Instance],
+    instances: OpenInstances<'_>,
     endings: Vec<RoundEffects>,
     frames: &mut VecDeque<Frame>,
 ) -> Result<Vec<RoundClosing>, AllocError>
-    requires count { length endings.items ≡ length instances.now }
+    requires count { length endings.items ≡ length instances }
     ensures endings { IfOk result (λ closings. map (λ c. c.ending) closings.items ≡ endings.items) }
-    ensures made { IfOk result (λ closings. map (λ c. c.made) closings.items ≡ made_each (map (λ row. row.height) instances.now) frames.old.items) }
+    ensures made { IfOk result (λ closings. map (λ c. c.made) closings.items
+        ≡ made_each (map (λ row. row.height) instances.entry) frames.old.items) }
 {
     let mut closings = Vec::with_capacity(alloc, endings.len())?;
-    for (place, ending) in endings.into_iter().enumerate() {
-        push_shown(
-            alloc,
-            &mut closings,
-            instances[place].height(),
-            ending,
-            frames,
-        )?;
+    for (instance, ending) in instances.zip(endings) {
+        push_shown(alloc, &mut closings, instance.height(), ending, frames)?;
     }
     Ok(closings)
 }
@@ -117,13 +112,14 @@ fn show_each(
 /// How each height closes its round, in order, according to these frames.
 pub(crate) fn make_shown(
     alloc: Global,
-    instances: &[Instance],
+    instances: OpenInstances<'_>,
     endings: Vec<RoundEffects>,
     mut frames: VecDeque<Frame>,
 ) -> Result<Vec<RoundClosing>, AllocError>
-    requires count { length endings.items ≡ length instances.now }
+    requires count { length endings.items ≡ length instances }
     ensures endings { IfOk result (λ closings. map (λ c. c.ending) closings.items ≡ endings.items) }
-    ensures made { IfOk result (λ closings. map (λ c. c.made) closings.items ≡ made_each (map (λ row. row.height) instances.now) frames.items) }
+    ensures made { IfOk result (λ closings. map (λ c. c.made) closings.items
+        ≡ made_each (map (λ row. row.height) instances.entry) frames.items) }
 {
     show_each(alloc, instances, endings, &mut frames)
 }

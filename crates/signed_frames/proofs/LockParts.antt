@@ -16,9 +16,10 @@ use Rattle.signed_frames.proofs.FrameParts.{holds_length}
 -- what stands between two places, and behind the second
 pub cut : (frame m behind : List ℕ) (at end : ℕ) → drop at frame ≡ m ++ behind → end ≡ at + length m
     → (slice_range frame at end ≡ m) × (drop end frame ≡ behind)
-cut frame m behind at end e n =
-    (ap (take (end - at)) e ∙ take_at m behind (end - at) (omega (arith, n)),
-     ap (λ (k : ℕ). drop k frame) n ∙ sym (drop-drop (length m) at frame) ∙ ap (drop (length m)) e ∙ drop_at m behind (length m) refl)
+cut frame m behind at end e n = (
+  ap (take (end - at)) e ∙ take_at m behind (end - at) (omega (arith, n)),
+  ap (λ (k : ℕ). drop k frame) n ∙ sym (drop-drop (length m) at frame) ∙ ap (drop (length m)) e ∙ drop_at m behind (length m) refl,
+)
 
 -- so it ends within the list, if it isn't empty
 pub cut_within : (frame m behind : List ℕ) (at : ℕ) → drop at frame ≡ m ++ behind → 1 ≤ length m → at + length m ≤ length frame

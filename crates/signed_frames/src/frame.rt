@@ -1,8 +1,8 @@
 //! A frame: the bytes of a signed statement, and borrowed parts of them.
+use crate::HEADER_LEN;
 use crate::lending::{LentReports, reports_in};
 use crate::parsing::{LENGTH_LEN, message_in, parts_of};
 use crate::signed_part::SignedPart;
-use crate::HEADER_LEN;
 use bytes::Bytes;
 use ledger_model::Statement;
 use statements::DecodeFault;

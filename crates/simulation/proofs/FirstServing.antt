@@ -1,11 +1,11 @@
 -- The first serving report: in one frame, and in a list of frames and those after it.
-use Rattle.std.proofs.Common.{◌≡◌, ℕ, ◌+◌, ◌<◌, arith, inl, inr, true, false, cond, List, [], ◌∷◌, ◌++◌, length, take, drop, map, refl, sym}
+use Rattle.std.proofs.Common.{◌≡◌, ℕ, ◌+◌, ◌<◌, arith, inl, inr, true, false, cond, List, [], ◌∷◌, ◌++◌, length, take, map, refl, sym}
 use Rattle.std.proofs.Common.{ap, ◌∙◌}
 use Rattle.std.specs.Prelude.{Option, Some, None, filter, slice_get, option_and_then}
 use Rattle.std.specs.Option.{is_some}
 use Rattle.std.specs.List.{filter_map, cons_option}
 use Rattle.std.proofs.lemmas.Grind.{flat_map-append}
-use Rattle.std.proofs.lemmas.List.{append-nil, map-append, take_more, take-append-drop}
+use Rattle.std.proofs.lemmas.List.{append-nil, map-append, take_more}
 use Rattle.std.proofs.lemmas.List.Elements.{filter_map-append, filter-append}
 use Rattle.std.proofs.lemmas.Option.{none-some, slice_get_cases, slice_get_within, get_or_from_slice_get}
 use Rattle.ledger_model.specs.declared.history.Entry.{Entry}
@@ -107,10 +107,6 @@ some_within xs i below none = elim ((slice_get_cases xs i).1) [
   | inr (past, nothing) ↦ omega arith
 ]
 
--- all items are those up to here, and then the others
-pub whole_list : {X : Type 0} (xs front : List X) (i : ℕ) → take (i + 1) xs ≡ front → xs ≡ front ++ drop (i + 1) xs
-whole_list xs front i upto = sym (take-append-drop (i + 1) xs) ∙ ap (λ ys. ys ++ drop (i + 1) xs) upto
-
 -- the frames that were sent
 abbrev pub frames_among : List Sent → List (List ℕ)
 frames_among sent = map (λ f. f.frame) sent
@@ -118,12 +114,6 @@ frames_among sent = map (λ f. f.frame) sent
 pub next_frame : (sent : List Sent) (i : ℕ) (s : Sent) → slice_get sent i ≡ Some s
     → frames_among (take (i + 1) sent) ≡ frames_among (take i sent) ++ s.frame ∷ []
 next_frame sent i s is = ap frames_among (next_item sent i s is) ∙ map-append (λ (f : Sent). f.frame) (take i sent) (s ∷ [])
-
-pub whole_frames : (sent : List Sent) (i : ℕ) (s : Sent) → slice_get sent i ≡ Some s
-    → frames_among sent ≡ (frames_among (take i sent) ++ s.frame ∷ []) ++ frames_among (drop (i + 1) sent)
-whole_frames sent i s is =
-    ap frames_among (sym (take-append-drop (i + 1) sent)) ∙ map-append (λ (f : Sent). f.frame) (take (i + 1) sent) (drop (i + 1) sent)
-    ∙ ap (λ fs. fs ++ frames_among (drop (i + 1) sent)) (next_frame sent i s is)
 
 -- the frames of the entries up to and with this one
 pub next_sent : (entries : List Entry) (i : ℕ) → i < length entries
@@ -136,12 +126,3 @@ next_sent entries i below = elim ((slice_get_cases entries i).1) [
       ∙ ap (λ o. frames_sent (take i entries) ++ frames_of o) (sym is)
   | inr (past, nothing) ↦ absurd (omega arith)
 ]
-
--- all frames are those of the entries up to here, and then the others
-pub whole_sent : (entries : List Entry) (i : ℕ) → i < length entries
-    → frames_sent entries ≡ (frames_sent (take i entries) ++ frames_of (slice_get entries i)) ++ frames_sent (drop (i + 1) entries)
-unfolding frames_sent
-whole_sent entries i below =
-    ap frames_sent (sym (take-append-drop (i + 1) entries))
-    ∙ flat_map-append (λ (x : Entry). frames_in x.reply) (take (i + 1) entries) (drop (i + 1) entries)
-    ∙ ap (λ fs. fs ++ frames_sent (drop (i + 1) entries)) (next_sent entries i below)

@@ -1,4 +1,6 @@
 mod FirstServing
+mod Growing
+pub mod Indexing
 pub mod Passing
 pub mod PlayLemmas
 pub mod Ranges

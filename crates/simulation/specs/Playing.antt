@@ -1,5 +1,5 @@
 -- What each command of a scenario does to a cluster, and what is printed for it.
-use Rattle.std.specs.Prelude.{◌≡◌, ◌⊎◌, MatchBool, ℕ, ◌+◌, ◌-◌, ◌==◌, nat_lt, Bool, true, false, not, List, [], ◌∷◌, ◌++◌, length, map}
+use Rattle.std.specs.Prelude.{◌≡◌, ◌⊎◌, MatchBool, ℕ, ◌+◌, ◌==◌, nat_lt, Bool, true, false, not, List, [], ◌∷◌, ◌++◌, length, map}
 use Rattle.std.specs.Prelude.{filter, take, Option, Some, None, Result, Ok, Err, codes, slice_get, if◌then◌else◌}
 use Rattle.std.specs.List.{filter_map, range_with_len}
 use Rattle.ledger_model.specs.declared.config.Config.{Config}
@@ -41,6 +41,10 @@ use Rattle.ledger_model.specs.Rounds.{quorum}
 pub record SimulationView : Type 0 where
   pub cluster : WorldView
   pub lies : List (List ℕ)
+
+-- the simulation of this cluster, whose liars have signed these frames
+abbrev pub simulation_of : WorldView → List (List ℕ) → SimulationView
+simulation_of c lies = record { cluster = c; lies = lies }
 
 -- ---- steps
 

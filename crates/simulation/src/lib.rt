@@ -6,6 +6,8 @@
 
 mod playing;
 mod proving;
+mod report_index;
+mod report_list;
 mod rounds;
 mod said;
 mod serving_reports;

@@ -1,4 +1,5 @@
 //! A simulated cluster, and what its liars have signed.
+use crate::report_index::ReportIndex;
 use abci::Application;
 use adversary_net::{World, WorldFault};
 use bytes::Bytes;
@@ -12,6 +13,8 @@ use std::marker::Model;
 pub struct Simulation<A: Application> {
     pub(crate) world: World<A>,
     pub(crate) lies: Vec<Bytes>,
+    /// The reports among all these frames; no contract sees it.
+    pub(crate) index: ReportIndex,
 }
 
 // An own `Drop` keeps proofs short: an owner drops it by one call. See docs/WORKING.md.
@@ -20,6 +23,7 @@ impl<A: Application> Drop for Simulation<A> {
         let Simulation {
             world: _world,
             lies: _lies,
+            index: _index,
         } = self;
     }
 }
@@ -29,7 +33,11 @@ impl<A: Application> Model for Simulation<A> {
 
     ghost Value = { SimulationView };
 
+    ghost use Rattle.simulation.specs.Indexes.{IsIndexOf};
+
     ghost view = { λ s. record { cluster = s.world; lies = s.lies.items } };
+
+    ghost invariant = { λ s. IsIndexOf s.index s.world s.lies.items };
 }
 
 impl<A: Application> Simulation<A> {
@@ -61,6 +69,7 @@ impl<A: Application> Simulation<A> {
             Ok(world) => Ok(Simulation {
                 world,
                 lies: Vec::new(alloc),
+                index: ReportIndex::new(alloc),
             }),
             Err(fault) => Err(fault),
         }

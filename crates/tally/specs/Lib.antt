@@ -1,2 +1,4 @@
 pub mod Tallies
+pub mod Masks
+pub mod ReportMasks
 pub mod Readings

@@ -5,7 +5,6 @@ use Rattle.ledger_model.specs.declared.config.Config.{Config}
 use Rattle.ledger_model.specs.declared.statement.Ack.{Ack}
 use Rattle.ledger_model.specs.declared.statement.Report.{Report}
 use Rattle.ledger_model.specs.declared.statement.SignedReport.{SignedReport}
-use Rattle.ledger_model.specs.Values.{ascending}
 use Rattle.ledger_model.specs.Rounds.{round_at, ack_place, report_place}
 use Rattle.ledger_model.specs.Notes.{Note, is_report, is_ack, was_read}
 use Rattle.ledger_model.specs.Validity.{ascends_within}

@@ -1,8 +1,10 @@
 //! A tally: one place for each replica, which stores the first statement of that replica.
-ghost use Rattle.std.specs.Prelude.{◌≡◌, ◌<◌, ◌≤◌, Bool, None, Some, length, replicate, slice_set, option_copied, IfOk, if◌then◌else◌};
-ghost use Rattle.std.specs.Option.{is_none};
+ghost use Rattle.std.specs.Prelude.{◌≡◌, ◌<◌, ◌≤◌, ℕ, Bool, None, Some, length, replicate, slice_set, option_copied, IfOk, if◌then◌else◌};
+ghost use Rattle.std.specs.Int.{bit_at};
+ghost use Rattle.std.specs.Option.{is_none, is_some};
 ghost use Rattle.std.specs.Fn.{ComputesKey};
 ghost use Rattle.tally.specs.Tallies.{read_of, all_read, count_where, signers_from};
+ghost use Rattle.tally.specs.Masks.{mask_read};
 
 use ledger_model::{Config, ReplicaId};
 use std::alloc::{AllocError, Global};
@@ -14,16 +16,19 @@ use std::marker::Model;
 #[derive(Drop)]
 pub struct Tally<X> {
     places: Vec<Option<X>>,
+    /// The mask of the replicas whose places are full.
+    mask: u16,
 }
 
 impl<X> Model for Tally<X> {
-    ghost use Rattle.std.specs.Prelude.{◌≤◌, List, Option, length};
+    ghost use Rattle.std.specs.Prelude.{◌≡◌, ◌≤◌, List, Option, length};
+    ghost use Rattle.tally.specs.Masks.{mask_read};
 
     ghost Value = { List (Option X) };
 
     ghost view = { λ t. t.places.items };
 
-    ghost invariant = { λ t. length t.places.items ≤ 13 };
+    ghost invariant = { λ t. (length t.places.items ≤ 13) × (t.mask ≡ mask_read t.places.items) };
 }
 
 impl<X: Drop> Tally<X> {
@@ -35,7 +40,7 @@ impl<X: Drop> Tally<X> {
         for _ in 0..config.replicas {
             places.push(None)?;
         }
-        Ok(Tally { places })
+        Ok(Tally { places, mask: 0 })
     }
 
     /// The number of places, one for each replica: at most 13.
@@ -52,12 +57,14 @@ impl<X: Drop> Tally<X> {
         ensures added { result ≡ is_none (read_of self.old signer) }
         ensures after { self.new ≡ (if result then slice_set self.old signer (Some read) else self.old) }
         ensures places { length self.new ≡ length self.old }
+        ensures few { length self.new ≤ 13 }
     {
         let place = &mut self.places[usize::from(signer.number())];
         if place.is_some() {
             return false;
         }
         *place = Some(read);
+        self.mask |= 1 << signer.number();
         true
     }
 
@@ -68,6 +75,7 @@ impl<X: Drop> Tally<X> {
         for place in 0..self.places.len() {
             self.places[place] = None;
         }
+        self.mask = 0;
     }
 
     /// The statement that was read of a replica, if one was.
@@ -75,6 +83,14 @@ impl<X: Drop> Tally<X> {
         ensures { option_copied result ≡ read_of self.now signer }
     {
         self.places.get(usize::from(signer.number()))?.as_ref()
+    }
+
+    /// The replicas of which a statement was read, as a mask: bit r is one exactly where one of replica r was. Allocates nothing.
+    pub fn mask(&self) -> u16
+        ensures mask { result ≡ mask_read self.now }
+        ensures bits { (r : ℕ) → bit_at result r ≡ (if is_some (read_of self.now r) then 1 else 0) }
+    {
+        self.mask
     }
 
     /// The number of statements that pass the test. Allocates nothing.

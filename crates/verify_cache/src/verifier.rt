@@ -201,13 +201,7 @@ impl Verifier {
     {
         match SignedMessage::of_part(part) {
             Ok(signed) => self.known.contains(&signed),
-            Err(_) => find(
-                &self.known,
-                part.signer(),
-                part.message(),
-                part.signature(),
-            )
-            .is_some(),
+            Err(_) => find(&self.known, part.signer(), part.message(), part.signature()).is_some(),
         }
     }
 

@@ -1,44 +1,44 @@
-use Rattle.std.proofs.Common.{◌+◌, sym, ap, ◌∙◌, arith}
-use Rattle.std.specs.Vec.Iter.{into_iter_items}
-use Rattle.std.proofs.lemmas.Grind.{common_steps}
-use Rattle.height_row.proofs.Turns.{none_closed, turn_place, turn_of}
+use Rattle.std.proofs.Common.{◌<◌, ◌+◌, length, arith}
+use Rattle.std.proofs.lemmas.List.{set-get_or}
+use Rattle.height_row.proofs.HeightSlots.{slot_is}
+use Rattle.height_row.proofs.Turns.{passed, closes, due, has_closing}
 use Rattle.height_row.proofs.round_closing.close_each.Goals as goal
+use Rattle.height_row.proofs.round_closing.close_each.Goals.{in-Some, in_default}
 
-pub loop-place-init : goal.loop-place-init
-loop-place-init c =
-    let begins = ap (λ i. i.count) c.into_iter-place-iterator.ensures.into_iter_gives ∙ c.enumerate-place-items.ensures.count in
-    let all = ap (λ i. into_iter_items i.iter) c.into_iter-place-iterator.ensures.into_iter_gives
-    ∙ ap into_iter_items c.enumerate-place-items.ensures.source ∙ c.into_iter.ensures.rest in
-    rw begins (sym (none_closed (c.args.clock + 1) c.args.instances.now), all)
+pub loop-slot-preserved : goal.loop-slot-preserved
+loop-slot-preserved c =
+    let within : c.loop-slot.slot-index < length c.loop-slot.slots = omega arith in
+    elim c.match-slot.branch [
+      | in-Some w ↦
+          let is = slot_is c.loop-slot.slots c.loop-slot.slot-index c.slot-item.is w.in-Some.is in
+          let more = rw w.unwrap-closing.ensures at w.next.ensures.items in
+          rw (w.slots-is, w.closings-is)
+          (closes (c.args.clock + 1) _ _ c.loop-slot.slots c.loop-slot.slot-index _ c.loop-slot.invariant within w.in-Some.instance is
+          w.unwrap-closing.result _ more w.close.new.self w.close.ensures.row)
+      | in_default w ↦
+          let is = slot_is c.loop-slot.slots c.loop-slot.slot-index c.slot-item.is w.in_default.is in
+          rw (w.slots-is, w.closings-is, set-get_or c.loop-slot.slots c.loop-slot.slot-index c.slot-item.result)
+          (passed (c.args.clock + 1) _ _ c.loop-slot.slots c.loop-slot.slot-index _ c.loop-slot.invariant within is)
+    ]
 
-pub bounds-instances-place : goal.bounds-instances-place
-bounds-instances-place c =
-    let steps = c.in-Some.ensures.steps in
-    let place = turn_place (c.args.clock + 1) c.args.instances.now c.args.closings.items c.requires.closings c.loop-place.invariant.0
-    c.loop-place.invariant.1 steps.0.0 steps.1 in
-    omega (arith, place)
-
-pub loop-place-preserved : goal.loop-place-preserved
-loop-place-preserved c =
-    let steps = c.in-Some.ensures.steps in
-    let turn = turn_of (c.args.clock + 1) c.args.instances.now c.args.closings.items c.requires.closings c.loop-place.invariant.0
-    c.loop-place.invariant.1 steps.0.0 steps.1 c.index-instances-place.result in
-    rw (steps.2, sym steps.1) (turn.after c.close.new.self c.close.ensures.row, turn.more)
+pub unwrap-closing-requires : goal.unwrap-closing-requires
+unwrap-closing-requires c =
+    let within : c.loop-slot.slot-index < length c.loop-slot.slots = omega arith in
+    let is = slot_is c.loop-slot.slots c.loop-slot.slot-index c.slot-item.is c.in-Some.is in
+    let more = has_closing (c.args.clock + 1) _ _ c.loop-slot.slots c.loop-slot.slot-index _ c.loop-slot.invariant within
+    c.in-Some.instance is in
+    c.next.ensures.variant.1 (omega (arith, more))
 
 pub close-requires-clause-ending : goal.close-requires-clause-ending
 close-requires-clause-ending c =
-    let steps = c.in-Some.ensures.steps in
-    (turn_of (c.args.clock + 1) c.args.instances.now c.args.closings.items c.requires.closings c.loop-place.invariant.0
-    c.loop-place.invariant.1 steps.0.0 steps.1 c.index-instances-place.result).ending
+    let within : c.loop-slot.slot-index < length c.loop-slot.slots = omega arith in
+    let is = slot_is c.loop-slot.slots c.loop-slot.slot-index c.slot-item.is c.in-Some.is in
+    (due (c.args.clock + 1) _ _ c.loop-slot.slots c.loop-slot.slot-index _ c.loop-slot.invariant within c.in-Some.instance is
+    c.unwrap-closing.result _ (rw c.unwrap-closing.ensures at c.next.ensures.items)).0
 
 pub close-requires-clause-own : goal.close-requires-clause-own
 close-requires-clause-own c =
-    let steps = c.in-Some.ensures.steps in
-    (turn_of (c.args.clock + 1) c.args.instances.now c.args.closings.items c.requires.closings c.loop-place.invariant.0
-    c.loop-place.invariant.1 steps.0.0 steps.1 c.index-instances-place.result).own
-
-pub offset_bounds-instances-place : goal.offset_bounds-instances-place
-offset_bounds-instances-place c = grind (arith, common_steps)
-
-pub returns : goal.returns
-returns c = grind (arith, common_steps)
+    let within : c.loop-slot.slot-index < length c.loop-slot.slots = omega arith in
+    let is = slot_is c.loop-slot.slots c.loop-slot.slot-index c.slot-item.is c.in-Some.is in
+    (due (c.args.clock + 1) _ _ c.loop-slot.slots c.loop-slot.slot-index _ c.loop-slot.invariant within c.in-Some.instance is
+    c.unwrap-closing.result _ (rw c.unwrap-closing.ensures at c.next.ensures.items)).1

@@ -21,10 +21,10 @@ returns-clause-chosen c =
 
 pub returns-clause-found : goal.returns-clause-found
 returns-clause-found c =
-    found_if_some c.args.config.now (reports_of (all_read c.args.reports.now)) c.args.own.now (option_copied c.least_named.result)
+    found_if_some c.args.config.now (reports_of (all_read c.args.reports.now)) c.args.own.now (option_copied c.least_found.result)
     (returns-clause-chosen c)
 
 pub returns-clause-none : goal.returns-clause-none
 returns-clause-none c =
-    none_if_none c.args.config.now (reports_of (all_read c.args.reports.now)) c.args.own.now (option_copied c.least_named.result)
+    none_if_none c.args.config.now (reports_of (all_read c.args.reports.now)) c.args.own.now (option_copied c.least_found.result)
     (returns-clause-chosen c)

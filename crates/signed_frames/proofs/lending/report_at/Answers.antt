@@ -26,15 +26,19 @@ overflow_add-signature_end c =
 pub invariant_of-part : goal.invariant_of-part
 invariant_of-part c =
     let s = c.args.signed.now in
-    omega (arith, c.report_len.ensures.len, ap length c.as_bytes.ensures,
-      within c.args.frame.now (report_bytes s.report) s.signature c.requires.front.0 c.args.at c.requires.front.1)
+    omega (
+      arith,
+      c.report_len.ensures.len,
+      ap length c.as_bytes.ensures,
+      within c.args.frame.now (report_bytes s.report) s.signature c.requires.front.0 c.args.at c.requires.front.1,
+    )
 
 pub returns-clause-part : goal.returns-clause-part
 unfolding statement_bytes
 returns-clause-part c =
     let s = c.args.signed.now in
     let cuts = signed_cut c.args.frame.now (report_bytes s.report) (to_be_bytes w16 (length s.signature)) s.signature c.requires.front.0 c.args.at
-        c.requires.front.1 refl in
+    c.requires.front.1 refl in
     rw (c.report_len.ensures.len, c.as_bytes.ensures) (same_part s.report.signer _ _ _ _ cuts.0 cuts.1)
 
 pub returns-clause-behind : goal.returns-clause-behind

@@ -1,69 +1,70 @@
-use Rattle.std.proofs.Common.{◌≤◌, sym, subst, ◌∙◌, arith}
+use Rattle.std.proofs.Common.{is_some, refl, sym, subst, ap, ◌∙◌, arith}
+use Rattle.std.specs.Option.{option_copied_mut}
+use Rattle.std.proofs.lemmas.Option.{same_Some}
 use Rattle.instance.specs.Plans.{IsOwnMade}
-use Rattle.ledger_model.specs.Limits.{max_height}
-use Rattle.height_row.proofs.Finding.{all_there, place_within, is_held, is_put, own_put}
-use Rattle.height_row.proofs.Ascending.{put_keeps}
+use Rattle.instance.proofs.SameHeight.{same_self}
+use Rattle.height_row.proofs.OpenRows.{IsPut, own_rows, open_within, open_slot, is_put}
 use Rattle.height_row.proofs.row.HeightRow.close.Goals as goal
+
+-- the height is open, so it has a place
+pub unwrap-place-requires : goal.unwrap-place-requires
+unwrap-place-requires c = rw (c.place.ensures, c.requires.open) refl
 
 pub index_mut-requires : goal.index_mut-requires
 index_mut-requires c =
-    let within = place_within c.self.inside.instances.items c.args.height c.position-place.result
-    (rw (sym c.self.view_is) at c.position-place.ensures) in
-    omega (arith, within, c.self.inside.instances.ok.0)
+    let found = rw (sym c.self.view_is) at (sym c.place.ensures ∙ c.unwrap-place.ensures) in
+    let within = open_within _ _ _ c.self.inside.slots.items c.self.invariant.1 _ (rw (sym c.self.view_is) at c.requires.open)
+    c.unwrap-place.result found in
+    omega (arith, within, c.self.inside.slots.ok.0)
+
+pub unwrap-requires : goal.unwrap-requires
+unwrap-requires c =
+    let found = rw (sym c.self.view_is) at (sym c.place.ensures ∙ c.unwrap-place.ensures) in
+    let opened = rw (sym c.self.view_is) at c.requires.open in
+    let slot = open_slot _ _ _ c.self.inside.slots.items c.self.invariant.1 _ opened c.unwrap-place.result found
+    c.index_mut.result.now c.index_mut.ensures.value in
+    c.as_mut.ensures.variant ∙ ap is_some (sym slot) ∙ opened
+
+-- its instance is there
+held : (c : goal.After-unwrap)
+    → IsPut c.self.inside.config c.self.inside.id c.self.inside.floor c.self.inside.slots.items c.args.height c.unwrap-place.result
+    c.unwrap.result.now c.unwrap.result.now
+held c =
+    let found = rw (sym c.self.view_is) at (sym c.place.ensures ∙ c.unwrap-place.ensures) in
+    let some = ap option_copied_mut (sym c.unwrap.ensures) ∙ c.as_mut.ensures.value in
+    is_put _ _ _ c.self.inside.slots.items c.self.invariant.1 _ (rw (sym c.self.view_is) at c.requires.open) c.unwrap-place.result found
+    c.index_mut.result.now c.index_mut.ensures.value c.unwrap.result.now c.unwrap.result.now some (same_self c.unwrap.result.now)
 
 pub close-requires-clause-ending : goal.close-requires-clause-ending
-close-requires-clause-ending c =
-    let found = rw (sym c.self.view_is) at c.position-place.ensures in
-    (rw (sym c.self.view_is) at c.requires.ending) c.index_mut.result.now
-    (is_held c.index_mut.result.now found c.index_mut.ensures.value).held
+close-requires-clause-ending c = (rw (sym c.self.view_is) at c.requires.ending) c.unwrap.result.now (held c).was
 
 pub close-requires-clause-own : goal.close-requires-clause-own
-close-requires-clause-own c =
-    let found = rw (sym c.self.view_is) at c.position-place.ensures in
-    let old = is_held c.index_mut.result.now found c.index_mut.ensures.value in
-    let same = all_there _ c.self.inside.instances.items c.position-place.result c.index_mut.result.now c.self.invariant.1 old.within
-    c.index_mut.ensures.value in
-    subst (λ id. IsOwnMade id c.args.made) (sym same.1) (rw (sym c.self.view_is) at c.requires.own)
+close-requires-clause-own c = subst (λ id. IsOwnMade id c.args.made) (sym (held c).own.1) (rw (sym c.self.view_is) at c.requires.own)
+
+-- and another of the same height, once it has done this
+put : (c : goal.After-self-1)
+    → IsPut c.self.inside.config c.self.inside.id c.self.inside.floor c.self.inside.slots.items c.args.height c.unwrap-place.result
+    c.unwrap.result.now c.close.new.self
+put c =
+    let found = rw (sym c.self.view_is) at (sym c.place.ensures ∙ c.unwrap-place.ensures) in
+    let some = ap option_copied_mut (sym c.unwrap.ensures) ∙ c.as_mut.ensures.value in
+    is_put _ _ _ c.self.inside.slots.items c.self.invariant.1 _ (rw (sym c.self.view_is) at c.requires.open) c.unwrap-place.result found
+    c.index_mut.result.now c.index_mut.ensures.value c.unwrap.result.now c.close.new.self some c.close.ensures.same
 
 pub returns-clause-matches : goal.returns-clause-matches
-returns-clause-matches c row new was is ring log matches clock may signed =
-    let found = rw (sym c.self.view_is) at c.position-place.ensures in
-    let old = is_held c.index_mut.result.now found c.index_mut.ensures.value in
-    let put = is_put c.close.new.self found (c.close.ensures.same.height ∙ old.height) in
-    let same = old.only row (rw (sym c.self.view_is) at was) in
-    rw (sym (put.only new is), sym same) (c.close.ensures.matches ring log (rw (sym same) at matches) clock (rw (sym same) at may) signed)
+returns-clause-matches c =
+    λ row new was is.
+    rw (sym (same_Some _ _ (sym (put c).was ∙ (rw (sym c.self.view_is) at was))), sym (same_Some _ _ (sym (put c).there ∙ is)))
+    c.close.ensures.matches
 
 pub returns-clause-open : goal.returns-clause-open
-returns-clause-open c =
-    let found = rw (sym c.self.view_is) at c.position-place.ensures in
-    let old = is_held c.index_mut.result.now found c.index_mut.ensures.value in
-    (is_put c.close.new.self found (c.close.ensures.same.height ∙ old.height)).opened
+returns-clause-open c = ap is_some (put c).there
 
 pub returns-clause-apart : goal.returns-clause-apart
-returns-clause-apart c =
-    let found = rw (sym c.self.view_is) at c.position-place.ensures in
-    let old = is_held c.index_mut.result.now found c.index_mut.ensures.value in
-    rw (sym c.self.view_is) ((is_put c.close.new.self found (c.close.ensures.same.height ∙ old.height)).apart)
-
-pub returns-clause-own : goal.returns-clause-own
-returns-clause-own c =
-    let found = rw (sym c.self.view_is) at c.position-place.ensures in
-    let old = is_held c.index_mut.result.now found c.index_mut.ensures.value in
-    let same = all_there _ c.self.inside.instances.items c.position-place.result c.index_mut.result.now c.self.invariant.1 old.within
-    c.index_mut.ensures.value in
-    own_put _ _ _ c.self.inside.instances.items c.args.height c.position-place.result c.close.new.self c.self.invariant.1 found (
-      c.close.ensures.same.config ∙ same.0,
-      c.close.ensures.same.id ∙ same.1,
-      c.close.ensures.same.height
-          ∙ old.height,
-      subst (λ n. n ≤ max_height) old.height same.2,
-      subst (λ n. c.self.inside.floor ≤ n) old.height same.3,
-    )
+returns-clause-apart c = rw (sym c.self.view_is) (put c).apart
 
 pub invariant_of-self : goal.invariant_of-self
-invariant_of-self c =
-    let rows = c.self.inside.instances.items in
-    let held = is_held c.index_mut.result.now (rw (sym c.self.view_is) at c.position-place.ensures) c.index_mut.ensures.value in
-    let kept = put_keeps _ _ _ rows c.position-place.result c.index_mut.result.now c.close.new.self c.self.invariant.1 c.self.invariant.2
-    held.within c.index_mut.ensures.value held.alike c.close.ensures.same in
-    (c.self.invariant.0, kept.0, kept.1)
+invariant_of-self c = (c.self.invariant.0, (put c).all)
+
+pub returns-clause-own : goal.returns-clause-own
+returns-clause-own c = own_rows _ _ _ _ (put c).all

@@ -11,10 +11,11 @@ report_at-part-requires-clause-front c =
     let first = c.in_ok-signed.signed.now in
     let others = c.in_ok-signed.others.now in
     let rest = c.self.invariant.spelled.0 in
-    let is : c.self.inside.reports.now ≡ first ∷ others = search rules in
-    (flat_map signed_bytes others ++ rest,
-     c.self.invariant.spelled.1 ∙ ap (λ x. flat_map signed_bytes x ++ rest) is ∙ ap (λ (x : List ℕ). x ++ rest) (flat_map-cons signed_bytes first others)
-     ∙ append_assoc (signed_bytes first) (flat_map signed_bytes others) rest)
+    let is : c.self.inside.reports.now ≡ first ∷ others = search rules in (
+      flat_map signed_bytes others ++ rest,
+      c.self.invariant.spelled.1 ∙ ap (λ x. flat_map signed_bytes x ++ rest) is ∙ ap (λ (x : List ℕ). x ++ rest) (flat_map-cons signed_bytes first others)
+          ∙ append_assoc (signed_bytes first) (flat_map signed_bytes others) rest,
+    )
 
 pub invariant_of-self : goal.invariant_of-self
 invariant_of-self c =
@@ -27,7 +28,10 @@ invariant_of-self c =
     ∙ append_assoc (signed_bytes first) (flat_map signed_bytes others) rest in
     record {
       each = (subst (AllByRecursion IsSigned) is c.self.invariant.each).1;
-      spelled = (rest, (cut c.self.inside.frame.now (signed_bytes first) (flat_map signed_bytes others ++ rest) c.self.inside.at
-          c.report_at-part.result.1 whole c.report_at-part.ensures.behind).1);
+      spelled = (
+        rest,
+        (cut c.self.inside.frame.now (signed_bytes first) (flat_map signed_bytes others ++ rest) c.self.inside.at
+            c.report_at-part.result.1 whole c.report_at-part.ensures.behind).1,
+      );
       short = c.self.invariant.short;
     }

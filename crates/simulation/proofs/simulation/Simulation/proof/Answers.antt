@@ -1,4 +1,4 @@
-use Rattle.std.proofs.Common.{◌≡◌, ◌-◌, ◌≤◌, take, sym, ap, subst, rules, ◌∙◌, arith}
+use Rattle.std.proofs.Common.{◌≡◌, ◌≤◌, take, sym, ap, subst, rules, ◌∙◌, arith}
 use Rattle.std.proofs.lemmas.Grind.{common_steps}
 use Rattle.std.specs.Prelude.{IsTrue}
 use Rattle.ledger_model.specs.Validity.{ascends_within, signers_of}
@@ -10,7 +10,7 @@ use Rattle.ledger_model.specs.Rounds.{quorum}
 pub returns-clause-ascend : goal.returns-clause-ascend
 returns-clause-ascend g c =
     let same : c.config-config.result.now ≡ c.args.self.now.cluster.config =
-    c.config-config.ensures ∙ ap (λ s. s.cluster.config) c.self.view_is in
+    c.config-config.ensures ∙ ap (λ s. s.cluster.config) (c.self.view_is ∙ c.in_ok-reports.ensures.same) in
     let fits : c.config-config.result.now.replicas ≤ 256 = search rules in
     let items : c.truncate.new.self.items ≡ proof_for c.args.self.now c.args.lie.now =
     c.truncate.ensures.items ∙ ap (λ n. take n c.in_ok-reports.reports.items)

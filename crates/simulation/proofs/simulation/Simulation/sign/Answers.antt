@@ -1,5 +1,6 @@
 use Rattle.std.proofs.Common.{◌≡◌, ap, subst}
 use Rattle.simulation.specs.Playing.{GoesOn}
+use Rattle.simulation.proofs.Indexing.{index_later}
 use Rattle.simulation.proofs.StepLemmas.{stays, signs_or_not}
 use Rattle.simulation.proofs.simulation.Simulation.sign.Goals as goal
 
@@ -18,4 +19,10 @@ pub returns-clause-goes_on : goal.returns-clause-goes_on
 returns-clause-goes_on g c =
     let signed = c.sign_as-answer in
     subst (λ s. GoesOn s.cluster signed.new.self) c.self.view_is
+    (signs_or_not (λ s. s.items) c.self.inside.world c.args.liar _ signed.result signed.new.self signed.ensures.signs signed.ensures.same)
+
+pub invariant_of-self : goal.invariant_of-self
+invariant_of-self g c =
+    let signed = c.sign_as-answer in
+    index_later c.self.inside.index c.self.inside.world signed.new.self c.self.inside.lies.items c.self.invariant
     (signs_or_not (λ s. s.items) c.self.inside.world c.args.liar _ signed.result signed.new.self signed.ensures.signs signed.ensures.same)

@@ -1,4 +1,4 @@
-use Rattle.std.proofs.Common.{◌≡◌, ◌-◌, length, sym, ap, ◌∙◌}
+use Rattle.std.proofs.Common.{◌≡◌, length, sym, ap, ◌∙◌}
 use Rattle.simulation.specs.Lies.{lying_lock}
 use Rattle.simulation.specs.Playing.{proof_for}
 use Rattle.simulation.proofs.PlayLemmas.{on_ok, lock_can}
@@ -13,5 +13,5 @@ returns-clause-done g c =
     let lock : c.in_ok-lock.lock ≡ lying_lock c.args.lie.now (proof_for c.args.self.now c.args.lie.now) =
     c.in_ok-lock.ensures.lock ∙ ap (lying_lock c.args.lie.now) proof in
     on_ok (λ told. lock_can c.args.lie.now (proof_for c.args.self.now c.args.lie.now) c.args.self.now c.tell.new.self c.args.out.now
-    c.tell.new.out (sym (ap length proof) ∙ count) (rw lock at told))
+    c.tell.new.out (sym (ap length proof) ∙ count) (rw (lock, c.in_ok-proof.ensures.same) at told))
     c.tell.result c.tell.ensures.done
