@@ -5,7 +5,7 @@ use bytes::Bytes;
 use key_ring::KeyRing;
 use ledger_model::{Event, Height};
 use locked_replica::{ReplyView, State};
-use replica_turns::sent_at;
+use replica_turns::{arrived_frames, keep_unknown, sent_at};
 use signed_frames::Frame;
 use std::alloc::Global;
 use std::random::RandomSource;
@@ -79,6 +79,47 @@ fn hashes<R: RandomSource + Threads + Sync>(
     } else {
         Ok(None)
     }
+}
+
+/// How many of the frames that arrived while this round was open are worth a check, and of how many of them the replica
+/// doesn't know whether they are signed.
+fn counts(
+    alloc: Global,
+    state: &State<AnyKind>,
+    clock: u32,
+    arrived: &[Bytes],
+) -> Result<(usize, usize), Fail> {
+    let mut frames = arrived_frames(alloc, clock, arrived)?;
+    let timely = frames.len();
+    keep_unknown(state.verifier(), &mut frames);
+    Ok((timely, frames.len()))
+}
+
+/// What a worker would check of a report of the first round that arrived twice, with bytes that are no frame between: as the
+/// round opens, in the round before it and in the round after it, and once the replica has read it.
+fn checks<R: RandomSource>(rt: &R, alloc: Global) -> Result<[(usize, usize); 4], Fail> {
+    let mut states = replicas(rt, alloc, &four()?)?;
+    let (Some(mut sender), Some(mut reader)) = (states.pop(), states.pop()) else {
+        return Err(missing());
+    };
+    let report = report_of(alloc, &mut sender)?;
+    open_round(&mut reader)?;
+    let arrived = [
+        report.clone()?,
+        Bytes::from_static(b"no frame"),
+        report.clone()?,
+    ];
+    let open = counts(alloc, &reader, 1, &arrived)?;
+    let early = counts(alloc, &reader, 0, &arrived)?;
+    let late = counts(alloc, &reader, 2, &arrived)?;
+    reads(&mut reader, report)?;
+    Ok([open, early, late, counts(alloc, &reader, 1, &arrived)?])
+}
+
+#[test]
+fn a_worker_checks_what_is_in_time_and_not_known(rt: HostRuntime) -> Result<(), Fail> {
+    assert_eq!(rt; checks(&rt, rt.alloc())?, [(1, 1), (1, 1), (0, 0), (1, 0)]);
+    Ok(())
 }
 
 #[test]

@@ -3,9 +3,10 @@ use bytes::Bytes;
 use ledger_model::ReplicaId;
 use signed_frames::SignedPart;
 use std::alloc::AllocError;
+use std::hash::{Hash, Hasher};
 
 /// A signature, the message that it is of, and who is said to have signed.
-#[derive(PartialEq, Eq, Hash)]
+#[derive(PartialEq, Eq)]
 pub struct SignedMessage {
     /// The replica that is said to have signed.
     pub signer: ReplicaId,
@@ -23,6 +24,22 @@ impl Drop for SignedMessage {
             message: _message,
             signature: _signature,
         } = self;
+    }
+}
+
+/// The hash is of the signature alone, which differs from one message to the next: to look a lock up costs no walk over
+/// its reports. Whoever forges many messages with one signature makes them cost a comparison each, and no more.
+impl Hash for SignedMessage {
+    ghost use Rattle.std.specs.Prelude.{◌∷◌, []};
+    ghost use Rattle.std.proofs.Common.{rules};
+    ghost use Rattle.std.specs.Cmp.Rules.{hashing};
+
+    ghost hash_input = { λ m. m.signature ∷ [] };
+
+    ghost respects_eq = { Prim.search (hashing, rules) };
+
+    fn hash<H: Hasher>(&self, state: &mut H) {
+        state.write(self.signature.as_slice());
     }
 }
 

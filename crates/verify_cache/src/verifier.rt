@@ -114,6 +114,8 @@ impl Verifier {
     pub(crate) fn check_part(&mut self, part: &SignedPart<'_>) -> bool
         ensures answer { result ≡ is_part_signed self.old.ring part.now }
         ensures ring { self.new.ring ≡ self.old.ring }
+        ensures known { Recalls (signed_of part.now.signer part.now.message part.now.signature) self.old self.new }
+        ensures fresh { Learns (signed_of part.now.signer part.now.message part.now.signature) self.old self.new }
     {
         let (Ok(message), Ok(signature)) = (part.share_message(), part.share_signature()) else {
             return self.check_apart(part.signer(), part.message(), part.signature());
