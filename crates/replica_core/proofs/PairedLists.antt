@@ -1,4 +1,4 @@
--- Two lists of the same length, gone through side by side.
+-- Two lists of the same length, from which elements are taken in pairs.
 use Rattle.std.proofs.Common.{◌≡◌, ◌⊎◌, inl, inr, List, [], ◌∷◌, length, refl, arith}
 
 -- where one of them has ended, so has the other

@@ -63,7 +63,7 @@ fn frames_in(alloc: Global, arrived: &[Bytes]) -> Result<Vec<Frame>, AllocError>
     Ok(frames)
 }
 
-/// Keeps the frames of which the verifier doesn't know whether they are signed. Allocates nothing that is kept.
+/// Keeps the frames of which the verifier doesn't know whether they are signed.
 pub fn keep_unknown(verifier: &Verifier, frames: &mut Vec<Frame>)
     ensures { frames.new.items ≡ filter (λ frame. not (is_known_frame verifier.now frame)) frames.old.items }
 {

@@ -5,10 +5,10 @@
 //! protects always satisfies the type's invariant: the history is a replay, whatever other threads did. A turn itself
 //! neither waits nor takes a lock.
 //!
-//! The decisions of a replica's worker are here too: what the replica does by itself next ([`own_of`], [`events_of`]),
-//! among it which heights it gives up, which frames
-//! arrive one round early ([`early_of`]), which are worth a check of their signatures before the turn ([`arrived_frames`],
-//! [`keep_unknown`]), which frames an entry of the history sent ([`sent_at`]), and which replicas a frame goes to ([`goes_to`]). [`new_replica`] makes the replicas of a cluster.
+//! The decisions of a replica's worker are here too: what the replica does by itself next, and which heights it gives up
+//! ([`own_of`], [`events_of`]); which frames arrive one round early ([`early_of`]); which are worth a check of their
+//! signatures before the turn ([`arrived_frames`], [`keep_unknown`]); which frames an entry of the history sent
+//! ([`sent_at`]); and which replicas a frame goes to ([`goes_to`]). [`new_replica`] makes the replicas of a cluster.
 #![tactic(auto)]
 
 mod addressing;

@@ -111,7 +111,7 @@ unlisted_masks places read values v every none = record {
 }
 
 -- the numbered values are in reports, and each value of the read ones has a number
-record Numbered (places read : Places SignedReport) (values : List ReportedValue) : Type 0 where
+record AreNumbered (places read : Places SignedReport) (values : List ReportedValue) : Type 0 where
   each : (e : ReportedValue) → Has values e → IsReported places read e
   every : AreAllNumbered places read values
   once : (v : Value) → count_where (is_of places v) values ≤ 1
@@ -137,14 +137,14 @@ once_more places values e v once there none w =
 
 module _ (places read : Places SignedReport) (r : ℕ) where
   -- one more value of the report of replica r has a number
-  one_more : (i : ℕ) (values : List ReportedValue) → Numbered places read values → Numbered places read (with_number places r i values)
+  one_more : (i : ℕ) (values : List ReportedValue) → AreNumbered places read values → AreNumbered places read (with_number places r i values)
   one_more i values h = at (value_at places r i) refl
     where
       numbers : Option Value → List ReportedValue
       numbers o = cond (option_map_or (is_numbered places values) o true) values (values ++ unmarked r i ∷ [])
 
       fresh : (v : Value) → value_at places r i ≡ Some v → is_numbered places values v ≡ false
-          → Numbered places read (values ++ unmarked r i ∷ [])
+          → AreNumbered places read (values ++ unmarked r i ∷ [])
       fresh v there none = record {
         each = λ e has. elim (has_cases values (unmarked r i ∷ []) e has) [
           | inl old ↦ h.each e old
@@ -158,15 +158,15 @@ module _ (places read : Places SignedReport) (r : ℕ) where
         once = once_more places values (unmarked r i) v h.once there none;
       }
 
-      at : (o : Option Value) → value_at places r i ≡ o → Numbered places read (with_number places r i values)
-      at None none = subst (λ p. Numbered places read (numbers p)) (sym none) h
-      at (Some v) there = subst (λ p. Numbered places read (numbers p)) (sym there)
+      at : (o : Option Value) → value_at places r i ≡ o → AreNumbered places read (with_number places r i values)
+      at None none = subst (λ p. AreNumbered places read (numbers p)) (sym none) h
+      at (Some v) there = subst (λ p. AreNumbered places read (numbers p)) (sym there)
           (elim (cases_Bool (is_numbered places values v)) [
             | inl known ↦ rw known h
             | inr none ↦ rw none (fresh v there none)
           ])
 
-  all_more : (n : ℕ) (values : List ReportedValue) → Numbered places read values → Numbered places read (with_numbers places r n values)
+  all_more : (n : ℕ) (values : List ReportedValue) → AreNumbered places read values → AreNumbered places read (with_numbers places r n values)
   all_more zero values h = h
   all_more (suc n) values h = one_more n (with_numbers places r n values) (all_more n values h)
 
@@ -233,7 +233,7 @@ module _ (old : Places SignedReport) (r : ℕ) (s : SignedReport) (below : r < l
       at None empty = let wrong : None ≡ Some v = sym (ap within empty) ∙ there in cc
       at (Some t) is = ap within (there_still old r e.signer s t none is) ∙ sym (ap within is) ∙ there
 
-  before : (values : List ReportedValue) → AreValuesOf old values → Numbered new old values
+  before : (values : List ReportedValue) → AreValuesOf old values → AreNumbered new old values
   unfolding is_numbered
   before values h = record {
     each = λ e has. let k = h.each e has in record { value = k.value; is_there = still_there e k.value k.is_there; masks = k.masks };
@@ -289,7 +289,7 @@ module _ (old : Places SignedReport) (r : ℕ) (s : SignedReport) (below : r < l
       numbered : List ReportedValue
       numbered = with_numbers new r (length (values_within s.report)) values
 
-      kept : Numbered new old numbered
+      kept : AreNumbered new old numbered
       kept = all_more new old r (length (values_within s.report)) values (before values h)
 
 -- ---- looking a value up

@@ -28,7 +28,8 @@ impl Drop for SignedMessage {
 }
 
 /// The hash is of the signature alone, which differs from one message to the next: to look a lock up costs no walk over
-/// its reports. Whoever forges many messages with one signature makes them cost a comparison each, and no more.
+/// its reports. Whoever forges many messages with one signature makes a lookup compare with those that are known, at most
+/// 1,024.
 impl Hash for SignedMessage {
     ghost use Rattle.std.specs.Prelude.{◌∷◌, []};
     ghost use Rattle.std.proofs.Common.{rules};
