@@ -1,1 +1,4 @@
 pub mod Histories
+pub mod HistorySpelling
+pub mod HistoryReading
+pub mod HistoryLaws

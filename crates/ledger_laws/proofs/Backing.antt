@@ -131,6 +131,17 @@ delivered_only (Some s) c h d u has =
     let r = read_only (nat_eq (height_of s.statement) h) c d s u has in
     (ap Some (r.1), sym (ap (λ (x : SignedStatement). height_of x.statement) (r.1)) ∙ eqb-true (height_of s.statement) h (r.0))
 
+-- the notes of a proposal and of a retired height read nothing
+pub no_read : (b : Bool) (v : Value) (d : ℕ) (s : SignedStatement) → Has (cond b (Proposed v ∷ []) []) (Read d s) → ⊥
+no_read true v d s (inl e) = cc
+no_read true v d s (inr none) = none
+no_read false v d s none = none
+
+pub none_retired : (b : Bool) (f d : ℕ) (s : SignedStatement) → Has (cond b (Retired f ∷ []) []) (Read d s) → ⊥
+none_retired true f d s (inl e) = cc
+none_retired true f d s (inr none) = none
+none_retired false f d s none = none
+
 module _ (config : Config) (ring : Ring) (correct : List ℕ) where
   pub log_at : (timeline : List Added) (h r : ℕ) → is_correct (histories_at correct timeline) r ≡ true
       → log_in config (histories_at correct timeline) h r ≡ log_of config r h (entries_at timeline r)
@@ -195,16 +206,6 @@ module _ (config : Config) (ring : Ring) (correct : List ℕ) where
       a.entry.reply) []) n) (sym (eq-eqb (a.replica) (a.replica) refl)) here in
       subst (λ l. Has l n) (sym (log_more front a h (a.replica) is))
       (has_right (log_in config (histories_at correct front) h a.replica) _ n more)
-
-  no_read : (b : Bool) (v : Value) (d : ℕ) (s : SignedStatement) → Has (cond b (Proposed v ∷ []) []) (Read d s) → ⊥
-  no_read true v d s (inl e) = cc
-  no_read true v d s (inr none) = none
-  no_read false v d s none = none
-
-  none_retired : (b : Bool) (f d : ℕ) (s : SignedStatement) → Has (cond b (Retired f ∷ []) []) (Read d s) → ⊥
-  none_retired true f d s (inl e) = cc
-  none_retired true f d s (inr none) = none
-  none_retired false f d s none = none
 
   -- what is made as a round opens is backed once its entry stands
   pub made_whole : (front : List Added) (a : Added) (h : ℕ) → ReadsBacked config (histories_at correct front) h

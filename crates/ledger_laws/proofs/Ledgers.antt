@@ -286,7 +286,7 @@ pub count_all : (a n : ℕ) → count_from a n (λ r. true) ≡ n
 count_all a zero = refl
 count_all a (suc n) = omega (arith, count_all (a + 1) n)
 
-some_history : (o : Option History) → is_some o ≡ true → (m : History) × (o ≡ Some m)
+pub some_history : (o : Option History) → is_some o ≡ true → (m : History) × (o ≡ Some m)
 some_history (Some m) is = (m, refl)
 some_history None is = cc
 

@@ -8,3 +8,8 @@ pub mod Computed
 mod Refuted
 mod Unforged
 pub mod Floors
+mod Encodings
+mod SentStatements
+pub mod Audits
+mod AuditedForks
+mod AuditExamples

@@ -92,6 +92,18 @@ replica_of_three of_0 of_1 of_2 r is =
       ]
     ]
 
+-- what is true of each of the three histories is true of any of them
+pub each_of_three : (of_0 of_1 of_2 : List Entry) (P : ℕ → History → Type 0) → P 0 (record { replica = 0; entries = of_0 })
+    → P 1 (record { replica = 1; entries = of_1 }) → P 2 (record { replica = 2; entries = of_2 })
+    → (r : ℕ) (m : History) → history_of (three of_0 of_1 of_2) r ≡ Some m → P r m
+each_of_three of_0 of_1 of_2 P at_0 at_1 at_2 r m found =
+    let histories : List History = three of_0 of_1 of_2 in
+    elim (replica_of_three of_0 of_1 of_2 r (ap is_some found)) [
+      | Is_0 at ↦ subst (λ x. P x m) at (subst (P 0) (same_some _ m (subst (λ x. history_of histories x ≡ Some m) (sym at) found)) at_0)
+      | Is_1 at ↦ subst (λ x. P x m) at (subst (P 1) (same_some _ m (subst (λ x. history_of histories x ≡ Some m) (sym at) found)) at_1)
+      | Is_2 at ↦ subst (λ x. P x m) at (subst (P 2) (same_some _ m (subst (λ x. history_of histories x ≡ Some m) (sym at) found)) at_2)
+    ]
+
 -- ---- runs
 
 pub no_run_without_ledger : NoRunWithoutLedger
@@ -270,16 +282,6 @@ module _ (key : List ℕ) where
   replies_2 (suc (suc (suc (suc (suc (suc (suc (suc zero)))))))) e at = same_reply 2 (commits a a (first_result a)) 8 _ e at (a, refl, refl)
   replies_2 (suc (suc (suc (suc (suc (suc (suc (suc (suc i))))))))) e at = cc
 
-  -- what is true of each of the three histories is true of any of them
-  each_of : (P : ℕ → History → Type 0) → P 0 (record { replica = 0; entries = [] }) → P 1 (record { replica = 1; entries = asked })
-      → P 2 (record { replica = 2; entries = commits a a (first_result a) })
-      → (r : ℕ) (m : History) → history_of agreed r ≡ Some m → P r m
-  each_of P at_0 at_1 at_2 r m found = elim (replica_of_three _ _ _ r (ap is_some found)) [
-    | Is_0 at ↦ subst (λ x. P x m) at (subst (P 0) (same_some _ m (subst (λ x. history_of agreed x ≡ Some m) (sym at) found)) at_0)
-    | Is_1 at ↦ subst (λ x. P x m) at (subst (P 1) (same_some _ m (subst (λ x. history_of agreed x ≡ Some m) (sym at) found)) at_1)
-    | Is_2 at ↦ subst (λ x. P x m) at (subst (P 2) (same_some _ m (subst (λ x. history_of agreed x ≡ Some m) (sym at) found)) at_2)
-  ]
-
   proposed_a : (h : ℕ) (v w : Value) → AllProposed (four KvStore) agreed (h + 1) v → slice_get (a ∷ []) h ≡ Some w → w ≡ v
   unfolding log_of log_after notes_of
   proposed_a zero v w proposed at = sym (same_some a w at) ∙ proposed 1 a refl refl
@@ -289,9 +291,10 @@ module _ (key : List ℕ) where
   unfolding commits_of
   is_agreed = record {
     some = (1, (record { replica = 1; entries = asked }, (refl, sym (commits_asked key _))));
-    each = each_of (λ r m. Begins (commits_of (four KvStore) r m.entries) (a ∷ [])) none
+    each = each_of_three [] asked (commits a a (first_result a)) (λ r m. Begins (commits_of (four KvStore) r m.entries) (a ∷ [])) none
         (subst (λ xs. Begins xs (a ∷ [])) (sym (commits_asked key _)) refl) (subst (λ xs. Begins xs (a ∷ [])) (sym (commits_too _)) refl);
-    replies = λ r i m e found. each_of (λ r m. Replies r m.entries) replies_0 replies_1 replies_2 r m found i e;
+    replies = λ r i m e found.
+        each_of_three [] asked (commits a a (first_result a)) (λ r m. Replies r m.entries) replies_0 replies_1 replies_2 r m found i e;
     common = proposed_a;
   }
     where

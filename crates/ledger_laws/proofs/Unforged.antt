@@ -44,7 +44,7 @@ cons_cases (Some x) ys y (inl same) = inl (ap Some same)
 cons_cases (Some x) ys y (inr later) = inr later
 
 -- an element of what a function gives comes from one of its arguments
-mapped_from : {X Y : Type 0} (f : X → Option Y) (xs : List X) (y : Y) → Has (filter_map f xs) y → (x : X) × (Has xs x × (f x ≡ Some y))
+pub mapped_from : {X Y : Type 0} (f : X → Option Y) (xs : List X) (y : Y) → Has (filter_map f xs) y → (x : X) × (Has xs x × (f x ≡ Some y))
 mapped_from f [] y has = absurd has
 mapped_from f (x ∷ xs) y has =
     elim (cons_cases (f x) (filter_map f xs) y has) [
@@ -105,7 +105,7 @@ sent_statement ended bytes s has spelled =
     (has_filter_map (λ (f : Sent). reading f.frame) ended.frames (framed.0) s (framed.1.0) (ap reading (framed.1.1) ∙ spelled))
     (eq-eqb (height_of s.statement) (height_of s.statement) refl)
 
-sent_made : (config : Config) (id h : ℕ) (log : List Note) (c : ℕ) (ended : RoundEnded) (s : SignedStatement)
+pub sent_made : (config : Config) (id h : ℕ) (log : List Note) (c : ℕ) (ended : RoundEnded) (s : SignedStatement)
     → nat_eq (place_of c) release_place ≡ false → Has (statements_sent h ended) s → Has (statements_made config id h log c ended) s
 unfolding statements_made
 sent_made config id h log c ended s not_4 has = rw not_4 (has_left (statements_sent h ended) (own_ack config id h log c ended.mute) s has)

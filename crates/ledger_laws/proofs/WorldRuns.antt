@@ -176,7 +176,7 @@ names_correct config w (step.Retire x f) r e ok = asked config w x r (event.Reti
 names_correct config w (step.Pass from index to) r e ok = passed config w from index to r e ok
 names_correct config w (step.Inject to bytes) r e ok = asked config w to r (event.Deliver bytes) e ok
 
-get_seam : {X : Type 0} → (xs : List X) (y : X) (ys : List X) → slice_get (xs ++ y ∷ ys) (length xs) ≡ Some y
+pub get_seam : {X : Type 0} → (xs : List X) (y : X) (ys : List X) → slice_get (xs ++ y ∷ ys) (length xs) ≡ Some y
 get_seam [] y ys = refl
 get_seam (x ∷ xs) y ys = get_seam xs y ys
 

@@ -1,3 +1,4 @@
 pub mod Examples
 pub mod Vacuity
 pub mod Floors
+pub mod Audits

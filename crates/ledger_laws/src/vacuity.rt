@@ -1,5 +1,6 @@
 //! The laws are not vacuous. They exclude something: histories that no ledger explains. Their premises can be met:
-//! there are histories without a fault, and runs in which nothing is forged.
+//! there are histories without a fault, runs in which nothing is forged, and histories that pass an audit.
+ghost use Rattle.ledger_laws.specs.Audits.{ForkIsCaught, CaughtForkExample, QuietHistoriesPass, ReportExample, LockExample};
 ghost use Rattle.ledger_laws.specs.Vacuity.{NoRunWithoutLedger, NoRunThatRewrites, LedgerIsUnique, ForkHasNoLedger, ForkExample, WrongBlockHasNoLedger, WrongQueryHasNoLedger, WrongCodeHasNoLedger, UnproposedBatchHasNoLedger, UnproposedBatchExample, AgreementHasLedger, FloorExample, OnlyInjectionsForge, SilentRunsForgeNothing, SilentRunsRefine};
 
 /// If the histories of a world have no ledger, the world is not the run of a ledger.
@@ -71,4 +72,22 @@ pub fn only_injections_forge()
 pub fn silent_runs_refine()
     ensures unforged { SilentRunsForgeNothing }
     ensures refine { SilentRunsRefine }
+{}
+
+/// An audit catches every fork. If two of its replays committed different batches at one height, some entry accepts a
+/// statement that its signer's history doesn't send. In the example replicas 1 and 2 committed `[a=1]` and `[b=1]` at
+/// height 1. Its histories are no replays, since their signatures are empty; the first statement that is accepted but not
+/// sent is an acknowledgement of replica 0, which replica 1 accepted. A fork of replays is a test of `replica_tests`.
+pub fn fork_is_caught()
+    ensures law { ForkIsCaught }
+    ensures example { CaughtForkExample }
+{}
+
+/// Histories can pass an audit. In the first example three replays pass. In the second, two replicas accept a report,
+/// which is unsent unless its signer's history sends it. In the third, a lock that its owner sends in a lock-release
+/// round doesn't count as sent.
+pub fn audit_can_pass()
+    ensures replays { QuietHistoriesPass }
+    ensures reports { ReportExample }
+    ensures locks { LockExample }
 {}

@@ -28,3 +28,4 @@ pub mod Timelines
 pub mod Boards
 pub mod Inboxes
 pub mod Sessions
+pub mod Audits

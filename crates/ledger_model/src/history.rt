@@ -34,7 +34,7 @@ pub struct History {
 impl Entries {
     ghost use Rattle.std.specs.Prelude.{◌≡◌};
 
-    /// The most entries of a history.
+    /// The most entries of a replica's own history.
     pub const MAX_LEN: usize = 65_536;
 
     /// The history with these entries, oldest first.

@@ -1,0 +1,72 @@
+-- What following a history finds.
+use Rattle.std.specs.Prelude.{◌≡◌, ◌⊎◌, [], ℕ, ◌+◌, ◌<◌, ◌≤◌, nat_lt, if◌then◌else◌, List, length, take, Option, Some, None, Result, Ok}
+use Rattle.std.specs.Prelude.{Err, ⊤}
+use Rattle.ledger_model.specs.declared.config.Config.{Config}
+use Rattle.ledger_model.specs.declared.history.Entry.{Entry}
+use Rattle.ledger_model.specs.declared.history.History.{History}
+use Rattle.ledger_model.specs.Values.{Value}
+use Rattle.ledger_model.specs.Rules.{Ring}
+use Rattle.ledger_model.specs.Commits.{commits_of}
+use Rattle.ledger_model.specs.Lawful.{Replay}
+use Rattle.ledger_model.specs.Groups.{history_of}
+use Rattle.ledger_model.specs.Audits.{AreReplays, IsNoReplay}
+use Rattle.replica_core.specs.Following.{FollowerView}
+use Rattle.history_audit.specs.declared.fault.AuditFault.{AuditFault}
+use Rattle.history_audit.specs.declared.fault.AuditFault.TheVariants as fault
+
+-- entry i is the first that doesn't continue the replay of replica id
+pub record StopsAt (config : Config) (ring : Ring) (id : ℕ) (entries : List Entry) (i : ℕ) : Type 0 where
+  pub inside : i < length entries
+  pub before : Replay config ring id (take i entries)
+  pub broken : Replay config ring id (take (i + 1) entries) → ⊥
+
+-- what following a whole history answers: nothing, where it is a replay, or where it stops being one
+abbrev pub AnswersFollowing : Config → Ring → ℕ → List Entry → Option ℕ → Type 0
+AnswersFollowing config ring id entries None = Replay config ring id entries
+AnswersFollowing config ring id entries (Some i) = StopsAt config ring id entries i
+
+-- what following a whole history gives: a follower with the blocks that the history commits, or the first entry that doesn't
+-- continue the replay
+abbrev pub FollowedTo : Config → Ring → History → Result FollowerView AuditFault → Type 0
+FollowedTo config ring m (Ok follower) =
+    Replay config ring m.replica m.entries × (follower.held.commits ≡ commits_of config m.replica m.entries)
+FollowedTo config ring m (Err (fault.NotReplay r i)) = (r ≡ m.replica) × StopsAt config ring m.replica m.entries i
+FollowedTo config ring m (Err fault.NoMemory) = ⊤
+FollowedTo config ring m (Err fault.Count) = ⊥
+FollowedTo config ring m (Err (fault.Unsent reader i signer)) = ⊥
+
+-- one more history was followed: the list is the longer of the one so far and what the history commits
+abbrev pub FollowsOne : Config → Ring → History → List Value → Result (Unit {0}) AuditFault → List Value → Type 0
+FollowsOne config ring m old (Ok _) new = Replay config ring m.replica m.entries
+    × (new ≡ (if nat_lt (length old) (length (commits_of config m.replica m.entries)) then commits_of config m.replica m.entries else old))
+FollowsOne config ring m old (Err (fault.NotReplay r i)) new = (r ≡ m.replica) × StopsAt config ring m.replica m.entries i
+FollowsOne config ring m old (Err fault.NoMemory) new = ⊤
+FollowsOne config ring m old (Err fault.Count) new = ⊥
+FollowsOne config ring m old (Err (fault.Unsent reader i signer)) new = ⊥
+
+-- the batches are those that one of these histories commits, and no other commits more
+pub record IsLongest (config : Config) (histories : List History) (blocks : List Value) : Type 0 where
+  pub some : (r : ℕ) × ((m : History) × ((history_of histories r ≡ Some m) × (blocks ≡ commits_of config r m.entries)))
+  pub each : (r : ℕ) (m : History) → history_of histories r ≡ Some m → length (commits_of config r m.entries) ≤ length blocks
+
+-- what following all histories answers
+abbrev pub FollowsAll : Config → Ring → List History → Result (List Value) AuditFault → Type 0
+FollowsAll config ring histories (Ok blocks) = AreReplays config ring histories × IsLongest config histories blocks
+FollowsAll config ring histories (Err (fault.NotReplay r i)) = IsNoReplay config ring histories r i
+FollowsAll config ring histories (Err fault.NoMemory) = ⊤
+FollowsAll config ring histories (Err fault.Count) = ⊥
+FollowsAll config ring histories (Err (fault.Unsent reader i signer)) = ⊥
+
+-- the histories of the replicas below n are replays, and the batches are the longest list that one of them commits
+pub record LongestBelow (config : Config) (ring : Ring) (histories : List History) (n : ℕ) (blocks : List Value) : Type 0 where
+  pub replays : (q : ℕ) (m : History) → q < n → history_of histories q ≡ Some m → Replay config ring q m.entries
+  pub some : (blocks ≡ []) ⊎ ((r : ℕ) × ((m : History) × ((history_of histories r ≡ Some m) × (blocks ≡ commits_of config r m.entries))))
+  pub each : (q : ℕ) (m : History) → q < n → history_of histories q ≡ Some m → length (commits_of config q m.entries) ≤ length blocks
+
+-- what following one more replica answers
+abbrev pub FollowsNext : Config → Ring → List History → ℕ → Result (Unit {0}) AuditFault → List Value → Type 0
+FollowsNext config ring histories n (Ok _) new = LongestBelow config ring histories (n + 1) new
+FollowsNext config ring histories n (Err (fault.NotReplay r i)) new = IsNoReplay config ring histories r i
+FollowsNext config ring histories n (Err fault.NoMemory) new = ⊤
+FollowsNext config ring histories n (Err fault.Count) new = ⊥
+FollowsNext config ring histories n (Err (fault.Unsent reader i signer)) new = ⊥

@@ -1,0 +1,44 @@
+//! Whether the histories are of enough different replicas.
+ghost use Rattle.std.specs.Prelude.{◌≡◌, ◌==◌, nat_lt, map};
+ghost use Rattle.std.specs.List.{list_all, list_any};
+ghost use Rattle.ledger_model.specs.declared.history.History.{History as HistoryValue};
+ghost use Rattle.ledger_model.specs.Audits.{differ, is_count};
+
+use ledger_model::{Config, History, ReplicaId};
+
+/// Whether one of the histories is of this replica.
+fn is_among(histories: &[History], replica: ReplicaId) -> bool
+    ensures { result ≡ list_any (λ (m : HistoryValue). m.replica == replica) histories.now }
+{
+    histories.iter().any(|history| history.replica == replica)
+}
+
+/// Whether no two histories are of one replica. It ends at the first that has another after it: of replicas below N there are
+/// at most N others before.
+fn do_replicas_differ(histories: &[History]) -> bool
+    ensures { result ≡ differ (map (λ (m : HistoryValue). m.replica) histories.now) }
+{
+    match histories.split_first() {
+        None => true,
+        Some((first, others)) => !is_among(others, first.replica) && do_replicas_differ(others),
+    }
+}
+
+/// Whether each history is of a replica of the cluster.
+fn are_members(config: &Config, histories: &[History]) -> bool
+    ensures { result ≡ list_all (λ (m : HistoryValue). nat_lt m.replica config.now.replicas) histories.now }
+{
+    histories
+        .iter()
+        .all(|history| history.replica.number() < config.replicas)
+}
+
+/// Whether the histories are of different replicas of the cluster, and of a quorum (N-t) at least.
+pub(crate) fn is_count(config: &Config, histories: &[History]) -> bool
+    ensures { result ≡ is_count config.now histories.now }
+{
+    let all = histories.len().saturating_add(usize::from(config.faults));
+    usize::from(config.replicas) <= all
+        && are_members(config, histories)
+        && do_replicas_differ(histories)
+}

@@ -1,0 +1,165 @@
+//! Follows histories entry by entry, and finds the longest ledger among them.
+ghost use Rattle.std.specs.Prelude.{◌≡◌, ◌<◌, ◌≤◌, false, true, [], length, Ok, None, IfOk};
+ghost use Rattle.std.specs.List.{AllByRecursion};
+ghost use Rattle.ledger_model.specs.Applications.{run};
+ghost use Rattle.ledger_model.specs.Audits.{is_count};
+ghost use Rattle.replica_core.specs.ReplicaStates.{MatchesHistory};
+ghost use Rattle.replica_core.specs.Following.{IsSameReplicaState};
+ghost use Rattle.history_audit.specs.Followed.{AnswersFollowing, FollowedTo, FollowsOne, FollowsNext, FollowsAll, LongestBelow};
+
+use crate::fault::AuditFault;
+use crate::lookup::history_of;
+use abci::Application;
+use key_ring::KeyRing;
+use ledger_model::{Config, Entry, Height, History, Ledger, ReplicaId};
+use replica_core::Follower;
+use std::alloc::{AllocError, Global};
+use std::hash::RandomState;
+use verify_cache::Verifier;
+
+/// Follows all entries of a history. Returns the index of the first that doesn't continue the replay, if there is one.
+fn follow<A: Application>(
+    alloc: Global,
+    follower: &mut Follower<A>,
+    entries: &[Entry],
+) -> Result<Option<usize>, AllocError>
+    requires first { MatchesHistory follower.old.held [] }
+    requires kept { follower.old.lost ≡ false }
+    ensures answer { IfOk result (AnswersFollowing follower.old.held.config follower.old.held.ring follower.old.held.id entries.now) }
+    ensures matches { result ≡ Ok None → MatchesHistory follower.new.held entries.now }
+    ensures same { IsSameReplicaState follower.old.held follower.new.held }
+{
+    for (index, entry) in entries.iter().enumerate() {
+        if !follower.follow(alloc, &entry.event, &entry.reply)? {
+            return Ok(Some(index));
+        }
+    }
+    Ok(None)
+}
+
+/// The blocks that a follower's replica committed. The only error is allocation failure.
+fn blocks_of<A: Application>(alloc: Global, follower: &Follower<A>) -> Result<Ledger, AllocError>
+    ensures { IfOk result (λ ledger. ledger ≡ follower.now.held.commits) }
+{
+    let mut ledger = Ledger::new(alloc);
+    for index in 0..follower.height() {
+        let Some(block) = follower.block(Height::new(index + 1)) else {
+            unreachable!()
+        };
+        ledger.append(block.copy()?)?;
+    }
+    Ok(ledger)
+}
+
+/// Follows the whole history and returns the follower. `NotReplay` names the first entry that doesn't continue the replay.
+///
+/// What the verifier knows serves the follower, and what the follower checks is known to the verifier afterwards.
+fn followed<A: Application>(
+    alloc: Global,
+    config: &Config,
+    verifier: &mut Verifier,
+    history: &History,
+    app: A,
+    random: RandomState,
+) -> Result<Follower<A>, AuditFault>
+    requires member { history.now.replica < config.now.replicas }
+    requires opening { A.machine app ≡ run config.now.kind [] }
+    ensures answer { FollowedTo config.now verifier.old.ring history.now result }
+    ensures ring { verifier.new.ring ≡ verifier.old.ring }
+{
+    let ring = verifier.ring().copy()?;
+    let mut follower = Follower::new(alloc, *config, ring, history.replica, app, random)?;
+    follower.swap_verifier(verifier);
+    let stop = follow(alloc, &mut follower, history.entries.as_slice());
+    follower.swap_verifier(verifier);
+    match stop? {
+        None => Ok(follower),
+        Some(index) => Err(AuditFault::NotReplay {
+            replica: history.replica,
+            index,
+        }),
+    }
+}
+
+/// Follows one more history. If it commits more blocks than the ledger has, the ledger becomes these blocks.
+fn follow_one<A: Application>(
+    alloc: Global,
+    config: &Config,
+    verifier: &mut Verifier,
+    history: &History,
+    app: A,
+    random: RandomState,
+    ledger: &mut Ledger,
+) -> Result<(), AuditFault>
+    requires member { history.now.replica < config.now.replicas }
+    requires opening { A.machine app ≡ run config.now.kind [] }
+    ensures answer { FollowsOne config.now verifier.old.ring history.now ledger.old result ledger.new }
+    ensures ring { verifier.new.ring ≡ verifier.old.ring }
+{
+    let follower = followed(alloc, config, verifier, history, app, random)?;
+    if follower.height() as usize > ledger.blocks().len() {
+        *ledger = blocks_of(alloc, &follower)?;
+    }
+    Ok(())
+}
+
+/// Follows the replica's history in the same way, if it was handed in.
+fn follow_replica<A: Application>(
+    alloc: Global,
+    config: &Config,
+    verifier: &mut Verifier,
+    histories: &[History],
+    replica: ReplicaId,
+    app: A,
+    random: RandomState,
+    ledger: &mut Ledger,
+) -> Result<(), AuditFault>
+    requires count { is_count config.now histories.now ≡ true }
+    requires opening { A.machine app ≡ run config.now.kind [] }
+    ensures answer { LongestBelow config.now verifier.old.ring histories.now replica ledger.old
+        → FollowsNext config.now verifier.old.ring histories.now replica result ledger.new }
+    ensures ring { verifier.new.ring ≡ verifier.old.ring }
+{
+    match history_of(histories, replica) {
+        Some(history) => follow_one(alloc, config, verifier, history, app, random, ledger),
+        None => Ok(()),
+    }
+}
+
+/// Follows all histories in the order of their replicas, each with an application of its own, and returns the longest list of
+/// blocks that one of them commits. `NotReplay` names the first entry that doesn't continue the replay, of the least replica.
+///
+/// One verifier serves all followers in turn, so what it remembers of one history serves the next.
+pub(crate) fn follow_all<A: Application>(
+    alloc: Global,
+    config: &Config,
+    verifier: &mut Verifier,
+    histories: &[History],
+    apps: Vec<A>,
+    random: RandomState,
+) -> Result<Ledger, AuditFault>
+    requires count { is_count config.now histories.now ≡ true }
+    requires enough { config.now.replicas ≤ length apps.items }
+    requires opening { AllByRecursion (λ app. A.machine app ≡ run config.now.kind []) apps.items }
+    ensures { FollowsAll config.now verifier.old.ring histories.now result }
+{
+    let mut ledger = Ledger::new(alloc);
+    let mut apps = apps.into_iter();
+    for number in 0..config.replicas {
+        let Some(app) = apps.next() else {
+            unreachable!()
+        };
+        let replica = ReplicaId::new(number);
+        follow_replica(
+            alloc,
+            config,
+            verifier,
+            histories,
+            replica,
+            app,
+            random,
+            &mut ledger,
+        )?;
+    }
+    Ok(ledger)
+}

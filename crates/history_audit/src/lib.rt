@@ -1,0 +1,16 @@
+//! Audits: whether histories that were handed in are those of one ledger, and if they aren't, which replica's entry shows it.
+#![tactic(auto)]
+
+mod auditing;
+mod counting;
+mod fault;
+mod following;
+mod lookup;
+mod receipt;
+mod sending;
+mod sent_table;
+mod unsent;
+
+pub use auditing::audit;
+pub use fault::AuditFault;
+pub use receipt::receipt_holds;

@@ -1,0 +1,142 @@
+-- Which histories have an encoding that is read back: counts fit their bytes, a reply is of its event's kind, and what a
+-- reply contains is spelled. A history may have any number of entries that fits, heights that no ledger has, and
+-- addressees that no cluster has.
+use Rattle.std.specs.Prelude.{◌≡◌, ℕ, ◌<◌, ◌≤◌, ◌^◌, List, length, Option, Some, None, Ok, Err}
+use Rattle.std.specs.List.{AllByRecursion}
+use Rattle.ledger_model.specs.declared.event.Event.{Event}
+use Rattle.ledger_model.specs.declared.event.Event.TheVariants as event
+use Rattle.ledger_model.specs.declared.history.Entry.{Entry}
+use Rattle.ledger_model.specs.declared.history.History.{History}
+use Rattle.ledger_model.specs.declared.reply.Addressee.{Addressee}
+use Rattle.ledger_model.specs.declared.reply.Addressee.TheVariants as addressee
+use Rattle.ledger_model.specs.declared.reply.BlockResult.{BlockResult}
+use Rattle.ledger_model.specs.declared.reply.QueryAnswer.{QueryAnswer}
+use Rattle.ledger_model.specs.declared.reply.Reply.{Reply}
+use Rattle.ledger_model.specs.declared.reply.Reply.TheVariants as reply
+use Rattle.ledger_model.specs.declared.reply.RoundEnded.{RoundEnded}
+use Rattle.ledger_model.specs.declared.reply.Sent.{Sent}
+use Rattle.ledger_model.specs.declared.reply.SubmitRefusal.{SubmitRefusal}
+use Rattle.ledger_model.specs.declared.reply.SubmitRefusal.TheVariants as refusal
+use Rattle.ledger_model.specs.declared.statement.SignedStatement.{SignedStatement}
+use Rattle.ledger_model.specs.Limits.{max_key_len}
+use Rattle.ledger_model.specs.Spelling.{SpellsFrame}
+use Rattle.ledger_model.specs.Values.{IsByte, IsValue}
+
+-- a number of four bytes
+abbrev pub IsWord : ℕ → Type 0
+IsWord n = n < 2 ^ 32
+
+-- bytes whose number fits into one byte
+pub record IsShort (bytes : List ℕ) : Type 0 where
+  pub few : length bytes < 2 ^ 8
+  pub each : AllByRecursion IsByte bytes
+
+-- bytes whose number fits into four bytes
+pub record IsLong (bytes : List ℕ) : Type 0 where
+  pub few : length bytes < 2 ^ 32
+  pub each : AllByRecursion IsByte bytes
+
+-- a query's key: at most 64 bytes
+pub record IsKey (key : List ℕ) : Type 0 where
+  pub few : length key ≤ max_key_len
+  pub each : AllByRecursion IsByte key
+
+-- the number of an event
+abbrev pub event_number : Event → ℕ
+event_number (event.Submit tx) = 1
+event_number (event.Propose height) = 2
+event_number (event.Deliver bytes) = 3
+event_number event.RoundEnd = 4
+event_number event.Execute = 5
+event_number (event.Query key height) = 6
+event_number (event.Retire floor) = 7
+
+-- the number of the events that have such a reply
+abbrev pub reply_number : Reply → ℕ
+reply_number (reply.Submitted result) = 1
+reply_number (reply.Proposed result) = 2
+reply_number (reply.Delivered result) = 3
+reply_number (reply.RoundEnded result) = 4
+reply_number (reply.Executed result) = 5
+reply_number (reply.Queried result) = 6
+reply_number (reply.Retired result) = 7
+
+-- an event that can be encoded
+abbrev pub IsEvent : Event → Type 0
+IsEvent (event.Submit tx) = IsLong tx
+IsEvent (event.Propose height) = IsWord height
+IsEvent (event.Deliver bytes) = IsLong bytes
+IsEvent event.RoundEnd = Unit {0}
+IsEvent event.Execute = Unit {0}
+IsEvent (event.Query key height) = IsWord height × IsKey key
+IsEvent (event.Retire floor) = IsWord floor
+
+-- a refusal that can be encoded
+abbrev pub IsRefusal : SubmitRefusal → Type 0
+IsRefusal (refusal.Rejected code) = IsWord code
+IsRefusal _ = Unit {0}
+
+-- an addressee that can be encoded: 255 stands for all
+abbrev pub IsAddressee : Addressee → Type 0
+IsAddressee addressee.All = Unit {0}
+IsAddressee (addressee.One r) = r < 255
+
+-- the bytes encode a frame
+abbrev pub IsFrameText : List ℕ → Type 0
+IsFrameText bytes = (s : SignedStatement) × SpellsFrame bytes s
+
+-- a frame that was sent
+pub record IsSent (sent : Sent) : Type 0 where
+  pub addressee : IsAddressee sent.addressee
+  pub frame : IsFrameText sent.frame
+
+-- a round end that can be encoded
+pub record IsRoundEnded (ended : RoundEnded) : Type 0 where
+  pub few : length ended.frames < 2 ^ 16
+  pub each : AllByRecursion IsSent ended.frames
+
+-- a block's result that can be encoded
+pub record IsBlock (block : BlockResult) : Type 0 where
+  pub height : IsWord block.height
+  pub few : length block.codes < 2 ^ 8
+  pub each : AllByRecursion IsWord block.codes
+  pub hash_len : length block.hash ≡ 32
+  pub hash : AllByRecursion IsByte block.hash
+
+-- an optional value that can be encoded
+abbrev pub IsPresent : Option (List ℕ) → Type 0
+IsPresent None = Unit {0}
+IsPresent (Some value) = IsShort value
+
+-- an answer to a query that can be encoded
+pub record IsAnswer (answer : QueryAnswer) : Type 0 where
+  pub height : IsWord answer.height
+  pub value : IsPresent answer.value
+
+-- a reply that can be encoded
+abbrev pub IsReply : Reply → Type 0
+IsReply (reply.Submitted (Ok _)) = Unit {0}
+IsReply (reply.Submitted (Err r)) = IsRefusal r
+IsReply (reply.Proposed (Ok batch)) = IsValue batch
+IsReply (reply.Proposed (Err _)) = Unit {0}
+IsReply (reply.Delivered result) = Unit {0}
+IsReply (reply.RoundEnded (Ok ended)) = IsRoundEnded ended
+IsReply (reply.RoundEnded (Err _)) = Unit {0}
+IsReply (reply.Executed (Ok block)) = IsBlock block
+IsReply (reply.Executed (Err _)) = Unit {0}
+IsReply (reply.Queried (Ok answer)) = IsAnswer answer
+IsReply (reply.Queried (Err _)) = Unit {0}
+IsReply (reply.Retired (Ok floor)) = IsWord floor
+IsReply (reply.Retired (Err _)) = Unit {0}
+
+-- an entry that can be encoded: the reply is of its event's kind
+pub record IsEntry (e : Entry) : Type 0 where
+  pub event : IsEvent e.event
+  pub reply : IsReply e.reply
+  pub kind : reply_number e.reply ≡ event_number e.event
+
+-- a history that can be encoded
+pub record IsHistory (h : History) : Type 0 where
+  pub replica : IsByte h.replica
+  pub few : length h.entries < 2 ^ 32
+  pub each : AllByRecursion IsEntry h.entries

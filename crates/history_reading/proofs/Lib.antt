@@ -1,0 +1,9 @@
+mod Combined
+mod FieldReaders
+mod EventReaders
+mod ResultReaders
+mod RefusalReaders
+mod ReplyReaders
+mod HistoryReaders
+mod FileReaders
+mod Loops

@@ -1,0 +1,28 @@
+use Rattle.std.proofs.Common.{◌≡◌, ◌≤◌, length, rules}
+use Rattle.std.proofs.lemmas.Result.{err_from_is_err_and}
+use Rattle.history_bytes.specs.HistoryReading.{histories_reading}
+use Rattle.history_reading.proofs.FileReaders.{less_left, history_goes_on, history_ends, histories_are_done}
+use Rattle.history_reading.proofs.histories.take_histories.Goals as goal
+
+pub returns-in_err-history : goal.returns-in_err-history
+returns-in_err-history c =
+    let p = err_from_is_err_and c.from_residual.result c.from_residual.ensures.1 in
+    let some : 1 ≤ length c.loop-alloc.input = search rules in
+    rw (p.1, p.2) (history_ends c.in_err-history.field-0.0 c.loop-alloc.histories.items c.loop-alloc.input
+    (histories_reading c.args.input.now) c.is_empty.ensures.bytes some c.in_err-history.ensures c.loop-alloc.invariant)
+
+pub loop-alloc-smaller : goal.loop-alloc-smaller
+loop-alloc-smaller c =
+    (less_left c.loop-alloc.input c.in_ok-history.history c.take_history.new.input c.is_empty.ensures.bytes c.in_ok-history.ensures).0
+
+pub loop-alloc-preserved : goal.loop-alloc-preserved
+loop-alloc-preserved c =
+    let some : 1 ≤ length c.loop-alloc.input = search rules in
+    rw c.in_ok-push.ensures.items (history_goes_on c.loop-alloc.histories.items c.loop-alloc.input c.in_ok-history.history
+    c.take_history.new.input (histories_reading c.args.input.now) c.is_empty.ensures.bytes some c.in_ok-history.ensures
+    c.loop-alloc.invariant)
+
+pub returns : goal.returns
+returns c =
+    let none : length c.loop-alloc.input ≡ 0 = search rules in
+    histories_are_done c.loop-alloc.histories.items c.loop-alloc.input (histories_reading c.args.input.now) none c.loop-alloc.invariant
