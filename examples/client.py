@@ -1,5 +1,6 @@
 #!/usr/bin/env python3
-"""A client of `abft serve`: gives the transaction KEY=VALUE to every replica, and waits a minute until replica 0 has that value.
+"""A client of `abft serve`: gives the transaction KEY=VALUE to every replica, prints the receipt of each that takes it, and waits a
+minute until replica 0 has that value.
 
     examples/client.py PORT KEY VALUE
 
@@ -29,17 +30,26 @@ def ask(stream, body):
     return reply[0], reply[1:]
 
 
+def spell(transaction):
+    """A transaction as scenario texts spell it."""
+    return "".join(chr(byte) if 0x21 <= byte <= 0x7e and byte not in b",[]\\" else f"\\{byte:02x}" for byte in transaction)
+
+
 def submit(stream, transaction):
-    """Gives a transaction to every replica, says why one doesn't take it, and answers how many have it."""
+    """Gives a transaction to every replica, and reports why one doesn't take it. Returns the receipts, each a replica and an index, and
+    the number of replicas that have the transaction."""
     replica = taken = 0
+    receipts = []
     while ask(stream, bytes([5, replica]))[0] == 0:  # the session speaks to this replica now
-        status, _ = ask(stream, b"\x01" + transaction)
+        status, content = ask(stream, b"\x01" + transaction)
         taken += status in (0, 19)
-        if status != 0:
+        if status == 0:
+            receipts.append(struct.unpack(">BI", content))
+        else:
             print(f"replica {replica} doesn't take it: {REFUSALS.get(status, status)}", file=sys.stderr)
         replica += 1
     ask(stream, b"\x05\x00")
-    return taken
+    return receipts, taken
 
 
 def wait_for(stream, key, value):
@@ -60,8 +70,12 @@ def main():
     if len(sys.argv) != 4 or "=" in sys.argv[2]:
         sys.exit("usage: client.py PORT KEY VALUE, where KEY has no '='")
     key, value = sys.argv[2].encode(), sys.argv[3].encode()
+    transaction = key + b"=" + value
     with socket.create_connection(("127.0.0.1", int(sys.argv[1]))) as stream:
-        if submit(stream, key + b"=" + value) == 0:
+        receipts, taken = submit(stream, transaction)
+        for replica, index in receipts:
+            print(f"{replica}:{index}:{spell(transaction)}", flush=True)
+        if taken == 0:
             sys.exit("no replica takes the transaction")
         height = wait_for(stream, key, value)
     if height is None:

@@ -470,14 +470,21 @@ exec 4>"$room/wish"
 read -r -u 3 listening port
 runs 'the first line of a server' 0 'listening' "printf %s '$listening'"
 runs 'sessions byte by byte' 0 'no request: 000101 000101 000105
+receipts: 00060003 00060003 in order
 early: 000100 000102
 later: 000700 at least 3 0131
 ' "tests/live_session.py '$port'"
-runs 'a client sees its transaction run' 0 $'height N: blue\n' "examples/client.py '$port' colour blue | sed 's/[0-9][0-9]*/N/'"
-runs 'and another one of the same key' 0 $'height N: red\n' "examples/client.py '$port' colour red | sed 's/[0-9][0-9]*/N/'"
+# The indices of receipts and the height depend on when the client came.
+told='sed -e "s/:[1-9][0-9]*:/:I:/" -e "s/height [1-9][0-9]*/height N/"'
+runs 'a client sees its transaction run' 0 $'0:I:colour=blue\n1:I:colour=blue\n2:I:colour=blue\n3:I:colour=blue\nheight N: blue\n' \
+    "examples/client.py '$port' colour blue | $told"
+runs 'and another one of the same key, which its receipts spell' 0 \
+    $'0:I:colour=\\5cred\n1:I:colour=\\5cred\n2:I:colour=\\5cred\n3:I:colour=\\5cred\nheight N: \\red\n' \
+    "examples/client.py '$port' colour '\\red' | $told"
 faults 'a port that is taken' 3 "error: can't listen at 127.0.0.1:$port: Address already in use (os error 98)"$'\n' \
     "'$abft' serve --quiet --port '$port'"
-runs 'what live clusters do at their limits' 0 'entries: 11 12 00 13 000000000000 00 04 04 11 0000000000 00 00 13 00 00; 4 lines, status 0
+runs 'what live clusters do at their limits' 0 \
+    'entries: 11 12 0000 13 000000000000 0000 04 04 11 0000000000 00 0001 13 00 0002, in order; 4 lines, status 0
 flood: 12: 100000; 00: 32768 04: 67232; bounded; all commit; 4 lines, status 0
 one full: 04; 4 lines, status 0
 all full: 04 04 04 04; 4 lines, status 0

@@ -90,9 +90,16 @@ def entries():
     session = server.connect()
     asked = [b"\x01", b"\x01" + 65 * b"x", b"\x01b=2", b"\x01b=2", QUERY, b"\x01c=3", QUERY, b"\x01d=4", b"\x01", HEIGHT]
     others = [b"\x05\x01", b"\x01b=2", b"\x01b=2", b"\x05\x02", b"\x01b=2"]
-    told = " ".join(session.ask(body) for body in asked + others)
+    bodies = asked + others
+    replies = [session.ask(body) for body in bodies]
     session.stream.close()
-    return told + "; " + server.ends(30)[0]
+    is_receipt = [body[0] == 1 and reply[:2] == "00" for body, reply in zip(bodies, replies)]
+    # A receipt is told without its index, since the replica opens a height meanwhile.
+    told = " ".join(reply[:4] if is_one else reply for is_one, reply in zip(is_receipt, replies))
+    first, second, *_ = (int(reply[4:], 16) for is_one, reply in zip(is_receipt, replies) if is_one)
+    # Between the two submits that replica 0 takes it takes one that it refuses, and a query.
+    order = "in order" if 1 <= first and second - first in (3, 4) else f"{first} and {second}"
+    return f"{told}, {order}; " + server.ends(30)[0]
 
 
 def flood():

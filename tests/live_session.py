@@ -1,7 +1,8 @@
 #!/usr/bin/env python3
-"""Sessions with a running `abft serve`, byte by byte: tests/live_session.py PORT. Four connections: one that is gone at once, one that
-sends nothing, one that sends no requests and is gone amid one, and one that waits for height 3 with the transaction a=1. It prints what
-came, of the last the height at its least."""
+"""Sessions with a running `abft serve`, byte by byte: tests/live_session.py PORT. Five connections: one that is gone at once, one that
+sends nothing, one that sends no requests and is gone amid one, one that submits twice to replica 3, and one that waits for height 3 with
+the transaction a=1. It prints what came: of receipts what comes before the index and the order of the indices, of the last the height at
+its least."""
 import socket
 import sys
 import time
@@ -41,6 +42,12 @@ silent = connect()
 with connect() as rude:
     print("no request:", ask(rude, "000109"), ask(rude, "0000"), ask(rude, "00020504"))
     rude.sendall(b"\x00\x40\x02")
+with connect() as stream:
+    ask(stream, "00020503")
+    first, second = ask(stream, "0004" + "01623d31"), ask(stream, "0004" + "01633d31")
+    # Entry 0 submits the first transaction of the cluster.
+    order = "in order" if 0 < int(first[8:], 16) < int(second[8:], 16) else "out of order"
+    print("receipts:", first[:8], second[:8], order)
 with connect() as stream:
     print("early:", ask(stream, "00020502"), ask(stream, "00060200000003" + "61"))
     ask(stream, "00020500")

@@ -28,8 +28,9 @@ def session(port, number):
                 height = struct.unpack(">I", content)[0]
                 assert height >= seen
                 seen = height
-            status, _ = ask(stream, b"\x01" + f"k{number}={replica}".encode())
+            status, receipt = ask(stream, b"\x01" + f"k{number}={replica}".encode())
             assert status in (0, 20), status  # accepted, or the pool is full
+            assert status == 20 or (receipt[0], len(receipt)) == (replica, 5), receipt
             requests += 3
     return requests
 

@@ -54,7 +54,7 @@ module _ (s : Session) (reply : List ℕ) (new : Session) where
 -- one request
 pub one_rises : (targets : ℕ) (s : Session) (request : Request) (exchanges : List Exchange) (reply : List ℕ) (new : Session)
     → Serves targets s request exchanges reply new → RisesBy s.greatest request reply new.greatest
-one_rises targets s (Submit tx) (Submits r asked (Ok (Ok u)) ∷ []) reply new serves = stays s reply new (Submit tx) serves.3 tt
+one_rises targets s (Submit tx) (Submits r asked (Ok (Ok index)) ∷ []) reply new serves = stays s reply new (Submit tx) serves.3 tt
 one_rises targets s (Submit tx) (Submits r asked (Ok (Err e)) ∷ []) reply new serves = stays s reply new (Submit tx) serves.3 tt
 one_rises targets s (Submit tx) (Submits r asked (Err f) ∷ []) reply new serves = stays s reply new (Submit tx) serves.3 tt
 one_rises targets s (Query min key) (Queries r asked (Ok a) ∷ []) reply new serves =

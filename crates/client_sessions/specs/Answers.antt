@@ -2,14 +2,15 @@
 use Rattle.std.specs.Prelude.{ℕ, ◌≤◌, List, ◌∷◌, ◌++◌, length, IfSome}
 use Rattle.std.specs.Int.{w32, to_be_bytes}
 use Rattle.ledger_model.specs.Values.{value_bytes}
-use Rattle.ledger_model.specs.Sessions.{status, refused, faulty, present}
+use Rattle.ledger_model.specs.Sessions.{status, receipt, refused, faulty, present}
 use Rattle.client_sessions.specs.declared.answer.Answer.{Answer}
 use Rattle.client_sessions.specs.declared.answer.Answer.TheVariants as answer
 use Rattle.client_sessions.specs.Asking.{fault_of, max_value_len}
 
 -- the body of the reply that encodes the answer
 abbrev pub answer_bytes : Answer → List ℕ
-answer_bytes answer.Done = status 0
+answer_bytes answer.Switched = status 0
+answer_bytes (answer.Receipt replica index) = 0 ∷ receipt replica index
 answer_bytes (answer.Value found) = 0 ∷ to_be_bytes w32 found.height ++ present found.value
 answer_bytes (answer.Height height) = 0 ∷ to_be_bytes w32 height
 answer_bytes (answer.Block height batch) = 0 ∷ to_be_bytes w32 height ++ value_bytes batch

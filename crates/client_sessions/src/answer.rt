@@ -1,12 +1,14 @@
 //! A session's answer to a request.
 use crate::TargetFault;
-use ledger_model::{Batch, Height, QueryAnswer, SubmitRefusal};
+use ledger_model::{Batch, Height, QueryAnswer, ReplicaId, SubmitRefusal};
 
 /// The answer to a request, with the data for its reply.
 #[derive(Drop)]
 pub(crate) enum Answer {
-    /// It is done.
-    Done,
+    /// The session talks to the replica that the request names.
+    Switched,
+    /// The receipt of a transaction that is in the replica's pool: the replica, and the index of the submit's entry in its history.
+    Receipt(ReplicaId, u32),
     /// The application's answer to a query.
     Value(QueryAnswer),
     /// The committed height.

@@ -6,7 +6,7 @@ use crate::answer::Answer;
 use crate::streams::SessionWriter;
 use crate::targets::TargetFault;
 use crate::transfers;
-use ledger_model::{Batch, Height, QueryAnswer, SubmitRefusal, Tx};
+use ledger_model::{Batch, Height, QueryAnswer, ReplicaId, SubmitRefusal, Tx};
 use std::alloc::{AllocError, Global};
 use std::io;
 use std::marker::Model;
@@ -65,7 +65,7 @@ impl ReplyBuffer {
     ghost use Rattle.std.specs.Int.{w32, to_be_bytes};
     ghost use Rattle.std.specs.List.{flat_map};
     ghost use Rattle.ledger_model.specs.Values.{IsTx, IsValue, value_bytes};
-    ghost use Rattle.ledger_model.specs.Sessions.{refused, faulty, present, framed};
+    ghost use Rattle.ledger_model.specs.Sessions.{receipt, refused, faulty, present, framed};
     ghost use Rattle.client_sessions.specs.Faults.{failures_in};
     ghost use Rattle.client_sessions.specs.Streams.{IsBody};
     ghost use Rattle.byte_streams.specs.Writing.{Writes};
@@ -179,6 +179,14 @@ impl ReplyBuffer {
         }
     }
 
+    fn put_receipt(&mut self, replica: ReplicaId, index: u32)
+        requires { length self.old ≤ 1 }
+        ensures { self.new ≡ self.old ++ receipt replica index }
+    {
+        self.put_u8(replica.number());
+        self.put_u32(index);
+    }
+
     fn put_block(&mut self, height: Height, batch: &Batch)
         requires { length self.old ≤ 1 }
         ensures { self.new ≡ self.old ++ to_be_bytes w32 height ++ value_bytes batch.now }
@@ -194,7 +202,11 @@ impl ReplyBuffer {
     {
         self.clear();
         match answer {
-            Answer::Done => self.put_u8(Status::Done as u8),
+            Answer::Switched => self.put_u8(Status::Done as u8),
+            Answer::Receipt(replica, index) => {
+                self.put_u8(Status::Done as u8);
+                self.put_receipt(*replica, *index);
+            }
             Answer::Value(found) => {
                 self.put_u8(Status::Done as u8);
                 self.put_value(found);

@@ -51,7 +51,7 @@ impl Session {
         self.greatest
     }
 
-    /// Submits a transaction to the replica.
+    /// Submits a transaction to the replica. Its answer is a receipt if the pool takes the transaction.
     fn submit<T: Targets>(&self, targets: &mut T, tx: &[u8]) -> Answer
         requires { self.now.replica < T.replicas targets.old }
         ensures answers { Answers T.asks (T.replicas targets.old) targets.old targets.new self.now (Submit tx.now) (answer_bytes result) self.now }
@@ -59,7 +59,7 @@ impl Session {
         ensures count { T.replicas targets.new ≡ T.replicas targets.old }
     {
         match targets.submit(self.replica, tx) {
-            Ok(Ok(())) => Answer::Done,
+            Ok(Ok(index)) => Answer::Receipt(self.replica, index),
             Ok(Err(refusal)) => Answer::Refused(refusal),
             Err(fault) => Answer::Faulted(fault),
         }
@@ -128,7 +128,7 @@ impl Session {
             return Answer::NoReplica;
         }
         self.replica = replica;
-        Answer::Done
+        Answer::Switched
     }
 
     /// Whether the height is below the one that the client asked for, or below one that it has seen.

@@ -30,12 +30,13 @@ pub trait Targets {
     fn count(&self) -> usize
         ensures { result ≡ replicas self.now };
 
-    /// Submits a transaction of any length to a replica. The inner `Err` is the pool's refusal.
+    /// Submits a transaction of any length to a replica. If the pool takes it, returns the index of the submit's entry in the
+    /// replica's history. The inner `Err` is the pool's refusal.
     fn submit(
         &mut self,
         replica: ReplicaId,
         tx: &[u8],
-    ) -> Result<Result<(), SubmitRefusal>, TargetFault>
+    ) -> Result<Result<u32, SubmitRefusal>, TargetFault>
         requires { replica < replicas self.old }
         ensures asked { asks self.old (Submits replica tx.now (told result)) self.new }
         ensures count { replicas self.new ≡ replicas self.old };

@@ -11,16 +11,18 @@ use Rattle.ledger_model.specs.Values.{Value}
 use Rattle.commit_board.specs.Seats.{ReadAtOnce}
 use Rattle.replica_core.specs.Facts.{block_at}
 use Rattle.locked_replica.specs.States.{StateView}
-use Rattle.replica_turns.specs.Clients.{is_tx_len, submit_events}
+use Rattle.replica_turns.specs.Clients.{IsReceipt, is_tx_len, submit_events, with_index}
 use Rattle.replica_turns.specs.Turns.{GoesOn, Takes}
 
--- a replica took the transaction: its history grew by that event and no other, and the answer is its pool's, by the history before
-pub record IsSubmitted (tx : List ℕ) (answer : Result (Unit {0}) SubmitRefusal) : Type 0 where
+-- a replica took the transaction: its history grew by that event and no other, and the answer is its pool's, by the history before;
+-- if the pool took the transaction, the answer is the index of its entry, which is the length of the history before
+pub record IsSubmitted (tx : List ℕ) (answer : Result ℕ SubmitRefusal) : Type 0 where
   pub old : StateView
   pub new : StateView
   pub went : GoesOn old new
   pub took : Takes old.entries (submit_events tx) new.entries
-  pub answered : answer ≡ submit_reply old.config old.id old.entries tx
+  pub answered : answer ≡ with_index (length old.entries) (submit_reply old.config old.id old.entries tx)
+  pub receipt : IsReceipt new.entries tx answer
 
 -- a replica took the query: its history grew by that event and no other, and the answer is its application's, as of the last block;
 -- a key that is too long has no value, and is no event
@@ -40,7 +42,7 @@ pub record IsCommitted (height : ℕ) (answer : Option Value) : Type 0 where
   pub answered : answer ≡ block_at (commits_of state.config state.id state.entries) height
 
 -- what an answer to a transaction says; only a transaction that a pool may take is refused by a fault
-abbrev pub AnswersSubmit : List ℕ → Result (Result (Unit {0}) SubmitRefusal) Fault → Type 0
+abbrev pub AnswersSubmit : List ℕ → Result (Result ℕ SubmitRefusal) Fault → Type 0
 AnswersSubmit tx (Ok answer) = IsSubmitted tx answer
 AnswersSubmit tx (Err fault) = is_tx_len tx ≡ true
 

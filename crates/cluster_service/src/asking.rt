@@ -4,7 +4,7 @@ ghost use Rattle.ledger_model.specs.Commits.{commits_of, submit_reply};
 ghost use Rattle.ledger_model.specs.Replies.{query_reply};
 ghost use Rattle.ledger_model.specs.declared.event.Event.TheVariants as events;
 ghost use Rattle.replica_core.specs.Facts.{block_at};
-ghost use Rattle.replica_turns.specs.Clients.{is_tx_len, submit_events};
+ghost use Rattle.replica_turns.specs.Clients.{IsReceipt, is_tx_len, submit_events, with_index};
 ghost use Rattle.replica_turns.specs.Turns.{Takes};
 ghost use Rattle.client_sessions.specs.Asking.{max_value_len, told};
 ghost use Rattle.cluster_service.specs.Targets.{AnswersBlock, AnswersQuery, AnswersSubmit};
@@ -20,14 +20,17 @@ use std::alloc::{AllocError, Global};
 /// The most bytes of a value in a session's reply.
 const MAX_VALUE_LEN: usize = 65_529;
 
-/// Submits a transaction. The inner `Err` is the pool's refusal.
+/// Submits a transaction. If the pool takes it, returns the index of its entry in the history. The inner `Err` is the pool's refusal.
 pub(crate) fn submit<A: Application>(
     alloc: Global,
     state: &mut State<A>,
     entries: &mut ClientEntries,
     tx: &[u8],
-) -> Result<Result<(), SubmitRefusal>, TargetFault>
-    ensures answer { IfOk result (λ answer. answer ≡ submit_reply state.old.config state.old.id state.old.entries tx.now) }
+) -> Result<Result<u32, SubmitRefusal>, TargetFault>
+    ensures answer { IfOk result (λ answer. answer ≡ with_index (length state.old.entries)
+        (submit_reply state.old.config state.old.id state.old.entries tx.now)) }
+    // The entry with the index is the Submit of these bytes that the pool took.
+    ensures receipt { IfOk result (λ answer. IsReceipt state.new.entries tx.now answer) }
     ensures event { OnOk result (Takes state.old.entries (submit_events tx.now) state.new.entries) }
     ensures used { length state.new.entries + entries.new ≡ length state.old.entries + entries.old }
     ensures full { IsErrOf result TargetFault.HistoryFull

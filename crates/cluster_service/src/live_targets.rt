@@ -64,7 +64,7 @@ impl<A: Application, R: Wait> Targets for LiveTargets<'_, A, R> {
         &mut self,
         replica: ReplicaId,
         tx: &[u8],
-    ) -> Result<Result<(), SubmitRefusal>, TargetFault> {
+    ) -> Result<Result<u32, SubmitRefusal>, TargetFault> {
         let mut entries = self.entries[usize::from(replica.number())].lock(self.rt);
         let mut state = self.cluster.replica(replica).lock(self.rt);
         submit(self.alloc, &mut *state, &mut *entries, tx)

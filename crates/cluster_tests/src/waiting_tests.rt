@@ -39,3 +39,37 @@ fn an_early_frame_is_due_in_its_round_too(rt: HostRuntime) -> Result<(), Fail> {
     assert_eq!(rt; counts(&waiting), (0, 64));
     Ok(())
 }
+
+/// Takes in as many frames of the next round as there is room for, and gives them up for this round.
+fn fill(alloc: Global, waiting: &mut WaitingFrames) -> Result<(), AllocError> {
+    let mut frames = Vec::new(alloc);
+    for _frame in 0..waiting.room() {
+        frames.push(Bytes::from_static(REPORT))?;
+    }
+    if waiting.room() < frames.len() {
+        return Err(AllocError);
+    }
+    let count = frames.len();
+    waiting.take_in(alloc, 0, frames)?;
+    waiting.give_up(count);
+    Ok(())
+}
+
+/// The number of frames that are due, and of those of the next turn.
+fn next_counts(waiting: &WaitingFrames) -> (usize, usize) {
+    (waiting.due().len(), waiting.first_due().len())
+}
+
+// A turn has at most 64 of the frames that are due.
+#[test]
+fn frames_are_handed_over_in_pieces(rt: HostRuntime) -> Result<(), Fail> {
+    let mut waiting = WaitingFrames::new(rt.alloc());
+    fill(rt.alloc(), &mut waiting)?;
+    fill(rt.alloc(), &mut waiting)?;
+    assert_eq!(rt; next_counts(&waiting), (0, 0));
+    waiting.open_round()?;
+    assert_eq!(rt; next_counts(&waiting), (128, 64));
+    waiting.give_up(100);
+    assert_eq!(rt; next_counts(&waiting), (28, 28));
+    Ok(())
+}

@@ -1,6 +1,8 @@
 -- A running cluster as contracts see it.
-use Rattle.std.specs.Prelude.{◌≡◌, ℕ, ◌≤◌, List, length, map}
+use Rattle.std.specs.Prelude.{◌≡◌, ℕ, ◌≤◌, List, [], ◌∷◌, length, map}
 use Rattle.std.specs.List.{All, range_with_len}
+use Rattle.ledger_model.specs.Rules.{Ring}
+use Rattle.locked_replica.specs.States.{StateView}
 use Rattle.commit_board.specs.Seats.{BoardId, WriterSeatView, ReaderSeatView, new_writer}
 
 -- the number of its replicas, and the board of their heights
@@ -25,3 +27,8 @@ pub record WorkerView : Type 0 where
 -- a worker for each of n replicas, by number
 abbrev pub all_workers : ℕ → ℕ → List WorkerView
 all_workers replicas rounds = map (λ r. record { replica = r; rounds = rounds }) (range_with_len 0 replicas)
+
+-- the keys of a cluster, as its first replica has them
+abbrev pub first_ring : List StateView → Ring
+first_ring [] = []
+first_ring (r ∷ rs) = r.ring

@@ -2,7 +2,7 @@
 ghost use Rattle.std.specs.Prelude.{◌≡◌, ℕ, ◌<◌, Some, length, slice_get, vec_len, IfOk};
 ghost use Rattle.std.specs.Arc.{arc_value};
 ghost use Rattle.commit_board.specs.Seats.{replicas_of, new_reader};
-ghost use Rattle.cluster_workers.specs.RunningClusters.{AreDealt, AreReadersOf, all_workers};
+ghost use Rattle.cluster_workers.specs.RunningClusters.{AreDealt, AreReadersOf, all_workers, first_ring};
 
 use crate::inboxes::{Inboxes, inboxes_of};
 use crate::turn_taker::TurnTaker;
@@ -81,8 +81,10 @@ fn board_of(
     Ok((board, writing, looking, reading))
 }
 
-/// The keys of a cluster, as its first replica has them.
-fn ring_of<A: Application>(alloc: Global, states: &[State<A>]) -> Result<Arc<KeyRing>, AllocError> {
+/// The keys of a cluster, as its first replica has them; none if there is no replica.
+fn ring_of<A: Application>(alloc: Global, states: &[State<A>]) -> Result<Arc<KeyRing>, AllocError>
+    ensures { IfOk result (λ ring. arc_value ring ≡ first_ring states.now) }
+{
     let ring = match states.first() {
         Some(state) => state.ring().copy()?,
         None => KeyRing::new(Vec::new(alloc)),
@@ -95,7 +97,8 @@ fn share_all<A: Application>(
     alloc: Global,
     states: Vec<State<A>>,
 ) -> Result<(Vec<Arc<LockedReplica<A>>>, Arc<KeyRing>), AllocError>
-    ensures { IfOk result (λ r. vec_len r.0 ≡ vec_len states) }
+    ensures replicas { IfOk result (λ r. vec_len r.0 ≡ vec_len states) }
+    ensures ring { IfOk result (λ r. arc_value r.1 ≡ first_ring states.items) }
 {
     let ring = ring_of(alloc, &states)?;
     Ok((lock_all(alloc, states)?, ring))

@@ -13,10 +13,10 @@ use key_ring::KeyRing;
 use ledger_model::{Event, ReplicaId, Sent};
 use locked_replica::ApplyFault;
 use replica_turns::{
-    LockedReplica, OwnEvents, WaitingFrames, arrived_frames, events_of, keep_unknown, offered,
-    sent_at,
+    LockedReplica, OwnEvents, WaitingFrames, arrived_frames, events_of, keep_checked, offered,
+    sent_at, unknown_parts, unknown_reports,
 };
-use signed_frames::Frame;
+use signed_frames::{Frame, SignedPart};
 use std::alloc::{AllocError, Global};
 use std::marker::Model;
 use std::mem;
@@ -24,7 +24,7 @@ use std::sync::{Arc, Wait};
 use std::thread::Threads;
 use verify_pool::{NoGate, verify_all};
 
-/// The number of threads that check the signatures of frames that arrived together, this worker's among them.
+/// The number of threads that check the signatures of the frames of one turn, this worker's among them.
 const CHECKERS: u8 = 2;
 
 /// The worker of one replica. A thread of its own runs it.
@@ -41,7 +41,7 @@ pub struct Worker<A: Application> {
     ended: u32,
     /// The greatest height that was proposed.
     proposed: u32,
-    /// The frames of the next turn, and of the next round.
+    /// The frames for the next turns, and those that wait for the next round.
     frames: WaitingFrames,
     /// The number of frames that were put into inboxes since the clock was last asked.
     sent: usize,
@@ -145,38 +145,67 @@ impl<A: Application> Worker<A> {
         self.turn_taker.look(&*state, self.proposed)
     }
 
-    /// The frames that arrived in time, while the round `clock` was open, and of which the replica doesn't know whether
-    /// they are signed; none if memory runs out.
-    fn unknown_frames<R: Wait>(&self, rt: &R, clock: u32, arrived: &[Bytes]) -> Vec<Frame> {
-        let Ok(mut frames) = arrived_frames(self.alloc, clock, arrived) else {
+    /// The frames among these whose signatures the replica would check now, each once; none if memory runs out.
+    fn checked_frames<R: Wait>(&self, rt: &R, arrived: &[Bytes]) -> Vec<Frame> {
+        let Ok(mut frames) = arrived_frames(self.alloc, arrived) else {
             return Vec::new(self.alloc);
         };
         let state = self.replica.lock(rt);
-        keep_unknown(state.verifier(), &mut frames);
+        keep_checked(&*state, &mut frames);
         frames
     }
 
-    /// Checks the signatures of the frames that arrived while other threads may use the replica, and hands it the answers.
-    /// Without memory it leaves the checks to the replica's turn.
-    fn check<R: Threads + Wait + Sync>(&self, rt: &R, clock: u32, arrived: &[Bytes]) {
-        let frames = self.unknown_frames(rt, clock, arrived);
-        if frames.is_empty() {
+    /// The frames' own parts of which the replica doesn't know whether they are signed; none if memory runs out.
+    fn unknown_parts<'a, R: Wait>(&self, rt: &R, frames: &'a [Frame]) -> Vec<SignedPart<'a>> {
+        let state = self.replica.lock(rt);
+        match unknown_parts(self.alloc, state.verifier(), frames) {
+            Ok(parts) => parts,
+            Err(_) => Vec::new(self.alloc),
+        }
+    }
+
+    /// The same for the reports in the proofs of the frames that the replica knows to be signed.
+    fn unknown_reports<'a, R: Wait>(&self, rt: &R, frames: &'a [Frame]) -> Vec<SignedPart<'a>> {
+        let state = self.replica.lock(rt);
+        match unknown_reports(self.alloc, state.verifier(), frames) {
+            Ok(parts) => parts,
+            Err(_) => Vec::new(self.alloc),
+        }
+    }
+
+    /// Checks the signatures of these parts while other threads may use the replica, and hands it the answers.
+    fn check_parts<R: Threads + Wait + Sync>(&self, rt: &R, parts: &[SignedPart<'_>]) {
+        if parts.is_empty() {
             return;
         }
         let ring = &*self.ring;
-        let Ok(answers) = verify_all(rt, self.alloc, ring, &frames, CHECKERS, &NoGate) else {
+        let Ok(answers) = verify_all(rt, self.alloc, ring, parts, CHECKERS, &NoGate) else {
             return;
         };
         let mut state = self.replica.lock(rt);
-        state.prime(ring, &frames, &answers);
+        let _ = state.prime(ring, parts, &answers);
     }
 
-    /// Takes as many frames from the inbox as there is room for, while the round `clock` is open, and checks their
-    /// signatures. Returns how many it took.
-    fn take_in<R: Threads + Wait + Sync>(&mut self, rt: &R, clock: u32) -> usize {
+    /// Checks the signatures of the frames, and then those in the proofs of the frames that are signed, as the replica would
+    /// at their delivery, but while other threads may use it. Without memory it leaves the checks to the replica's turn.
+    fn check<R: Threads + Wait + Sync>(&self, rt: &R, arrived: &[Bytes]) {
+        if arrived.is_empty() {
+            return;
+        }
+        let frames = self.checked_frames(rt, arrived);
+        if frames.is_empty() {
+            return;
+        }
+        let parts = self.unknown_parts(rt, &frames);
+        self.check_parts(rt, &parts);
+        let reports = self.unknown_reports(rt, &frames);
+        self.check_parts(rt, &reports);
+    }
+
+    /// Takes as many frames from the inbox as there is room for, while the round `clock` is open. Returns how many it took.
+    fn take_in<R: Wait>(&mut self, rt: &R, clock: u32) -> usize {
         let frames = take_frames(rt, self.alloc, &mut self.receiver, self.frames.room());
         let taken = frames.len();
-        self.check(rt, clock, &frames);
         let _ = self.frames.take_in(self.alloc, clock, frames);
         taken
     }
@@ -215,10 +244,17 @@ impl<A: Application> Worker<A> {
         }
     }
 
-    /// Gives the replica a turn with what it does by itself, followed by the waiting frames. A refused event is
-    /// dropped, and the frames after it wait for the next turn. Returns the number of events that were taken.
-    fn hand_over<R: Wait, G: TurnGate>(&mut self, rt: &R, gate: &G, own: &OwnEvents) -> usize {
-        let Ok(events) = events_of(self.alloc, own, self.frames.due()) else {
+    /// Gives the replica a turn with what it does by itself, followed by the first 64 of the waiting frames, whose
+    /// signatures are checked before. A refused event is dropped, and the frames after it wait for the next turn. Returns the
+    /// number of events that were taken.
+    fn hand_over_next<R: Threads + Wait + Sync, G: TurnGate>(
+        &mut self,
+        rt: &R,
+        gate: &G,
+        own: &OwnEvents,
+    ) -> usize {
+        self.check(rt, self.frames.first_due());
+        let Ok(events) = events_of(self.alloc, own, self.frames.first_due()) else {
             self.note_fault(Some(ApplyFault::NoMemory), 0);
             return 0;
         };
@@ -229,6 +265,26 @@ impl<A: Application> Worker<A> {
         self.proposed = own.proposed_after(self.proposed, outcome.taken);
         self.note_fault(outcome.fault, offered(own, outcome.taken));
         outcome.taken
+    }
+
+    /// Gives the replica what it does by itself, followed by the waiting frames, in turns of at most 64 frames: other threads
+    /// may use the replica between them. After a turn that lacks memory the other frames wait. Returns the number of events
+    /// that were taken.
+    fn hand_over<R: Threads + Wait + Sync, G: TurnGate>(
+        &mut self,
+        rt: &R,
+        gate: &G,
+        own: &OwnEvents,
+    ) -> usize {
+        let mut taken = self.hand_over_next(rt, gate, own);
+        for _turn in 1..WaitingFrames::MAX_TURNS {
+            if self.is_short || self.frames.due().is_empty() {
+                break;
+            }
+            let next = self.hand_over_next(rt, gate, &OwnEvents::none());
+            taken = taken.saturating_add(next);
+        }
+        taken
     }
 
     /// The frames of an entry; none if memory ran out.

@@ -168,6 +168,8 @@ fn settings_of<'a>(alloc: Global, matches: &ArgMatches<'a>) -> Result<Settings, 
 /// what is wrong, or the help that the words ask for.
 pub fn settings<'a>(alloc: Global, words: &'a [&'a str]) -> Result<Settings, UsageFault<'a>>
     ensures set { IfOk result (λ s. IsSet (map (λ w. w.now) words.entry.now) s) }
+    // The words have no fault, and ask for neither the help nor the version.
+    ensures taken { IfOk result (λ _. kinds_of (map (λ w. w.now) words.entry.now) ≡ []) }
     // Words that set something are refused only if memory runs out.
     ensures refused { IfErr result (λ e. takes abft_app (map (λ w. w.now) words.entry.now) ≡ true
         → (s : Settings) → IsSet (map (λ w. w.now) words.entry.now) s → WantsMemory e) }

@@ -1,5 +1,5 @@
 -- The answer of the instance is the answer by the log.
-use Rattle.std.proofs.Common.{◌≡◌, ℕ, ◌<◌, Bool, true, false, not, ◌&&◌, ◌||◌, inl, inr, List, refl, arith}
+use Rattle.std.proofs.Common.{◌≡◌, ℕ, ◌<◌, Bool, true, false, not, ◌&&◌, ◌||◌, inl, inr, List, [], refl, arith}
 use Rattle.std.specs.Prelude.{nat_eq}
 use Rattle.std.specs.Option.{option_map_or}
 use Rattle.std.proofs.lemmas.Bool.{cases_Bool, lt-ltb}
@@ -17,7 +17,7 @@ use Rattle.lock_proofs.proofs.HeldLocks.{full_alike}
 use Rattle.instance.specs.Instances.{InstanceView}
 use Rattle.instance.specs.Matching.{MatchesLog}
 use Rattle.instance.specs.Reads.{is_kept_already}
-use Rattle.instance.specs.Laws.{Answers}
+use Rattle.instance.specs.Laws.{Answers, Judges}
 use Rattle.ledger_model.proofs.Lists.{any_mapped}
 use Rattle.instance.proofs.KeptPlaces.{taken_place}
 
@@ -77,3 +77,17 @@ answers ring row log s m below =
             (proof_causes row.config ring (table_alike ring row log m s.statement i) (not_mine_alike ring row log m s.statement t i) s))
       ]
     ])
+
+pub judges : Judges
+judges ring row log s m =
+    let round : Bool = nat_eq (clock_of log) 0 || not (has_place (place_of (clock_of log)) s) in
+    let phase : Bool = not (has_phase (clock_of log) s) in
+    elim (cases_Bool round) [
+      | inl late ↦ rw late refl
+      | inr on_round ↦ elim (cases_Bool phase) [
+        | inl other ↦ rw (on_round, other) refl
+        | inr on_phase ↦
+            let t = on_time (clock_of log) s on_round on_phase in
+            λ i. first_of (place_causes row.config (clock_of log) (repeated_alike ring row log m s t i) s [])
+      ]
+    ]

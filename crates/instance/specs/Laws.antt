@@ -9,7 +9,7 @@ use Rattle.ledger_model.specs.Values.{Value, IsValue}
 use Rattle.ledger_model.specs.Rounds.{place_of, release_place}
 use Rattle.ledger_model.specs.Notes.{Note, Proposed, Round, Read, clock_of, signer_of}
 use Rattle.ledger_model.specs.Logs.{height_of, made_notes, own_ack}
-use Rattle.ledger_model.specs.Rules.{Ring, MayMake, answer_to, first_of, is_signed}
+use Rattle.ledger_model.specs.Rules.{Ring, MayMake, answer_to, first_of, is_signed, place_causes, is_repeated}
 use Rattle.ledger_model.specs.Reading.{reading}
 use Rattle.lock_proofs.specs.LockTables.{SignedLock, as_statement}
 use Rattle.ledger_model.specs.Lawful.{held_locks, are_signed_reports}
@@ -18,7 +18,7 @@ use Rattle.instance.specs.declared.round_statement.RoundStatement.{RoundStatemen
 use Rattle.instance.specs.declared.round_statement.RoundStatement.TheVariants as made
 use Rattle.instance.specs.Instances.{InstanceView}
 use Rattle.instance.specs.Matching.{MatchesLog, IsSound, only_rounds}
-use Rattle.instance.specs.Reads.{opened_row, row_causes, after_read}
+use Rattle.instance.specs.Reads.{opened_row, round_causes, row_causes, after_read}
 use Rattle.instance.specs.Plans.{MaySend, chosen_statement, ended, is_mute_made, sent_in, closed}
 
 -- an instance that opens in any round matches the log of rounds and its proposal
@@ -34,6 +34,13 @@ Answers =
     (ring : Ring) (row : InstanceView) (log : List Note) (s : SignedStatement)
     → MatchesLog ring row log → signer_of s.statement < row.config.replicas
     → first_of (row_causes row ring (clock_of log) s) ≡ answer_to row.config ring log s
+
+-- the first of the causes that don't depend on the signature is the one by the log
+abbrev pub Judges : Type 0
+Judges =
+    (ring : Ring) (row : InstanceView) (log : List Note) (s : Statement)
+    → MatchesLog ring row log
+    → first_of (round_causes row (clock_of log) s) ≡ first_of (place_causes row.config (clock_of log) (is_repeated log s) s [])
 
 -- after an accepted statement the instance matches the log with its note
 abbrev pub Reads : Type 0

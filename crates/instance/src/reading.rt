@@ -55,7 +55,7 @@ impl Instance {
     ghost use Rattle.ledger_model.specs.Rounds.{phase_of, place_of, lock_place};
     ghost use Rattle.ledger_model.specs.Notes.{Note, Read, clock_of, signer_of, is_report, is_lock, is_ack};
     ghost use Rattle.ledger_model.specs.Logs.{height_of};
-    ghost use Rattle.ledger_model.specs.Rules.{answer_to, first_of};
+    ghost use Rattle.ledger_model.specs.Rules.{Ring, answer_to, first_of, place_causes, is_repeated};
     ghost use Rattle.ledger_model.specs.Spelling.{IsFrame, IsLock};
     ghost use Rattle.lock_proofs.specs.LockTables.{as_statement, with_lock, has_four_others, released};
     ghost use Rattle.tally.specs.Tallies.{read_of};
@@ -76,7 +76,7 @@ impl Instance {
     }
 
     /// The first cause that depends on the statement and the round alone, if one applies.
-    fn judge(&self, statement: &Statement, round: u32) -> Result<(), Ignored>
+    fn judge_round(&self, statement: &Statement, round: u32) -> Result<(), Ignored>
         requires { round ≤ last_round }
         ensures { result ≡ first_of (round_causes self.now round statement.now) }
     {
@@ -265,6 +265,17 @@ impl Instance {
         }
     }
 
+    /// The first cause for which a frame with the statement is ignored before its signature is checked, if one applies while
+    /// round `clock` is open: the round, the phase, the owner, or a repetition. Allocates nothing.
+    pub fn judge(&self, statement: &Statement, clock: u32) -> Result<(), Ignored>
+        requires { clock ≤ last_round }
+        // It is that of the definitions, by every log that the instance matches.
+        ensures { (ring : Ring) (log : List Note) → MatchesLog ring self.now log → clock_of log ≡ clock
+            → result ≡ first_of (place_causes self.now.config clock (is_repeated log statement.now) statement.now []) }
+    {
+        self.judge_round(statement, clock)
+    }
+
     /// Reads or ignores a frame of this height, whose signer is in the cluster, while round `clock` is open. A frame is
     /// ignored with the first cause that applies, and then nothing changes.
     ///
@@ -314,7 +325,7 @@ impl Instance {
         // The keys are the same.
         ensures keys { C.ring checks.new ≡ C.ring checks.old }
     {
-        if let Err(cause) = self.judge(frame.statement(), clock) {
+        if let Err(cause) = self.judge_round(frame.statement(), clock) {
             return Ok(Err(cause));
         }
         match frame.statement() {

@@ -8,6 +8,8 @@ mod ots_tests;
 #[cfg(test)]
 mod pool_tests;
 #[cfg(test)]
+mod priming_tests;
+#[cfg(test)]
 mod ring_tests;
 #[cfg(test)]
 mod tree_tests;

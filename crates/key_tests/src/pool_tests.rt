@@ -1,7 +1,7 @@
 //! The signatures of several frames, checked by several threads.
 
 use bytes::Bytes;
-use signed_frames::Frame;
+use signed_frames::{Frame, SignedPart};
 use std::alloc::{AllocError, Global};
 use std::sync::atomic::{AtomicBool, AtomicU64, Ordering};
 use std::test::Fail;
@@ -10,31 +10,30 @@ use std::thread::Threads;
 use test_support::{TestCluster, report_bytes};
 use verify_pool::{Gate, NoGate, verify_all};
 
-/// How often a thread looks for the end of the other check before it gives up.
-const MAX_TURNS: u32 = 1_000_000;
-
-/// The check of one frame starts only after the check of another frame has ended.
+/// The check of one part starts only after the check of another part has ended, or was looked for so many times.
 #[derive(Drop)]
 struct OrderGate {
     first: usize,
     second: usize,
+    looks: u32,
     has_ended: AtomicBool,
     note: AtomicBool,
 }
 
 impl OrderGate {
-    fn new(first: usize, second: usize) -> Self {
+    fn new(first: usize, second: usize, looks: u32) -> Self {
         OrderGate {
             first,
             second,
+            looks,
             has_ended: AtomicBool::new(false),
             note: AtomicBool::new(false),
         }
     }
 
-    // Whether the first check ends within `MAX_TURNS` looks.
+    // Whether the first check ends within so many looks.
     fn waits(&self) -> bool {
-        for _ in 0..MAX_TURNS {
+        for _ in 0..self.looks {
             if self.has_ended.load(Ordering::SeqCst) {
                 return true;
             }
@@ -50,21 +49,21 @@ impl OrderGate {
 }
 
 impl Gate for OrderGate {
-    fn before(&self, frame: usize) {
-        if frame == self.second && !self.waits() {
+    fn before(&self, part: usize) {
+        if part == self.second && !self.waits() {
             self.note.store(true, Ordering::SeqCst);
         }
     }
 
-    fn after(&self, frame: usize, _answer: bool) {
-        if frame == self.first {
+    fn after(&self, part: usize, _answer: bool) {
+        if part == self.first {
             self.has_ended.store(true, Ordering::SeqCst);
         }
     }
 }
 
 /// Counts the checks that started, those that ended, and the signatures that were valid. Each check adds one more than its
-/// frame's place to the first two.
+/// part's place to the first two.
 #[derive(Drop)]
 struct CountingGate {
     started: AtomicU64,
@@ -91,14 +90,14 @@ impl CountingGate {
 }
 
 impl Gate for CountingGate {
-    fn before(&self, frame: usize) {
+    fn before(&self, part: usize) {
         self.started
-            .fetch_add((frame as u64).wrapping_add(1), Ordering::SeqCst);
+            .fetch_add((part as u64).wrapping_add(1), Ordering::SeqCst);
     }
 
-    fn after(&self, frame: usize, answer: bool) {
+    fn after(&self, part: usize, answer: bool) {
         self.ended
-            .fetch_add((frame as u64).wrapping_add(1), Ordering::SeqCst);
+            .fetch_add((part as u64).wrapping_add(1), Ordering::SeqCst);
         self.valid.fetch_add(u64::from(answer), Ordering::SeqCst);
     }
 }
@@ -128,6 +127,15 @@ fn five(alloc: Global, cluster: &mut TestCluster) -> Option<Vec<Frame>> {
     frames_of(alloc, cluster, &[(0, 0), (1, 1), (2, 0), (3, 3), (4, 3)])
 }
 
+// The own parts of the frames.
+fn parts_of(alloc: Global, frames: &[Frame]) -> Result<Vec<SignedPart<'_>>, AllocError> {
+    let mut parts = Vec::new(alloc);
+    for frame in frames {
+        parts.push(frame.signed_part())?;
+    }
+    Ok(parts)
+}
+
 // Whether the answers for the frames are these.
 fn answers_are<R: Threads + Sync, G: Gate + Sync>(
     rt: &R,
@@ -138,7 +146,8 @@ fn answers_are<R: Threads + Sync, G: Gate + Sync>(
     gate: &G,
     wanted: &[bool],
 ) -> Result<bool, AllocError> {
-    let answers = verify_all(rt, alloc, cluster.ring(), frames, workers, gate)?;
+    let parts = parts_of(alloc, frames)?;
+    let answers = verify_all(rt, alloc, cluster.ring(), &parts, workers, gate)?;
     Ok(answers.as_slice() == wanted)
 }
 
@@ -156,18 +165,18 @@ fn both_in_order<R: Threads + Sync>(
 }
 
 // Two checks run at the same time: whichever must wait for the other does, and both end. With one worker the one that
-// comes first waits in vain.
+// comes first would wait for ever, so it looks once.
 #[test]
 fn two_frames_are_checked_at_the_same_time(rt: HostRuntime) -> Result<(), Fail> {
     let alloc = rt.alloc();
     let mut cluster = TestCluster::new(alloc, 4, 1)?;
     let frames = two(alloc, &mut cluster).expect(&rt, "two frames");
     let mut results = [(false, false); 3];
-    for (result, (first, second, workers)) in results
+    for (result, (first, second, workers, looks)) in results
         .iter_mut()
-        .zip([(1, 0, 2), (0, 1, 2), (1, 0, 1)])
+        .zip([(1, 0, 2, u32::MAX), (0, 1, 2, u32::MAX), (1, 0, 1, 1)])
     {
-        let gate = OrderGate::new(first, second);
+        let gate = OrderGate::new(first, second, looks);
         *result = both_in_order(&rt, alloc, &cluster, &frames, workers, &gate)?;
     }
     assert_eq!(rt; results, [(true, false), (true, false), (true, true)]);
@@ -207,7 +216,8 @@ fn the_gate_is_called_for_each_frame(rt: HostRuntime) -> Result<(), Fail> {
     let mut cluster = TestCluster::new(alloc, 4, 1)?;
     let frames = five(alloc, &mut cluster).expect(&rt, "five frames");
     let gate = CountingGate::new();
-    let _answers = verify_all(&rt, alloc, cluster.ring(), &frames, 3, &gate)?;
+    let parts = parts_of(alloc, &frames)?;
+    let _answers = verify_all(&rt, alloc, cluster.ring(), &parts, 3, &gate)?;
     assert_eq!(rt; gate.counts(), [15, 15, 3]);
     Ok(())
 }

@@ -5,9 +5,10 @@ use bytes::Bytes;
 use key_ring::{KeyRing, Signer};
 use ledger_model::ReplicaId;
 use lm_ots::{Identifier, Params, Seed, TreeHeight, Width};
-use lms_tree::{PublicKey, verify};
+use lms_tree::PublicKey;
 use std::alloc::Global;
 use std::hash::RandomState;
+use std::random::RandomSource;
 use std::test::Fail;
 use verify_cache::Verifier;
 
@@ -100,44 +101,53 @@ fn a_verifier_knows_1024_answers(rt: HostRuntime) -> Result<(), Fail> {
     Ok(())
 }
 
-// Tells the verifier what replica 1's signature is worth under this key, and then asks it.
+// Tells the verifier what replica 1's signature is worth under these keys, and then asks it.
 fn asks_primed(
     verifier: &mut Verifier,
-    key: &PublicKey,
+    ring: &KeyRing,
     message: &Bytes,
     signature: &Bytes,
-) -> (bool, u64) {
-    let answer = verify(key, message, signature);
-    verifier.prime(ReplicaId::new(1), key, message, signature, answer);
-    asks(verifier, 1, message, signature)
+) -> Option<(bool, u64)> {
+    let signer = ReplicaId::new(1);
+    let answer = ring.verifies(signer, message, signature);
+    verifier
+        .prime(ring, signer, message, signature, answer)
+        .ok()?;
+    Some(asks(verifier, 1, message, signature))
+}
+
+// The same for the signer's signature, where replica 1 has this key in those keys, and the signer's in the verifier's.
+fn asks_primed_under<R: RandomSource>(
+    rt: &R,
+    alloc: Global,
+    key: Option<PublicKey>,
+) -> Option<(bool, u64)> {
+    let mut signer = signer_of(alloc, Width::W4)?;
+    let mut verifier = verifier_of(alloc, RandomState::new(rt).ok()?, &signer)?;
+    let key = key.unwrap_or(signer.public());
+    let ring = KeyRing::new(Vec::from_slice(alloc, &[key, key]).ok()?);
+    let signature = signature_of(alloc, &mut signer)?;
+    asks_primed(
+        &mut verifier,
+        &ring,
+        &Bytes::from_static(MESSAGE),
+        &signature,
+    )
 }
 
 #[test]
 fn a_primed_answer_is_not_computed(rt: HostRuntime) -> Result<(), Fail> {
-    let mut signer = signer_of(rt.alloc(), Width::W4).expect(&rt, "a signer");
-    let random = RandomState::new(&rt)?;
-    let mut verifier = verifier_of(rt.alloc(), random, &signer).expect(&rt, "a verifier");
-    let signature = signature_of(rt.alloc(), &mut signer).expect(&rt, "a signature");
-    let message = Bytes::from_static(MESSAGE);
-    let answer = asks_primed(&mut verifier, &signer.public(), &message, &signature);
-    assert_eq!(rt; answer, (true, 0));
+    let answer = asks_primed_under(&rt, rt.alloc(), None);
+    assert_eq!(rt; answer, Some((true, 0)));
     Ok(())
 }
 
 // The verifier leaves out an answer that was computed under a key that its ring doesn't have there.
 #[test]
 fn an_answer_under_another_key_is_left_out(rt: HostRuntime) -> Result<(), Fail> {
-    let mut signer = signer_of(rt.alloc(), Width::W4).expect(&rt, "a signer");
-    let random = RandomState::new(&rt)?;
-    let mut verifier = verifier_of(rt.alloc(), random, &signer).expect(&rt, "a verifier");
-    let signature = signature_of(rt.alloc(), &mut signer).expect(&rt, "a signature");
-    let other = other_key(rt.alloc()).expect(&rt, "a key");
-    let answer = asks_primed(
-        &mut verifier,
-        &other,
-        &Bytes::from_static(MESSAGE),
-        &signature,
-    );
-    assert_eq!(rt; answer, (true, 1));
+    let other = other_key(rt.alloc());
+    assert_eq!(rt; other.is_some(), true);
+    let answer = asks_primed_under(&rt, rt.alloc(), other);
+    assert_eq!(rt; answer, Some((true, 1)));
     Ok(())
 }

@@ -6,9 +6,11 @@ use crate::fault::ApplyFault;
 use crate::snapshot::{Snapshot, copy_entries};
 use abci::{Application, Info};
 use key_ring::{KeyRing, Signer};
-use ledger_model::{Batch, Config, Entries, Entry, Event, Height, History, ReplicaId, Reply};
+use ledger_model::{
+    Batch, Config, Entries, Entry, Event, Height, History, Ignored, ReplicaId, Reply,
+};
 use replica_core::Core;
-use signed_frames::Frame;
+use signed_frames::{Frame, SignedPart};
 use std::alloc::{AllocError, Global};
 use std::hash::RandomState;
 use std::marker::Model;
@@ -47,23 +49,27 @@ impl<A: Application> Model for State<A> {
 }
 
 impl<A: Application> State<A> {
-    ghost use Rattle.std.specs.Prelude.{◌≡◌, ◌<◌, ◌≤◌, ◌+◌, ◌↔◌, ◌∷◌, ◌++◌, [], false, length, map, slice_get, Some, IfOk, OnErr, OnOk, IsErrOf, IsTrue, ◌==◌};
+    ghost use Rattle.std.specs.Prelude.{◌≡◌, ◌<◌, ◌≤◌, ◌+◌, ◌↔◌, ◌∷◌, ◌++◌, [], false, length, map, slice_get, ◌==◌};
+    ghost use Rattle.std.specs.Prelude.{Some, Err, IfOk, IfErr, OnErr, OnOk, IsErrOf, IsTrue};
     ghost use Rattle.std.specs.Option.{option_copied};
     ghost use Rattle.ledger_model.specs.declared.reply.Reply.{Reply};
     ghost use Rattle.ledger_model.specs.Limits.{max_height, max_history_len};
     ghost use Rattle.ledger_model.specs.Applications.{run};
     ghost use Rattle.ledger_model.specs.Commits.{commits_of, floor_of, decision_at};
-    ghost use Rattle.ledger_model.specs.Lawful.{Lawful, Replay, clock_at, is_signed_reply};
+    ghost use Rattle.ledger_model.specs.declared.statement.SignedStatement.{SignedStatement};
+    ghost use Rattle.ledger_model.specs.Lawful.{Lawful, Replay, answer, clock_at, is_signed_reply};
     ghost use Rattle.ledger_model.specs.Logs.{is_mute};
-    ghost use Rattle.ledger_model.specs.Rules.{is_signed};
+    ghost use Rattle.ledger_model.specs.Rules.{Ring, is_signed};
     ghost use Rattle.key_ring.specs.Signers.{key_of, leaves_of};
+    ghost use Rattle.verify_cache.specs.Checks.{is_part_signed};
     ghost use Rattle.replica_core.specs.Steps.{UsesLeaves};
+    ghost use Rattle.replica_core.specs.Placing.{answer_before_signature};
     ghost use Rattle.replica_core.specs.Facts.{block_at, info_reply, AreClosed};
     ghost use Rattle.locked_replica.specs.States.{StateView, IsMember, AccountsForLeaves, RunsAlone, UsesAsSigned, due_next, is_mute_after, keys_in, new_state, signs_at};
 
     /// A replica with an empty history. The application must be in its opening state, of the configured kind. The ring
-    /// has the public keys of the replicas by number. The pool and the verifier hash with the first of the random keys; the
-    /// second is reserved for a further index and not used. The only error is allocation failure.
+    /// has the public keys of the replicas by number. The pool hashes with the first of the random keys, and the verifier with
+    /// the second. The only error is allocation failure.
     pub fn new(
         alloc: Global,
         config: Config,
@@ -77,9 +83,8 @@ impl<A: Application> State<A> {
         requires opening { A.machine app ≡ run config.kind [] }
         ensures { IfOk result (λ state. state ≡ new_state config id ring signer) }
     {
-        let [pool_random, _] = randoms;
         Ok(State {
-            core: Core::new(alloc, config, id, signer, ring, app, pool_random)?,
+            core: Core::new(alloc, config, id, signer, ring, app, randoms)?,
             entries: Vec::new(alloc),
         })
     }
@@ -116,14 +121,37 @@ impl<A: Application> State<A> {
         self.core.verifier()
     }
 
-    /// Takes in what was computed elsewhere: whether each of these frames is signed under this ring's keys, in order. A
-    /// delivery of one of them, or of a frame that has the same reports, then doesn't hash it again. It is no event. Answers
-    /// under other keys than this replica's ring has are left out, and so are those for which memory is refused.
-    pub fn prime(&mut self, ring: &KeyRing, frames: &[Frame], answers: &[bool])
-        requires { answers.now ≡ map (is_signed ring.now) frames.now }
+    /// Takes in what was computed elsewhere: whether each of these parts of frames is signed under this ring's keys, in
+    /// order. A delivery of a frame that has one of them then doesn't hash it again. It is no event. Answers under other keys
+    /// than this replica's ring has are left out.
+    ///
+    /// The only error is allocation failure. The replica then took in the answers for the parts before the first one for
+    /// which memory was refused.
+    pub fn prime(
+        &mut self,
+        ring: &KeyRing,
+        parts: &[SignedPart<'_>],
+        answers: &[bool],
+    ) -> Result<(), AllocError>
+        requires { answers.now ≡ map (is_part_signed ring.now) parts.now }
         ensures { self.new ≡ self.old }
     {
-        self.core.prime(ring, frames, answers);
+        self.core.prime(ring, parts, answers)
+    }
+
+    /// The first cause for which the replica ignores the frame before it checks the signature, if one applies: the signer,
+    /// the height, the round, the phase, the owner, or a repetition. If none applies, a delivery of the frame checks its
+    /// signature.
+    pub fn cause_before_signature(&self, frame: &Frame) -> Result<(), Ignored>
+        ensures cause { result ≡ answer_before_signature self.now.config self.now.id self.now.entries frame.now.statement }
+        // The reply to a delivery of the statement is that cause, whatever the signature is.
+        ensures ignored { IfErr result (λ cause. (ring : Ring) (s : SignedStatement) → s.statement ≡ frame.now.statement
+            → answer self.now.config ring self.now.id self.now.entries (Some s) ≡ Err cause) }
+        // If there is none, a frame that isn't signed is ignored for that.
+        ensures checked { OnOk result ((ring : Ring) → is_signed ring frame.now ≡ false
+            → answer self.now.config ring self.now.id self.now.entries (Some frame.now) ≡ Err Ignored.BadSignature) }
+    {
+        self.core.cause_before_signature(frame)
     }
 
     /// The number of entries of the history, at most 65,536.

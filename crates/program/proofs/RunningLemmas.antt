@@ -12,7 +12,7 @@ use Rattle.settings.specs.declared.simulate.SimulateSettings.{SimulateSettings}
 use Rattle.program.specs.Statements.{signed}
 use Rattle.command_line.specs.declared.usage_fault.UsageFault.{UsageFault}
 use Rattle.command_line.specs.declared.usage_fault.UsageFault.TheVariants as fault
-use Rattle.command_line.specs.Faults.{AskForHelp, AskForHelpAlone, IsRightFault}
+use Rattle.command_line.specs.Faults.{AskForHelp, AskForHelpAlone, IsRightFault, kinds_of}
 use Rattle.command_line.proofs.FaultLemmas.{asked, not_alone}
 use Rattle.command_line.specs.Options.{AsksForText, IsRefused, IsSet, WantsMemory}
 use Rattle.byte_streams.specs.Responding.{Responds}
@@ -135,10 +135,11 @@ settled s x (Ok found) status unread left before after same done is =
     inl (is.1, subst (λ y. Done y status unread left before after) same (subst (λ n. Done s n unread left before after) (sym is.0) done))
 settled s x (Err e) status unread left before after same halted is = inr (is, subst (λ y. Halted y unread left before after) same halted)
 
-module _ (words : List (List ℕ)) (s : Settings) (set : IsSet words s) (status : ℕ) (unread left before after : Option (List ℕ)) where
+module _ (words : List (List ℕ)) (s : Settings) (set : IsSet words s) (taken : kinds_of words ≡ []) (status : ℕ)
+    (unread left before after : Option (List ℕ)) where
   pub settled_finishes : (Q : Type 0) → Settled s status unread left before after Q → (status ≡ 0) ⊎ (status ≡ 1)
       → Performs words status unread left before after
-  settled_finishes Q (inl (quiet, done)) small = record { settings = s; set = set; done = done }
+  settled_finishes Q (inl (quiet, done)) small = record { settings = s; set = set; taken = taken; done = done }
   settled_finishes Q (inr (is, halted)) (inl zero) = absurd (omega (arith, zero, is))
   settled_finishes Q (inr (is, halted)) (inr one) = absurd (omega (arith, one, is))
 
@@ -155,7 +156,7 @@ module _ (words : List (List ℕ)) (s : Settings) (set : IsSet words s) (status 
   pub settled_stops : (Q : Type 0) → Settled s status unread left before after Q → status ≡ 3 → Begins words unread left before after
   settled_stops Q (inl (quiet, done)) three = let small =
       done_small s status unread left before after done in absurd (omega (arith, small, three))
-  settled_stops Q (inr (is, halted)) three = record { settings = s; set = set; halted = halted }
+  settled_stops Q (inr (is, halted)) three = record { settings = s; set = set; taken = taken; halted = halted }
 
   pub settled_known : (Q : Type 0) → Settled s status unread left before after Q → status ≤ 3
   settled_known Q (inl (quiet, done)) = let small = done_small s status unread left before after done in omega (arith, small)

@@ -4,6 +4,7 @@ use Rattle.ledger_model.specs.Spelling.{frame_bytes}
 use Rattle.settings.specs.declared.Settings.{Settings}
 use Rattle.settings.specs.declared.Settings.TheVariants as settings
 use Rattle.settings.specs.declared.sign.SignSettings.{SignSettings}
+use Rattle.command_line.specs.Faults.{kinds_of}
 use Rattle.command_line.specs.Options.{IsSet}
 use Rattle.program.specs.Statements.{signed}
 use Rattle.byte_streams.specs.Responding.{Responds, RespondsSome}
@@ -56,12 +57,16 @@ Halted (settings.Serve s) unread left before after = ⊥
 pub record Performs (words : List (List ℕ)) (status : ℕ) (unread left before after : Option (List ℕ)) : Type 0 where
   pub settings : Settings
   pub set : IsSet words settings
+  -- the words have no fault, and ask for neither the help nor the version
+  pub taken : kinds_of words ≡ []
   pub done : Done settings status unread left before after
 
 -- settings that the words ask for were begun
 pub record Begins (words : List (List ℕ)) (unread left before after : Option (List ℕ)) : Type 0 where
   pub settings : Settings
   pub set : IsSet words settings
+  -- the words have no fault, and ask for neither the help nor the version
+  pub taken : kinds_of words ≡ []
   pub halted : Halted settings unread left before after
 
 -- the exit status satisfies this, if the program ended

@@ -1,9 +1,9 @@
 //! Runs the subcommand that the words ask for, and returns the exit status.
-ghost use Rattle.std.specs.Prelude.{◌≡◌, ◌⊎◌, ◌≤◌, map, IfOk, MatchResult};
+ghost use Rattle.std.specs.Prelude.{◌≡◌, ◌⊎◌, ◌≤◌, [], map, IfOk, MatchResult};
 ghost use Rattle.std.specs.IoError.{error_kind};
 ghost use Rattle.std.specs.Io.KnownBytes.{Keeps};
 ghost use Rattle.ledger_model.specs.Spelling.{frame_bytes};
-ghost use Rattle.command_line.specs.Faults.{AskForHelp, AskForHelpAlone};
+ghost use Rattle.command_line.specs.Faults.{AskForHelp, AskForHelpAlone, kinds_of};
 ghost use Rattle.command_line.specs.Options.{AsksForText, IsRefused, IsSet, WantsMemory};
 ghost use Rattle.program.specs.Statements.{signed};
 ghost use Rattle.byte_streams.specs.Writing.{Writes};
@@ -62,10 +62,11 @@ pub fn run<S: RandomSource, R: Read, W: Write, F: Write>(
         × (Keeps (W.contents writer.old) (W.contents writer.new)
         ⊎ (IsRefused (map (λ w. w.now) words.entry.now) × AskForHelp (map (λ w. w.now) words.entry.now))))) }
     ensures known { IfEnded result (λ status. status ≤ 3) }
-    // The settings are those of the words, and no stream was touched.
+    // The settings are those of the words, which have no fault, and no stream was touched.
     ensures hands_back { IfHanded result (λ settings. IsSet (map (λ w. w.now) words.entry.now) settings
         × Keeps (R.remaining reader.old) (R.remaining reader.new) × Keeps (W.contents writer.old) (W.contents writer.new)
-        × Keeps (F.contents faults.old) (F.contents faults.new)) }
+        × Keeps (F.contents faults.old) (F.contents faults.new)
+        × (kinds_of (map (λ w. w.now) words.entry.now) ≡ [])) }
 {
     match settings(alloc, words) {
         Ok(settings) => run_settings(source, alloc, settings, reader, writer, faults),

@@ -5,6 +5,7 @@ pub mod Unopened
 pub mod Proposes
 pub mod Retires
 pub mod Delivers
+pub mod Placing
 pub mod Executes
 pub mod Machines
 pub mod AscendingRows

@@ -9,3 +9,4 @@ pub mod Facts
 pub mod Following
 pub mod ShownEnds
 pub mod Leaves
+pub mod Placing

@@ -2,6 +2,7 @@
 use crate::replica_state::ReplicaState;
 use abci::Application;
 use bytes::Bytes;
+use instance::Instance;
 use ledger_model::Ignored;
 use signed_frames::Frame;
 use statements::DecodeFault;
@@ -16,24 +17,39 @@ impl<A: Application> ReplicaState<A> {
     ghost use Rattle.ledger_model.specs.Reading.{reading};
     ghost use Rattle.instance.specs.Instances.{InstanceView};
     ghost use Rattle.height_row.specs.Heights.{row_at};
+    ghost use Rattle.ledger_model.specs.declared.history.Entry.{Entry};
+    ghost use Rattle.replica_core.specs.ReplicaStates.{MatchesHistory};
     ghost use Rattle.replica_core.specs.Steps.{IsStep};
+    ghost use Rattle.replica_core.specs.Placing.{answer_before_signature};
 
-    /// Why no open height can judge the frame, if none can: the signer is not in the cluster, or the height is not open.
-    fn find_place(&self, frame: &Frame) -> Result<(), Ignored>
+    /// The instance that can judge the frame, or why none can: the signer is not in the cluster, or the height is not open.
+    fn find_place(&self, frame: &Frame) -> Result<&Instance, Ignored>
         ensures signer { OnOk result (signer_of frame.now.statement < self.now.config.replicas) }
-        ensures there { OnOk result (is_some (row_at self.now.rows (height_of frame.now.statement)) ≡ true) }
-        ensures own { OnOk result ((row : InstanceView) → row_at self.now.rows (height_of frame.now.statement) ≡ Some row → row.config ≡ self.now.config) }
+        ensures row { IfOk result (λ instance. row_at self.now.rows (height_of frame.now.statement) ≡ Some instance.now) }
+        ensures own { OnOk result ((row : InstanceView) → row_at self.now.rows (height_of frame.now.statement) ≡ Some row
+            → row.config ≡ self.now.config) }
         ensures step { IfErr result (λ cause. (bytes : List ℕ) → reading bytes ≡ Some frame.now
             → IsStep self.now (event.Deliver bytes) (reply.Delivered (Err cause)) self.now) }
+        ensures cause { IfErr result (λ cause. (entries : List Entry) → MatchesHistory self.now entries
+            → answer_before_signature self.now.config self.now.id entries frame.now.statement ≡ Err cause) }
     {
         let statement = frame.statement();
         if statement.signer().number() >= self.config.replicas {
             return Err(Ignored::Signer);
         }
         match self.rows.get(statement.height()) {
-            Some(_) => Ok(()),
+            Some(instance) => Ok(instance),
             None => Err(Ignored::NoRow),
         }
+    }
+
+    /// The first cause for which the frame is ignored before its signature is checked, if one applies.
+    pub(crate) fn cause_before_signature(&self, frame: &Frame) -> Result<(), Ignored>
+        // This holds for every history that the core state matches.
+        ensures { (entries : List Entry) → MatchesHistory self.now entries
+            → result ≡ answer_before_signature self.now.config self.now.id entries frame.now.statement }
+    {
+        self.find_place(frame)?.judge(frame.statement(), self.clock)
     }
 
     /// Reads or ignores a frame of an open height, whose signer is in the cluster. A frame that is ignored changes nothing.
@@ -60,7 +76,7 @@ impl<A: Application> ReplicaState<A> {
         ensures err { OnErr result (self.new ≡ self.old) }
     {
         match self.find_place(&frame) {
-            Ok(()) => self.read(alloc, frame),
+            Ok(_) => self.read(alloc, frame),
             Err(cause) => Ok(Err(cause)),
         }
     }

@@ -6,6 +6,7 @@ use ledger_model::{Batch, Config, Event, Height, ReplicaId, Reply};
 use std::alloc::{AllocError, Global};
 use std::hash::RandomState;
 use std::marker::Model;
+use verify_cache::Verifier;
 
 /// Follows the history of a replica: for each entry it returns whether the reply is lawful after the entries before it, and
 /// everything that it sends is signed. It needs no secret key, and stores no history. Contracts see a `FollowerView`.
@@ -35,8 +36,8 @@ impl<A: Application> Follower<A> {
     ghost use Rattle.replica_core.specs.Following.{KeepsReplay, IsSameReplicaState};
 
     /// A follower of the history of replica `id`, before its first entry. The ring has the keys that signatures are
-    /// verified under. The application must be in its opening state, of the configured kind. The pool hashes with the
-    /// random keys. The only error is allocation failure.
+    /// verified under. The application must be in its opening state, of the configured kind. The pool and the
+    /// verifier hash with the random keys. The only error is allocation failure.
     pub fn new(
         alloc: Global,
         config: Config,
@@ -52,7 +53,7 @@ impl<A: Application> Follower<A> {
         ensures matches { IfOk result (λ follower. MatchesHistory follower.held []) }
     {
         Ok(Follower {
-            kept: ReplicaState::new(alloc, config, id, ring, app, random)?,
+            kept: ReplicaState::new(alloc, config, id, ring, app, [random, random])?,
             lost: false,
         })
     }
@@ -87,6 +88,16 @@ impl<A: Application> Follower<A> {
         let kept = self.kept.follow(alloc, event, reply)?;
         self.lost = !kept;
         Ok(kept)
+    }
+
+    /// Swaps the follower's verifier for another one that has the same keys. So one verifier can go from follower to
+    /// follower, and hashes a signature that several histories contain only once.
+    pub fn swap_verifier(&mut self, verifier: &mut Verifier)
+        requires { verifier.old.ring ≡ self.old.held.ring }
+        ensures same { self.new ≡ self.old }
+        ensures ring { verifier.new.ring ≡ verifier.old.ring }
+    {
+        self.kept.swap_verifier(verifier);
     }
 
     /// Whether the follower is lost: some entry was refused.

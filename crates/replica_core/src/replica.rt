@@ -37,8 +37,8 @@ impl<A: Application> Core<A> {
     ghost use Rattle.replica_core.specs.Cores.{CoreView, IsSameReplica, leaves_due, is_mute_then};
 
     /// A core before the first event. The application must be in its opening state, of the configured kind, and the ring must
-    /// have the replica's own key at its number. The pool and the verifier hash with the random keys. The only error is allocation
-    /// failure.
+    /// have the replica's own key at its number. The pool hashes with the first of the random keys, and the verifier with the
+    /// second. The only error is allocation failure.
     pub fn new(
         alloc: Global,
         config: Config,
@@ -46,7 +46,7 @@ impl<A: Application> Core<A> {
         signer: Signer,
         ring: KeyRing,
         app: A,
-        random: RandomState,
+        randoms: [RandomState; 2],
     ) -> Result<Self, AllocError>
         requires member { id < config.replicas }
         requires own_key { slice_get ring id ≡ Some (key_of signer.secret) }
@@ -56,7 +56,7 @@ impl<A: Application> Core<A> {
         ensures matches { IfOk result (λ core. MatchesHistory core.held []) }
     {
         Ok(Core {
-            kept: ReplicaState::new(alloc, config, id, ring, app, random)?,
+            kept: ReplicaState::new(alloc, config, id, ring, app, randoms)?,
             signer,
         })
     }

@@ -75,27 +75,29 @@ impl<A: Application> ReplicaState<A> {
     ghost use Rattle.ledger_model.specs.Applications.{run};
     ghost use Rattle.replica_core.specs.ReplicaStates.{new_replica_state};
 
-    /// The state before the first event. The application must be in its opening state, of the configured kind.
+    /// The state before the first event. The application must be in its opening state, of the configured kind. The pool
+    /// hashes with the first of the random keys, and the verifier with the second.
     pub(crate) fn new(
         alloc: Global,
         config: Config,
         id: ReplicaId,
         ring: KeyRing,
         app: A,
-        random: RandomState,
+        randoms: [RandomState; 2],
     ) -> Result<Self, AllocError>
         requires member { id < config.replicas }
         requires opening { A.machine app ≡ run config.kind [] }
         ensures { IfOk result (λ kept. kept ≡ new_replica_state config id ring) }
     {
+        let [pool_random, verifier_random] = randoms;
         let executor = Executor::new(app)?;
-        let verifier = Verifier::new(alloc, ring, random)?;
+        let verifier = Verifier::new(alloc, ring, verifier_random)?;
         Ok(ReplicaState {
             config,
             id,
             verifier,
             rows: HeightRow::new(alloc, &config, id),
-            pool: Pool::new(alloc, random),
+            pool: Pool::new(alloc, pool_random),
             executor,
             committed: Vec::new(alloc),
             clock: 0,

@@ -3,34 +3,71 @@ use crate::replica::Core;
 use crate::replica_state::ReplicaState;
 use abci::Application;
 use key_ring::KeyRing;
-use signed_frames::Frame;
+use ledger_model::Ignored;
+use signed_frames::{Frame, SignedPart};
+use std::alloc::AllocError;
+use std::mem;
 use verify_cache::Verifier;
 
 impl<A: Application> ReplicaState<A> {
     ghost use Rattle.std.specs.Prelude.{◌≡◌, map};
-    ghost use Rattle.ledger_model.specs.Rules.{is_signed};
+    ghost use Rattle.verify_cache.specs.Checks.{is_part_signed};
 
-    /// Takes in which of the frames are signed, without any effect that contracts see.
-    fn prime(&mut self, ring: &KeyRing, frames: &[Frame], answers: &[bool])
-        requires { answers.now ≡ map (is_signed ring.now) frames.now }
+    /// Takes in which of the parts are signed, without any effect that contracts see.
+    fn prime(
+        &mut self,
+        ring: &KeyRing,
+        parts: &[SignedPart<'_>],
+        answers: &[bool],
+    ) -> Result<(), AllocError>
+        requires { answers.now ≡ map (is_part_signed ring.now) parts.now }
         ensures { self.new ≡ self.old }
     {
-        self.verifier.prime_all(ring, frames, answers);
+        self.verifier.prime_all(ring, parts, answers)
+    }
+
+    /// Swaps the verifier for another one that has the same keys, without any effect that contracts see.
+    pub(crate) fn swap_verifier(&mut self, verifier: &mut Verifier)
+        requires { verifier.old.ring ≡ self.old.ring }
+        ensures same { self.new ≡ self.old }
+        ensures ring { verifier.new.ring ≡ verifier.old.ring }
+    {
+        mem::swap(&mut self.verifier, verifier);
     }
 }
 
 impl<A: Application> Core<A> {
-    ghost use Rattle.std.specs.Prelude.{◌≡◌, map};
-    ghost use Rattle.ledger_model.specs.Rules.{is_signed};
+    ghost use Rattle.std.specs.Prelude.{◌≡◌, List, map};
+    ghost use Rattle.ledger_model.specs.declared.history.Entry.{Entry};
+    ghost use Rattle.verify_cache.specs.Checks.{is_part_signed};
+    ghost use Rattle.replica_core.specs.ReplicaStates.{MatchesHistory};
+    ghost use Rattle.replica_core.specs.Placing.{answer_before_signature};
 
-    /// Takes in what was computed elsewhere: whether each of these frames is signed under this ring's keys, in order. A
-    /// later step then doesn't hash what it finds among them. Answers under other keys than the core's are left out, and so
-    /// are those for which memory is refused.
-    pub fn prime(&mut self, ring: &KeyRing, frames: &[Frame], answers: &[bool])
-        requires { answers.now ≡ map (is_signed ring.now) frames.now }
+    /// Takes in what was computed elsewhere: whether each of these parts of frames is signed under this ring's keys, in
+    /// order. A later step then doesn't hash what it finds among them. Answers under other keys than the core's are left out.
+    ///
+    /// The only error is allocation failure. The core then took in the answers for the parts before the first one for which
+    /// memory was refused.
+    pub fn prime(
+        &mut self,
+        ring: &KeyRing,
+        parts: &[SignedPart<'_>],
+        answers: &[bool],
+    ) -> Result<(), AllocError>
+        requires { answers.now ≡ map (is_part_signed ring.now) parts.now }
         ensures { self.new ≡ self.old }
     {
-        self.kept.prime(ring, frames, answers);
+        self.kept.prime(ring, parts, answers)
+    }
+
+    /// The first cause for which the replica ignores the frame before it checks the signature, if one applies: the signer,
+    /// the height, the round, the phase, the owner, or a repetition.
+    pub fn cause_before_signature(&self, frame: &Frame) -> Result<(), Ignored>
+        // This holds for every history that the core matches.
+        ensures { (entries : List Entry) → MatchesHistory self.now.held entries
+            → result ≡ answer_before_signature self.now.held.config self.now.held.id entries frame.now.statement }
+    {
+        self.kept.cause_before_signature(frame)
     }
 
     /// The verifier, which has the ring and knows the answers of the last checks.

@@ -1,10 +1,11 @@
 //! Why a test can't compare.
 use adversary_net::WorldFault;
+use history_reading::HistoryFault;
 use key_ring::SignFault;
 use ledger_model::ConfigFault;
 use locked_replica::ApplyFault;
 use scenario_texts::TextFault;
-use std::alloc::AllocError;
+use std::alloc::{AllocError, AllocFailed};
 
 /// Why a test can't compare.
 #[derive(Clone, Copy, Debug)]
@@ -29,10 +30,20 @@ pub(crate) enum Fault {
     Event(ApplyFault),
     /// The bytes are no key.
     NoKey,
+    /// The bytes are no histories.
+    History(HistoryFault),
+    /// Histories were written as other bytes than those that they were read from.
+    OtherBytes,
 }
 
 impl From<AllocError> for Fault {
     fn from(_error: AllocError) -> Fault {
+        Fault::NoMemory
+    }
+}
+
+impl<T: Drop> From<AllocFailed<T>> for Fault {
+    fn from(_error: AllocFailed<T>) -> Fault {
         Fault::NoMemory
     }
 }
@@ -64,5 +75,11 @@ impl From<SignFault> for Fault {
 impl From<ApplyFault> for Fault {
     fn from(fault: ApplyFault) -> Fault {
         Fault::Event(fault)
+    }
+}
+
+impl From<HistoryFault> for Fault {
+    fn from(fault: HistoryFault) -> Fault {
+        Fault::History(fault)
     }
 }

@@ -1,5 +1,5 @@
 //! Follows histories, with functions that ensure little.
-ghost use Rattle.std.specs.Prelude.{◌≡◌, []};
+ghost use Rattle.std.specs.Prelude.{◌≡◌, [], IfOk};
 ghost use Rattle.ledger_model.specs.Applications.{run};
 
 use crate::fault::Fault;
@@ -37,7 +37,9 @@ pub(crate) fn new_follower(
     alloc: Global,
     random: RandomState,
     told: &Snapshot,
-) -> Result<Follower<AnyKind>, Fault> {
+) -> Result<Follower<AnyKind>, Fault>
+    ensures { IfOk result (λ follower. follower.held.ring ≡ told.now.ring) }
+{
     let app = AnyKind::new(alloc, told.config.kind);
     follower_with(alloc, random, told, app)
 }
@@ -50,6 +52,7 @@ pub(crate) fn follower_with<A: Application>(
     app: A,
 ) -> Result<Follower<A>, Fault>
     requires { A.machine app ≡ run told.now.config.kind [] }
+    ensures { IfOk result (λ follower. follower.held.ring ≡ told.now.ring) }
 {
     let id = told.history.replica;
     if id.number() >= told.config.replicas {
@@ -65,7 +68,9 @@ pub(crate) fn is_taken<A: Application>(
     alloc: Global,
     event: &Event,
     reply: &Reply,
-) -> Result<bool, AllocError> {
+) -> Result<bool, AllocError>
+    ensures { follower.new.held.ring ≡ follower.old.held.ring }
+{
     follower.follow(alloc, event, reply)
 }
 
@@ -74,7 +79,9 @@ pub(crate) fn takes_all<A: Application>(
     follower: &mut Follower<A>,
     alloc: Global,
     entries: &[Entry],
-) -> Result<bool, AllocError> {
+) -> Result<bool, AllocError>
+    ensures { follower.new.held.ring ≡ follower.old.held.ring }
+{
     for entry in entries {
         if !is_taken(follower, alloc, &entry.event, &entry.reply)? {
             return Ok(false);

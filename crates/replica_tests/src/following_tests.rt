@@ -1,6 +1,8 @@
 //! Followers follow each history of the worked runs to its end, and refuse a changed reply at each entry.
+ghost use Rattle.std.specs.Prelude.{◌≡◌};
+
 use crate::fault::Fault;
-use crate::following::is_followed;
+use crate::following::{is_followed, new_follower, takes_all};
 use crate::playing::{history_of, played};
 use crate::refusing::refuses_changes;
 use crate::scripts::{
@@ -14,6 +16,7 @@ use simulation::Simulation;
 use std::alloc::Global;
 use std::hash::RandomState;
 use std::test::Fail;
+use verify_cache::Verifier;
 
 /// The number of entries of a history, if a follower takes them all.
 fn len_followed(alloc: Global, random: RandomState, told: &Snapshot) -> Result<usize, Fault> {
@@ -103,6 +106,56 @@ fn first_wrong_script(alloc: Global, random: RandomState) -> Result<Option<usize
         }
     }
     Ok(None)
+}
+
+/// Whether a follower that has this verifier takes the whole history.
+fn is_followed_with(
+    alloc: Global,
+    random: RandomState,
+    told: &Snapshot,
+    verifier: &mut Verifier,
+) -> Result<bool, Fault>
+    requires { verifier.old.ring ≡ told.now.ring }
+    ensures { verifier.new.ring ≡ told.now.ring }
+{
+    let mut follower = new_follower(alloc, random, told)?;
+    follower.swap_verifier(verifier);
+    let is_followed = takes_all(&mut follower, alloc, told.history.entries.as_slice());
+    follower.swap_verifier(verifier);
+    Ok(is_followed?)
+}
+
+/// How many signatures two followers hash that take the same history one after the other with one verifier: by the end of the
+/// first, and by the end of the second; `None` if a follower refuses an entry.
+fn hashes_of_two(
+    alloc: Global,
+    random: RandomState,
+    told: &Snapshot,
+) -> Result<Option<(u64, u64)>, Fault> {
+    let mut verifier = Verifier::new(alloc, told.ring.copy()?, random)?;
+    let first = is_followed_with(alloc, random, told, &mut verifier)?;
+    let hashed = verifier.computed();
+    let second = is_followed_with(alloc, random, told, &mut verifier)?;
+    if first && second {
+        Ok(Some((hashed, verifier.computed())))
+    } else {
+        Ok(None)
+    }
+}
+
+/// That of the history of replica 0 after the plain run.
+fn hashes_of_plain(alloc: Global, random: RandomState) -> Result<Option<(u64, u64)>, Fault> {
+    let simulation = played(alloc, random, PLAIN)?;
+    let told = history_of(&simulation, 0)?;
+    hashes_of_two(alloc, random, &told)
+}
+
+#[test]
+fn followers_that_share_a_verifier_hash_a_signature_once(rt: HostRuntime) -> Result<(), Fail> {
+    let random = RandomState::new(&rt)?;
+    let hashes = hashes_of_plain(rt.alloc(), random)?;
+    assert!(rt; matches!(hashes, Some((first, second)) if first > 0 && first == second));
+    Ok(())
 }
 
 #[test]

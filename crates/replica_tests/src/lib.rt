@@ -1,7 +1,9 @@
 //! Tests of one replica and its atomic step; and of histories of the worked runs, which are followed entry by entry, as
-//! they are and with a changed reply.
+//! they are and with a changed reply. Histories are also read back from their bytes.
 #![tactic(auto)]
 
+#[cfg(test)]
+mod audit_tests;
 #[cfg(test)]
 mod changing;
 #[cfg(test)]
@@ -18,6 +20,8 @@ mod following_tests;
 mod frame_tests;
 #[cfg(test)]
 mod frames;
+#[cfg(test)]
+mod history_tests;
 #[cfg(test)]
 mod memory_tests;
 #[cfg(test)]

@@ -20,6 +20,16 @@ pub(crate) const PLAIN: Script = &[
     ),
 ];
 
+/// The same as far as the first block, with another transaction.
+pub(crate) const PLAIN_WITH_B: Script = &[
+    (
+        b"config 4 1 1\nsubmit 0 b=1\nsubmit 1 b=1\nsubmit 2 b=1\nsubmit 3 b=1\npropose 0 1\npropose 1 1\npropose 2 1\npropose 3 1\n",
+        1,
+    ),
+    (b"round\n", 16),
+    (b"execute 0\nexecute 1\nexecute 2\nexecute 3\n", 1),
+];
+
 /// The same, and then replica 0 gives height 1 up, which is refused where it has or may not; the others go on.
 pub(crate) const RETIRED: Script = &[
     FOUR_ALIKE,

@@ -1,21 +1,24 @@
 -- A replica's answers to its clients.
-use Rattle.std.proofs.Common.{◌≡◌, ℕ, ◌<◌, List, [], ◌∷◌, ◌++◌, length, Some, Ok, refl, ap, ◌∙◌, sym, subst, arith, slice_get}
-use Rattle.std.proofs.Common.{length-append}
+use Rattle.std.proofs.Common.{◌≡◌, ℕ, ◌<◌, List, [], ◌∷◌, ◌++◌, length, Some, Ok, Err, refl, ap, ◌∙◌, sym, subst, arith, slice_get}
+use Rattle.std.proofs.Common.{length-append, Result}
 use Rattle.std.proofs.Math.Seq.{get_or-append_seam}
+use Rattle.std.proofs.lemmas.Cmp.{nat_list_eq_equiv}
 use Rattle.std.proofs.lemmas.Option.{slice_get_read}
 use Rattle.ledger_model.specs.declared.config.Config.{Config}
 use Rattle.ledger_model.specs.declared.event.Event.TheVariants as event
 use Rattle.ledger_model.specs.declared.history.Entry.{Entry}
 use Rattle.ledger_model.specs.declared.reply.Reply.{Reply}
 use Rattle.ledger_model.specs.declared.reply.Reply.TheVariants as reply
+use Rattle.ledger_model.specs.declared.reply.SubmitRefusal.{SubmitRefusal}
 use Rattle.ledger_model.specs.Applications.{done_by, held_at}
-use Rattle.ledger_model.specs.Commits.{commits_of}
+use Rattle.ledger_model.specs.Audits.{is_taken}
+use Rattle.ledger_model.specs.Commits.{commits_of, submit_reply}
 use Rattle.ledger_model.specs.Rules.{Ring}
 use Rattle.ledger_model.specs.Lawful.{Lawful}
 use Rattle.ledger_model.specs.Replies.{query_reply}
 use Rattle.ledger_model.specs.Values.{Value}
 use Rattle.ledger_model.specs.declared.config.AppKind.{AppKind}
-use Rattle.replica_turns.specs.Clients.{query_reply_in, query_reply_at}
+use Rattle.replica_turns.specs.Clients.{IsReceipt, query_reply_in, query_reply_at, with_index}
 
 -- as of the last block a key is always answered
 pub last_answer : (kind : AppKind) (batches : List Value) (key : List ℕ)
@@ -51,3 +54,45 @@ query_added config ring id old new key h r i at last_one grown law =
     let last : slice_get new i ≡ Some e = rw (at, grown) (get_last old e) in
     subst (λ (n : ℕ). query_reply_at (slice_get new i) ≡ Some (query_reply config.kind (commits_of config id old) key n)) last_one
     (ap query_reply_at last ∙ lawful_query config ring id old key h r law)
+
+-- an entry that took the transaction holds its receipt
+receipt_held : (old new : List Entry) (tx : List ℕ) (answer : Result (Unit {0}) SubmitRefusal)
+    → new ≡ old ++ record { event = event.Submit tx; reply = reply.Submitted answer } ∷ []
+    → IsReceipt new tx (with_index (length old) answer)
+receipt_held old new tx (Ok u) grown =
+    let e : Entry = record { event = event.Submit tx; reply = reply.Submitted (Ok u) } in
+    let last : slice_get new (length old) ≡ Some e = rw grown (get_last old e) in
+    ap (is_taken tx) last ∙ nat_list_eq_equiv.refl tx
+receipt_held old new tx (Err refusal) grown = tt
+
+-- the receipt of an entry that was just added
+pub receipt_added : (config : Config) (ring : Ring) (id : ℕ) (old new : List Entry) (tx bytes : List ℕ) (r : Reply) → bytes ≡ tx
+    → new ≡ old ++ record { event = event.Submit bytes; reply = r } ∷ [] → Lawful config ring id old (event.Submit bytes) r
+    → IsReceipt new tx (with_index (length old) (submit_reply config id old tx))
+receipt_added config ring id old new tx bytes (reply.Submitted answer) same grown law =
+    receipt_held old new tx (submit_reply config id old tx)
+    (grown ∙ ap (λ a. old ++ record { event = event.Submit bytes; reply = reply.Submitted a } ∷ []) law
+    ∙ ap (λ b. old ++ record { event = event.Submit b; reply = reply.Submitted (submit_reply config id old b) } ∷ []) same)
+receipt_added config ring id old new tx bytes (reply.Queried r) same grown law = absurd law
+receipt_added config ring id old new tx bytes (reply.Proposed r) same grown law = absurd law
+receipt_added config ring id old new tx bytes (reply.Delivered r) same grown law = absurd law
+receipt_added config ring id old new tx bytes (reply.RoundEnded r) same grown law = absurd law
+receipt_added config ring id old new tx bytes (reply.Executed r) same grown law = absurd law
+receipt_added config ring id old new tx bytes (reply.Retired r) same grown law = absurd law
+
+-- the pool's answer, as the entry that was just added has it
+pub submit_answered : (config : Config) (ring : Ring) (id : ℕ) (old new : List Entry) (tx bytes : List ℕ) (r : Reply) (i : ℕ) (e : Entry)
+    (answer : Result (Unit {0}) SubmitRefusal) → i ≡ length old → bytes ≡ tx
+    → new ≡ old ++ record { event = event.Submit bytes; reply = r } ∷ [] → Lawful config ring id old (event.Submit bytes) r
+    → slice_get new i ≡ Some e → e.reply ≡ reply.Submitted answer → answer ≡ submit_reply config id old tx
+submit_answered config ring id old new tx bytes (reply.Submitted a) i e answer at same grown law found told =
+    let added : Entry = record { event = event.Submit bytes; reply = reply.Submitted a } in
+    let last : slice_get new i ≡ Some added = rw (at, grown) (get_last old added) in
+    let own : reply.Submitted answer ≡ reply.Submitted a = cc (last, found, told) in
+    cc (own, law, same)
+submit_answered config ring id old new tx bytes (reply.Queried r) i e answer at same grown law found told = absurd law
+submit_answered config ring id old new tx bytes (reply.Proposed r) i e answer at same grown law found told = absurd law
+submit_answered config ring id old new tx bytes (reply.Delivered r) i e answer at same grown law found told = absurd law
+submit_answered config ring id old new tx bytes (reply.RoundEnded r) i e answer at same grown law found told = absurd law
+submit_answered config ring id old new tx bytes (reply.Executed r) i e answer at same grown law found told = absurd law
+submit_answered config ring id old new tx bytes (reply.Retired r) i e answer at same grown law found told = absurd law

@@ -1,12 +1,14 @@
--- Which of the frames that arrived are worth a check.
-use Rattle.std.specs.Prelude.{ℕ, Bool, List, [], ◌∷◌, ◌++◌, nat_eq, if◌then◌else◌}
+-- Which parts of the frames that arrived are worth a check.
+use Rattle.std.specs.Prelude.{ℕ, Bool, false, not, List, [], ◌∷◌, ◌++◌, map, nat_eq, is_ok, if◌then◌else◌}
 use Rattle.std.specs.List.{list_any}
+use Rattle.std.specs.Option.{option_map_or}
 use Rattle.std.specs.Cmp.Lexicographic.{pointwise}
 use Rattle.ledger_model.specs.declared.statement.SignedStatement.{SignedStatement}
-use Rattle.ledger_model.specs.Notes.{signer_of}
-use Rattle.ledger_model.specs.Spelling.{statement_bytes}
-use Rattle.verify_cache.specs.Same.{signed_of}
-use Rattle.verify_cache.specs.Verifiers.{VerifierView, is_known}
+use Rattle.ledger_model.specs.declared.statement.Statement.{Statement}
+use Rattle.signed_frames.specs.Lending.{SignedPartView, own_part, lent_of, proof_of}
+use Rattle.verify_cache.specs.Verifiers.{VerifierView, is_known, answer_in, check_of}
+use Rattle.locked_replica.specs.States.{StateView}
+use Rattle.replica_core.specs.Placing.{answer_before_signature}
 
 -- the list with these bytes at its end, unless it has them
 abbrev pub with_bytes : List ℕ → List (List ℕ) → List (List ℕ)
@@ -21,6 +23,15 @@ with_each (b ∷ bs) once = with_each bs (with_bytes b once)
 abbrev pub distinct : List (List ℕ) → List (List ℕ)
 distinct bs = with_each bs []
 
--- the verifier knows whether the frame is signed
-abbrev pub is_known_frame : VerifierView → SignedStatement → Bool
-is_known_frame v s = is_known v (signed_of (signer_of s.statement) (statement_bytes s.statement) s.signature)
+-- the replica checks the signature of a frame with this statement: no cause that comes before the signature applies
+abbrev pub is_checked : StateView → Statement → Bool
+is_checked r s = is_ok (answer_before_signature r.config r.id r.entries s)
+
+-- the verifier doesn't know whether the part is signed
+abbrev pub is_unknown : VerifierView → SignedPartView → Bool
+is_unknown v p = not (is_known v (check_of p))
+
+-- the reports of the frame's proof, if the verifier knows that the frame itself is signed
+abbrev pub reports_of_signed : VerifierView → SignedStatement → List SignedPartView
+reports_of_signed v s =
+    if option_map_or (λ answer. answer) (answer_in v (check_of (own_part s))) false then map lent_of (proof_of s.statement) else []

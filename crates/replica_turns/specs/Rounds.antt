@@ -1,5 +1,5 @@
 -- Which round a frame belongs to, and which replicas it goes to.
-use Rattle.std.specs.Prelude.{ℕ, ◌+◌, ◌==◌, Bool, false, not, ◌&&◌, ◌||◌, Option, Some, None}
+use Rattle.std.specs.Prelude.{ℕ, ◌+◌, ◌==◌, Bool, false, not, ◌&&◌, Option, Some, None}
 use Rattle.ledger_model.specs.declared.reply.Addressee.{Addressee}
 use Rattle.ledger_model.specs.declared.reply.Addressee.TheVariants as addressee
 use Rattle.ledger_model.specs.declared.statement.SignedStatement.{SignedStatement}
@@ -10,10 +10,6 @@ use Rattle.ledger_model.specs.Rules.{has_place, has_phase}
 -- the statement is read in round c, by its kind and its phase
 abbrev pub is_of_round : ℕ → Statement → Bool
 is_of_round c s = has_place (place_of c) s && has_phase c s
-
--- the statement is read in the open round or in the next one
-abbrev pub is_timely : ℕ → Statement → Bool
-is_timely clock s = is_of_round clock s || is_of_round (clock + 1) s
 
 -- the frame's statement belongs to the round after the open one
 abbrev pub is_early : ℕ → Option SignedStatement → Bool

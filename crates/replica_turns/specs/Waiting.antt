@@ -1,12 +1,12 @@
 -- The frames that wait for a replica.
 use Rattle.std.specs.Prelude.{ℕ, List}
 
--- the frames of its next turn, and those that wait for the next round
+-- the frames for its next turns, and those that wait for the next round
 pub record WaitingFramesView : Type 0 where
   pub due : List (List ℕ)
   pub early : List (List ℕ)
 
--- the most frames that are taken in for one turn
+-- the most frames of one turn, and the most that are taken in before it
 abbrev pub max_at_once : ℕ
 max_at_once = 64
 
@@ -14,7 +14,7 @@ max_at_once = 64
 abbrev pub max_early : ℕ
 max_early = 1024
 
--- the most frames of one turn: those that are taken in, and those that waited for the round
+-- the most frames that are due: those that were taken in, and those that waited for the round
 abbrev pub max_due : ℕ
 max_due = 1088
 

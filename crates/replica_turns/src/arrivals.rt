@@ -1,13 +1,14 @@
-//! Which of the frames that arrived are worth a check before the replica's turn.
-ghost use Rattle.std.specs.Prelude.{◌≡◌, not, filter, IfOk, OnOk};
-ghost use Rattle.std.specs.List.{filter_map};
+//! Which parts of the frames that arrived are worth a check before the replica's turn.
+ghost use Rattle.std.specs.Prelude.{◌≡◌, ◌++◌, filter, map, IfOk, OnOk};
+ghost use Rattle.std.specs.List.{filter_map, flat_map};
 ghost use Rattle.ledger_model.specs.Reading.{reading};
-ghost use Rattle.replica_turns.specs.Arrivals.{distinct, with_bytes, is_known_frame};
-ghost use Rattle.replica_turns.specs.Rounds.{is_timely};
+ghost use Rattle.signed_frames.specs.Lending.{own_part};
+ghost use Rattle.replica_turns.specs.Arrivals.{distinct, with_bytes, is_checked, is_unknown, reports_of_signed};
 
-use crate::early::is_timely;
+use abci::Application;
 use bytes::Bytes;
-use signed_frames::Frame;
+use locked_replica::State;
+use signed_frames::{Frame, LentReports, SignedPart};
 use statements::DecodeFault;
 use std::alloc::{AllocError, Global};
 use verify_cache::Verifier;
@@ -22,7 +23,7 @@ fn put(once: &mut Vec<Bytes>, bytes: &Bytes) -> Result<(), AllocError>
     Ok(())
 }
 
-/// The different byte strings among these, each where it stands first. A lock is sent on by many replicas.
+/// The different byte strings among these, in the order of their first occurrence. Many replicas send one lock on.
 fn each_once(alloc: Global, arrived: &[Bytes]) -> Result<Vec<Bytes>, AllocError>
     ensures { IfOk result (λ once. once.items ≡ distinct arrived.now) }
 {
@@ -33,22 +34,9 @@ fn each_once(alloc: Global, arrived: &[Bytes]) -> Result<Vec<Bytes>, AllocError>
     Ok(once)
 }
 
-/// The frames among these bytes that a replica whose open round is `clock` reads in that round or in the next one, in
-/// order, each once. The only error is allocation failure.
-pub fn arrived_frames(
-    alloc: Global,
-    clock: u32,
-    arrived: &[Bytes],
-) -> Result<Vec<Frame>, AllocError>
-    ensures { IfOk result (λ frames. frames.items ≡ filter (λ frame. is_timely clock frame.statement) (filter_map reading (distinct arrived.now))) }
-{
-    let mut frames = frames_in(alloc, arrived)?;
-    frames.retain(|frame| is_timely(clock, frame.statement()));
-    Ok(frames)
-}
-
-/// The frames among these bytes, in order, each once. Bytes that are no frame are left out.
-fn frames_in(alloc: Global, arrived: &[Bytes]) -> Result<Vec<Frame>, AllocError>
+/// The frames among these bytes, in order, each once. Bytes that are no frame are left out. The only error is allocation
+/// failure.
+pub fn arrived_frames(alloc: Global, arrived: &[Bytes]) -> Result<Vec<Frame>, AllocError>
     ensures { IfOk result (λ frames. frames.items ≡ filter_map reading (distinct arrived.now)) }
 {
     let once = each_once(alloc, arrived)?;
@@ -63,9 +51,76 @@ fn frames_in(alloc: Global, arrived: &[Bytes]) -> Result<Vec<Frame>, AllocError>
     Ok(frames)
 }
 
-/// Keeps the frames of which the verifier doesn't know whether they are signed.
-pub fn keep_unknown(verifier: &Verifier, frames: &mut Vec<Frame>)
-    ensures { frames.new.items ≡ filter (λ frame. not (is_known_frame verifier.now frame)) frames.old.items }
+/// Keeps the frames whose signature the replica would check if they were delivered to it now. It would ignore the others unchecked.
+pub fn keep_checked<A: Application>(state: &State<A>, frames: &mut Vec<Frame>)
+    ensures { frames.new.items ≡ filter (λ frame. is_checked state.now frame.statement) frames.old.items }
 {
-    frames.retain(|frame| !verifier.knows(&frame.signed_part()));
+    frames.retain(|frame| state.cause_before_signature(frame).is_ok());
+}
+
+/// The frames' own parts of which the verifier doesn't know whether they are signed, in order. The only error is allocation
+/// failure.
+pub fn unknown_parts<'a>(
+    alloc: Global,
+    verifier: &Verifier,
+    frames: &'a [Frame],
+) -> Result<Vec<SignedPart<'a>>, AllocError>
+    ensures { IfOk result (λ parts. parts.items ≡ filter (is_unknown verifier.now) (map own_part frames.now)) }
+{
+    let mut parts = Vec::new(alloc);
+    for frame in frames {
+        let part = frame.signed_part();
+        if !verifier.knows(&part) {
+            parts.push(part)?;
+        }
+    }
+    Ok(parts)
+}
+
+/// Appends those of the reports of which the verifier doesn't know whether they are signed.
+fn push_unknown<'a>(
+    parts: &mut Vec<SignedPart<'a>>,
+    verifier: &Verifier,
+    reports: LentReports<'a>,
+) -> Result<(), AllocError>
+    ensures { OnOk result (parts.new.items ≡ parts.old.items ++ filter (is_unknown verifier.now) reports.entry) }
+{
+    for report in reports {
+        if !verifier.knows(&report) {
+            parts.push(report)?;
+        }
+    }
+    Ok(())
+}
+
+/// The same for the reports in the proof of the frame, if the verifier knows that the frame is signed.
+fn push_reports<'a>(
+    parts: &mut Vec<SignedPart<'a>>,
+    verifier: &Verifier,
+    frame: &'a Frame,
+) -> Result<(), AllocError>
+    ensures { OnOk result (parts.new.items
+        ≡ parts.old.items ++ filter (is_unknown verifier.now) (reports_of_signed verifier.now frame.now)) }
+{
+    if verifier.answer(&frame.signed_part()) != Some(true) {
+        return Ok(());
+    }
+    push_unknown(parts, verifier, frame.lent_reports())
+}
+
+/// The reports in the proofs of the frames that the verifier knows to be signed, without the reports of which it knows
+/// whether they are signed. A replica doesn't look at the proof of a lock that isn't signed itself. The only error is
+/// allocation failure.
+pub fn unknown_reports<'a>(
+    alloc: Global,
+    verifier: &Verifier,
+    frames: &'a [Frame],
+) -> Result<Vec<SignedPart<'a>>, AllocError>
+    ensures { IfOk result (λ parts. parts.items ≡ filter (is_unknown verifier.now) (flat_map (reports_of_signed verifier.now) frames.now)) }
+{
+    let mut parts = Vec::new(alloc);
+    for frame in frames {
+        push_reports(&mut parts, verifier, frame)?;
+    }
+    Ok(parts)
 }

@@ -4,7 +4,7 @@ ghost use Rattle.ledger_model.specs.Commits.{commits_of, submit_reply};
 ghost use Rattle.ledger_model.specs.Replies.{query_reply};
 ghost use Rattle.ledger_model.specs.declared.event.Event.TheVariants as events;
 ghost use Rattle.replica_turns.specs.Turns.{Takes, GoesOn};
-ghost use Rattle.replica_turns.specs.Clients.{IsAnswered, is_tx_len, query_reply_at, submit_events};
+ghost use Rattle.replica_turns.specs.Clients.{IsAnswered, IsReceipt, is_tx_len, query_reply_at, submit_events, with_index};
 ghost use Rattle.ledger_model.specs.Limits.{max_history_len};
 
 use abci::Application;
@@ -61,9 +61,11 @@ fn submit_event<A: Application>(
     alloc: Global,
     state: &mut State<A>,
     tx: &[u8],
-) -> Result<Result<(), SubmitRefusal>, ApplyFault>
+) -> Result<Result<u32, SubmitRefusal>, ApplyFault>
     requires { length state.old.entries < max_history_len }
-    ensures answer { IfOk result (λ answer. answer ≡ submit_reply state.old.config state.old.id state.old.entries tx.now) }
+    ensures answer { IfOk result (λ answer. answer ≡ with_index (length state.old.entries)
+        (submit_reply state.old.config state.old.id state.old.entries tx.now)) }
+    ensures receipt { IfOk result (λ answer. IsReceipt state.new.entries tx.now answer) }
     ensures event { OnOk result (Takes state.old.entries (events.Submit tx.now ∷ []) state.new.entries) }
     ensures memory { OnErr result (IsErrOf result ApplyFault.NoMemory) }
     ensures same { OnErr result (state.new ≡ state.old) }
@@ -74,14 +76,16 @@ fn submit_event<A: Application>(
     let index = state.apply(Event::Submit(bytes))?;
     match state.entry(index) {
         Some(entry) => match entry.reply() {
-            ReplyView::Submitted(answer) => Ok(answer),
+            ReplyView::Submitted(Ok(())) => Ok(Ok(index as u32)),
+            ReplyView::Submitted(Err(refusal)) => Ok(Err(refusal)),
             _ => unreachable!(),
         },
         None => unreachable!(),
     }
 }
 
-/// Submits a client's transaction to the replica. The inner `Err` is the pool's refusal.
+/// Submits a client's transaction to the replica. If the pool takes it, returns the index of its entry in the history. The
+/// inner `Err` is the pool's refusal.
 ///
 /// Bytes that no pool takes (none, or more than 64) are refused without an event. `HistoryFull` comes if an event is needed
 /// and there is no entry for it: clients have used theirs up, or the history is full. After a fault nothing has changed.
@@ -90,8 +94,11 @@ pub fn submit<A: Application>(
     state: &mut State<A>,
     entries: &mut ClientEntries,
     tx: &[u8],
-) -> Result<Result<(), SubmitRefusal>, ApplyFault>
-    ensures answer { IfOk result (λ answer. answer ≡ submit_reply state.old.config state.old.id state.old.entries tx.now) }
+) -> Result<Result<u32, SubmitRefusal>, ApplyFault>
+    ensures answer { IfOk result (λ answer. answer ≡ with_index (length state.old.entries)
+        (submit_reply state.old.config state.old.id state.old.entries tx.now)) }
+    // The entry with the index is the Submit of these bytes that the pool took.
+    ensures receipt { IfOk result (λ answer. IsReceipt state.new.entries tx.now answer) }
     ensures event { OnOk result (Takes state.old.entries (submit_events tx.now) state.new.entries) }
     // Each new entry of the history is one that clients may use.
     ensures used { length state.new.entries + entries.new ≡ length state.old.entries + entries.old }

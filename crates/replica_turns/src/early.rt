@@ -1,7 +1,7 @@
-//! Which frames a replica reads in its open round or, if they arrive one round early, in the next one.
+//! Which frames a replica reads in the round after the open one.
 ghost use Rattle.std.specs.Prelude.{◌≡◌, ◌<◌, ◌^◌, filter, IfOk};
 ghost use Rattle.ledger_model.specs.Reading.{reading};
-ghost use Rattle.replica_turns.specs.Rounds.{is_early, is_of_round, is_timely};
+ghost use Rattle.replica_turns.specs.Rounds.{is_early, is_of_round};
 
 use bytes::Bytes;
 use ledger_model::{Statement, has_phase, has_place, place_of};
@@ -15,15 +15,6 @@ fn is_of_round(round: u64, statement: &Statement) -> bool
     ensures { result ≡ is_of_round round statement.now }
 {
     has_place(place_of(round), statement) && has_phase(round, statement)
-}
-
-/// Whether a replica whose open round is `clock` reads the statement in that round or in the next one, by its kind and
-/// its phase.
-pub(crate) fn is_timely(clock: u32, statement: &Statement) -> bool
-    ensures { result ≡ is_timely clock statement.now }
-{
-    let round = u64::from(clock);
-    is_of_round(round, statement) || is_of_round(round + 1, statement)
 }
 
 /// Whether the bytes are a frame for the round after the open one, `clock`. The only error is allocation failure.

@@ -6,9 +6,9 @@
 //! neither waits nor takes a lock.
 //!
 //! The decisions of a replica's worker are here too: what the replica does by itself next, and which heights it gives up
-//! ([`own_of`], [`events_of`]); which frames arrive one round early ([`early_of`]); which are worth a check of their
-//! signatures before the turn ([`arrived_frames`], [`keep_unknown`]); which frames an entry of the history sent
-//! ([`sent_at`]); and which replicas a frame goes to ([`goes_to`]). [`new_replica`] makes the replicas of a cluster.
+//! ([`own_of`], [`events_of`]); which frames arrive one round early ([`early_of`]); which of their signatures are worth a
+//! check before the turn ([`keep_checked`], [`unknown_parts`], [`unknown_reports`]); which frames an entry of the history
+//! sent ([`sent_at`]); and which replicas a frame goes to ([`goes_to`]). [`new_replica`] makes the replicas of a cluster.
 #![tactic(auto)]
 
 mod addressing;
@@ -23,7 +23,7 @@ mod turns;
 mod waiting;
 
 pub use addressing::goes_to;
-pub use arrivals::{arrived_frames, keep_unknown};
+pub use arrivals::{arrived_frames, keep_checked, unknown_parts, unknown_reports};
 pub use client_turns::{ClientEntries, query, submit};
 pub use early::early_of;
 pub use own_events::{OwnEvents, events_of, offered, own_of};

@@ -1,6 +1,6 @@
 //! What a replica does by itself: it runs the decided block, opens the height after the committed one, and gives up the
 //! heights that all replicas committed.
-ghost use Rattle.std.specs.Prelude.{◌≡◌, ◌<◌, ◌≤◌, ◌+◌, ◌-◌, ◌^◌, length, take, IfOk};
+ghost use Rattle.std.specs.Prelude.{◌≡◌, ◌<◌, ◌≤◌, ◌+◌, ◌-◌, ◌^◌, [], length, take, IfOk};
 ghost use Rattle.ledger_model.specs.Commits.{floor_of};
 ghost use Rattle.replica_turns.specs.Turns.{height_in};
 ghost use Rattle.replica_turns.specs.OwnEvents.{is_next_decided, raised_floor, own_of, own_events, events_of, proposed_in};
@@ -71,6 +71,17 @@ pub fn own_of<A: Application>(state: &State<A>, proposed: u32, least: Height) ->
 }
 
 impl OwnEvents {
+    /// Nothing.
+    pub fn none() -> Self
+        ensures { own_events result ≡ [] }
+    {
+        OwnEvents {
+            is_decided: false,
+            proposal: None,
+            floor: None,
+        }
+    }
+
     /// The number of these events.
     pub fn len(&self) -> usize
         ensures len { result ≡ length (own_events self.now) }

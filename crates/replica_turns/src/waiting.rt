@@ -9,16 +9,16 @@ use bytes::Bytes;
 use std::alloc::{AllocError, Global};
 use std::marker::Model;
 
-/// The most frames that are taken in for one turn.
+/// The most frames of one turn, and the most that are taken in before it.
 const MAX_AT_ONCE: usize = 64;
 
 /// The most frames that wait for the next round.
 const MAX_EARLY: usize = 1024;
 
-/// The most frames of one turn: those that are taken in, and those that waited for the round.
+/// The most frames that are due: those that were taken in, and those that waited for the round.
 const MAX_DUE: usize = MAX_AT_ONCE + MAX_EARLY;
 
-/// The frames that wait for a replica: those of its next turn, and those that arrived one round early. There are at most 2,112.
+/// The frames that wait for a replica: those for its next turns, and those that arrived one round early. There are at most 2,112.
 pub struct WaitingFrames {
     due: Vec<Bytes>,
     early: Vec<Bytes>,
@@ -46,6 +46,9 @@ impl Model for WaitingFrames {
 }
 
 impl WaitingFrames {
+    /// The most turns that it takes to hand over all frames that are due.
+    pub const MAX_TURNS: usize = MAX_DUE / MAX_AT_ONCE;
+
     /// No waiting frames.
     pub fn new(alloc: Global) -> Self
         ensures { result ≡ record { due = []; early = [] } }
@@ -56,11 +59,18 @@ impl WaitingFrames {
         }
     }
 
-    /// The frames of the next turn, in order.
+    /// The frames for the next turns, in order: what arrived, and what waited for this round.
     pub fn due(&self) -> &[Bytes]
         ensures { result.now ≡ self.now.due }
     {
         self.due.as_slice()
+    }
+
+    /// The frames of the next turn, in order: the first of those that are due, at most 64.
+    pub fn first_due(&self) -> &[Bytes]
+        ensures { result.now ≡ take max_at_once self.now.due }
+    {
+        &self.due.as_slice()[..self.due.len().min(MAX_AT_ONCE)]
     }
 
     /// The number of frames that may still be taken in before the next turn.

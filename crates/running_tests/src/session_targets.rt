@@ -5,7 +5,19 @@ use ledger_model::{Batch, Height, QueryAnswer, ReplicaId, SubmitRefusal, Tx};
 use std::alloc::{AllocError, Global};
 
 /// The answer to a submit.
-pub(crate) type Submitted = Result<Result<(), SubmitRefusal>, TargetFault>;
+pub(crate) type Submitted = Result<Result<u32, SubmitRefusal>, TargetFault>;
+
+/// Adds an entry to the replica's history, and returns its index.
+fn add_entry(entries: &mut [u32; 4], replica: ReplicaId) -> u32 {
+    match entries.get_mut(usize::from(replica.number())) {
+        Some(count) => {
+            let index = *count;
+            *count = index.saturating_add(1);
+            index
+        }
+        None => 0,
+    }
+}
 
 /// Replicas at these heights, whose blocks are all `a=1`.
 #[derive(Drop)]
@@ -13,6 +25,8 @@ pub(crate) struct Fake {
     alloc: Global,
     heights: [u32; 4],
     submitted: Submitted,
+    /// The number of entries of each replica's history, if submits are counted.
+    entries: Option<[u32; 4]>,
     fault: Option<TargetFault>,
     asked: u32,
     /// After this number of calls each replica is at least at height 3.
@@ -24,7 +38,8 @@ impl Fake {
         Fake {
             alloc,
             heights,
-            submitted: Ok(Ok(())),
+            submitted: Ok(Ok(0)),
+            entries: None,
             fault: None,
             asked: 0,
             calls_below: u32::MAX,
@@ -39,6 +54,11 @@ impl Fake {
     /// Gives each submit this answer from now on.
     pub(crate) fn answer_submits(&mut self, answer: Submitted) {
         self.submitted = answer;
+    }
+
+    /// Makes each submit an entry of its replica's history from now on. All four histories are empty now.
+    pub(crate) fn count_submits(&mut self) {
+        self.entries = Some([0; 4]);
     }
 
     /// Answers queries and blocks with a fault from now on.
@@ -91,9 +111,12 @@ impl Targets for Fake {
         4
     }
 
-    fn submit(&mut self, _replica: ReplicaId, _tx: &[u8]) -> Submitted {
+    fn submit(&mut self, replica: ReplicaId, _tx: &[u8]) -> Submitted {
         self.count_one()?;
-        self.submitted
+        match &mut self.entries {
+            Some(entries) => Ok(Ok(add_entry(entries, replica))),
+            None => self.submitted,
+        }
     }
 
     fn query(&mut self, replica: ReplicaId, key: &[u8]) -> Result<QueryAnswer, TargetFault> {

@@ -16,14 +16,15 @@ use std::test::Fail;
 /// Four requests: a transaction, the height, a replica that doesn't exist, and a body that is no request.
 const REQUESTS: &[u8] = b"\x00\x04\x01a=1\x00\x01\x03\x00\x02\x05\x04\x00\x01\x09";
 
-/// The replies to them, if the height is 3.
-const REPLIES: &[u8] = b"\x00\x01\x00\x00\x05\x00\x00\x00\x00\x03\x00\x01\x05\x00\x01\x01";
+/// The replies to them, if the height is 3 and the transaction is entry 0.
+const REPLIES: &[u8] =
+    b"\x00\x06\x00\x00\x00\x00\x00\x00\x00\x05\x00\x00\x00\x00\x03\x00\x01\x05\x00\x01\x01";
 
 /// The requests of one session, and their replies, if replicas 0, 1 and 3 are at height 3 and replica 2 is at height 1.
 const CASES: [(&[u8], &[u8]); 20] = [
     (b"", b""),
-    (b"\x00\x04\x01a=1", b"\x00\x01\x00"),
-    (b"\x00\x01\x01", b"\x00\x01\x00"),
+    (b"\x00\x04\x01a=1", b"\x00\x06\x00\x00\x00\x00\x00\x00"),
+    (b"\x00\x01\x01", b"\x00\x06\x00\x00\x00\x00\x00\x00"),
     (b"\x00\x00", b"\x00\x01\x01"),
     (b"\x00\x01\x09", b"\x00\x01\x01"),
     (b"\x00\x01\x03", b"\x00\x05\x00\x00\x00\x00\x03"),
@@ -60,7 +61,9 @@ const CASES: [(&[u8], &[u8]); 20] = [
 ];
 
 /// The answer to a submit, and the reply.
-const REFUSALS: [(Submitted, &[u8]); 7] = [
+const SUBMITTED: [(Submitted, &[u8]); 9] = [
+    (Ok(Ok(65_535)), b"\x00\x06\x00\x00\x00\x00\xff\xff"),
+    (Ok(Ok(0x0102_0304)), b"\x00\x06\x00\x00\x01\x02\x03\x04"),
     (Ok(Err(SubmitRefusal::Empty)), b"\x00\x01\x11"),
     (Ok(Err(SubmitRefusal::TooLong)), b"\x00\x01\x12"),
     (Ok(Err(SubmitRefusal::Duplicate)), b"\x00\x01\x13"),
@@ -172,9 +175,9 @@ fn fails_behind(alloc: Global, targets: &mut Fake, requests: &[u8], replies: &[u
 fn due(len: usize) -> &'static [u8] {
     match len {
         0..6 => b"",
-        6..9 => b"\x00\x01\x00",
-        9..13 => b"\x00\x01\x00\x00\x05\x00\x00\x00\x00\x03",
-        13..16 => b"\x00\x01\x00\x00\x05\x00\x00\x00\x00\x03\x00\x01\x05",
+        6..9 => b"\x00\x06\x00\x00\x00\x00\x00\x00",
+        9..13 => b"\x00\x06\x00\x00\x00\x00\x00\x00\x00\x05\x00\x00\x00\x00\x03",
+        13..16 => b"\x00\x06\x00\x00\x00\x00\x00\x00\x00\x05\x00\x00\x00\x00\x03\x00\x01\x05",
         _ => REPLIES,
     }
 }
@@ -195,6 +198,23 @@ const ASKS_AGAIN: &[u8] =
 /// Replica 2 reaches height 3 between the two queries.
 const TOLD_AGAIN: &[u8] =
     b"\x00\x05\x00\x00\x00\x00\x03\x00\x01\x00\x00\x01\x02\x00\x07\x00\x00\x00\x00\x03\x011";
+
+/// A client submits two transactions to replica 0, one to replica 2, and one more to replica 0.
+const SUBMITS: &[u8] =
+    b"\x00\x04\x01a=1\x00\x04\x01b=2\x00\x02\x05\x02\x00\x04\x01a=1\x00\x02\x05\x00\x00\x04\x01c=3";
+
+/// Their receipts, if nothing else was in the histories: entries 0 and 1 of replica 0, 0 of replica 2, and 2 of replica 0.
+const RECEIPTS: &[u8] =
+    b"\x00\x06\x00\x00\x00\x00\x00\x00\x00\x06\x00\x00\x00\x00\x00\x01\x00\x01\x00\
+    \x00\x06\x00\x02\x00\x00\x00\x00\x00\x01\x00\x00\x06\x00\x00\x00\x00\x00\x02";
+
+#[test]
+fn a_receipt_names_the_replica_and_the_entry(rt: HostRuntime) {
+    let alloc = rt.alloc();
+    let mut targets = Fake::new(alloc, [3, 3, 1, 3]);
+    targets.count_submits();
+    assert!(rt; gets(alloc, &mut targets, SUBMITS, RECEIPTS));
+}
 
 #[test]
 fn a_replica_that_was_behind_answers_once_it_is_not(rt: HostRuntime) {
@@ -237,10 +257,10 @@ fn a_key_has_at_most_64_bytes(rt: HostRuntime) {
 }
 
 #[test]
-fn each_refusal_has_its_status(rt: HostRuntime) {
+fn each_answer_of_a_target_has_its_reply(rt: HostRuntime) {
     let alloc = rt.alloc();
     let mut targets = Fake::new(alloc, [3, 3, 1, 3]);
-    for &(answer, reply) in &REFUSALS {
+    for &(answer, reply) in &SUBMITTED {
         targets.answer_submits(answer);
         assert!(rt;
             gets(alloc, &mut targets, b"\x00\x04\x01a=1", reply),

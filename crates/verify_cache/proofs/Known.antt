@@ -1,8 +1,8 @@
--- The answers that a verifier knows stay the ring's, and at most 1,024.
-use Rattle.std.proofs.Common.{◌≡◌, ℕ, ◌+◌, ◌-◌, ◌≤◌, Bool, true, false, List, [], ◌∷◌, length, take}
+-- The answers that a verifier knows stay the ring's, and no more than it has room for.
+use Rattle.std.proofs.Common.{◌≡◌, ℕ, ◌+◌, ◌-◌, ◌<◌, ◌≤◌, Bool, true, false, List, [], ◌∷◌, length, take}
 use Rattle.std.proofs.Common.{Option, Some, None, refl, sym, ap, subst, ◌∙◌, inl, inr, arith, nat_eq}
-use Rattle.std.specs.Prelude.{option_map, ◌⊎◌, ◌&&◌, is_some, Result, Ok, Err, OnOk, OnErr, IfSome}
-use Rattle.std.specs.Option.{option_map_or}
+use Rattle.std.specs.Prelude.{option_map, ◌&&◌, is_some, slice_get, IfSome}
+use Rattle.std.specs.Option.{option_map_or, option_eq}
 use Rattle.std.specs.Map.{lookup, lookup_entry, remove_entry}
 use Rattle.std.specs.Cmp.Lexicographic.{pointwise}
 use Rattle.std.proofs.lemmas.List.{length-take}
@@ -11,11 +11,11 @@ use Rattle.lru.specs.LruCache.{LruCache, lru_cache, promoted, put_entries}
 use Rattle.lru.proofs.CallerLemmas.{Contains-lookup, Contains-promoted, Contains-take}
 use Rattle.lru.proofs.Pairs.{lookup-lookup_entry}
 use Rattle.lru.proofs.Splits.{Contains-cons}
-use Rattle.ledger_model.specs.Rules.{Ring}
+use Rattle.ledger_model.specs.Rules.{Ring, is_signed_by}
 use Rattle.ledger_model.proofs.Lists.{pointwise_equal}
 use Rattle.verify_cache.specs.declared.signed.SignedMessage.{SignedMessage}
 use Rattle.verify_cache.specs.Same.{same}
-use Rattle.verify_cache.specs.Verifiers.{AreAnswers, answer_by, added, max_known}
+use Rattle.verify_cache.specs.Verifiers.{AreAnswers, answer_by, added, has_same_key}
 
 abbrev Known : Type 0
 Known = List (SignedMessage × Bool)
@@ -71,25 +71,26 @@ length-promoted test es = by (lookup_entry test es) refl
     by (Some e) h = let rest = without es e h in omega (arith, rest)
 
 -- a new answer
-pub answers-added : (ring : Ring) (m : SignedMessage) (answer : Bool) (es : Known)
-    → AreAnswers ring es → answer ≡ answer_by ring m → AreAnswers ring (added m answer es)
-answers-added ring m answer es all h e on = elim (Contains-cons (m, answer) (take (max_known - 1) es) e on) [
+pub answers-added : (ring : Ring) (capacity : ℕ) (m : SignedMessage) (answer : Bool) (es : Known)
+    → AreAnswers ring es → answer ≡ answer_by ring m → AreAnswers ring (added capacity m answer es)
+answers-added ring capacity m answer es all h e on = elim (Contains-cons (m, answer) (take (capacity - 1) es) e on) [
   | inl is ↦ subst (λ (p : SignedMessage × Bool). p.1 ≡ answer_by ring p.0) is h
-  | inr rest ↦ all e (Contains-take (max_known - 1) es e rest)
+  | inr rest ↦ all e (Contains-take (capacity - 1) es e rest)
 ]
 
-pub length-added : (m : SignedMessage) (answer : Bool) (es : Known) → length (added m answer es) ≤ max_known
-length-added m answer es = let l = length-take (max_known - 1) es in omega (arith, l)
+pub length-added : (capacity : ℕ) (m : SignedMessage) (answer : Bool) (es : Known) → 0 < capacity
+    → length (added capacity m answer es) ≤ capacity
+length-added capacity m answer es room = let l = length-take (capacity - 1) es in omega (arith, l, room)
 
 -- what is put, and was not known, is added
 pub put-new : (c : LruCache SignedMessage Bool) (m : SignedMessage) (answer : Bool)
-    → c.cap ≡ max_known → lookup (same m) c.entries ≡ None → put_entries same c m answer ≡ added m answer c.entries
-put-new c m answer full h = by (lookup_entry (same m) c.entries) (lookup-lookup_entry (same m) c.entries ∙ h)
+    → lookup (same m) c.entries ≡ None → put_entries same c m answer ≡ added c.cap m answer c.entries
+put-new c m answer h = by (lookup_entry (same m) c.entries) (lookup-lookup_entry (same m) c.entries ∙ h)
   where
     by : (o : Option (SignedMessage × Bool)) → option_map (λ e. e.1) o ≡ None
         → option_map_or (λ e. (e.0, answer) ∷ remove_entry (same m) c.entries) o ((m, answer) ∷ take (c.cap - 1) c.entries)
-        ≡ added m answer c.entries
-    by None is = rw full refl
+        ≡ added c.cap m answer c.entries
+    by None is = refl
     by (Some e) is = absurd (cc)
 
 -- what is not known stays as it is
@@ -106,31 +107,35 @@ none-from (Some b) h = absurd (cc)
 
 -- what holds of the answers that a verifier knows
 abbrev pub Held : Ring → LruCache SignedMessage Bool → Type 0
-Held ring c = (c.cap ≡ max_known) × (length c.entries ≤ max_known) × AreAnswers ring c.entries
+Held ring c = (0 < c.cap) × (length c.entries ≤ c.cap) × AreAnswers ring c.entries
 
 -- what `get` leaves
 pub held-promoted : (ring : Ring) (test : SignedMessage → Bool) (old new : LruCache SignedMessage Bool)
     → new ≡ lru_cache (promoted test old.entries) old.cap → Held ring old → Held ring new
 held-promoted ring test old new is held =
-    let fits = subst (λ n. n ≤ max_known) (sym (length-promoted test old.entries)) held.1 in
+    let fits = subst (λ n. n ≤ old.cap) (sym (length-promoted test old.entries)) held.1 in
     subst (Held ring) (sym is) (held.0, fits, answers-promoted ring test old.entries held.2)
 
 -- what `put` leaves, where the answer is new
-pub put-cases : {O E : Type 0} (r : Result O E) (old new : LruCache SignedMessage Bool) (m : SignedMessage) (answer : Bool)
-    → OnOk r (new ≡ lru_cache (put_entries same old m answer) old.cap) → OnErr r (new ≡ old)
-    → old.cap ≡ max_known → lookup (same m) old.entries ≡ None
-    → (new ≡ lru_cache (added m answer old.entries) old.cap) ⊎ (new ≡ old)
-put-cases (Ok o) old new m answer ok err full fresh = inl (ok ∙ ap (λ es. lru_cache es old.cap) (put-new old m answer full fresh))
-put-cases (Err e) old new m answer ok err full fresh = inr err
-
 pub held-put : (ring : Ring) (old new : LruCache SignedMessage Bool) (m : SignedMessage) (answer : Bool)
-    → (new ≡ lru_cache (added m answer old.entries) old.cap) ⊎ (new ≡ old) → Held ring old → answer ≡ answer_by ring m → Held ring new
-held-put ring old new m answer (inl is) held right =
-    subst (Held ring) (sym is) (held.0, length-added m answer old.entries, answers-added ring m answer old.entries held.2 right)
-held-put ring old new m answer (inr is) held right = subst (Held ring) (sym is) held
+    → new ≡ lru_cache (added old.cap m answer old.entries) old.cap → Held ring old → answer ≡ answer_by ring m → Held ring new
+held-put ring old new m answer is held right =
+    subst (Held ring) (sym is)
+    (held.0, length-added old.cap m answer old.entries held.0, answers-added ring old.cap m answer old.entries held.2 right)
 
 -- what is found is the ring's answer
 pub found-any : (ring : Ring) (es : Known) (m : SignedMessage) (o : Option Bool)
     → AreAnswers ring es → o ≡ lookup (same m) es → IfSome o (λ answer. answer ≡ answer_by ring m)
 found-any ring es m None all h = tt
 found-any ring es m (Some answer) all h = found ring es m answer all (sym h)
+
+-- where both rings have the same key of the signer, they answer alike
+pub same-answer : (r q : Ring) (m : SignedMessage) → has_same_key r q m.signer ≡ true → answer_by r m ≡ answer_by q m
+same-answer r q m h =
+    ap (λ o. is_signed_by o m.message m.signature) (by (slice_get r m.signer) (slice_get q m.signer) h)
+  where
+    by : (o p : Option (List ℕ)) → option_eq (pointwise nat_eq) o p ≡ true → o ≡ p
+    by None None h = refl
+    by None (Some y) h = absurd (cc)
+    by (Some x) None h = absurd (cc)
+    by (Some x) (Some y) h = ap Some (pointwise_equal nat_eq eqb-true x y h)

@@ -1,7 +1,7 @@
 //! A verifier of signatures that remembers the answers of its last checks.
 //!
 //! A replica meets most signatures more than once: in a frame, and again in the proofs that other frames cite. A
-//! [`Verifier`] hashes each once, and answers from its memory while the check is among the last 1024.
+//! [`Verifier`] hashes each once, and answers from its memory while the check is among the last, 1,024 in a replica.
 #![tactic(auto)]
 
 mod checking;

@@ -28,8 +28,7 @@ impl Drop for SignedMessage {
 }
 
 /// The hash is of the signature alone, which differs from one message to the next: to look a lock up costs no walk over
-/// its reports. Whoever forges many messages with one signature makes a lookup compare with those that are known, at most
-/// 1,024.
+/// its reports. If a liar forges many messages with one signature, a lookup compares with all of them that are known.
 impl Hash for SignedMessage {
     ghost use Rattle.std.specs.Prelude.{◌∷◌, []};
     ghost use Rattle.std.proofs.Common.{rules};

@@ -1,26 +1,26 @@
 //! The verifier: the ring, and the answers of its last checks.
-ghost use Rattle.std.specs.Prelude.{◌≡◌, ◌⊎◌, ◌↔◌, true, false, [], Some, None, is_some, slice_get, map, IfOk, IfSome, IsTrue};
+ghost use Rattle.std.specs.Prelude.{◌≡◌, ◌<◌, ◌⊎◌, ℕ, false, true, None, is_some, slice_get, map, length, take, IfOk, IfSome, OnOk, OnErr};
 ghost use Rattle.std.specs.Map.{lookup};
+ghost use Rattle.std.specs.NonZero.{non_zero_usize_get};
 ghost use Rattle.lru.specs.LruCache.{promoted};
-ghost use Rattle.ledger_model.specs.Rules.{is_signed, is_signed_by};
-ghost use Rattle.ledger_model.specs.Signatures.{verifies};
+ghost use Rattle.ledger_model.specs.Rules.{is_signed_by};
 ghost use Rattle.verify_cache.specs.Checks.{is_part_signed};
 ghost use Rattle.verify_cache.specs.Same.{same, signed_of};
-ghost use Rattle.verify_cache.specs.Verifiers.{verifier_of, answer_by, is_known, one_more, added, Recalls, Learns, Primes};
+ghost use Rattle.verify_cache.specs.Verifiers.{new_verifier, max_known, answer_by, answer_in, is_known, one_more, added};
+ghost use Rattle.verify_cache.specs.Verifiers.{check_of, has_same_key, primed, primed_all, Recalls, Learns};
 
 use crate::SignedMessage;
 use bytes::Bytes;
 use key_ring::KeyRing;
 use ledger_model::ReplicaId;
-use lms_tree::PublicKey;
 use lru::LruCache;
-use signed_frames::{Frame, SignedPart};
+use signed_frames::SignedPart;
 use std::alloc::{AllocError, Global};
 use std::hash::RandomState;
 use std::marker::Model;
 use std::num::NonZeroUsize;
 
-/// A verifier of signatures under the keys of one ring, which remembers the answers of its last 1024 checks.
+/// A verifier of signatures under the keys of one ring, which remembers the answers of its last checks.
 pub struct Verifier {
     ring: KeyRing,
     /// The answers, the most recently asked first.
@@ -41,31 +41,43 @@ impl Drop for Verifier {
 }
 
 impl Model for Verifier {
-    ghost use Rattle.std.specs.Prelude.{◌≡◌, ◌≤◌, length};
-    ghost use Rattle.verify_cache.specs.Verifiers.{VerifierView, verifier_of, AreAnswers, max_known};
+    ghost use Rattle.std.specs.Prelude.{◌<◌, ◌≤◌, length};
+    ghost use Rattle.verify_cache.specs.Verifiers.{VerifierView, AreAnswers};
 
     ghost Value = { VerifierView };
 
-    ghost view = { λ v. verifier_of v.ring v.known.entries v.computed };
+    ghost view = { λ v. record { ring = v.ring; capacity = v.known.cap; known = v.known.entries; computed = v.computed } };
 
-    ghost invariant = { λ v. (v.known.cap ≡ max_known) × (length v.known.entries ≤ max_known) × AreAnswers v.ring v.known.entries };
+    ghost invariant = { λ v. (0 < v.known.cap) × (length v.known.entries ≤ v.known.cap) × AreAnswers v.ring v.known.entries };
 }
 
 impl Verifier {
-    /// The most answers that are remembered.
+    /// The most answers that the verifier of a replica remembers.
     pub const MAX_KNOWN: usize = 1024;
 
-    /// A verifier under the ring's keys, which knows nothing yet. It hashes what it knows with these random keys. The
-    /// only error is allocation failure.
+    /// A verifier under the ring's keys, which knows nothing yet, and remembers up to [`Verifier::MAX_KNOWN`] answers. It
+    /// hashes what it knows with these random keys. The only error is allocation failure.
     pub fn new(alloc: Global, ring: KeyRing, random: RandomState) -> Result<Self, AllocError>
-        ensures { IfOk result (λ v. v ≡ verifier_of ring [] 0) }
+        ensures { IfOk result (λ v. v ≡ new_verifier ring max_known) }
     {
-        let Some(cap) = NonZeroUsize::new(Verifier::MAX_KNOWN) else {
+        let Some(capacity) = NonZeroUsize::new(Verifier::MAX_KNOWN) else {
             unreachable!()
         };
+        Verifier::with_capacity(alloc, ring, random, capacity)
+    }
+
+    /// The same, but the verifier remembers up to `capacity` answers. Reserves memory for all of them.
+    pub fn with_capacity(
+        alloc: Global,
+        ring: KeyRing,
+        random: RandomState,
+        capacity: NonZeroUsize,
+    ) -> Result<Self, AllocError>
+        ensures { IfOk result (λ v. v ≡ new_verifier ring (non_zero_usize_get capacity)) }
+    {
         Ok(Verifier {
             ring,
-            known: LruCache::with_hasher(alloc, cap, random)?,
+            known: LruCache::with_hasher(alloc, capacity, random)?,
             computed: 0,
         })
     }
@@ -88,7 +100,7 @@ impl Verifier {
         }
         let answer = self.ring.verifies(signer, message, signature);
         self.computed = self.computed.saturating_add(1);
-        self.keep(signed, answer);
+        let _ = self.keep(signed, answer);
         answer
     }
 
@@ -114,8 +126,8 @@ impl Verifier {
     pub(crate) fn check_part(&mut self, part: &SignedPart<'_>) -> bool
         ensures answer { result ≡ is_part_signed self.old.ring part.now }
         ensures ring { self.new.ring ≡ self.old.ring }
-        ensures known { Recalls (signed_of part.now.signer part.now.message part.now.signature) self.old self.new }
-        ensures fresh { Learns (signed_of part.now.signer part.now.message part.now.signature) self.old self.new }
+        ensures known { Recalls (check_of part.now) self.old self.new }
+        ensures fresh { Learns (check_of part.now) self.old self.new }
     {
         let (Ok(message), Ok(signature)) = (part.share_message(), part.share_signature()) else {
             return self.check_apart(part.signer(), part.message(), part.signature());
@@ -123,88 +135,108 @@ impl Verifier {
         self.check(part.signer(), &message, &signature)
     }
 
-    /// Takes in an answer that was computed elsewhere under this key, if it is the ring's key of that signer.
+    /// Takes in what was computed elsewhere: whether the signature is valid under this ring's keys, as `KeyRing::verifies`
+    /// answers. The verifier leaves the answer out if this ring has another key of the signer than its own ring.
     ///
-    /// Where memory is refused, what the verifier knows stays as it is.
+    /// The only error is allocation failure. It changes nothing.
     pub fn prime(
         &mut self,
+        ring: &KeyRing,
         signer: ReplicaId,
-        key: &PublicKey,
         message: &Bytes,
         signature: &Bytes,
         answer: bool,
-    )
-        requires { answer ≡ verifies key.now message.now signature.now }
-        ensures ring { self.new.ring ≡ self.old.ring }
-        ensures computed { self.new.computed ≡ self.old.computed }
-        ensures known { Primes key.now (signed_of signer message.now signature.now) answer self.old self.new }
+    ) -> Result<(), AllocError>
+        requires { answer ≡ is_signed_by (slice_get ring.now signer) message.now signature.now }
+        ensures primed { OnOk result (self.new ≡ primed ring.now (signed_of signer message.now signature.now) self.old) }
+        ensures err { OnErr result (self.new ≡ self.old) }
     {
-        if !is_key_of(&self.ring, signer, key) {
-            return;
+        if !have_same_key(ring, &self.ring, signer) {
+            return Ok(());
         }
-        if let Ok(signed) = SignedMessage::sharing(signer, message, signature) {
-            if self.recall(&signed).is_none() {
-                self.keep(signed, answer);
-            }
+        let signed = SignedMessage::sharing(signer, message, signature)?;
+        if self.recall(&signed).is_some() {
+            return Ok(());
         }
+        self.keep(signed, answer)
     }
 
     /// Does what [`Verifier::prime`] does, for a part of a frame: what is kept of it shares the frame's bytes.
-    pub fn prime_part(&mut self, key: &PublicKey, part: &SignedPart<'_>, answer: bool)
-        requires { answer ≡ verifies key.now part.now.message part.now.signature }
-        ensures ring { self.new.ring ≡ self.old.ring }
-        ensures computed { self.new.computed ≡ self.old.computed }
-        ensures known { Primes key.now (signed_of part.now.signer part.now.message part.now.signature) answer self.old self.new }
+    pub fn prime_part(
+        &mut self,
+        ring: &KeyRing,
+        part: &SignedPart<'_>,
+        answer: bool,
+    ) -> Result<(), AllocError>
+        requires { answer ≡ is_part_signed ring.now part.now }
+        ensures primed { OnOk result (self.new ≡ primed ring.now (check_of part.now) self.old) }
+        ensures err { OnErr result (self.new ≡ self.old) }
     {
-        if let (Ok(message), Ok(signature)) = (part.share_message(), part.share_signature()) {
-            self.prime(part.signer(), key, &message, &signature, answer);
-        }
+        let message = part.share_message()?;
+        let signature = part.share_signature()?;
+        self.prime(ring, part.signer(), &message, &signature, answer)
     }
 
-    /// Takes in what was computed elsewhere: whether the signature of each of these frames is valid under this ring's
-    /// keys, in order. Answers under other keys than the verifier's are left out.
+    /// Takes in what was computed elsewhere: whether each of these parts of frames is signed under this ring's keys, in
+    /// order. The verifier leaves out the answers for signers of which this ring has another key than its own ring.
     ///
-    /// Where memory is refused, what the verifier knows stays as it is.
-    pub fn prime_all(&mut self, ring: &KeyRing, frames: &[Frame], answers: &[bool])
-        requires { answers.now ≡ map (is_signed ring.now) frames.now }
+    /// The only error is allocation failure. The verifier then took in the answers for the parts before the first one for
+    /// which memory was refused.
+    pub fn prime_all(
+        &mut self,
+        ring: &KeyRing,
+        parts: &[SignedPart<'_>],
+        answers: &[bool],
+    ) -> Result<(), AllocError>
+        requires { answers.now ≡ map (is_part_signed ring.now) parts.now }
+        ensures primed { OnOk result (self.new ≡ primed_all ring.now parts.now self.old) }
+        ensures some { OnErr result ((count : ℕ) × (count < length parts.now)
+            × (self.new ≡ primed_all ring.now (take count parts.now) self.old)) }
+        // The keys are the same.
         ensures ring { self.new.ring ≡ self.old.ring }
-        ensures computed { self.new.computed ≡ self.old.computed }
     {
-        for (place, frame) in frames.iter().enumerate() {
-            let part = frame.signed_part();
-            if let Some(key) = ring.key(part.signer()) {
-                self.prime_part(key, &part, answers[place]);
-            }
+        for (part, answer) in parts.iter().zip(answers) {
+            self.prime_part(ring, part, *answer)?;
         }
+        Ok(())
     }
 
     /// The answer, if it is known. It becomes the most recent.
     fn recall(&mut self, signed: &SignedMessage) -> Option<bool>
         ensures known { is_some result ≡ is_known self.old signed.now }
         ensures answer { IfSome result (λ answer. answer ≡ answer_by self.old.ring signed.now) }
-        ensures first { self.new ≡ verifier_of self.old.ring (promoted (same signed.now) self.old.known) self.old.computed }
+        ensures first { self.new ≡ record self.old { known = promoted (same signed.now) self.old.known } }
         ensures kept { result ≡ None → self.new ≡ self.old }
     {
         self.known.get(signed).copied()
     }
 
-    /// Adds a new answer as the most recent, unless memory is refused.
-    fn keep(&mut self, signed: SignedMessage, answer: bool)
+    /// Adds a new answer as the most recent. The only error is allocation failure. It changes nothing.
+    fn keep(&mut self, signed: SignedMessage, answer: bool) -> Result<(), AllocError>
         requires fresh { is_known self.old signed ≡ false }
         requires right { answer ≡ answer_by self.old.ring signed }
-        ensures { (self.new ≡ verifier_of self.old.ring (added signed answer self.old.known) self.old.computed) ⊎ (self.new ≡ self.old) }
+        ensures added { OnOk result (self.new ≡ record self.old { known = added self.old.capacity signed answer self.old.known }) }
+        ensures err { OnErr result (self.new ≡ self.old) }
     {
-        let _ = self.known.put(signed, answer);
+        self.known.put(signed, answer)?;
+        Ok(())
+    }
+
+    /// Whether the part is signed, if the verifier knows it. The order of its answers stays as it is.
+    pub fn answer(&self, part: &SignedPart<'_>) -> Option<bool>
+        ensures { result ≡ answer_in self.now (check_of part.now) }
+    {
+        match SignedMessage::of_part(part) {
+            Ok(signed) => self.known.peek(&signed).copied(),
+            Err(_) => find(&self.known, part.signer(), part.message(), part.signature()),
+        }
     }
 
     /// Whether it knows the answer for the part, so that a check of the part doesn't hash.
     pub fn knows(&self, part: &SignedPart<'_>) -> bool
-        ensures { result ≡ is_known self.now (signed_of part.now.signer part.now.message part.now.signature) }
+        ensures { result ≡ is_known self.now (check_of part.now) }
     {
-        match SignedMessage::of_part(part) {
-            Ok(signed) => self.known.contains(&signed),
-            Err(_) => find(&self.known, part.signer(), part.message(), part.signature()).is_some(),
-        }
+        self.answer(part).is_some()
     }
 
     /// How many checks hashed. The number stays at 2^64 - 1.
@@ -239,9 +271,9 @@ fn find(
     None
 }
 
-/// Whether it is the ring's key of that replica.
-fn is_key_of(ring: &KeyRing, replica: ReplicaId, key: &PublicKey) -> bool
-    ensures { IsTrue result ↔ (slice_get ring.now replica ≡ Some key.now) }
+/// Whether both rings have the same key of that replica, or none.
+fn have_same_key(ring: &KeyRing, other: &KeyRing, replica: ReplicaId) -> bool
+    ensures { result ≡ has_same_key ring.now other.now replica }
 {
-    ring.key(replica) == Some(key)
+    ring.key(replica) == other.key(replica)
 }

@@ -1,12 +1,12 @@
-//! What is called before and after each check of a frame.
+//! What is called before and after each check of a part of a frame.
 
-/// Called before and after each check of a frame, in the thread that checks it. A frame is named by its place in the list.
+/// Called before and after each check of a part of a frame, in the thread that checks it. A part is named by its place in the list.
 pub trait Gate {
-    /// A check of this frame is about to start.
-    fn before(&self, frame: usize);
+    /// A check of this part is about to start.
+    fn before(&self, part: usize);
 
-    /// The check of this frame has ended with this answer.
-    fn after(&self, frame: usize, answer: bool);
+    /// The check of this part has ended with this answer.
+    fn after(&self, part: usize, answer: bool);
 }
 
 /// A gate that does nothing.
@@ -14,7 +14,7 @@ pub trait Gate {
 pub struct NoGate;
 
 impl Gate for NoGate {
-    fn before(&self, _frame: usize) {}
+    fn before(&self, _part: usize) {}
 
-    fn after(&self, _frame: usize, _answer: bool) {}
+    fn after(&self, _part: usize, _answer: bool) {}
 }

@@ -1,6 +1,6 @@
-//! Checks the signatures of many frames in parallel, by threads that end before the call returns.
+//! Checks the signatures of many parts of frames in parallel, by threads that end before the call returns.
 //!
-//! Nearly all that a frame costs is the check of its signature. A worker that has taken several frames from its inbox checks
+//! Nearly all that a frame costs is the check of its signatures. A worker that has taken several frames from its inbox checks
 //! them together by [`verify_all`], before it locks its replica.
 #![tactic(auto)]
 

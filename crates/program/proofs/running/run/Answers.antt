@@ -8,37 +8,42 @@ use Rattle.program.proofs.running.run.Goals as goal
 pub returns-in-Ok-clause-finishes : goal.returns-in-Ok-clause-finishes
 returns-in-Ok-clause-finishes g c =
     if_ended c.run_settings.result _ _
-    (λ status is small. inl (settled_finishes (map (λ w. w.now) c.args.words.now) c.in-Ok.settings c.in-Ok.ensures.set status _ _ _ _ _ is
+    (λ status is small. inl (settled_finishes (map (λ w. w.now) c.args.words.now) c.in-Ok.settings c.in-Ok.ensures.set
+    c.in-Ok.ensures.taken status _ _ _ _ _ is
     small)) c.run_settings.ensures.ended
 
 pub returns-in-Ok-clause-quiet : goal.returns-in-Ok-clause-quiet
 returns-in-Ok-clause-quiet g c =
     if_ended c.run_settings.result _ _
-    (λ status is small. settled_quiet (map (λ w. w.now) c.args.words.now) c.in-Ok.settings c.in-Ok.ensures.set status _ _ _ _ _ is small)
+    (λ status is small. settled_quiet (map (λ w. w.now) c.args.words.now) c.in-Ok.settings c.in-Ok.ensures.set
+    c.in-Ok.ensures.taken status _ _ _ _ _ is small)
     c.run_settings.ensures.ended
 
 pub returns-in-Ok-clause-refuses : goal.returns-in-Ok-clause-refuses
 returns-in-Ok-clause-refuses g c =
     if_ended c.run_settings.result _ _
-    (λ status is two. settled_refuses (map (λ w. w.now) c.args.words.now) c.in-Ok.settings c.in-Ok.ensures.set status _ _ _ _ _ _ is two)
+    (λ status is two. settled_refuses (map (λ w. w.now) c.args.words.now) c.in-Ok.settings c.in-Ok.ensures.set
+    c.in-Ok.ensures.taken status _ _ _ _ _ _ is two)
     c.run_settings.ensures.ended
 
 pub returns-in-Ok-clause-stops : goal.returns-in-Ok-clause-stops
 returns-in-Ok-clause-stops g c =
     if_ended c.run_settings.result _ _
-    (λ status is three. inl (settled_stops (map (λ w. w.now) c.args.words.now) c.in-Ok.settings c.in-Ok.ensures.set status _ _ _ _ _ is
+    (λ status is three. inl (settled_stops (map (λ w. w.now) c.args.words.now) c.in-Ok.settings c.in-Ok.ensures.set
+    c.in-Ok.ensures.taken status _ _ _ _ _ is
     three)) c.run_settings.ensures.ended
 
 pub returns-in-Ok-clause-known : goal.returns-in-Ok-clause-known
 returns-in-Ok-clause-known g c =
     if_ended c.run_settings.result _ _
-    (λ status is. settled_known (map (λ w. w.now) c.args.words.now) c.in-Ok.settings c.in-Ok.ensures.set status _ _ _ _ _ is)
+    (λ status is. settled_known (map (λ w. w.now) c.args.words.now) c.in-Ok.settings c.in-Ok.ensures.set
+    c.in-Ok.ensures.taken status _ _ _ _ _ is)
     c.run_settings.ensures.ended
 
 pub returns-in-Ok-clause-hands_back : goal.returns-in-Ok-clause-hands_back
 returns-in-Ok-clause-hands_back g c =
     if_handed c.run_settings.result _ _
-    (λ handed is. (subst (IsSet (map (λ w. w.now) c.args.words.now)) (sym is.0) c.in-Ok.ensures.set, is.1, is.2, is.3))
+    (λ handed is. (subst (IsSet (map (λ w. w.now) c.args.words.now)) (sym is.0) c.in-Ok.ensures.set, is.1, is.2, is.3, c.in-Ok.ensures.taken))
     c.run_settings.ensures.handed
 
 pub returns-in-Err-clause-finishes : goal.returns-in-Err-clause-finishes

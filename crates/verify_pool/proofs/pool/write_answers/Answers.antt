@@ -1,9 +1,9 @@
--- Each place has its frame's answer, so the answers are those of the frames.
+-- Each place has its part's answer, so the answers are those of the parts.
 use Rattle.std.proofs.Common.{◌≡◌, ◌<◌, length, map, ℕ, false, List, [], ◌∷◌, sym, ◌∙◌, subst, arith}
 use Rattle.std.specs.Prelude.{slice_index_or}
 use Rattle.std.proofs.lemmas.Grind.{common_steps}
 use Rattle.std.proofs.lemmas.List.{ext_get_or, get_or-map, length-map, nil_from_length}
-use Rattle.ledger_model.specs.Rules.{is_signed}
+use Rattle.verify_cache.specs.Checks.{is_part_signed}
 use Rattle.verify_pool.proofs.pool.write_answers.Goals as goal
 
 -- a list that has f of each element at its place is `map f`
@@ -16,9 +16,9 @@ mapped {X} f (x ∷ xs) ys e same each =
 
 pub returns : goal.returns
 returns g c =
-    mapped (is_signed c.args.ring.now) c.args.frames.now c.for_each_mut.new.s false (c.for_each_mut.auto.s ∙ c.requires.places)
+    mapped (is_part_signed c.args.ring.now) c.args.parts.now c.for_each_mut.new.s false (c.for_each_mut.auto.s ∙ c.requires.places)
     (λ k d lt.
     let at = (c.for_each_mut.ensures k false (subst (λ n. k < n) (sym c.requires.places) lt)).1 in
-    let read : slice_index_or c.for_each_mut.new.s k false ≡ is_signed c.args.ring.now (slice_index_or c.args.frames.now k d) =
+    let read : slice_index_or c.for_each_mut.new.s k false ≡ is_part_signed c.args.ring.now (slice_index_or c.args.parts.now k d) =
     grind (arith, common_steps) in
     read)

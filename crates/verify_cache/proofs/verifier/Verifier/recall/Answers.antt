@@ -1,7 +1,8 @@
-use Rattle.std.proofs.Common.{◌≡◌, ◌∙◌, subst, sym, ap, rules}
-use Rattle.lru.specs.LruCache.{lru_cache, promoted}
+use Rattle.std.proofs.Common.{◌≡◌, ◌∙◌, Bool, subst, sym, ap, rules}
+use Rattle.lru.specs.LruCache.{LruCache, lru_cache, promoted}
+use Rattle.verify_cache.specs.declared.signed.SignedMessage.{SignedMessage}
 use Rattle.verify_cache.specs.Same.{same}
-use Rattle.verify_cache.specs.Verifiers.{verifier_of, AreAnswers}
+use Rattle.verify_cache.specs.Verifiers.{AreAnswers}
 use Rattle.verify_cache.proofs.Known.{held-promoted, found-any, promoted-new}
 use Rattle.verify_cache.proofs.verifier.Verifier.recall.Goals as goal
 
@@ -20,4 +21,9 @@ returns-clause-kept c none =
     let old = c.self.inside.known in
     let is : c.get.follows.lender-at-none ≡ lru_cache (promoted (same c.args.signed.now) old.entries) old.cap = search rules in
     let new = promoted-new old.entries c.args.signed.now (sym (c.copied.ensures ∙ c.get.ensures.value) ∙ none) in
-    ap (λ k. verifier_of c.self.inside.ring k.entries c.self.inside.computed) (is ∙ ap (λ es. lru_cache es old.cap) new) ∙ c.self.view_is
+    ap (λ (k : LruCache SignedMessage Bool). record {
+      ring = c.self.inside.ring;
+      capacity = k.cap;
+      known = k.entries;
+      computed = c.self.inside.computed;
+    }) (is ∙ ap (λ es. lru_cache es old.cap) new) ∙ c.self.view_is

@@ -3,7 +3,7 @@ use Rattle.std.proofs.Common.{◌≡◌, ◌++◌}
 use Rattle.std.specs.List.{filter_map}
 use Rattle.ledger_model.specs.Reading.{reading}
 use Rattle.replica_turns.specs.Arrivals.{distinct}
-use Rattle.replica_turns.proofs.arrivals.frames_in.Given as goal
+use Rattle.replica_turns.proofs.arrivals.arrived_frames.Given as goal
 
 abbrev pub invariant-loop-bytes : goal.invariant-loop-bytes
 invariant-loop-bytes l =
