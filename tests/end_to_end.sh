@@ -110,11 +110,11 @@ refuses "error: --tx 'a=1' is refused by the application's check: code 1" cluste
 refuses "error: --tx 'a=1' is refused by the application's check: code 1" serve --kind 3
 refuses "error: --tx 'a=1234567' is refused by the application's check: code 1" cluster --kind 2 --tx a=1234567
 refuses "error: --value '${payment/01/00}' is refused by the application's check: code 4" deliver --kind 3 --value "'${payment/01/00}'"
-runs 'a pool that a purse checks' 0 $'commits 0 0\ncommits 1 0\ncommits 2 0\ncommits 3 0\n' "'$abft' cluster --quiet --kind 3 --tx '$payment' --rounds 0"
+runs 'a pool that a purse checks' 0 $'commits 0 0\ncommits 1 0\ncommits 2 0\ncommits 3 0\nledger 0\n' "'$abft' cluster --quiet --kind 3 --tx '$payment' --rounds 0"
 refuses 'error: a word of the command line is not UTF-8' sign report --value $'\xff'
 refuses 'error: a word of the command line is not UTF-8' $'\xff'
 refuses "error: 'abft' requires a subcommand but one was not provided
-  [subcommands: sign, deliver, simulate, cluster, serve, help]
+  [subcommands: sign, deliver, simulate, cluster, serve, audit, help]
 
 Usage: abft <COMMAND>
 
@@ -155,6 +155,14 @@ For more information, try '--help'." simulate --histories scenario
 refuses 'error: the scenario comes on standard input: abft simulate <plain-run.txt' simulate plain-run.txt
 refuses 'error: the scenario comes on standard input: abft simulate <plain-run.txt' simulate plain-run.txt --histories
 refuses 'error: the frames come on standard input: abft deliver <frames.bin' deliver frames.bin --n 4
+refuses 'error: the histories come on standard input: abft audit <histories' audit histories
+refuses "error: --receipt is R:I:TX, such as 0:0:a=1, not '256:0:a'" audit --receipt 256:0:a
+refuses "error: --receipt is R:I:TX, such as 0:0:a=1, not '00:0:a'" audit --receipt 00:0:a
+refuses "error: --receipt is R:I:TX, such as 0:0:a=1, not '0:4294967296:a'" audit --receipt 0:4294967296:a
+refuses "error: --receipt is R:I:TX, such as 0:0:a=1, not '0:0:'" audit --receipt 0:0:
+refuses "error: a value is required for '--histories <histories>' but none was supplied
+
+For more information, try '--help'." cluster --histories
 refuses "error: unexpected value 'true' for '--histories' found; no more were expected
 
 Usage: abft simulate [OPTIONS] <SCENARIO
@@ -245,6 +253,7 @@ Commands:
   simulate  Plays the scenario of standard input on a whole cluster, and prints what its replicas answer
   cluster   Runs a whole cluster in one process, a thread for each replica, and prints what each committed
   serve     Runs such a cluster beside a listener on 127.0.0.1, whose clients speak to its replicas
+  audit     Audits the histories of standard input, and prints their one ledger, or the first fault
   help      Print this message or the help of the given subcommand(s)
 
 Options:
@@ -377,19 +386,26 @@ Usage: abft cluster [OPTIONS]
 
 Options:
 EOT
-    cat "$room/common" "$room/running"
+    sed -E 's/^(.{27})/\1    /' "$room/common" "$room/running"
     cat <<'EOT'
-  -h, --help               Print help
+      --histories <histories>  The file to which the histories are written at the end
+  -h, --help                   Print help
 
 Lines, one for each replica:
   commits R C  replica R committed C blocks
 
+Then the lines of an audit over the histories of all replicas, as 'abft audit --help' says:
+  ledger C     the histories are those of one ledger of C blocks
+  H BATCH      its block at height H, one line for each
+
+With --histories FILE the histories are written to FILE, for 'abft audit <FILE'.
 How it stands is told on standard error, unless --quiet is there.
 
 Exit status:
-  0  the rounds are over, and the lines were printed
+  0  the rounds are over, and the audit found a ledger
+  1  the audit found a fault
   2  a fault of usage
-  3  out of memory, a thread that can't be made, or a failed write
+  3  out of memory, a thread that can't be made, a file that can't be written, or a failed write
 EOT
 } >"$room/wanted-out"
 check 'help of cluster' 0 "'$abft' cluster --help"
@@ -404,6 +420,8 @@ Options:
 EOT
     sed -E 's/^(.{27})/\1\n          /; s/ +\n/\n/' "$room/common" "$room/running"
     cat <<'EOT'
+      --histories <histories>
+          The file to which the histories are written at the end
       --port <port>
           The port to listen at, 0 to 65535; 0 for one that is free [default: 0]
       --sessions <sessions>
@@ -419,18 +437,65 @@ The first line:
 Then lines as of 'abft cluster', one for each replica:
   commits R C  replica R committed C blocks
 
+Then the lines of an audit over the histories of all replicas, as 'abft audit --help' says:
+  ledger C     the histories are those of one ledger of C blocks
+  H BATCH      its block at height H, one line for each
+
 It ends when the rounds are over and as many connections as --sessions says have ended,
 or where standard input ends if --stop-at-eof is there.
+With --histories FILE the histories are written to FILE, for 'abft audit <FILE'.
 How it stands is told on standard error, unless --quiet is there.
 docs/OPERATING.md has the rest.
 
 Exit status:
-  0  the rounds are over, and the lines were printed
+  0  the rounds are over, and the audit found a ledger
+  1  the audit found a fault
   2  a fault of usage
-  3  out of memory, a thread that can't be made, a port that can't be listened at, or a failed write
+  3  out of memory, a thread that can't be made, a port that can't be listened at, a file that can't be written,
+     or a failed write
 EOT
 } >"$room/wanted-out"
 check 'help of serve' 0 "'$abft' serve --help"
+{
+    cat <<'EOT'
+Audits the histories of standard input, and prints their one ledger, or the first fault
+
+Usage: abft audit [OPTIONS] <HISTORIES
+
+Options:
+EOT
+    cat "$room/common"
+    cat <<'EOT'
+      --receipt <receipt>  A receipt to look for, R:I:TX: the replica, the index in its history, and the transaction
+  -h, --help               Print help
+
+Input: the histories of N-t replicas or more, as bytes, one after another. 'abft simulate --histories' prints such bytes,
+and 'abft cluster --histories FILE' writes them. The options are those of the cluster.
+
+Lines, where the histories are those of one ledger:
+  ledger C  the ledger has C blocks
+  H BATCH   its block at height H, one line for each
+
+Otherwise one line:
+  fault 1 Count          fewer than N-t histories, two of one replica, or one of a replica that the cluster doesn't have
+  fault 2 NotReplay R I  entry I of R's history has a reply that the protocol doesn't allow there, or sends what R didn't sign
+  fault 3 Unsent R I S   at entry I of its history R accepted a statement of S that S's history doesn't send
+  bad history            the input is not spelled as histories
+After a fault, standard error has one more sentence about it.
+
+With --receipt there is one more line after a ledger. A receipt is what a client holds: the replica that took its
+transaction, the index of the entry in that replica's history, and the transaction.
+  receipt ok     that entry took that transaction
+  receipt wrong  it did not, or there is no such entry
+
+Exit status:
+  0  the histories are those of one ledger, and the receipt, if there is one, holds
+  1  'fault', 'bad history' or 'receipt wrong' was printed
+  2  a fault of usage
+  3  out of memory, or a failed read or write
+EOT
+} >"$room/wanted-out"
+check 'help of audit' 0 "'$abft' audit --help"
 runs 'the scenario in the help of simulate' 0 'submit 0 ok
 propose 0 1 [a=1]
 end 0 1 sent 1
@@ -448,7 +513,7 @@ execute 0 nothing
 ' "'$abft' simulate --help | sed -n '/^Input/,/^$/s/^  //p' | '$abft' simulate"
 
 # Live clusters, by the machine's clock.
-none=$'commits 0 0\ncommits 1 0\ncommits 2 0\ncommits 3 0\n'
+none=$'commits 0 0\ncommits 1 0\ncommits 2 0\ncommits 3 0\nledger 0\n'
 runs 'a cluster of no rounds' 0 "$none" "'$abft' cluster --rounds 0 --quiet"
 printf '%s' "$none" >"$room/wanted-out"
 printf 'the seed is the default one, which everybody knows: anybody can forge\nthe rounds are over\n' >"$room/wanted-err"
@@ -502,7 +567,10 @@ zeros: rests
 exec 4>&-
 cat <&3 >"$room/served"
 runs 'what each replica committed' 0 $'commits 0\ncommits 1\ncommits 2\ncommits 3\nstatus 0\n' \
-    "sed -E 's/^(commits [0-3]) [1-9][0-9]*$/\1/' '$room/served'"
+    "grep -E '^(commits|status)' '$room/served' | sed -E 's/^(commits [0-3]) [1-9][0-9]*$/\1/'"
+runs 'the ledger is the longest of them, block by block' 0 '' \
+    "awk '\$1 == \"commits\" { if (\$3 > most) most = \$3 } \$1 == \"ledger\" { if (\$2 != most) print; blocks = most }
+        /^[0-9]/ { if (\$1 != ++found) print } END { if (found != blocks) print found, blocks }' '$room/served'"
 runs 'a line for the first block' 0 $'block 1: replica R ran it first, in round N\n' \
     "grep '^block 1:' '$room/told' | sed -E 's/replica [0-3]/replica R/; s/round [0-9]+/round N/'"
 runs 'a line when it was asked to stop' 0 $'the cluster was asked to stop\n' "tail -n 1 '$room/told'"

@@ -39,7 +39,7 @@ def main(abft, n, t, tree, base_ms):
         if mute == int(n):
             print(f"all are mute from round {told[2]} on", end="; ")
             serve.stdin.close()
-    commits = [line.split()[2] for line in serve.stdout]
+    commits = [line.split()[2] for line in serve.stdout if line.startswith("commits ")]
     print("blocks of each at the end:", " ".join(commits))
     return mute == int(n) and serve.wait() == 0
 

@@ -43,7 +43,7 @@ class Server:
         except subprocess.TimeoutExpired:
             self.process.kill()
             return "doesn't end"
-        heights = [int(line.split()[2]) for line in self.process.stdout.read().decode().splitlines()]
+        heights = [int(line.split()[2]) for line in self.process.stdout.read().decode().splitlines() if line.startswith("commits ")]
         return f"{len(heights)} lines, status {self.process.returncode}", heights
 
 

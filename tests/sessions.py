@@ -43,9 +43,9 @@ def main(abft, sessions, at_once):
     with concurrent.futures.ThreadPoolExecutor(at_once) as pool:
         requests = sum(pool.map(lambda number: session(port, number), range(sessions)))
     took = time.monotonic() - began
-    commits = serve.stdout.read().split("\n")
+    commits = [line for line in serve.stdout.read().split("\n") if line.startswith("commits ")]
     print(f"{sessions} sessions, {at_once} at once: {requests} requests in {took:.1f} s; " + " ".join(commits))
-    return serve.wait() == 0 and all(int(line.split()[2]) >= 1 for line in commits if line)
+    return serve.wait() == 0 and all(int(line.split()[2]) >= 1 for line in commits)
 
 
 if __name__ == "__main__":

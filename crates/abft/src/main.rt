@@ -10,6 +10,7 @@ use std::io::{IsTerminal, Stderr, Stdin, Stdout};
 use std::net::{Net, TcpListener, TcpStream};
 use std::process::ExitCode;
 use std::random::RandomSource;
+use std::rt::Files;
 use std::sync::{Arc, Wait};
 use std::thread::Threads;
 use std::time::Clock;
@@ -76,9 +77,9 @@ fn run_cluster<R>(
     status: &SharedStatus,
     input: Stdin,
     mut output: Stdout,
-) -> Result<(), ProgramFault>
+) -> Result<u8, ProgramFault>
 where
-    R: Clock + Copy + RandomSource + Send + Sync + Threads + Wait + 'static,
+    R: Clock + Copy + Files + RandomSource + Send + Sync + Threads + Wait + 'static,
 {
     require_open(&output, Resource::Output)?;
     cluster(rt, alloc, settings, status, input, &mut output)
@@ -92,10 +93,11 @@ fn run_server<R>(
     status: &SharedStatus,
     input: Stdin,
     mut output: Stdout,
-) -> Result<(), ProgramFault>
+) -> Result<u8, ProgramFault>
 where
     R: Clock
         + Copy
+        + Files
         + Net<Listener = TcpListener, Stream = TcpStream>
         + RandomSource
         + Send

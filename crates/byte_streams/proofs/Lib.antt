@@ -1,3 +1,4 @@
 pub mod Faults
 pub mod WritingLemmas
 pub mod RespondingLemmas
+pub mod EachWritten

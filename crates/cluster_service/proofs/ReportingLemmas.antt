@@ -1,17 +1,32 @@
--- The lines of one more replica, and the text of all lines.
+-- The lines of one more replica, and the texts that are written.
 use Rattle.std.proofs.Common.{◌≡◌, ℕ, ◌+◌, List, [], ◌∷◌, ◌++◌, length, ◌<◌, ◌≤◌, take, get_or, refl, sym, ap, ◌∙◌, append_assoc}
-use Rattle.std.proofs.Common.{append-nil, inr, suc, arith}
-use Rattle.std.specs.Prelude.{◌⊎◌, replicate, Option, Result}
-use Rattle.std.proofs.lemmas.List.{length-replicate, length-take-le}
+use Rattle.std.proofs.Common.{append-nil, inl, inr, subst, suc, arith}
+use Rattle.std.specs.Prelude.{◌⊎◌, Option, Result}
+use Rattle.std.proofs.lemmas.List.{length-take-le}
 use Rattle.std.proofs.Math.Seq.{take-suc}
 use Rattle.std.specs.Io.KnownBytes.{Appends}
 use Rattle.std.proofs.KnownBytes.{Appends-trans}
+use Rattle.ledger_model.specs.declared.history.History.{History}
+use Rattle.ledger_model.specs.Rules.{Ring}
+use Rattle.ledger_model.specs.Values.{Value}
+use Rattle.cluster_keys.specs.Keys.{ring_of}
+use Rattle.history_audit.specs.Findings.{IsFinding}
+use Rattle.history_audit.specs.declared.fault.AuditFault.{AuditFault}
+use Rattle.audit_lines.specs.AuditLines.{finding_text}
 use Rattle.settings.specs.declared.cluster.ClusterSettings.{ClusterSettings}
 use Rattle.settings.specs.declared.cluster.ServeSettings.{ServeSettings}
-use Rattle.byte_streams.specs.Writing.{AppendsSome, Writes}
+use Rattle.byte_streams.specs.Writing.{AppendsSome}
 use Rattle.byte_streams.proofs.Faults.{each_way}
 use Rattle.byte_streams.proofs.WritingLemmas.{longer_some, nothing_some, then_some}
-use Rattle.cluster_service.specs.Reporting.{Reports, ReportsServed, WritesSuch, commit_line, commit_lines, port_line}
+use Rattle.cluster_service.specs.Reporting.{AreTaken, IsTaken, Reports, ReportsCommits, ReportsSome, Serves, ServesSome, WritesSuch}
+use Rattle.cluster_service.specs.Reporting.{commit_line, commit_lines, port_line, status_of}
+
+-- one more replica's history was taken
+pub one_taken : (ms : List History) (hs : List ℕ) (m : History) (h : ℕ) → AreTaken ms hs → IsTaken m h → AreTaken (ms ++ m ∷ []) (hs ++ h ∷ [])
+one_taken [] [] m h all one = (one, tt)
+one_taken (m1 ∷ ms) (h1 ∷ hs) m h all one = (all.0, one_taken ms hs m h all.1 one)
+one_taken [] (h1 ∷ hs) m h all one = absurd all
+one_taken (m1 ∷ ms) [] m h all one = absurd all
 
 -- the lines of replicas and of one behind them
 pub lines_append : (r : ℕ) (first : List ℕ) (h : ℕ)
@@ -44,54 +59,83 @@ pub no_line : commit_lines 0 [] ≡ []
 unfolding commit_lines
 no_line = refl
 
--- lines of as many replicas, if only of none that committed
-abbrev no_heights : ClusterSettings → List ℕ
-no_heights s = replicate s.cluster.config.replicas 0
-
-none_reported : (s : ClusterSettings) → Reports s (commit_lines 0 (no_heights s))
-none_reported s = record { heights = no_heights s; each = length-replicate s.cluster.config.replicas 0; lines = refl }
+-- a text of a cluster that a fault ended, of which a prefix was written
+abbrev pub WrittenSome : (List ℕ → Type 0) → Option (List ℕ) → Option (List ℕ) → Type 0
+WrittenSome P a b = (text : List ℕ) × (P text × AppendsSome a b text)
 
 -- nothing was written
-pub nothing_ran : (s : ClusterSettings) (a : Option (List ℕ)) → (text : List ℕ) × (Reports s text × AppendsSome a a text)
-nothing_ran s a = (commit_lines 0 (no_heights s), (none_reported s, nothing_some a _))
+pub nothing_ran : (s : ClusterSettings) (a : Option (List ℕ)) → WrittenSome (ReportsSome s) a a
+nothing_ran s a = ([], (inl refl, nothing_some a []))
 
-none_served : (s : ServeSettings) (port : ℕ) → (s.port ≡ 0) ⊎ (port ≡ s.port)
-    → ReportsServed s (port_line port ++ commit_lines 0 (no_heights s.cluster))
-none_served s port asked = record {
-  port = port;
-  asked = asked;
-  later = commit_lines 0 (no_heights s.cluster);
-  reports =
-      none_reported s.cluster;
-  lines = refl;
-}
+-- the lines of the replicas were written, or a prefix of them
+pub commits_some : (s : ClusterSettings) (a b : Option (List ℕ)) (histories : List History) (heights : List ℕ)
+    → length heights ≡ s.cluster.config.replicas → AreTaken histories heights → AppendsSome a b (commit_lines 0 heights)
+    → WrittenSome (ReportsSome s) a b
+commits_some s a b histories heights each taken some =
+    let commits : ReportsCommits s (commit_lines 0 heights) =
+    record { histories = histories; heights = heights; each = each; taken = taken; lines = refl } in
+    (commit_lines 0 heights, (inr (inl commits), some))
 
-pub nothing_served : (s : ServeSettings) (a : Option (List ℕ)) → (text : List ℕ) × (ReportsServed s text × AppendsSome a a text)
-nothing_served s a = (port_line s.port ++ commit_lines 0 (no_heights s.cluster), (none_served s s.port (inr refl), nothing_some a _))
+-- an audit of these histories, under the keys of the settings
+pub found_of : (s : ClusterSettings) (ring : Ring) (given histories : List History) (finding : Result (List Value) AuditFault)
+    → ring ≡ ring_of s.cluster → given ≡ histories → IsFinding s.cluster.config ring given finding
+    → IsFinding s.cluster.config (ring_of s.cluster) histories finding
+found_of s ring given histories finding keys same found =
+    subst (λ r. IsFinding s.cluster.config r histories finding) keys (subst (λ m. IsFinding s.cluster.config ring m finding) same found)
 
--- a beginning of the line of the port was written
-pub port_begun : (s : ServeSettings) (port : ℕ) (a b : Option (List ℕ)) → (s.port ≡ 0) ⊎ (port ≡ s.port) → AppendsSome a b (port_line port)
-    → (text : List ℕ) × (ReportsServed s text × AppendsSome a b text)
-port_begun s port a b asked some =
-    (port_line port ++ commit_lines 0 (no_heights s.cluster), (none_served s port asked, longer_some a b (port_line port) _ some))
+module _ (s : ClusterSettings) (histories : List History) (heights : List ℕ) (finding : Result (List Value) AuditFault) (status : ℕ)
+    (each : length heights ≡ s.cluster.config.replicas) (taken : AreTaken histories heights)
+    (found : IsFinding s.cluster.config (ring_of s.cluster) histories finding) (ends : status ≡ status_of finding)
+    (a b c : Option (List ℕ)) (first : Appends a b (commit_lines 0 heights)) where
+  reported : Reports s status (commit_lines 0 heights ++ finding_text finding)
+  reported = record {
+    histories = histories;
+    heights = heights;
+    each = each;
+    taken = taken;
+    finding = finding;
+    found = found;
+    ends = ends;
+    lines = refl;
+  }
 
--- that line was written, and then the lines of replicas, or a beginning of them
-pub port_and_lines : {T E : Type 0} (r : Result T E) (s : ServeSettings) (port : ℕ) (heights : List ℕ) (a b c : Option (List ℕ))
-    → (s.port ≡ 0) ⊎ (port ≡ s.port)
-    → length heights ≡ s.cluster.cluster.config.replicas → Appends a b (port_line port) → Writes r b c (commit_lines 0 heights)
-    → WritesSuch r (ReportsServed s) a c
-port_and_lines r s port heights a b c asked each first later =
-    let text = port_line port ++ commit_lines 0 heights in
-    let served : ReportsServed s text =
-    record {
-      port = port;
-      asked = asked;
-      later = commit_lines 0 heights;
-      reports =
-          record { heights = heights; each = each; lines = refl };
-      lines = refl;
-    } in
-    each_way _ _ _ _ r
-    (λ _ w. (text, (served, Appends-trans a b c (port_line port) (commit_lines 0 heights) first w)))
-    (λ _ w. (text, (served, then_some a b c (port_line port) (commit_lines 0 heights) first w)))
+  -- the lines of the replicas were written, and then what the audit finds
+  pub report_written : Appends b c (finding_text finding) → (text : List ℕ) × (Reports s status text × Appends a c text)
+  report_written rest = (
+    commit_lines 0 heights ++ finding_text finding,
+    (reported, Appends-trans a b c (commit_lines 0 heights) (finding_text finding) first rest),
+  )
+
+  -- or a prefix of the latter
+  pub report_begun : AppendsSome b c (finding_text finding) → WrittenSome (ReportsSome s) a c
+  report_begun rest = (
+    commit_lines 0 heights ++ finding_text finding,
+    (inr (inr (status, reported)), then_some a b c (commit_lines 0 heights) (finding_text finding) first rest),
+  )
+
+-- nothing was written
+pub nothing_served : (s : ServeSettings) (a : Option (List ℕ)) → WrittenSome (ServesSome s) a a
+nothing_served s a = ([], (inl refl, nothing_some a []))
+
+-- the line of the port was written, or a prefix of it
+pub port_some : (s : ServeSettings) (port : ℕ) (a b : Option (List ℕ)) → (s.port ≡ 0) ⊎ (port ≡ s.port) → AppendsSome a b (port_line port)
+    → WrittenSome (ServesSome s) a b
+port_some s port a b asked some =
+    let served : Serves s (ReportsSome s.cluster) (port_line port ++ []) =
+    record { port = port; asked = asked; later = []; reports = inl refl; lines = refl } in
+    (port_line port ++ [], (inr served, longer_some a b (port_line port) [] some))
+
+-- that line was written, and then what a cluster writes
+pub port_first : {E : Type 0} (r : Result ℕ E) (s : ServeSettings) (port : ℕ) (a b c : Option (List ℕ))
+    → (s.port ≡ 0) ⊎ (port ≡ s.port) → Appends a b (port_line port) → WritesSuch r (Reports s.cluster) (ReportsSome s.cluster) b c
+    → WritesSuch r (λ status. Serves s (Reports s.cluster status)) (ServesSome s) a c
+port_first r s port a b c asked first later = each_way _ _ _ _ r
+    (λ status w. (
+      port_line port ++ w.0,
+      (record { port = port; asked = asked; later = w.0; reports = w.1.0; lines = refl }, Appends-trans a b c (port_line port) w.0 first w.1.1),
+    ))
+    (λ _ w. (
+      port_line port ++ w.0,
+      (inr (record { port = port; asked = asked; later = w.0; reports = w.1.0; lines = refl }), then_some a b c (port_line port) w.0 first w.1.1),
+    ))
     later

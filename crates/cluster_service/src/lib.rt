@@ -13,6 +13,7 @@
 mod asking;
 mod cluster_status;
 mod door;
+mod final_histories;
 mod lines;
 mod listening;
 mod live_targets;
@@ -21,10 +22,12 @@ mod replicas;
 mod reporter;
 mod reporting;
 mod running;
+mod saving;
 mod stopping;
 mod subcommands;
 mod writing;
 
+pub use final_histories::FinalHistories;
 pub use live_targets::LiveTargets;
 pub use replicas::new_replicas;
 pub use reporter::{Watcher, start_reporter};

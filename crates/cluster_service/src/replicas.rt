@@ -1,14 +1,12 @@
-//! The replicas of a cluster at its start, and the heights that they committed at its end.
+//! The replicas of a cluster at its start.
 ghost use Rattle.std.specs.Prelude.{◌≡◌, ◌<◌, [], vec_len, IfOk, IfErr, OnOk};
 ghost use Rattle.cluster_keys.specs.Keys.{ring_of, secret_of, unused};
 ghost use Rattle.program_streams.specs.Faults.{IsMemoryOrRandom};
 ghost use Rattle.cluster_service.specs.Replicas.{all_begun, begun, submitted};
 
-use abci::Application;
 use app_kinds::AnyKind;
 use bytes::Bytes;
 use cluster_keys::{ClusterKeys, ClusterSeed, all_keys_in_parallel};
-use cluster_workers::RunningCluster;
 use key_ring::{KeyRing, Signer};
 use ledger_model::{Event, ReplicaId, Tx};
 use locked_replica::{ApplyFault, State};
@@ -17,7 +15,6 @@ use replica_turns::new_replica;
 use std::alloc::Global;
 use std::hash::RandomState;
 use std::random::RandomSource;
-use std::sync::Wait;
 use std::thread::Threads;
 
 /// The random key of a replica's hashes.
@@ -99,6 +96,12 @@ fn new_state<R: RandomSource>(
     Ok(state)
 }
 
+/// The replicas of a cluster at its start, by number, and its public keys.
+pub struct NewReplicas {
+    pub states: Vec<State<AnyKind>>,
+    pub ring: KeyRing,
+}
+
 /// The replicas of a cluster, by number. The transaction was submitted to each. Each replica's tree is computed once, in parallel
 /// with the others. The random bytes are the keys of hashes. An `Err` is an allocation failure, or that there were no random bytes.
 pub fn new_replicas<R: RandomSource + Threads + Sync>(
@@ -106,9 +109,10 @@ pub fn new_replicas<R: RandomSource + Threads + Sync>(
     alloc: Global,
     cluster: &ClusterSeed,
     tx: &Tx,
-) -> Result<Vec<State<AnyKind>>, ProgramFault>
-    ensures count { IfOk result (λ states. vec_len states ≡ cluster.now.config.replicas) }
-    ensures replicas { IfOk result (λ states. states.items ≡ all_begun cluster.now tx.now) }
+) -> Result<NewReplicas, ProgramFault>
+    ensures count { IfOk result (λ all. vec_len all.states ≡ cluster.now.config.replicas) }
+    ensures replicas { IfOk result (λ all. all.states.items ≡ all_begun cluster.now tx.now) }
+    ensures ring { IfOk result (λ all. all.ring ≡ ring_of cluster.now) }
     ensures fault { IfErr result IsMemoryOrRandom }
 {
     let ClusterKeys { signers, ring } = all_keys_in_parallel(source, alloc, cluster)?;
@@ -120,29 +124,5 @@ pub fn new_replicas<R: RandomSource + Threads + Sync>(
         };
         states.push(new_state(source, alloc, cluster, tx, id, signer, &ring)?)?;
     }
-    Ok(states)
-}
-
-/// The number of blocks that a replica committed.
-fn height_of<A: Application, R: Wait>(rt: &R, cluster: &RunningCluster<A>, id: u8) -> u32
-    requires { id < cluster.now.replicas }
-{
-    cluster.replica(ReplicaId::new(id)).lock(rt).height()
-}
-
-/// The number of blocks that each replica committed, by number.
-pub(crate) fn heights_of<A: Application, R: Wait>(
-    rt: &R,
-    alloc: Global,
-    cluster: &RunningCluster<A>,
-    replicas: u8,
-) -> Result<Vec<u32>, ProgramFault>
-    requires { replicas ≡ cluster.now.replicas }
-    ensures { IfOk result (λ heights. vec_len heights ≡ replicas) }
-{
-    let mut heights = Vec::with_capacity(alloc, usize::from(replicas))?;
-    for id in 0..replicas {
-        heights.push(height_of(rt, cluster, id))?;
-    }
-    Ok(heights)
+    Ok(NewReplicas { states, ring })
 }

@@ -63,12 +63,12 @@ impl SharedStatus {
     }
 
     /// Ends the reporter, which writes last the fault that ended the cluster, if one did. Waits until it has written everything, at most
-    /// for a second. Returns the exit status.
-    pub fn close<R: Wait>(&self, rt: &R, done: Result<(), ProgramFault>) -> u8
-        ensures { MatchResult done (λ _. result ≡ 0) (λ _. result ≡ 3) }
+    /// for a second. Returns the exit status: the one of what was done, or that of a fault.
+    pub fn close<R: Wait>(&self, rt: &R, done: Result<u8, ProgramFault>) -> u8
+        ensures { MatchResult done (λ status. result ≡ status) (λ _. result ≡ 3) }
     {
         let (status, fault) = match done {
-            Ok(()) => (0, None),
+            Ok(status) => (status, None),
             Err(fault) => (STOPPED, Some(fault)),
         };
         self.status.lock(rt).close(fault);

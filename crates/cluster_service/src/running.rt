@@ -1,13 +1,16 @@
 //! Clusters that run in threads of this process, on wall-clock time, and listen at ports of this machine.
 ghost use Rattle.std.specs.Prelude.{◌≡◌, ◌⊎◌, ◌<◌, ℕ, Some, length, slice_get, vec_len, IfOk, All};
+ghost use Rattle.cluster_keys.specs.Keys.{ring_of};
 ghost use Rattle.commit_board.specs.Seats.{new_reader};
+ghost use Rattle.cluster_service.specs.Reporting.{AreTaken};
 ghost use denote.Param.Send.{IsSend, IsSync};
 
 use crate::door::Door;
+use crate::final_histories::{FinalHistories, take_all};
 use crate::listening::{listen, targets_of};
 use crate::live_targets::LiveTargets;
 use crate::notice::Notice;
-use crate::replicas::{heights_of, new_replicas};
+use crate::replicas::{NewReplicas, new_replicas};
 use crate::reporting::{ReportingGate, SharedStatus};
 use app_kinds::AnyKind;
 use cluster_workers::{MachineClock, RunningCluster, Stop, Worker, run_all};
@@ -47,35 +50,6 @@ pub fn listen_at<R: Net<Listener = TcpListener, Stream = TcpStream>>(
     }
 }
 
-/// The cluster of the settings at its start, its workers, and `readers` readers' seats of its board.
-fn new_cluster<R: RandomSource + Threads + Sync>(
-    rt: &R,
-    alloc: Global,
-    settings: &ClusterSettings,
-    readers: u32,
-) -> Result<
-    (
-        RunningCluster<AnyKind>,
-        Vec<Worker<AnyKind>>,
-        Vec<ReaderSeat>,
-    ),
-    ProgramFault,
->
-    ensures replicas { IfOk result (λ r. r.0.replicas ≡ settings.now.cluster.config.replicas) }
-    ensures reader_count { IfOk result (λ r. vec_len r.2 ≡ readers) }
-    ensures readers { IfOk result (λ r. (k : ℕ) → k < readers → slice_get r.2.items k ≡ Some (new_reader r.0.board)) }
-{
-    let states = new_replicas(rt, alloc, &settings.cluster, &settings.tx)?;
-    let made = RunningCluster::new(
-        alloc,
-        &settings.cluster.config,
-        states,
-        settings.rounds,
-        readers,
-    )?;
-    Ok(made)
-}
-
 /// The gate of a cluster's workers, which stores how the replicas stand. It begins with what is to be known before the keys are made.
 fn new_gate<'a, R: Wait>(
     rt: &'a R,
@@ -109,33 +83,39 @@ fn run_workers<R: Clock + Threads + Wait + Sync>(
     }
 }
 
-/// Makes a cluster and runs it. Returns the number of blocks that each replica committed.
+/// Makes a cluster and runs it. Returns what its replicas have at the end.
 fn run_through<R: Clock + RandomSource + Threads + Wait + Sync>(
     rt: &R,
     alloc: Global,
     settings: &ClusterSettings,
     gate: &ReportingGate<'_, R>,
     stop: &Stop,
-) -> Result<Vec<u32>, ProgramFault>
-    ensures each { IfOk result (λ heights. vec_len heights ≡ settings.now.cluster.config.replicas) }
+) -> Result<FinalHistories, ProgramFault>
+    ensures each { IfOk result (λ left. vec_len left.heights ≡ settings.now.cluster.config.replicas) }
+    ensures taken { IfOk result (λ left. AreTaken left.histories.items left.heights.items) }
+    ensures ring { IfOk result (λ left. left.ring ≡ ring_of settings.now.cluster) }
 {
-    let (cluster, workers, _) = new_cluster(rt, alloc, settings, 0)?;
+    let config = &settings.cluster.config;
+    let NewReplicas { states, ring } = new_replicas(rt, alloc, &settings.cluster, &settings.tx)?;
+    let (cluster, workers, _) = RunningCluster::new(alloc, config, states, settings.rounds, 0)?;
     run_workers(rt, settings, workers, gate, stop)?;
     gate.tell(end_of(stop, Notice::RoundsOver));
     gate.wait_for_end();
-    heights_of(rt, alloc, &cluster, settings.cluster.config.replicas)
+    take_all(rt, alloc, &cluster, config.replicas, ring)
 }
 
-/// Runs a cluster until its rounds are over, or it is asked to stop, and answers how many blocks each replica committed, by number.
-/// How it stands is stored in `status`.
+/// Runs a cluster until its rounds are over, or it is asked to stop, and then takes the history of each replica, by number. How it
+/// stands is stored in `status`.
 pub fn run_cluster<R: Clock + RandomSource + Threads + Wait + Sync>(
     rt: &R,
     alloc: Global,
     settings: &ClusterSettings,
     status: &SharedStatus,
     stop: &Stop,
-) -> Result<Vec<u32>, ProgramFault>
-    ensures each { IfOk result (λ heights. vec_len heights ≡ settings.now.cluster.config.replicas) }
+) -> Result<FinalHistories, ProgramFault>
+    ensures each { IfOk result (λ left. vec_len left.heights ≡ settings.now.cluster.config.replicas) }
+    ensures taken { IfOk result (λ left. AreTaken left.histories.items left.heights.items) }
+    ensures ring { IfOk result (λ left. left.ring ≡ ring_of settings.now.cluster) }
 {
     let gate = new_gate(rt, settings, status);
     run_through(rt, alloc, settings, &gate, stop)
@@ -249,7 +229,7 @@ where
     )
 }
 
-/// Makes a cluster, runs it and serves its clients. Returns the number of blocks that each replica committed.
+/// Makes a cluster, runs it and serves its clients. Returns what its replicas have at the end.
 fn serve_through<R>(
     rt: &R,
     alloc: Global,
@@ -258,7 +238,7 @@ fn serve_through<R>(
     listener: TcpListener,
     port: u16,
     stop: &Stop,
-) -> Result<Vec<u32>, ProgramFault>
+) -> Result<FinalHistories, ProgramFault>
 where
     R: Clock
         + Net<Listener = TcpListener, Stream = TcpStream>
@@ -266,18 +246,24 @@ where
         + Threads
         + Wait
         + Sync,
-    ensures each { IfOk result (λ heights. vec_len heights ≡ settings.now.cluster.cluster.config.replicas) }
+    ensures each { IfOk result (λ left. vec_len left.heights ≡ settings.now.cluster.cluster.config.replicas) }
+    ensures taken { IfOk result (λ left. AreTaken left.histories.items left.heights.items) }
+    ensures ring { IfOk result (λ left. left.ring ≡ ring_of settings.now.cluster.cluster) }
 {
-    let (cluster, workers, seats) = new_cluster(rt, alloc, &settings.cluster, settings.sessions)?;
+    let run = &settings.cluster;
+    let config = &run.cluster.config;
+    let NewReplicas { states, ring } = new_replicas(rt, alloc, &run.cluster, &run.tx)?;
+    let (cluster, workers, seats) = RunningCluster::new(
+        alloc,
+        config,
+        states,
+        run.rounds,
+        settings.sessions,
+    )?;
     serve_beside(
         rt, alloc, settings, &cluster, workers, seats, gate, listener, port, stop,
     )?;
-    heights_of(
-        rt,
-        alloc,
-        &cluster,
-        settings.cluster.cluster.config.replicas,
-    )
+    take_all(rt, alloc, &cluster, config.replicas, ring)
 }
 
 /// Like [`run_cluster`], and serves the clients of a listener. Returns when the rounds are over and as many connections as
@@ -290,7 +276,7 @@ pub fn serve_cluster<R>(
     port: u16,
     status: &SharedStatus,
     stop: &Stop,
-) -> Result<Vec<u32>, ProgramFault>
+) -> Result<FinalHistories, ProgramFault>
 where
     R: Clock
         + Net<Listener = TcpListener, Stream = TcpStream>
@@ -298,7 +284,9 @@ where
         + Sync
         + Threads
         + Wait,
-    ensures each { IfOk result (λ heights. vec_len heights ≡ settings.now.cluster.cluster.config.replicas) }
+    ensures each { IfOk result (λ left. vec_len left.heights ≡ settings.now.cluster.cluster.config.replicas) }
+    ensures taken { IfOk result (λ left. AreTaken left.histories.items left.heights.items) }
+    ensures ring { IfOk result (λ left. left.ring ≡ ring_of settings.now.cluster.cluster) }
 {
     let gate = new_gate(rt, &settings.cluster, status);
     serve_through(rt, alloc, settings, &gate, listener, port, stop)

@@ -2,9 +2,13 @@
 #![tactic(auto)]
 
 #[cfg(test)]
+mod audit_tests;
+#[cfg(test)]
 mod cluster_tests;
 #[cfg(test)]
 mod following;
+#[cfg(test)]
+mod history_gate;
 #[cfg(test)]
 mod key_tests;
 #[cfg(test)]

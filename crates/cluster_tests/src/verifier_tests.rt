@@ -88,7 +88,7 @@ fn prime_reports<R: Threads + Sync>(
     state: &mut State<AnyKind>,
     frames: &[Frame],
 ) -> Result<(), Fail> {
-    let parts = unknown_reports(alloc, state.verifier(), frames)?;
+    let parts = unknown_reports(alloc, state.config(), state.verifier(), frames)?;
     prime(rt, alloc, state, &parts)
 }
 

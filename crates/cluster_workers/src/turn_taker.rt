@@ -31,6 +31,8 @@ pub(crate) struct TurnOutcome {
     pub(crate) first: usize,
     /// The number of events that were taken: all, or those before the one that was refused.
     pub(crate) taken: usize,
+    /// The number of events that were offered: all, or those up to the one that was refused.
+    pub(crate) offered: usize,
     /// Why an event was refused, if one was.
     pub(crate) fault: Option<ApplyFault>,
     /// The status of the replica after the turn.
@@ -107,16 +109,20 @@ impl TurnTaker {
     ) -> TurnOutcome
         ensures first { result.first ≡ length state.old.entries }
         ensures taken { length state.old.entries + result.taken ≡ length state.new.entries }
+        ensures offered { MatchOption result.fault (result.offered ≡ length events.items) (λ _. result.offered ≡ result.taken + 1) }
         // The events are taken in order: all, or those before the one that was refused.
         ensures events { state.old.id ≡ self.old.seat.replica → MatchOption result.fault (Takes state.old.entries events.items state.new.entries)
             (λ _. TakesSome state.old.entries events.items state.new.entries) }
         ensures other { (state.old.id ≡ self.old.seat.replica → ⊥) → state.new ≡ state.old }
     {
         let first = state.len();
+        let count = events.len();
         let fault = self.give(state, events);
+        let taken = state.len() - first;
         TurnOutcome {
             first,
-            taken: state.len() - first,
+            taken,
+            offered: if fault.is_some() { taken + 1 } else { count },
             fault,
             status: ReplicaStatus::of(state),
         }

@@ -13,8 +13,8 @@ use key_ring::KeyRing;
 use ledger_model::{Event, ReplicaId, Sent};
 use locked_replica::ApplyFault;
 use replica_turns::{
-    LockedReplica, OwnEvents, WaitingFrames, arrived_frames, events_of, keep_checked, offered,
-    sent_at, unknown_parts, unknown_reports,
+    LockedReplica, OwnEvents, WaitingFrames, arrived_frames, deliveries_of, keep_checked, sent_at,
+    unknown_parts, unknown_reports,
 };
 use signed_frames::{Frame, SignedPart};
 use std::alloc::{AllocError, Global};
@@ -164,10 +164,10 @@ impl<A: Application> Worker<A> {
         }
     }
 
-    /// The same for the reports in the proofs of the frames that the replica knows to be signed.
+    /// The same for the reports in the proofs of the locks that the replica knows to be signed.
     fn unknown_reports<'a, R: Wait>(&self, rt: &R, frames: &'a [Frame]) -> Vec<SignedPart<'a>> {
         let state = self.replica.lock(rt);
-        match unknown_reports(self.alloc, state.verifier(), frames) {
+        match unknown_reports(self.alloc, state.config(), state.verifier(), frames) {
             Ok(parts) => parts,
             Err(_) => Vec::new(self.alloc),
         }
@@ -224,8 +224,8 @@ impl<A: Application> Worker<A> {
         self.turn_taker.turn(&mut *state, events)
     }
 
-    /// Records why an event was refused, if one was. `offered` frames were offered until then, and are dropped. If the
-    /// history is full, or memory runs out for the second time in a row, all waiting frames are dropped.
+    /// Records why an event was refused, if one was. The first `offered` of the waiting frames were offered, and are dropped.
+    /// If the history is full, or memory runs out for the second time in a row, all waiting frames are dropped.
     fn note_fault(&mut self, fault: Option<ApplyFault>, offered: usize) {
         match fault {
             Some(ApplyFault::HistoryFull) => {
@@ -244,17 +244,10 @@ impl<A: Application> Worker<A> {
         }
     }
 
-    /// Gives the replica a turn with what it does by itself, followed by the first 64 of the waiting frames, whose
-    /// signatures are checked before. A refused event is dropped, and the frames after it wait for the next turn. Returns the
-    /// number of events that were taken.
-    fn hand_over_next<R: Threads + Wait + Sync, G: TurnGate>(
-        &mut self,
-        rt: &R,
-        gate: &G,
-        own: &OwnEvents,
-    ) -> usize {
-        self.check(rt, self.frames.first_due());
-        let Ok(events) = events_of(self.alloc, own, self.frames.first_due()) else {
+    /// Gives the replica a turn with what it does by itself, if that is anything. A refused event and those after it are
+    /// dropped: the next pass plans them anew. Returns the number of events that were taken.
+    fn act<R: Wait, G: TurnGate>(&mut self, rt: &R, gate: &G, own: &OwnEvents) -> usize {
+        let Ok(events) = own.events(self.alloc) else {
             self.note_fault(Some(ApplyFault::NoMemory), 0);
             return 0;
         };
@@ -263,26 +256,36 @@ impl<A: Application> Worker<A> {
         }
         let outcome = self.turn(rt, gate, events);
         self.proposed = own.proposed_after(self.proposed, outcome.taken);
-        self.note_fault(outcome.fault, offered(own, outcome.taken));
+        self.note_fault(outcome.fault, 0);
         outcome.taken
     }
 
-    /// Gives the replica what it does by itself, followed by the waiting frames, in turns of at most 64 frames: other threads
-    /// may use the replica between them. After a turn that lacks memory the other frames wait. Returns the number of events
-    /// that were taken.
-    fn hand_over<R: Threads + Wait + Sync, G: TurnGate>(
-        &mut self,
-        rt: &R,
-        gate: &G,
-        own: &OwnEvents,
-    ) -> usize {
-        let mut taken = self.hand_over_next(rt, gate, own);
-        for _turn in 1..WaitingFrames::MAX_TURNS {
-            if self.is_short || self.frames.due().is_empty() {
+    /// Gives the replica a turn with the first 64 of the waiting frames, whose signatures are checked before. A refused frame
+    /// is dropped, and those after it wait for the next turn. Returns the number of frames that were taken.
+    fn hand_over_next<R: Threads + Wait + Sync, G: TurnGate>(&mut self, rt: &R, gate: &G) -> usize {
+        self.check(rt, self.frames.first_due());
+        let Ok(events) = deliveries_of(self.alloc, self.frames.first_due()) else {
+            self.note_fault(Some(ApplyFault::NoMemory), 0);
+            return 0;
+        };
+        let outcome = self.turn(rt, gate, events);
+        self.note_fault(outcome.fault, outcome.offered);
+        outcome.taken
+    }
+
+    /// Gives the replica the waiting frames in turns of at most 64: other threads may use the replica between them. After a
+    /// turn that lacks memory the other frames wait. Returns the number of frames that were taken.
+    fn hand_over<R: Threads + Wait + Sync, G: TurnGate>(&mut self, rt: &R, gate: &G) -> usize {
+        let mut taken = 0usize;
+        for _turn in 0..WaitingFrames::MAX_TURNS {
+            if self.frames.due().is_empty() {
                 break;
             }
-            let next = self.hand_over_next(rt, gate, &OwnEvents::none());
+            let next = self.hand_over_next(rt, gate);
             taken = taken.saturating_add(next);
+            if self.is_short {
+                break;
+            }
         }
         taken
     }
@@ -296,16 +299,17 @@ impl<A: Application> Worker<A> {
         }
     }
 
-    /// Ends the round of the replica, and puts the frames of the next one into the inboxes of their addressees.
+    /// Ends the round of the replica. The frames that waited for the next round are due then, and those that the replica sends
+    /// go into the inboxes of their addressees. If the end is refused, the round stays open, and early frames go on waiting.
     fn end_round<R: Wait, G: TurnGate>(&mut self, rt: &R, gate: &G) {
         self.ended = self.ended.saturating_add(1);
-        let _ = self.frames.open_round();
         let Ok(events) = vec![in self.alloc; Event::RoundEnd] else {
             return;
         };
         let outcome = self.turn(rt, gate, events);
         self.note_fault(outcome.fault, 0);
         if outcome.taken > 0 {
+            let _ = self.frames.open_round();
             self.send_all(rt, outcome.first);
         }
     }
@@ -319,7 +323,8 @@ impl<A: Application> Worker<A> {
         }
     }
 
-    /// One pass of the loop. It ends a round if one is due and may end.
+    /// One pass of the loop. What the replica does by itself has a turn before the frames: it may open the height that they
+    /// are of, and only then does the replica want their signatures checked. The pass ends a round if one is due and may end.
     fn pass<R: Threads + Wait + Sync, C: RoundClock, G: TurnGate>(
         &mut self,
         rt: &R,
@@ -329,11 +334,12 @@ impl<A: Application> Worker<A> {
     ) -> Pass {
         let (round, own) = self.look(rt);
         let taken = self.take_in(rt, round);
-        let events = self.hand_over(rt, gate, &own);
+        let done = self.act(rt, gate, &own);
+        let delivered = self.hand_over(rt, gate);
         let progress = Progress {
             taken,
             sent: mem::replace(&mut self.sent, 0),
-            events,
+            events: done.saturating_add(delivered),
         };
         let is_due = may_end && clock.is_due(self.turn_taker.replica(), self.ended, progress);
         if is_due {
@@ -341,7 +347,7 @@ impl<A: Application> Worker<A> {
         }
         Pass {
             is_idle: !is_due && progress.is_idle(),
-            has_run: own.is_decided && events > 0,
+            has_run: own.is_decided && done > 0,
         }
     }
 

@@ -27,8 +27,7 @@ unknown_among words error (inr among) is = subst (λ k. IsAmong k (kinds_of word
 -- an input that is named
 named_right : (words : List Text) (f : UsageFault) → IsAmong kind.UnknownArgument (kinds_of words) → NamesInput words f
     → IsRightFault words f
-named_right words (fault.NamedFrames word) among names = (among, names)
-named_right words (fault.NamedScenario word) among names = (among, names)
+named_right words (fault.NamedInput input word) among names = (among, names)
 named_right words (fault.CommandLine error) among names = absurd names
 named_right words (fault.Number option least most word) among names = absurd names
 named_right words (fault.Neither option one other word) among names = absurd names
@@ -37,6 +36,7 @@ named_right words (fault.TooFew replicas faults) among names = absurd names
 named_right words (fault.Spelling option why) among names = absurd names
 named_right words (fault.NoTransaction option word) among names = absurd names
 named_right words (fault.Rejected option code word) among names = absurd names
+named_right words (fault.Receipt word) among names = absurd names
 named_right words (fault.What word) among names = absurd names
 named_right words (fault.Missing option) among names = absurd names
 named_right words fault.NoSubcommand among names = absurd names
@@ -58,8 +58,8 @@ of_found o (fault.TooFew replicas faults) right = right
 of_found o (fault.Spelling option why) right = right
 of_found o (fault.NoTransaction option word) right = right
 of_found o (fault.Rejected option code word) right = right
-of_found o (fault.NamedFrames word) right = right
-of_found o (fault.NamedScenario word) right = right
+of_found o (fault.Receipt word) right = right
+of_found o (fault.NamedInput input word) right = right
 of_found o (fault.What word) right = right
 of_found o (fault.Missing option) right = right
 of_found o fault.NoSubcommand right = absurd right
@@ -77,8 +77,7 @@ right_alike Q o p (Err e) told found right cases =
 -- the fault of an option of words that clap takes
 option_right : (words : List Text) (f : UsageFault) → IsRightOption words f → IsRightFault words f
 option_right words (fault.CommandLine error) right = absurd right.1
-option_right words (fault.NamedFrames word) right = absurd right.1
-option_right words (fault.NamedScenario word) right = absurd right.1
+option_right words (fault.NamedInput input word) right = absurd right.1
 option_right words (fault.Number option least most word) right = right
 option_right words (fault.Neither option one other word) right = right
 option_right words (fault.Seed word) right = right
@@ -86,6 +85,7 @@ option_right words (fault.TooFew replicas faults) right = right
 option_right words (fault.Spelling option why) right = right
 option_right words (fault.NoTransaction option word) right = right
 option_right words (fault.Rejected option code word) right = right
+option_right words (fault.Receipt word) right = right
 option_right words (fault.What word) right = right
 option_right words (fault.Missing option) right = right
 option_right words fault.NoSubcommand right = right
@@ -110,8 +110,8 @@ asked words (fault.TooFew replicas faults) right asks = absurd asks
 asked words (fault.Spelling option why) right asks = absurd asks
 asked words (fault.NoTransaction option word) right asks = absurd asks
 asked words (fault.Rejected option code word) right asks = absurd asks
-asked words (fault.NamedFrames word) right asks = absurd asks
-asked words (fault.NamedScenario word) right asks = absurd asks
+asked words (fault.Receipt word) right asks = absurd asks
+asked words (fault.NamedInput input word) right asks = absurd asks
 asked words (fault.What word) right asks = absurd asks
 asked words (fault.Missing option) right asks = absurd asks
 asked words fault.NoSubcommand right asks = absurd asks
@@ -151,8 +151,7 @@ module _ (ks : Kinds) where
 
 answered : (words : List Text) (f : UsageFault) → IsRightFault words f → AskForHelpAlone words → AsksForText f ⊎ WantsMemory f
 answered words (fault.CommandLine error) right alone = shown (kinds_of words) error right alone
-answered words (fault.NamedFrames word) right alone = absurd (none_unknown (kinds_of words) right.0 alone)
-answered words (fault.NamedScenario word) right alone = absurd (none_unknown (kinds_of words) right.0 alone)
+answered words (fault.NamedInput input word) right alone = absurd (none_unknown (kinds_of words) right.0 alone)
 answered words (fault.Number option least most word) right alone = absurd (some_kind (kinds_of words) right.0 alone)
 answered words (fault.Neither option one other word) right alone = absurd (some_kind (kinds_of words) right.0 alone)
 answered words (fault.Seed word) right alone = absurd (some_kind (kinds_of words) right.0 alone)
@@ -160,6 +159,7 @@ answered words (fault.TooFew replicas faults) right alone = absurd (some_kind (k
 answered words (fault.Spelling option why) right alone = absurd (some_kind (kinds_of words) right.0 alone)
 answered words (fault.NoTransaction option word) right alone = absurd (some_kind (kinds_of words) right.0 alone)
 answered words (fault.Rejected option code word) right alone = absurd (some_kind (kinds_of words) right.0 alone)
+answered words (fault.Receipt word) right alone = absurd (some_kind (kinds_of words) right.0 alone)
 answered words (fault.What word) right alone = absurd (some_kind (kinds_of words) right.0 alone)
 answered words (fault.Missing option) right alone = absurd (some_kind (kinds_of words) right.0 alone)
 answered words fault.NoSubcommand right alone = absurd (some_kind (kinds_of words) right.0 alone)

@@ -2,3 +2,4 @@ pub mod Chains
 pub mod FaultLemmas
 pub mod MatchesLemmas
 pub mod NumberLemmas
+pub mod ReceiptLemmas

@@ -1,5 +1,5 @@
 -- Numbers and transactions in their printed form.
-use Rattle.std.proofs.Common.{◌≡◌, ◌∙◌, ℕ, ◌<◌, ◌≤◌, false, List, [], refl, IsTrue, arith, ap, codes, sym, subst}
+use Rattle.std.proofs.Common.{◌≡◌, ◌∙◌, ℕ, ◌<◌, ◌≤◌, false, List, [], refl, arith, ap, codes, sym, subst}
 use Rattle.std.specs.Prelude.{Result, Ok, Err, Some, None, IfOk, IfErr, OnErr, IsErrOf, is_ok, ◌↔◌}
 use Rattle.std.specs.Result.{result_ok}
 use Rattle.std.specs.Str.Parse.{digits_value}
@@ -19,7 +19,6 @@ use Rattle.lm_ots.specs.declared.params.TreeHeight.TheVariants.{H5, H10}
 use Rattle.cluster_keys.specs.declared.cluster_seed.ClusterSeed.{ClusterSeed}
 use Rattle.abci.specs.Meaning.{ChecksTo, state_after}
 use Rattle.command_line.specs.Options.{IsNumber, IsWritten, SetsCluster, number_of}
-use Rattle.plain_text.specs.Numbers.{is_decimal}
 use Rattle.plain_text.specs.Transactions.{StandsFor}
 use Rattle.plain_text.proofs.TransactionLemmas.{stands_once}
 
@@ -31,24 +30,6 @@ if_err (Err e) h = h e
 -- an option without a text is no number
 pub no_text : (rows : List Row) (name : Text) (low high : ℕ) → first_of name rows ≡ None → (n : ℕ) → IsNumber rows name low high n → ⊥
 no_text rows name low high none n i = let bad : None ≡ Some i.text = sym none ∙ i.has in absurd cc
-
--- one whose text is no number of 32 bits is none
-pub not_decimal : (rows : List Row) (name text : Text) (low high : ℕ) → first_of name rows ≡ Some text → high < 4294967296
-    → (IsTrue (is_decimal text) → 4294967296 ≤ digits_value 10 text) → (n : ℕ) → IsNumber rows name low high n → ⊥
-not_decimal rows name text low high has fits large n i =
-    let same : i.text ≡ text = same_Some i.text text (sym i.has ∙ has) in
-    let over : 4294967296 ≤ digits_value 10 text = large (subst (λ t. IsTrue (is_decimal t)) same i.decimal) in
-    let value : digits_value 10 text ≡ n = subst (λ t. digits_value 10 t ≡ n) same i.number in
-    let most : n ≤ high = i.most in
-    omega (arith, over, value, most, fits)
-
--- one whose number is out of the limits is none
-pub out_of_limits : (rows : List Row) (name text : Text) (low high v : ℕ) → first_of name rows ≡ Some text → digits_value 10 text ≡ v
-    → (low ≤ v → v ≤ high → ⊥) → (n : ℕ) → IsNumber rows name low high n → ⊥
-out_of_limits rows name text low high v has is out n i =
-    let same : i.text ≡ text = same_Some i.text text (sym i.has ∙ has) in
-    let value : v ≡ n = sym is ∙ subst (λ t. digits_value 10 t ≡ n) same i.number in
-    out (subst (λ m. low ≤ m) (sym value) i.least) (subst (λ m. m ≤ high) (sym value) i.most)
 
 -- the same option has one number
 pub one_number : (rows : List Row) (name : Text) (low high low2 high2 n m : ℕ) → IsNumber rows name low high n

@@ -7,9 +7,13 @@ use Rattle.ledger_model.specs.Replies.{check_reply}
 use Rattle.plain_text.specs.Transactions.{Misspells, StandsFor}
 use Rattle.plain_text.specs.declared.spelling_fault.SpellingFault.{SpellingFault}
 use Rattle.settings.specs.declared.sign.What.{What}
+use Rattle.settings.specs.declared.audit.Receipt.{Receipt}
 use Rattle.command_line.specs.Grammar.{abft_app}
+use Rattle.command_line.specs.Receipts.{SpellsReceipt}
 use Rattle.command_line.specs.Options.{HasOption, IsNumber, IsSeed, IsWritten, OptionTable, TakesEither, TakesNumber, TakesTransaction}
 use Rattle.command_line.specs.Options.{number_of, options_of, word_of}
+use Rattle.command_line.specs.declared.usage_fault.Input.{Input}
+use Rattle.command_line.specs.declared.usage_fault.Input.TheVariants.{Frames, Scenario, Histories}
 use Rattle.command_line.specs.declared.usage_fault.UsageFault.{UsageFault}
 use Rattle.command_line.specs.declared.usage_fault.UsageFault.TheVariants as fault
 
@@ -34,10 +38,15 @@ pub record IsOperand (words : List Text) (subcommand word : Text) : Type 0 where
   pub third : slice_get words 2 ≡ Some word
   pub plain : slice_index word 0 ≢ 0x2d
 
+-- the subcommand that reads this from standard input
+abbrev pub reader_of : Input → Text
+reader_of Frames = codes "deliver"
+reader_of Scenario = codes "simulate"
+reader_of Histories = codes "audit"
+
 -- the fault names the word after a subcommand that reads its input from standard input
 abbrev pub NamesInput : List Text → UsageFault → Type 0
-NamesInput words (fault.NamedFrames word) = IsOperand words (codes "deliver") word.now
-NamesInput words (fault.NamedScenario word) = IsOperand words (codes "simulate") word.now
+NamesInput words (fault.NamedInput input word) = IsOperand words (reader_of input) word.now
 NamesInput words other = ⊥
 
 -- ---- options with a wrong value
@@ -85,6 +94,10 @@ pub record IsRejected (rows : List Row) (option : Text) (code : ℕ) (word : Tex
   pub answer : check_reply kind [] tx ≡ code
   pub refused : code ≢ 0
 
+-- the word is the value of `--receipt`, but spells no receipt
+abbrev pub IsNoReceipt : List Row → Text → Type 0
+IsNoReceipt rows word = (first_of (codes "receipt") rows ≡ Some word) × ((receipt : Receipt) → SpellsReceipt word receipt → ⊥)
+
 -- the word is neither `report` nor `ack`
 abbrev pub IsNoStatement : List Row → Text → Type 0
 IsNoStatement rows word = (first_of (codes "what") rows ≡ Some word) × ((what : What) → word ≡ word_of what → ⊥)
@@ -101,8 +114,8 @@ IsRightOf table rows (fault.TooFew replicas faults) = AreTooFew rows replicas fa
 IsRightOf table rows (fault.Spelling option why) = TakesTransaction table option.now × IsMisspelled rows option.now why
 IsRightOf table rows (fault.NoTransaction option word) = TakesTransaction table option.now × IsNoTransaction rows option.now word.now
 IsRightOf table rows (fault.Rejected option code word) = TakesTransaction table option.now × IsRejected rows option.now code word.now
-IsRightOf table rows (fault.NamedFrames word) = ⊥
-IsRightOf table rows (fault.NamedScenario word) = ⊥
+IsRightOf table rows (fault.Receipt word) = HasOption table (codes "receipt") × IsNoReceipt rows word.now
+IsRightOf table rows (fault.NamedInput input word) = ⊥
 IsRightOf table rows (fault.What word) = HasOption table (codes "what") × IsNoStatement rows word.now
 IsRightOf table rows (fault.Missing option) = HasOption table option.now × (first_of option.now rows ≡ None)
 IsRightOf table rows fault.NoSubcommand = ⊥
@@ -113,7 +126,7 @@ abbrev pub IsNoSubcommand : Option (Text × List Row) → Type 0
 IsNoSubcommand None = ⊤
 IsNoSubcommand (Some found) =
     (found.0 ≢ codes "sign") × ((found.0 ≢ codes "deliver")
-    × ((found.0 ≢ codes "simulate") × ((found.0 ≢ codes "cluster") × (found.0 ≢ codes "serve"))))
+    × ((found.0 ≢ codes "simulate") × ((found.0 ≢ codes "cluster") × ((found.0 ≢ codes "serve") × (found.0 ≢ codes "audit")))))
 
 -- the table of the subcommand that was found
 abbrev pub table_in : Option (Text × List Row) → OptionTable
@@ -138,8 +151,7 @@ IsRightOption words e = (kinds_of words ≡ []) × IsRightIn (subcommand_of abft
 -- has this fault
 abbrev pub IsRightFault : List Text → UsageFault → Type 0
 IsRightFault words (fault.CommandLine error) = HasKind (kinds_of words) error
-IsRightFault words (fault.NamedFrames word) = IsAmong kind.UnknownArgument (kinds_of words) × IsOperand words (codes "deliver") word.now
-IsRightFault words (fault.NamedScenario word) = IsAmong kind.UnknownArgument (kinds_of words) × IsOperand words (codes "simulate") word.now
+IsRightFault words (fault.NamedInput input word) = IsAmong kind.UnknownArgument (kinds_of words) × IsOperand words (reader_of input) word.now
 IsRightFault words (fault.Number option least most word) = IsRightOption words (fault.Number option least most word)
 IsRightFault words (fault.Neither option one other word) = IsRightOption words (fault.Neither option one other word)
 IsRightFault words (fault.Seed word) = IsRightOption words (fault.Seed word)
@@ -147,6 +159,7 @@ IsRightFault words (fault.TooFew replicas faults) = IsRightOption words (fault.T
 IsRightFault words (fault.Spelling option why) = IsRightOption words (fault.Spelling option why)
 IsRightFault words (fault.NoTransaction option word) = IsRightOption words (fault.NoTransaction option word)
 IsRightFault words (fault.Rejected option code word) = IsRightOption words (fault.Rejected option code word)
+IsRightFault words (fault.Receipt word) = IsRightOption words (fault.Receipt word)
 IsRightFault words (fault.What word) = IsRightOption words (fault.What word)
 IsRightFault words (fault.Missing option) = IsRightOption words (fault.Missing option)
 IsRightFault words fault.NoSubcommand = IsRightOption words fault.NoSubcommand

@@ -4,12 +4,16 @@ use Rattle.clap.specs.Words.{App, Rule, Text, new_app, new_rule, with_rule, with
 use Rattle.clap.specs.declared.builder.action.ArgAction.TheVariants.{SetTrue}
 use Rattle.command_line.specs.declared.subcommand.Argument.{Argument}
 use Rattle.command_line.specs.declared.subcommand.Kind.{Kind}
-use Rattle.command_line.specs.declared.subcommand.Kind.TheVariants.{Value, Flag, Word}
+use Rattle.command_line.specs.declared.subcommand.Kind.TheVariants.{Value, Optional, Flag, Word}
 use Rattle.command_line.specs.declared.subcommand.Subcommand.{Subcommand}
 
 -- an option with a value: its name, and the value if the words give none
 abbrev pub option_rule : Text → Text → Rule
 option_rule name default = record (new_rule name) { long = Some name; defaults = default ∷ [] }
+
+-- an option with a value, and no value if the words give none
+abbrev pub optional_rule : Text → Rule
+optional_rule name = record (new_rule name) { long = Some name }
 
 -- a flag: an option without a value
 abbrev pub flag_rule : Text → Rule
@@ -22,6 +26,7 @@ word_rule name = record (new_rule name) { required = true }
 -- an argument by its kind
 abbrev pub kind_rule : Text → Kind → Rule
 kind_rule name (Value default) = option_rule name default.now
+kind_rule name Optional = optional_rule name
 kind_rule name Flag = flag_rule name
 kind_rule name Word = word_rule name
 
@@ -101,7 +106,11 @@ with_run a =
 
 -- the options of a running cluster, which `abft cluster` and `abft serve` have
 abbrev pub with_running : App → App
-with_running a = with_rule (with_rule (with_run (with_cluster a)) (flag_rule (codes "quiet"))) (flag_rule (codes "stop-at-eof"))
+with_running a =
+    with_rule (with_rule (with_rule (with_run (with_cluster a))
+    (flag_rule (codes "quiet")))
+    (flag_rule (codes "stop-at-eof")))
+    (optional_rule (codes "histories"))
 
 -- `abft cluster`: its options
 abbrev pub cluster_app : App
@@ -119,16 +128,21 @@ with_serve a =
 abbrev pub serve_app : App
 serve_app = with_serve (with_running (new_app (codes "serve")))
 
+-- `abft audit`: the options of a cluster, and a receipt
+abbrev pub audit_app : App
+audit_app = with_rule (with_cluster (new_app (codes "audit"))) (optional_rule (codes "receipt"))
+
 -- a subcommand is required, and `--version` exists
 abbrev pub at_top : App → App
 at_top a = record a { top = record a.top { has_version = true; subcommand_required = true } }
 
--- the program: its five subcommands
+-- the program: its six subcommands
 abbrev pub abft_app : App
 abft_app =
-    with_subcommand (with_subcommand (with_subcommand (with_subcommand (with_subcommand (at_top (new_app (codes "abft")))
+    with_subcommand (with_subcommand (with_subcommand (with_subcommand (with_subcommand (with_subcommand (at_top (new_app (codes "abft")))
     sign_app.top)
     deliver_app.top)
     simulate_app.top)
     cluster_app.top)
-    serve_app.top
+    serve_app.top)
+    audit_app.top

@@ -1,3 +1,4 @@
 pub mod Grammar
+pub mod Receipts
 pub mod Options
 pub mod Faults

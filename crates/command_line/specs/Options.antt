@@ -1,9 +1,10 @@
 -- The settings that the words of a command line give: each option has its value in the matches, which is its default if
 -- the words give none.
 use Rattle.std.specs.Prelude.{◌≡◌, ℕ, ◌==◌, Bool, true, ◌&&◌, ◌≤◌, ◌+◌, ◌-◌, ◌*◌, IsTrue, List, [], ◌∷◌, ◌++◌, length, codes, Option, Some}
-use Rattle.std.specs.Prelude.{None, Ok, ◌⊎◌, ◌↔◌, find, option_and_then, if◌then◌else◌}
+use Rattle.std.specs.Prelude.{None, Ok, ◌⊎◌, ◌↔◌, find, option_and_then, option_map, if◌then◌else◌}
 use Rattle.std.specs.List.{list_any}
 use Rattle.std.specs.Str.{bytes_eq}
+use Rattle.std.specs.String.{string_bytes}
 use Rattle.std.specs.Str.Parse.{digits_value}
 use Rattle.hex.specs.Hex.{decode_sized}
 use Rattle.clap.specs.Words.{Row, Text, first_of, kind_of, subcommand_of, takes}
@@ -14,6 +15,7 @@ use Rattle.ledger_model.specs.Replies.{check_reply}
 use Rattle.ledger_model.specs.declared.config.AppKind.TheVariants.{KvStore, Counter, Purse}
 use Rattle.lm_ots.specs.Parameters.{bits_of, levels_of}
 use Rattle.command_line.specs.Grammar.{abft_app}
+use Rattle.command_line.specs.Receipts.{SpellsReceipt}
 use Rattle.command_line.specs.declared.usage_fault.UsageFault.{UsageFault}
 use Rattle.command_line.specs.declared.usage_fault.UsageFault.TheVariants as fault
 use Rattle.cluster_keys.specs.declared.cluster_seed.ClusterSeed.{ClusterSeed}
@@ -22,6 +24,8 @@ use Rattle.settings.specs.declared.deliver.DeliverSettings.{DeliverSettings}
 use Rattle.settings.specs.declared.simulate.SimulateSettings.{SimulateSettings}
 use Rattle.settings.specs.declared.cluster.ClusterSettings.{ClusterSettings}
 use Rattle.settings.specs.declared.cluster.ServeSettings.{ServeSettings}
+use Rattle.settings.specs.declared.audit.AuditSettings.{AuditSettings}
+use Rattle.settings.specs.declared.audit.Receipt.{Receipt}
 use Rattle.settings.specs.declared.Settings.{Settings}
 use Rattle.settings.specs.declared.Settings.TheVariants as settings
 use Rattle.settings.specs.declared.sign.What.{What}
@@ -81,7 +85,7 @@ abbrev pub running_options : OptionTable
 running_options = record {
   numbers = cluster_numbers ++ limits (codes "rounds") 0 4000000000 ∷ limits (codes "base-ms") 1 60000 ∷ [];
   transactions = codes "tx" ∷ [];
-  names = cluster_names ++ codes "tx" ∷ codes "rounds" ∷ codes "base-ms" ∷ [];
+  names = cluster_names ++ codes "tx" ∷ codes "rounds" ∷ codes "base-ms" ∷ codes "histories" ∷ [];
 }
 
 -- of `abft serve`
@@ -93,6 +97,10 @@ serve_options = record {
   names = running_options.names ++ codes "port" ∷ codes "sessions" ∷ codes "client-entries" ∷ [];
 }
 
+-- of `abft audit`
+abbrev pub audit_options : OptionTable
+audit_options = record { numbers = cluster_numbers; transactions = []; names = cluster_names ++ codes "receipt" ∷ [] }
+
 -- the options of a subcommand, by its name
 abbrev pub options_of : Text → OptionTable
 options_of name =
@@ -101,6 +109,7 @@ options_of name =
     else if bytes_eq name (codes "simulate") then simulate_options
     else if bytes_eq name (codes "cluster") then running_options
     else if bytes_eq name (codes "serve") then serve_options
+    else if bytes_eq name (codes "audit") then audit_options
     else record { numbers = []; transactions = []; names = [] }
 
 -- the text is one of these
@@ -191,6 +200,11 @@ pub record IsAccepted (rows : List Row) (name : Text) (kind : AppKind) (tx : Lis
 abbrev pub IsNamed : List Row → Text → Type 0
 IsNamed rows name = option_and_then (λ r. r.source) (find (λ r. bytes_eq r.id name) rows) ≡ Some CommandLine
 
+-- the words contain a receipt, and it is this one, or they contain none
+abbrev pub SetsReceipt : List Row → Option Receipt → Type 0
+SetsReceipt rows None = first_of (codes "receipt") rows ≡ None
+SetsReceipt rows (Some receipt) = (text : Text) × ((first_of (codes "receipt") rows ≡ Some text) × SpellsReceipt text receipt)
+
 -- the number of an application
 abbrev pub number_of : AppKind → ℕ
 number_of KvStore = 1
@@ -237,7 +251,7 @@ pub record SetsSimulate (rows : List Row) (s : SimulateSettings) : Type 0 where
   pub histories : IsTrue s.histories ↔ IsNamed rows (codes "histories")
 
 -- The options of `abft cluster` set these settings. The run is quiet, and ends with standard input, if the words
--- contain those options.
+-- contain those options. The histories are written to the file that the words name, if they name one.
 pub record SetsRunning (rows : List Row) (s : ClusterSettings) : Type 0 where
   pub cluster : SetsCluster rows s.cluster
   pub tx : IsAccepted rows (codes "tx") s.cluster.config.kind s.tx
@@ -245,6 +259,7 @@ pub record SetsRunning (rows : List Row) (s : ClusterSettings) : Type 0 where
   pub base : IsNumber rows (codes "base-ms") 1 60000 s.base_ms
   pub quiet : IsTrue s.is_quiet ↔ IsNamed rows (codes "quiet")
   pub stops : IsTrue s.stops_at_eof ↔ IsNamed rows (codes "stop-at-eof")
+  pub histories : option_map string_bytes s.histories ≡ first_of (codes "histories") rows
 
 -- the options of `abft serve` set these settings
 pub record SetsServe (rows : List Row) (s : ServeSettings) : Type 0 where
@@ -252,6 +267,11 @@ pub record SetsServe (rows : List Row) (s : ServeSettings) : Type 0 where
   pub port : IsNumber rows (codes "port") 0 65535 s.port
   pub sessions : IsNumber rows (codes "sessions") 1 1000 s.sessions
   pub entries : IsNumber rows (codes "client-entries") 0 65536 s.client_entries
+
+-- the options of `abft audit` set these settings
+pub record SetsAudit (rows : List Row) (s : AuditSettings) : Type 0 where
+  pub cluster : SetsCluster rows s.cluster
+  pub receipt : SetsReceipt rows s.receipt
 
 -- the subcommand that the words name sets these settings with its options
 abbrev pub Sets : Option (Text × List Row) → Settings → Type 0
@@ -261,6 +281,7 @@ Sets (Some found) (settings.Deliver s) = (found.0 ≡ codes "deliver") × SetsDe
 Sets (Some found) (settings.Simulate s) = (found.0 ≡ codes "simulate") × SetsSimulate found.1 s
 Sets (Some found) (settings.Cluster s) = (found.0 ≡ codes "cluster") × SetsRunning found.1 s
 Sets (Some found) (settings.Serve s) = (found.0 ≡ codes "serve") × SetsServe found.1 s
+Sets (Some found) (settings.Audit s) = (found.0 ≡ codes "audit") × SetsAudit found.1 s
 
 -- the words give these settings
 abbrev pub IsSet : List Text → Settings → Type 0
@@ -280,8 +301,8 @@ WantsMemory (fault.TooFew replicas faults) = ⊥
 WantsMemory (fault.Spelling option why) = ⊥
 WantsMemory (fault.NoTransaction option word) = ⊥
 WantsMemory (fault.Rejected option code word) = ⊥
-WantsMemory (fault.NamedFrames word) = ⊥
-WantsMemory (fault.NamedScenario word) = ⊥
+WantsMemory (fault.Receipt word) = ⊥
+WantsMemory (fault.NamedInput input word) = ⊥
 WantsMemory (fault.What word) = ⊥
 WantsMemory (fault.Missing option) = ⊥
 WantsMemory fault.NoSubcommand = ⊥
@@ -297,8 +318,8 @@ AsksForText (fault.TooFew replicas faults) = ⊥
 AsksForText (fault.Spelling option why) = ⊥
 AsksForText (fault.NoTransaction option word) = ⊥
 AsksForText (fault.Rejected option code word) = ⊥
-AsksForText (fault.NamedFrames word) = ⊥
-AsksForText (fault.NamedScenario word) = ⊥
+AsksForText (fault.Receipt word) = ⊥
+AsksForText (fault.NamedInput input word) = ⊥
 AsksForText (fault.What word) = ⊥
 AsksForText (fault.Missing option) = ⊥
 AsksForText fault.NoSubcommand = ⊥

@@ -3,6 +3,7 @@ ghost use Rattle.std.specs.Prelude.{◌≡◌, IfOk, codes};
 ghost use Rattle.clap.specs.Words.{app_of, new_app};
 ghost use Rattle.command_line.specs.Grammar.{at_top, abft_app};
 
+use crate::audit_grammar::AUDIT;
 use crate::running_grammar::{RUN_CLUSTER, SERVE};
 use crate::shared_arguments::{APPLICATION, FAULTS, REPLICAS, SEED, TREE, WIDTH};
 use crate::subcommand::{Argument, Kind, Subcommand, clap_commands};
@@ -173,7 +174,7 @@ const SIMULATE: Subcommand = Subcommand {
 };
 
 /// The subcommands, in the order of `abft --help`.
-const SUBCOMMANDS: [Subcommand; 5] = [SIGN, DELIVER, SIMULATE, RUN_CLUSTER, SERVE];
+const SUBCOMMANDS: [Subcommand; 6] = [SIGN, DELIVER, SIMULATE, RUN_CLUSTER, SERVE, AUDIT];
 
 /// The command of the program, without its subcommands.
 fn top_command<'a>(alloc: Global) -> Command<'a>

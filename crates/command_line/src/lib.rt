@@ -1,8 +1,10 @@
 //! The command line of `abft`: the settings that its words give. This is the only crate that reads words with clap.
 #![tactic(auto)]
 
+mod audit_grammar;
 mod grammar;
 mod options;
+mod receipts;
 mod refused_words;
 mod running_grammar;
 mod settings_of_words;
@@ -11,4 +13,4 @@ mod subcommand;
 mod usage_fault;
 
 pub use settings_of_words::settings;
-pub use usage_fault::UsageFault;
+pub use usage_fault::{Input, UsageFault};

@@ -1,5 +1,5 @@
 //! Reads the options of a command line from its matches.
-ghost use Rattle.std.specs.Prelude.{◌≡◌, ◌↔◌, IsTrue, ℕ, List, [], ◌≤◌, ◌-◌, IfOk, IfErr, OnErr, Some, None, codes};
+ghost use Rattle.std.specs.Prelude.{◌≡◌, ◌↔◌, IsTrue, ℕ, List, [], ◌≤◌, ◌-◌, IfOk, IfErr, OnErr, Some, None, codes, option_map, string_bytes};
 ghost use Rattle.clap.specs.Words.{Row, found_of, rows_of, first_of};
 ghost use Rattle.lm_ots.specs.Parameters.{bits_of, levels_of};
 ghost use Rattle.command_line.specs.Faults.{IsRightOf};
@@ -23,7 +23,14 @@ use ledger_model::{AppKind, Config, Tx};
 use lm_ots::{Params, TreeHeight, Width};
 use plain_text::{SpellingFault, decimal, written};
 use settings::What;
-use std::alloc::Global;
+use std::alloc::{AllocError, Global};
+
+/// The text of an option, if the words or a default give it one.
+pub(crate) fn optional_text<'a>(matches: &ArgMatches<'a>, name: &str) -> Option<&'a str>
+    ensures { option_map (λ t. t.now) result ≡ first_of name.now (rows_of (found_of matches.now)) }
+{
+    matches.get_str(name)
+}
 
 /// The text of an option.
 fn text<'a>(matches: &ArgMatches<'a>, name: &'static str) -> Result<&'a str, UsageFault<'a>>
@@ -31,7 +38,7 @@ fn text<'a>(matches: &ArgMatches<'a>, name: &'static str) -> Result<&'a str, Usa
     ensures none { OnErr result (first_of name.now (rows_of (found_of matches.now)) ≡ None) }
     ensures right { (table : OptionTable) → HasOption table name.now → IfErr result (IsRightOf table (rows_of (found_of matches.now))) }
 {
-    match matches.get_str(name) {
+    match optional_text(matches, name) {
         Some(text) => Ok(text),
         None => Err(UsageFault::Missing(name)),
     }
@@ -153,6 +160,20 @@ pub(crate) fn what<'a>(matches: &ArgMatches<'a>) -> Result<What, UsageFault<'a>>
         "report" => Ok(What::Report),
         "ack" => Ok(What::Ack),
         _ => Err(UsageFault::What(word)),
+    }
+}
+
+/// The file that an option names, if the words contain that option.
+pub(crate) fn file(
+    alloc: Global,
+    matches: &ArgMatches<'_>,
+    name: &str,
+) -> Result<Option<String>, AllocError>
+    ensures { IfOk result (λ path. option_map string_bytes path ≡ first_of name.now (rows_of (found_of matches.now))) }
+{
+    match optional_text(matches, name) {
+        Some(path) => Ok(Some(String::from_str(alloc, path)?)),
+        None => Ok(None),
     }
 }
 

@@ -5,7 +5,7 @@ ghost use Rattle.clap.specs.declared.error.ErrorKind.TheVariants as kind;
 ghost use Rattle.command_line.specs.Faults.{NamesInput};
 ghost use Rattle.command_line.specs.declared.usage_fault.UsageFault.TheVariants as fault;
 
-use crate::usage_fault::UsageFault;
+use crate::usage_fault::{Input, UsageFault};
 use clap::error::ErrorKind;
 
 /// The word after the subcommand, if it is no option.
@@ -27,8 +27,18 @@ fn named_input<'a>(words: &'a [&'a str]) -> Option<UsageFault<'a>>
 {
     let word = operand(words)?;
     match *words.get(1)? {
-        "deliver" => Some(UsageFault::NamedFrames(word)),
-        "simulate" => Some(UsageFault::NamedScenario(word)),
+        "deliver" => Some(UsageFault::NamedInput {
+            input: Input::Frames,
+            word,
+        }),
+        "simulate" => Some(UsageFault::NamedInput {
+            input: Input::Scenario,
+            word,
+        }),
+        "audit" => Some(UsageFault::NamedInput {
+            input: Input::Histories,
+            word,
+        }),
         _ => None,
     }
 }

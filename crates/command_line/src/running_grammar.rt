@@ -1,7 +1,7 @@
 //! The grammar of `abft cluster` and `abft serve`, the subcommands that run a whole cluster.
 use crate::shared_arguments::{
-    APPLICATION, FAULTS, FIRST_ROUND, QUIET, REPLICAS, ROUNDS, SEED, STOP_AT_EOF, TRANSACTION,
-    TREE, WIDTH,
+    APPLICATION, FAULTS, FIRST_ROUND, HISTORIES_FILE, QUIET, REPLICAS, ROUNDS, SEED, STOP_AT_EOF,
+    TRANSACTION, TREE, WIDTH,
 };
 use crate::subcommand::{Argument, Kind, Subcommand};
 
@@ -10,12 +10,18 @@ const COMMITS: &str = "\
 Lines, one for each replica:
   commits R C  replica R committed C blocks
 
+Then the lines of an audit over the histories of all replicas, as 'abft audit --help' says:
+  ledger C     the histories are those of one ledger of C blocks
+  H BATCH      its block at height H, one line for each
+
+With --histories FILE the histories are written to FILE, for 'abft audit <FILE'.
 How it stands is told on standard error, unless --quiet is there.
 
 Exit status:
-  0  the rounds are over, and the lines were printed
+  0  the rounds are over, and the audit found a ledger
+  1  the audit found a fault
   2  a fault of usage
-  3  out of memory, a thread that can't be made, or a failed write";
+  3  out of memory, a thread that can't be made, a file that can't be written, or a failed write";
 
 /// The end of `abft serve --help`.
 const LISTENING: &str = "\
@@ -25,15 +31,22 @@ The first line:
 Then lines as of 'abft cluster', one for each replica:
   commits R C  replica R committed C blocks
 
+Then the lines of an audit over the histories of all replicas, as 'abft audit --help' says:
+  ledger C     the histories are those of one ledger of C blocks
+  H BATCH      its block at height H, one line for each
+
 It ends when the rounds are over and as many connections as --sessions says have ended,
 or where standard input ends if --stop-at-eof is there.
+With --histories FILE the histories are written to FILE, for 'abft audit <FILE'.
 How it stands is told on standard error, unless --quiet is there.
 docs/OPERATING.md has the rest.
 
 Exit status:
-  0  the rounds are over, and the lines were printed
+  0  the rounds are over, and the audit found a ledger
+  1  the audit found a fault
   2  a fault of usage
-  3  out of memory, a thread that can't be made, a port that can't be listened at, or a failed write";
+  3  out of memory, a thread that can't be made, a port that can't be listened at, a file that can't be written,
+     or a failed write";
 
 /// `abft cluster`.
 pub(crate) const RUN_CLUSTER: Subcommand = Subcommand {
@@ -52,6 +65,7 @@ pub(crate) const RUN_CLUSTER: Subcommand = Subcommand {
         FIRST_ROUND,
         QUIET,
         STOP_AT_EOF,
+        HISTORIES_FILE,
     ],
     after_help: COMMITS,
 };
@@ -73,6 +87,7 @@ pub(crate) const SERVE: Subcommand = Subcommand {
         FIRST_ROUND,
         QUIET,
         STOP_AT_EOF,
+        HISTORIES_FILE,
         Argument {
             name: "port",
             kind: Kind::Value("0"),

@@ -3,24 +3,27 @@ ghost use Rattle.std.specs.Prelude.{◌≡◌, [], map, true, IfOk, IfErr, OnErr
 ghost use Rattle.clap.specs.Words.{found_of, rows_of, subcommand_of, subcommand_rows_of, takes};
 ghost use Rattle.command_line.specs.Faults.{IsRightFault, IsRightIn, IsRightOf, kinds_of};
 ghost use Rattle.command_line.specs.Grammar.{abft_app};
-ghost use Rattle.command_line.specs.Options.{HasRunning, IsSet, OptionTable, Sets, SetsDeliver, SetsRunning, SetsServe, SetsSign, SetsSimulate, WantsMemory, deliver_options, serve_options, sign_options, simulate_options};
+ghost use Rattle.command_line.specs.Options.{HasRunning, IsSet, OptionTable, Sets, SetsAudit, SetsDeliver, SetsRunning, SetsServe, SetsSign, SetsSimulate, WantsMemory, audit_options, deliver_options, serve_options, sign_options, simulate_options};
 ghost use Rattle.settings.specs.declared.sign.SignSettings.{SignSettings};
 ghost use Rattle.settings.specs.declared.deliver.DeliverSettings.{DeliverSettings};
 ghost use Rattle.settings.specs.declared.simulate.SimulateSettings.{SimulateSettings};
 ghost use Rattle.settings.specs.declared.cluster.ClusterSettings.{ClusterSettings};
 ghost use Rattle.settings.specs.declared.cluster.ServeSettings.{ServeSettings};
+ghost use Rattle.settings.specs.declared.audit.AuditSettings.{AuditSettings};
 ghost use Rattle.settings.specs.declared.Settings.{Settings};
 
 use crate::grammar::abft_command;
 use crate::options::{
-    accepted_transaction, cluster, is_named, number, seed, small_number, transaction, what,
+    accepted_transaction, cluster, file, is_named, number, seed, small_number, transaction, what,
 };
+use crate::receipts::receipt;
 use crate::refused_words::fault_of;
 use crate::usage_fault::UsageFault;
 use clap::ArgMatches;
 use ledger_model::{Height, Phase, ReplicaId};
 use settings::{
-    ClusterSettings, DeliverSettings, ServeSettings, Settings, SignSettings, SimulateSettings,
+    AuditSettings, ClusterSettings, DeliverSettings, ServeSettings, Settings, SignSettings,
+    SimulateSettings,
 };
 use std::alloc::Global;
 
@@ -98,6 +101,7 @@ fn cluster_settings<'a>(
     let tx = accepted_transaction(alloc, matches, "tx", cluster.config.kind)?;
     let rounds = number(matches, "rounds", 0, 4_000_000_000)?;
     let base_ms = number(matches, "base-ms", 1, 60_000)?;
+    let histories = file(alloc, matches, "histories")?;
     Ok(ClusterSettings {
         cluster,
         tx,
@@ -105,6 +109,7 @@ fn cluster_settings<'a>(
         base_ms,
         is_quiet: is_named(matches, "quiet"),
         stops_at_eof: is_named(matches, "stop-at-eof"),
+        histories,
     })
 }
 
@@ -127,6 +132,20 @@ fn serve_settings<'a>(
         sessions,
         client_entries,
     })
+}
+
+/// The settings of `abft audit`, from its matches.
+fn audit_settings<'a>(
+    alloc: Global,
+    matches: &ArgMatches<'a>,
+) -> Result<AuditSettings, UsageFault<'a>>
+    ensures some { IfOk result (λ s. SetsAudit (rows_of (found_of matches.now)) s) }
+    ensures none { IfErr result (λ e. (s : AuditSettings) → SetsAudit (rows_of (found_of matches.now)) s → WantsMemory e) }
+    ensures right { IfErr result (IsRightOf audit_options (rows_of (found_of matches.now))) }
+{
+    let cluster = cluster(matches)?;
+    let receipt = receipt(alloc, matches)?;
+    Ok(AuditSettings { cluster, receipt })
 }
 
 /// The matches of the words, of which the first is the program's name.
@@ -158,6 +177,7 @@ fn settings_of<'a>(alloc: Global, matches: &ArgMatches<'a>) -> Result<Settings, 
         "simulate" => simulate_settings(options).map(Settings::Simulate),
         "cluster" => cluster_settings(alloc, options).map(Settings::Cluster),
         "serve" => serve_settings(alloc, options).map(Settings::Serve),
+        "audit" => audit_settings(alloc, options).map(Settings::Audit),
         _ => Err(UsageFault::NoSubcommand),
     }
 }

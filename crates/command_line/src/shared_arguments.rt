@@ -77,3 +77,10 @@ pub(crate) const STOP_AT_EOF: Argument = Argument {
     kind: Kind::Flag,
     help: "Ends the rounds, and the listener, where standard input ends",
 };
+
+/// The file to which a run writes its histories.
+pub(crate) const HISTORIES_FILE: Argument = Argument {
+    name: "histories",
+    kind: Kind::Optional,
+    help: "The file to which the histories are written at the end",
+};

@@ -12,6 +12,8 @@ use std::alloc::{AllocError, Global};
 pub(crate) enum Kind {
     /// By `--name VALUE`; this is the value if the words don't give one.
     Value(&'static str),
+    /// By `--name VALUE`, which may be absent.
+    Optional,
     /// By `--name` alone.
     Flag,
     /// By its value alone, which is required.
@@ -43,6 +45,7 @@ impl Argument {
         let arg = Arg::new(alloc, self.name).help(self.help);
         match self.kind {
             Kind::Value(default) => arg.long(self.name).default_value(default),
+            Kind::Optional => arg.long(self.name),
             Kind::Flag => arg.long(self.name).action(ArgAction::SetTrue),
             Kind::Word => arg.required(true),
         }

@@ -9,6 +9,17 @@ use std::alloc::AllocError;
 use std::error::Error;
 use std::fmt;
 
+/// What a subcommand reads from standard input.
+#[derive(Clone, Copy, Debug)]
+pub enum Input {
+    /// The frames of `abft deliver`.
+    Frames,
+    /// The scenario of `abft simulate`.
+    Scenario,
+    /// The histories of `abft audit`.
+    Histories,
+}
+
 /// Why the words of a command line give no settings: what was wrong, and what was expected.
 #[derive(Debug, Drop)]
 pub enum UsageFault<'a> {
@@ -51,10 +62,13 @@ pub enum UsageFault<'a> {
         code: u32,
         word: &'a str,
     },
-    /// `abft deliver` reads its frames from standard input, and not from the file that this word names.
-    NamedFrames(&'a str),
-    /// `abft simulate` reads its scenario from standard input, and not from the file that this word names.
-    NamedScenario(&'a str),
+    /// The word for `--receipt` is no receipt: `R:I:TX`, the numbers of a replica and of an entry, and a transaction.
+    Receipt(&'a str),
+    /// The subcommand reads this from standard input, and not from the file that the word names.
+    NamedInput {
+        input: Input,
+        word: &'a str,
+    },
     /// The word for the statement to sign is neither `report` nor `ack`.
     What(&'a str),
     /// An option without a default is missing.
@@ -130,16 +144,13 @@ fn show_rejected<W: fmt::Write>(
 }
 
 /// Writes how a subcommand gets its input, which the words named.
-fn show_named<W: fmt::Write>(
-    f: &mut fmt::Formatter<W>,
-    input: &str,
-    subcommand: &str,
-    word: &str,
-) -> fmt::Result {
-    write!(
-        f,
-        "error: {input} on standard input: abft {subcommand} <{word}"
-    )
+fn show_named<W: fmt::Write>(f: &mut fmt::Formatter<W>, input: Input, word: &str) -> fmt::Result {
+    let told = match input {
+        Input::Frames => "the frames come on standard input: abft deliver",
+        Input::Scenario => "the scenario comes on standard input: abft simulate",
+        Input::Histories => "the histories come on standard input: abft audit",
+    };
+    write!(f, "error: {told} <{word}")
 }
 
 /// Writes what is expected, and the word that is there.
@@ -198,10 +209,10 @@ impl fmt::Display for UsageFault<'_> {
             UsageFault::Spelling { option, fault } => show_option(f, option, fault),
             UsageFault::NoTransaction { option, word } => show_no_transaction(f, option, word),
             UsageFault::Rejected { option, code, word } => show_rejected(f, option, *code, word),
-            UsageFault::NamedFrames(word) => show_named(f, "the frames come", "deliver", word),
-            UsageFault::NamedScenario(word) => {
-                show_named(f, "the scenario comes", "simulate", word)
+            UsageFault::Receipt(word) => {
+                show_wanted(f, "--receipt is R:I:TX, such as 0:0:a=1", word)
             }
+            UsageFault::NamedInput { input, word } => show_named(f, *input, word),
             UsageFault::What(word) => show_wanted(f, "what to sign is 'report' or 'ack'", word),
             UsageFault::Missing(option) => show_option(f, option, &"is missing"),
             UsageFault::NoSubcommand => f.write_str("error: a subcommand is missing"),

@@ -3,7 +3,7 @@ use Rattle.std.specs.Prelude.{◌↔◌, ◌⊎◌}
 use Rattle.std.proofs.Common.{◌≡◌, ℕ, ◌+◌, ◌<◌, ◌≤◌, Bool, true, false, List, [], ◌∷◌, ◌++◌, length, take, refl, sym, ap, subst, ◌∙◌, inl}
 use Rattle.std.proofs.Common.{inr, arith, cond}
 use Rattle.std.proofs.Common.{append_assoc}
-use Rattle.std.specs.Prelude.{IsTrue, nat_lt, nat_le, nat_eq, slice_get, ◌*◌, ◌-◌, ◌&&◌, Some, None, Result, Ok, Err}
+use Rattle.std.specs.Prelude.{IsTrue, nat_lt, nat_le, nat_eq, slice_get, ◌*◌, ◌-◌, ◌&&◌, Some, None, Ok, Err}
 use Rattle.std.proofs.lemmas.Bool.{cases_Bool, and_parts, eqb-true, eq-eqb, ltb-true}
 use Rattle.std.proofs.lemmas.List.{nil_from_length}
 use Rattle.replica_core.specs.Facts.{block_at}
@@ -23,12 +23,13 @@ use Rattle.ledger_model.proofs.Steps.{replays_snoc}
 use Rattle.replica_core.specs.ReplicaStates.{ReplicaStateView}
 use Rattle.replica_core.specs.Following.{KeepsReplay, IsSameReplicaState}
 use Rattle.history_audit.proofs.Searching.{found_history, last, is_member}
-use Rattle.history_audit.specs.Followed.{StopsAt, FollowsOne, FollowsNext, LongestBelow, IsLongest}
+use Rattle.history_audit.specs.Followed.{StopsAt, FollowsOne, FollowsAll, LongestBelow, IsLongest}
 use Rattle.history_audit.specs.declared.fault.AuditFault.{AuditFault}
 use Rattle.history_audit.specs.declared.fault.AuditFault.TheVariants as fault
-use Rattle.ledger_model.specs.Audits.{is_count, AreReplays, IsNoReplay, NothingUnsent}
+use Rattle.ledger_model.specs.Audits.{are_of_a_quorum, AreReplays, IsFirstBreak, NothingUnsent}
 use Rattle.ledger_model.specs.Worlds.{IsLedger}
-use Rattle.ledger_laws.proofs.Audits.{audited_histories_have_ledger, ledger_is_longest}
+use Rattle.ledger_laws.proofs.Audits.{audited_histories_have_ledger}
+use Rattle.ledger_laws.proofs.UniqueLedgers.{ledger_is_longest}
 
 -- an entry that continues the replay of one state continues that of another of the same replica
 pub keeps_as : (a b : ReplicaStateView) (xs : List Entry) (event : Event) (reply : Reply) → IsSameReplicaState a b
@@ -89,6 +90,22 @@ replay_ends a b entries i e kept same inside split replay exact lost = record {
 
 -- ---- many histories
 
+-- a longer list replaces the one so far
+pub longer_one : (old commits : List Value) (n : ℕ) → length old < n → n ≡ length commits
+    → commits ≡ cond (nat_lt (length old) (length commits)) commits old
+longer_one old commits n less is = ap (λ b. cond b commits old) (sym (test (length old) n (length commits) less is))
+  where
+    test : (a n b : ℕ) → a < n → n ≡ b → nat_lt a b ≡ true
+    test a n b less is = grind (arith)
+
+-- another doesn't
+pub longer_none : (old commits : List Value) (n : ℕ) → n ≤ length old → n ≡ length commits
+    → old ≡ cond (nat_lt (length old) (length commits)) commits old
+longer_none old commits n at_most is = ap (λ b. cond b commits old) (sym (test (length old) n (length commits) at_most is))
+  where
+    test : (a n b : ℕ) → n ≤ a → n ≡ b → nat_lt a b ≡ false
+    test a n b at_most is = grind (arith)
+
 -- before the first
 pub longest_first : (config : Config) (ring : Ring) (histories : List History) → LongestBelow config ring histories 0 []
 longest_first config ring histories = record {
@@ -134,11 +151,22 @@ module _ (config : Config) (ring : Ring) (histories : List History) (n : ℕ) (o
   commits_n : commits_of config m.replica m.entries ≡ commits_of config n m.entries
   commits_n = ap (λ r. commits_of config r m.entries) of_n
 
+  -- the same of the history of any replica that is n
+  commits_k : (q : ℕ) (k : History) → q ≡ n → history_of histories q ≡ Some k → commits_of config m.replica m.entries
+      ≡ commits_of config q k.entries
+  commits_k q k same at = ap (λ (h : History). commits_of config m.replica h.entries) (is_m q k same at)
+      ∙ ap (λ r. commits_of config r k.entries) (of_n ∙ sym same)
+
+  replays_k : (q : ℕ) (k : History) → q ≡ n → history_of histories q ≡ Some k → Replay config ring m.replica m.entries
+      → Replay config ring q k.entries
+  replays_k q k same at replay = subst (λ r. Replay config ring r k.entries) (of_n ∙ sym same)
+      (subst (λ (h : History). Replay config ring m.replica h.entries) (is_m q k same at) replay)
+
   longer : (b : Bool) (new : List Value) → nat_lt (length old) (length (commits_of config m.replica m.entries)) ≡ b
       → new ≡ cond b (commits_of config m.replica m.entries) old → Replay config ring m.replica m.entries
       → LongestBelow config ring histories (n + 1) new
   longer true new less new_is replay = record {
-    replays = λ q k before at. by_last q k before at (λ lt. below.replays q k lt at) (λ same. replays q k same at replay);
+    replays = λ q k before at. by_last q k before at (λ lt. below.replays q k lt at) (λ same. replays_k q k same at replay);
     some = inr (n, (m, (is, new_is ∙ commits_n)));
     each = λ q k before at. by_last q k before at
         (λ lt. under (length (commits_of config q k.entries)) (length old) (length (commits_of config m.replica m.entries)) (length new)
@@ -148,18 +176,8 @@ module _ (config : Config) (ring : Ring) (histories : List History) (n : ℕ) (o
     where
       under : (a b c d : ℕ) → a ≤ b → b < c → d ≡ c → a ≤ d
       under a b c d le lt e = grind (arith)
-
-      commits_k : (q : ℕ) (k : History) → q ≡ n → history_of histories q ≡ Some k → commits_of config m.replica m.entries
-          ≡ commits_of config q k.entries
-      commits_k q k same at = ap (λ (h : History). commits_of config m.replica h.entries) (is_m q k same at)
-          ∙ ap (λ r. commits_of config r k.entries) (of_n ∙ sym same)
-
-      replays : (q : ℕ) (k : History) → q ≡ n → history_of histories q ≡ Some k → Replay config ring m.replica m.entries
-          → Replay config ring q k.entries
-      replays q k same at replay = subst (λ r. Replay config ring r k.entries) (of_n ∙ sym same)
-          (subst (λ (h : History). Replay config ring m.replica h.entries) (is_m q k same at) replay)
   longer false new less new_is replay = record {
-    replays = λ q k before at. by_last q k before at (λ lt. below.replays q k lt at) (λ same. replays q k same at replay);
+    replays = λ q k before at. by_last q k before at (λ lt. below.replays q k lt at) (λ same. replays_k q k same at replay);
     some = subst (λ x. (x ≡ []) ⊎ ((r : ℕ) × ((h : History) × ((history_of histories r ≡ Some h) × (x
         ≡ commits_of config r h.entries))))) (sym new_is) below.some;
     each = λ q k before at. subst (λ (x : List Value). length (commits_of config q k.entries) ≤ length x) (sym new_is)
@@ -172,20 +190,10 @@ module _ (config : Config) (ring : Ring) (histories : List History) (n : ℕ) (o
       under : (a b : ℕ) → nat_lt a b ≡ false → b ≤ a
       under a b less = grind (arith)
 
-      commits_k : (q : ℕ) (k : History) → q ≡ n → history_of histories q ≡ Some k → commits_of config m.replica m.entries
-          ≡ commits_of config q k.entries
-      commits_k q k same at = ap (λ (h : History). commits_of config m.replica h.entries) (is_m q k same at)
-          ∙ ap (λ r. commits_of config r k.entries) (of_n ∙ sym same)
-
-      replays : (q : ℕ) (k : History) → q ≡ n → history_of histories q ≡ Some k → Replay config ring m.replica m.entries
-          → Replay config ring q k.entries
-      replays q k same at replay = subst (λ r. Replay config ring r k.entries) (of_n ∙ sym same)
-          (subst (λ (h : History). Replay config ring m.replica h.entries) (is_m q k same at) replay)
-
-  stops : (r i : ℕ) → r ≡ m.replica → StopsAt config ring m.replica m.entries i → IsNoReplay config ring histories r i
+  stops : (r i : ℕ) → r ≡ m.replica → StopsAt config ring m.replica m.entries i → IsFirstBreak config ring histories r i
   stops r i same stop =
       let r_n : n ≡ r = sym (same ∙ of_n) in
-      subst (λ x. IsNoReplay config ring histories x i) r_n (record {
+      subst (λ x. IsFirstBreak config ring histories x i) r_n (record {
         breaks = record {
           history = m;
           of = is;
@@ -196,23 +204,28 @@ module _ (config : Config) (ring : Ring) (histories : List History) (n : ℕ) (o
         least = λ q k less at. below.replays q k less at;
       })
 
-  pub follows_next : (result : Result (Unit {0}) AuditFault) (new : List Value) → FollowsOne config ring m old result new
-      → FollowsNext config ring histories n result new
-  follows_next (Ok u) new followed = longer (nat_lt (length old) (length (commits_of config m.replica m.entries))) new refl (followed.1)
-      (followed.0)
-  follows_next (Err (fault.NotReplay r i)) new followed = stops r i (followed.0) (followed.1)
-  follows_next (Err fault.NoMemory) new followed = followed
-  follows_next (Err fault.Count) new followed = followed
-  follows_next (Err (fault.Unsent reader i signer)) new followed = followed
+  -- the history is a replay
+  pub follows_one : (u : Unit {0}) (new : List Value) → FollowsOne config ring m old (Ok u) new
+      → LongestBelow config ring histories (n + 1) new
+  follows_one u new followed =
+      longer (nat_lt (length old) (length (commits_of config m.replica m.entries))) new refl (followed.1) (followed.0)
+
+  -- it isn't
+  pub stops_all : (found : AuditFault) (new : List Value) → FollowsOne config ring m old (Err found) new
+      → FollowsAll config ring histories (Err found)
+  stops_all (fault.NotReplay r i) new followed = stops r i (followed.0) (followed.1)
+  stops_all fault.NoMemory new followed = followed
+  stops_all fault.Count new followed = followed
+  stops_all (fault.Unsent reader i signer) new followed = followed
 
 -- a history that is found is of a replica of the cluster
-pub member_of : (config : Config) (histories : List History) (n : ℕ) (m : History) → is_count config histories ≡ true
+pub member_of : (config : Config) (histories : List History) (n : ℕ) (m : History) → are_of_a_quorum config histories ≡ true
     → history_of histories n ≡ Some m → m.replica < config.replicas
 member_of config histories n m count is =
     subst (λ r. r < config.replicas) (sym (eqb-true m.replica n ((found_history histories n m is).1))) (is_member config histories n m count is)
 
 -- some history was handed in, and none of them commits more than nothing
-some_empty : (config : Config) (histories : List History) → is_count config histories ≡ true
+some_empty : (config : Config) (histories : List History) → are_of_a_quorum config histories ≡ true
     → ((r : ℕ) (m : History) → history_of histories r ≡ Some m → length (commits_of config r m.entries) ≤ 0)
     → (r : ℕ) × ((m : History) × ((history_of histories r ≡ Some m) × ([] ≡ commits_of config r m.entries)))
 some_empty config [] count none =
@@ -252,7 +265,7 @@ block_at-next commits i =
 
 -- at the end
 pub longest_of_all : (config : Config) (ring : Ring) (histories : List History) (n : ℕ) (blocks : List Value)
-    → is_count config histories ≡ true → config.replicas ≤ n → LongestBelow config ring histories n blocks
+    → are_of_a_quorum config histories ≡ true → config.replicas ≤ n → LongestBelow config ring histories n blocks
     → AreReplays config ring histories × IsLongest config histories blocks
 longest_of_all config ring histories n blocks count all below = (
   λ r m is. below.replays r m (member r m is) is,
@@ -275,7 +288,7 @@ longest_of_all config ring histories n blocks count all below = (
     member r m is = under r config.replicas n (is_member config histories r m count is) all
 
 -- the longest list is the ledger
-pub ledger_of : (config : Config) (ring : Ring) (histories : List History) (blocks : List Value) → is_count config histories ≡ true
+pub ledger_of : (config : Config) (ring : Ring) (histories : List History) (blocks : List Value) → are_of_a_quorum config histories ≡ true
     → AreReplays config ring histories → NothingUnsent histories → IsLongest config histories blocks → IsLedger config histories blocks
 ledger_of config ring histories blocks count replays sent longest =
     let ledger = audited_histories_have_ledger config ring histories count replays sent in

@@ -22,7 +22,7 @@ use Rattle.ledger_model.specs.declared.statement.Statement.TheVariants as statem
 use Rattle.ledger_model.specs.Notes.{Has, signer_of}
 use Rattle.ledger_model.specs.Pools.{is_among}
 use Rattle.ledger_model.specs.Groups.{history_of}
-use Rattle.ledger_model.specs.Audits.{differ, is_count, own_sent, lacks, statements_in, accepts, is_unsent, unsent_in, IsUnsent}
+use Rattle.ledger_model.specs.Audits.{all_differ, are_of_a_quorum, own_sent, lacks, statements_in, accepts, is_unsent, unsent_in, IsUnsent}
 use Rattle.ledger_model.specs.Audits.{IsFirstUnsent, is_not_after}
 use Rattle.ledger_laws.proofs.Audits.{found_has}
 use Rattle.ledger_model.proofs.Lists.{has_left, has_right, has_cases, all_has, any_mapped, same_some}
@@ -56,11 +56,11 @@ none_sends (m ∷ ms) r bytes none =
     rest false b none = none
 
 -- what the replica's own history sends is what the histories of that replica send
-pub sent_found : (histories : List History) (r : ℕ) (bytes : List ℕ) (m : History) → differ (replicas_of histories) ≡ true
+pub sent_found : (histories : List History) (r : ℕ) (bytes : List ℕ) (m : History) → all_differ (replicas_of histories) ≡ true
     → history_of histories r ≡ Some m → is_sent_in histories r bytes ≡ is_among (own_sent m.entries) bytes
 sent_found [] r bytes m different is = cc
 sent_found (x ∷ xs) r bytes m different is =
-    let parts = and_parts (not (list_any (λ y. y == x.replica) (replicas_of xs))) (differ (replicas_of xs)) different in
+    let parts = and_parts (not (list_any (λ y. y == x.replica) (replicas_of xs))) (all_differ (replicas_of xs)) different in
     elim (cases_Bool (nat_eq x.replica r)) [
       | inl here ↦
           let same : x.replica ≡ r = eqb-true x.replica r here in
@@ -95,7 +95,7 @@ sent_found (x ∷ xs) r bytes m different is =
 
 -- the table and the histories tell which part is lacked
 pub lacks_by : (histories : List History) (table : List SentStatement) (r : ℕ) (bytes : List ℕ) → IsTableOf histories table
-    → differ (replicas_of histories) ≡ true → is_some (history_of histories r) ≡ true
+    → all_differ (replicas_of histories) ≡ true → is_some (history_of histories r) ≡ true
     → not (has_sent table r bytes) ≡ lacks (history_of histories r) bytes
 lacks_by histories table r bytes is_table different there = by (history_of histories r) refl there
   where
@@ -104,11 +104,11 @@ lacks_by histories table r bytes is_table different there = by (history_of histo
     by (Some m) is there = ap not (is_table r bytes ∙ sent_found histories r bytes m different is)
 
 -- the first history, and the others
-pub differ_first : (all : List History) (m : History) (ms : List History) → all ≡ m ∷ ms
-    → differ (replicas_of all) ≡ (not (list_any (λ (n : History). nat_eq n.replica m.replica) ms) && differ (replicas_of ms))
-differ_first all m ms is =
-    ap (λ xs. differ (replicas_of xs)) is
-    ∙ ap (λ b. not b && differ (replicas_of ms)) (any_mapped (λ y. nat_eq y m.replica) (λ (n : History). n.replica) ms)
+pub all_differ_first : (all : List History) (m : History) (ms : List History) → all ≡ m ∷ ms
+    → all_differ (replicas_of all) ≡ (not (list_any (λ (n : History). nat_eq n.replica m.replica) ms) && all_differ (replicas_of ms))
+all_differ_first all m ms is =
+    ap (λ xs. all_differ (replicas_of xs)) is
+    ∙ ap (λ b. not b && all_differ (replicas_of ms)) (any_mapped (λ y. nat_eq y m.replica) (λ (n : History). n.replica) ms)
 
 -- ---- the least signer
 
@@ -249,12 +249,12 @@ pub found_history : (histories : List History) (r : ℕ) (m : History) → histo
 found_history histories r m is = found_has (λ (n : History). nat_eq n.replica r) histories m is
 
 -- whoever has a history is a replica of the cluster
-pub is_member : (config : Config) (histories : List History) (r : ℕ) (m : History) → is_count config histories ≡ true
+pub is_member : (config : Config) (histories : List History) (r : ℕ) (m : History) → are_of_a_quorum config histories ≡ true
     → history_of histories r ≡ Some m → r < config.replicas
 is_member config histories r m count is =
     let places = and_parts (nat_le config.replicas (length histories + config.faults) && list_all (λ
     (n : History). nat_lt n.replica config.replicas) histories)
-    (differ (replicas_of histories)) count in
+    (all_differ (replicas_of histories)) count in
     let below = and_parts (nat_le config.replicas (length histories + config.faults)) (list_all (λ
     (n : History). nat_lt n.replica config.replicas) histories) (places.0) in
     let found = found_history histories r m is in
@@ -323,7 +323,7 @@ none_more histories r before sent q j y less unsent =
     ]
 
 -- no replica of the cluster
-pub none_at_all : (config : Config) (histories : List History) (r : ℕ) → is_count config histories ≡ true → config.replicas ≤ r
+pub none_at_all : (config : Config) (histories : List History) (r : ℕ) → are_of_a_quorum config histories ≡ true → config.replicas ≤ r
     → ((q j y : ℕ) → q < r → IsUnsent histories q j y → ⊥) → (q j y : ℕ) → IsUnsent histories q j y → ⊥
 none_at_all config histories r count all before q j y unsent =
     before q j y (under q config.replicas r (is_member config histories q unsent.history count unsent.of) all) unsent

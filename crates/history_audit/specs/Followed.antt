@@ -9,7 +9,7 @@ use Rattle.ledger_model.specs.Rules.{Ring}
 use Rattle.ledger_model.specs.Commits.{commits_of}
 use Rattle.ledger_model.specs.Lawful.{Replay}
 use Rattle.ledger_model.specs.Groups.{history_of}
-use Rattle.ledger_model.specs.Audits.{AreReplays, IsNoReplay}
+use Rattle.ledger_model.specs.Audits.{AreReplays, IsFirstBreak}
 use Rattle.replica_core.specs.Following.{FollowerView}
 use Rattle.history_audit.specs.declared.fault.AuditFault.{AuditFault}
 use Rattle.history_audit.specs.declared.fault.AuditFault.TheVariants as fault
@@ -52,7 +52,7 @@ pub record IsLongest (config : Config) (histories : List History) (blocks : List
 -- what following all histories answers
 abbrev pub FollowsAll : Config → Ring → List History → Result (List Value) AuditFault → Type 0
 FollowsAll config ring histories (Ok blocks) = AreReplays config ring histories × IsLongest config histories blocks
-FollowsAll config ring histories (Err (fault.NotReplay r i)) = IsNoReplay config ring histories r i
+FollowsAll config ring histories (Err (fault.NotReplay r i)) = IsFirstBreak config ring histories r i
 FollowsAll config ring histories (Err fault.NoMemory) = ⊤
 FollowsAll config ring histories (Err fault.Count) = ⊥
 FollowsAll config ring histories (Err (fault.Unsent reader i signer)) = ⊥
@@ -62,11 +62,3 @@ pub record LongestBelow (config : Config) (ring : Ring) (histories : List Histor
   pub replays : (q : ℕ) (m : History) → q < n → history_of histories q ≡ Some m → Replay config ring q m.entries
   pub some : (blocks ≡ []) ⊎ ((r : ℕ) × ((m : History) × ((history_of histories r ≡ Some m) × (blocks ≡ commits_of config r m.entries))))
   pub each : (q : ℕ) (m : History) → q < n → history_of histories q ≡ Some m → length (commits_of config q m.entries) ≤ length blocks
-
--- what following one more replica answers
-abbrev pub FollowsNext : Config → Ring → List History → ℕ → Result (Unit {0}) AuditFault → List Value → Type 0
-FollowsNext config ring histories n (Ok _) new = LongestBelow config ring histories (n + 1) new
-FollowsNext config ring histories n (Err (fault.NotReplay r i)) new = IsNoReplay config ring histories r i
-FollowsNext config ring histories n (Err fault.NoMemory) new = ⊤
-FollowsNext config ring histories n (Err fault.Count) new = ⊥
-FollowsNext config ring histories n (Err (fault.Unsent reader i signer)) new = ⊥

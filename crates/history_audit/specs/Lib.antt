@@ -1,3 +1,5 @@
 pub mod Tables
 pub mod Searches
 pub mod Followed
+pub mod Findings
+pub mod Faults

@@ -1,11 +1,13 @@
 //! The audit of histories.
-ghost use Rattle.std.specs.Prelude.{◌≡◌, ◌≤◌, ◌↔◌, ℕ, [], false, length, IfOk, OnOk, IsErrOf};
+ghost use Rattle.std.specs.Prelude.{◌≡◌, ◌≤◌, ◌↔◌, ◌⊎◌, [], true, false, length, List, Result, IfOk, IsErrOf};
 ghost use Rattle.std.specs.List.{All};
 ghost use Rattle.ledger_model.specs.Applications.{run};
-ghost use Rattle.ledger_model.specs.Audits.{is_count, IsNoReplay, AreReplays, IsFirstUnsent, NothingUnsent};
+ghost use Rattle.ledger_model.specs.Audits.{are_of_a_quorum};
+ghost use Rattle.ledger_model.specs.Values.{Value};
 ghost use Rattle.ledger_model.specs.Worlds.{IsLedger};
+ghost use Rattle.history_audit.specs.Findings.{IsFinding};
 
-use crate::counting::is_count;
+use crate::counting::are_of_a_quorum;
 use crate::fault::AuditFault;
 use crate::following::follow_all;
 use crate::sending::sent_in;
@@ -33,6 +35,28 @@ fn known_at_most(histories: &[History]) -> NonZeroUsize {
     }
 }
 
+/// What an audit of a quorum's histories finds.
+fn audit_quorum<A: Application>(
+    alloc: Global,
+    config: &Config,
+    ring: &KeyRing,
+    histories: &[History],
+    apps: Vec<A>,
+    random: RandomState,
+) -> Result<Ledger, AuditFault>
+    requires count { are_of_a_quorum config.now histories.now ≡ true }
+    requires enough { length histories.now ≤ length apps.items }
+    requires opening { All (λ app. A.machine app ≡ run config.now.kind []) apps.items }
+    ensures { IsErrOf result AuditFault.NoMemory ⊎ IsFinding config.now ring.now histories.now result }
+{
+    let most = known_at_most(histories);
+    let mut verifier = Verifier::with_capacity(alloc, ring.copy()?, random, most)?;
+    let ledger = follow_all(alloc, config, &mut verifier, histories, apps, random)?;
+    let sent = sent_in(alloc, histories, random)?;
+    look_for_unsent(alloc, config, histories, &sent)?;
+    Ok(ledger)
+}
+
 /// Audits histories of different replicas of one cluster, each taken at any moment: whether they are those of one ledger. A
 /// replica whose history isn't handed in counts as a liar.
 ///
@@ -44,9 +68,9 @@ fn known_at_most(histories: &[History]) -> NonZeroUsize {
 /// `Unsent`, of the least reader, its first such entry and the least signer there. `NoMemory` can come once the count is
 /// right. `Unsent` doesn't prove a lie if the signer's history was taken before the reader's.
 ///
-/// The ring has the replicas' public keys by number. There is an application for each replica of the cluster, each in its
-/// opening state and of the configured kind. The random keys are those of hashes. The audit remembers as many answers as the
-/// histories have entries, at most 131,072, so it seldom verifies a signature twice.
+/// The ring has the replicas' public keys by number. There is an application for each history, unless there are more histories
+/// than replicas; each is in its opening state and of the configured kind. The random keys are those of hashes. The audit remembers as many answers as the histories have
+/// entries, at most 131,072, so it seldom verifies a signature twice.
 pub fn audit<A: Application>(
     alloc: Global,
     config: &Config,
@@ -55,27 +79,20 @@ pub fn audit<A: Application>(
     apps: Vec<A>,
     random: RandomState,
 ) -> Result<Ledger, AuditFault>
-    requires enough { config.now.replicas ≤ length apps.items }
+    requires enough { length histories.now ≤ config.now.replicas → length histories.now ≤ length apps.items }
     requires opening { All (λ app. A.machine app ≡ run config.now.kind []) apps.items }
     // The histories are those of one ledger, which is returned.
     ensures ledger { IfOk result (λ ledger. IsLedger config.now histories.now ledger) }
-    // Each history is a replay, and what they accept was sent.
-    ensures replays { OnOk result (AreReplays config.now ring.now histories.now) }
-    ensures sent { OnOk result (NothingUnsent histories.now) }
-    ensures count { IsErrOf result AuditFault.Count ↔ (is_count config.now histories.now ≡ false) }
-    ensures not_replay { (r i : ℕ) → IsErrOf result (AuditFault.NotReplay r i) → IsNoReplay config.now ring.now histories.now r i }
-    ensures unsent { (reader i signer : ℕ) → IsErrOf result (AuditFault.Unsent reader i signer) → IsFirstUnsent histories.now reader i signer }
-    // It comes only if each history is a replay.
-    ensures after_replays { (reader i signer : ℕ) → IsErrOf result (AuditFault.Unsent reader i signer)
-        → AreReplays config.now ring.now histories.now }
+    // A wrong count is found even if memory is refused.
+    ensures count { IsErrOf result AuditFault.Count ↔ (are_of_a_quorum config.now histories.now ≡ false) }
+    // Memory aside, the result is what an audit of the histories finds.
+    ensures finding { IsErrOf result AuditFault.NoMemory ⊎ IsFinding config.now ring.now histories.now result }
+    // Memory aside, whatever an audit of the histories finds is the result.
+    ensures only { (finding : Result (List Value) AuditFault) → IsFinding config.now ring.now histories.now finding
+        → IsErrOf result AuditFault.NoMemory ⊎ (result ≡ finding) }
 {
-    if !is_count(config, histories) {
+    if !are_of_a_quorum(config, histories) {
         return Err(AuditFault::Count);
     }
-    let most = known_at_most(histories);
-    let mut verifier = Verifier::with_capacity(alloc, ring.copy()?, random, most)?;
-    let ledger = follow_all(alloc, config, &mut verifier, histories, apps, random)?;
-    let sent = sent_in(alloc, histories, random)?;
-    look_for_unsent(alloc, config, histories, &sent)?;
-    Ok(ledger)
+    audit_quorum(alloc, config, ring, histories, apps, random)
 }

@@ -1,8 +1,8 @@
 //! Whether the histories are of enough different replicas.
-ghost use Rattle.std.specs.Prelude.{◌≡◌, ◌==◌, nat_lt, map};
+ghost use Rattle.std.specs.Prelude.{◌≡◌, ◌+◌, ◌==◌, length, nat_le, nat_lt, map};
 ghost use Rattle.std.specs.List.{list_all, list_any};
 ghost use Rattle.ledger_model.specs.declared.history.History.{History as HistoryValue};
-ghost use Rattle.ledger_model.specs.Audits.{differ, is_count};
+ghost use Rattle.ledger_model.specs.Audits.{all_differ, are_of_a_quorum};
 
 use ledger_model::{Config, History, ReplicaId};
 
@@ -16,7 +16,7 @@ fn is_among(histories: &[History], replica: ReplicaId) -> bool
 /// Whether no two histories are of one replica. It ends at the first that has another after it: of replicas below N there are
 /// at most N others before.
 fn do_replicas_differ(histories: &[History]) -> bool
-    ensures { result ≡ differ (map (λ (m : HistoryValue). m.replica) histories.now) }
+    ensures { result ≡ all_differ (map (λ (m : HistoryValue). m.replica) histories.now) }
 {
     match histories.split_first() {
         None => true,
@@ -33,12 +33,16 @@ fn are_members(config: &Config, histories: &[History]) -> bool
         .all(|history| history.replica.number() < config.replicas)
 }
 
-/// Whether the histories are of different replicas of the cluster, and of a quorum (N-t) at least.
-pub(crate) fn is_count(config: &Config, histories: &[History]) -> bool
-    ensures { result ≡ is_count config.now histories.now }
+/// Whether there are as many histories as a quorum (N-t) has replicas.
+fn are_enough(config: &Config, histories: &[History]) -> bool
+    ensures { result ≡ nat_le config.now.replicas (length histories.now + config.now.faults) }
 {
-    let all = histories.len().saturating_add(usize::from(config.faults));
-    usize::from(config.replicas) <= all
-        && are_members(config, histories)
-        && do_replicas_differ(histories)
+    usize::from(config.quorum()) <= histories.len()
+}
+
+/// Whether the histories are of different replicas of the cluster, and of a quorum (N-t) at least.
+pub(crate) fn are_of_a_quorum(config: &Config, histories: &[History]) -> bool
+    ensures { result ≡ are_of_a_quorum config.now histories.now }
+{
+    are_enough(config, histories) && are_members(config, histories) && do_replicas_differ(histories)
 }

@@ -31,6 +31,22 @@ pub enum AuditFault {
     NoMemory,
 }
 
+impl AuditFault {
+    ghost use Rattle.history_audit.specs.Faults.{audit_fault_number};
+
+    /// The number of the fault: 1 to 4, in the order above.
+    pub fn number(&self) -> u8
+        ensures { result ≡ audit_fault_number self.now }
+    {
+        match self {
+            AuditFault::Count => 1,
+            AuditFault::NotReplay { .. } => 2,
+            AuditFault::Unsent { .. } => 3,
+            AuditFault::NoMemory => 4,
+        }
+    }
+}
+
 impl From<AllocError> for AuditFault {
     ghost from_gives = { λ _ fault. fault ≡ NoMemory };
 

@@ -2,10 +2,10 @@
 ghost use Rattle.std.specs.Prelude.{◌≡◌, ◌<◌, ◌≤◌, false, true, [], length, Ok, None, IfOk};
 ghost use Rattle.std.specs.List.{AllByRecursion};
 ghost use Rattle.ledger_model.specs.Applications.{run};
-ghost use Rattle.ledger_model.specs.Audits.{is_count};
+ghost use Rattle.ledger_model.specs.Audits.{are_of_a_quorum};
 ghost use Rattle.replica_core.specs.ReplicaStates.{MatchesHistory};
 ghost use Rattle.replica_core.specs.Following.{IsSameReplicaState};
-ghost use Rattle.history_audit.specs.Followed.{AnswersFollowing, FollowedTo, FollowsOne, FollowsNext, FollowsAll, LongestBelow};
+ghost use Rattle.history_audit.specs.Followed.{AnswersFollowing, FollowedTo, FollowsOne, FollowsAll};
 
 use crate::fault::AuditFault;
 use crate::lookup::history_of;
@@ -103,30 +103,7 @@ fn follow_one<A: Application>(
     Ok(())
 }
 
-/// Follows the replica's history in the same way, if it was handed in.
-fn follow_replica<A: Application>(
-    alloc: Global,
-    config: &Config,
-    verifier: &mut Verifier,
-    histories: &[History],
-    replica: ReplicaId,
-    app: A,
-    random: RandomState,
-    ledger: &mut Ledger,
-) -> Result<(), AuditFault>
-    requires count { is_count config.now histories.now ≡ true }
-    requires opening { A.machine app ≡ run config.now.kind [] }
-    ensures answer { LongestBelow config.now verifier.old.ring histories.now replica ledger.old
-        → FollowsNext config.now verifier.old.ring histories.now replica result ledger.new }
-    ensures ring { verifier.new.ring ≡ verifier.old.ring }
-{
-    match history_of(histories, replica) {
-        Some(history) => follow_one(alloc, config, verifier, history, app, random, ledger),
-        None => Ok(()),
-    }
-}
-
-/// Follows all histories in the order of their replicas, each with an application of its own, and returns the longest list of
+/// Follows all histories in the order of their replicas, each with the next application, and returns the longest list of
 /// blocks that one of them commits. `NotReplay` names the first entry that doesn't continue the replay, of the least replica.
 ///
 /// One verifier serves all followers in turn, so what it remembers of one history serves the next.
@@ -138,28 +115,21 @@ pub(crate) fn follow_all<A: Application>(
     apps: Vec<A>,
     random: RandomState,
 ) -> Result<Ledger, AuditFault>
-    requires count { is_count config.now histories.now ≡ true }
-    requires enough { config.now.replicas ≤ length apps.items }
+    requires count { are_of_a_quorum config.now histories.now ≡ true }
+    requires enough { length histories.now ≤ length apps.items }
     requires opening { AllByRecursion (λ app. A.machine app ≡ run config.now.kind []) apps.items }
     ensures { FollowsAll config.now verifier.old.ring histories.now result }
 {
     let mut ledger = Ledger::new(alloc);
     let mut apps = apps.into_iter();
     for number in 0..config.replicas {
+        let Some(history) = history_of(histories, ReplicaId::new(number)) else {
+            continue;
+        };
         let Some(app) = apps.next() else {
             unreachable!()
         };
-        let replica = ReplicaId::new(number);
-        follow_replica(
-            alloc,
-            config,
-            verifier,
-            histories,
-            replica,
-            app,
-            random,
-            &mut ledger,
-        )?;
+        follow_one(alloc, config, verifier, history, app, random, &mut ledger)?;
     }
     Ok(ledger)
 }

@@ -1,7 +1,7 @@
 //! Finds the first accepted statement that its signer's history doesn't send.
 ghost use Rattle.std.specs.Prelude.{◌≡◌, ◌∷◌, None, Some, true, map, IfOk, if◌then◌else◌};
 ghost use Rattle.ledger_model.specs.declared.history.History.{History as HistoryValue};
-ghost use Rattle.ledger_model.specs.Audits.{differ, is_count, lacks, unsent_in};
+ghost use Rattle.ledger_model.specs.Audits.{all_differ, are_of_a_quorum, lacks, unsent_in};
 ghost use Rattle.ledger_model.specs.Groups.{history_of};
 ghost use Rattle.signed_frames.specs.Lending.{lent_of, own_part, proof_of};
 ghost use Rattle.history_audit.specs.Tables.{IsTableOf, lacks_part};
@@ -31,7 +31,7 @@ fn is_lacked(
     statement: &Bytes,
 ) -> Result<bool, AllocError>
     requires table { IsTableOf histories.now table.now }
-    requires different { differ (map (λ (m : HistoryValue). m.replica) histories.now) ≡ true }
+    requires different { all_differ (map (λ (m : HistoryValue). m.replica) histories.now) ≡ true }
     ensures { IfOk result (λ lacked. lacked ≡ lacks (history_of histories.now replica) statement.now) }
 {
     if !has_history(histories, replica) {
@@ -58,7 +58,7 @@ fn with_part(
     part: &SignedPart<'_>,
 ) -> Result<Option<ReplicaId>, AllocError>
     requires table { IsTableOf histories.now table.now }
-    requires different { differ (map (λ (m : HistoryValue). m.replica) histories.now) ≡ true }
+    requires different { all_differ (map (λ (m : HistoryValue). m.replica) histories.now) ≡ true }
     ensures { IfOk result (λ new. new ≡ (if lacks_part histories.now part.now then with_signer least part.now.signer else least)) }
 {
     let signer = part.signer();
@@ -75,7 +75,7 @@ fn least_in_frame(
     frame: &Frame,
 ) -> Result<Option<ReplicaId>, AllocError>
     requires table { IsTableOf histories.now table.now }
-    requires different { differ (map (λ (m : HistoryValue). m.replica) histories.now) ≡ true }
+    requires different { all_differ (map (λ (m : HistoryValue). m.replica) histories.now) ≡ true }
     ensures { IfOk result (λ least. least ≡ least_with histories.now None (own_part frame.now ∷ map lent_of (proof_of frame.now.statement))) }
 {
     let mut least = with_part(histories, table, None, &frame.signed_part())?;
@@ -107,7 +107,7 @@ fn least_at(
     entry: &Entry,
 ) -> Result<Option<ReplicaId>, AllocError>
     requires table { IsTableOf histories.now table.now }
-    requires different { differ (map (λ (m : HistoryValue). m.replica) histories.now) ≡ true }
+    requires different { all_differ (map (λ (m : HistoryValue). m.replica) histories.now) ≡ true }
     ensures { IfOk result (λ least. IsLeast (unsent_in histories.now entry.now) least) }
 {
     match accepted(alloc, entry)? {
@@ -124,7 +124,7 @@ fn first_of(
     entries: &[Entry],
 ) -> Result<Option<UnsentAt>, AllocError>
     requires table { IsTableOf histories.now table.now }
-    requires different { differ (map (λ (m : HistoryValue). m.replica) histories.now) ≡ true }
+    requires different { all_differ (map (λ (m : HistoryValue). m.replica) histories.now) ≡ true }
     ensures { IfOk result (AnswersSearch histories.now entries.now) }
 {
     for (index, entry) in entries.iter().enumerate() {
@@ -143,7 +143,7 @@ fn first_of_reader(
     reader: ReplicaId,
 ) -> Result<Option<UnsentAt>, AllocError>
     requires table { IsTableOf histories.now table.now }
-    requires different { differ (map (λ (m : HistoryValue). m.replica) histories.now) ≡ true }
+    requires different { all_differ (map (λ (m : HistoryValue). m.replica) histories.now) ≡ true }
     ensures { IfOk result (AnswersReader histories.now reader) }
 {
     match history_of(histories, reader) {
@@ -160,7 +160,7 @@ pub(crate) fn look_for_unsent(
     table: &SentTable,
 ) -> Result<(), AuditFault>
     requires table { IsTableOf histories.now table.now }
-    requires count { is_count config.now histories.now ≡ true }
+    requires count { are_of_a_quorum config.now histories.now ≡ true }
     ensures { FindsUnsent histories.now result }
 {
     for number in 0..config.replicas {

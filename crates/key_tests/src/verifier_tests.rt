@@ -8,6 +8,7 @@ use lm_ots::{Identifier, Params, Seed, TreeHeight, Width};
 use lms_tree::PublicKey;
 use std::alloc::Global;
 use std::hash::RandomState;
+use std::num::NonZeroUsize;
 use std::random::RandomSource;
 use std::test::Fail;
 use verify_cache::Verifier;
@@ -98,6 +99,35 @@ fn a_verifier_knows_1024_answers(rt: HostRuntime) -> Result<(), Fail> {
         asks_of_garbage(rt.alloc(), &mut verifier, 1024),
         Some((false, 1026))
     );
+    Ok(())
+}
+
+// A verifier without keys that remembers two answers.
+fn verifier_of_two(alloc: Global, random: RandomState) -> Option<Verifier> {
+    let capacity = NonZeroUsize::new(2)?;
+    Verifier::with_capacity(alloc, KeyRing::new(Vec::new(alloc)), random, capacity).ok()
+}
+
+// How many checks the verifier computed after each of these questions.
+fn computed_after_each(
+    alloc: Global,
+    verifier: &mut Verifier,
+    numbers: [u16; 6],
+) -> Option<[u64; 6]> {
+    let mut computed = [0; 6];
+    for (place, number) in computed.iter_mut().zip(numbers) {
+        *place = asks_of_garbage(alloc, verifier, number)?.1;
+    }
+    Some(computed)
+}
+
+// What was asked for again stays, and what was not asked for the longest goes, though it is not the oldest.
+#[test]
+fn the_least_recently_asked_answer_goes_first(rt: HostRuntime) -> Result<(), Fail> {
+    let random = RandomState::new(&rt)?;
+    let mut verifier = verifier_of_two(rt.alloc(), random).expect(&rt, "a verifier");
+    let computed = computed_after_each(rt.alloc(), &mut verifier, [0, 1, 0, 2, 0, 1]);
+    assert_eq!(rt; computed, Some([1, 2, 2, 3, 3, 4]));
     Ok(())
 }
 

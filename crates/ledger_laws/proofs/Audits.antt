@@ -1,10 +1,9 @@
 -- An audit that finds no fault shows that the histories have one ledger.
-use Rattle.std.proofs.Common.{◌≡◌, ℕ, ◌+◌, ◌<◌, ◌≤◌, Bool, true, false, not, ◌&&◌, ◌||◌, inl, inr, List, [], ◌∷◌, ◌++◌, length, map}
+use Rattle.std.proofs.Common.{◌≡◌, ℕ, ◌+◌, ◌≤◌, ◌<◌, Bool, true, false, not, ◌&&◌, ◌||◌, inl, inr, List, [], ◌∷◌, ◌++◌, length, map}
 use Rattle.std.proofs.Common.{refl, sym, ap, subst, ◌∙◌, append_assoc, arith}
-use Rattle.std.specs.Prelude.{nat_eq, nat_lt, nat_le, find, take, Some, Ok, is_some, slice_get}
+use Rattle.std.specs.Prelude.{nat_eq, nat_lt, nat_le, find, Some, Ok, is_some, slice_get}
 use Rattle.std.specs.List.{list_any, list_all}
-use Rattle.std.proofs.Math.Seq.{take-length}
-use Rattle.std.proofs.lemmas.List.{append-nil, length-take}
+use Rattle.std.proofs.lemmas.List.{append-nil}
 use Rattle.std.proofs.lemmas.Bool.{and_parts, cases_Bool, both_ways, eqb-true, eq-eqb, leb-true, ltb-true, not-true}
 use Rattle.ledger_model.specs.declared.config.Config.{Config}
 use Rattle.ledger_model.specs.declared.event.Event.{Event}
@@ -18,7 +17,6 @@ use Rattle.ledger_model.specs.declared.statement.SignedReport.{SignedReport}
 use Rattle.ledger_model.specs.declared.statement.SignedStatement.{SignedStatement}
 use Rattle.ledger_model.specs.declared.statement.Statement.{Statement}
 use Rattle.ledger_model.specs.declared.statement.Statement.TheVariants as statement
-use Rattle.ledger_model.specs.Values.{Value}
 use Rattle.ledger_model.specs.Rounds.{count_from, round_at, report_place}
 use Rattle.ledger_model.specs.Notes.{Note, OwnStatement, Read, Has, clock_of, signer_of}
 use Rattle.ledger_model.specs.Logs.{height_of, statements_made, notes_of, log_after, log_of}
@@ -27,11 +25,9 @@ use Rattle.ledger_model.specs.Reading.{reading}
 use Rattle.ledger_model.specs.Rules.{Ring, answer_to, with_signature}
 use Rattle.ledger_model.specs.Lawful.{Lawful, answer, Follows, Replay}
 use Rattle.ledger_model.specs.Groups.{history_of, is_correct, log_if, log_in, Backed, BackedWhole, AreCorrect, ReadsBacked}
-use Rattle.ledger_model.specs.Commits.{commits_of}
-use Rattle.ledger_model.specs.Worlds.{Begins, IsLedger}
 use Rattle.ledger_model.specs.Pools.{is_among}
 use Rattle.ledger_model.specs.Applications.{same_bytes}
-use Rattle.ledger_model.specs.Audits.{differ, is_count, AreReplays, own_sent, statements_in, accepts, is_unsent, unsent_in}
+use Rattle.ledger_model.specs.Audits.{all_differ, are_of_a_quorum, AreReplays, own_sent, statements_in, accepts, is_unsent, unsent_in}
 use Rattle.ledger_model.specs.Audits.{NothingUnsent, AuditedHistoriesHaveLedger}
 use Rattle.ledger_model.proofs.Counting.{count_with}
 use Rattle.ledger_model.proofs.Lists.{any_has, all_has, any_mapped, each_has, has_cases, has_right, has_filter, pointwise_equal, same_some}
@@ -63,13 +59,13 @@ found_has p (y ∷ ys) x e =
 
 -- histories of different replicas leave n minus their number without a history
 lacking : (n : ℕ) (histories : List History) → list_all (λ (m : History). nat_lt m.replica n) histories ≡ true
-    → differ (map (λ (m : History). m.replica) histories) ≡ true
+    → all_differ (map (λ (m : History). m.replica) histories) ≡ true
     → count_from 0 n (λ r. not (is_correct histories r)) + length histories ≡ n
 lacking n [] below apart = let all = count_all 0 n in omega arith
 lacking n (m ∷ ms) below apart =
     let below_parts = and_parts (nat_lt m.replica n) (list_all (λ (x : History). nat_lt x.replica n) ms) below in
     let apart_parts = and_parts (not (list_any (λ y. nat_eq y m.replica) (map (λ (x : History). x.replica) ms)))
-    (differ (map (λ (x : History). x.replica) ms)) apart in
+    (all_differ (map (λ (x : History). x.replica) ms)) apart in
     let low : m.replica < n = ltb-true m.replica n below_parts.0 in
     let none : is_correct ms m.replica ≡ false =
     some_found (λ (x : History). nat_eq x.replica m.replica) ms
@@ -98,13 +94,23 @@ lacking n (m ∷ ms) below apart =
       | inr other ↦ simp other
     ]
 
+-- histories of a quorum are at most as many as the cluster has replicas
+pub quorum_fits : (config : Config) (histories : List History) → are_of_a_quorum config histories ≡ true → length histories ≤ config.replicas
+quorum_fits config histories count =
+    let parts = and_parts (nat_le config.replicas (length histories + config.faults)
+    && list_all (λ (m : History). nat_lt m.replica config.replicas) histories) (all_differ (map (λ (m : History). m.replica) histories)) count
+    in
+    let ends = and_parts (nat_le config.replicas (length histories + config.faults))
+    (list_all (λ (m : History). nat_lt m.replica config.replicas) histories) parts.0 in
+    omega (arith, lacking config.replicas histories ends.1 parts.1)
+
 -- counted histories that replay are those of correct replicas
-pub are_correct : (config : Config) (ring : Ring) (histories : List History) → is_count config histories ≡ true
+pub are_correct : (config : Config) (ring : Ring) (histories : List History) → are_of_a_quorum config histories ≡ true
     → AreReplays config ring histories → AreCorrect config ring histories
 unfolding Replay Follows
 are_correct config ring histories count replay =
     let parts = and_parts (nat_le config.replicas (length histories + config.faults)
-    && list_all (λ (m : History). nat_lt m.replica config.replicas) histories) (differ (map (λ (m : History). m.replica) histories)) count
+    && list_all (λ (m : History). nat_lt m.replica config.replicas) histories) (all_differ (map (λ (m : History). m.replica) histories)) count
     in
     let ends = and_parts (nat_le config.replicas (length histories + config.faults))
     (list_all (λ (m : History). nat_lt m.replica config.replicas) histories) parts.0 in
@@ -281,19 +287,3 @@ module _ (config : Config) (ring : Ring) (histories : List History) (replay : Ar
 pub audited_histories_have_ledger : AuditedHistoriesHaveLedger
 audited_histories_have_ledger config ring histories count replay sent =
     one_ledger config ring histories (are_correct config ring histories count replay) (reads_backed config ring histories replay sent)
-
--- ---- the longest commits
-
--- the ledger is what this history committed, if none of the others committed more
-pub ledger_is_longest : (config : Config) (histories : List History) (ledger : List Value) (r : ℕ) (m : History)
-    → IsLedger config histories ledger → history_of histories r ≡ Some m
-    → ((q : ℕ) (n : History) → history_of histories q ≡ Some n
-    → length (commits_of config q n.entries) ≤ length (commits_of config r m.entries))
-    → ledger ≡ commits_of config r m.entries
-ledger_is_longest config histories ledger r m is found longest =
-    let from = is.some in
-    let begins : Begins (commits_of config r m.entries) ledger = is.each r m found in
-    let most = longest from.0 from.1.0 from.1.1.0 in
-    let size : length ledger ≡ length (commits_of config r m.entries) =
-    omega (arith, most, ap length from.1.1.1, ap length begins, length-take (length (commits_of config r m.entries)) ledger) in
-    sym (take-length ledger) ∙ ap (λ n. take n ledger) size ∙ begins

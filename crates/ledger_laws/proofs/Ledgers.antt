@@ -58,7 +58,7 @@ commits_agree config ring histories r q m n correct backed is_m is_n shorter =
     (v.0, (v.1, w.1 ∙ ap Some (sym same))))
 
 -- an element within the beginning
-pub get_take : (n i : ℕ) (xs : List Value) → i < n → slice_get (take n xs) i ≡ slice_get xs i
+pub get_take : {X : Type 0} (n i : ℕ) (xs : List X) → i < n → slice_get (take n xs) i ≡ slice_get xs i
 get_take zero i xs lt = absurd (omega arith)
 get_take (suc n) i [] lt = refl
 get_take (suc n) zero (x ∷ xs) lt = refl

@@ -5,11 +5,13 @@ pub mod Ledgers
 pub mod Backing
 pub mod WorldRuns
 pub mod Computed
+pub mod UniqueLedgers
 mod Refuted
 mod Unforged
 pub mod Floors
 mod Encodings
 mod SentStatements
 pub mod Audits
+pub mod AuditFindings
 mod AuditedForks
 mod AuditExamples

@@ -20,18 +20,16 @@ use Rattle.ledger_model.specs.Spelling.{statement_bytes, body_bytes, frame_bytes
 use Rattle.ledger_model.specs.Reading.{reading, body_reading, statement_at, report_at, lock_at, ack_at, proof_at, signed_at, place_at}
 use Rattle.ledger_model.specs.Reading.{positive_at, flag_at, value_at, txs_at, tx_at, list_at, values_at, signature_at}
 use Rattle.ledger_model.specs.Timelines.{AreReplicas}
-use Rattle.ledger_model.specs.declared.config.Config.{Config}
 use Rattle.ledger_model.specs.Worlds.{World, world_at, Refines, Begins, IsReplyOn, IsLedger}
 use Rattle.ledger_laws.specs.Examples.{four, a, b}
-use Rattle.ledger_laws.specs.Vacuity.{NoLedger, NoRunWithoutLedger, NoRunThatRewrites, LedgerIsUnique, forked, forked_world}
+use Rattle.ledger_laws.specs.Vacuity.{NoLedger, NoRunWithoutLedger, NoRunThatRewrites, forked, forked_world}
 use Rattle.ledger_laws.specs.Vacuity.{ForkHasNoLedger, ForkExample, WrongBlockHasNoLedger, WrongQueryHasNoLedger, WrongCodeHasNoLedger}
 use Rattle.ledger_laws.specs.Vacuity.{UnproposedBatchHasNoLedger, UnproposedBatchExample, AgreementHasLedger, proposes, commits, runs_block}
 use Rattle.ledger_laws.specs.Vacuity.{answers_query, rejects, first_result, three, FloorExample}
-use Rattle.std.proofs.Math.Seq.{take-length}
-use Rattle.std.proofs.lemmas.List.{length-take}
 use Rattle.ledger_laws.proofs.Backing.{correct_at}
 use Rattle.ledger_laws.proofs.WorldRuns.{runs_refine}
 use Rattle.ledger_laws.proofs.Ledgers.{begins_get, get_lt}
+use Rattle.ledger_laws.proofs.UniqueLedgers.{ledger_is_unique}
 use Rattle.ledger_model.proofs.Lists.{same_some}
 
 -- what a correct replica committed is at the same place of the ledger
@@ -111,20 +109,6 @@ no_run_without_ledger config w now none refines =
     none (refines.ledger (length w.order))
     (subst (λ (v : World). IsLedger config v.histories (refines.ledger (length w.order))) now
     (refines.is_ledger (length w.order) (omega arith)))
-
-pub ledger_is_unique : LedgerIsUnique
-ledger_is_unique config histories ledger other is also =
-    let first : Begins ledger other = begins config histories ledger other is also in
-    let second : Begins other ledger = begins config histories other ledger also is in
-    let size : length ledger ≡ length other =
-    omega (arith, ap length first, ap length second, length-take (length ledger) other, length-take (length other) ledger) in
-    sym first ∙ ap (λ n. take n other) size ∙ take-length other
-  where
-    begins : (config : Config) (histories : List History) (xs ys : List Value) → IsLedger config histories xs
-        → IsLedger config histories ys → Begins xs ys
-    begins config histories xs ys is also =
-        let from = is.some in
-        subst (λ vs. Begins vs ys) (sym (from.1.1.1)) (also.each (from.0) (from.1.0) (from.1.1.0))
 
 pub no_run_that_rewrites : NoRunThatRewrites
 no_run_that_rewrites config w n ledger later lt is_now is_later rewrites refines =

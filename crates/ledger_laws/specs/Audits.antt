@@ -9,7 +9,7 @@ use Rattle.ledger_model.specs.Values.{Value}
 use Rattle.ledger_model.specs.Rules.{Ring}
 use Rattle.ledger_model.specs.Commits.{commits_of}
 use Rattle.ledger_model.specs.Groups.{history_of}
-use Rattle.ledger_model.specs.Audits.{is_count, AreReplays, unsent_in, IsUnsent, IsFirstUnsent, NothingUnsent}
+use Rattle.ledger_model.specs.Audits.{are_of_a_quorum, AreReplays, unsent_in, IsUnsent, IsFirstUnsent, NothingUnsent}
 use Rattle.ledger_laws.specs.Examples.{four, a, signed_report, quiet_end, round_entries}
 use Rattle.ledger_laws.specs.Vacuity.{proposes, sends, accepts, lock_on, three, forked}
 
@@ -21,7 +21,7 @@ SomeUnsent histories = (reader : ℕ) × (i : ℕ) × (signer : ℕ) × IsUnsent
 abbrev pub ForkIsCaught : Type 0
 ForkIsCaught =
     (config : Config) (ring : Ring) (histories : List History) (r q i : ℕ) (m n : History) (v w : Value)
-    → is_count config histories ≡ true → AreReplays config ring histories
+    → are_of_a_quorum config histories ≡ true → AreReplays config ring histories
     → history_of histories r ≡ Some m → history_of histories q ≡ Some n
     → slice_get (commits_of config r m.entries) i ≡ Some v → slice_get (commits_of config q n.entries) i ≡ Some w → (v ≡ w → ⊥)
     → SomeUnsent histories
@@ -32,7 +32,7 @@ ForkIsCaught =
 -- which entry 4 of replica 1 accepts. Entry 5 accepts one of replica 2, which replica 2 didn't send either.
 abbrev pub CaughtForkExample : Type 0
 CaughtForkExample =
-    (is_count (four KvStore) forked ≡ true)
+    (are_of_a_quorum (four KvStore) forked ≡ true)
     × IsFirstUnsent forked 1 4 0
     × IsUnsent forked 1 5 2
 
@@ -45,7 +45,7 @@ quiet_histories = three round_entries (quiet_end ∷ []) (quiet_end ∷ quiet_en
 -- these histories are enough, each is a replay, and they accept nothing that is unsent
 abbrev pub QuietHistoriesPass : Type 0
 QuietHistoriesPass =
-    (is_count (four KvStore) quiet_histories ≡ true)
+    (are_of_a_quorum (four KvStore) quiet_histories ≡ true)
     × AreReplays (four KvStore) [] quiet_histories
     × NothingUnsent quiet_histories
 

@@ -29,16 +29,16 @@ use Rattle.ledger_model.specs.Worlds.{IsLedger}
 -- ---- the histories that were handed in
 
 -- no number occurs twice
-abbrev pub differ : List ℕ → Bool
-differ [] = true
-differ (x ∷ xs) = not (list_any (λ y. y == x) xs) && differ xs
+abbrev pub all_differ : List ℕ → Bool
+all_differ [] = true
+all_differ (x ∷ xs) = not (list_any (λ y. y == x) xs) && all_differ xs
 
 -- the histories are of different replicas of the cluster, and at most t replicas have none
-abbrev pub is_count : Config → List History → Bool
-is_count config histories =
+abbrev pub are_of_a_quorum : Config → List History → Bool
+are_of_a_quorum config histories =
     nat_le config.replicas (length histories + config.faults)
     && list_all (λ (m : History). nat_lt m.replica config.replicas) histories
-    && differ (map (λ (m : History). m.replica) histories)
+    && all_differ (map (λ (m : History). m.replica) histories)
 
 -- each history is a replay
 abbrev pub AreReplays : Config → Ring → List History → Type 0
@@ -53,7 +53,7 @@ pub record BreaksAt (config : Config) (ring : Ring) (histories : List History) (
   pub broken : Replay config ring r (take (i + 1) history.entries) → ⊥
 
 -- r is the least replica whose history isn't a replay, and its entry i is the first that isn't lawful after those before it
-pub record IsNoReplay (config : Config) (ring : Ring) (histories : List History) (r i : ℕ) : Type 0 where
+pub record IsFirstBreak (config : Config) (ring : Ring) (histories : List History) (r i : ℕ) : Type 0 where
   pub breaks : BreaksAt config ring histories r i
   pub least : (q : ℕ) (m : History) → q < r → history_of histories q ≡ Some m → Replay config ring q m.entries
 
@@ -132,7 +132,7 @@ NothingUnsent histories = (reader i signer : ℕ) → IsUnsent histories reader 
 abbrev pub AuditedHistoriesHaveLedger : Type 0
 AuditedHistoriesHaveLedger =
     (config : Config) (ring : Ring) (histories : List History)
-    → is_count config histories ≡ true → AreReplays config ring histories → NothingUnsent histories
+    → are_of_a_quorum config histories ≡ true → AreReplays config ring histories → NothingUnsent histories
     → (ledger : List Value) × IsLedger config histories ledger
 
 -- ---- receipts

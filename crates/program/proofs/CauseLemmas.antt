@@ -1,12 +1,11 @@
 -- Why `abft deliver` stops, from call to call.
-use Rattle.std.proofs.Common.{◌≡◌, ℕ, ◌≤◌, true, List, length, refl, subst, sym}
+use Rattle.std.proofs.Common.{◌≡◌, ℕ, ◌≤◌, List, length, refl, subst, sym}
 use Rattle.std.specs.Prelude.{Option, Result, Ok, Err, IfErr, IsTrue}
 use Rattle.std.specs.Result.{IsErrAnd}
 use Rattle.ledger_model.specs.declared.history.Entry.{Entry}
 use Rattle.settings.specs.declared.deliver.DeliverSettings.{DeliverSettings}
 use Rattle.program_streams.specs.declared.program_fault.ProgramFault.{ProgramFault}
 use Rattle.program_streams.specs.declared.program_fault.ProgramFault.TheVariants as fault
-use Rattle.program_streams.specs.declared.resource.Resource.{Resource}
 use Rattle.program_streams.specs.Faults.{IsMemoryOrAsked, is_asked}
 use Rattle.program.specs.Faults.{IsReadFault, StopsAt}
 use Rattle.program.specs.Streams.{FillsHistory, StopsDelivery}

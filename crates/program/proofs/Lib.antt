@@ -7,6 +7,6 @@ mod StreamEnds
 mod DeliveringLemmas
 mod SimulatingLemmas
 mod OpeningLemmas
-mod HistoryLemmas
 mod ScenarioLemmas
+mod AuditingLemmas
 mod RunningLemmas

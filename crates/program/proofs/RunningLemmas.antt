@@ -1,14 +1,15 @@
 -- From what was done to the exit status of the program.
 use Rattle.std.proofs.Common.{◌≡◌, ℕ, ◌≤◌, List, [], refl, sym, subst, ◌∙◌, inl, inr, arith}
-use Rattle.std.specs.Prelude.{◌⊎◌, Option, Result, Ok, Err, MatchResult}
+use Rattle.std.specs.Prelude.{◌⊎◌, Option, None, Result, Ok, Err, IfOk, MatchResult}
 use Rattle.std.specs.Io.KnownBytes.{Appends, Keeps}
 use Rattle.std.proofs.KnownBytes.{Appends-kept, Consumes-nil}
 use Rattle.ledger_model.specs.Spelling.{frame_bytes}
 use Rattle.settings.specs.declared.Settings.{Settings}
-use Rattle.settings.specs.declared.Settings.TheVariants.{Sign, Deliver, Simulate, Cluster, Serve}
+use Rattle.settings.specs.declared.Settings.TheVariants.{Sign, Deliver, Simulate, Audit, Cluster, Serve}
 use Rattle.settings.specs.declared.sign.SignSettings.{SignSettings}
 use Rattle.settings.specs.declared.deliver.DeliverSettings.{DeliverSettings}
 use Rattle.settings.specs.declared.simulate.SimulateSettings.{SimulateSettings}
+use Rattle.settings.specs.declared.audit.AuditSettings.{AuditSettings}
 use Rattle.program.specs.Statements.{signed}
 use Rattle.command_line.specs.declared.usage_fault.UsageFault.{UsageFault}
 use Rattle.command_line.specs.declared.usage_fault.UsageFault.TheVariants as fault
@@ -24,18 +25,22 @@ use Rattle.program.specs.Streams.{DeliversStream, DeliversStreamSome}
 use Rattle.program.specs.declared.text_end.TextEnd.{TextEnd}
 use Rattle.program.specs.declared.text_end.TextEnd.TheVariants as scenario
 use Rattle.program.specs.Simulating.{PlaysText, PlaysTextSome}
+use Rattle.program.specs.Auditing.{Audits, AuditsSome}
+use Rattle.program.proofs.AuditingLemmas.{audited_small}
+use Rattle.program.specs.declared.outcome.Ending.{Ending}
 use Rattle.program.specs.declared.outcome.Outcome.{Outcome}
 use Rattle.program.specs.declared.outcome.Outcome.TheVariants as outcome
 use Rattle.program.specs.declared.outcome.Piped.{Piped}
 use Rattle.program.specs.declared.outcome.Piped.TheVariants as piped
-use Rattle.program.specs.Doing.{Begins, Done, Halted, IfEnded, IfHanded, IsHanded, Performs, settings_of, status_of_stream, status_of_text}
+use Rattle.program.specs.Doing.{AsksForAudit, Begins, Done, ExplainsAudit, Halted, IfEnded, IfHanded, IsAudit, IsHanded, IsQuiet, Performs}
+use Rattle.program.specs.Doing.{settings_of, status_of_stream, status_of_text}
 
 -- the frame was written
-pub signed_done : (x : Piped) (s : SignSettings) (unread before after : Option (List ℕ)) → x ≡ piped.Sign s
-    → Appends before after (frame_bytes (signed s)) → Done (settings_of x) 0 unread unread before after
-signed_done x s unread before after is written =
-    subst (λ y. Done (settings_of y) 0 unread unread before after) (sym is) (
-      refl,
+pub signed_done : (x : Piped) (s : SignSettings) (status : ℕ) (unread before after : Option (List ℕ)) → x ≡ piped.Sign s → status ≡ 0
+    → Appends before after (frame_bytes (signed s)) → Done (settings_of x) status unread unread before after
+signed_done x s status unread before after is zero written =
+    subst (λ y. Done (settings_of y) status unread unread before after) (sym is) (
+      zero,
       record {
         input = [];
         text = frame_bytes (signed s);
@@ -75,6 +80,22 @@ pub played_halted : (x : Piped) (s : SimulateSettings) (unread left before after
     → PlaysTextSome s unread left before after → Halted (settings_of x) unread left before after
 played_halted x s unread left before after is some = subst (λ y. Halted (settings_of y) unread left before after) (sym is) some
 
+-- histories were audited
+pub audited_done : {E : Type 0} (x : Piped) (s : AuditSettings) (r : Result Ending E) (unread left before after : Option (List ℕ))
+    → x ≡ piped.Audit s
+    → MatchResult r (λ ending. Audits s ending.status unread left before after) (λ _. AuditsSome s unread left before after)
+    → MatchResult r (λ ending. Done (settings_of x) ending.status unread left before after)
+    (λ _. Halted (settings_of x) unread left before after)
+audited_done x s r unread left before after is done =
+    subst (λ y. MatchResult r (λ ending. Done (settings_of y) ending.status unread left before after)
+    (λ _. Halted (settings_of y) unread left before after)) (sym is) done
+
+pub audit_explains : {E : Type 0} (x : Piped) (s : AuditSettings) (r : Result Ending E) → x ≡ piped.Audit s
+    → IfOk r (λ ending. (ending.explanation ≡ None) ⊎ (ending.status ≡ 1)) → IfOk r (ExplainsAudit (settings_of x))
+audit_explains x s (Ok ending) is (inl none) = inl none
+audit_explains x s (Ok ending) is (inr one) = inr (one, subst (λ y. IsAudit (settings_of y)) (sym is) (s, refl))
+audit_explains x s (Err fault) is explains = tt
+
 -- all was written, and then flushed
 responds_kept : (P : List ℕ → List ℕ → Type 0) (unread left before mid after : Option (List ℕ)) → Responds P unread left before mid
     → Keeps mid after → Responds P unread left before after
@@ -94,6 +115,8 @@ done_flushed (piped.Deliver s) status unread left before mid after (end, (is, (t
     (end, (is, (to_end, responds_kept _ unread left before mid after done keeps)))
 done_flushed (piped.Simulate s) status unread left before mid after (end, (is, done)) keeps =
     (end, (is, responds_kept _ unread left before mid after done keeps))
+done_flushed (piped.Audit s) status unread left before mid after (to_end, done) keeps =
+    (to_end, responds_kept _ unread left before mid after done keeps)
 
 -- all was written, and then a flush failed
 pub done_halted : (x : Piped) (status : ℕ) (unread left before mid after : Option (List ℕ))
@@ -104,6 +127,8 @@ done_halted (piped.Deliver s) status unread left before mid after (end, (is, (to
     responds_some _ _ unread left before mid after (λ input text does. inr (end, does)) done keeps
 done_halted (piped.Simulate s) status unread left before mid after (end, (is, done)) keeps =
     responds_some _ _ unread left before mid after (λ input text does. (does.1.0, inr (end, does.1.1))) done keeps
+done_halted (piped.Audit s) status unread left before mid after (to_end, done) keeps =
+    responds_some _ _ unread left before mid after (λ input text does. inr (to_end, (status, does))) done keeps
 
 -- a status of what was done is 0 or 1
 stream_small : (end : StreamEnd) → status_of_stream end ≤ 1
@@ -119,6 +144,7 @@ done_small : (x : Settings) (status : ℕ) (unread left before after : Option (L
 done_small (Sign s) status unread left before after (is, done) = omega (arith, is)
 done_small (Deliver s) status unread left before after (end, (is, done)) = omega (arith, is, stream_small end)
 done_small (Simulate s) status unread left before after (end, (is, done)) = omega (arith, is, text_small end)
+done_small (Audit s) status unread left before after (to_end, done) = audited_small s done.input status done.text done.goes_with
 done_small (Cluster s) status unread left before after done = absurd done
 done_small (Serve s) status unread left before after done = absurd done
 
@@ -128,12 +154,23 @@ Settled s status unread left before after Quiet =
     (Quiet × Done s status unread left before after) ⊎ ((status ≡ 3) × Halted s unread left before after)
 
 -- the status of what was done
-pub settled : {E Q : Type 0} (s x : Settings) (r : Result ℕ E) (status : ℕ) (unread left before after : Option (List ℕ)) → s ≡ x
-    → MatchResult r (λ found. Done s found unread left before after) (λ _. Halted s unread left before after)
-    → MatchResult r (λ found. (status ≡ found) × Q) (λ _. status ≡ 3) → Settled x status unread left before after Q
-settled s x (Ok found) status unread left before after same done is =
-    inl (is.1, subst (λ y. Done y status unread left before after) same (subst (λ n. Done s n unread left before after) (sym is.0) done))
-settled s x (Err e) status unread left before after same halted is = inr (is, subst (λ y. Halted y unread left before after) same halted)
+pub settled : {E : Type 0} (s x : Settings) (r : Result Ending E) (status : ℕ) (unread left before after mute told : Option (List ℕ))
+    → s ≡ x
+    → MatchResult r (λ ending. Done s ending.status unread left before after) (λ _. Halted s unread left before after)
+    → IfOk r (ExplainsAudit s)
+    → MatchResult r (λ ending. (status ≡ ending.status) × (ending.explanation ≡ None → Keeps mute told)) (λ _. status ≡ 3)
+    → Settled x status unread left before after (IsQuiet x status mute told)
+settled s x (Ok ending) status unread left before after mute told same done explains is =
+    inl (
+      quiet explains,
+      subst (λ y. Done y status unread left before after) same (subst (λ n. Done s n unread left before after) (sym is.0) done),
+    )
+  where
+    quiet : ExplainsAudit s ending → IsQuiet x status mute told
+    quiet (inl none) = inl (is.1 none)
+    quiet (inr (one, audit)) = inr (is.0 ∙ one, subst IsAudit same audit)
+settled s x (Err e) status unread left before after mute told same halted explains is =
+    inr (is, subst (λ y. Halted y unread left before after) same halted)
 
 module _ (words : List (List ℕ)) (s : Settings) (set : IsSet words s) (taken : kinds_of words ≡ []) (status : ℕ)
     (unread left before after : Option (List ℕ)) where
@@ -143,10 +180,17 @@ module _ (words : List (List ℕ)) (s : Settings) (set : IsSet words s) (taken :
   settled_finishes Q (inr (is, halted)) (inl zero) = absurd (omega (arith, zero, is))
   settled_finishes Q (inr (is, halted)) (inr one) = absurd (omega (arith, one, is))
 
-  pub settled_quiet : (Q : Type 0) → Settled s status unread left before after Q → (status ≡ 0) ⊎ (status ≡ 1) → Q
-  settled_quiet Q (inl (quiet, done)) small = quiet
-  settled_quiet Q (inr (is, halted)) (inl zero) = absurd (omega (arith, zero, is))
-  settled_quiet Q (inr (is, halted)) (inr one) = absurd (omega (arith, one, is))
+  pub settled_quiet : (mute told : Option (List ℕ)) → Settled s status unread left before after (IsQuiet s status mute told) → status ≡ 0
+      → Keeps mute told
+  settled_quiet mute told (inl (inl keeps, done)) zero = keeps
+  settled_quiet mute told (inl (inr (one, audit), done)) zero = absurd (omega (arith, zero, one))
+  settled_quiet mute told (inr (is, halted)) zero = absurd (omega (arith, zero, is))
+
+  pub settled_explains : (mute told : Option (List ℕ)) → Settled s status unread left before after (IsQuiet s status mute told)
+      → status ≡ 1 → Keeps mute told ⊎ AsksForAudit words
+  settled_explains mute told (inl (inl keeps, done)) one = inl keeps
+  settled_explains mute told (inl (inr (is, (t, audit)), done)) one = inr (t, subst (IsSet words) audit set)
+  settled_explains mute told (inr (is, halted)) one = absurd (omega (arith, one, is))
 
   pub settled_refuses : (Q P : Type 0) → Settled s status unread left before after Q → status ≡ 2 → P
   settled_refuses Q P (inl (quiet, done)) two = let small =
@@ -179,8 +223,8 @@ asks_no_memory (fault.TooFew replicas faults) asks wants = asks
 asks_no_memory (fault.Spelling option why) asks wants = asks
 asks_no_memory (fault.NoTransaction option word) asks wants = asks
 asks_no_memory (fault.Rejected option code word) asks wants = asks
-asks_no_memory (fault.NamedFrames word) asks wants = asks
-asks_no_memory (fault.NamedScenario word) asks wants = asks
+asks_no_memory (fault.NamedInput input word) asks wants = asks
+asks_no_memory (fault.Receipt word) asks wants = asks
 asks_no_memory (fault.What word) asks wants = asks
 asks_no_memory (fault.Missing option) asks wants = asks
 asks_no_memory fault.NoSubcommand asks wants = asks

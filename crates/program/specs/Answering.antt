@@ -1,11 +1,10 @@
 -- A replica's replies to events in order, and the text that is printed for them.
-use Rattle.std.specs.Prelude.{◌≡◌, ℕ, List, [], ◌∷◌, ◌++◌, map, replicate, Option, Result, MatchResult}
+use Rattle.std.specs.Prelude.{◌≡◌, ℕ, List, ◌∷◌, ◌++◌, map, replicate, Option, Result, MatchResult}
 use Rattle.ledger_model.specs.declared.event.Event.{Event}
 use Rattle.ledger_model.specs.declared.event.Event.TheVariants as event
 use Rattle.ledger_model.specs.declared.history.Entry.{Entry}
 use Rattle.ledger_model.specs.declared.statement.SignedStatement.{SignedStatement}
 use Rattle.ledger_model.specs.Spelling.{frame_bytes}
-use Rattle.ledger_model.specs.Applications.{run}
 use Rattle.ledger_model.specs.Lawful.{Replay}
 use Rattle.cluster_keys.specs.Keys.{ring_of, secret_of, unused}
 use Rattle.locked_replica.specs.States.{StateView, AccountsForLeaves, UsesAsSigned, new_state}

@@ -1,9 +1,11 @@
 -- What the program does for the words of the command line and the bytes that it reads.
-use Rattle.std.specs.Prelude.{◌≡◌, ℕ, List, [], Option, ⊤}
+use Rattle.std.specs.Prelude.{◌≡◌, ◌⊎◌, ℕ, List, [], Option, None, ⊤}
+use Rattle.std.specs.Io.KnownBytes.{Keeps}
 use Rattle.ledger_model.specs.Spelling.{frame_bytes}
 use Rattle.settings.specs.declared.Settings.{Settings}
 use Rattle.settings.specs.declared.Settings.TheVariants as settings
 use Rattle.settings.specs.declared.sign.SignSettings.{SignSettings}
+use Rattle.settings.specs.declared.audit.AuditSettings.{AuditSettings}
 use Rattle.command_line.specs.Faults.{kinds_of}
 use Rattle.command_line.specs.Options.{IsSet}
 use Rattle.program.specs.Statements.{signed}
@@ -14,6 +16,8 @@ use Rattle.program.specs.Streams.{DeliversStream, DeliversStreamSome}
 use Rattle.program.specs.declared.text_end.TextEnd.{TextEnd}
 use Rattle.program.specs.declared.text_end.TextEnd.TheVariants as scenario
 use Rattle.program.specs.Simulating.{PlaysText, PlaysTextSome}
+use Rattle.program.specs.Auditing.{Audits, AuditsSome}
+use Rattle.program.specs.declared.outcome.Ending.{Ending}
 use Rattle.program.specs.declared.outcome.Outcome.{Outcome}
 use Rattle.program.specs.declared.outcome.Outcome.TheVariants as outcome
 use Rattle.program.specs.declared.outcome.Piped.{Piped}
@@ -35,13 +39,15 @@ Signs s input text = (input ≡ []) × (text ≡ frame_bytes (signed s))
 
 -- The settings, which need only streams, were done with this status. `abft sign` wrote its frame. `abft deliver` read
 -- the stream as far as its end or its first fault, and wrote a line for each frame. `abft simulate` read the text to
--- its end and wrote what its scenario gives, or read it as far as its first bad line is certain.
+-- its end and wrote what its scenario gives, or read it as far as its first bad line is certain. `abft audit` read all
+-- histories and wrote what it found.
 abbrev pub Done : Settings → ℕ → Option (List ℕ) → Option (List ℕ) → Option (List ℕ) → Option (List ℕ) → Type 0
 Done (settings.Sign s) status unread left before after = (status ≡ 0) × Responds (Signs s) unread left before after
 Done (settings.Deliver s) status unread left before after =
     (end : StreamEnd) × ((status ≡ status_of_stream end) × DeliversStream s end unread left before after)
 Done (settings.Simulate s) status unread left before after =
     (end : TextEnd) × ((status ≡ status_of_text end) × PlaysText s end unread left before after)
+Done (settings.Audit s) status unread left before after = Audits s status unread left before after
 Done (settings.Cluster s) status unread left before after = ⊥
 Done (settings.Serve s) status unread left before after = ⊥
 
@@ -50,6 +56,7 @@ abbrev pub Halted : Settings → Option (List ℕ) → Option (List ℕ) → Opt
 Halted (settings.Sign s) unread left before after = RespondsSome (Signs s) unread left before after
 Halted (settings.Deliver s) unread left before after = DeliversStreamSome s unread left before after
 Halted (settings.Simulate s) unread left before after = PlaysTextSome s unread left before after
+Halted (settings.Audit s) unread left before after = AuditsSome s unread left before after
 Halted (settings.Cluster s) unread left before after = ⊥
 Halted (settings.Serve s) unread left before after = ⊥
 
@@ -92,3 +99,20 @@ abbrev pub settings_of : Piped → Settings
 settings_of (piped.Sign s) = settings.Sign s
 settings_of (piped.Deliver s) = settings.Deliver s
 settings_of (piped.Simulate s) = settings.Simulate s
+settings_of (piped.Audit s) = settings.Audit s
+
+-- the settings are those of an audit
+abbrev pub IsAudit : Settings → Type 0
+IsAudit x = (s : AuditSettings) × (x ≡ settings.Audit s)
+
+-- the words ask for an audit
+abbrev pub AsksForAudit : List (List ℕ) → Type 0
+AsksForAudit words = (s : AuditSettings) × IsSet words (settings.Audit s)
+
+-- nothing is explained, but for an audit whose status is 1
+abbrev pub ExplainsAudit : Settings → Ending → Type 0
+ExplainsAudit x ending = (ending.explanation ≡ None) ⊎ ((ending.status ≡ 1) × IsAudit x)
+
+-- standard error was left alone, but for an audit whose status is 1
+abbrev pub IsQuiet : Settings → ℕ → Option (List ℕ) → Option (List ℕ) → Type 0
+IsQuiet x status before after = Keeps before after ⊎ ((status ≡ 1) × IsAudit x)

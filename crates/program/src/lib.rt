@@ -1,8 +1,9 @@
 //! The program over any streams: its subcommands, chosen by the words of the command line, and its exit statuses.
 //! `abft deliver` delivers the frames of a stream to a replica, and `abft simulate` plays a scenario text on a whole
-//! cluster. Both write lines about what happened.
+//! cluster. Both write lines about what happened. `abft audit` reads histories and writes whether they have one ledger.
 #![tactic(auto)]
 
+mod auditing;
 mod delivering;
 mod frame_stream;
 mod line;
@@ -17,11 +18,13 @@ mod scenario_input;
 mod signing;
 mod simulating;
 mod statement;
+mod status;
 mod stream_end;
 mod text_end;
 
+pub use auditing::audit;
 pub use delivering::deliver;
-pub use outcome::Outcome;
+pub use outcome::{Ending, Outcome};
 pub use running::{finish, refuse_words, run};
 pub use signing::signed_frame;
 pub use simulating::simulate;

@@ -1,7 +1,5 @@
 //! The cluster of a scenario at its start.
-ghost use Rattle.std.specs.Prelude.{◌≡◌, [], vec_len, All, IfOk, IfErr};
-ghost use Rattle.ledger_model.specs.Applications.{run};
-ghost use Rattle.app_kinds.specs.Chosen.{machine_of};
+ghost use Rattle.std.specs.Prelude.{◌≡◌, vec_len, IfOk, IfErr};
 ghost use Rattle.scenario_texts.specs.Lawful.{IsPlan};
 ghost use Rattle.scenario_texts.specs.Plans.{plan_of};
 ghost use Rattle.program_streams.specs.Faults.{IsMemoryOrAsked};
@@ -10,27 +8,15 @@ ghost use Rattle.program.specs.Simulating.{opening};
 use crate::replica::new_keys;
 use adversary_net::{WorldFault, count_correct};
 use app_kinds::AnyKind;
+use audit_lines::new_apps;
 use cluster_keys::ClusterSeed;
-use ledger_model::AppKind;
 use program_streams::ProgramFault;
 use scenario_texts::Scenario;
 use settings::SimulateSettings;
 use simulation::Simulation;
-use std::alloc::{AllocError, Global};
+use std::alloc::Global;
 use std::hash::RandomState;
 use std::random::RandomSource;
-
-/// `count` applications of a kind, each in its opening state.
-fn new_apps(alloc: Global, kind: AppKind, count: usize) -> Result<Vec<AnyKind>, AllocError>
-    ensures count { IfOk result (λ apps. vec_len apps ≡ count) }
-    ensures opening { IfOk result (λ apps. All (λ app. machine_of app ≡ run kind []) apps.items) }
-{
-    let mut apps = Vec::with_capacity(alloc, count)?;
-    for _ in 0..count {
-        apps.push(AnyKind::new(alloc, kind))?;
-    }
-    Ok(apps)
-}
 
 /// The random keys for `count` replicas.
 fn new_randoms<S: RandomSource>(

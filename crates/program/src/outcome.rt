@@ -1,9 +1,10 @@
 //! How far the program came by itself.
-ghost use Rattle.std.specs.Prelude.{◌≡◌, MatchResult};
+ghost use Rattle.std.specs.Prelude.{◌≡◌, None, MatchResult};
 ghost use Rattle.program.specs.Doing.{IsHanded, settings_of};
 
 use settings::{
-    ClusterSettings, DeliverSettings, ServeSettings, Settings, SignSettings, SimulateSettings,
+    AuditSettings, ClusterSettings, DeliverSettings, ServeSettings, Settings, SignSettings,
+    SimulateSettings,
 };
 
 /// How far the program came with what its words ask for.
@@ -17,12 +18,35 @@ pub enum Outcome {
     Serve(ServeSettings),
 }
 
+/// The end of a subcommand that did all that it could.
+#[derive(Drop)]
+pub struct Ending {
+    /// The exit status.
+    pub status: u8,
+    /// A sentence for standard error about the fault that an audit found.
+    pub explanation: Option<String>,
+}
+
+impl Ending {
+    /// An end with this exit status and nothing to explain.
+    pub(crate) fn plain(status: u8) -> Self
+        ensures status { result.status ≡ status }
+        ensures none { result.explanation ≡ None }
+    {
+        Ending {
+            status,
+            explanation: None,
+        }
+    }
+}
+
 /// The subcommands that need only the streams of the program.
 #[derive(Drop)]
 pub(crate) enum Piped {
     Sign(SignSettings),
     Deliver(DeliverSettings),
     Simulate(SimulateSettings),
+    Audit(AuditSettings),
 }
 
 impl Piped {
@@ -34,6 +58,7 @@ impl Piped {
             Settings::Sign(settings) => Ok(Piped::Sign(settings)),
             Settings::Deliver(settings) => Ok(Piped::Deliver(settings)),
             Settings::Simulate(settings) => Ok(Piped::Simulate(settings)),
+            Settings::Audit(settings) => Ok(Piped::Audit(settings)),
             Settings::Cluster(settings) => Err(Outcome::Cluster(settings)),
             Settings::Serve(settings) => Err(Outcome::Serve(settings)),
         }

@@ -1,10 +1,13 @@
 //! Reads standard input piece by piece.
-ghost use Rattle.std.specs.Prelude.{◌≡◌, IfErr};
+ghost use Rattle.std.specs.Prelude.{◌≡◌, ℕ, List, MatchResult, IfErr};
 ghost use Rattle.std.specs.Io.{ReadsAtMost};
-ghost use Rattle.std.specs.Io.KnownBytes.{ReadConsumes};
+ghost use Rattle.std.specs.Io.KnownBytes.{Consumes, ReadConsumes};
+ghost use Rattle.program_streams.specs.Faults.{IsMemoryOrAsked};
+ghost use Rattle.program.specs.Auditing.{ReadsWhole};
 ghost use Rattle.program.specs.Faults.{IsReadFault};
 
 use program_streams::{ProgramFault, Resource};
+use std::alloc::Global;
 use std::io::{self, ErrorKind, Read};
 
 /// The most bytes that one read takes from standard input.
@@ -27,6 +30,25 @@ pub(crate) fn read_piece<R: Read>(reader: &mut R, piece: &mut [u8]) -> Result<us
                 }
             }
         }
+    }
+    Err(ProgramFault::Refused(Resource::Input, io::Error::from(ErrorKind::TimedOut)))
+}
+
+/// All bytes of a stream, to its end.
+pub(crate) fn read_whole<R: Read>(alloc: Global, reader: &mut R) -> Result<Vec<u8>, ProgramFault>
+    ensures read { MatchResult result
+        (λ bytes. ReadsWhole (R.remaining reader.old) (R.remaining reader.new) bytes.items)
+        (λ _. (input : List ℕ) × Consumes (R.remaining reader.old) (R.remaining reader.new) input) }
+    ensures fault { IfErr result IsMemoryOrAsked }
+{
+    let mut bytes = Vec::new(alloc);
+    let mut piece = [0; PIECE_LEN];
+    for _ in 0..u64::MAX {
+        let count = read_piece(reader, &mut piece)?;
+        if count == 0 {
+            return Ok(bytes);
+        }
+        bytes.extend_from_slice(&piece[..count])?;
     }
     Err(ProgramFault::Refused(Resource::Input, io::Error::from(ErrorKind::TimedOut)))
 }

@@ -1,5 +1,5 @@
 //! Runs the subcommand that the words ask for, and returns the exit status.
-ghost use Rattle.std.specs.Prelude.{◌≡◌, ◌⊎◌, ◌≤◌, [], map, IfOk, MatchResult};
+ghost use Rattle.std.specs.Prelude.{◌≡◌, ◌⊎◌, ◌≤◌, [], map, None, IfOk, MatchResult};
 ghost use Rattle.std.specs.IoError.{error_kind};
 ghost use Rattle.std.specs.Io.KnownBytes.{Keeps};
 ghost use Rattle.ledger_model.specs.Spelling.{frame_bytes};
@@ -7,12 +7,14 @@ ghost use Rattle.command_line.specs.Faults.{AskForHelp, AskForHelpAlone, kinds_o
 ghost use Rattle.command_line.specs.Options.{AsksForText, IsRefused, IsSet, WantsMemory};
 ghost use Rattle.program.specs.Statements.{signed};
 ghost use Rattle.byte_streams.specs.Writing.{Writes};
-ghost use Rattle.program.specs.Doing.{Begins, Done, Halted, IfEnded, IfHanded, Performs, settings_of, status_of_stream, status_of_text};
+ghost use Rattle.program.specs.Doing.{AsksForAudit, Begins, Done, ExplainsAudit, Halted, IfEnded, IfHanded, IsQuiet, Performs, settings_of, status_of_stream, status_of_text};
 
+use crate::auditing::audit;
 use crate::delivering::deliver;
-use crate::outcome::{Outcome, Piped};
+use crate::outcome::{Ending, Outcome, Piped};
 use crate::signing::signed_frame;
 use crate::simulating::simulate;
+use crate::status::{BAD_INPUT, BAD_USAGE, DONE};
 use crate::stream_end::StreamEnd;
 use crate::text_end::TextEnd;
 use byte_streams::write_whole;
@@ -25,16 +27,10 @@ use std::alloc::Global;
 use std::io::{self, ErrorKind, Read, Write};
 use std::random::RandomSource;
 
-/// Everything was done.
-const DONE: u8 = 0;
-/// The input was cut, or is no stream of frames, or is no scenario.
-const BAD_INPUT: u8 = 1;
-/// The words are no command line.
-const BAD_USAGE: u8 = 2;
-
-/// Runs the program on its words, of which the first is its name, and returns its exit status: 0 done, 1 bad input, 2 bad
-/// usage, 3 out of memory, a full history or a failed stream. At 2 and 3 it writes to `faults` what is wrong. The random bytes
-/// of `source` are the keys of hashes. If the words ask for a running cluster, it does nothing and returns the settings.
+/// Runs the program on its words, of which the first is its name, and returns its exit status: 0 done, 1 bad input, or a fault
+/// or a wrong receipt that an audit found, 2 bad usage, 3 out of memory, a full history or a failed stream. At 2 and 3 it writes
+/// to `faults` what is wrong, and at 1 a sentence about a fault that an audit found. The random bytes of `source` are the keys of
+/// hashes. If the words ask for a running cluster, it does nothing and returns the settings.
 ///
 /// No clause can speak of the real stdin and stdout. The contract holds for every reader and writer whose bytes a clause can name.
 pub fn run<S: RandomSource, R: Read, W: Write, F: Write>(
@@ -50,7 +46,10 @@ pub fn run<S: RandomSource, R: Read, W: Write, F: Write>(
         → Performs (map (λ w. w.now) words.entry.now) status (R.remaining reader.old) (R.remaining reader.new) (W.contents writer.old) (W.contents writer.new)
         ⊎ (IsRefused (map (λ w. w.now) words.entry.now) × AskForHelp (map (λ w. w.now) words.entry.now)
         × (status ≡ 0) × Keeps (R.remaining reader.old) (R.remaining reader.new))) }
-    ensures quiet { IfEnded result (λ status. (status ≡ 0) ⊎ (status ≡ 1) → Keeps (F.contents faults.old) (F.contents faults.new)) }
+    ensures quiet { IfEnded result (λ status. status ≡ 0 → Keeps (F.contents faults.old) (F.contents faults.new)) }
+    // Only an audit explains what it found.
+    ensures explains { IfEnded result (λ status. status ≡ 1
+        → Keeps (F.contents faults.old) (F.contents faults.new) ⊎ AsksForAudit (map (λ w. w.now) words.entry.now)) }
     // The words are no command line, or set nothing, and don't ask for the help or the version.
     ensures refuses { IfEnded result (λ status. status ≡ 2 → IsRefused (map (λ w. w.now) words.entry.now)
         × (AskForHelpAlone (map (λ w. w.now) words.entry.now) → ⊥)
@@ -83,7 +82,7 @@ fn run_settings<S: RandomSource, R: Read, W: Write, F: Write>(
     writer: &mut W,
     faults: &mut F,
 ) -> Outcome
-    ensures ended { IfEnded result (λ status. (Keeps (F.contents faults.old) (F.contents faults.new)
+    ensures ended { IfEnded result (λ status. (IsQuiet settings status (F.contents faults.old) (F.contents faults.new)
         × Done settings status (R.remaining reader.old) (R.remaining reader.new) (W.contents writer.old) (W.contents writer.new))
         ⊎ ((status ≡ 3) × Halted settings (R.remaining reader.old) (R.remaining reader.new) (W.contents writer.old) (W.contents writer.new))) }
     ensures handed { IfHanded result (λ handed. (handed ≡ settings)
@@ -93,7 +92,7 @@ fn run_settings<S: RandomSource, R: Read, W: Write, F: Write>(
     match Piped::of(settings) {
         Ok(piped) => {
             let done = perform_whole(source, alloc, &piped, reader, writer);
-            Outcome::Ended(finish(alloc, done, faults))
+            Outcome::Ended(end(alloc, done, faults))
         }
         Err(handed) => handed,
     }
@@ -137,49 +136,52 @@ pub fn refuse_words<F: Write>(alloc: Global, error: io::Error, faults: &mut F) -
     finish(alloc, Err(fault), faults)
 }
 
-/// Does what the settings ask for, except for the flush, and returns the exit status.
+/// Does what the settings ask for, except for the flush, and returns how it ended.
 fn perform<S: RandomSource, R: Read, W: Write>(
     source: &S,
     alloc: Global,
     settings: &Piped,
     reader: &mut R,
     writer: &mut W,
-) -> Result<u8, ProgramFault>
-    ensures { MatchResult result
-        (λ status. Done (settings_of settings.now) status (R.remaining reader.old) (R.remaining reader.new) (W.contents writer.old) (W.contents writer.new))
+) -> Result<Ending, ProgramFault>
+    ensures done { MatchResult result
+        (λ ending. Done (settings_of settings.now) ending.status (R.remaining reader.old) (R.remaining reader.new) (W.contents writer.old) (W.contents writer.new))
         (λ _. Halted (settings_of settings.now) (R.remaining reader.old) (R.remaining reader.new) (W.contents writer.old) (W.contents writer.new)) }
+    ensures explains { IfOk result (ExplainsAudit (settings_of settings.now)) }
 {
     match settings {
         Piped::Sign(settings) => {
             sign(alloc, settings, writer)?;
-            Ok(DONE)
+            Ok(Ending::plain(DONE))
         }
         Piped::Deliver(settings) => {
             let end = deliver(source, alloc, settings, reader, writer)?;
-            Ok(stream_status(end))
+            Ok(Ending::plain(stream_status(end)))
         }
         Piped::Simulate(settings) => {
             let end = simulate(source, alloc, settings, reader, writer)?;
-            Ok(text_status(end))
+            Ok(Ending::plain(text_status(end)))
         }
+        Piped::Audit(settings) => audit(source, alloc, settings, reader, writer),
     }
 }
 
-/// Does what the settings ask for, flushes the writer, and returns the exit status.
+/// Does what the settings ask for, flushes the writer, and returns how it ended.
 fn perform_whole<S: RandomSource, R: Read, W: Write>(
     source: &S,
     alloc: Global,
     settings: &Piped,
     reader: &mut R,
     writer: &mut W,
-) -> Result<u8, ProgramFault>
-    ensures { MatchResult result
-        (λ status. Done (settings_of settings.now) status (R.remaining reader.old) (R.remaining reader.new) (W.contents writer.old) (W.contents writer.new))
+) -> Result<Ending, ProgramFault>
+    ensures done { MatchResult result
+        (λ ending. Done (settings_of settings.now) ending.status (R.remaining reader.old) (R.remaining reader.new) (W.contents writer.old) (W.contents writer.new))
         (λ _. Halted (settings_of settings.now) (R.remaining reader.old) (R.remaining reader.new) (W.contents writer.old) (W.contents writer.new)) }
+    ensures explains { IfOk result (ExplainsAudit (settings_of settings.now)) }
 {
-    let status = perform(source, alloc, settings, reader, writer)?;
+    let ending = perform(source, alloc, settings, reader, writer)?;
     flush_output(writer)?;
-    Ok(status)
+    Ok(ending)
 }
 
 /// The exit status of `abft deliver`, by how its stream ended.
@@ -225,6 +227,29 @@ fn show<W: Write>(
     print(alloc, writer, asked_for)?;
     flush_output(writer)?;
     Ok(DONE)
+}
+
+/// Writes the explanation of an end, if it has one, and returns its exit status. A failed write changes nothing.
+fn explain<F: Write>(alloc: Global, ending: &Ending, faults: &mut F) -> u8
+    ensures status { result ≡ ending.now.status }
+    ensures quiet { ending.now.explanation ≡ None → Keeps (F.contents faults.old) (F.contents faults.new) }
+{
+    if let Some(text) = &ending.explanation {
+        let _ = complain(alloc, faults, text);
+    }
+    ending.status
+}
+
+/// The exit status of what was done. Writes the explanation of the end, or why the program stopped.
+fn end<F: Write>(alloc: Global, done: Result<Ending, ProgramFault>, faults: &mut F) -> u8
+    ensures { MatchResult done
+        (λ ending. (result ≡ ending.status) × (ending.explanation ≡ None → Keeps (F.contents faults.old) (F.contents faults.new)))
+        (λ _. result ≡ 3) }
+{
+    match done {
+        Ok(ending) => explain(alloc, &ending, faults),
+        Err(fault) => finish(alloc, Err(fault), faults),
+    }
 }
 
 /// The exit status of what was done. If the program stopped, writes why.

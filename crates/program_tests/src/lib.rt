@@ -4,6 +4,8 @@
 #![tactic(auto)]
 
 #[cfg(test)]
+mod audit_words;
+#[cfg(test)]
 mod delivery_tests;
 #[cfg(test)]
 mod fault_tests;
@@ -13,6 +15,8 @@ mod key_tests;
 mod running_words;
 #[cfg(test)]
 mod scenario_tests;
+#[cfg(test)]
+mod setting_lines;
 #[cfg(test)]
 mod setting_tests;
 #[cfg(test)]

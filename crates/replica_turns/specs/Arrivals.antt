@@ -1,10 +1,13 @@
 -- Which parts of the frames that arrived are worth a check.
-use Rattle.std.specs.Prelude.{ℕ, Bool, false, not, List, [], ◌∷◌, ◌++◌, map, nat_eq, is_ok, if◌then◌else◌}
+use Rattle.std.specs.Prelude.{ℕ, Bool, false, not, ◌&&◌, List, [], ◌∷◌, ◌++◌, map, nat_eq, is_ok, if◌then◌else◌}
 use Rattle.std.specs.List.{list_any}
 use Rattle.std.specs.Option.{option_map_or}
 use Rattle.std.specs.Cmp.Lexicographic.{pointwise}
+use Rattle.ledger_model.specs.declared.config.Config.{Config}
 use Rattle.ledger_model.specs.declared.statement.SignedStatement.{SignedStatement}
 use Rattle.ledger_model.specs.declared.statement.Statement.{Statement}
+use Rattle.ledger_model.specs.declared.statement.Statement.TheVariants as statement
+use Rattle.ledger_model.specs.Validity.{is_quorate}
 use Rattle.signed_frames.specs.Lending.{SignedPartView, own_part, lent_of, proof_of}
 use Rattle.verify_cache.specs.Verifiers.{VerifierView, is_known, answer_in, check_of}
 use Rattle.locked_replica.specs.States.{StateView}
@@ -31,7 +34,18 @@ is_checked r s = is_ok (answer_before_signature r.config r.id r.entries s)
 abbrev pub is_unknown : VerifierView → SignedPartView → Bool
 is_unknown v p = not (is_known v (check_of p))
 
--- the reports of the frame's proof, if the verifier knows that the frame itself is signed
-abbrev pub reports_of_signed : VerifierView → SignedStatement → List SignedPartView
-reports_of_signed v s =
-    if option_map_or (λ answer. answer) (answer_in v (check_of (own_part s))) false then map lent_of (proof_of s.statement) else []
+-- the statement is a lock whose proof is a quorum's
+abbrev pub has_quorum : Config → Statement → Bool
+has_quorum config (statement.Report r) = false
+has_quorum config (statement.Lock l) = is_quorate config l
+has_quorum config (statement.Ack a) = false
+
+-- the verifier knows that the frame itself is signed
+abbrev pub is_known_signed : VerifierView → SignedStatement → Bool
+is_known_signed v s = option_map_or (λ answer. answer) (answer_in v (check_of (own_part s))) false
+
+-- the reports of the frame's proof, if the replica looks at their signatures: the frame itself is signed, as the verifier knows, and
+-- the proof is a quorum's
+abbrev pub reports_of_signed : Config → VerifierView → SignedStatement → List SignedPartView
+reports_of_signed config v s =
+    if is_known_signed v s && has_quorum config s.statement then map lent_of (proof_of s.statement) else []

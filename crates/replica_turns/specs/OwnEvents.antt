@@ -1,5 +1,5 @@
--- What a replica does by itself next, and the events of its turn.
-use Rattle.std.specs.Prelude.{ℕ, ◌+◌, max, nat_lt, nat_le, Bool, ◌&&◌, List, [], ◌∷◌, ◌++◌, map, Option, Some, None, is_some, Ok, if◌then◌else◌}
+-- What a replica does by itself next, and what an entry of its history sent.
+use Rattle.std.specs.Prelude.{ℕ, ◌+◌, max, nat_lt, nat_le, Bool, ◌&&◌, List, [], ◌∷◌, ◌++◌, Option, Some, None, is_some, Ok, if◌then◌else◌}
 use Rattle.ledger_model.specs.declared.event.Event.{Event}
 use Rattle.ledger_model.specs.declared.event.Event.TheVariants as event
 use Rattle.ledger_model.specs.declared.history.Entry.{Entry}
@@ -53,10 +53,6 @@ abbrev pub proposed_in : ℕ → List Event → ℕ
 proposed_in before [] = before
 proposed_in before (event.Propose h ∷ es) = proposed_in (max before h) es
 proposed_in before (_ ∷ es) = proposed_in before es
-
--- these events, followed by the delivery of each frame
-abbrev pub events_of : OwnEvents → List (List ℕ) → List Event
-events_of own frames = own_events own ++ map event.Deliver frames
 
 -- the frames that a reply sends
 abbrev pub sent_in : Reply → List Sent

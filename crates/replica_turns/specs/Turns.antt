@@ -1,6 +1,7 @@
--- What a turn adds to a replica's history.
+-- What a turn adds to a replica's history, and the events that deliver frames.
 use Rattle.std.specs.Prelude.{◌≡◌, ◌≤◌, ℕ, List, ◌∷◌, ◌++◌, map, length}
 use Rattle.ledger_model.specs.declared.event.Event.{Event}
+use Rattle.ledger_model.specs.declared.event.Event.TheVariants as event
 use Rattle.ledger_model.specs.declared.history.Entry.{Entry}
 use Rattle.ledger_model.specs.Commits.{commits_of}
 use Rattle.ledger_model.specs.Lawful.{Replay}
@@ -29,3 +30,7 @@ pub record GoesOn (old new : StateView) : Type 0 where
 -- the committed height of a replica
 abbrev pub height_in : StateView → ℕ
 height_in r = length (commits_of r.config r.id r.entries)
+
+-- the delivery of each of these frames
+abbrev pub deliveries_of : List (List ℕ) → List Event
+deliveries_of frames = map event.Deliver frames

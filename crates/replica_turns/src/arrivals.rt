@@ -3,10 +3,12 @@ ghost use Rattle.std.specs.Prelude.{◌≡◌, ◌++◌, filter, map, IfOk, OnOk
 ghost use Rattle.std.specs.List.{filter_map, flat_map};
 ghost use Rattle.ledger_model.specs.Reading.{reading};
 ghost use Rattle.signed_frames.specs.Lending.{own_part};
-ghost use Rattle.replica_turns.specs.Arrivals.{distinct, with_bytes, is_checked, is_unknown, reports_of_signed};
+ghost use Rattle.replica_turns.specs.Arrivals.{distinct, with_bytes, is_checked, is_unknown, has_quorum, reports_of_signed};
 
 use abci::Application;
 use bytes::Bytes;
+use ledger_model::{Config, Statement};
+use lock_proofs::is_quorate;
 use locked_replica::State;
 use signed_frames::{Frame, LentReports, SignedPart};
 use statements::DecodeFault;
@@ -93,34 +95,51 @@ fn push_unknown<'a>(
     Ok(())
 }
 
-/// The same for the reports in the proof of the frame, if the verifier knows that the frame is signed.
+/// Whether the statement is a lock whose proof is a quorum's.
+fn has_quorum(config: &Config, statement: &Statement) -> bool
+    ensures { result ≡ has_quorum config.now statement.now }
+{
+    match statement {
+        Statement::Lock(lock) => is_quorate(config, lock),
+        Statement::Report(_) | Statement::Ack(_) => false,
+    }
+}
+
+/// The same for the reports in the proof of the frame, if the verifier knows that the frame is signed, and the proof is a
+/// quorum's.
 fn push_reports<'a>(
     parts: &mut Vec<SignedPart<'a>>,
+    config: &Config,
     verifier: &Verifier,
     frame: &'a Frame,
 ) -> Result<(), AllocError>
     ensures { OnOk result (parts.new.items
-        ≡ parts.old.items ++ filter (is_unknown verifier.now) (reports_of_signed verifier.now frame.now)) }
+        ≡ parts.old.items ++ filter (is_unknown verifier.now) (reports_of_signed config.now verifier.now frame.now)) }
 {
     if verifier.answer(&frame.signed_part()) != Some(true) {
+        return Ok(());
+    }
+    if !has_quorum(config, frame.statement()) {
         return Ok(());
     }
     push_unknown(parts, verifier, frame.lent_reports())
 }
 
-/// The reports in the proofs of the frames that the verifier knows to be signed, without the reports of which it knows
-/// whether they are signed. A replica doesn't look at the proof of a lock that isn't signed itself. The only error is
-/// allocation failure.
+/// The reports in the proofs of the locks that the verifier knows to be signed and whose proofs are a quorum's, without the
+/// reports of which it knows whether they are signed. A replica that checks another lock looks at none of its reports'
+/// signatures. The only error is allocation failure.
 pub fn unknown_reports<'a>(
     alloc: Global,
+    config: &Config,
     verifier: &Verifier,
     frames: &'a [Frame],
 ) -> Result<Vec<SignedPart<'a>>, AllocError>
-    ensures { IfOk result (λ parts. parts.items ≡ filter (is_unknown verifier.now) (flat_map (reports_of_signed verifier.now) frames.now)) }
+    ensures { IfOk result (λ parts. parts.items
+        ≡ filter (is_unknown verifier.now) (flat_map (reports_of_signed config.now verifier.now) frames.now)) }
 {
     let mut parts = Vec::new(alloc);
     for frame in frames {
-        push_reports(&mut parts, verifier, frame)?;
+        push_reports(&mut parts, config, verifier, frame)?;
     }
     Ok(parts)
 }

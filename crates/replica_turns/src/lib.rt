@@ -6,14 +6,16 @@
 //! neither waits nor takes a lock.
 //!
 //! The decisions of a replica's worker are here too: what the replica does by itself next, and which heights it gives up
-//! ([`own_of`], [`events_of`]); which frames arrive one round early ([`early_of`]); which of their signatures are worth a
-//! check before the turn ([`keep_checked`], [`unknown_parts`], [`unknown_reports`]); which frames an entry of the history
-//! sent ([`sent_at`]); and which replicas a frame goes to ([`goes_to`]). [`new_replica`] makes the replicas of a cluster.
+//! ([`own_of`]); which frames arrive one round early ([`early_of`]); which of their signatures are worth a check before
+//! they are delivered ([`keep_checked`], [`unknown_parts`], [`unknown_reports`], [`deliveries_of`]); which frames an entry
+//! of the history sent ([`sent_at`]); and which replicas a frame goes to ([`goes_to`]). [`new_replica`] makes the replicas
+//! of a cluster.
 #![tactic(auto)]
 
 mod addressing;
 mod arrivals;
 mod client_turns;
+mod deliveries;
 mod early;
 mod own_events;
 mod replica;
@@ -25,8 +27,9 @@ mod waiting;
 pub use addressing::goes_to;
 pub use arrivals::{arrived_frames, keep_checked, unknown_parts, unknown_reports};
 pub use client_turns::{ClientEntries, query, submit};
+pub use deliveries::deliveries_of;
 pub use early::early_of;
-pub use own_events::{OwnEvents, events_of, offered, own_of};
+pub use own_events::{OwnEvents, own_of};
 pub use replica::new_replica;
 pub use sent::sent_at;
 pub use status::ReplicaStatus;

@@ -1,12 +1,11 @@
 //! What a replica does by itself: it runs the decided block, opens the height after the committed one, and gives up the
 //! heights that all replicas committed.
-ghost use Rattle.std.specs.Prelude.{◌≡◌, ◌<◌, ◌≤◌, ◌+◌, ◌-◌, ◌^◌, [], length, take, IfOk};
+ghost use Rattle.std.specs.Prelude.{◌≡◌, ◌≤◌, ◌+◌, take, IfOk};
 ghost use Rattle.ledger_model.specs.Commits.{floor_of};
 ghost use Rattle.replica_turns.specs.Turns.{height_in};
-ghost use Rattle.replica_turns.specs.OwnEvents.{is_next_decided, raised_floor, own_of, own_events, events_of, proposed_in};
+ghost use Rattle.replica_turns.specs.OwnEvents.{is_next_decided, raised_floor, own_of, own_events, proposed_in};
 
 use abci::Application;
-use bytes::Bytes;
 use ledger_model::{Event, Height};
 use locked_replica::State;
 use std::alloc::{AllocError, Global};
@@ -71,27 +70,6 @@ pub fn own_of<A: Application>(state: &State<A>, proposed: u32, least: Height) ->
 }
 
 impl OwnEvents {
-    /// Nothing.
-    pub fn none() -> Self
-        ensures { own_events result ≡ [] }
-    {
-        OwnEvents {
-            is_decided: false,
-            proposal: None,
-            floor: None,
-        }
-    }
-
-    /// The number of these events.
-    pub fn len(&self) -> usize
-        ensures len { result ≡ length (own_events self.now) }
-        ensures most { result ≤ 3 }
-    {
-        usize::from(self.is_decided)
-            + usize::from(self.proposal.is_some())
-            + usize::from(self.floor.is_some())
-    }
-
     /// The greatest height that the replica has proposed once it took the first `taken` events of its turn, given that it
     /// was `before`.
     pub fn proposed_after(&self, before: u32, taken: usize) -> u32
@@ -103,8 +81,8 @@ impl OwnEvents {
         }
     }
 
-    /// The events themselves, in order.
-    fn events(&self, alloc: Global) -> Result<Vec<Event>, AllocError>
+    /// The events themselves, in order: at most three. The only error is allocation failure.
+    pub fn events(&self, alloc: Global) -> Result<Vec<Event>, AllocError>
         ensures { IfOk result (λ events. events.items ≡ own_events self.now) }
     {
         let mut events = Vec::new(alloc);
@@ -119,25 +97,4 @@ impl OwnEvents {
         }
         Ok(events)
     }
-}
-
-/// The events of a replica's turn: what it does by itself, followed by the delivery of each frame. The only error is
-/// allocation failure.
-pub fn events_of(alloc: Global, own: &OwnEvents, frames: &[Bytes]) -> Result<Vec<Event>, AllocError>
-    ensures { IfOk result (λ events. events.items ≡ events_of own.now frames.now) }
-{
-    let mut events = own.events(alloc)?;
-    for frame in frames {
-        events.push(Event::Deliver(frame.clone()?))?;
-    }
-    Ok(events)
-}
-
-/// The number of frames that were offered when the replica took the first `taken` of the events; the event after those
-/// was refused, and its frame counts as offered.
-pub fn offered(own: &OwnEvents, taken: usize) -> usize
-    requires { taken < 2 ^ 64 - 1 }
-    ensures { result ≡ taken + 1 - length (own_events own.now) }
-{
-    (taken + 1).saturating_sub(own.len())
 }

@@ -1,4 +1,4 @@
-//! The frames that wait for a replica's turn: a bounded number, some of them for the next round.
+//! The frames that wait for a replica: a bounded number, for its next turns and for the next round.
 ghost use Rattle.std.specs.Prelude.{◌≡◌, ◌≤◌, ◌+◌, ◌-◌, ◌++◌, [], length, take, drop, filter, vec_len, OnOk, OnErr};
 ghost use Rattle.ledger_model.specs.Reading.{reading};
 ghost use Rattle.replica_turns.specs.Rounds.{is_early};
@@ -9,7 +9,7 @@ use bytes::Bytes;
 use std::alloc::{AllocError, Global};
 use std::marker::Model;
 
-/// The most frames of one turn, and the most that are taken in before it.
+/// The most frames of one turn. No frame is taken in while as many are due.
 const MAX_AT_ONCE: usize = 64;
 
 /// The most frames that wait for the next round.
@@ -18,7 +18,8 @@ const MAX_EARLY: usize = 1024;
 /// The most frames that are due: those that were taken in, and those that waited for the round.
 const MAX_DUE: usize = MAX_AT_ONCE + MAX_EARLY;
 
-/// The frames that wait for a replica: those for its next turns, and those that arrived one round early. There are at most 2,112.
+/// The frames that wait for a replica: those that are due in its next turns, at most 1,088, and those that wait for the next
+/// round, at most 1,024. A frame that arrives one round early is due at once, like all others, and waits for its round, too.
 pub struct WaitingFrames {
     due: Vec<Bytes>,
     early: Vec<Bytes>,
@@ -59,7 +60,8 @@ impl WaitingFrames {
         }
     }
 
-    /// The frames for the next turns, in order: what arrived, and what waited for this round.
+    /// The frames that are due, in order: all that arrived, early ones too, and those that waited for a round that was opened
+    /// since.
     pub fn due(&self) -> &[Bytes]
         ensures { result.now ≡ self.now.due }
     {
@@ -73,7 +75,7 @@ impl WaitingFrames {
         &self.due.as_slice()[..self.due.len().min(MAX_AT_ONCE)]
     }
 
-    /// The number of frames that may still be taken in before the next turn.
+    /// The number of frames that may be taken in now: as many as are missing to 64 that are due.
     pub fn room(&self) -> usize
         ensures room { result ≡ max_at_once - length self.now.due }
         ensures bounded { length self.now.due + length self.now.early ≤ max_waiting }
@@ -81,8 +83,8 @@ impl WaitingFrames {
         MAX_AT_ONCE.saturating_sub(self.due.len())
     }
 
-    /// Takes in frames that arrived while the round `clock` was open. Frames for the next round also wait for that
-    /// round, at most 1,024 of them. If memory runs out, all of `frames` are dropped.
+    /// Takes in frames that arrived while the round `clock` was open: all are due. Those of the next round also wait for it,
+    /// up to 1,024 in all. The only error is allocation failure: all of `frames` are dropped.
     pub fn take_in(
         &mut self,
         alloc: Global,
@@ -103,8 +105,8 @@ impl WaitingFrames {
         Ok(())
     }
 
-    /// Opens the next round: the frames that waited for it are due, up to 1,088 frames in all. If memory runs out, the
-    /// frames that waited for it are dropped.
+    /// Opens the next round: the frames that waited for it are due, up to 1,088 frames in all. The only error is allocation
+    /// failure: the frames that waited for the round are dropped.
     pub fn open_round(&mut self) -> Result<(), AllocError>
         ensures due { OnOk result (self.new.due ≡ take max_due (self.old.due ++ self.old.early)) }
         ensures lost { OnErr result (self.new.due ≡ self.old.due) }

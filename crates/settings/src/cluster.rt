@@ -18,6 +18,8 @@ pub struct ClusterSettings {
     pub is_quiet: bool,
     /// Whether the rounds end with standard input.
     pub stops_at_eof: bool,
+    /// The file to which the histories are written at the end, if one is named.
+    pub histories: Option<String>,
     ghost of_base: { (1 ≤ base_ms) × (base_ms ≤ 60000) },
 }
 

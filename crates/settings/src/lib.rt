@@ -1,11 +1,13 @@
 //! The settings that the words of a command line give, as plain values.
 #![tactic(auto)]
 
+mod audit;
 mod cluster;
 mod deliver;
 mod sign;
 mod simulate;
 
+pub use audit::{AuditSettings, Receipt};
 pub use cluster::{ClusterSettings, ServeSettings};
 pub use deliver::DeliverSettings;
 pub use sign::{SignSettings, What};
@@ -19,4 +21,5 @@ pub enum Settings {
     Simulate(SimulateSettings),
     Cluster(ClusterSettings),
     Serve(ServeSettings),
+    Audit(AuditSettings),
 }

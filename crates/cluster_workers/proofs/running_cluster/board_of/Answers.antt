@@ -1,4 +1,5 @@
 use Rattle.std.proofs.Common.{◌≡◌, ◌≤◌, ◌∙◌, sym, arith}
+use Rattle.std.proofs.lemmas.Grind.{common_steps}
 use Rattle.std.proofs.lemmas.List.Elements.{All-drop}
 use Rattle.commit_board.specs.Seats.{ReaderSeatView}
 use Rattle.cluster_workers.proofs.SeatsLeft.{all_dealt, all_reading, get_take}
@@ -24,3 +25,6 @@ returns-clause-readers c =
     λ k lt.
     let all : c.args.readers ≤ c.in-Some.all = omega arith in
     rw c.in_ok-looking.ensures.items (get_take c.args.readers k c.in_ok-board.reading.items lt) ∙ c.in_ok-board.ensures.readers k (omega arith)
+
+pub returns-clause-reader_count : goal.returns-clause-reader_count
+returns-clause-reader_count c = grind (arith, common_steps)

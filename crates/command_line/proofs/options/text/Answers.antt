@@ -1,14 +1,11 @@
-use Rattle.std.proofs.Common.{sym, ◌∙◌}
-use Rattle.clap.specs.Words.{found_of}
-use Rattle.clap.proofs.WalkLemmas.{first_value-rows}
+use Rattle.std.proofs.Common.{sym}
 use Rattle.command_line.proofs.options.text.Goals as goal
 
 pub returns-in-Some-clause-some : goal.returns-in-Some-clause-some
-returns-in-Some-clause-some c = sym (first_value-rows (found_of c.args.matches.now) c.args.name.now) ∙ sym c.in-Some.ensures
+returns-in-Some-clause-some c = sym c.in-Some.ensures
 
 pub returns-in-None-clause-none : goal.returns-in-None-clause-none
-returns-in-None-clause-none c = sym (first_value-rows (found_of c.args.matches.now) c.args.name.now) ∙ sym c.in-None.ensures
+returns-in-None-clause-none c = sym c.in-None.ensures
 
 pub returns-in-None-clause-right : goal.returns-in-None-clause-right
-returns-in-None-clause-right c =
-    λ table has. (has, sym (first_value-rows (found_of c.args.matches.now) c.args.name.now) ∙ sym c.in-None.ensures)
+returns-in-None-clause-right c = λ table has. (has, sym c.in-None.ensures)

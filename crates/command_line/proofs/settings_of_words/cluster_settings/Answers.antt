@@ -33,6 +33,7 @@ returns-clause-some c = record {
   base = c.in_ok-base_ms.ensures.some;
   quiet = c.is_named.ensures;
   stops = c.is_named-2.ensures;
+  histories = c.in_ok-histories.ensures;
 }
 
 pub returns-in_err-cluster-clause-right : goal.returns-in_err-cluster-clause-right

@@ -1,12 +1,12 @@
 use Rattle.std.proofs.Common.{◌≡◌, ◌∙◌, inl, inr, List, Some, refl, rules, codes, subst, sym}
 use Rattle.std.proofs.lemmas.Option.{same_Some}
 use Rattle.clap.specs.Words.{Row, found_of, rows_of}
-use Rattle.command_line.specs.Options.{Sets, SetsSign, SetsDeliver, SetsSimulate, SetsRunning, SetsServe, WantsMemory, running_options}
+use Rattle.command_line.specs.Options.{Sets, SetsSign, SetsDeliver, SetsSimulate, SetsRunning, SetsServe, SetsAudit, WantsMemory, running_options}
 use Rattle.settings.specs.declared.Settings.TheVariants as settings
 use Rattle.command_line.specs.Faults.{IsNoSubcommand}
 use Rattle.command_line.proofs.FaultLemmas.{right_alike}
 use Rattle.command_line.proofs.MatchesLemmas.{found_is, names_one, refused_alike, set_alike, refused_anyway, sets_sign, sets_deliver}
-use Rattle.command_line.proofs.MatchesLemmas.{sets_simulate, sets_cluster, sets_serve}
+use Rattle.command_line.proofs.MatchesLemmas.{sets_simulate, sets_cluster, sets_serve, sets_audit}
 use Rattle.command_line.proofs.settings_of_words.settings_of.Goals as goal
 
 pub returns-in-sign-clause-set : goal.returns-in-sign-clause-set
@@ -94,6 +94,23 @@ returns-in-serve-clause-refused c =
     refused_alike _ (SetsServe rows) _ _ c.serve_settings.result c.map-in-serve.result found (λ e s. sets_serve rows s)
     c.serve_settings.ensures.none c.map-in-serve.ensures.cases
 
+pub returns-in-audit-clause-set : goal.returns-in-audit-clause-set
+returns-in-audit-clause-set c =
+    let rows : List Row = rows_of (found_of c.in-Some.options.now) in
+    let found = found_is c.args.matches.now (codes "audit") rows (search (rules, c.in-audit.is, c.in-Some.ensures.name))
+    c.in-Some.ensures.rows in
+    set_alike (λ t s. s ≡ settings.Audit t) (SetsAudit rows) _ _ c.audit_settings.result c.map-in-audit.result found
+    (λ t s is set. subst (λ x. Sets (Some (codes "audit", rows)) x) (sym is) (refl, set)) c.audit_settings.ensures.some
+    c.map-in-audit.ensures.cases
+
+pub returns-in-audit-clause-refused : goal.returns-in-audit-clause-refused
+returns-in-audit-clause-refused c =
+    let rows : List Row = rows_of (found_of c.in-Some.options.now) in
+    let found = found_is c.args.matches.now (codes "audit") rows (search (rules, c.in-audit.is, c.in-Some.ensures.name))
+    c.in-Some.ensures.rows in
+    refused_alike _ (SetsAudit rows) _ _ c.audit_settings.result c.map-in-audit.result found (λ e s. sets_audit rows s)
+    c.audit_settings.ensures.none c.map-in-audit.ensures.cases
+
 pub returns-in_default-name-clause-refused : goal.returns-in_default-name-clause-refused
 returns-in_default-name-clause-refused c = λ s sets.
     elim (names_one c.args.matches.now s sets) [
@@ -102,7 +119,10 @@ returns-in_default-name-clause-refused c = λ s sets.
       | inr (inr (inl h)) ↦ c.in_default-name.not-simulate (same_Some c.in-Some.name.now (codes "simulate") (c.in-Some.ensures.name ∙ h))
       | inr (inr (inr (inl h))) ↦ c.in_default-name.not-cluster
           (same_Some c.in-Some.name.now (codes "cluster") (c.in-Some.ensures.name ∙ h))
-      | inr (inr (inr (inr h))) ↦ c.in_default-name.not-serve (same_Some c.in-Some.name.now (codes "serve") (c.in-Some.ensures.name ∙ h))
+      | inr (inr (inr (inr (inl h)))) ↦ c.in_default-name.not-serve
+          (same_Some c.in-Some.name.now (codes "serve") (c.in-Some.ensures.name ∙ h))
+      | inr (inr (inr (inr (inr h)))) ↦ c.in_default-name.not-audit
+          (same_Some c.in-Some.name.now (codes "audit") (c.in-Some.ensures.name ∙ h))
     ]
 
 pub returns-in-sign-clause-right : goal.returns-in-sign-clause-right
@@ -162,6 +182,13 @@ returns-in-serve-clause-right c =
     c.in-Some.ensures.rows in
     right_alike _ _ _ c.serve_settings.result c.map-in-serve.result found c.serve_settings.ensures.right c.map-in-serve.ensures.cases
 
+pub returns-in-audit-clause-right : goal.returns-in-audit-clause-right
+returns-in-audit-clause-right c =
+    let rows : List Row = rows_of (found_of c.in-Some.options.now) in
+    let found = found_is c.args.matches.now (codes "audit") rows (search (rules, c.in-audit.is, c.in-Some.ensures.name))
+    c.in-Some.ensures.rows in
+    right_alike _ _ _ c.audit_settings.result c.map-in-audit.result found c.audit_settings.ensures.right c.map-in-audit.ensures.cases
+
 pub returns-in_default-name-clause-right : goal.returns-in_default-name-clause-right
 returns-in_default-name-clause-right c =
     let rows : List Row = rows_of (found_of c.in-Some.options.now) in
@@ -170,6 +197,9 @@ returns-in_default-name-clause-right c =
       c.in_default-name.not-sign,
       (
         c.in_default-name.not-deliver,
-        (c.in_default-name.not-simulate, (c.in_default-name.not-cluster, c.in_default-name.not-serve)),
+        (
+          c.in_default-name.not-simulate,
+          (c.in_default-name.not-cluster, (c.in_default-name.not-serve, c.in_default-name.not-audit)),
+        ),
       ),
     )

@@ -1,28 +1,26 @@
-use Rattle.std.proofs.Common.{sym, subst, ap, ◌∙◌}
-use Rattle.std.proofs.lemmas.List.Elements.{recursion_from_All}
-use Rattle.ledger_model.specs.Audits.{AreReplays}
-use Rattle.verify_cache.specs.Verifiers.{VerifierView}
-use Rattle.history_audit.proofs.Replaying.{ledger_of}
+use Rattle.std.proofs.Common.{inr, sym, ◌∙◌}
+use Rattle.std.specs.Prelude.{Err}
+use Rattle.ledger_laws.proofs.Audits.{quorum_fits}
+use Rattle.history_audit.specs.declared.fault.AuditFault.TheVariants as fault
+use Rattle.history_audit.proofs.Findings.{ledger_found, count_found, only_found}
 use Rattle.history_audit.proofs.auditing.audit.Goals as goal
 
-pub follow_all-requires-clause-opening : goal.follow_all-requires-clause-opening
-follow_all-requires-clause-opening g c = recursion_from_All _ c.args.apps.items c.requires.opening
+pub returns-then-not-are_of_a_quorum-clause-only : goal.returns-then-not-are_of_a_quorum-clause-only
+returns-then-not-are_of_a_quorum-clause-only g c =
+    only_found c.args.config.now c.args.ring.now c.args.histories.now (Err fault.Count)
+    (inr (sym c.are_of_a_quorum.ensures ∙ c.if-not-are_of_a_quorum.true))
+
+pub audit_quorum-requires-clause-enough : goal.audit_quorum-requires-clause-enough
+audit_quorum-requires-clause-enough g c = c.requires.enough
+    (quorum_fits c.args.config.now c.args.histories.now (sym c.are_of_a_quorum.ensures ∙ c.if-not-are_of_a_quorum.false))
 
 pub returns-clause-ledger : goal.returns-clause-ledger
-returns-clause-ledger g c =
-    let config = c.args.config.now in
-    let histories = c.args.histories.now in
-    let ring_is = ap (λ (v : VerifierView). v.ring) c.in_ok-verifier.ensures ∙ c.in_ok-copy.ensures in
-    let replays = subst (λ r. AreReplays config r histories) ring_is (c.in_ok-ledger.ensures.0) in
-    ledger_of config c.args.ring.now histories c.in_ok-ledger.ledger (sym c.is_count.ensures ∙ c.if-not-is_count.false) replays
-    c.in_ok-look_for_unsent.ensures (c.in_ok-ledger.ensures.1)
+returns-clause-ledger g c = ledger_found c.args.config.now c.args.ring.now c.args.histories.now c.audit_quorum.result c.audit_quorum.ensures
 
-pub returns-clause-replays : goal.returns-clause-replays
-returns-clause-replays g c =
-    let ring_is = ap (λ (v : VerifierView). v.ring) c.in_ok-verifier.ensures ∙ c.in_ok-copy.ensures in
-    subst (λ r. AreReplays c.args.config.now r c.args.histories.now) ring_is (c.in_ok-ledger.ensures.0)
+pub returns-clause-count : goal.returns-clause-count
+returns-clause-count g c =
+    count_found c.args.config.now c.args.ring.now c.args.histories.now c.audit_quorum.result
+    (sym c.are_of_a_quorum.ensures ∙ c.if-not-are_of_a_quorum.false) c.audit_quorum.ensures
 
-pub returns-in_err-look_for_unsent-clause-after_replays : goal.returns-in_err-look_for_unsent-clause-after_replays
-returns-in_err-look_for_unsent-clause-after_replays g c reader i signer is =
-    let ring_is = ap (λ (v : VerifierView). v.ring) c.in_ok-verifier.ensures ∙ c.in_ok-copy.ensures in
-    subst (λ r. AreReplays c.args.config.now r c.args.histories.now) ring_is (c.in_ok-ledger.ensures.0)
+pub returns-clause-only : goal.returns-clause-only
+returns-clause-only g c = only_found c.args.config.now c.args.ring.now c.args.histories.now c.audit_quorum.result c.audit_quorum.ensures

@@ -1,4 +1,4 @@
-use Rattle.std.proofs.Common.{◌≡◌, List, [], ◌∷◌, ◌++◌, rules, length, sym, ap, subst, ◌∙◌, append_assoc, append-nil}
+use Rattle.std.proofs.Common.{◌≡◌, List, [], ◌∷◌, ◌++◌, rules, sym, ap, subst, ◌∙◌, append_assoc, append-nil}
 use Rattle.std.specs.Vec.Iter.{into_iter_items}
 use Rattle.ledger_model.specs.declared.statement.SignedStatement.{SignedStatement}
 use Rattle.program.specs.Answering.{Printed, PrintedSome, deliveries}

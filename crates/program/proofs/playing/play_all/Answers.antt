@@ -1,7 +1,7 @@
 use Rattle.std.proofs.Common.{◌+◌, [], ◌∷◌, ◌++◌, take, drop, sym, subst}
 use Rattle.program.specs.Simulating.{PlaysWritten, PlaysWrittenSome}
 use Rattle.byte_streams.proofs.Faults.{on_error}
-use Rattle.program.proofs.HistoryLemmas.{and_others}
+use Rattle.byte_streams.proofs.EachWritten.{and_others}
 use Rattle.program.proofs.SimulatingLemmas.{written_none, written_both, written_after, written_longer}
 use Rattle.program.proofs.playing.play_all.Goals as goal
 use Rattle.ledger_model.proofs.Lists.{take_item}

@@ -3,7 +3,7 @@ use Rattle.std.proofs.lemmas.Grind.{common_steps}
 use Rattle.byte_streams.specs.Writing.{AppendsSome}
 use Rattle.history_bytes.specs.Histories.{history_bytes}
 use Rattle.byte_streams.proofs.Faults.{on_error}
-use Rattle.program.proofs.HistoryLemmas.{first_some, next_some}
+use Rattle.byte_streams.proofs.EachWritten.{first_some, next_some}
 use Rattle.program.proofs.playing.write_histories.Goals as goal
 
 pub returns-in_err-bytes-clause-written : goal.returns-in_err-bytes-clause-written

@@ -1,7 +1,7 @@
 use Rattle.std.proofs.Common.{map, inl, inr, subst, sym}
 use Rattle.std.proofs.KnownBytes.{Keeps-refl}
 use Rattle.command_line.specs.Options.{IsSet}
-use Rattle.program.proofs.RunningLemmas.{if_ended, if_handed, settled_finishes, settled_quiet, settled_refuses, settled_stops}
+use Rattle.program.proofs.RunningLemmas.{if_ended, if_handed, settled_finishes, settled_explains, settled_quiet, settled_refuses, settled_stops}
 use Rattle.program.proofs.RunningLemmas.{settled_known, told_finishes, told_quiet, told_refuses, told_stops, told_known}
 use Rattle.program.proofs.running.run.Goals as goal
 
@@ -15,8 +15,15 @@ returns-in-Ok-clause-finishes g c =
 pub returns-in-Ok-clause-quiet : goal.returns-in-Ok-clause-quiet
 returns-in-Ok-clause-quiet g c =
     if_ended c.run_settings.result _ _
-    (λ status is small. settled_quiet (map (λ w. w.now) c.args.words.now) c.in-Ok.settings c.in-Ok.ensures.set
-    c.in-Ok.ensures.taken status _ _ _ _ _ is small)
+    (λ status is zero. settled_quiet (map (λ w. w.now) c.args.words.now) c.in-Ok.settings c.in-Ok.ensures.set
+    c.in-Ok.ensures.taken status _ _ _ _ _ _ is zero)
+    c.run_settings.ensures.ended
+
+pub returns-in-Ok-clause-explains : goal.returns-in-Ok-clause-explains
+returns-in-Ok-clause-explains g c =
+    if_ended c.run_settings.result _ _
+    (λ status is one. settled_explains (map (λ w. w.now) c.args.words.now) c.in-Ok.settings c.in-Ok.ensures.set
+    c.in-Ok.ensures.taken status _ _ _ _ _ _ is one)
     c.run_settings.ensures.ended
 
 pub returns-in-Ok-clause-refuses : goal.returns-in-Ok-clause-refuses
@@ -54,8 +61,13 @@ returns-in-Err-clause-finishes g c = λ small.
 
 pub returns-in-Err-clause-quiet : goal.returns-in-Err-clause-quiet
 returns-in-Err-clause-quiet g c =
-    λ small. told_quiet (map (λ w. w.now) c.args.words.now) c.in-Err.fault c.write_fault.result _ _ c.in-Err.ensures.right
-    (λ enough taken s set. enough (c.in-Err.ensures.refused taken s set)) c.write_fault.ensures small
+    λ zero. told_quiet (map (λ w. w.now) c.args.words.now) c.in-Err.fault c.write_fault.result _ _ c.in-Err.ensures.right
+    (λ enough taken s set. enough (c.in-Err.ensures.refused taken s set)) c.write_fault.ensures (inl zero)
+
+pub returns-in-Err-clause-explains : goal.returns-in-Err-clause-explains
+returns-in-Err-clause-explains g c =
+    λ one. inl (told_quiet (map (λ w. w.now) c.args.words.now) c.in-Err.fault c.write_fault.result _ _ c.in-Err.ensures.right
+    (λ enough taken s set. enough (c.in-Err.ensures.refused taken s set)) c.write_fault.ensures (inr one))
 
 pub returns-in-Err-clause-refuses : goal.returns-in-Err-clause-refuses
 returns-in-Err-clause-refuses g c = λ two.

@@ -6,4 +6,5 @@ use Rattle.replica_turns.proofs.arrivals.unknown_reports.Given as goal
 
 abbrev pub invariant-loop-frame : goal.invariant-loop-frame
 invariant-loop-frame l =
-    l.parts.items ≡ filter (is_unknown l.fn.verifier) (flat_map (reports_of_signed l.fn.verifier) (take l.frame-index l.fn.frames))
+    l.parts.items
+    ≡ filter (is_unknown l.fn.verifier) (flat_map (reports_of_signed l.fn.config l.fn.verifier) (take l.frame-index l.fn.frames))

@@ -1,5 +1,6 @@
 -- the new entry answers what the application answers as of its last block
-use Rattle.std.proofs.Common.{◌≡◌, ◌∙◌, ap, Some, slice_get}
+use Rattle.std.proofs.Common.{◌≡◌, ◌∙◌, ap, Some, slice_get, arith}
+use Rattle.std.proofs.lemmas.Grind.{common_steps}
 use Rattle.ledger_model.specs.Commits.{commits_of}
 use Rattle.ledger_model.specs.Replies.{query_reply}
 use Rattle.replica_turns.specs.Clients.{query_reply_at}
@@ -26,3 +27,9 @@ returns-clause-answer g c =
     query_added old.config old.ring old.id old.entries c.apply.new.self.entries c.args.key c.new.result added.0 c.in_ok-index.index
     c.in_ok-index.ensures.index c.new.ensures added.1.0 added.1.1 in
     cc (told, c.in_ok-answer_at.ensures)
+
+pub returns-clause-event : goal.returns-clause-event
+returns-clause-event g c = grind (arith, common_steps)
+
+pub returns-in_err-answer_at-clause-fault : goal.returns-in_err-answer_at-clause-fault
+returns-in_err-answer_at-clause-fault g c = grind (arith, common_steps)

@@ -10,3 +10,9 @@ returns-then-is_empty-clause-answer g c = grind (arith, common_steps)
 pub returns-then-tx-gt-MAX_LEN-clause-answer : goal.returns-then-tx-gt-MAX_LEN-clause-answer
 unfolding submit_reply
 returns-then-tx-gt-MAX_LEN-clause-answer g c = grind (arith, common_steps)
+
+pub returns-clause-used : goal.returns-clause-used
+returns-clause-used g c = grind (arith, common_steps)
+
+pub returns-then-tx-gt-MAX_LEN-clause-event : goal.returns-then-tx-gt-MAX_LEN-clause-event
+returns-then-tx-gt-MAX_LEN-clause-event g c = grind (arith, common_steps)

@@ -1,0 +1,2 @@
+mod BlockLines
+mod FaultLines

@@ -1,0 +1,24 @@
+use Rattle.std.proofs.Common.{refl}
+use Rattle.command_line.specs.Options.{audit_options, SetsAudit, WantsMemory}
+use Rattle.command_line.specs.Faults.{IsRightOf}
+use Rattle.clap.specs.Words.{found_of, rows_of}
+use Rattle.clap.proofs.TakesLemmas.{passed_up}
+use Rattle.settings.specs.declared.audit.AuditSettings.{AuditSettings}
+use Rattle.command_line.proofs.settings_of_words.audit_settings.Goals as goal
+
+pub returns-in_err-receipt-clause-none : goal.returns-in_err-receipt-clause-none
+returns-in_err-receipt-clause-none c =
+    passed_up _ c.in_err-receipt.field-0.0
+    (λ e. (s : AuditSettings) → SetsAudit (rows_of (found_of c.args.matches.now)) s → WantsMemory e)
+    c.from_residual-in_err-receipt.ensures.1 (λ s i. c.in_err-receipt.ensures.none s.receipt i.receipt)
+
+pub returns-in_err-cluster-clause-right : goal.returns-in_err-cluster-clause-right
+returns-in_err-cluster-clause-right c =
+    passed_up _ c.in_err-cluster.field-0.0 (IsRightOf audit_options (rows_of (found_of c.args.matches.now))) c.from_residual.ensures.1
+    (c.in_err-cluster.ensures.right audit_options
+    (record { n = refl; n_limits = refl; t = refl; t_limits = refl; kind = refl; kind_limits = refl; w = refl; tree = refl; seed = refl }))
+
+pub returns-in_err-receipt-clause-right : goal.returns-in_err-receipt-clause-right
+returns-in_err-receipt-clause-right c =
+    passed_up _ c.in_err-receipt.field-0.0 (IsRightOf audit_options (rows_of (found_of c.args.matches.now)))
+    c.from_residual-in_err-receipt.ensures.1 (c.in_err-receipt.ensures.right audit_options refl)

@@ -1,0 +1,150 @@
+//! `abft audit`: reads histories, audits them, and writes what it finds.
+ghost use Rattle.std.specs.Prelude.{◌≡◌, ◌⊎◌, Bool, Option, None, MatchResult, IfErr, IfOk};
+ghost use Rattle.cluster_keys.specs.Keys.{ring_of};
+ghost use Rattle.history_audit.specs.Findings.{IsFinding};
+ghost use Rattle.byte_streams.specs.Writing.{Writes};
+ghost use Rattle.program_streams.specs.Faults.{IsMemoryOrAsked, IsMemoryOrRandom};
+ghost use Rattle.program.specs.Auditing.{Audits, AuditsSome, AuditsWritten, AuditsWrittenSome, audit_status, audit_text, bad_history, receipt_check};
+
+use crate::outcome::Ending;
+use crate::reading::read_whole;
+use crate::status::{BAD_INPUT, DONE};
+use audit_lines::{add_finding, add_receipt, audited, explanation, has_receipt};
+use bytes::Bytes;
+use cluster_keys::{ClusterSeed, all_keys};
+use history_audit::AuditFault;
+use history_reading::{HistoryFault, read_histories};
+use ledger_model::{Config, History, Ledger};
+use program_streams::{ProgramFault, write_output};
+use reply_lines::Text;
+use settings::AuditSettings;
+use std::alloc::{AllocError, Global};
+use std::io::{Read, Write};
+use std::random::RandomSource;
+
+/// Whether the receipt of the settings holds in one of the histories, if there is a receipt.
+fn check_receipt(settings: &AuditSettings, histories: &[History]) -> Option<bool>
+    ensures { result ≡ receipt_check settings.now.receipt histories.now }
+{
+    let receipt = settings.receipt.as_ref()?;
+    Some(has_receipt(histories, receipt.replica, receipt.index, &receipt.tx))
+}
+
+/// What is printed of a finding: after a ledger, whether the receipt holds.
+fn text_of(
+    alloc: Global,
+    finding: &Result<Ledger, AuditFault>,
+    receipt: Option<bool>,
+) -> Result<Text, AllocError>
+    ensures { IfOk result (λ text. text ≡ audit_text finding.now receipt) }
+{
+    let mut text = Text::new(alloc);
+    add_finding(&mut text, finding)?;
+    if finding.is_ok() {
+        if let Some(holds) = receipt {
+            add_receipt(&mut text, holds)?;
+        }
+    }
+    Ok(text)
+}
+
+/// The exit status: 0 for a ledger, unless the receipt is wrong.
+fn status_of(finding: &Result<Ledger, AuditFault>, receipt: Option<bool>) -> u8
+    ensures { result ≡ audit_status finding.now receipt }
+{
+    match finding {
+        Ok(_) if receipt != Some(false) => DONE,
+        _ => BAD_INPUT,
+    }
+}
+
+/// The sentence about a fault that was found.
+fn explained(
+    alloc: Global,
+    config: &Config,
+    histories: &[History],
+    finding: &Result<Ledger, AuditFault>,
+) -> Result<Option<String>, AllocError>
+    ensures { IfOk result (λ text. (r : Option Bool) → (text ≡ None) ⊎ (audit_status finding.now r ≡ 1)) }
+{
+    match finding {
+        Ok(_) => Ok(None),
+        Err(fault) => Ok(Some(explanation(alloc, config, histories, fault)?)),
+    }
+}
+
+/// What an audit of the histories finds under the public keys of the cluster.
+fn found<S: RandomSource>(
+    source: &S,
+    alloc: Global,
+    cluster: &ClusterSeed,
+    histories: &[History],
+) -> Result<Result<Ledger, AuditFault>, ProgramFault>
+    ensures finds { IfOk result (λ finding. IsFinding cluster.now.config (ring_of cluster.now) histories.now finding) }
+    ensures fault { IfErr result IsMemoryOrRandom }
+{
+    let keys = all_keys(alloc, cluster)?;
+    audited(source, alloc, &cluster.config, &keys.ring, histories)
+}
+
+/// Audits histories and writes what it finds.
+fn audit_histories<S: RandomSource, W: Write>(
+    source: &S,
+    alloc: Global,
+    settings: &AuditSettings,
+    histories: &[History],
+    writer: &mut W,
+) -> Result<Ending, ProgramFault>
+    ensures audits { MatchResult result
+        (λ ending. AuditsWritten settings.now histories.now ending.status (W.contents writer.old) (W.contents writer.new))
+        (λ _. AuditsWrittenSome settings.now histories.now (W.contents writer.old) (W.contents writer.new)) }
+    ensures explains { IfOk result (λ ending. (ending.explanation ≡ None) ⊎ (ending.status ≡ 1)) }
+    ensures fault { IfErr result IsMemoryOrAsked }
+{
+    let finding = found(source, alloc, &settings.cluster, histories)?;
+    let receipt = check_receipt(settings, histories);
+    let text = text_of(alloc, &finding, receipt)?;
+    let explanation = explained(alloc, &settings.cluster.config, histories, &finding)?;
+    write_output(writer, text.as_bytes())?;
+    Ok(Ending {
+        status: status_of(&finding, receipt),
+        explanation,
+    })
+}
+
+/// Writes that the input is no histories.
+fn print_bad_history<W: Write>(writer: &mut W) -> Result<Ending, ProgramFault>
+    ensures written { Writes result (W.contents writer.old) (W.contents writer.new) bad_history }
+    ensures ending { IfOk result (λ ending. (ending.explanation ≡ None) × (ending.status ≡ 1)) }
+    ensures fault { IfErr result IsMemoryOrAsked }
+{
+    write_output(writer, b"bad history\n")?;
+    Ok(Ending::plain(BAD_INPUT))
+}
+
+/// Reads the histories of a stream to its end, audits them under the keys of the settings' cluster, and writes what it finds:
+/// the ledger and whether the receipt holds, or the first fault. If the bytes are no histories, it writes that. The random
+/// bytes are the keys of hashes.
+///
+/// The end has a sentence about a fault that was found.
+pub fn audit<S: RandomSource, R: Read, W: Write>(
+    source: &S,
+    alloc: Global,
+    settings: &AuditSettings,
+    reader: &mut R,
+    writer: &mut W,
+) -> Result<Ending, ProgramFault>
+    ensures audits { MatchResult result
+        (λ ending. Audits settings.now ending.status (R.remaining reader.old) (R.remaining reader.new) (W.contents writer.old) (W.contents writer.new))
+        (λ _. AuditsSome settings.now (R.remaining reader.old) (R.remaining reader.new) (W.contents writer.old) (W.contents writer.new)) }
+    // Nothing is explained at status 0.
+    ensures explains { IfOk result (λ ending. (ending.explanation ≡ None) ⊎ (ending.status ≡ 1)) }
+    ensures fault { IfErr result IsMemoryOrAsked }
+{
+    let bytes = read_whole(alloc, reader)?;
+    match read_histories(alloc, Bytes::from_vec(bytes)?) {
+        Ok(histories) => audit_histories(source, alloc, settings, &histories, writer),
+        Err(HistoryFault::BadHistory) => print_bad_history(writer),
+        Err(HistoryFault::NoMemory) => Err(ProgramFault::NoMemory),
+    }
+}

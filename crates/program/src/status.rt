@@ -1,0 +1,8 @@
+//! The exit statuses of what was done, and of words that are no command line.
+
+/// Everything was done.
+pub(crate) const DONE: u8 = 0;
+/// The input was cut, or is no stream of frames, no scenario and no histories, or an audit found a fault or a wrong receipt.
+pub(crate) const BAD_INPUT: u8 = 1;
+/// The words are no command line.
+pub(crate) const BAD_USAGE: u8 = 2;

@@ -1,0 +1,82 @@
+//! Prints the settings that words of a command line give, as a line, for the tests.
+use cluster_keys::ClusterSeed;
+use command_line::settings;
+use settings::{AuditSettings, ClusterSettings, Receipt, ServeSettings, Settings};
+use std::alloc::{AllocError, Global};
+
+/// The options of a cluster, as a line: the number of replicas, how many of them may lie, the application, bits and
+/// leaves of keys, and the seed's last byte.
+fn cluster_line(alloc: Global, cluster: &ClusterSeed) -> Result<String, AllocError> {
+    let config = cluster.config;
+    let params = cluster.params;
+    let width = params.width;
+    let leaves = params.leaves();
+    format!(in alloc;
+        "{} {} {:?} {width:?} {leaves} {}",
+        config.replicas, config.faults, config.kind, cluster.seed[31]
+    )
+}
+
+/// The settings of `abft cluster`, as a line.
+fn running_line(alloc: Global, running: &ClusterSettings) -> Result<String, AllocError> {
+    let cluster = cluster_line(alloc, &running.cluster)?;
+    let tx = running.tx.as_bytes();
+    let histories = &running.histories;
+    format!(in alloc;
+        "{cluster} {tx:?} {} {} {} {} {histories:?}",
+        running.rounds, running.base_ms, running.is_quiet, running.stops_at_eof
+    )
+}
+
+/// The settings of `abft serve`, as a line.
+fn serving_line(alloc: Global, serve: &ServeSettings) -> Result<String, AllocError> {
+    let running = running_line(alloc, &serve.cluster)?;
+    format!(in alloc;
+        "{running}, {} {} {}",
+        serve.port, serve.sessions, serve.client_entries
+    )
+}
+
+/// A receipt, as a line.
+fn receipt_line(alloc: Global, receipt: &Receipt) -> Result<String, AllocError> {
+    let tx = receipt.tx.as_bytes();
+    format!(in alloc; "{} {} {tx:?}", receipt.replica.number(), receipt.index)
+}
+
+/// The settings of `abft audit`, as a line.
+fn audit_line(alloc: Global, audit: &AuditSettings) -> Result<String, AllocError> {
+    let cluster = cluster_line(alloc, &audit.cluster)?;
+    let Some(receipt) = &audit.receipt else {
+        return format!(in alloc; "{cluster}, no receipt");
+    };
+    let receipt = receipt_line(alloc, receipt)?;
+    format!(in alloc; "{cluster}, {receipt}")
+}
+
+/// The settings that the words give, as a line, or what is wrong with them.
+fn told(alloc: Global, words: &[&str]) -> Result<String, AllocError> {
+    match settings(alloc, words) {
+        Ok(Settings::Cluster(running)) => running_line(alloc, &running),
+        Ok(Settings::Serve(serve)) => serving_line(alloc, &serve),
+        Ok(Settings::Audit(audit)) => audit_line(alloc, &audit),
+        Ok(_) => format!(in alloc; "other settings"),
+        Err(fault) => format!(in alloc; "{fault}"),
+    }
+}
+
+/// Whether the words give these settings, or have this fault.
+fn is_told(alloc: Global, words: &[&str], text: &str) -> bool {
+    match told(alloc, words) {
+        Ok(line) => line.as_str() == text,
+        Err(_) => false,
+    }
+}
+
+/// Whether the words of a line give these settings, or have this fault.
+pub(crate) fn is_told_of(alloc: Global, line: &str, text: &str) -> bool {
+    let words: Result<Vec<&str>, AllocError> = line.split(' ').collect(alloc);
+    match words {
+        Ok(words) => is_told(alloc, &words, text),
+        Err(_) => false,
+    }
+}
