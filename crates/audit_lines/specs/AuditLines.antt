@@ -21,7 +21,7 @@ block_lines h (v ∷ vs) = block_line h v ++ block_lines (h + 1) vs
 unfoldable pub ledger_text : List Value → List ℕ
 ledger_text ledger = codes "ledger " ++ decimal (length ledger) ++ codes "\n" ++ block_lines 1 ledger
 
--- the line of a fault; want of memory has none, since it stops the program
+-- the line of a fault; NoMemory has none, since it stops the program
 abbrev pub fault_text : AuditFault → List ℕ
 fault_text fault.Count = codes "fault 1 Count\n"
 fault_text (fault.NotReplay r i) = codes "fault 2 NotReplay " ++ decimal r ++ codes " " ++ decimal i ++ codes "\n"

@@ -63,7 +63,7 @@ fn add_unsent(
     out.add(&line)
 }
 
-/// The line of a fault; nothing for want of memory.
+/// The line of a fault; `NoMemory` has none.
 fn add_fault(out: &mut Text, fault: AuditFault) -> Result<(), AllocError>
     ensures { OnOk result (out.new ≡ out.old ++ fault_text fault) }
 {

@@ -10,7 +10,7 @@ use std::thread::Threads;
 use test_support::{TestCluster, report_bytes};
 use verify_pool::{Gate, NoGate, verify_all};
 
-/// The check of one part starts only after the check of another part has ended, or was looked for so many times.
+/// The check of one part starts only after the check of another part has ended, or after this number of looks for its end.
 #[derive(Drop)]
 struct OrderGate {
     first: usize,
@@ -31,7 +31,7 @@ impl OrderGate {
         }
     }
 
-    // Whether the first check ends within so many looks.
+    // Whether the first check ends within the number of looks.
     fn waits(&self) -> bool {
         for _ in 0..self.looks {
             if self.has_ended.load(Ordering::SeqCst) {
