@@ -7,8 +7,8 @@
 # bench: proves and builds the benchmark, and prints what keys and signatures cost on this machine.
 # bench-v3: the same, of a program for processors with AVX2 (x86-64-v3), which the gate doesn't build; on any other the program
 #       ends at once with status 127.
-# soak: proves and builds the program, and runs live clusters and many sessions on this machine for an hour and a half; no part of the gate, since
-#       what a clock brings differs from machine to machine.
+# soak: proves and builds the program, and runs live clusters, many sessions and hostile use on this machine for two hours and a half; no part
+#       of the gate, since what a clock brings differs from machine to machine.
 # prove-NAME: proves a library and what it stands on; what was said is in crates/NAME/out/said.
 # One of them at a time in one tree: the gate sets crates/*/out aside while it runs.
 # What the checker said in the gate is in gate.log; a line for each crate and each edit appears.

@@ -1,82 +1,9 @@
 #!/usr/bin/env python3
-"""Makes the example texts that inject frames which no `lie-` line makes: signatures by RFC 8554, and the bytes that
-docs/FORMATS.md tells of, written once more. Run in this folder; the seed is 32 zero bytes, the keys are those of `keys 4 5`."""
-import hashlib
-import struct
+"""Makes the example texts that inject frames which no `lie-` line makes. Run in this folder; `signing.py` signs them."""
+import sys
 
-SEED, CHAINS, LEAVES = bytes(32), 67, 32
-
-
-def sha(*parts):
-    return hashlib.sha256(b"".join(parts)).digest()
-
-
-def u16(n):
-    return struct.pack(">H", n)
-
-
-def u32(n):
-    return struct.pack(">I", n)
-
-
-class Key:
-    """The key pair of a replica."""
-
-    def __init__(self, replica):
-        self.identifier = sha(SEED, bytes([replica, 0]))[:16]
-        self.seed = sha(SEED, bytes([replica, 1]))
-        self.nodes = {LEAVES + q: self.leaf(q) for q in range(LEAVES)}
-        for r in range(LEAVES - 1, 0, -1):
-            self.nodes[r] = sha(self.identifier, u32(r), u16(0x8383), self.nodes[2 * r], self.nodes[2 * r + 1])
-
-    def chain(self, q, i, steps):
-        value = sha(self.identifier, u32(q), u16(i), b"\xff", self.seed)
-        for j in range(steps):
-            value = sha(self.identifier, u32(q), u16(i), bytes([j]), value)
-        return value
-
-    def leaf(self, q):
-        ends = [self.chain(q, i, 15) for i in range(CHAINS)]
-        return sha(self.identifier, u32(LEAVES + q), u16(0x8282), sha(self.identifier, u32(q), u16(0x8080), *ends))
-
-    def sign(self, q, message):
-        random = sha(self.identifier, u32(q), u16(0xFFFD), b"\xff", self.seed)
-        digest = sha(self.identifier, u32(q), u16(0x8181), random, message)
-        digits = [d for b in digest for d in (b >> 4, b & 15)]
-        check = u16(sum(15 - d for d in digits) << 4)
-        digits += [d for b in check for d in (b >> 4, b & 15)]
-        chains = [self.chain(q, i, d) for i, d in enumerate(digits[:CHAINS])]
-        path = [self.nodes[((LEAVES + q) >> k) ^ 1] for k in range(5)]
-        return b"".join([u32(q), u32(3), random, *chains, u32(5), *path])
-
-
-def batch(transactions):
-    return bytes([len(transactions)]) + b"".join(bytes([len(t)]) + t for t in transactions)
-
-
-def place(kind, height, phase, signer):
-    return bytes([kind]) + u32(height) + u32(phase) + bytes([signer])
-
-
-def signed(statement, key, leaf):
-    signature = key.sign(leaf, statement)
-    return statement + u16(len(signature)) + signature
-
-
-def report(height, phase, signer, value):
-    return place(1, height, phase, signer) + b"\0" + batch(value) + b"\1" + batch(value) + b"\0"
-
-
-def lock(height, phase, signer, value, proof):
-    return place(2, height, phase, signer) + batch(value) + bytes([len(proof)]) + b"".join(proof)
-
-
-def ack(height, phase, signer, value):
-    return place(3, height, phase, signer) + batch(value)
-
-
-def frame(body):
-    return (u32(len(body)) + body).hex()
+sys.dont_write_bytecode = True
+from signing import Key, ack, frame, lock, report, signed  # noqa: E402
 
 
 def write(name, text):
@@ -96,6 +23,9 @@ write("lock-of-a-later-phase", f"""\
 config 4 1 1
 {begin}{'round' + chr(10)}{('round' + chr(10)) * 11}end 0
 inject 3 {frame(signed(later, keys[2], 31))}
+end 3
+end 3
+end 3
 end 3
 """)
 

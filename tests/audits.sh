@@ -30,7 +30,7 @@ outside() {
     echo "replica $1 signed outside its history, or its history was cut, or taken before replica $2's."
 }
 broken() {
-    echo "Entry $2 of replica $1's history has another reply than the protocol allows after the entries before it, or sends something that isn't signed with the replica's key: the history was changed, the options are not those of its cluster, or replica $1 breaks the rules."
+    echo "Entry $2 of replica $1's history has another reply than the protocol allows after the entries before it, or sends something that isn't signed with the replica's key: the options are not those of its cluster, the history was changed, or replica $1 breaks the rules."
 }
 needed='An audit needs the histories of at least 3 different replicas with numbers below 4'
 
@@ -80,10 +80,13 @@ blames 'a signature of another statement' 'fault 2 NotReplay 0 3' "$(broken 0 3)
 # Live clusters: what they print is an audit of the histories that they write.
 "$abft" cluster --quiet --rounds 16 --base-ms 100 --histories "$room/live" >"$room/told"
 runs 'the histories of a live cluster' 0 '' "'$abft' audit <'$room/live' | cmp - <(grep -v ^commits '$room/told')"
-faults 'a file that can not be written' 3 $'error: the file of the histories: Is a directory (os error 21)\n' \
+faults 'a file that can not be made' 3 $'error: can\'t write the file /: Is a directory (os error 21)\n' \
     "'$abft' cluster --quiet --rounds 0 --histories / >/dev/null"
+runs 'no line is there then' 3 '' "'$abft' cluster --quiet --rounds 0 --histories / 2>/dev/null"
+faults 'a file that takes nothing' 3 $'error: can\'t write the file /dev/full: No space left on device (os error 28)\n' \
+    "'$abft' cluster --quiet --rounds 0 --histories /dev/full >/dev/null"
 runs 'the lines are there all the same' 3 $'commits 0 0\ncommits 1 0\ncommits 2 0\ncommits 3 0\nledger 0\n' \
-    "'$abft' cluster --quiet --rounds 0 --histories / 2>/dev/null"
+    "'$abft' cluster --quiet --rounds 0 --histories /dev/full 2>/dev/null"
 
 # Streams that fail.
 faults 'an input that is a folder' 3 $'error: standard input: Is a directory (os error 21)\n' "'$abft' audit <."

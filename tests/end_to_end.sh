@@ -114,7 +114,7 @@ runs 'a pool that a purse checks' 0 $'commits 0 0\ncommits 1 0\ncommits 2 0\ncom
 refuses 'error: a word of the command line is not UTF-8' sign report --value $'\xff'
 refuses 'error: a word of the command line is not UTF-8' $'\xff'
 refuses "error: 'abft' requires a subcommand but one was not provided
-  [subcommands: sign, deliver, simulate, cluster, serve, audit, help]
+  [subcommands: sign, deliver, simulate, cluster, serve, audit, draw, help]
 
 Usage: abft <COMMAND>
 
@@ -156,10 +156,12 @@ refuses 'error: the scenario comes on standard input: abft simulate <plain-run.t
 refuses 'error: the scenario comes on standard input: abft simulate <plain-run.txt' simulate plain-run.txt --histories
 refuses 'error: the frames come on standard input: abft deliver <frames.bin' deliver frames.bin --n 4
 refuses 'error: the histories come on standard input: abft audit <histories' audit histories
-refuses "error: --receipt is R:I:TX, such as 0:0:a=1, not '256:0:a'" audit --receipt 256:0:a
-refuses "error: --receipt is R:I:TX, such as 0:0:a=1, not '00:0:a'" audit --receipt 00:0:a
-refuses "error: --receipt is R:I:TX, such as 0:0:a=1, not '0:4294967296:a'" audit --receipt 0:4294967296:a
-refuses "error: --receipt is R:I:TX, such as 0:0:a=1, not '0:0:'" audit --receipt 0:0:
+refuses "error: --receipt is R:I:TX, such as 0:0:a=1, with a transaction of 1 to 64 bytes, not '256:0:a'" audit --receipt 256:0:a
+refuses "error: --receipt is R:I:TX, such as 0:0:a=1, with a transaction of 1 to 64 bytes, not '00:0:a'" audit --receipt 00:0:a
+refuses "error: --receipt is R:I:TX, such as 0:0:a=1, with a transaction of 1 to 64 bytes, not '0:4294967296:a'" audit --receipt 0:4294967296:a
+refuses "error: --receipt is R:I:TX, such as 0:0:a=1, with a transaction of 1 to 64 bytes, not '0:0:'" audit --receipt 0:0:
+refuses "error: --height is a number from 0 to 4096, not '4097'" draw --height 4097
+refuses "error: --last is a number from 0 to 4000000000, not 'x'" draw --last x
 refuses "error: a value is required for '--histories <histories>' but none was supplied
 
 For more information, try '--help'." cluster --histories
@@ -254,6 +256,7 @@ Commands:
   cluster   Runs a whole cluster in one process, a thread for each replica, and prints what each committed
   serve     Runs such a cluster beside a listener on 127.0.0.1, whose clients speak to its replicas
   audit     Audits the histories of standard input, and prints their one ledger, or the first fault
+  draw      Draws the run of the histories of standard input, as an SVG document
   help      Print this message or the help of the given subcommand(s)
 
 Options:
@@ -496,6 +499,34 @@ Exit status:
 EOT
 } >"$room/wanted-out"
 check 'help of audit' 0 "'$abft' audit --help"
+{
+    cat <<'EOT'
+Draws the run of the histories of standard input, as an SVG document
+
+Usage: abft draw [OPTIONS] <HISTORIES >PICTURE.svg
+
+Options:
+EOT
+    cat "$room/common"
+    cat <<'EOT'
+      --height <height>    The one height to draw, 1 to 4096; 0 for all heights [default: 0]
+      --first <first>      The first round to draw, 0 to 4000000000; 0 is the time before round 1 [default: 0]
+      --last <last>        The last round to draw, 0 to 4000000000 [default: 64]
+  -h, --help               Print help
+
+Input: the histories of replicas, as bytes, one after another. 'abft simulate --histories' prints such bytes, and
+'abft cluster --histories FILE' writes them. The options are those of the cluster; only --n and --t change the picture.
+
+Output: an SVG document, or 'bad history' if the input is not spelled as histories. docs/PICTURES.md says how to read it.
+
+Exit status:
+  0  the picture was written
+  1  'bad history' was printed
+  2  a fault of usage
+  3  out of memory, or a failed read or write
+EOT
+} >"$room/wanted-out"
+check 'help of draw' 0 "'$abft' draw --help"
 runs 'the scenario in the help of simulate' 0 'submit 0 ok
 propose 0 1 [a=1]
 end 0 1 sent 1

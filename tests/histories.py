@@ -10,106 +10,42 @@ import os
 import subprocess
 import sys
 
-EVENTS = {1: "submit", 2: "propose", 3: "deliver", 4: "round end", 5: "execute", 6: "query", 7: "retire"}
+sys.dont_write_bytecode = True
+from records import Report, read_frame, read_histories  # noqa: E402
+
+EVENTS = {"submit": "submit", "propose": "propose", "deliver": "deliver", "end": "round end", "execute": "execute", "query": "query",
+          "retire": "retire"}
 
 
-class Reader:
-    """The bytes that are left of a text."""
-
-    def __init__(self, data):
-        self.data, self.place = data, 0
-
-    def take(self, count):
-        piece = self.data[self.place:self.place + count]
-        assert len(piece) == count, "the bytes end early"
-        self.place += count
-        return piece
-
-    def number(self, size):
-        return int.from_bytes(self.take(size), "big")
-
-    def ends(self):
-        return self.place == len(self.data)
+def told_batch(batch):
+    return "[" + " ".join(transaction.decode("latin-1") for transaction in batch) + "]"
 
 
-def read_frame(reader):
-    """A frame: its length as u32, and its bytes."""
-    return reader.take(reader.number(4))
+def told_batches(batches):
+    return " ".join(map(told_batch, batches)) or "none"
 
 
-def read_event(reader):
-    kind = reader.number(1)
-    if kind in (1, 3):
-        reader.take(reader.number(4))
-    elif kind in (2, 7):
-        reader.take(4)
-    elif kind == 6:
-        reader.take(4)
-        reader.take(reader.number(1))
-    return kind
+def told_report(report):
+    return (f"replica {report.signer}: {'ALL, ' if report.all else ''}initial {told_batch(report.initial)}, "
+            f"proper {told_batches(report.proper)}, locked {told_batches(report.locked)}")
 
 
-def read_batch(reader):
-    return "[" + " ".join(reader.take(reader.number(1)).decode("latin-1") for _ in range(reader.number(1))) + "]"
-
-
-def read_batches(reader):
-    return " ".join(read_batch(reader) for _ in range(reader.number(1))) or "none"
-
-
-def told_in(frame):
-    """The phase of a report and what it says, or nothing of another statement."""
-    reader = Reader(frame)
-    if reader.number(1) != 1:
-        return None, None
-    reader.take(4)
-    phase, signer, says_all = reader.number(4), reader.number(1), reader.number(1)
-    initial, proper, locked = read_batch(reader), read_batches(reader), read_batches(reader)
-    return phase, f"replica {signer}: {'ALL, ' if says_all else ''}initial {initial}, proper {proper}, locked {locked}"
-
-
-def read_round_end(reader, reports):
-    is_mute = reader.number(1)
-    frames = reader.number(2)
-    for _ in range(frames):
-        reader.take(1)
-        phase, told = told_in(read_frame(reader))
-        reports[phase].append(told)
-    return ("mute " if is_mute else "") + ("frames" if frames else "no frame")
-
-
-def read_reply(reader, kind, reports):
+def told_reply(entry):
     """The number of a reply, and of an event that happened what its reply contains."""
-    assert reader.number(1) == kind, "the reply is to another event"
-    why = reader.number(1)
-    if why != 0:
-        if (kind, why) == (1, 5):
-            reader.take(4)
-        return str(why)
-    if kind == 2:
-        read_batch(reader)
-    elif kind == 4:
-        return "0 " + read_round_end(reader, reports)
-    elif kind == 5:
-        reader.take(4)
-        reader.take(4 * reader.number(1))
-        reader.take(32)
-    elif kind == 6:
-        reader.take(4)
-        if reader.number(1) == 0:
-            return "0 absent"
-        reader.take(reader.number(1))
-        return "0 present"
-    elif kind == 7:
-        reader.take(4)
-    return "0"
+    if entry.why == 0 and entry.kind == "end":
+        return f"0 {'mute ' if entry.reply.mute else ''}{'frames' if entry.reply.frames else 'no frame'}"
+    if entry.why == 0 and entry.kind == "query":
+        return "0 absent" if entry.reply.value is None else "0 present"
+    return str(entry.why)
 
 
-def read_history(reader, seen, reports):
-    reader.take(1)
-    for _ in range(reader.number(4)):
-        kind = read_event(reader)
-        seen[EVENTS[kind]].add(read_reply(reader, kind, reports))
+def reports_of(entry):
+    """The reports that a round end sends."""
+    if entry.kind == "end" and entry.why == 0:
+        for _, frame in entry.reply.frames:
+            statement = read_frame(frame).statement
+            if isinstance(statement, Report):
+                yield statement
 
 
 def texts():
@@ -124,11 +60,12 @@ def main(abft):
     seen = collections.defaultdict(set)
     for name, text in texts():
         data = subprocess.run([abft, "simulate", "--histories"], input=text, stdout=subprocess.PIPE, check=True).stdout
-        reader = Reader(data)
         reports = collections.defaultdict(list)
-        while not reader.ends():
-            read_history(reader, seen, reports)
-        print(name, hashlib.sha256(data).hexdigest()[:16])
+        for entry in (entry for entries in read_histories(data).values() for entry in entries):
+            seen[EVENTS[entry.kind]].add(told_reply(entry))
+            for report in reports_of(entry):
+                reports[report.phase].append(told_report(report))
+        print(name, hashlib.sha256(data).hexdigest())
         if name in ("four-proposals", "two-proposals"):
             print("\n".join(reports[2]))
     for event in EVENTS.values():

@@ -36,6 +36,11 @@ class Server:
         with open(f"/proc/{self.process.pid}/status") as status:
             return next(int(line.split()[1]) for line in status if line.startswith("VmHWM")) // 1024
 
+    def processor_time(self):
+        """What it has used of a processor, in hundredths of a second."""
+        with open(f"/proc/{self.process.pid}/stat") as status:
+            return sum(map(int, status.read().rsplit(")", 1)[1].split()[11:13]))
+
     def ends(self, seconds):
         """How many replicas committed a block, and the status, once it ends in time."""
         try:
@@ -331,4 +336,5 @@ def main(names):
             print(f"{name}: {told}")
 
 
-main(sys.argv[2:])
+if __name__ == "__main__":
+    main(sys.argv[2:])

@@ -117,6 +117,11 @@ lie-ack 0 1 1 [] 1
 lie-ack 1 0 1 [x] all
 lie-ack 1 1 0 [x] all
 lie-ack 1 1 1 [,] all
+lie-stale 1 1 1 [x] all
+lie-stale 1 1 1 0 [x] all
+lie-stale 1 1 0 1 [x] all
+lie-stale 2 1 1 1 [x] all
+lie-lock 1 1 1 1 [x] all
 lie-ack 1 1 1 [x all
 lie-ack 1 1 1 [x] any
 EOF

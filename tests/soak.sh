@@ -1,6 +1,6 @@
 #!/usr/bin/env bash
-# Clusters that run by the machine's clock, and a server under many sessions: `make soak`. It takes an hour and a half, and is no part of
-# the gate, since what a clock brings differs from machine to machine. The last line is `N passed, M failed`.
+# Clusters that run by the machine's clock, a server under many sessions, and hostile use: `make soak`. It takes two hours and a half, and is
+# no part of the gate, since what a clock brings differs from machine to machine. The last line is `N passed, M failed`.
 #
 # ABFT names the program; its figures go to standard output.
 set -u
@@ -29,6 +29,27 @@ tests/sessions.py "$abft" 1000 1
 notes '1000 sessions one after another' $?
 tests/sessions.py "$abft" 64 64
 notes '64 sessions at once' $?
+
+# Hostile use: ten thousand scenarios, each cut and changed frame, each allocation refused, each read and write that fails, a client that
+# sends one byte a second.
+tests/hostile.py "$abft" 1001 10000 "$(nproc)"
+notes '10000 hostile scenarios' $?
+tests/hostile_frames.py "$abft" >"$room/frames"
+notes 'each cut and changed frame' $?
+cat "$room/frames"
+grep -E '(each changed|each prefix|a byte):.*accepted' "$room/frames"
+[ $? = 1 ] && grep -q '^9696 frames to one replica, the other lines as without:' "$room/frames" && [ "$(grep -c ' itself: deliver . accepted: 1$' "$room/frames")" = 4 ] && grep -qx 'after the last entry of a history: refused 4: 7' "$room/frames"
+notes 'what is answered to cut and changed frames' $?
+tests/refused_memory.py "$abft" 1 "$(nproc)"
+notes 'each allocation refused' $?
+tests/refused_round_ends.py "$abft"
+notes 'round ends without memory' $?
+tests/failing_streams.py "$abft"
+notes 'each read and write that fails' $?
+tests/hostile_clients.py "$abft" >"$room/clients"
+notes 'clients that do their worst' $?
+[ "$(tests/hostile_clients.py "$abft" 'one a second')" = 'one a second: status 00; commits, next answered; 4 lines, status 0' ]
+notes 'one byte a second' $?
 
 # Histories that clients fill: the process ends on time, each time.
 for run in {1..10}; do

@@ -1,7 +1,7 @@
 //! The program `abft`: a Byzantine fault tolerant replicated ledger.
 #![tactic(auto)]
 
-use cluster_service::{SharedStatus, Watcher, cluster, serve, start_reporter};
+use cluster_service::{SharedStatus, Watcher, cluster, open_histories, serve, start_reporter};
 use program::{Outcome, finish, refuse_words, run};
 use program_streams::{ProgramFault, Resource, require_open};
 use settings::{ClusterSettings, ServeSettings};
@@ -69,7 +69,7 @@ fn report<R: Copy + Send + Threads + Wait + 'static>(
     start_reporter(rt, alloc, watcher, settings)
 }
 
-/// `abft cluster`, if standard output is open.
+/// `abft cluster`, if standard output is open, and the file for the histories.
 fn run_cluster<R>(
     rt: &R,
     alloc: Global,
@@ -82,10 +82,11 @@ where
     R: Clock + Copy + Files + RandomSource + Send + Sync + Threads + Wait + 'static,
 {
     require_open(&output, Resource::Output)?;
-    cluster(rt, alloc, settings, status, input, &mut output)
+    let mut file = open_histories(rt, settings)?;
+    cluster(rt, alloc, settings, status, input, &mut output, &mut file)
 }
 
-/// `abft serve`, if standard output is open.
+/// `abft serve`, if standard output is open, and the file for the histories.
 fn run_server<R>(
     rt: &R,
     alloc: Global,
@@ -107,7 +108,8 @@ where
         + 'static,
 {
     require_open(&output, Resource::Output)?;
-    serve(rt, alloc, settings, status, input, &mut output)
+    let mut file = open_histories(rt, &settings.cluster)?;
+    serve(rt, alloc, settings, status, input, &mut output, &mut file)
 }
 
 /// Runs the program on the words and streams of the process. An `Err` means that the words could not be read.

@@ -15,3 +15,7 @@ three_words head a b c end =
     append_assoc (head ++ a ++ codes " " ++ b ++ codes " ") c end
     ∙ append_assoc (head ++ a ++ codes " " ++ b) (codes " ") (c ++ end)
     ∙ two_words head a b (codes " " ++ (c ++ end))
+
+-- a text after three others
+pub headed : (head number name rest : List ℕ) → head ++ number ++ name ++ rest ≡ head ++ (number ++ (name ++ rest))
+headed head number name rest = append_assoc (head ++ number) name rest ∙ append_assoc head number (name ++ rest)

@@ -9,9 +9,8 @@ use app_kinds::AnyKind;
 use history_audit::{AuditFault, audit};
 use key_ring::KeyRing;
 use ledger_model::{AppKind, Config, History, Ledger};
-use program_streams::{ProgramFault, Resource};
+use program_streams::{ProgramFault, new_random_key};
 use std::alloc::{AllocError, Global};
-use std::hash::RandomState;
 use std::random::RandomSource;
 
 /// `count` applications of a kind, each in its opening state. The only error is allocation failure.
@@ -24,16 +23,6 @@ pub fn new_apps(alloc: Global, kind: AppKind, count: usize) -> Result<Vec<AnyKin
         apps.push(AnyKind::new(alloc, kind))?;
     }
     Ok(apps)
-}
-
-/// The random keys of an audit's hashes.
-fn new_key<S: RandomSource>(source: &S) -> Result<RandomState, ProgramFault>
-    ensures { IfErr result IsMemoryOrRandom }
-{
-    match RandomState::new(source) {
-        Ok(key) => Ok(key),
-        Err(error) => Err(ProgramFault::Refused(Resource::Random, error)),
-    }
 }
 
 /// What an audit of these histories finds: their ledger, or the first fault other than `NoMemory`. The ring has the public
@@ -50,7 +39,7 @@ pub fn audited<S: RandomSource>(
     ensures finds { IfOk result (λ finding. IsFinding config.now ring.now histories.now finding) }
     ensures fault { IfErr result IsMemoryOrRandom }
 {
-    let random = new_key(source)?;
+    let random = new_random_key(source)?;
     let count = histories.len().min(usize::from(config.replicas));
     let apps = new_apps(alloc, config.kind, count)?;
     match audit(alloc, config, ring, histories, apps, random) {

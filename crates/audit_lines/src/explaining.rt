@@ -18,7 +18,7 @@ fn not_replay_text(alloc: Global, replica: ReplicaId, index: usize) -> Result<St
         "Entry {index} of replica {number}'s history has another reply than the protocol allows after the entries before it, or sends something that isn't signed with the replica's key"
     )?;
     format!(in alloc;
-        "{what}: the history was changed, the options are not those of its cluster, or replica {number} breaks the rules."
+        "{what}: the options are not those of its cluster, the history was changed, or replica {number} breaks the rules."
     )
 }
 

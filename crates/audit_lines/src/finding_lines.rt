@@ -1,6 +1,6 @@
 //! Appends the lines of an audit's answer.
 ghost use Rattle.std.specs.Prelude.{◌≡◌, ◌++◌, OnOk};
-ghost use Rattle.audit_lines.specs.AuditLines.{block_line, block_lines, ledger_text, fault_text, finding_text, receipt_text};
+ghost use Rattle.audit_lines.specs.AuditLines.{block_line, block_lines, ledger_text, fault_text, finding_text, finding_status, receipt_line};
 
 use history_audit::AuditFault;
 use ledger_model::{Batch, Ledger, ReplicaId};
@@ -43,8 +43,9 @@ fn add_ledger(out: &mut Text, ledger: &Ledger) -> Result<(), AllocError>
 fn add_not_replay(out: &mut Text, replica: ReplicaId, index: usize) -> Result<(), AllocError>
     ensures { OnOk result (out.new ≡ out.old ++ fault_text (AuditFault.NotReplay replica index)) }
 {
+    let number = AuditFault::NotReplay { replica, index }.number();
     let replica = replica.number();
-    let line = format!(in out.allocator(); "fault 2 NotReplay {replica} {index}\n")?;
+    let line = format!(in out.allocator(); "fault {number} NotReplay {replica} {index}\n")?;
     out.add(&line)
 }
 
@@ -57,9 +58,24 @@ fn add_unsent(
 ) -> Result<(), AllocError>
     ensures { OnOk result (out.new ≡ out.old ++ fault_text (AuditFault.Unsent reader index signer)) }
 {
+    let fault = AuditFault::Unsent {
+        reader,
+        index,
+        signer,
+    };
+    let number = fault.number();
     let reader = reader.number();
     let signer = signer.number();
-    let line = format!(in out.allocator(); "fault 3 Unsent {reader} {index} {signer}\n")?;
+    let line = format!(in out.allocator(); "fault {number} Unsent {reader} {index} {signer}\n")?;
+    out.add(&line)
+}
+
+/// `fault 1 Count`.
+fn add_count(out: &mut Text) -> Result<(), AllocError>
+    ensures { OnOk result (out.new ≡ out.old ++ fault_text AuditFault.Count) }
+{
+    let number = AuditFault::Count.number();
+    let line = format!(in out.allocator(); "fault {number} Count\n")?;
     out.add(&line)
 }
 
@@ -68,7 +84,7 @@ fn add_fault(out: &mut Text, fault: AuditFault) -> Result<(), AllocError>
     ensures { OnOk result (out.new ≡ out.old ++ fault_text fault) }
 {
     match fault {
-        AuditFault::Count => out.add("fault 1 Count\n"),
+        AuditFault::Count => add_count(out),
         AuditFault::NotReplay { replica, index } => add_not_replay(out, replica, index),
         AuditFault::Unsent {
             reader,
@@ -90,9 +106,19 @@ pub fn add_finding(out: &mut Text, finding: &Result<Ledger, AuditFault>) -> Resu
     }
 }
 
+/// The exit status of a program that prints a finding: 0 for a ledger, and 1 for a fault.
+pub fn finding_status(finding: &Result<Ledger, AuditFault>) -> u8
+    ensures { result ≡ finding_status finding.now }
+{
+    match finding {
+        Ok(_) => 0,
+        Err(_) => 1,
+    }
+}
+
 /// Appends `receipt ok` or `receipt wrong`. The only error is allocation failure.
 pub fn add_receipt(out: &mut Text, holds: bool) -> Result<(), AllocError>
-    ensures { OnOk result (out.new ≡ out.old ++ receipt_text holds) }
+    ensures { OnOk result (out.new ≡ out.old ++ receipt_line holds) }
 {
     out.add(if holds {
         "receipt ok\n"

@@ -10,5 +10,5 @@ mod receipts;
 
 pub use auditing::{audited, new_apps};
 pub use explaining::explanation;
-pub use finding_lines::{add_finding, add_receipt};
+pub use finding_lines::{add_finding, add_receipt, finding_status};
 pub use receipts::has_receipt;

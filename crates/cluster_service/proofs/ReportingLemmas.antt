@@ -1,32 +1,42 @@
 -- The lines of one more replica, and the texts that are written.
 use Rattle.std.proofs.Common.{◌≡◌, ℕ, ◌+◌, List, [], ◌∷◌, ◌++◌, length, ◌<◌, ◌≤◌, take, get_or, refl, sym, ap, ◌∙◌, append_assoc}
 use Rattle.std.proofs.Common.{append-nil, inl, inr, subst, suc, arith}
-use Rattle.std.specs.Prelude.{◌⊎◌, Option, Result}
+use Rattle.std.specs.Prelude.{◌⊎◌, Option, Result, Ok, Err, IfErr}
+use Rattle.std.specs.Result.{IsErrAnd}
 use Rattle.std.proofs.lemmas.List.{length-take-le}
 use Rattle.std.proofs.Math.Seq.{take-suc}
 use Rattle.std.specs.Io.KnownBytes.{Appends}
+use Rattle.std.specs.List.{flat_map}
 use Rattle.std.proofs.KnownBytes.{Appends-trans}
+use Rattle.ledger_model.specs.declared.config.Config.{Config}
 use Rattle.ledger_model.specs.declared.history.History.{History}
 use Rattle.ledger_model.specs.Rules.{Ring}
 use Rattle.ledger_model.specs.Values.{Value}
 use Rattle.cluster_keys.specs.Keys.{ring_of}
+use Rattle.history_bytes.specs.Histories.{history_bytes}
 use Rattle.history_audit.specs.Findings.{IsFinding}
 use Rattle.history_audit.specs.declared.fault.AuditFault.{AuditFault}
-use Rattle.audit_lines.specs.AuditLines.{finding_text}
+use Rattle.audit_lines.specs.AuditLines.{finding_status, finding_text}
 use Rattle.settings.specs.declared.cluster.ClusterSettings.{ClusterSettings}
 use Rattle.settings.specs.declared.cluster.ServeSettings.{ServeSettings}
+use Rattle.program_streams.specs.declared.program_fault.ProgramFault.{ProgramFault}
 use Rattle.byte_streams.specs.Writing.{AppendsSome}
 use Rattle.byte_streams.proofs.Faults.{each_way}
 use Rattle.byte_streams.proofs.WritingLemmas.{longer_some, nothing_some, then_some}
 use Rattle.cluster_service.specs.Reporting.{AreTaken, IsTaken, Reports, ReportsCommits, ReportsSome, Serves, ServesSome, WritesSuch}
-use Rattle.cluster_service.specs.Reporting.{commit_line, commit_lines, port_line, status_of}
+use Rattle.cluster_service.specs.Reporting.{commit_line, commit_lines, port_line}
 
 -- one more replica's history was taken
-pub one_taken : (ms : List History) (hs : List ℕ) (m : History) (h : ℕ) → AreTaken ms hs → IsTaken m h → AreTaken (ms ++ m ∷ []) (hs ++ h ∷ [])
-one_taken [] [] m h all one = (one, tt)
-one_taken (m1 ∷ ms) (h1 ∷ hs) m h all one = (all.0, one_taken ms hs m h all.1 one)
-one_taken [] (h1 ∷ hs) m h all one = absurd all
-one_taken (m1 ∷ ms) [] m h all one = absurd all
+pub one_taken : (config : Config) (first : ℕ) (ms : List History) (hs : List ℕ) (m : History) (h : ℕ) → AreTaken config first ms hs
+    → IsTaken config (first + length hs) m h → AreTaken config first (ms ++ m ∷ []) (hs ++ h ∷ [])
+one_taken config first [] [] m h all one =
+    let same : first + 0 ≡ first = omega arith in
+    (subst (λ k. IsTaken config k m h) same one, tt)
+one_taken config first (m1 ∷ ms) (h1 ∷ hs) m h all one =
+    let same : first + suc (length hs) ≡ first + 1 + length hs = omega arith in
+    (all.0, one_taken config (first + 1) ms hs m h all.1 (subst (λ k. IsTaken config k m h) same one))
+one_taken config first [] (h1 ∷ hs) m h all one = absurd all
+one_taken config first (m1 ∷ ms) [] m h all one = absurd all
 
 -- the lines of replicas and of one behind them
 pub lines_append : (r : ℕ) (first : List ℕ) (h : ℕ)
@@ -59,22 +69,34 @@ pub no_line : commit_lines 0 [] ≡ []
 unfolding commit_lines
 no_line = refl
 
--- a text of a cluster that a fault ended, of which a prefix was written
-abbrev pub WrittenSome : (List ℕ → Type 0) → Option (List ℕ) → Option (List ℕ) → Type 0
-WrittenSome P a b = (text : List ℕ) × (P text × AppendsSome a b text)
+-- `?` passes a fault up as it is
+pub passed : {T : Type 0} (r : Result T ProgramFault) (e : ProgramFault) (P : ProgramFault → Type 0) → IsErrAnd r (λ y. y ≡ e) → P e
+    → IfErr r P
+passed (Ok x) e P is p = tt
+passed (Err y) e P is p = subst P (sym is) p
+
+-- what follows from a fact about each fault
+pub of_each : {T : Type 0} (r : Result T ProgramFault) (P Q : ProgramFault → Type 0) → ((e : ProgramFault) → P e → Q e) → IfErr r P
+    → IfErr r Q
+of_each (Ok x) P Q so p = tt
+of_each (Err e) P Q so p = so e p
+
+-- prefixes of what a cluster writes that a fault ended
+abbrev pub WrittenSome : (List ℕ → List ℕ → Type 0) → Option (List ℕ) → Option (List ℕ) → Option (List ℕ) → Option (List ℕ) → Type 0
+WrittenSome P a b e f = (lines : List ℕ) × ((file : List ℕ) × (P lines file × (AppendsSome a b lines × AppendsSome e f file)))
 
 -- nothing was written
-pub nothing_ran : (s : ClusterSettings) (a : Option (List ℕ)) → WrittenSome (ReportsSome s) a a
-nothing_ran s a = ([], (inl refl, nothing_some a []))
+pub nothing_ran : (s : ClusterSettings) (a e : Option (List ℕ)) → WrittenSome (ReportsSome s) a a e e
+nothing_ran s a e = ([], ([], (inl (refl, refl), (nothing_some a [], nothing_some e []))))
 
 -- the lines of the replicas were written, or a prefix of them
-pub commits_some : (s : ClusterSettings) (a b : Option (List ℕ)) (histories : List History) (heights : List ℕ)
-    → length heights ≡ s.cluster.config.replicas → AreTaken histories heights → AppendsSome a b (commit_lines 0 heights)
-    → WrittenSome (ReportsSome s) a b
-commits_some s a b histories heights each taken some =
-    let commits : ReportsCommits s (commit_lines 0 heights) =
-    record { histories = histories; heights = heights; each = each; taken = taken; lines = refl } in
-    (commit_lines 0 heights, (inr (inl commits), some))
+pub commits_some : (s : ClusterSettings) (a b e : Option (List ℕ)) (histories : List History) (heights : List ℕ)
+    → length heights ≡ s.cluster.config.replicas → AreTaken s.cluster.config 0 histories heights → AppendsSome a b (commit_lines 0 heights)
+    → WrittenSome (ReportsSome s) a b e e
+commits_some s a b e histories heights each taken some =
+    let commits : ReportsCommits s (commit_lines 0 heights) [] =
+    record { histories = histories; heights = heights; each = each; taken = taken; shows = refl; none = refl } in
+    (commit_lines 0 heights, ([], (inr (inl commits), (some, nothing_some e []))))
 
 -- an audit of these histories, under the keys of the settings
 pub found_of : (s : ClusterSettings) (ring : Ring) (given histories : List History) (finding : Result (List Value) AuditFault)
@@ -84,10 +106,10 @@ found_of s ring given histories finding keys same found =
     subst (λ r. IsFinding s.cluster.config r histories finding) keys (subst (λ m. IsFinding s.cluster.config ring m finding) same found)
 
 module _ (s : ClusterSettings) (histories : List History) (heights : List ℕ) (finding : Result (List Value) AuditFault) (status : ℕ)
-    (each : length heights ≡ s.cluster.config.replicas) (taken : AreTaken histories heights)
-    (found : IsFinding s.cluster.config (ring_of s.cluster) histories finding) (ends : status ≡ status_of finding)
-    (a b c : Option (List ℕ)) (first : Appends a b (commit_lines 0 heights)) where
-  reported : Reports s status (commit_lines 0 heights ++ finding_text finding)
+    (each : length heights ≡ s.cluster.config.replicas) (taken : AreTaken s.cluster.config 0 histories heights)
+    (found : IsFinding s.cluster.config (ring_of s.cluster) histories finding) (ends : status ≡ finding_status finding)
+    (a b c e f : Option (List ℕ)) (first : Appends a b (commit_lines 0 heights)) where
+  reported : Reports s status (commit_lines 0 heights ++ finding_text finding) (flat_map history_bytes histories)
   reported = record {
     histories = histories;
     heights = heights;
@@ -96,46 +118,67 @@ module _ (s : ClusterSettings) (histories : List History) (heights : List ℕ) (
     finding = finding;
     found = found;
     ends = ends;
-    lines = refl;
+    shows = refl;
+    saves = refl;
   }
 
-  -- the lines of the replicas were written, and then what the audit finds
-  pub report_written : Appends b c (finding_text finding) → (text : List ℕ) × (Reports s status text × Appends a c text)
-  report_written rest = (
+  -- the lines of the replicas were written, and then what the audit finds, and the histories into the file
+  pub report_written : Appends b c (finding_text finding) → Appends e f (flat_map history_bytes histories)
+      → (lines : List ℕ) × ((file : List ℕ) × (Reports s status lines file × (Appends a c lines × Appends e f file)))
+  report_written rest saved = (
     commit_lines 0 heights ++ finding_text finding,
-    (reported, Appends-trans a b c (commit_lines 0 heights) (finding_text finding) first rest),
+    (
+      flat_map history_bytes histories,
+      (reported, (Appends-trans a b c (commit_lines 0 heights) (finding_text finding) first rest, saved)),
+    ),
   )
 
-  -- or a prefix of the latter
-  pub report_begun : AppendsSome b c (finding_text finding) → WrittenSome (ReportsSome s) a c
-  report_begun rest = (
+  -- or prefixes of the latter
+  pub report_begun : AppendsSome b c (finding_text finding) → AppendsSome e f (flat_map history_bytes histories)
+      → WrittenSome (ReportsSome s) a c e f
+  report_begun rest saved = (
     commit_lines 0 heights ++ finding_text finding,
-    (inr (inr (status, reported)), then_some a b c (commit_lines 0 heights) (finding_text finding) first rest),
+    (
+      flat_map history_bytes histories,
+      (inr (inr (status, reported)), (then_some a b c (commit_lines 0 heights) (finding_text finding) first rest, saved)),
+    ),
   )
 
 -- nothing was written
-pub nothing_served : (s : ServeSettings) (a : Option (List ℕ)) → WrittenSome (ServesSome s) a a
-nothing_served s a = ([], (inl refl, nothing_some a []))
+pub nothing_served : (s : ServeSettings) (a e : Option (List ℕ)) → WrittenSome (ServesSome s) a a e e
+nothing_served s a e = ([], ([], (inl (refl, refl), (nothing_some a [], nothing_some e []))))
 
 -- the line of the port was written, or a prefix of it
-pub port_some : (s : ServeSettings) (port : ℕ) (a b : Option (List ℕ)) → (s.port ≡ 0) ⊎ (port ≡ s.port) → AppendsSome a b (port_line port)
-    → WrittenSome (ServesSome s) a b
-port_some s port a b asked some =
-    let served : Serves s (ReportsSome s.cluster) (port_line port ++ []) =
-    record { port = port; asked = asked; later = []; reports = inl refl; lines = refl } in
-    (port_line port ++ [], (inr served, longer_some a b (port_line port) [] some))
+pub port_some : (s : ServeSettings) (port : ℕ) (a b e : Option (List ℕ)) → (s.port ≡ 0) ⊎ (port ≡ s.port) → AppendsSome a b (port_line port)
+    → WrittenSome (ServesSome s) a b e e
+port_some s port a b e asked some =
+    let served : Serves s (ReportsSome s.cluster) (port_line port ++ []) [] =
+    record { port = port; asked = asked; later = []; reports = inl (refl, refl); shows = refl } in
+    (port_line port ++ [], ([], (inr served, (longer_some a b (port_line port) [] some, nothing_some e []))))
 
 -- that line was written, and then what a cluster writes
-pub port_first : {E : Type 0} (r : Result ℕ E) (s : ServeSettings) (port : ℕ) (a b c : Option (List ℕ))
-    → (s.port ≡ 0) ⊎ (port ≡ s.port) → Appends a b (port_line port) → WritesSuch r (Reports s.cluster) (ReportsSome s.cluster) b c
-    → WritesSuch r (λ status. Serves s (Reports s.cluster status)) (ServesSome s) a c
-port_first r s port a b c asked first later = each_way _ _ _ _ r
+pub port_first : {E : Type 0} (r : Result ℕ E) (s : ServeSettings) (port : ℕ) (a b c e f : Option (List ℕ))
+    → (s.port ≡ 0) ⊎ (port ≡ s.port) → Appends a b (port_line port) → WritesSuch r (Reports s.cluster) (ReportsSome s.cluster) b c e f
+    → WritesSuch r (λ status. Serves s (Reports s.cluster status)) (ServesSome s) a c e f
+port_first r s port a b c e f asked first later = each_way _ _ _ _ r
     (λ status w. (
       port_line port ++ w.0,
-      (record { port = port; asked = asked; later = w.0; reports = w.1.0; lines = refl }, Appends-trans a b c (port_line port) w.0 first w.1.1),
+      (
+        w.1.0,
+        (
+          record { port = port; asked = asked; later = w.0; reports = w.1.1.0; shows = refl },
+          (Appends-trans a b c (port_line port) w.0 first w.1.1.1.0, w.1.1.1.1),
+        ),
+      ),
     ))
     (λ _ w. (
       port_line port ++ w.0,
-      (inr (record { port = port; asked = asked; later = w.0; reports = w.1.0; lines = refl }), then_some a b c (port_line port) w.0 first w.1.1),
+      (
+        w.1.0,
+        (
+          inr (record { port = port; asked = asked; later = w.0; reports = w.1.1.0; shows = refl }),
+          (then_some a b c (port_line port) w.0 first w.1.1.1.0, w.1.1.1.1),
+        ),
+      ),
     ))
     later

@@ -1,3 +1,4 @@
 pub mod Replicas
 pub mod Targets
 pub mod Reporting
+pub mod RunFaults

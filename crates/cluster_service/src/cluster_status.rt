@@ -6,6 +6,9 @@ use replica_turns::ReplicaStatus;
 use std::alloc::{AllocError, Global};
 use std::mem;
 
+/// The number of notices for which there is room from the start.
+pub(crate) const FIRST_NOTICES: usize = 32;
+
 /// A replica of which nothing is known.
 const UNKNOWN: ReplicaStatus = ReplicaStatus {
     rounds: 0,
@@ -27,6 +30,8 @@ pub(crate) struct ClusterStatus {
     replicas: Vec<ReplicaStatus>,
     /// The notices that the reporter hasn't taken, oldest first: a few for each block and each replica.
     notices: Vec<Notice>,
+    /// Whether each replica, by number, lost something since memory ran out.
+    losses: Vec<bool>,
     /// The greatest height for whose block a notice was added.
     height: u32,
     /// Whether blocks, mute replicas and nearly full histories get notices. If not, each round of replica 0 is news.
@@ -42,7 +47,9 @@ impl ClusterStatus {
     pub(crate) fn new(alloc: Global, replicas: u8, has_log: bool) -> Result<Self, AllocError> {
         Ok(ClusterStatus {
             replicas: unknown(alloc, replicas)?,
-            notices: Vec::new(alloc),
+            // With room for the notices of replicas for which memory runs out.
+            notices: Vec::with_capacity(alloc, FIRST_NOTICES)?,
+            losses: Vec::from_elem(alloc, false, usize::from(replicas))?,
             height: 0,
             has_log,
             is_over: false,
@@ -64,6 +71,19 @@ impl ClusterStatus {
     /// Moves out the fault that ended the cluster.
     pub(crate) fn take_fault(&mut self) -> Option<ProgramFault> {
         self.fault.take()
+    }
+
+    /// Adds a notice that this replica lost something, the first time. Returns whether there is one.
+    pub(crate) fn add_loss(&mut self, replica: ReplicaId) -> bool {
+        let Some(has_lost) = self.losses.get_mut(usize::from(replica.number())) else {
+            return false;
+        };
+        if *has_lost {
+            return false;
+        }
+        *has_lost = true;
+        self.add(Notice::Loss(replica));
+        true
     }
 
     /// Adds a notice for each block that this replica is the first to run.

@@ -1,11 +1,12 @@
 //! What a cluster leaves when its workers have ended: the history of each replica.
-ghost use Rattle.std.specs.Prelude.{◌≡◌, ◌<◌, vec_len, IfOk};
+ghost use Rattle.std.specs.Prelude.{◌≡◌, ◌<◌, true, vec_len, IfErr, IfOk};
 ghost use Rattle.cluster_service.specs.Reporting.{AreTaken, IsTaken};
+ghost use Rattle.cluster_service.specs.RunFaults.{IsRunFault};
 
 use abci::Application;
 use cluster_workers::RunningCluster;
 use key_ring::KeyRing;
-use ledger_model::{History, ReplicaId};
+use ledger_model::{Config, History, ReplicaId};
 use locked_replica::State;
 use program_streams::ProgramFault;
 use std::alloc::Global;
@@ -36,10 +37,26 @@ struct Taken {
     height: u32,
 }
 
-/// What a replica has by now.
-fn taken_of<A: Application>(state: &State<A>) -> Result<Taken, ProgramFault>
-    ensures { IfOk result (λ taken. IsTaken taken.history taken.height) }
+/// Whether two configurations are the same.
+fn are_same(one: &Config, other: &Config) -> bool
+    ensures { result ≡ true → one.now ≡ other.now }
 {
+    one.replicas == other.replicas && one.faults == other.faults && one.kind == other.kind
+}
+
+/// What the replica with this number has by now, if this state is that replica's. A lock doesn't tell which state it guards, so this
+/// compares.
+fn taken_of<A: Application>(
+    state: &State<A>,
+    config: &Config,
+    id: ReplicaId,
+) -> Result<Taken, ProgramFault>
+    ensures taken { IfOk result (λ taken. IsTaken config.now id taken.history taken.height) }
+    ensures fault { IfErr result IsRunFault }
+{
+    if state.id() != id || !are_same(state.config(), config) {
+        return Err(ProgramFault::Stranger(id.number()));
+    }
     let height = state.height();
     let history = state.history()?.history;
     Ok(Taken { history, height })
@@ -49,32 +66,38 @@ fn taken_of<A: Application>(state: &State<A>) -> Result<Taken, ProgramFault>
 fn take<A: Application, R: Wait>(
     rt: &R,
     cluster: &RunningCluster<A>,
+    config: &Config,
     id: u8,
 ) -> Result<Taken, ProgramFault>
     requires { id < cluster.now.replicas }
-    ensures { IfOk result (λ taken. IsTaken taken.history taken.height) }
+    ensures taken { IfOk result (λ taken. IsTaken config.now id taken.history taken.height) }
+    ensures fault { IfErr result IsRunFault }
 {
-    let state = cluster.replica(ReplicaId::new(id)).lock(rt);
-    taken_of(&*state)
+    let id = ReplicaId::new(id);
+    let state = cluster.replica(id).lock(rt);
+    taken_of(&*state, config, id)
 }
 
-/// The histories of the replicas, by number, each as of some moment of this call.
+/// The histories of the replicas, by number, each as of some moment of this call. The errors are that memory runs out, and that a
+/// state is of another cluster or has another number.
 pub(crate) fn take_all<A: Application, R: Wait>(
     rt: &R,
     alloc: Global,
     cluster: &RunningCluster<A>,
-    replicas: u8,
+    config: &Config,
     ring: KeyRing,
 ) -> Result<FinalHistories, ProgramFault>
-    requires { replicas ≡ cluster.now.replicas }
-    ensures each { IfOk result (λ all. vec_len all.heights ≡ replicas) }
-    ensures taken { IfOk result (λ all. AreTaken all.histories.items all.heights.items) }
+    requires { config.now.replicas ≡ cluster.now.replicas }
+    ensures each { IfOk result (λ all. vec_len all.heights ≡ config.now.replicas) }
+    ensures taken { IfOk result (λ all. AreTaken config.now 0 all.histories.items all.heights.items) }
     ensures ring { IfOk result (λ all. all.ring ≡ ring) }
+    ensures fault { IfErr result IsRunFault }
 {
+    let replicas = config.replicas;
     let mut histories = Vec::with_capacity(alloc, usize::from(replicas))?;
     let mut heights = Vec::with_capacity(alloc, usize::from(replicas))?;
     for id in 0..replicas {
-        let Taken { history, height } = take(rt, cluster, id)?;
+        let Taken { history, height } = take(rt, cluster, config, id)?;
         histories.push(history)?;
         heights.push(height)?;
     }

@@ -33,6 +33,7 @@ pub use replicas::new_replicas;
 pub use reporter::{Watcher, start_reporter};
 pub use reporting::SharedStatus;
 pub use running::{listen_at, run_cluster, serve_cluster};
+pub use saving::{HistoriesFile, open_histories};
 pub use stopping::stop_at_end;
 pub use subcommands::{cluster, serve};
 pub use writing::{write_commits, write_port};

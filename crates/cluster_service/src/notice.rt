@@ -26,6 +26,8 @@ pub(crate) enum Notice {
         replica: ReplicaId,
         entries: usize,
     },
+    /// Memory ran out, and this replica lost events or frames.
+    Loss(ReplicaId),
     /// The last round has ended.
     RoundsOver,
     /// The last round has ended, and clients are still served.
@@ -67,6 +69,7 @@ impl fmt::Display for Notice {
                 signatures,
             } => show_mute(f, *replica, *round, *signatures),
             Notice::NearlyFull { replica, entries } => show_nearly_full(f, *replica, *entries),
+            Notice::Loss(replica) => show_loss(f, *replica),
             Notice::RoundsOver => f.write_str("the rounds are over"),
             Notice::ServesOn => f.write_str(
                 "the rounds are over: clients are answered, and what they submit is never run",
@@ -99,6 +102,14 @@ fn show_mute<W: fmt::Write>(
     write!(
         f,
         "replica {replica} is mute from round {round} on: its keys have {signatures} signatures left, too few"
+    )
+}
+
+fn show_loss<W: fmt::Write>(f: &mut fmt::Formatter<W>, replica: ReplicaId) -> fmt::Result {
+    let replica = replica.number();
+    write!(
+        f,
+        "replica {replica}: memory ran out, so events or frames were lost"
     )
 }
 

@@ -10,28 +10,18 @@ use cluster_keys::{ClusterKeys, ClusterSeed, all_keys_in_parallel};
 use key_ring::{KeyRing, Signer};
 use ledger_model::{Event, ReplicaId, Tx};
 use locked_replica::{ApplyFault, State};
-use program_streams::{ProgramFault, Resource};
+use program_streams::{ProgramFault, new_random_key};
 use replica_turns::new_replica;
 use std::alloc::Global;
 use std::hash::RandomState;
 use std::random::RandomSource;
 use std::thread::Threads;
 
-/// The random key of a replica's hashes.
-fn random<R: RandomSource>(source: &R) -> Result<RandomState, ProgramFault>
-    ensures { IfErr result IsMemoryOrRandom }
-{
-    match RandomState::new(source) {
-        Ok(key) => Ok(key),
-        Err(error) => Err(ProgramFault::Refused(Resource::Random, error)),
-    }
-}
-
 /// The random keys of a replica's hashes.
 fn randoms<R: RandomSource>(source: &R) -> Result<[RandomState; 2], ProgramFault>
     ensures { IfErr result IsMemoryOrRandom }
 {
-    Ok([random(source)?, random(source)?])
+    Ok([new_random_key(source)?, new_random_key(source)?])
 }
 
 /// Submits the transaction to a replica to which nothing has happened.

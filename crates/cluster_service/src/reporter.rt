@@ -1,6 +1,6 @@
 //! How a running cluster stands, told to its operator: on a terminal by one line that is written over and over, else by a line for
 //! each thing that happens. A thread of its own writes these lines, and the fault that ended the cluster; nobody waits for it for long.
-use crate::cluster_status::unknown;
+use crate::cluster_status::{FIRST_NOTICES, unknown};
 use crate::notice::Notice;
 use crate::reporting::SharedStatus;
 use byte_streams::write_whole;
@@ -107,7 +107,7 @@ impl<P: Write + Drop> Reporter<P> {
             watcher,
             rounds,
             shared,
-            notices: Vec::new(alloc),
+            notices: Vec::with_capacity(alloc, FIRST_NOTICES)?,
             replicas: unknown(alloc, replicas)?,
             told: 0,
             is_ended: false,

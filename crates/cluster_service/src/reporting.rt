@@ -62,6 +62,13 @@ impl SharedStatus {
         }
     }
 
+    /// Passes on that a replica lost something since memory ran out, the first time.
+    fn note_loss<R: Wait>(&self, rt: &R, replica: ReplicaId) {
+        if !self.is_quiet && self.status.lock(rt).add_loss(replica) {
+            self.news.ring();
+        }
+    }
+
     /// Ends the reporter, which writes last the fault that ended the cluster, if one did. Waits until it has written everything, at most
     /// for a second. Returns the exit status: the one of what was done, or that of a fault.
     pub fn close<R: Wait>(&self, rt: &R, done: Result<u8, ProgramFault>) -> u8
@@ -149,5 +156,9 @@ impl<R: Wait> TurnGate for ReportingGate<'_, R> {
 
     fn after(&self, replica: ReplicaId, status: ReplicaStatus) {
         self.shared.note(self.rt, replica, status);
+    }
+
+    fn lack(&self, replica: ReplicaId) {
+        self.shared.note_loss(self.rt, replica);
     }
 }

@@ -1,8 +1,9 @@
 //! Clusters that run in threads of this process, on wall-clock time, and listen at ports of this machine.
-ghost use Rattle.std.specs.Prelude.{◌≡◌, ◌⊎◌, ◌<◌, ℕ, Some, length, slice_get, vec_len, IfOk, All};
+ghost use Rattle.std.specs.Prelude.{◌≡◌, ◌⊎◌, ◌<◌, ℕ, Some, length, slice_get, vec_len, IfErr, IfOk, All};
 ghost use Rattle.cluster_keys.specs.Keys.{ring_of};
 ghost use Rattle.commit_board.specs.Seats.{new_reader};
 ghost use Rattle.cluster_service.specs.Reporting.{AreTaken};
+ghost use Rattle.cluster_service.specs.RunFaults.{IsPortFault, IsRunFault};
 ghost use denote.Param.Send.{IsSend, IsSync};
 
 use crate::door::Door;
@@ -35,6 +36,7 @@ pub fn listen_at<R: Net<Listener = TcpListener, Stream = TcpStream>>(
     port: u16,
 ) -> Result<(TcpListener, u16), ProgramFault>
     ensures asked { IfOk result (λ r. (port ≡ 0) ⊎ (r.1 ≡ port)) }
+    ensures fault { IfErr result IsPortFault }
 {
     match TcpListener::bind(rt, (Ipv4Addr::LOCALHOST, port)) {
         Ok(listener) => {
@@ -71,7 +73,9 @@ fn run_workers<R: Clock + Threads + Wait + Sync>(
     workers: Vec<Worker<AnyKind>>,
     gate: &ReportingGate<'_, R>,
     stop: &Stop,
-) -> Result<(), ProgramFault> {
+) -> Result<(), ProgramFault>
+    ensures { IfErr result IsRunFault }
+{
     let clock = match MachineClock::start(rt, settings.base_ms) {
         Ok(clock) => clock,
         Err(error) => return Err(ProgramFault::Refused(Resource::Clock, error)),
@@ -92,8 +96,9 @@ fn run_through<R: Clock + RandomSource + Threads + Wait + Sync>(
     stop: &Stop,
 ) -> Result<FinalHistories, ProgramFault>
     ensures each { IfOk result (λ left. vec_len left.heights ≡ settings.now.cluster.config.replicas) }
-    ensures taken { IfOk result (λ left. AreTaken left.histories.items left.heights.items) }
+    ensures taken { IfOk result (λ left. AreTaken settings.now.cluster.config 0 left.histories.items left.heights.items) }
     ensures ring { IfOk result (λ left. left.ring ≡ ring_of settings.now.cluster) }
+    ensures fault { IfErr result IsRunFault }
 {
     let config = &settings.cluster.config;
     let NewReplicas { states, ring } = new_replicas(rt, alloc, &settings.cluster, &settings.tx)?;
@@ -101,7 +106,7 @@ fn run_through<R: Clock + RandomSource + Threads + Wait + Sync>(
     run_workers(rt, settings, workers, gate, stop)?;
     gate.tell(end_of(stop, Notice::RoundsOver));
     gate.wait_for_end();
-    take_all(rt, alloc, &cluster, config.replicas, ring)
+    take_all(rt, alloc, &cluster, config, ring)
 }
 
 /// Runs a cluster until its rounds are over, or it is asked to stop, and then takes the history of each replica, by number. How it
@@ -114,8 +119,9 @@ pub fn run_cluster<R: Clock + RandomSource + Threads + Wait + Sync>(
     stop: &Stop,
 ) -> Result<FinalHistories, ProgramFault>
     ensures each { IfOk result (λ left. vec_len left.heights ≡ settings.now.cluster.config.replicas) }
-    ensures taken { IfOk result (λ left. AreTaken left.histories.items left.heights.items) }
+    ensures taken { IfOk result (λ left. AreTaken settings.now.cluster.config 0 left.histories.items left.heights.items) }
     ensures ring { IfOk result (λ left. left.ring ≡ ring_of settings.now.cluster) }
+    ensures fault { IfErr result IsRunFault }
 {
     let gate = new_gate(rt, settings, status);
     run_through(rt, alloc, settings, &gate, stop)
@@ -181,24 +187,31 @@ fn run_beside<'a, R>(
 ) -> Result<(), ProgramFault>
 where
     R: Clock + Net<Listener = TcpListener, Stream = TcpStream> + Threads + Wait + Sync,
+    ensures { IfErr result IsRunFault }
 {
-    thread::scope(thread::scope_env(), rt, move |scope| {
-        if scope
-            .spawn(move || listen(rt, alloc, listener, targets, stop, door))
-            .is_err()
+    thread::scope(
+        thread::scope_env(),
+        rt,
+        move |scope| -> Result<(), ProgramFault>
+            ensures { IfErr result IsRunFault }
         {
-            return Err(ProgramFault::NoThread);
-        }
-        let done = run_workers(rt, settings, workers, gate, stop);
-        if done.is_ok() {
-            gate.tell(end_of(stop, Notice::ServesOn));
-        }
-        end_sessions(rt, port, settings.stops_at_eof, stop, door);
-        if done.is_ok() {
-            gate.wait_for_end();
-        }
-        done
-    })
+            if scope
+                .spawn(move || listen(rt, alloc, listener, targets, stop, door))
+                .is_err()
+            {
+                return Err(ProgramFault::NoThread);
+            }
+            let done = run_workers(rt, settings, workers, gate, stop);
+            if done.is_ok() {
+                gate.tell(end_of(stop, Notice::ServesOn));
+            }
+            end_sessions(rt, port, settings.stops_at_eof, stop, door);
+            if done.is_ok() {
+                gate.wait_for_end();
+            }
+            done
+        },
+    )
 }
 
 /// Runs the workers of a cluster in parallel with one session per seat. The sessions share the given number of entries
@@ -219,6 +232,7 @@ where
     R: Clock + Net<Listener = TcpListener, Stream = TcpStream> + Threads + Wait + Sync,
     requires readers { (k : ℕ) → k < vec_len seats → slice_get seats.items k ≡ Some (new_reader cluster.now.board) }
     requires replicas { settings.now.cluster.cluster.config.replicas ≡ cluster.now.replicas }
+    ensures { IfErr result IsRunFault }
 {
     let run = &settings.cluster;
     let entries = new_entries(alloc, run.cluster.config.replicas, settings.client_entries)?;
@@ -247,8 +261,9 @@ where
         + Wait
         + Sync,
     ensures each { IfOk result (λ left. vec_len left.heights ≡ settings.now.cluster.cluster.config.replicas) }
-    ensures taken { IfOk result (λ left. AreTaken left.histories.items left.heights.items) }
+    ensures taken { IfOk result (λ left. AreTaken settings.now.cluster.cluster.config 0 left.histories.items left.heights.items) }
     ensures ring { IfOk result (λ left. left.ring ≡ ring_of settings.now.cluster.cluster) }
+    ensures fault { IfErr result IsRunFault }
 {
     let run = &settings.cluster;
     let config = &run.cluster.config;
@@ -263,7 +278,7 @@ where
     serve_beside(
         rt, alloc, settings, &cluster, workers, seats, gate, listener, port, stop,
     )?;
-    take_all(rt, alloc, &cluster, config.replicas, ring)
+    take_all(rt, alloc, &cluster, config, ring)
 }
 
 /// Like [`run_cluster`], and serves the clients of a listener. Returns when the rounds are over and as many connections as
@@ -285,8 +300,9 @@ where
         + Threads
         + Wait,
     ensures each { IfOk result (λ left. vec_len left.heights ≡ settings.now.cluster.cluster.config.replicas) }
-    ensures taken { IfOk result (λ left. AreTaken left.histories.items left.heights.items) }
+    ensures taken { IfOk result (λ left. AreTaken settings.now.cluster.cluster.config 0 left.histories.items left.heights.items) }
     ensures ring { IfOk result (λ left. left.ring ≡ ring_of settings.now.cluster.cluster) }
+    ensures fault { IfErr result IsRunFault }
 {
     let gate = new_gate(rt, &settings.cluster, status);
     serve_through(rt, alloc, settings, &gate, listener, port, stop)

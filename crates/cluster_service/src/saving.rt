@@ -1,28 +1,44 @@
-//! Writes the histories of a cluster into a file.
-ghost use Rattle.std.specs.Prelude.{MatchResult};
+//! The file into which a cluster writes its histories at its end.
+ghost use Rattle.std.specs.Prelude.{◌≡◌, IfErr, IfOk, is_some};
 ghost use Rattle.std.specs.List.{flat_map};
 ghost use Rattle.history_bytes.specs.Histories.{history_bytes};
 ghost use Rattle.byte_streams.specs.Writing.{Writes};
+ghost use Rattle.cluster_service.specs.Reporting.{bytes_in};
+ghost use Rattle.cluster_service.specs.RunFaults.{IsFileFault};
 
 use byte_streams::write_whole;
 use history_bytes::history_bytes;
 use ledger_model::History;
-use program_streams::{ProgramFault, Resource};
-use std::alloc::Global;
-use std::fs;
+use program_streams::ProgramFault;
+use settings::ClusterSettings;
+use std::alloc::{AllocError, Global};
 use std::io::{self, Write};
+use std::marker::Model;
 use std::rt::Files;
+use std::{fs, mem};
 
-/// The fault that the file was refused.
-fn no_file(error: io::Error) -> ProgramFault {
-    ProgramFault::Refused(Resource::Histories, error)
+/// Why the bytes of histories weren't all written.
+enum SaveFault {
+    /// Memory ran out.
+    NoMemory,
+    /// The system refused a write.
+    Refused(io::Error),
+}
+
+impl From<AllocError> for SaveFault {
+    fn from(_error: AllocError) -> SaveFault {
+        SaveFault::NoMemory
+    }
 }
 
 /// Writes the bytes of a file.
-fn write_bytes<W: Write>(file: &mut W, bytes: &[u8]) -> Result<(), ProgramFault>
+fn write_bytes<W: Write>(file: &mut W, bytes: &[u8]) -> Result<(), SaveFault>
     ensures { Writes result (W.contents file.old) (W.contents file.new) bytes.now }
 {
-    write_whole(file, bytes).map_err(no_file)
+    match write_whole(file, bytes) {
+        Ok(()) => Ok(()),
+        Err(error) => Err(SaveFault::Refused(error)),
+    }
 }
 
 /// Writes the histories, one after another. After an error a prefix of them was written.
@@ -30,7 +46,7 @@ fn write_histories<W: Write>(
     alloc: Global,
     histories: &[History],
     file: &mut W,
-) -> Result<(), ProgramFault>
+) -> Result<(), SaveFault>
     ensures { Writes result (W.contents file.old) (W.contents file.new) (flat_map history_bytes histories.now) }
 {
     for history in histories {
@@ -40,15 +56,91 @@ fn write_histories<W: Write>(
     Ok(())
 }
 
-/// Writes the histories to the file with this path, in place of what it has.
-pub(crate) fn save_histories<R: Files>(
+/// A file for the histories of a cluster, with its path. Contracts see its bytes, if they are known.
+pub struct HistoriesFile<W: Write> {
+    path: String,
+    file: W,
+}
+
+// An own `Drop` keeps proofs short: an owner drops it by one call. See docs/WORKING.md.
+impl<W: Write + Drop> Drop for HistoriesFile<W> {
+    fn drop(self) {
+        let HistoriesFile {
+            path: _path,
+            file: _file,
+        } = self;
+    }
+}
+
+impl<W: Write> Model for HistoriesFile<W> {
+    ghost use Rattle.std.specs.Prelude.{ℕ, List, Option};
+
+    ghost Value = { Option (List ℕ) };
+
+    ghost view = { λ f. W.contents f.file };
+}
+
+impl<W: Write> HistoriesFile<W> {
+    ghost use Rattle.std.specs.Prelude.{IfErr};
+    ghost use Rattle.std.specs.List.{flat_map};
+    ghost use Rattle.history_bytes.specs.Histories.{history_bytes};
+    ghost use Rattle.byte_streams.specs.Writing.{Writes};
+    ghost use Rattle.cluster_service.specs.RunFaults.{IsFileFault};
+
+    /// Writes the histories, one after another. After an error a prefix of them was written: memory ran out, or a write
+    /// was refused. The fault of a refused write has the path, and a second one has no path.
+    pub fn save(&mut self, alloc: Global, histories: &[History]) -> Result<(), ProgramFault>
+        ensures written { Writes result self.old self.new (flat_map history_bytes histories.now) }
+        ensures fault { IfErr result IsFileFault }
+    {
+        match write_histories(alloc, histories, &mut self.file) {
+            Ok(()) => Ok(()),
+            Err(SaveFault::NoMemory) => Err(ProgramFault::NoMemory),
+            Err(SaveFault::Refused(error)) => {
+                let path = mem::replace(&mut self.path, String::new(alloc));
+                Err(ProgramFault::NoFile(path, error))
+            }
+        }
+    }
+}
+
+/// Makes the file with this path, in place of what is there.
+fn create<R: Files>(rt: &R, path: &String) -> Result<HistoriesFile<R::File>, ProgramFault>
+    ensures { IfErr result IsFileFault }
+{
+    let path = path.clone()?;
+    match fs::create(rt, path.as_str()) {
+        Ok(file) => Ok(HistoriesFile { path, file }),
+        Err(error) => Err(ProgramFault::NoFile(path, error)),
+    }
+}
+
+/// Makes the file for the histories of a cluster, if the settings name one; what it has is lost. The errors are that the file
+/// is refused, and allocation failure.
+pub fn open_histories<R: Files>(
     rt: &R,
+    settings: &ClusterSettings,
+) -> Result<Option<HistoriesFile<R::File>>, ProgramFault>
+    ensures opened { IfOk result (λ file. is_some file ≡ is_some settings.now.histories) }
+    ensures fault { IfErr result IsFileFault }
+{
+    match &settings.histories {
+        Some(path) => Ok(Some(create(rt, path)?)),
+        None => Ok(None),
+    }
+}
+
+/// Writes the histories to the file, if there is one.
+pub(crate) fn save_histories<W: Write>(
     alloc: Global,
-    path: &str,
     histories: &[History],
-) -> Result<(), ProgramFault> {
-    match fs::create(rt, path) {
-        Ok(mut file) => write_histories(alloc, histories, &mut file),
-        Err(error) => Err(no_file(error)),
+    file: &mut Option<HistoriesFile<W>>,
+) -> Result<(), ProgramFault>
+    ensures written { Writes result (bytes_in file.old) (bytes_in file.new) (flat_map history_bytes histories.now) }
+    ensures fault { IfErr result IsFileFault }
+{
+    match file {
+        Some(file) => file.save(alloc, histories),
+        None => Ok(()),
     }
 }

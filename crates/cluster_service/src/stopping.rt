@@ -1,4 +1,7 @@
 //! The end of an input, as the request that a running cluster stop.
+ghost use Rattle.std.specs.Prelude.{IfErr};
+ghost use Rattle.cluster_service.specs.RunFaults.{IsRunFault};
+
 use cluster_workers::Stop;
 use program_streams::{ProgramFault, Resource};
 use std::io::{ErrorKind, Read};
@@ -35,6 +38,7 @@ pub fn stop_at_end<R, I>(rt: &R, mut input: I, stop: Arc<Stop>) -> Result<(), Pr
 where
     R: Clock + Copy + Send + Threads + 'static,
     I: Read + Drop + Send + 'static,
+    ensures { IfErr result IsRunFault }
 {
     if let Err(error) = input.read(&mut []) {
         return Err(ProgramFault::Refused(Resource::Input, error));

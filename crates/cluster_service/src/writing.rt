@@ -1,7 +1,9 @@
 //! Writes and flushes the lines of a cluster.
+ghost use Rattle.std.specs.Prelude.{IfErr};
 ghost use Rattle.byte_streams.specs.Writing.{Writes};
 ghost use Rattle.audit_lines.specs.AuditLines.{finding_text};
 ghost use Rattle.cluster_service.specs.Reporting.{commit_lines, port_line};
+ghost use Rattle.cluster_service.specs.RunFaults.{IsReportFault};
 
 use crate::lines::{commit_lines, port_line};
 use audit_lines::add_finding;
@@ -18,7 +20,8 @@ pub fn write_commits<W: Write>(
     heights: &[u32],
     writer: &mut W,
 ) -> Result<(), ProgramFault>
-    ensures { Writes result (W.contents writer.old) (W.contents writer.new) (commit_lines 0 heights.now) }
+    ensures written { Writes result (W.contents writer.old) (W.contents writer.new) (commit_lines 0 heights.now) }
+    ensures fault { IfErr result IsReportFault }
 {
     let text = commit_lines(alloc, heights)?;
     write_output(writer, text.as_bytes())?;
@@ -28,7 +31,8 @@ pub fn write_commits<W: Write>(
 
 /// Writes the line with the port, and flushes it, so that its reader has it at once.
 pub fn write_port<W: Write>(alloc: Global, port: u16, writer: &mut W) -> Result<(), ProgramFault>
-    ensures { Writes result (W.contents writer.old) (W.contents writer.new) (port_line port) }
+    ensures written { Writes result (W.contents writer.old) (W.contents writer.new) (port_line port) }
+    ensures fault { IfErr result IsReportFault }
 {
     let line = port_line(alloc, port)?;
     write_output(writer, line.as_bytes())?;
@@ -42,7 +46,8 @@ pub(crate) fn write_finding<W: Write>(
     finding: &Result<Ledger, AuditFault>,
     writer: &mut W,
 ) -> Result<(), ProgramFault>
-    ensures { Writes result (W.contents writer.old) (W.contents writer.new) (finding_text finding.now) }
+    ensures written { Writes result (W.contents writer.old) (W.contents writer.new) (finding_text finding.now) }
+    ensures fault { IfErr result IsReportFault }
 {
     let mut text = Text::new(alloc);
     add_finding(&mut text, finding)?;

@@ -112,4 +112,6 @@ impl<R: Wait> TurnGate for HistoryGate<'_, R> {
             }
         }
     }
+
+    fn lack(&self, _replica: ReplicaId) {}
 }

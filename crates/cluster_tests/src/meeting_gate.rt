@@ -61,4 +61,6 @@ impl TurnGate for MeetingGate {
     }
 
     fn after(&self, _replica: ReplicaId, _status: ReplicaStatus) {}
+
+    fn lack(&self, _replica: ReplicaId) {}
 }

@@ -1,14 +1,17 @@
-//! What is called before and after each turn.
+//! What a worker calls before and after each turn, and where memory ran out.
 use ledger_model::ReplicaId;
 use replica_turns::ReplicaStatus;
 
-/// Called before and after each turn of a replica, while the replica isn't locked.
+/// Called before and after each turn of a replica, and where memory ran out, while the replica isn't locked.
 pub trait TurnGate {
     /// A turn of this replica is about to start.
     fn before(&self, replica: ReplicaId);
 
     /// The turn has ended, and the replica has this status.
     fn after(&self, replica: ReplicaId, status: ReplicaStatus);
+
+    /// Memory ran out in a pass of this replica's worker, which lost an event or frames. The worker goes on.
+    fn lack(&self, replica: ReplicaId);
 }
 
 /// A gate that does nothing.
@@ -19,4 +22,6 @@ impl TurnGate for NoGate {
     fn before(&self, _replica: ReplicaId) {}
 
     fn after(&self, _replica: ReplicaId, _status: ReplicaStatus) {}
+
+    fn lack(&self, _replica: ReplicaId) {}
 }

@@ -47,8 +47,10 @@ pub struct Worker<A: Application> {
     sent: usize,
     /// Whether the history is full: the replica takes no more events.
     is_full: bool,
-    /// Whether memory ran out in the last turn.
+    /// Whether memory ran out in the last turn with frames.
     is_short: bool,
+    /// Whether memory ran out since the gate was last told so, and an event or frames were lost.
+    has_lost: bool,
 }
 
 impl<A: Application> Model for Worker<A> {
@@ -76,6 +78,7 @@ impl<A: Application> Drop for Worker<A> {
             sent: _sent,
             is_full: _is_full,
             is_short: _is_short,
+            has_lost: _has_lost,
         } = self;
     }
 }
@@ -129,6 +132,7 @@ impl<A: Application> Worker<A> {
             sent: 0,
             is_full: false,
             is_short: false,
+            has_lost: false,
         }
     }
 
@@ -206,7 +210,9 @@ impl<A: Application> Worker<A> {
     fn take_in<R: Wait>(&mut self, rt: &R, clock: u32) -> usize {
         let frames = take_frames(rt, self.alloc, &mut self.receiver, self.frames.room());
         let taken = frames.len();
-        let _ = self.frames.take_in(self.alloc, clock, frames);
+        if self.frames.take_in(self.alloc, clock, frames).is_err() {
+            self.has_lost = true;
+        }
         taken
     }
 
@@ -224,31 +230,36 @@ impl<A: Application> Worker<A> {
         self.turn_taker.turn(&mut *state, events)
     }
 
-    /// Records why an event was refused, if one was. The first `offered` of the waiting frames were offered, and are dropped.
-    /// If the history is full, or memory runs out for the second time in a row, all waiting frames are dropped.
-    fn note_fault(&mut self, fault: Option<ApplyFault>, offered: usize) {
+    /// Records why an event was refused, if one was. If the history is full, all waiting frames are dropped.
+    fn note_fault(&mut self, fault: Option<ApplyFault>) {
         match fault {
             Some(ApplyFault::HistoryFull) => {
                 self.is_full = true;
                 self.frames.give_up_all();
             }
-            Some(ApplyFault::NoMemory) if self.is_short => self.frames.give_up_all(),
-            Some(ApplyFault::NoMemory) => {
-                self.is_short = true;
-                self.frames.give_up(offered);
-            }
-            None => {
-                self.is_short = false;
-                self.frames.give_up(offered);
-            }
+            Some(ApplyFault::NoMemory) => self.has_lost = true,
+            None => {}
         }
+    }
+
+    /// The same after a turn with frames, of which the first `offered` were offered, and are dropped. If memory runs out in the
+    /// second such turn in a row, all waiting frames are dropped.
+    fn note_frames(&mut self, fault: Option<ApplyFault>, offered: usize) {
+        self.note_fault(fault);
+        let is_short = fault == Some(ApplyFault::NoMemory);
+        if is_short && self.is_short {
+            self.frames.give_up_all();
+        } else {
+            self.frames.give_up(offered);
+        }
+        self.is_short = is_short;
     }
 
     /// Gives the replica a turn with what it does by itself, if that is anything. A refused event and those after it are
     /// dropped: the next pass plans them anew. Returns the number of events that were taken.
     fn act<R: Wait, G: TurnGate>(&mut self, rt: &R, gate: &G, own: &OwnEvents) -> usize {
         let Ok(events) = own.events(self.alloc) else {
-            self.note_fault(Some(ApplyFault::NoMemory), 0);
+            self.note_fault(Some(ApplyFault::NoMemory));
             return 0;
         };
         if events.is_empty() {
@@ -256,7 +267,7 @@ impl<A: Application> Worker<A> {
         }
         let outcome = self.turn(rt, gate, events);
         self.proposed = own.proposed_after(self.proposed, outcome.taken);
-        self.note_fault(outcome.fault, 0);
+        self.note_fault(outcome.fault);
         outcome.taken
     }
 
@@ -265,11 +276,11 @@ impl<A: Application> Worker<A> {
     fn hand_over_next<R: Threads + Wait + Sync, G: TurnGate>(&mut self, rt: &R, gate: &G) -> usize {
         self.check(rt, self.frames.first_due());
         let Ok(events) = deliveries_of(self.alloc, self.frames.first_due()) else {
-            self.note_fault(Some(ApplyFault::NoMemory), 0);
+            self.note_frames(Some(ApplyFault::NoMemory), 0);
             return 0;
         };
         let outcome = self.turn(rt, gate, events);
-        self.note_fault(outcome.fault, outcome.offered);
+        self.note_frames(outcome.fault, outcome.offered);
         outcome.taken
     }
 
@@ -290,13 +301,10 @@ impl<A: Application> Worker<A> {
         taken
     }
 
-    /// The frames of an entry; none if memory ran out.
-    fn sent_at<R: Wait>(&self, rt: &R, index: usize) -> Vec<Sent> {
+    /// The frames of an entry.
+    fn sent_at<R: Wait>(&self, rt: &R, index: usize) -> Result<Vec<Sent>, AllocError> {
         let state = self.replica.lock(rt);
-        match sent_at(self.alloc, &*state, index) {
-            Ok(frames) => frames,
-            Err(_) => Vec::new(self.alloc),
-        }
+        sent_at(self.alloc, &*state, index)
     }
 
     /// Ends the round of the replica. The frames that waited for the next round are due then, and those that the replica sends
@@ -304,10 +312,11 @@ impl<A: Application> Worker<A> {
     fn end_round<R: Wait, G: TurnGate>(&mut self, rt: &R, gate: &G) {
         self.ended = self.ended.saturating_add(1);
         let Ok(events) = vec![in self.alloc; Event::RoundEnd] else {
+            self.note_fault(Some(ApplyFault::NoMemory));
             return;
         };
         let outcome = self.turn(rt, gate, events);
-        self.note_fault(outcome.fault, 0);
+        self.note_fault(outcome.fault);
         if outcome.taken > 0 {
             let _ = self.frames.open_round();
             self.send_all(rt, outcome.first);
@@ -317,7 +326,11 @@ impl<A: Application> Worker<A> {
     /// Puts the frames of an entry into the inboxes of their addressees.
     fn send_all<R: Wait>(&mut self, rt: &R, index: usize) {
         let from = self.turn_taker.replica();
-        for sent in self.sent_at(rt, index) {
+        let Ok(frames) = self.sent_at(rt, index) else {
+            self.has_lost = true;
+            return;
+        };
+        for sent in frames {
             let count = send(rt, &mut self.senders, from, &sent);
             self.sent = self.sent.saturating_add(count);
         }
@@ -348,6 +361,13 @@ impl<A: Application> Worker<A> {
         Pass {
             is_idle: !is_due && progress.is_idle(),
             has_run: own.is_decided && done > 0,
+        }
+    }
+
+    /// Tells the gate if memory ran out and something was lost.
+    fn tell_loss<G: TurnGate>(&mut self, gate: &G) {
+        if mem::replace(&mut self.has_lost, false) {
+            gate.lack(self.turn_taker.replica());
         }
     }
 
@@ -384,6 +404,7 @@ impl<A: Application> Worker<A> {
             } else {
                 self.pass(rt, clock, gate, may_end)
             };
+            self.tell_loss(gate);
             if !may_end && !pass.has_run {
                 break;
             }

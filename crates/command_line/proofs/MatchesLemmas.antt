@@ -19,7 +19,7 @@ use Rattle.clap.specs.declared.parser.matches.ArgMatches.TheViews.{out-ArgMatche
 use Rattle.std.specs.Box.{box_value}
 use Rattle.clap.proofs.OnLiterals.{clap_on_literals}
 use Rattle.command_line.specs.Grammar.{abft_app}
-use Rattle.command_line.specs.Options.{Sets, SetsAudit, SetsSign, SetsDeliver, SetsSimulate, SetsRunning, SetsServe, WantsMemory}
+use Rattle.command_line.specs.Options.{Sets, SetsAudit, SetsDraw, SetsSign, SetsDeliver, SetsSimulate, SetsRunning, SetsServe, WantsMemory}
 use Rattle.command_line.specs.declared.usage_fault.UsageFault.{UsageFault}
 use Rattle.settings.specs.declared.sign.SignSettings.{SignSettings}
 use Rattle.settings.specs.declared.deliver.DeliverSettings.{DeliverSettings}
@@ -27,6 +27,7 @@ use Rattle.settings.specs.declared.simulate.SimulateSettings.{SimulateSettings}
 use Rattle.settings.specs.declared.cluster.ClusterSettings.{ClusterSettings}
 use Rattle.settings.specs.declared.cluster.ServeSettings.{ServeSettings}
 use Rattle.settings.specs.declared.audit.AuditSettings.{AuditSettings}
+use Rattle.settings.specs.declared.draw.DrawSettings.{DrawSettings}
 use Rattle.settings.specs.declared.Settings.{Settings}
 use Rattle.settings.specs.declared.Settings.TheVariants as settings
 
@@ -63,26 +64,27 @@ pub rows_are : (m : ArgMatches) (app : App) (words : List Text) → app ≡ abft
     → subcommand_rows_of m ≡ subcommand_of abft_app words
 rows_are m app words is has = (has (ap is_simple is ∙ abft_is_simple)).1 ∙ ap (λ a. subcommand_of a words) is
 
--- the name is one of the six subcommands'
-abbrev pub IsOneOfSix : Option Text → Type 0
-IsOneOfSix name =
+-- the name is one of the seven subcommands'
+abbrev pub IsOneOfSeven : Option Text → Type 0
+IsOneOfSeven name =
     (name ≡ Some (codes "sign")) ⊎
     ((name ≡ Some (codes "deliver"))
     ⊎ ((name ≡ Some (codes "simulate"))
-    ⊎ ((name ≡ Some (codes "cluster")) ⊎ ((name ≡ Some (codes "serve")) ⊎ (name ≡ Some (codes "audit"))))))
+    ⊎ ((name ≡ Some (codes "cluster")) ⊎ ((name ≡ Some (codes "serve")) ⊎ ((name ≡ Some (codes "audit")) ⊎ (name ≡ Some (codes "draw")))))))
 
 -- whatever is set is set by a subcommand of one of these names
-named : (o : Option (Text × List Row)) (s : Settings) → Sets o s → IsOneOfSix (option_map (λ p. p.0) o)
+named : (o : Option (Text × List Row)) (s : Settings) → Sets o s → IsOneOfSeven (option_map (λ p. p.0) o)
 named None s sets = absurd sets
 named (Some p) (settings.Sign t) sets = inl (ap (λ n. Some n) sets.0)
 named (Some p) (settings.Deliver t) sets = inr (inl (ap (λ n. Some n) sets.0))
 named (Some p) (settings.Simulate t) sets = inr (inr (inl (ap (λ n. Some n) sets.0)))
 named (Some p) (settings.Cluster t) sets = inr (inr (inr (inl (ap (λ n. Some n) sets.0))))
 named (Some p) (settings.Serve t) sets = inr (inr (inr (inr (inl (ap (λ n. Some n) sets.0)))))
-named (Some p) (settings.Audit t) sets = inr (inr (inr (inr (inr (ap (λ n. Some n) sets.0)))))
+named (Some p) (settings.Audit t) sets = inr (inr (inr (inr (inr (inl (ap (λ n. Some n) sets.0))))))
+named (Some p) (settings.Draw t) sets = inr (inr (inr (inr (inr (inr (ap (λ n. Some n) sets.0))))))
 
-pub names_one : (m : ArgMatches) (s : Settings) → Sets (subcommand_rows_of m) s → IsOneOfSix (subcommand_name_of m)
-names_one m s sets = subst IsOneOfSix (name_is m) (named (subcommand_rows_of m) s sets)
+pub names_one : (m : ArgMatches) (s : Settings) → Sets (subcommand_rows_of m) s → IsOneOfSeven (subcommand_name_of m)
+names_one m s sets = subst IsOneOfSeven (name_is m) (named (subcommand_rows_of m) s sets)
 
 -- names that differ are not the same
 differ : {W : Type 0} (x y : Text) → bytes_eq x y ≡ false → x ≡ y → W
@@ -97,6 +99,7 @@ sets_sign rows (settings.Simulate t) then sets = differ _ _ refl sets.0
 sets_sign rows (settings.Cluster t) then sets = differ _ _ refl sets.0
 sets_sign rows (settings.Serve t) then sets = differ _ _ refl sets.0
 sets_sign rows (settings.Audit t) then sets = differ _ _ refl sets.0
+sets_sign rows (settings.Draw t) then sets = differ _ _ refl sets.0
 
 pub sets_deliver : {W : Type 0} (rows : List Row) (s : Settings) → ((t : DeliverSettings) → SetsDeliver rows t → W)
     → Sets (Some (codes "deliver", rows)) s → W
@@ -106,6 +109,7 @@ sets_deliver rows (settings.Simulate t) then sets = differ _ _ refl sets.0
 sets_deliver rows (settings.Cluster t) then sets = differ _ _ refl sets.0
 sets_deliver rows (settings.Serve t) then sets = differ _ _ refl sets.0
 sets_deliver rows (settings.Audit t) then sets = differ _ _ refl sets.0
+sets_deliver rows (settings.Draw t) then sets = differ _ _ refl sets.0
 
 pub sets_simulate : {W : Type 0} (rows : List Row) (s : Settings) → ((t : SimulateSettings) → SetsSimulate rows t → W)
     → Sets (Some (codes "simulate", rows)) s → W
@@ -115,6 +119,7 @@ sets_simulate rows (settings.Deliver t) then sets = differ _ _ refl sets.0
 sets_simulate rows (settings.Cluster t) then sets = differ _ _ refl sets.0
 sets_simulate rows (settings.Serve t) then sets = differ _ _ refl sets.0
 sets_simulate rows (settings.Audit t) then sets = differ _ _ refl sets.0
+sets_simulate rows (settings.Draw t) then sets = differ _ _ refl sets.0
 
 pub sets_cluster : {W : Type 0} (rows : List Row) (s : Settings) → ((t : ClusterSettings) → SetsRunning rows t → W)
     → Sets (Some (codes "cluster", rows)) s → W
@@ -124,6 +129,7 @@ sets_cluster rows (settings.Deliver t) then sets = differ _ _ refl sets.0
 sets_cluster rows (settings.Simulate t) then sets = differ _ _ refl sets.0
 sets_cluster rows (settings.Serve t) then sets = differ _ _ refl sets.0
 sets_cluster rows (settings.Audit t) then sets = differ _ _ refl sets.0
+sets_cluster rows (settings.Draw t) then sets = differ _ _ refl sets.0
 
 pub sets_serve : {W : Type 0} (rows : List Row) (s : Settings) → ((t : ServeSettings) → SetsServe rows t → W)
     → Sets (Some (codes "serve", rows)) s → W
@@ -133,6 +139,7 @@ sets_serve rows (settings.Deliver t) then sets = differ _ _ refl sets.0
 sets_serve rows (settings.Simulate t) then sets = differ _ _ refl sets.0
 sets_serve rows (settings.Cluster t) then sets = differ _ _ refl sets.0
 sets_serve rows (settings.Audit t) then sets = differ _ _ refl sets.0
+sets_serve rows (settings.Draw t) then sets = differ _ _ refl sets.0
 
 pub sets_audit : {W : Type 0} (rows : List Row) (s : Settings) → ((t : AuditSettings) → SetsAudit rows t → W)
     → Sets (Some (codes "audit", rows)) s → W
@@ -142,6 +149,17 @@ sets_audit rows (settings.Deliver t) then sets = differ _ _ refl sets.0
 sets_audit rows (settings.Simulate t) then sets = differ _ _ refl sets.0
 sets_audit rows (settings.Cluster t) then sets = differ _ _ refl sets.0
 sets_audit rows (settings.Serve t) then sets = differ _ _ refl sets.0
+sets_audit rows (settings.Draw t) then sets = differ _ _ refl sets.0
+
+pub sets_draw : {W : Type 0} (rows : List Row) (s : Settings) → ((t : DrawSettings) → SetsDraw rows t → W)
+    → Sets (Some (codes "draw", rows)) s → W
+sets_draw rows (settings.Draw t) then sets = then t sets.1
+sets_draw rows (settings.Sign t) then sets = differ _ _ refl sets.0
+sets_draw rows (settings.Deliver t) then sets = differ _ _ refl sets.0
+sets_draw rows (settings.Simulate t) then sets = differ _ _ refl sets.0
+sets_draw rows (settings.Cluster t) then sets = differ _ _ refl sets.0
+sets_draw rows (settings.Serve t) then sets = differ _ _ refl sets.0
+sets_draw rows (settings.Audit t) then sets = differ _ _ refl sets.0
 
 -- where an option's value came from, among the entries and among the rows
 pub source_is : (f : Found) (id : Text)

@@ -126,7 +126,7 @@ abbrev pub IsNoSubcommand : Option (Text × List Row) → Type 0
 IsNoSubcommand None = ⊤
 IsNoSubcommand (Some found) =
     (found.0 ≢ codes "sign") × ((found.0 ≢ codes "deliver")
-    × ((found.0 ≢ codes "simulate") × ((found.0 ≢ codes "cluster") × ((found.0 ≢ codes "serve") × (found.0 ≢ codes "audit")))))
+    × ((found.0 ≢ codes "simulate") × ((found.0 ≢ codes "cluster") × ((found.0 ≢ codes "serve") × ((found.0 ≢ codes "audit") × (found.0 ≢ codes "draw"))))))
 
 -- the table of the subcommand that was found
 abbrev pub table_in : Option (Text × List Row) → OptionTable

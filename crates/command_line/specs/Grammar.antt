@@ -132,17 +132,30 @@ serve_app = with_serve (with_running (new_app (codes "serve")))
 abbrev pub audit_app : App
 audit_app = with_rule (with_cluster (new_app (codes "audit"))) (optional_rule (codes "receipt"))
 
+-- the options that only `abft draw` has
+abbrev pub with_draw : App → App
+with_draw a =
+    with_rule (with_rule (with_rule a
+    (option_rule (codes "height") (codes "0")))
+    (option_rule (codes "first") (codes "0")))
+    (option_rule (codes "last") (codes "64"))
+
+-- `abft draw`: the options of a cluster, and the part to draw
+abbrev pub draw_app : App
+draw_app = with_draw (with_cluster (new_app (codes "draw")))
+
 -- a subcommand is required, and `--version` exists
 abbrev pub at_top : App → App
 at_top a = record a { top = record a.top { has_version = true; subcommand_required = true } }
 
--- the program: its six subcommands
+-- the program: its seven subcommands
 abbrev pub abft_app : App
 abft_app =
-    with_subcommand (with_subcommand (with_subcommand (with_subcommand (with_subcommand (with_subcommand (at_top (new_app (codes "abft")))
+    with_subcommand (with_subcommand (with_subcommand (with_subcommand (with_subcommand (with_subcommand (with_subcommand (at_top (new_app (codes "abft")))
     sign_app.top)
     deliver_app.top)
     simulate_app.top)
     cluster_app.top)
     serve_app.top)
-    audit_app.top
+    audit_app.top)
+    draw_app.top

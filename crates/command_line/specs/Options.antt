@@ -26,6 +26,7 @@ use Rattle.settings.specs.declared.cluster.ClusterSettings.{ClusterSettings}
 use Rattle.settings.specs.declared.cluster.ServeSettings.{ServeSettings}
 use Rattle.settings.specs.declared.audit.AuditSettings.{AuditSettings}
 use Rattle.settings.specs.declared.audit.Receipt.{Receipt}
+use Rattle.settings.specs.declared.draw.DrawSettings.{DrawSettings}
 use Rattle.settings.specs.declared.Settings.{Settings}
 use Rattle.settings.specs.declared.Settings.TheVariants as settings
 use Rattle.settings.specs.declared.sign.What.{What}
@@ -101,6 +102,14 @@ serve_options = record {
 abbrev pub audit_options : OptionTable
 audit_options = record { numbers = cluster_numbers; transactions = []; names = cluster_names ++ codes "receipt" ∷ [] }
 
+-- of `abft draw`
+abbrev pub draw_options : OptionTable
+draw_options = record {
+  numbers = cluster_numbers ++ limits (codes "height") 0 4096 ∷ limits (codes "first") 0 4000000000 ∷ limits (codes "last") 0 4000000000 ∷ [];
+  transactions = [];
+  names = cluster_names ++ codes "height" ∷ codes "first" ∷ codes "last" ∷ [];
+}
+
 -- the options of a subcommand, by its name
 abbrev pub options_of : Text → OptionTable
 options_of name =
@@ -110,6 +119,7 @@ options_of name =
     else if bytes_eq name (codes "cluster") then running_options
     else if bytes_eq name (codes "serve") then serve_options
     else if bytes_eq name (codes "audit") then audit_options
+    else if bytes_eq name (codes "draw") then draw_options
     else record { numbers = []; transactions = []; names = [] }
 
 -- the text is one of these
@@ -273,6 +283,13 @@ pub record SetsAudit (rows : List Row) (s : AuditSettings) : Type 0 where
   pub cluster : SetsCluster rows s.cluster
   pub receipt : SetsReceipt rows s.receipt
 
+-- the options of `abft draw` set these settings
+pub record SetsDraw (rows : List Row) (s : DrawSettings) : Type 0 where
+  pub cluster : SetsCluster rows s.cluster
+  pub height : IsNumber rows (codes "height") 0 4096 s.height
+  pub first : IsNumber rows (codes "first") 0 4000000000 s.first
+  pub last : IsNumber rows (codes "last") 0 4000000000 s.last
+
 -- the subcommand that the words name sets these settings with its options
 abbrev pub Sets : Option (Text × List Row) → Settings → Type 0
 Sets None s = ⊥
@@ -282,6 +299,7 @@ Sets (Some found) (settings.Simulate s) = (found.0 ≡ codes "simulate") × Sets
 Sets (Some found) (settings.Cluster s) = (found.0 ≡ codes "cluster") × SetsRunning found.1 s
 Sets (Some found) (settings.Serve s) = (found.0 ≡ codes "serve") × SetsServe found.1 s
 Sets (Some found) (settings.Audit s) = (found.0 ≡ codes "audit") × SetsAudit found.1 s
+Sets (Some found) (settings.Draw s) = (found.0 ≡ codes "draw") × SetsDraw found.1 s
 
 -- the words give these settings
 abbrev pub IsSet : List Text → Settings → Type 0

@@ -4,6 +4,7 @@ ghost use Rattle.clap.specs.Words.{app_of, new_app};
 ghost use Rattle.command_line.specs.Grammar.{at_top, abft_app};
 
 use crate::audit_grammar::AUDIT;
+use crate::draw_grammar::DRAW;
 use crate::running_grammar::{RUN_CLUSTER, SERVE};
 use crate::shared_arguments::{APPLICATION, FAULTS, REPLICAS, SEED, TREE, WIDTH};
 use crate::subcommand::{Argument, Kind, Subcommand, clap_commands};
@@ -174,7 +175,7 @@ const SIMULATE: Subcommand = Subcommand {
 };
 
 /// The subcommands, in the order of `abft --help`.
-const SUBCOMMANDS: [Subcommand; 6] = [SIGN, DELIVER, SIMULATE, RUN_CLUSTER, SERVE, AUDIT];
+const SUBCOMMANDS: [Subcommand; 7] = [SIGN, DELIVER, SIMULATE, RUN_CLUSTER, SERVE, AUDIT, DRAW];
 
 /// The command of the program, without its subcommands.
 fn top_command<'a>(alloc: Global) -> Command<'a>

@@ -2,6 +2,7 @@
 #![tactic(auto)]
 
 mod audit_grammar;
+mod draw_grammar;
 mod grammar;
 mod options;
 mod receipts;
@@ -9,6 +10,7 @@ mod refused_words;
 mod running_grammar;
 mod settings_of_words;
 mod shared_arguments;
+mod shown_word;
 mod subcommand;
 mod usage_fault;
 

@@ -3,13 +3,14 @@ ghost use Rattle.std.specs.Prelude.{◌≡◌, [], map, true, IfOk, IfErr, OnErr
 ghost use Rattle.clap.specs.Words.{found_of, rows_of, subcommand_of, subcommand_rows_of, takes};
 ghost use Rattle.command_line.specs.Faults.{IsRightFault, IsRightIn, IsRightOf, kinds_of};
 ghost use Rattle.command_line.specs.Grammar.{abft_app};
-ghost use Rattle.command_line.specs.Options.{HasRunning, IsSet, OptionTable, Sets, SetsAudit, SetsDeliver, SetsRunning, SetsServe, SetsSign, SetsSimulate, WantsMemory, audit_options, deliver_options, serve_options, sign_options, simulate_options};
+ghost use Rattle.command_line.specs.Options.{HasRunning, IsSet, OptionTable, Sets, SetsAudit, SetsDeliver, SetsRunning, SetsServe, SetsSign, SetsSimulate, WantsMemory, SetsDraw, audit_options, deliver_options, draw_options, serve_options, sign_options, simulate_options};
 ghost use Rattle.settings.specs.declared.sign.SignSettings.{SignSettings};
 ghost use Rattle.settings.specs.declared.deliver.DeliverSettings.{DeliverSettings};
 ghost use Rattle.settings.specs.declared.simulate.SimulateSettings.{SimulateSettings};
 ghost use Rattle.settings.specs.declared.cluster.ClusterSettings.{ClusterSettings};
 ghost use Rattle.settings.specs.declared.cluster.ServeSettings.{ServeSettings};
 ghost use Rattle.settings.specs.declared.audit.AuditSettings.{AuditSettings};
+ghost use Rattle.settings.specs.declared.draw.DrawSettings.{DrawSettings};
 ghost use Rattle.settings.specs.declared.Settings.{Settings};
 
 use crate::grammar::abft_command;
@@ -22,8 +23,8 @@ use crate::usage_fault::UsageFault;
 use clap::ArgMatches;
 use ledger_model::{Height, Phase, ReplicaId};
 use settings::{
-    AuditSettings, ClusterSettings, DeliverSettings, ServeSettings, Settings, SignSettings,
-    SimulateSettings,
+    AuditSettings, ClusterSettings, DeliverSettings, DrawSettings, ServeSettings, Settings,
+    SignSettings, SimulateSettings,
 };
 use std::alloc::Global;
 
@@ -148,6 +149,24 @@ fn audit_settings<'a>(
     Ok(AuditSettings { cluster, receipt })
 }
 
+/// The settings of `abft draw`, from its matches.
+fn draw_settings<'a>(matches: &ArgMatches<'a>) -> Result<DrawSettings, UsageFault<'a>>
+    ensures some { IfOk result (λ s. SetsDraw (rows_of (found_of matches.now)) s) }
+    ensures none { IfErr result (λ e. (s : DrawSettings) → SetsDraw (rows_of (found_of matches.now)) s → WantsMemory e) }
+    ensures right { IfErr result (IsRightOf draw_options (rows_of (found_of matches.now))) }
+{
+    let cluster = cluster(matches)?;
+    let height = number(matches, "height", 0, 4096)?;
+    let first = number(matches, "first", 0, 4_000_000_000)?;
+    let last = number(matches, "last", 0, 4_000_000_000)?;
+    Ok(DrawSettings {
+        cluster,
+        height,
+        first,
+        last,
+    })
+}
+
 /// The matches of the words, of which the first is the program's name.
 fn matches_of<'a>(alloc: Global, words: &'a [&'a str]) -> Result<ArgMatches<'a>, UsageFault<'a>>
     ensures found { IfOk result (λ m. subcommand_rows_of m ≡ subcommand_of abft_app (map (λ w. w.now) words.entry.now)) }
@@ -178,6 +197,7 @@ fn settings_of<'a>(alloc: Global, matches: &ArgMatches<'a>) -> Result<Settings, 
         "cluster" => cluster_settings(alloc, options).map(Settings::Cluster),
         "serve" => serve_settings(alloc, options).map(Settings::Serve),
         "audit" => audit_settings(alloc, options).map(Settings::Audit),
+        "draw" => draw_settings(options).map(Settings::Draw),
         _ => Err(UsageFault::NoSubcommand),
     }
 }

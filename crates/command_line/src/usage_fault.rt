@@ -2,6 +2,7 @@
 ghost use Rattle.std.specs.Prelude.{◌≡◌};
 ghost use Rattle.command_line.specs.declared.usage_fault.UsageFault.TheVariants.{NoMemory};
 
+use crate::shown_word::ShownWord;
 use clap::error::ErrorKind;
 use ledger_model::Tx;
 use plain_text::SpellingFault;
@@ -113,6 +114,7 @@ fn show_number<W: fmt::Write>(
     most: u32,
     word: &str,
 ) -> fmt::Result {
+    let word = ShownWord::new(word);
     write!(
         f,
         "error: --{option} is a number from {least} to {most}, not '{word}'"
@@ -127,6 +129,7 @@ fn show_neither<W: fmt::Write>(
     other: u32,
     word: &str,
 ) -> fmt::Result {
+    let word = ShownWord::new(word);
     write!(f, "error: --{option} is {one} or {other}, not '{word}'")
 }
 
@@ -137,6 +140,7 @@ fn show_rejected<W: fmt::Write>(
     code: u32,
     word: &str,
 ) -> fmt::Result {
+    let word = ShownWord::new(word);
     write!(
         f,
         "error: --{option} '{word}' is refused by the application's check: code {code}"
@@ -150,11 +154,13 @@ fn show_named<W: fmt::Write>(f: &mut fmt::Formatter<W>, input: Input, word: &str
         Input::Scenario => "the scenario comes on standard input: abft simulate",
         Input::Histories => "the histories come on standard input: abft audit",
     };
+    let word = ShownWord::new(word);
     write!(f, "error: {told} <{word}")
 }
 
 /// Writes what is expected, and the word that is there.
 fn show_wanted<W: fmt::Write>(f: &mut fmt::Formatter<W>, wanted: &str, word: &str) -> fmt::Result {
+    let word = ShownWord::new(word);
     write!(f, "error: {wanted}, not '{word}'")
 }
 
@@ -173,6 +179,7 @@ fn show_no_transaction<W: fmt::Write>(
     option: &str,
     word: &str,
 ) -> fmt::Result {
+    let word = ShownWord::new(word);
     write!(
         f,
         "error: --{option} is a transaction of 1 to {} bytes, not '{word}'",
@@ -210,7 +217,11 @@ impl fmt::Display for UsageFault<'_> {
             UsageFault::NoTransaction { option, word } => show_no_transaction(f, option, word),
             UsageFault::Rejected { option, code, word } => show_rejected(f, option, *code, word),
             UsageFault::Receipt(word) => {
-                show_wanted(f, "--receipt is R:I:TX, such as 0:0:a=1", word)
+                show_wanted(
+                    f,
+                    "--receipt is R:I:TX, such as 0:0:a=1, with a transaction of 1 to 64 bytes",
+                    word,
+                )
             }
             UsageFault::NamedInput { input, word } => show_named(f, *input, word),
             UsageFault::What(word) => show_wanted(f, "what to sign is 'report' or 'ack'", word),

@@ -40,8 +40,9 @@ fn are_enough(config: &Config, histories: &[History]) -> bool
     usize::from(config.quorum()) <= histories.len()
 }
 
-/// Whether the histories are of different replicas of the cluster, and of a quorum (N-t) at least.
-pub(crate) fn are_of_a_quorum(config: &Config, histories: &[History]) -> bool
+/// Whether the histories are of different replicas of the cluster, and of a quorum (N-t) at least. If not, an audit finds
+/// `Count`.
+pub fn are_of_a_quorum(config: &Config, histories: &[History]) -> bool
     ensures { result ≡ are_of_a_quorum config.now histories.now }
 {
     are_enough(config, histories) && are_members(config, histories) && do_replicas_differ(histories)

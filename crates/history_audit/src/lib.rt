@@ -12,5 +12,6 @@ mod sent_table;
 mod unsent;
 
 pub use auditing::audit;
+pub use counting::are_of_a_quorum;
 pub use fault::AuditFault;
 pub use receipt::receipt_holds;

@@ -18,6 +18,21 @@ impl Model for KeyRing {
     ghost view = { λ r. r.keys.items };
 }
 
+impl PartialEq for KeyRing {
+    ghost use Rattle.std.specs.Prelude.{nat_eq};
+    ghost use Rattle.std.specs.Cmp.Lexicographic.{pointwise};
+    ghost use Rattle.std.proofs.Common.{rules};
+    ghost use Rattle.std.specs.Cmp.Rules.{comparing};
+
+    ghost eq = { pointwise (pointwise nat_eq) };
+
+    ghost laws = { Prim.search (comparing, rules) };
+
+    fn eq(&self, other: &KeyRing) -> bool {
+        self.keys == other.keys
+    }
+}
+
 impl KeyRing {
     ghost use Rattle.std.specs.Prelude.{◌≡◌, IfOk, slice_get};
     ghost use Rattle.std.specs.Option.{option_copied};

@@ -1,23 +1,30 @@
 -- A step preserves the invariant of a replica's type.
 use Rattle.std.proofs.Common.{◌≡◌, ◌+◌, ◌<◌, ◌≤◌, Bool, true, false, ◌&&◌, ◌||◌, cond, List, [], ◌∷◌, ◌++◌, length, refl, sym, ap, subst}
 use Rattle.std.proofs.Common.{◌∙◌, length-append, arith}
-use Rattle.std.specs.Prelude.{nat_lt}
+use Rattle.std.specs.Prelude.{ℕ, nat_lt, IsTrue}
 use Rattle.std.proofs.Math.Bool.{or-false}
 use Rattle.std.proofs.lemmas.Bool.{and_parts, ltb-true}
+use Rattle.std.proofs.lemmas.List.{length-map}
 use Rattle.ledger_model.specs.Limits.{last_round, max_history_len}
 use Rattle.ledger_model.specs.declared.event.Event.{Event}
 use Rattle.ledger_model.specs.declared.event.Event.TheVariants as event
 use Rattle.ledger_model.specs.declared.history.Entry.{Entry}
 use Rattle.ledger_model.specs.Logs.{is_mute}
-use Rattle.ledger_model.specs.Lawful.{Replay, clock_at}
+use Rattle.ledger_model.specs.Applications.{run}
+use Rattle.ledger_model.specs.declared.reply.Reply.{Reply}
+use Rattle.ledger_model.specs.Lawful.{Lawful, Replay, clock_at, is_signed_reply}
 use Rattle.ledger_model.proofs.Steps.{replays_snoc}
-use Rattle.key_ring.specs.Signers.{leaves_of}
+use Rattle.key_ring.specs.Signers.{SignerView, leaves_of}
 use Rattle.replica_core.specs.ReplicaStates.{ReplicaStateView, MatchesHistory}
 use Rattle.replica_core.specs.Leaves.{signed_at, signed_by, due_by, LeafAccount}
 use Rattle.replica_core.specs.Cores.{CoreView as Core, IsSameReplica, due_then, is_mute_then}
 use Rattle.replica_core.specs.Steps.{IsStep, UsesLeaves}
 use Rattle.replica_core.proofs.SpentLeaves.{signed_more, uses_signed, account_more, account_still}
-use Rattle.locked_replica.specs.States.{StateView, IsReplica, replica_of, due_next, lacks_leaves, is_mute_after, UsesAsSigned}
+use Rattle.locked_replica.specs.declared.stored_entry.StoredEntry.{StoredEntry}
+use Rattle.locked_replica.specs.Strings.{Extends, with_strings, strings_at}
+use Rattle.locked_replica.specs.StoredEntries.{entry_of, entries_of, AreStored, IsTakenAs, LeavesCore}
+use Rattle.locked_replica.specs.States.{StateView, IsReplica, RunsAlone, replica_of, due_next, lacks_leaves, is_mute_after, UsesAsSigned}
+use Rattle.locked_replica.proofs.StoredEntries.{entries_more, stored_more}
 
 -- the history with the entry is a replay
 pub replay_on : (old new : ReplicaStateView) (before after : List Entry) (e : Entry) → Replay old.config old.ring old.id before
@@ -142,3 +149,108 @@ left_replica old new entries was held same least = record {
       rw (same.config, same.id, same.secret)
       (account_still old.held.config old.held.id (leaves_of old.keys.secret) old.keys.used new.keys.used entries least was.account);
 }
+
+-- ---- entries that are stored with their strings in a table
+
+-- a replica with this table and these entries
+abbrev pub IsStoredReplica : Core → List (List ℕ) → List StoredEntry → Type 0
+IsStoredReplica core strings entries = IsReplica core.held core.keys (entries_of strings entries) × AreStored strings entries
+
+-- a core took an event, and the entry is stored as the last one
+pub record IsApplied (old new : Core) (before after : List (List ℕ)) (event : Event) (entries news : List StoredEntry) (stored : StoredEntry)
+    : Type 0 where
+  pub was : IsStoredReplica old before entries
+  pub few : length (entries_of before entries) < max_history_len
+  pub told : IsTakenAs old new before after event stored
+  pub left : LeavesCore old new event
+  pub kept : Extends before after
+  pub due : (es : List Entry) → MatchesHistory old.held es → IsDueBy old es
+  pub grown : news ≡ entries ++ stored ∷ []
+
+pub applied_by : {old new : Core} {before after : List (List ℕ)} {event : Event} {entries reserved news : List StoredEntry} {stored : StoredEntry}
+    → IsTakenAs old new before after event stored → LeavesCore old new event → Extends before after
+    → IsReplica old.held old.keys (entries_of before entries) × AreStored before entries → length entries < max_history_len
+    → ((es : List Entry) → MatchesHistory old.held es → IsDueBy old es) → reserved ≡ entries → news ≡ reserved ++ stored ∷ []
+    → IsApplied old new before after event entries news stored
+applied_by {old} {new} {before} {after} {event} {entries} {reserved} {news} {stored} told left kept was few due same grown = record {
+  was = was;
+  few = omega (arith, length-map entries (entry_of before), few);
+  told = told;
+  left = left;
+  kept = kept;
+  due = due;
+  grown = grown ∙ ap (λ es. es ++ stored ∷ []) same;
+}
+
+module _ {old new : Core} {before after : List (List ℕ)} {event : Event} {entries news : List StoredEntry} {stored : StoredEntry}
+    (facts : IsApplied old new before after event entries news stored) where
+  -- the history has the entry
+  pub longer : entries_of after news ≡ entries_of before entries ++ entry_of after stored ∷ []
+  longer = ap (entries_of after) facts.grown ∙ entries_more before after facts.kept entries stored facts.was.1.within
+
+  step_on : IsStep old.held (entry_of after stored).event (entry_of after stored).reply new.held
+  step_on = subst (λ (e : Event). IsStep old.held e (entry_of after stored).reply new.held) (sym facts.told.event_is) facts.told.step
+
+  taken_on : IsTaken old new (entries_of before entries) (entries_of after news) (entry_of after stored)
+  taken_on = taken_by old new (entries_of before entries) (entries_of after news) (entry_of after stored) facts.was.0.matches facts.due
+      step_on facts.told.leaves (subst (λ (e : Event). new.held.mute ≡ is_mute_then old e) (sym facts.told.event_is) facts.told.mute)
+      facts.left.same longer
+
+  -- it is a replica again
+  pub still_replica : IsReplica new.held new.keys (entries_of after news)
+  still_replica = record {
+    few = few_on (entries_of before entries) (entries_of after news) (entry_of after stored) facts.few longer;
+    replay = replay_still old.held new.held (entries_of after news) facts.left.same.config facts.left.same.ring facts.left.same.id
+        (replay_on old.held new.held (entries_of before entries) (entries_of after news) (entry_of after stored) facts.was.0.replay
+        facts.was.0.matches step_on longer);
+    matches = matches_on old.held new.held (entries_of before entries) (entries_of after news) (entry_of after stored) facts.was.0.matches
+        step_on longer;
+    account = account_on old new (entries_of before entries) (entries_of after news) (entry_of after stored) taken_on facts.was.0.account;
+  }
+
+  -- and its table has each string of the longer history
+  pub still_stored : AreStored after news
+  still_stored = subst (AreStored after) (sym facts.grown)
+      (stored_more before after facts.kept entries stored facts.was.1 facts.told.within
+      (facts.told.strings ∙ ap (λ (e : Event). with_strings before (strings_at e (entry_of after stored).reply)) (sym facts.told.event_is)))
+
+  -- what was added
+  pub added_on : (reply : Reply)
+      × ((entries_of after news ≡ entries_of before entries ++ record { event = event; reply = reply } ∷ [])
+      × Lawful old.held.config old.held.ring old.held.id (entries_of before entries) event reply
+      × IsTrue (is_signed_reply old.held.ring reply)
+      × UsesLeaves old.keys (clock_at (entries_of before entries)) reply new.keys)
+  added_on =
+      let r = (entry_of after stored).reply in
+      let facts_of = facts.told.step (entries_of before entries) facts.was.0.matches in (
+        r,
+        (
+          longer ∙ ap (λ (e : Event). entries_of before entries ++ record { event = e; reply = r } ∷ []) facts.told.event_is,
+          facts_of.0,
+          facts_of.1,
+          subst (λ clock. UsesLeaves old.keys clock r new.keys) (sym facts.was.0.matches.clock) facts.told.leaves,
+        ),
+      )
+
+  -- whether it is mute
+  pub still_mute : is_mute (entries_of after news) ≡ is_mute_after (replica_of old.held old.keys (entries_of before entries)) event
+  still_mute = mute_on old new (entries_of before entries) (entries_of after news) (entry_of after stored) taken_on
+      ∙ ap (is_mute_after (replica_of old.held old.keys (entries_of before entries))) facts.told.event_is
+
+  pub still_signed : UsesAsSigned (replica_of old.held old.keys (entries_of before entries)) (replica_of new.held new.keys (entries_of after news))
+  still_signed = signed_on old new (entries_of before entries) (entries_of after news) (entry_of after stored) taken_on
+
+-- where memory ran out, all is as before, but leaves may be used
+pub left_stored : (old new : Core) (before after : List (List ℕ)) (event : Event) (entries news : List StoredEntry)
+    → IsStoredReplica old before entries → new ≡ record old { keys = new.keys } → LeavesCore old new event → after ≡ before → news ≡ entries
+    → IsStoredReplica new after news
+left_stored old new before after event entries news was err left strings same =
+    let still : IsStoredReplica new before entries =
+    (left_replica old new (entries_of before entries) was.0 (ap (λ (r : Core). r.held) err) left.same left.least, was.1) in
+    subst (IsStoredReplica new after) (sym same) (subst (λ t. IsStoredReplica new t entries) (sym strings) still)
+
+-- the application runs alone
+pub runs_alone : (held : ReplicaStateView) (keys : SignerView) (entries : List Entry) → IsReplica held keys entries
+    → RunsAlone (replica_of held keys entries)
+unfolding RunsAlone
+runs_alone held keys entries is = is.matches.machine ∙ ap (run held.config.kind) (sym is.matches.commits)

@@ -1,1 +1,3 @@
+pub mod Strings
+pub mod StoredEntries
 pub mod Applied

@@ -1,2 +1,4 @@
+pub mod Strings
+pub mod StoredEntries
 pub mod States
 pub mod Views

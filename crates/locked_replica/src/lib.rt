@@ -39,6 +39,10 @@ mod fault;
 mod reply_view;
 mod snapshot;
 mod state;
+mod stored_entry;
+mod stored_string;
+mod string_table;
+mod taking;
 
 pub use entry_view::EntryView;
 pub use event_view::EventView;

@@ -4,11 +4,14 @@ ghost use Rattle.std.specs.Prelude.{◌≡◌, ◌<◌, ◌∷◌, ◌++◌, [],
 use crate::entry_view::EntryView;
 use crate::fault::ApplyFault;
 use crate::snapshot::{Snapshot, copy_entries};
+use crate::stored_entry::StoredEntry;
+use crate::string_table::StringTable;
+use crate::taking::take_event;
 use abci::{Application, Info};
+use batch_pool::Pool;
+use bytes::Bytes;
 use key_ring::{KeyRing, Signer};
-use ledger_model::{
-    Batch, Config, Entries, Entry, Event, Height, History, Ignored, ReplicaId, Reply,
-};
+use ledger_model::{Batch, Config, Entries, Event, Height, History, Ignored, ReplicaId};
 use replica_core::Core;
 use signed_frames::{Frame, SignedPart};
 use std::alloc::{AllocError, Global};
@@ -23,9 +26,11 @@ pub const MAX_ENTRIES: usize = Entries::MAX_LEN;
 ///
 /// The invariants of the type: the history is a replay, each entry lawful after those before it and each signature in a
 /// reply verified; the core is what the history makes of it; and the replica is mute only if too few leaves were left.
+/// Each different byte string of the history is stored once: the entries share delivered bytes and sent frames.
 pub struct State<A: Application> {
     core: Core<A>,
-    entries: Vec<Entry>,
+    strings: StringTable,
+    entries: Vec<StoredEntry>,
 }
 
 // An own `Drop` keeps proofs short: an owner drops it by one call. See docs/WORKING.md.
@@ -33,6 +38,7 @@ impl<A: Application> Drop for State<A> {
     fn drop(self) {
         let State {
             core: _core,
+            strings: _strings,
             entries: _entries,
         } = self;
     }
@@ -43,19 +49,23 @@ impl<A: Application> Model for State<A> {
 
     ghost Value = { StateView };
 
-    ghost view = { λ s. replica_of s.core.held s.core.keys s.entries.items };
+    ghost use Rattle.locked_replica.specs.StoredEntries.{AreStored, entries_of};
 
-    ghost invariant = { λ s. IsReplica s.core.held s.core.keys s.entries.items };
+    ghost view = { λ s. replica_of s.core.held s.core.keys (entries_of s.strings s.entries.items) };
+
+    ghost invariant = { λ s. IsReplica s.core.held s.core.keys (entries_of s.strings s.entries.items) × AreStored s.strings s.entries.items };
 }
 
 impl<A: Application> State<A> {
     ghost use Rattle.std.specs.Prelude.{◌≡◌, ◌<◌, ◌≤◌, ◌+◌, ◌↔◌, ◌∷◌, ◌++◌, [], false, length, map, slice_get, ◌==◌};
     ghost use Rattle.std.specs.Prelude.{Some, Err, IfOk, IfErr, OnErr, OnOk, IsErrOf, IsTrue};
     ghost use Rattle.std.specs.Option.{option_copied};
+    ghost use Rattle.std.specs.List.{IsDistinct};
+    ghost use Rattle.ledger_model.specs.Applications.{same_bytes};
     ghost use Rattle.ledger_model.specs.declared.reply.Reply.{Reply};
     ghost use Rattle.ledger_model.specs.Limits.{max_height, max_history_len};
     ghost use Rattle.ledger_model.specs.Applications.{run};
-    ghost use Rattle.ledger_model.specs.Commits.{commits_of, floor_of, decision_at};
+    ghost use Rattle.ledger_model.specs.Commits.{commits_of, floor_of, pool_of, decision_at};
     ghost use Rattle.ledger_model.specs.declared.statement.SignedStatement.{SignedStatement};
     ghost use Rattle.ledger_model.specs.Lawful.{Lawful, Replay, answer, clock_at, is_signed_reply};
     ghost use Rattle.ledger_model.specs.Logs.{is_mute};
@@ -65,11 +75,12 @@ impl<A: Application> State<A> {
     ghost use Rattle.replica_core.specs.Steps.{UsesLeaves};
     ghost use Rattle.replica_core.specs.Placing.{answer_before_signature};
     ghost use Rattle.replica_core.specs.Facts.{block_at, info_reply, AreClosed};
+    ghost use Rattle.locked_replica.specs.Strings.{HaveSame, all_strings, strings_of};
     ghost use Rattle.locked_replica.specs.States.{StateView, IsMember, AccountsForLeaves, RunsAlone, UsesAsSigned, due_next, is_mute_after, keys_in, new_state, signs_at};
 
     /// A replica with an empty history. The application must be in its opening state, of the configured kind. The ring
-    /// has the public keys of the replicas by number. The pool hashes with the first of the random keys, and the verifier with
-    /// the second. The only error is allocation failure.
+    /// has the public keys of the replicas by number. The pool hashes with the first of the random keys, the verifier and
+    /// the table of byte strings with the second. The only error is allocation failure.
     pub fn new(
         alloc: Global,
         config: Config,
@@ -83,8 +94,10 @@ impl<A: Application> State<A> {
         requires opening { A.machine app ≡ run config.kind [] }
         ensures { IfOk result (λ state. state ≡ new_state config id ring signer) }
     {
+        let [_, strings_random] = randoms;
         Ok(State {
             core: Core::new(alloc, config, id, signer, ring, app, randoms)?,
+            strings: StringTable::new(alloc, strings_random),
             entries: Vec::new(alloc),
         })
     }
@@ -177,12 +190,45 @@ impl<A: Application> State<A> {
         ensures replay { Replay self.now.config self.now.ring self.now.id self.now.entries }
     {
         match self.entries.get(index) {
-            Some(entry) => Some(EntryView::new(entry)),
+            Some(entry) => Some(EntryView::new(entry, &self.strings)),
             None => None,
         }
     }
 
-    /// A copy of the history for an audit, which shares the bytes of frames. The only error is allocation failure.
+    /// The number of different byte strings in the history: delivered bytes and sent frames. Each is stored once.
+    pub fn strings(&self) -> usize
+        ensures count { result ≡ length (strings_of self.now.entries) }
+        // They are all different, and exactly those of the history.
+        ensures distinct { IsDistinct same_bytes (strings_of self.now.entries) }
+        ensures same { HaveSame (strings_of self.now.entries) (all_strings self.now.entries) }
+    {
+        self.strings.len()
+    }
+
+    /// The byte string at a position, in the order in which they came first; `None` if there are fewer.
+    pub fn string(&self, position: usize) -> Option<&Bytes>
+        ensures { option_copied result ≡ slice_get (strings_of self.now.entries) position }
+    {
+        self.strings.get(position)
+    }
+
+    /// The pool: the transactions that wait for a block, in order of arrival.
+    pub fn pool(&self) -> &Pool
+        ensures { result.now ≡ pool_of self.now.config self.now.id self.now.entries }
+    {
+        self.core.pool()
+    }
+
+    /// The number of transactions that wait for a block.
+    pub fn waiting(&self) -> usize
+        ensures { result ≡ length (pool_of self.now.config self.now.id self.now.entries) }
+    {
+        self.core.pool().len()
+    }
+
+    /// The history for an audit. It shares all bytes that were submitted or delivered, and all frames: a copy of an entry takes
+    /// only the entry itself, and the key of a query, the codes of a block or a list of sent frames. The only error is allocation
+    /// failure.
     pub fn history(&self) -> Result<Snapshot, AllocError>
         ensures history { IfOk result (λ s. s.history ≡ record { replica = self.now.id; entries = self.now.entries }) }
         ensures config { IfOk result (λ s. s.config ≡ self.now.config) }
@@ -194,7 +240,7 @@ impl<A: Application> State<A> {
             ring: self.core.ring().copy()?,
             history: History {
                 replica: self.core.id(),
-                entries: copy_entries(*self.entries.allocator(), &self.entries)?,
+                entries: copy_entries(*self.entries.allocator(), &self.strings, &self.entries)?,
             },
         })
     }
@@ -303,18 +349,18 @@ impl<A: Application> State<A> {
         let _ = self.core.is_mute();
         let alloc = *self.entries.allocator();
         self.entries.reserve(1)?;
-        let reply = self.core.step(alloc, &event)?;
-        store(&mut self.entries, event, reply);
+        let entry = take_event(alloc, &mut self.core, &mut self.strings, event)?;
+        store(&mut self.entries, entry);
         Ok(index)
     }
 }
 
 /// Appends an entry to the history, which has room for it.
-fn store(entries: &mut Vec<Entry>, event: Event, reply: Reply)
+fn store(entries: &mut Vec<StoredEntry>, entry: StoredEntry)
     requires { vec_len entries.old < vec_capacity entries.old }
-    ensures { entries.new.items ≡ entries.old.items ++ record { event = event; reply = reply } ∷ [] }
+    ensures { entries.new.items ≡ entries.old.items ++ entry ∷ [] }
 {
-    match entries.push(Entry { event, reply }) {
+    match entries.push(entry) {
         Ok(()) => {}
         Err(_) => unreachable!(),
     }

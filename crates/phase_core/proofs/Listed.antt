@@ -15,7 +15,7 @@ use Rattle.ledger_model.specs.Values.{Value, same_value}
 use Rattle.ledger_model.specs.Rounds.{quorum}
 use Rattle.ledger_model.specs.Locks.{finds}
 use Rattle.ledger_model.proofs.Lists.{any_has, has_any, has_cases, has_left, has_right, has_map, has_flat_map, flat_map_has, has_filter_map}
-use Rattle.ledger_model.proofs.Lists.{same_value-refl, same_value-equal}
+use Rattle.ledger_model.proofs.Lists.{filter_map_has, same_value-refl, same_value-equal}
 use Rattle.ledger_model.proofs.Steps.{map_has}
 use Rattle.tally.specs.Tallies.{Places, all_read}
 use Rattle.tally.specs.Masks.{mask_of}
@@ -23,7 +23,7 @@ use Rattle.tally.specs.Readings.{reports_of}
 use Rattle.tally.specs.ReportMasks.{lists_proper, lists_lock, value_of, is_of, is_numbered, AreMasksOf, IsReported, AreValuesOf}
 use Rattle.tally.specs.declared.reported_value.ReportedValue.{ReportedValue}
 use Rattle.tally.proofs.MaskBits.{mask_any, mask_ones}
-use Rattle.tally.proofs.Numbering.{there-is_of, filter_map_has}
+use Rattle.tally.proofs.Numbering.{there-is_of}
 use Rattle.tally.proofs.Puts.{read_at}
 use Rattle.phase_core.specs.Choices.{is_found_by}
 use Rattle.phase_core.specs.Least.{least_with, least_of, values_named, listed, if_found, found}

@@ -24,6 +24,8 @@ stops_anyway entries (fault.Refused resource error) is = is
 stops_anyway entries fault.HistoryFull is = absurd is
 stops_anyway entries (fault.NoListener port error) is = absurd is
 stops_anyway entries fault.NoThread is = absurd is
+stops_anyway entries (fault.NoFile path error) is = absurd is
+stops_anyway entries (fault.Stranger replica) is = absurd is
 
 pub read_stops : (entries : List Entry) (e : ProgramFault) → IsReadFault e → StopsAt entries e
 read_stops entries fault.NoMemory is = tt
@@ -31,6 +33,8 @@ read_stops entries (fault.Refused resource error) is = subst (λ r. IsTrue (is_a
 read_stops entries fault.HistoryFull is = absurd is
 read_stops entries (fault.NoListener port error) is = absurd is
 read_stops entries fault.NoThread is = absurd is
+read_stops entries (fault.NoFile path error) is = absurd is
+read_stops entries (fault.Stranger replica) is = absurd is
 
 pub read_is : (e : ProgramFault) → IsReadFault e → IsMemoryOrAsked e
 read_is fault.NoMemory is = tt
@@ -38,6 +42,8 @@ read_is (fault.Refused resource error) is = subst (λ r. IsTrue (is_asked r)) (s
 read_is fault.HistoryFull is = absurd is
 read_is (fault.NoListener port error) is = absurd is
 read_is fault.NoThread is = absurd is
+read_is (fault.NoFile path error) is = absurd is
+read_is (fault.Stranger replica) is = absurd is
 
 pub if_stops : {T : Type 0} (r : Result T ProgramFault) (entries : List Entry) → IfErr r IsMemoryOrAsked → IfErr r (StopsAt entries)
 if_stops (Ok x) entries is = tt
@@ -53,6 +59,8 @@ module _ (s : DeliverSettings) (unread left before after : Option (List ℕ)) wh
   stops_delivery entries fault.HistoryFull filled is = filled is
   stops_delivery entries (fault.NoListener port error) filled is = absurd is
   stops_delivery entries fault.NoThread filled is = absurd is
+  stops_delivery entries (fault.NoFile path error) filled is = absurd is
+  stops_delivery entries (fault.Stranger replica) filled is = absurd is
 
   -- other faults stop it anyway
   pub stops_delivery_anyway : (e : ProgramFault) → IsMemoryOrAsked e → StopsDelivery s unread left before after e
@@ -61,3 +69,5 @@ module _ (s : DeliverSettings) (unread left before after : Option (List ℕ)) wh
   stops_delivery_anyway fault.HistoryFull is = absurd is
   stops_delivery_anyway (fault.NoListener port error) is = absurd is
   stops_delivery_anyway fault.NoThread is = absurd is
+  stops_delivery_anyway (fault.NoFile path error) is = absurd is
+  stops_delivery_anyway (fault.Stranger replica) is = absurd is

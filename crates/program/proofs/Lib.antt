@@ -9,4 +9,5 @@ mod SimulatingLemmas
 mod OpeningLemmas
 mod ScenarioLemmas
 mod AuditingLemmas
+mod DrawingLemmas
 mod RunningLemmas

@@ -5,11 +5,12 @@ use Rattle.std.specs.Io.KnownBytes.{Appends, Keeps}
 use Rattle.std.proofs.KnownBytes.{Appends-kept, Consumes-nil}
 use Rattle.ledger_model.specs.Spelling.{frame_bytes}
 use Rattle.settings.specs.declared.Settings.{Settings}
-use Rattle.settings.specs.declared.Settings.TheVariants.{Sign, Deliver, Simulate, Audit, Cluster, Serve}
+use Rattle.settings.specs.declared.Settings.TheVariants.{Sign, Deliver, Simulate, Audit, Draw, Cluster, Serve}
 use Rattle.settings.specs.declared.sign.SignSettings.{SignSettings}
 use Rattle.settings.specs.declared.deliver.DeliverSettings.{DeliverSettings}
 use Rattle.settings.specs.declared.simulate.SimulateSettings.{SimulateSettings}
 use Rattle.settings.specs.declared.audit.AuditSettings.{AuditSettings}
+use Rattle.settings.specs.declared.draw.DrawSettings.{DrawSettings}
 use Rattle.program.specs.Statements.{signed}
 use Rattle.command_line.specs.declared.usage_fault.UsageFault.{UsageFault}
 use Rattle.command_line.specs.declared.usage_fault.UsageFault.TheVariants as fault
@@ -26,6 +27,8 @@ use Rattle.program.specs.declared.text_end.TextEnd.{TextEnd}
 use Rattle.program.specs.declared.text_end.TextEnd.TheVariants as scenario
 use Rattle.program.specs.Simulating.{PlaysText, PlaysTextSome}
 use Rattle.program.specs.Auditing.{Audits, AuditsSome}
+use Rattle.program.specs.Drawing.{Draws, DrawsSome}
+use Rattle.program.proofs.DrawingLemmas.{drawn_small}
 use Rattle.program.proofs.AuditingLemmas.{audited_small}
 use Rattle.program.specs.declared.outcome.Ending.{Ending}
 use Rattle.program.specs.declared.outcome.Outcome.{Outcome}
@@ -96,6 +99,20 @@ audit_explains x s (Ok ending) is (inl none) = inl none
 audit_explains x s (Ok ending) is (inr one) = inr (one, subst (λ y. IsAudit (settings_of y)) (sym is) (s, refl))
 audit_explains x s (Err fault) is explains = tt
 
+-- histories were drawn
+pub drawn_done : {E : Type 0} (x : Piped) (s : DrawSettings) (r : Result Ending E) (unread left before after : Option (List ℕ))
+    → x ≡ piped.Draw s
+    → MatchResult r (λ ending. Draws s ending.status unread left before after) (λ _. DrawsSome s unread left before after)
+    → MatchResult r (λ ending. Done (settings_of x) ending.status unread left before after)
+    (λ _. Halted (settings_of x) unread left before after)
+drawn_done x s r unread left before after is done =
+    subst (λ y. MatchResult r (λ ending. Done (settings_of y) ending.status unread left before after)
+    (λ _. Halted (settings_of y) unread left before after)) (sym is) done
+
+pub plain_explains : {E : Type 0} (x : Settings) (r : Result Ending E) → IfOk r (λ ending. ending.explanation ≡ None) → IfOk r (ExplainsAudit x)
+plain_explains x (Ok ending) none = inl none
+plain_explains x (Err fault) none = tt
+
 -- all was written, and then flushed
 responds_kept : (P : List ℕ → List ℕ → Type 0) (unread left before mid after : Option (List ℕ)) → Responds P unread left before mid
     → Keeps mid after → Responds P unread left before after
@@ -117,6 +134,8 @@ done_flushed (piped.Simulate s) status unread left before mid after (end, (is, d
     (end, (is, responds_kept _ unread left before mid after done keeps))
 done_flushed (piped.Audit s) status unread left before mid after (to_end, done) keeps =
     (to_end, responds_kept _ unread left before mid after done keeps)
+done_flushed (piped.Draw s) status unread left before mid after (to_end, done) keeps =
+    (to_end, responds_kept _ unread left before mid after done keeps)
 
 -- all was written, and then a flush failed
 pub done_halted : (x : Piped) (status : ℕ) (unread left before mid after : Option (List ℕ))
@@ -128,6 +147,8 @@ done_halted (piped.Deliver s) status unread left before mid after (end, (is, (to
 done_halted (piped.Simulate s) status unread left before mid after (end, (is, done)) keeps =
     responds_some _ _ unread left before mid after (λ input text does. (does.1.0, inr (end, does.1.1))) done keeps
 done_halted (piped.Audit s) status unread left before mid after (to_end, done) keeps =
+    responds_some _ _ unread left before mid after (λ input text does. inr (to_end, (status, does))) done keeps
+done_halted (piped.Draw s) status unread left before mid after (to_end, done) keeps =
     responds_some _ _ unread left before mid after (λ input text does. inr (to_end, (status, does))) done keeps
 
 -- a status of what was done is 0 or 1
@@ -145,6 +166,7 @@ done_small (Sign s) status unread left before after (is, done) = omega (arith, i
 done_small (Deliver s) status unread left before after (end, (is, done)) = omega (arith, is, stream_small end)
 done_small (Simulate s) status unread left before after (end, (is, done)) = omega (arith, is, text_small end)
 done_small (Audit s) status unread left before after (to_end, done) = audited_small s done.input status done.text done.goes_with
+done_small (Draw s) status unread left before after (to_end, done) = drawn_small s done.input status done.text done.goes_with
 done_small (Cluster s) status unread left before after done = absurd done
 done_small (Serve s) status unread left before after done = absurd done
 

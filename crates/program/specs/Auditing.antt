@@ -7,7 +7,7 @@ use Rattle.cluster_keys.specs.Keys.{ring_of}
 use Rattle.history_bytes.specs.HistoryReading.{histories_reading}
 use Rattle.history_audit.specs.declared.fault.AuditFault.{AuditFault}
 use Rattle.history_audit.specs.Findings.{IsFinding}
-use Rattle.audit_lines.specs.AuditLines.{finding_text, is_among, receipt_text}
+use Rattle.audit_lines.specs.AuditLines.{finding_status, finding_text, has_receipt, receipt_line}
 use Rattle.settings.specs.declared.audit.AuditSettings.{AuditSettings}
 use Rattle.settings.specs.declared.audit.Receipt.{Receipt}
 use Rattle.byte_streams.specs.Writing.{AppendsSome}
@@ -16,20 +16,18 @@ use Rattle.byte_streams.specs.Responding.{Responds, RespondsSome}
 -- whether the receipt holds in one of the histories, if there is a receipt
 abbrev pub receipt_check : Option Receipt → List History → Option Bool
 receipt_check None histories = None
-receipt_check (Some r) histories = Some (is_among histories r.replica r.index r.tx)
+receipt_check (Some r) histories = Some (has_receipt histories r.replica r.index r.tx)
 
 -- what is printed of a finding: after a ledger, whether the receipt holds
 abbrev pub audit_text : Result (List Value) AuditFault → Option Bool → List ℕ
 audit_text (Ok ledger) None = finding_text (Ok ledger)
-audit_text (Ok ledger) (Some holds) = finding_text (Ok ledger) ++ receipt_text holds
+audit_text (Ok ledger) (Some holds) = finding_text (Ok ledger) ++ receipt_line holds
 audit_text (Err fault) receipt = finding_text (Err fault)
 
 -- the exit status: 0 for a ledger, unless the receipt is wrong
 abbrev pub audit_status : Result (List Value) AuditFault → Option Bool → ℕ
-audit_status (Ok ledger) None = 0
-audit_status (Ok ledger) (Some true) = 0
 audit_status (Ok ledger) (Some false) = 1
-audit_status (Err fault) receipt = 1
+audit_status finding receipt = finding_status finding
 
 -- the line for bytes that are no histories
 abbrev pub bad_history : List ℕ

@@ -17,6 +17,7 @@ use Rattle.program.specs.declared.text_end.TextEnd.{TextEnd}
 use Rattle.program.specs.declared.text_end.TextEnd.TheVariants as scenario
 use Rattle.program.specs.Simulating.{PlaysText, PlaysTextSome}
 use Rattle.program.specs.Auditing.{Audits, AuditsSome}
+use Rattle.program.specs.Drawing.{Draws, DrawsSome}
 use Rattle.program.specs.declared.outcome.Ending.{Ending}
 use Rattle.program.specs.declared.outcome.Outcome.{Outcome}
 use Rattle.program.specs.declared.outcome.Outcome.TheVariants as outcome
@@ -40,7 +41,7 @@ Signs s input text = (input ≡ []) × (text ≡ frame_bytes (signed s))
 -- The settings, which need only streams, were done with this status. `abft sign` wrote its frame. `abft deliver` read
 -- the stream as far as its end or its first fault, and wrote a line for each frame. `abft simulate` read the text to
 -- its end and wrote what its scenario gives, or read it as far as its first bad line is certain. `abft audit` read all
--- histories and wrote what it found.
+-- histories and wrote what it found, and `abft draw` wrote a picture of them.
 abbrev pub Done : Settings → ℕ → Option (List ℕ) → Option (List ℕ) → Option (List ℕ) → Option (List ℕ) → Type 0
 Done (settings.Sign s) status unread left before after = (status ≡ 0) × Responds (Signs s) unread left before after
 Done (settings.Deliver s) status unread left before after =
@@ -48,6 +49,7 @@ Done (settings.Deliver s) status unread left before after =
 Done (settings.Simulate s) status unread left before after =
     (end : TextEnd) × ((status ≡ status_of_text end) × PlaysText s end unread left before after)
 Done (settings.Audit s) status unread left before after = Audits s status unread left before after
+Done (settings.Draw s) status unread left before after = Draws s status unread left before after
 Done (settings.Cluster s) status unread left before after = ⊥
 Done (settings.Serve s) status unread left before after = ⊥
 
@@ -57,6 +59,7 @@ Halted (settings.Sign s) unread left before after = RespondsSome (Signs s) unrea
 Halted (settings.Deliver s) unread left before after = DeliversStreamSome s unread left before after
 Halted (settings.Simulate s) unread left before after = PlaysTextSome s unread left before after
 Halted (settings.Audit s) unread left before after = AuditsSome s unread left before after
+Halted (settings.Draw s) unread left before after = DrawsSome s unread left before after
 Halted (settings.Cluster s) unread left before after = ⊥
 Halted (settings.Serve s) unread left before after = ⊥
 
@@ -100,6 +103,7 @@ settings_of (piped.Sign s) = settings.Sign s
 settings_of (piped.Deliver s) = settings.Deliver s
 settings_of (piped.Simulate s) = settings.Simulate s
 settings_of (piped.Audit s) = settings.Audit s
+settings_of (piped.Draw s) = settings.Draw s
 
 -- the settings are those of an audit
 abbrev pub IsAudit : Settings → Type 0

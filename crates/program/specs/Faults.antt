@@ -11,11 +11,8 @@ use Rattle.program_streams.specs.declared.resource.Resource.TheVariants.{Input}
 
 -- a read of standard input failed, and was not just interrupted
 abbrev pub IsReadFault : ProgramFault → Type 0
-IsReadFault fault.NoMemory = ⊥
 IsReadFault (fault.Refused resource error) = (resource ≡ Input) × (error_kind error ≡ Interrupted → ⊥)
-IsReadFault fault.HistoryFull = ⊥
-IsReadFault (fault.NoListener port error) = ⊥
-IsReadFault fault.NoThread = ⊥
+IsReadFault _ = ⊥
 
 -- memory ran out, the system refused standard input, standard output or random bytes, or the replica's history has all the entries
 -- that a history takes
@@ -23,5 +20,4 @@ abbrev pub StopsAt : List Entry → ProgramFault → Type 0
 StopsAt entries fault.NoMemory = ⊤
 StopsAt entries (fault.Refused resource error) = IsTrue (is_asked resource)
 StopsAt entries fault.HistoryFull = max_history_len ≤ length entries
-StopsAt entries (fault.NoListener port error) = ⊥
-StopsAt entries fault.NoThread = ⊥
+StopsAt entries _ = ⊥

@@ -4,5 +4,6 @@ pub mod Answering
 pub mod Streams
 pub mod Simulating
 pub mod Auditing
+pub mod Drawing
 pub mod Doing
 pub mod Statements

@@ -154,5 +154,4 @@ abbrev pub StopsDelivery : DeliverSettings → Option (List ℕ) → Option (Lis
 StopsDelivery s unread left before after fault.NoMemory = ⊤
 StopsDelivery s unread left before after (fault.Refused resource error) = IsTrue (is_asked resource)
 StopsDelivery s unread left before after fault.HistoryFull = FillsHistory s unread left before after
-StopsDelivery s unread left before after (fault.NoListener port error) = ⊥
-StopsDelivery s unread left before after fault.NoThread = ⊥
+StopsDelivery s unread left before after _ = ⊥

@@ -8,11 +8,11 @@ ghost use Rattle.program.specs.Auditing.{Audits, AuditsSome, AuditsWritten, Audi
 
 use crate::outcome::Ending;
 use crate::reading::read_whole;
-use crate::status::{BAD_INPUT, DONE};
-use audit_lines::{add_finding, add_receipt, audited, explanation, has_receipt};
+use crate::status::BAD_INPUT;
+use audit_lines::{add_finding, add_receipt, audited, explanation, finding_status, has_receipt};
 use bytes::Bytes;
 use cluster_keys::{ClusterSeed, all_keys};
-use history_audit::AuditFault;
+use history_audit::{AuditFault, are_of_a_quorum};
 use history_reading::{HistoryFault, read_histories};
 use ledger_model::{Config, History, Ledger};
 use program_streams::{ProgramFault, write_output};
@@ -52,9 +52,9 @@ fn text_of(
 fn status_of(finding: &Result<Ledger, AuditFault>, receipt: Option<bool>) -> u8
     ensures { result ≡ audit_status finding.now receipt }
 {
-    match finding {
-        Ok(_) if receipt != Some(false) => DONE,
-        _ => BAD_INPUT,
+    match (finding, receipt) {
+        (Ok(_), Some(false)) => BAD_INPUT,
+        (Ok(_), Some(true) | None) | (Err(_), _) => finding_status(finding),
     }
 }
 
@@ -73,7 +73,7 @@ fn explained(
     }
 }
 
-/// What an audit of the histories finds under the public keys of the cluster.
+/// What an audit of the histories finds under the public keys of the cluster, which are made only if the count is right.
 fn found<S: RandomSource>(
     source: &S,
     alloc: Global,
@@ -83,6 +83,9 @@ fn found<S: RandomSource>(
     ensures finds { IfOk result (λ finding. IsFinding cluster.now.config (ring_of cluster.now) histories.now finding) }
     ensures fault { IfErr result IsMemoryOrRandom }
 {
+    if !are_of_a_quorum(&cluster.config, histories) {
+        return Ok(Err(AuditFault::Count));
+    }
     let keys = all_keys(alloc, cluster)?;
     audited(source, alloc, &cluster.config, &keys.ring, histories)
 }
@@ -113,7 +116,7 @@ fn audit_histories<S: RandomSource, W: Write>(
 }
 
 /// Writes that the input is no histories.
-fn print_bad_history<W: Write>(writer: &mut W) -> Result<Ending, ProgramFault>
+pub(crate) fn print_bad_history<W: Write>(writer: &mut W) -> Result<Ending, ProgramFault>
     ensures written { Writes result (W.contents writer.old) (W.contents writer.new) bad_history }
     ensures ending { IfOk result (λ ending. (ending.explanation ≡ None) × (ending.status ≡ 1)) }
     ensures fault { IfErr result IsMemoryOrAsked }

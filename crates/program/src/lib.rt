@@ -1,10 +1,12 @@
 //! The program over any streams: its subcommands, chosen by the words of the command line, and its exit statuses.
 //! `abft deliver` delivers the frames of a stream to a replica, and `abft simulate` plays a scenario text on a whole
-//! cluster. Both write lines about what happened. `abft audit` reads histories and writes whether they have one ledger.
+//! cluster. Both write lines about what happened. `abft audit` reads histories and writes whether they have one ledger, and `abft draw` writes a picture of
+//! their run.
 #![tactic(auto)]
 
 mod auditing;
 mod delivering;
+mod drawing;
 mod frame_stream;
 mod line;
 mod line_printing;
@@ -24,6 +26,7 @@ mod text_end;
 
 pub use auditing::audit;
 pub use delivering::deliver;
+pub use drawing::draw;
 pub use outcome::{Ending, Outcome};
 pub use running::{finish, refuse_words, run};
 pub use signing::signed_frame;

@@ -3,8 +3,8 @@ ghost use Rattle.std.specs.Prelude.{◌≡◌, None, MatchResult};
 ghost use Rattle.program.specs.Doing.{IsHanded, settings_of};
 
 use settings::{
-    AuditSettings, ClusterSettings, DeliverSettings, ServeSettings, Settings, SignSettings,
-    SimulateSettings,
+    AuditSettings, ClusterSettings, DeliverSettings, DrawSettings, ServeSettings, Settings,
+    SignSettings, SimulateSettings,
 };
 
 /// How far the program came with what its words ask for.
@@ -47,6 +47,7 @@ pub(crate) enum Piped {
     Deliver(DeliverSettings),
     Simulate(SimulateSettings),
     Audit(AuditSettings),
+    Draw(DrawSettings),
 }
 
 impl Piped {
@@ -59,6 +60,7 @@ impl Piped {
             Settings::Deliver(settings) => Ok(Piped::Deliver(settings)),
             Settings::Simulate(settings) => Ok(Piped::Simulate(settings)),
             Settings::Audit(settings) => Ok(Piped::Audit(settings)),
+            Settings::Draw(settings) => Ok(Piped::Draw(settings)),
             Settings::Cluster(settings) => Err(Outcome::Cluster(settings)),
             Settings::Serve(settings) => Err(Outcome::Serve(settings)),
         }

@@ -14,27 +14,17 @@ use bytes::Bytes;
 use cluster_keys::signer_and_ring;
 use ledger_model::{Event, Height};
 use locked_replica::{ApplyFault, ReplyView, State};
-use program_streams::{ProgramFault, Resource};
+use program_streams::{ProgramFault, new_random_key};
 use settings::DeliverSettings;
 use std::alloc::Global;
 use std::hash::RandomState;
 use std::random::RandomSource;
 
-/// A random key for hashes.
-fn new_key<S: RandomSource>(source: &S) -> Result<RandomState, ProgramFault>
-    ensures { IfErr result IsMemoryOrAsked }
-{
-    match RandomState::new(source) {
-        Ok(key) => Ok(key),
-        Err(error) => Err(ProgramFault::Refused(Resource::Random, error)),
-    }
-}
-
 /// The two random keys of a replica.
 pub(crate) fn new_keys<S: RandomSource>(source: &S) -> Result<[RandomState; 2], ProgramFault>
     ensures { IfErr result IsMemoryOrAsked }
 {
-    Ok([new_key(source)?, new_key(source)?])
+    Ok([new_random_key(source)?, new_random_key(source)?])
 }
 
 /// The replica of the settings, with an empty history. The random bytes are the keys of its hashes.

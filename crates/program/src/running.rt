@@ -1,16 +1,18 @@
 //! Runs the subcommand that the words ask for, and returns the exit status.
-ghost use Rattle.std.specs.Prelude.{◌≡◌, ◌⊎◌, ◌≤◌, [], map, None, IfOk, MatchResult};
+ghost use Rattle.std.specs.Prelude.{◌≡◌, ◌⊎◌, ◌≤◌, [], map, None, IfErr, IfOk, MatchResult};
 ghost use Rattle.std.specs.IoError.{error_kind};
 ghost use Rattle.std.specs.Io.KnownBytes.{Keeps};
 ghost use Rattle.ledger_model.specs.Spelling.{frame_bytes};
 ghost use Rattle.command_line.specs.Faults.{AskForHelp, AskForHelpAlone, kinds_of};
 ghost use Rattle.command_line.specs.Options.{AsksForText, IsRefused, IsSet, WantsMemory};
+ghost use Rattle.program_streams.specs.Faults.{IsMemoryOrAsked};
 ghost use Rattle.program.specs.Statements.{signed};
 ghost use Rattle.byte_streams.specs.Writing.{Writes};
 ghost use Rattle.program.specs.Doing.{AsksForAudit, Begins, Done, ExplainsAudit, Halted, IfEnded, IfHanded, IsQuiet, Performs, settings_of, status_of_stream, status_of_text};
 
 use crate::auditing::audit;
 use crate::delivering::deliver;
+use crate::drawing::draw;
 use crate::outcome::{Ending, Outcome, Piped};
 use crate::signing::signed_frame;
 use crate::simulating::simulate;
@@ -163,6 +165,7 @@ fn perform<S: RandomSource, R: Read, W: Write>(
             Ok(Ending::plain(text_status(end)))
         }
         Piped::Audit(settings) => audit(source, alloc, settings, reader, writer),
+        Piped::Draw(settings) => draw(alloc, settings, reader, writer),
     }
 }
 
@@ -210,7 +213,8 @@ fn sign<W: Write>(
     settings: &SignSettings,
     writer: &mut W,
 ) -> Result<(), ProgramFault>
-    ensures { Writes result (W.contents writer.old) (W.contents writer.new) (frame_bytes (signed settings.now)) }
+    ensures written { Writes result (W.contents writer.old) (W.contents writer.new) (frame_bytes (signed settings.now)) }
+    ensures fault { IfErr result IsMemoryOrAsked }
 {
     let frame = signed_frame(alloc, settings)?;
     write_output(writer, frame.as_bytes())

@@ -7,19 +7,14 @@ use Rattle.program_streams.specs.declared.resource.Resource.TheVariants as resou
 
 -- the system refused this resource
 abbrev pub IsRefusalOf : Resource → ProgramFault → Type 0
-IsRefusalOf wanted fault.NoMemory = ⊥
 IsRefusalOf wanted (fault.Refused refused error) = refused ≡ wanted
-IsRefusalOf wanted fault.HistoryFull = ⊥
-IsRefusalOf wanted (fault.NoListener port error) = ⊥
-IsRefusalOf wanted fault.NoThread = ⊥
+IsRefusalOf wanted _ = ⊥
 
 -- memory ran out, or the system refused random bytes
 abbrev pub IsMemoryOrRandom : ProgramFault → Type 0
 IsMemoryOrRandom fault.NoMemory = ⊤
 IsMemoryOrRandom (fault.Refused refused error) = refused ≡ resource.Random
-IsMemoryOrRandom fault.HistoryFull = ⊥
-IsMemoryOrRandom (fault.NoListener port error) = ⊥
-IsMemoryOrRandom fault.NoThread = ⊥
+IsMemoryOrRandom _ = ⊥
 
 -- a program that reads standard input and writes standard output asks for this: one of the two, or random bytes
 abbrev pub is_asked : Resource → Bool
@@ -32,6 +27,4 @@ is_asked _ = false
 abbrev pub IsMemoryOrAsked : ProgramFault → Type 0
 IsMemoryOrAsked fault.NoMemory = ⊤
 IsMemoryOrAsked (fault.Refused refused error) = IsTrue (is_asked refused)
-IsMemoryOrAsked fault.HistoryFull = ⊥
-IsMemoryOrAsked (fault.NoListener port error) = ⊥
-IsMemoryOrAsked fault.NoThread = ⊥
+IsMemoryOrAsked _ = ⊥

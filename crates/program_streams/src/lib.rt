@@ -3,10 +3,12 @@
 
 mod printing;
 mod program_fault;
+mod random_key;
 mod resource;
 mod standard_streams;
 
 pub use printing::{complain, flush_output, print, write_output};
 pub use program_fault::{ProgramFault, STOPPED};
+pub use random_key::new_random_key;
 pub use resource::Resource;
 pub use standard_streams::require_open;

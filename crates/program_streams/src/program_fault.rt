@@ -28,6 +28,12 @@ pub enum ProgramFault {
     /// A thread could not be made.
     #[error("error: a thread could not be made")]
     NoThread,
+    /// The file with this path can't be made or written.
+    #[error("error: can't write the file {0}: {1}")]
+    NoFile(String, io::Error),
+    /// In the place of the replica with this number there is another replica, or one of another cluster.
+    #[error("error: replica {0} is not of this cluster")]
+    Stranger(u8),
 }
 
 impl From<AllocError> for ProgramFault {

@@ -16,8 +16,6 @@ pub enum Resource {
     Clock,
     /// Random bytes.
     Random,
-    /// The file of the histories.
-    Histories,
 }
 
 impl fmt::Display for Resource {
@@ -29,7 +27,6 @@ impl fmt::Display for Resource {
             Resource::Words => "the words of the command line",
             Resource::Clock => "the clock",
             Resource::Random => "random bytes",
-            Resource::Histories => "the file of the histories",
         })
     }
 }

@@ -25,7 +25,7 @@ fn the_words_of_audit_set_each_option(rt: HostRuntime) {
         ),
         (
             "abft audit --receipt 0:0",
-            "error: --receipt is R:I:TX, such as 0:0:a=1, not '0:0'",
+            "error: --receipt is R:I:TX, such as 0:0:a=1, with a transaction of 1 to 64 bytes, not '0:0'",
         ),
         (
             "abft audit old.bin",

@@ -16,14 +16,14 @@ use Rattle.ledger_model.specs.Values.{Value, same_value, with_value}
 use Rattle.ledger_model.specs.Spelling.{are_ascending}
 use Rattle.ledger_model.specs.Proper.{listed_by_other}
 use Rattle.ledger_model.proofs.Lists.{any_has, has_any, all_has, all_from, has_cases, has_left, has_right, has_map, has_flat_map}
-use Rattle.ledger_model.proofs.Lists.{flat_map_has}
+use Rattle.ledger_model.proofs.Lists.{filter_map_has, flat_map_has}
 use Rattle.ledger_model.proofs.Lists.{has_filter, filter_has, has_filter_map, same_value-refl, same_value-equal, take_item}
 use Rattle.ledger_model.proofs.Steps.{map_has}
 use Rattle.tally.specs.Tallies.{Places, all_read}
 use Rattle.tally.specs.ReportMasks.{values_within, begins_with, lists_proper, value_of, is_of, is_numbered, AreValuesOf}
 use Rattle.tally.specs.Readings.{reports_of}
 use Rattle.tally.specs.declared.reported_value.ReportedValue.{ReportedValue}
-use Rattle.tally.proofs.Numbering.{there-is_of, filter_map_has}
+use Rattle.tally.proofs.Numbering.{there-is_of}
 use Rattle.tally.proofs.Puts.{read_at}
 use Rattle.proper_sets.specs.Numbers.{if_of_other, of_other, if_named, named, is_rare, is_common, initials_of_others}
 use Rattle.proper_sets.specs.Propriety.{is_named_by, named_values}

@@ -8,7 +8,6 @@ use Rattle.std.specs.Prelude.{map, Some, slice_get, Result, Ok, Err, IfOk}
 use Rattle.std.specs.declared.alloc.AllocError.{AllocError}
 use Rattle.ledger_model.specs.declared.event.Event.TheVariants as event
 use Rattle.ledger_model.specs.declared.reply.Reply.TheVariants as reply
-use Rattle.ledger_model.specs.declared.reply.RoundEnded.{RoundEnded}
 use Rattle.key_ring.specs.Signers.{SignerView, key_of}
 use Rattle.std.specs.List.{AllByRecursion}
 use Rattle.std.specs.Option.{IfSome}
@@ -24,10 +23,11 @@ use Rattle.instance.proofs.SpelledPlans.{chosen_own_statement}
 use Rattle.height_row.specs.declared.round_closing.RoundClosing.{RoundClosing}
 use Rattle.height_row.specs.Heights.{plan_of}
 use Rattle.replica_core.specs.ReplicaStates.{ReplicaStateView, IsWithinLimits}
-use Rattle.replica_core.specs.RoundEnds.{round_ended, after_end, due, SignsFrom}
+use Rattle.replica_core.specs.RoundEnds.{after_end, due, SignsFrom}
 use Rattle.replica_core.specs.Steps.{IsStep, UsesLeaves}
 use Rattle.replica_core.specs.ChosenEnds.{all_mute, end_reply, IsVerifiedMade}
 use Rattle.replica_core.specs.Cores.{CoreView}
+use Rattle.replica_core.specs.PreparedEnds.{PreparedView, IsPreparedFor, IsEndPrepared, made_in, prepared_of, after_prepared}
 use Rattle.replica_core.specs.Signing.{SignsPlans}
 use Rattle.instance.specs.Laws.{IsFrameMade}
 use Rattle.replica_core.proofs.SignedPlans.{signs_from}
@@ -96,24 +96,27 @@ signs_own secret leaf c id (row ∷ rows) (made.Sent f ∷ ms) ids signs =
 pub each_own : (held : ReplicaStateView) → IsWithinLimits held → AllByRecursion (λ row. row.id ≡ held.id) held.rows
 each_own held is_held = each_found (λ row. row.id ≡ held.id) held.rows is_held.ascend (λ h row at. (is_held.own h row at).id)
 
--- ---- what is answered
+-- ---- what is prepared
 
--- the end that is answered is a step
-pub step_shown : (held new : ReplicaStateView) (mute : Bool) (ms : List RoundStatement) (result : Result RoundEnded AllocError)
-    → IfOk result (λ r. r ≡ round_ended held mute ms)
-    → IfOk result (λ _. new ≡ after_end held mute ms) → IsStep held event.RoundEnd (end_reply held mute ms) (after_end held mute ms)
-    → IfOk result (λ r. IsStep held event.RoundEnd (reply.RoundEnded (Ok r)) new)
-step_shown held new mute ms (Ok r) is after step =
-    subst (λ n. IsStep held event.RoundEnd (reply.RoundEnded (Ok r)) n) (sym after)
-    (subst (λ x. IsStep held event.RoundEnd (reply.RoundEnded (Ok x)) (after_end held mute ms)) (sym is) step)
-step_shown held new mute ms (Err e) is after step = tt
+-- it is ready if another round follows, and the heights end so
+pub ready_of : (held : ReplicaStateView) (mute : Bool) (closings : List RoundClosing) → held.clock < last_round
+    → map (λ x. x.ending) closings ≡ map (λ row. ended row (held.clock + 1)) held.rows
+    → AllByRecursion (λ x. IsOwnMade held.id x.made) closings → IsPreparedFor held (prepared_of held mute closings)
+ready_of held mute closings early endings own = record { clock = early; endings = endings; own = own; reply = refl }
 
--- and its leaves are used
-pub leaves_shown : (held : ReplicaStateView) (keys new : SignerView) (mute : Bool) (ms : List RoundStatement)
-    (result : Result RoundEnded AllocError) → IfOk result (λ r. r ≡ round_ended held mute ms)
-    → UsesLeaves keys held.clock (end_reply held mute ms) new → IfOk result (λ r. UsesLeaves keys held.clock (reply.RoundEnded (Ok r)) new)
-leaves_shown held keys new mute ms (Ok r) is uses = subst (λ x. UsesLeaves keys held.clock (reply.RoundEnded (Ok x)) new) (sym is) uses
-leaves_shown held keys new mute ms (Err e) is uses = tt
+-- the prepared end is a step, and its leaves are used
+pub end_prepared : (held : ReplicaStateView) (keys new : SignerView) (mute : Bool) (closings : List RoundClosing)
+    (result : Result PreparedView AllocError) → IfOk result (λ p. p ≡ prepared_of held mute closings)
+    → IfOk result (IsPreparedFor held)
+    → IsStep held event.RoundEnd (end_reply held mute (made_in closings)) (after_end held mute (made_in closings))
+    → UsesLeaves keys held.clock (end_reply held mute (made_in closings)) new
+    → IfOk result (λ p. IsEndPrepared (record { held = held; keys = keys }) p new)
+end_prepared held keys new mute closings (Ok p) is ready step leaves = record {
+  ready = ready;
+  step = subst (λ (x : PreparedView). IsStep held event.RoundEnd (reply.RoundEnded (Ok x.ended)) (after_prepared held x)) (sym is) step;
+  leaves = subst (λ (x : PreparedView). UsesLeaves keys held.clock (reply.RoundEnded (Ok x.ended)) new) (sym is) leaves;
+}
+end_prepared held keys new mute closings (Err e) is ready step leaves = tt
 
 -- fewer leaves are left than are due just where the leaves are fewer than those used and those due
 pub short_of : (left due leaves used : ℕ) → used + left ≡ leaves → ltb left due ≡ ltb leaves (used + due)

@@ -11,13 +11,13 @@ use Rattle.ledger_model.specs.declared.statement.Statement.{Statement}
 use Rattle.ledger_model.specs.Notes.{Note, clock_of, signer_of}
 use Rattle.ledger_model.specs.Logs.{log_of, height_of}
 use Rattle.ledger_model.specs.Lawful.{answer}
-use Rattle.ledger_model.specs.Rules.{Ring, is_signed, is_repeated, first_of, place_causes, proof_causes, causes, answer_to}
+use Rattle.ledger_model.specs.Rules.{Ring, is_signed, is_repeated, first_of, place_causes, causes_before_signature, proof_causes, causes, answer_to}
 use Rattle.ledger_model.specs.Rules.{is_table_full, is_not_mine}
 use Rattle.instance.specs.Instances.{InstanceView}
 use Rattle.instance.specs.Matching.{MatchesLog}
 use Rattle.height_row.specs.Heights.{row_at}
 use Rattle.replica_core.specs.ReplicaStates.{ReplicaStateView, MatchesHistory}
-use Rattle.replica_core.specs.Placing.{causes_before_signature, answer_before_signature}
+use Rattle.replica_core.specs.Placing.{answer_before_signature}
 use Rattle.replica_core.proofs.Unopened.{closed_there}
 
 -- a cause that applies is the first, whatever follows
@@ -33,16 +33,16 @@ first_follows ((true, c) ∷ xs) ys h = absurd (cc)
 first_follows ((false, c) ∷ xs) ys h = first_follows xs ys h
 
 module _ (config : Config) (ring : Ring) (log : List Note) (s : SignedStatement) where
-  pub ignored_before : (f : Ignored) → first_of (causes_before_signature config log s.statement) ≡ Err f
+  pub ignored_before : (f : Ignored) → first_of (causes_before_signature config log s.statement []) ≡ Err f
       → answer_to config ring log s ≡ Err f
   unfolding causes
-  ignored_before f h = first_stays (causes_before_signature config log s.statement)
+  ignored_before f h = first_stays (causes_before_signature config log s.statement [])
       (proof_causes config ring (is_table_full log s.statement) (is_not_mine log s.statement) s) f h
 
-  pub unsigned_after : first_of (causes_before_signature config log s.statement) ≡ Ok tt → is_signed ring s ≡ false
+  pub unsigned_after : first_of (causes_before_signature config log s.statement []) ≡ Ok tt → is_signed ring s ≡ false
       → answer_to config ring log s ≡ Err cause.BadSignature
   unfolding causes
-  unsigned_after h unsigned = first_follows (causes_before_signature config log s.statement)
+  unsigned_after h unsigned = first_follows (causes_before_signature config log s.statement [])
       (proof_causes config ring (is_table_full log s.statement) (is_not_mine log s.statement) s) h ∙ rw unsigned refl
 
 module _ (held : ReplicaStateView) (s : Statement) (entries : List Entry) where

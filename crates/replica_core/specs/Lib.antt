@@ -3,6 +3,7 @@ pub mod RoundEnds
 pub mod Steps
 pub mod ChosenEnds
 pub mod Cores
+pub mod PreparedEnds
 pub mod Signing
 pub mod Sending
 pub mod Facts

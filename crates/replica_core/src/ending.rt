@@ -1,5 +1,6 @@
-//! A round ends, and the next one opens.
+//! A round ends, and the next one opens: the end is prepared, which may take memory and leaves, and then finished, which takes neither.
 use crate::closings::make_nothing;
+use crate::prepared::Prepared;
 use crate::replica::Core;
 use crate::replica_state::ReplicaState;
 use crate::sending::frames_to_send;
@@ -11,14 +12,14 @@ use ledger_model::{LastRound, RoundEnded, SentFrames};
 use std::alloc::{AllocError, Global};
 
 impl<A: Application> ReplicaState<A> {
-    ghost use Rattle.std.specs.Prelude.{◌≡◌, ◌<◌, ◌+◌, map, false, true, IfOk, IfSome, OnErr};
+    ghost use Rattle.std.specs.Prelude.{◌≡◌, ◌<◌, ◌+◌, map, false, true, IfOk, IfSome};
     ghost use Rattle.std.specs.List.{AllByRecursion};
     ghost use Rattle.ledger_model.specs.Limits.{last_round};
     ghost use Rattle.ledger_model.specs.Spelling.{IsStatement};
     ghost use Rattle.instance.specs.Plans.{ended, IsOwnMade};
     ghost use Rattle.height_row.specs.Heights.{plan_of};
     ghost use Rattle.replica_core.specs.ReplicaStates.{IsWithinLimits};
-    ghost use Rattle.replica_core.specs.RoundEnds.{round_ended, after_end};
+    ghost use Rattle.replica_core.specs.PreparedEnds.{IsPreparedFor, prepared_of, after_prepared};
 
     /// Prepares the end of the open round at each open height, without choosing a statement.
     pub(crate) fn prepare_ends(&self, alloc: Global) -> Result<Vec<RoundEffects>, AllocError>
@@ -57,29 +58,38 @@ impl<A: Application> ReplicaState<A> {
         self.clock >= LastRound::NUMBER
     }
 
-    /// Opens the next round, which closes the open round of each height as given. Returns the frames to send. Allocates
-    /// all memory before anything changes.
-    pub(crate) fn open_round(
-        &mut self,
+    /// Prepares the end of the open round: the reply with its frames, if each height closes its round as given.
+    pub(crate) fn prepare_round(
+        &self,
         alloc: Global,
         closings: Vec<RoundClosing>,
         mute: bool,
-    ) -> Result<RoundEnded, AllocError>
-        requires clock { self.old.clock < last_round }
-        requires endings { map (λ c. c.ending) closings.items ≡ map (λ row. ended row (self.old.clock + 1)) self.old.rows }
-        requires own { AllByRecursion (λ c. IsOwnMade self.old.id c.made) closings.items }
-        ensures ended { IfOk result (λ r. r ≡ round_ended self.old mute (map (λ c. c.made) closings.items)) }
-        ensures after { IfOk result (λ _. self.new ≡ after_end self.old mute (map (λ c. c.made) closings.items)) }
-        ensures err { OnErr result (self.new ≡ self.old) }
+    ) -> Result<Prepared, AllocError>
+        requires clock { self.now.clock < last_round }
+        requires endings { map (λ c. c.ending) closings.items ≡ map (λ row. ended row (self.now.clock + 1)) self.now.rows }
+        requires own { AllByRecursion (λ c. IsOwnMade self.now.id c.made) closings.items }
+        ensures prepared { IfOk result (λ p. p ≡ prepared_of self.now mute closings.items) }
+        ensures ready { IfOk result (IsPreparedFor self.now) }
     {
         let frames = frames_to_send(alloc, &self.config, &closings)?;
-        self.rows.close_all(closings, self.clock);
-        self.clock += 1;
-        self.mute = mute;
-        Ok(RoundEnded {
+        let ended = RoundEnded {
             mute,
             frames: SentFrames::new(frames),
-        })
+        };
+        Ok(Prepared { closings, ended })
+    }
+
+    /// Opens the next round, which closes the open round of each height as prepared. Returns the reply. Allocates nothing.
+    pub(crate) fn finish_round(&mut self, prepared: Prepared) -> RoundEnded
+        requires { IsPreparedFor self.old prepared }
+        ensures reply { result ≡ prepared.ended }
+        ensures after { self.new ≡ after_prepared self.old prepared }
+    {
+        let (closings, ended) = prepared.into_parts();
+        self.rows.close_all(closings, self.clock);
+        self.clock += 1;
+        self.mute = ended.mute;
+        ended
     }
 }
 
@@ -94,41 +104,39 @@ impl<A: Application> Core<A> {
     ghost use Rattle.height_row.specs.Heights.{plan_of};
     ghost use Rattle.replica_core.specs.ReplicaStates.{IsWithinLimits};
     ghost use Rattle.replica_core.specs.Steps.{IsStep, UsesLeaves};
+    ghost use Rattle.replica_core.specs.PreparedEnds.{IsPreparedFor, IsEndPrepared, UsesAtMost, after_prepared, prepared_reply, after_prepared_reply};
     ghost use Rattle.replica_core.specs.Cores.{IsSameReplica, due_then, is_mute_next, is_mute_then, leaves_due, signed_next};
 
-    /// Ends a round that is not the last one, and leaves the replica mute: it signs nothing, and so chooses no statement.
-    fn end_mute(&mut self, alloc: Global) -> Result<RoundEnded, AllocError>
-        requires clock { self.old.held.clock < last_round }
-        ensures step { IfOk result (λ r. IsStep self.old.held event.RoundEnd (reply.RoundEnded (Ok r)) self.new.held) }
-        ensures leaves { IfOk result (λ r. UsesLeaves self.old.keys self.old.held.clock (reply.RoundEnded (Ok r)) self.new.keys) }
-        ensures mute { IfOk result (λ _. self.new.held.mute ≡ true) }
-        ensures keys { self.new.keys ≡ self.old.keys }
-        ensures err { OnErr result (self.new ≡ self.old) }
-        ensures same { IsSameReplica self.old self.new }
+    /// Prepares the end of a round that is not the last one, after which the replica is mute: it signs nothing, and so chooses no
+    /// statement.
+    fn prepare_mute(&self, alloc: Global) -> Result<Prepared, AllocError>
+        requires clock { self.now.held.clock < last_round }
+        ensures prepared { IfOk result (λ p. IsEndPrepared self.now p self.now.keys) }
+        ensures mute { IfOk result (λ p. p.ended.mute ≡ true) }
     {
         let endings = self.kept.prepare_ends(alloc)?;
         let closings = make_nothing(alloc, endings, true)?;
-        self.kept.open_round(alloc, closings, true)
+        self.kept.prepare_round(alloc, closings, true)
     }
 
-    /// Ends a round at which the replica signs each statement that is due, for which it has the leaves.
-    fn end_signed(&mut self, alloc: Global, plans: Vec<RoundPlan>) -> Result<RoundEnded, AllocError>
+    /// Prepares the end of a round at which the replica signs each statement that is due, for which it has the leaves.
+    fn prepare_signed(
+        &mut self,
+        alloc: Global,
+        plans: Vec<RoundPlan>,
+    ) -> Result<Prepared, AllocError>
         requires clock { self.old.held.clock < last_round }
         requires held { IsWithinLimits self.old.held }
         requires plans { plans.items ≡ map (plan_of (self.old.held.clock + 1)) self.old.held.rows }
         requires spelled { AllByRecursion (λ plan. IfSome plan.statement IsStatement) plans.items }
         requires loud { self.old.held.mute ≡ false }
         requires leaves { self.old.keys.used + due_then self.old ≤ leaves_of self.old.keys.secret }
-        ensures step { IfOk result (λ r. IsStep self.old.held event.RoundEnd (reply.RoundEnded (Ok r)) self.new.held) }
-        ensures leaves { IfOk result (λ r. UsesLeaves self.old.keys self.old.held.clock (reply.RoundEnded (Ok r)) self.new.keys) }
-        ensures mute { IfOk result (λ _. self.new.held.mute ≡ false) }
-        ensures least { self.old.keys.used ≤ self.new.keys.used }
-        ensures most { self.new.keys.used ≤ self.old.keys.used + due_then self.old }
-        ensures err { OnErr result (self.new ≡ record self.old { keys = self.new.keys }) }
-        ensures same { IsSameReplica self.old self.new }
+        ensures prepared { IfOk result (λ p. IsEndPrepared self.old p self.new.keys) }
+        ensures mute { IfOk result (λ p. p.ended.mute ≡ false) }
+        ensures uses { UsesAtMost self.old self.new (due_then self.old) }
     {
         let closings = make_all(alloc, &mut self.signer, plans)?;
-        self.kept.open_round(alloc, closings, false)
+        self.kept.prepare_round(alloc, closings, false)
     }
 
     /// The plan for each open height as the next round opens.
@@ -159,45 +167,68 @@ impl<A: Application> Core<A> {
         self.kept.is_over()
     }
 
-    /// Ends a round that is not the last one, at a replica that is not mute: it signs the statements that are due, or
-    /// becomes mute if too few leaves are left.
-    fn end_loud(&mut self, alloc: Global) -> Result<RoundEnded, AllocError>
+    /// Prepares the end of a round that is not the last one, at a replica that is not mute: it signs the statements that are due,
+    /// or becomes mute if too few leaves are left.
+    fn prepare_loud(&mut self, alloc: Global) -> Result<Prepared, AllocError>
         requires clock { self.old.held.clock < last_round }
         requires loud { self.old.held.mute ≡ false }
-        ensures step { IfOk result (λ r. IsStep self.old.held event.RoundEnd (reply.RoundEnded (Ok r)) self.new.held) }
-        ensures leaves { IfOk result (λ r. UsesLeaves self.old.keys self.old.held.clock (reply.RoundEnded (Ok r)) self.new.keys) }
-        ensures mute { IfOk result (λ _. self.new.held.mute ≡ is_mute_next self.old) }
-        ensures err { OnErr result (self.new ≡ record self.old { keys = self.new.keys }) }
-        ensures least { self.old.keys.used ≤ self.new.keys.used }
+        ensures prepared { IfOk result (λ p. IsEndPrepared self.old p self.new.keys) }
+        ensures mute { IfOk result (λ p. p.ended.mute ≡ is_mute_next self.old) }
         // A replica that is mute then uses none.
-        ensures most { self.new.keys.used ≤ self.old.keys.used + signed_next self.old }
-        ensures same { IsSameReplica self.old self.new }
+        ensures uses { UsesAtMost self.old self.new (signed_next self.old) }
     {
         let plans = self.plan_ends(alloc)?;
         if self.lacks_leaves(&plans) {
-            self.end_mute(alloc)
+            self.prepare_mute(alloc)
         } else {
-            self.end_signed(alloc, plans)
+            self.prepare_signed(alloc, plans)
         }
     }
 
-    /// Ends a round that is not the last one: the replica signs the statements that are due, or is mute from now on.
-    fn end_open(&mut self, alloc: Global) -> Result<RoundEnded, AllocError>
+    /// Prepares the end of a round that is not the last one: the replica signs the statements that are due, or is mute from now on.
+    fn prepare_open(&mut self, alloc: Global) -> Result<Prepared, AllocError>
         requires clock { self.old.held.clock < last_round }
-        ensures step { IfOk result (λ r. IsStep self.old.held event.RoundEnd (reply.RoundEnded (Ok r)) self.new.held) }
-        ensures leaves { IfOk result (λ r. UsesLeaves self.old.keys self.old.held.clock (reply.RoundEnded (Ok r)) self.new.keys) }
-        ensures mute { IfOk result (λ _. self.new.held.mute ≡ is_mute_next self.old) }
-        ensures err { OnErr result (self.new ≡ record self.old { keys = self.new.keys }) }
-        ensures least { self.old.keys.used ≤ self.new.keys.used }
-        // A replica that is mute then uses none.
-        ensures most { self.new.keys.used ≤ self.old.keys.used + signed_next self.old }
-        ensures same { IsSameReplica self.old self.new }
+        ensures prepared { IfOk result (λ p. IsEndPrepared self.old p self.new.keys) }
+        ensures mute { IfOk result (λ p. p.ended.mute ≡ is_mute_next self.old) }
+        ensures uses { UsesAtMost self.old self.new (signed_next self.old) }
     {
         if self.is_mute() {
-            self.end_mute(alloc)
+            self.prepare_mute(alloc)
         } else {
-            self.end_loud(alloc)
+            self.prepare_loud(alloc)
         }
+    }
+
+    /// Prepares the end of the open round: signs the statements that are due, and builds the reply with its frames. Nothing changes
+    /// but the leaves that are used. Returns `LastRound` if the last round is open.
+    ///
+    /// [`finish_end`](Core::finish_end) then ends the round. The only error is allocation failure, after which some leaves may be used.
+    pub fn prepare_end(&mut self, alloc: Global) -> Result<Result<Prepared, LastRound>, AllocError>
+        // It is prepared for the core as it is now.
+        ensures ready { IfOk result (λ r. IfOk r (IsPreparedFor self.new.held)) }
+        // After every history that the core matches, the reply is lawful and signed, and what the core becomes then matches the
+        // history with this entry.
+        ensures step { IfOk result (λ r. IsStep self.old.held event.RoundEnd (reply.RoundEnded (prepared_reply r)) (after_prepared_reply self.old.held r)) }
+        // Which leaves sign the statements, in which order.
+        ensures leaves { IfOk result (λ r. UsesLeaves self.old.keys self.old.held.clock (reply.RoundEnded (prepared_reply r)) self.new.keys) }
+        // The core is mute then if it was before, or if it had more statements to sign than leaves were left.
+        ensures mute { IfOk result (λ r. (after_prepared_reply self.old.held r).mute ≡ is_mute_then self.old event.RoundEnd) }
+        ensures uses { UsesAtMost self.old self.new (leaves_due self.old event.RoundEnd) }
+    {
+        if self.is_over() {
+            return Ok(Err(LastRound));
+        }
+        Ok(Ok(self.prepare_open(alloc)?))
+    }
+
+    /// Ends the round as prepared, and opens the next one. Returns the reply. It takes the end that this core prepared, if nothing
+    /// changed the core since. Allocates nothing.
+    pub fn finish_end(&mut self, prepared: Prepared) -> RoundEnded
+        requires { IsPreparedFor self.old.held prepared }
+        ensures reply { result ≡ prepared.ended }
+        ensures after { self.new ≡ record self.old { held = after_prepared self.old.held prepared } }
+    {
+        self.kept.finish_round(prepared)
     }
 
     /// Ends a round and opens the next one: the replica signs the statements that are due, or is mute from now on.
@@ -213,9 +244,9 @@ impl<A: Application> Core<A> {
         ensures most { self.new.keys.used ≤ self.old.keys.used + leaves_due self.old event.RoundEnd }
         ensures same { IsSameReplica self.old self.new }
     {
-        if self.is_over() {
-            return Ok(Err(LastRound));
+        match self.prepare_end(alloc)? {
+            Ok(prepared) => Ok(Ok(self.finish_end(prepared))),
+            Err(last) => Ok(Err(last)),
         }
-        Ok(Ok(self.end_open(alloc)?))
     }
 }

@@ -2,6 +2,7 @@
 use crate::replica::Core;
 use crate::replica_state::ReplicaState;
 use abci::{Application, Info};
+use batch_pool::Pool;
 use key_ring::KeyRing;
 use ledger_model::{Batch, Config, Height, ReplicaId};
 
@@ -69,6 +70,12 @@ impl<A: Application> ReplicaState<A> {
         ensures { result ≡ info_reply self.now.config.kind self.now.commits }
     {
         self.executor.info()
+    }
+
+    fn pool(&self) -> &Pool
+        ensures { result.now ≡ self.now.pool }
+    {
+        &self.pool
     }
 }
 
@@ -147,6 +154,13 @@ impl<A: Application> Core<A> {
         ensures { result ≡ info_reply self.now.held.config.kind self.now.held.commits }
     {
         self.kept.info()
+    }
+
+    /// The pool: the transactions that wait for a block, in order of arrival.
+    pub fn pool(&self) -> &Pool
+        ensures { result.now ≡ self.now.held.pool }
+    {
+        self.kept.pool()
     }
 
     /// The committed batch of a height; `None` at height 0 and above the committed height.

@@ -97,7 +97,8 @@ impl<A: Application> ReplicaState<A> {
         let Some(closings) = self.shown_end(alloc, endings, ended)? else {
             return Ok(false);
         };
-        let due = self.open_round(alloc, closings, ended.mute)?;
+        let prepared = self.prepare_round(alloc, closings, ended.mute)?;
+        let due = self.finish_round(prepared);
         Ok(is_same_frames(due.frames.as_slice(), ended.frames.as_slice()))
     }
 

@@ -35,4 +35,6 @@ mod silence_tests;
 #[cfg(test)]
 mod step_tests;
 #[cfg(test)]
+mod string_tests;
+#[cfg(test)]
 mod world_tests;

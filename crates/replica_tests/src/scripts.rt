@@ -10,6 +10,9 @@ const FOUR_ALIKE: (&[u8], usize) = (
     1,
 );
 
+/// Each replica reports once.
+pub(crate) const FIRST_ROUND: Script = &[FOUR_ALIKE, (b"round\n", 1)];
+
 /// Each replica decides it in the phase that it owns, and runs it.
 pub(crate) const PLAIN: Script = &[
     FOUR_ALIKE,

@@ -1,2 +1,3 @@
 mod Clients
 mod Cutting
+mod Putting

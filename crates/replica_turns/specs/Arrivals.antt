@@ -9,6 +9,7 @@ use Rattle.ledger_model.specs.declared.statement.Statement.{Statement}
 use Rattle.ledger_model.specs.declared.statement.Statement.TheVariants as statement
 use Rattle.ledger_model.specs.Validity.{is_quorate}
 use Rattle.signed_frames.specs.Lending.{SignedPartView, own_part, lent_of, proof_of}
+use Rattle.verify_cache.specs.Same.{same}
 use Rattle.verify_cache.specs.Verifiers.{VerifierView, is_known, answer_in, check_of}
 use Rattle.locked_replica.specs.States.{StateView}
 use Rattle.replica_core.specs.Placing.{answer_before_signature}
@@ -33,6 +34,15 @@ is_checked r s = is_ok (answer_before_signature r.config r.id r.entries s)
 -- the verifier doesn't know whether the part is signed
 abbrev pub is_unknown : VerifierView → SignedPartView → Bool
 is_unknown v p = not (is_known v (check_of p))
+
+-- the parts with this one at their end, unless they have it
+abbrev pub with_part : SignedPartView → List SignedPartView → List SignedPartView
+with_part p once = if list_any (λ q. same (check_of p) (check_of q)) once then once else once ++ p ∷ []
+
+-- the parts with each of these put in of which the verifier doesn't know whether it is signed
+abbrev pub with_unknown : VerifierView → List SignedPartView → List SignedPartView → List SignedPartView
+with_unknown v [] once = once
+with_unknown v (p ∷ ps) once = with_unknown v ps (if is_unknown v p then with_part p once else once)
 
 -- the statement is a lock whose proof is a quorum's
 abbrev pub has_quorum : Config → Statement → Bool

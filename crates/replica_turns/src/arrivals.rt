@@ -1,9 +1,11 @@
 //! Which parts of the frames that arrived are worth a check before the replica's turn.
-ghost use Rattle.std.specs.Prelude.{◌≡◌, ◌++◌, filter, map, IfOk, OnOk};
-ghost use Rattle.std.specs.List.{filter_map, flat_map};
+ghost use Rattle.std.specs.Prelude.{◌≡◌, [], filter, map, IfOk, OnOk};
+ghost use Rattle.std.specs.List.{filter_map, flat_map, list_any};
 ghost use Rattle.ledger_model.specs.Reading.{reading};
 ghost use Rattle.signed_frames.specs.Lending.{own_part};
-ghost use Rattle.replica_turns.specs.Arrivals.{distinct, with_bytes, is_checked, is_unknown, has_quorum, reports_of_signed};
+ghost use Rattle.verify_cache.specs.Same.{same};
+ghost use Rattle.verify_cache.specs.Verifiers.{check_of};
+ghost use Rattle.replica_turns.specs.Arrivals.{distinct, with_bytes, with_part, with_unknown, is_checked, is_unknown, has_quorum, reports_of_signed};
 
 use abci::Application;
 use bytes::Bytes;
@@ -79,17 +81,43 @@ pub fn unknown_parts<'a>(
     Ok(parts)
 }
 
-/// Appends those of the reports of which the verifier doesn't know whether they are signed.
-fn push_unknown<'a>(
-    parts: &mut Vec<SignedPart<'a>>,
+/// Whether the two are by one signer, over the same bytes, with the same signature.
+fn are_same(one: &SignedPart<'_>, other: &SignedPart<'_>) -> bool
+    ensures { result ≡ same (check_of one.now) (check_of other.now) }
+{
+    one.signer() == other.signer()
+        && one.message() == other.message()
+        && one.signature() == other.signature()
+}
+
+/// Whether the part is among these.
+fn is_there(once: &[SignedPart<'_>], part: &SignedPart<'_>) -> bool
+    ensures { result ≡ list_any (λ q. same (check_of part.now) (check_of q)) once.now }
+{
+    once.iter().any(|other| are_same(part, other))
+}
+
+/// Puts the part at the end of the list, unless it is there.
+fn put_part<'a>(once: &mut Vec<SignedPart<'a>>, part: SignedPart<'a>) -> Result<(), AllocError>
+    ensures { OnOk result (once.new.items ≡ with_part part.entry once.old.items) }
+{
+    if !is_there(once, &part) {
+        once.push(part)?;
+    }
+    Ok(())
+}
+
+/// Puts in each of the reports of which the verifier doesn't know whether it is signed.
+fn put_unknown<'a>(
+    once: &mut Vec<SignedPart<'a>>,
     verifier: &Verifier,
     reports: LentReports<'a>,
 ) -> Result<(), AllocError>
-    ensures { OnOk result (parts.new.items ≡ parts.old.items ++ filter (is_unknown verifier.now) reports.entry) }
+    ensures { OnOk result (once.new.items ≡ with_unknown verifier.now reports.entry once.old.items) }
 {
     for report in reports {
         if !verifier.knows(&report) {
-            parts.push(report)?;
+            put_part(once, report)?;
         }
     }
     Ok(())
@@ -107,14 +135,14 @@ fn has_quorum(config: &Config, statement: &Statement) -> bool
 
 /// The same for the reports in the proof of the frame, if the verifier knows that the frame is signed, and the proof is a
 /// quorum's.
-fn push_reports<'a>(
-    parts: &mut Vec<SignedPart<'a>>,
+fn put_reports<'a>(
+    once: &mut Vec<SignedPart<'a>>,
     config: &Config,
     verifier: &Verifier,
     frame: &'a Frame,
 ) -> Result<(), AllocError>
-    ensures { OnOk result (parts.new.items
-        ≡ parts.old.items ++ filter (is_unknown verifier.now) (reports_of_signed config.now verifier.now frame.now)) }
+    ensures { OnOk result (once.new.items
+        ≡ with_unknown verifier.now (reports_of_signed config.now verifier.now frame.now) once.old.items) }
 {
     if verifier.answer(&frame.signed_part()) != Some(true) {
         return Ok(());
@@ -122,11 +150,11 @@ fn push_reports<'a>(
     if !has_quorum(config, frame.statement()) {
         return Ok(());
     }
-    push_unknown(parts, verifier, frame.lent_reports())
+    put_unknown(once, verifier, frame.lent_reports())
 }
 
-/// The reports in the proofs of the locks that the verifier knows to be signed and whose proofs are a quorum's, without the
-/// reports of which it knows whether they are signed. A replica that checks another lock looks at none of its reports'
+/// The reports in the proofs of the locks that the verifier knows to be signed and whose proofs are a quorum's, each once,
+/// without the reports of which it knows whether they are signed. A replica that checks another lock looks at none of its reports'
 /// signatures. The only error is allocation failure.
 pub fn unknown_reports<'a>(
     alloc: Global,
@@ -135,11 +163,11 @@ pub fn unknown_reports<'a>(
     frames: &'a [Frame],
 ) -> Result<Vec<SignedPart<'a>>, AllocError>
     ensures { IfOk result (λ parts. parts.items
-        ≡ filter (is_unknown verifier.now) (flat_map (reports_of_signed config.now verifier.now) frames.now)) }
+        ≡ with_unknown verifier.now (flat_map (reports_of_signed config.now verifier.now) frames.now) []) }
 {
     let mut parts = Vec::new(alloc);
     for frame in frames {
-        push_reports(&mut parts, config, verifier, frame)?;
+        put_reports(&mut parts, config, verifier, frame)?;
     }
     Ok(parts)
 }

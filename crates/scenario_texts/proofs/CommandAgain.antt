@@ -11,8 +11,9 @@ use Rattle.plain_text.specs.Numbers.{number_text}
 use Rattle.scenario_texts.specs.Plans.{Plan}
 use Rattle.scenario_texts.specs.Words.{keyword_text}
 use Rattle.scenario_texts.specs.Lawful.{IsNumber, IsBytes, IsTowards, IsLie, IsCommand}
-use Rattle.scenario_texts.specs.Texts.{bytes_words, hex_words, lie_words, command_words, towards_text}
-use Rattle.scenario_texts.specs.Reading.{submit_of, inject_of, query_of, propose_of, retire_of, pass_of, simple_of, lying_of, command_of}
+use Rattle.scenario_texts.specs.Texts.{bytes_words, hex_words, lie_words, stale_words, command_words, towards_text}
+use Rattle.scenario_texts.specs.Reading.{submit_of, inject_of, query_of, propose_of, retire_of, pass_of, simple_of, stale_of, lying_of}
+use Rattle.scenario_texts.specs.Reading.{command_of}
 use Rattle.scenario_texts.specs.Reading.{with_command, going_on}
 use Rattle.scenario_texts.specs.declared.keyword.Keyword.{Keyword}
 use Rattle.scenario_texts.specs.declared.keyword.Keyword.TheVariants as keyword
@@ -24,7 +25,7 @@ use Rattle.scenario_texts.specs.declared.command.Command.TheVariants as command
 use Rattle.scenario_texts.proofs.Numbers.{number_of-again}
 use Rattle.scenario_texts.proofs.HexReading.{IsWord-encode_lower}
 use Rattle.scenario_texts.proofs.FieldReading.{one_number-again, two_numbers-again, three_numbers-again, optional_bytes-again}
-use Rattle.scenario_texts.proofs.FieldReading.{optional_hex-again}
+use Rattle.scenario_texts.proofs.FieldReading.{optional_hex-again, positive_of-again}
 use Rattle.scenario_texts.proofs.BatchLaws.{IsWord-batch_text}
 use Rattle.scenario_texts.proofs.CommandReading.{lie_of-again}
 use Rattle.scenario_texts.proofs.Visible.{IsVisible, IsWord, IsWords, IsWord-bytes_text, IsWord-number_text}
@@ -39,7 +40,7 @@ pub record IsRead (liars : List ℕ) (c : Command) : Type 0 where
 
 -- a step is read again
 pub command_again : (liars : List ℕ) → ((r : ℕ) → Contains liars r → IsNumber r) → (c : Command) → IsCommand liars c → IsRead liars c
-unfolding command_of going_on submit_of inject_of query_of propose_of retire_of pass_of simple_of lying_of
+unfolding command_of going_on submit_of inject_of query_of propose_of retire_of pass_of simple_of stale_of lying_of
 command_again liars small (command.Submit replica bytes) (number, fits) = record {
   keyword = keyword.Submit;
   fields = number_text replica ∷ bytes_words bytes;
@@ -123,6 +124,13 @@ command_again liars small (command.LieLock lie) is = record {
   reads = rw (lie_of-again liars lie small is) refl;
   is_step = λ p. refl;
 }
+command_again liars small (command.LieStale lie source) (is, above, number) = record {
+  keyword = keyword.LieStale;
+  fields = stale_words lie source;
+  spelled = refl;
+  reads = rw (positive_of-again source (above, number), lie_of-again liars lie small is) refl;
+  is_step = λ p. refl;
+}
 command_again liars small (command.LieAck lie) is = record {
   keyword = keyword.LieAck;
   fields = lie_words lie;
@@ -166,6 +174,13 @@ words_of_lie liars lie small is = (
   ),
 )
 
+-- what a lie says whose proof has the reports of another phase
+words_of_stale : (liars : List ℕ) (lie : Lie) (source : ℕ) → ((r : ℕ) → Contains liars r → IsNumber r) → IsLie liars lie
+    → IsNumber source → IsWords (stale_words lie source)
+words_of_stale liars lie source small is number =
+    let (liar, (height, (phase, others))) = words_of_lie liars lie small is in
+    (liar, (height, (phase, (IsWord-number_text source number, others))))
+
 -- the words of a step
 pub words_of_command : (liars : List ℕ) → ((r : ℕ) → Contains liars r → IsNumber r) → (c : Command) → IsCommand liars c
     → IsWords (command_words c)
@@ -188,4 +203,6 @@ words_of_command liars small command.Silent is = (seen_word (codes "silent") ref
 words_of_command liars small command.Round is = (seen_word (codes "round") refl, tt)
 words_of_command liars small (command.LieReport lie) is = (seen_word (codes "lie-report") refl, words_of_lie liars lie small is)
 words_of_command liars small (command.LieLock lie) is = (seen_word (codes "lie-lock") refl, words_of_lie liars lie small is)
+words_of_command liars small (command.LieStale lie source) (is, above, number) =
+    (seen_word (codes "lie-stale") refl, words_of_stale liars lie source small is number)
 words_of_command liars small (command.LieAck lie) is = (seen_word (codes "lie-ack") refl, words_of_lie liars lie small is)

@@ -15,7 +15,7 @@ use Rattle.scenario_texts.specs.Lawful.{IsNumber, IsLie, IsCommand}
 use Rattle.scenario_texts.specs.Texts.{lie_words, command_words}
 use Rattle.scenario_texts.specs.Reading.{keyword_among, all_keywords, keyword_of, number_of, positive_of, one_number, two_numbers}
 use Rattle.scenario_texts.specs.Reading.{three_numbers, optional_bytes, optional_hex, batch_of, towards_of, liar_of, lie_at, lie_of}
-use Rattle.scenario_texts.specs.Reading.{submit_of, inject_of, query_of, propose_of, retire_of, pass_of, simple_of, lying_of, command_of}
+use Rattle.scenario_texts.specs.Reading.{submit_of, inject_of, query_of, propose_of, retire_of, pass_of, simple_of, stale_of, lying_of, command_of}
 use Rattle.scenario_texts.specs.declared.keyword.Keyword.{Keyword}
 use Rattle.scenario_texts.specs.declared.keyword.Keyword.TheVariants as keyword
 use Rattle.scenario_texts.specs.declared.command.Towards.{Towards}
@@ -48,6 +48,7 @@ keyword_of-again keyword.Silent = refl
 keyword_of-again keyword.Round = refl
 keyword_of-again keyword.LieReport = refl
 keyword_of-again keyword.LieLock = refl
+keyword_of-again keyword.LieStale = refl
 keyword_of-again keyword.LieAck = refl
 
 -- the keyword found is the word
@@ -228,6 +229,28 @@ pass_of-sound liars fields c e =
     let spelled = three_numbers-sound fields n.0 n.1 n.2 read in
     subst (λ (x : Command). Says liars (codes "pass") fields x) equal (ap (λ f. codes "pass" ∷ f) spelled.0, spelled.1)
 
+-- a lie whose proof has the reports of another phase
+stale_of-sound : (liars : List ℕ) (fields : List (List ℕ)) (c : Command) → stale_of liars fields ≡ Some c
+    → Says liars (codes "lie-stale") fields c
+unfolding stale_of
+stale_of-sound liars (l ∷ h ∷ k ∷ j ∷ b ∷ t ∷ []) c e =
+    let read = lie_of liars (l ∷ h ∷ k ∷ b ∷ t ∷ []) in
+    let (source, (first, more)) =
+    bind_some (λ n. option_and_then (λ lie. Some (command.LieStale lie n)) read) (positive_of j) c e in
+    let (lie, (second, same)) = bind_some (λ x. Some (command.LieStale x source)) read c more in
+    let number = positive_of-sound j source first in
+    let spelled = lie_of-sound liars (l ∷ h ∷ k ∷ b ∷ t ∷ []) lie second in
+    let equal : command.LieStale lie source ≡ c = cc in
+    subst (λ (x : Command). Says liars (codes "lie-stale") (l ∷ h ∷ k ∷ j ∷ b ∷ t ∷ []) x) equal
+    (cc (number.0, spelled.0), (spelled.1, number.1.0, number.1.1))
+stale_of-sound liars [] c e = absurd cc
+stale_of-sound liars (l ∷ []) c e = absurd cc
+stale_of-sound liars (l ∷ h ∷ []) c e = absurd cc
+stale_of-sound liars (l ∷ h ∷ k ∷ []) c e = absurd cc
+stale_of-sound liars (l ∷ h ∷ k ∷ j ∷ []) c e = absurd cc
+stale_of-sound liars (l ∷ h ∷ k ∷ j ∷ b ∷ []) c e = absurd cc
+stale_of-sound liars (l ∷ h ∷ k ∷ j ∷ b ∷ t ∷ x ∷ fields) c e = absurd cc
+
 -- a step of one number
 single_sound : (liars : List ℕ) (head : List ℕ) (make : ℕ → Command) → ((n : ℕ) → command_words (make n) ≡ head ∷ number_text n ∷ [])
     → ((n : ℕ) → IsNumber n → IsCommand liars (make n))
@@ -260,6 +283,7 @@ command_of-sound liars keyword.LieReport fields c e =
     lying_sound liars (codes "lie-report") command.LieReport (λ lie. refl) (λ lie is. is) fields c e
 command_of-sound liars keyword.LieLock fields c e =
     lying_sound liars (codes "lie-lock") command.LieLock (λ lie. refl) (λ lie is. is) fields c e
+command_of-sound liars keyword.LieStale fields c e = stale_of-sound liars fields c e
 command_of-sound liars keyword.LieAck fields c e =
     lying_sound liars (codes "lie-ack") command.LieAck (λ lie. refl) (λ lie is. is) fields c e
 command_of-sound liars keyword.End fields c e = single_sound liars (codes "end") command.End (λ n. refl) (λ n small. small) fields c e

@@ -241,6 +241,7 @@ keyword_shows None keyword.Silent fields q lines e shows = absurd cc
 keyword_shows None keyword.Round fields q lines e shows = absurd cc
 keyword_shows None keyword.LieReport fields q lines e shows = absurd cc
 keyword_shows None keyword.LieLock fields q lines e shows = absurd cc
+keyword_shows None keyword.LieStale fields q lines e shows = absurd cc
 keyword_shows None keyword.LieAck fields q lines e shows = absurd cc
 keyword_shows (Some p) keyword.Config fields q lines e shows = absurd cc
 keyword_shows (Some p) keyword.Keys fields q lines e shows = with_keys_shows p fields q lines e shows
@@ -258,6 +259,7 @@ keyword_shows (Some p) keyword.Silent fields q lines e shows = with_command_show
 keyword_shows (Some p) keyword.Round fields q lines e shows = with_command_shows p keyword.Round fields q lines e shows
 keyword_shows (Some p) keyword.LieReport fields q lines e shows = with_command_shows p keyword.LieReport fields q lines e shows
 keyword_shows (Some p) keyword.LieLock fields q lines e shows = with_command_shows p keyword.LieLock fields q lines e shows
+keyword_shows (Some p) keyword.LieStale fields q lines e shows = with_command_shows p keyword.LieStale fields q lines e shows
 keyword_shows (Some p) keyword.LieAck fields q lines e shows = with_command_shows p keyword.LieAck fields q lines e shows
 
 -- by its words

@@ -46,6 +46,7 @@ IsCommand liars command.Silent = Unit {0}
 IsCommand liars command.Round = Unit {0}
 IsCommand liars (command.LieReport lie) = IsLie liars lie
 IsCommand liars (command.LieLock lie) = IsLie liars lie
+IsCommand liars (command.LieStale lie source) = IsLie liars lie × (1 ≤ source) × IsNumber source
 IsCommand liars (command.LieAck lie) = IsLie liars lie
 
 -- the size of the cluster is allowed, and at most as many replicas lie as may, each named once

@@ -42,7 +42,7 @@ abbrev pub all_keywords : List Keyword
 all_keywords =
     keyword.Config ∷ keyword.Keys ∷ keyword.Liar ∷ keyword.Submit ∷ keyword.Propose ∷ keyword.End ∷ keyword.Pass ∷ keyword.Inject
     ∷ keyword.Execute ∷ keyword.Query ∷ keyword.Retire ∷ keyword.Info ∷ keyword.Silent ∷ keyword.Round ∷ keyword.LieReport
-    ∷ keyword.LieLock ∷ keyword.LieAck ∷ []
+    ∷ keyword.LieLock ∷ keyword.LieStale ∷ keyword.LieAck ∷ []
 
 -- the keyword that the word is
 unfoldable pub keyword_of : List ℕ → Option Keyword
@@ -242,6 +242,14 @@ simple_of keyword.Silent [] = Some command.Silent
 simple_of keyword.Round [] = Some command.Round
 simple_of _ _ = None
 
+-- a lie whose proof has the reports of another phase
+unfoldable pub stale_of : List ℕ → List (List ℕ) → Option Command
+stale_of liars (l ∷ h ∷ k ∷ j ∷ b ∷ t ∷ []) = do
+  source ← positive_of j
+  lie ← lie_of liars (l ∷ h ∷ k ∷ b ∷ t ∷ [])
+  Some (command.LieStale lie source)
+stale_of liars _ = None
+
 -- a lie
 unfoldable pub lying_of : List ℕ → Keyword → List (List ℕ) → Option Command
 lying_of liars keyword.LieReport fields = option_map command.LieReport (lie_of liars fields)
@@ -259,6 +267,7 @@ command_of liars keyword.Query fields = query_of fields
 command_of liars keyword.Retire fields = retire_of fields
 command_of liars keyword.LieReport fields = lying_of liars keyword.LieReport fields
 command_of liars keyword.LieLock fields = lying_of liars keyword.LieLock fields
+command_of liars keyword.LieStale fields = stale_of liars fields
 command_of liars keyword.LieAck fields = lying_of liars keyword.LieAck fields
 command_of liars k fields = simple_of k fields
 

@@ -43,6 +43,12 @@ towards_text All = codes "all"
 abbrev pub lie_words : Lie → List (List ℕ)
 lie_words lie = number_text lie.liar ∷ number_text lie.height ∷ number_text lie.phase ∷ batch_text lie.batch ∷ towards_text lie.to ∷ []
 
+-- the words of a lie whose proof has the reports of another phase
+abbrev pub stale_words : Lie → ℕ → List (List ℕ)
+stale_words lie source =
+    number_text lie.liar ∷ number_text lie.height ∷ number_text lie.phase ∷ number_text source ∷ batch_text lie.batch
+    ∷ towards_text lie.to ∷ []
+
 -- the words of a command
 abbrev pub command_words : Command → List (List ℕ)
 command_words (command.Submit replica bytes) = codes "submit" ∷ number_text replica ∷ bytes_words bytes
@@ -58,6 +64,7 @@ command_words command.Silent = codes "silent" ∷ []
 command_words command.Round = codes "round" ∷ []
 command_words (command.LieReport lie) = codes "lie-report" ∷ lie_words lie
 command_words (command.LieLock lie) = codes "lie-lock" ∷ lie_words lie
+command_words (command.LieStale lie source) = codes "lie-stale" ∷ stale_words lie source
 command_words (command.LieAck lie) = codes "lie-ack" ∷ lie_words lie
 
 -- the line of a command

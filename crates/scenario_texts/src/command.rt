@@ -56,6 +56,8 @@ pub enum Command {
     LieReport(Lie),
     /// `lie-lock L H K BATCH TO`
     LieLock(Lie),
+    /// `lie-stale L H K J BATCH TO`: a lock whose proof has reports of the phase J, at least 1.
+    LieStale { lie: Lie, source: Phase },
     /// `lie-ack L H K BATCH TO`
     LieAck(Lie),
 }

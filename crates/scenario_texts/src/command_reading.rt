@@ -1,6 +1,6 @@
 //! Reads the commands of a scenario, one from each line.
 ghost use Rattle.std.specs.Prelude.{◌≡◌, ◌==◌, map, IfOk};
-ghost use Rattle.scenario_texts.specs.Reading.{liar_of, lie_of, submit_of, inject_of, query_of, propose_of, retire_of, pass_of, simple_of, lying_of, command_of};
+ghost use Rattle.scenario_texts.specs.Reading.{liar_of, lie_of, submit_of, inject_of, query_of, propose_of, retire_of, pass_of, simple_of, stale_of, lying_of, command_of};
 
 use crate::batch::batch;
 use crate::command::{Command, Lie};
@@ -53,6 +53,26 @@ fn lie(alloc: Global, liars: &[ReplicaId], fields: &[&str]) -> Result<Option<Lie
         phase: Phase::new(phase),
         batch,
         to,
+    }))
+}
+
+/// `lie-stale L H K J BATCH TO`
+#[tactic(auto, unfolding(crate::specs::Reading::stale_of))]
+fn stale(alloc: Global, liars: &[ReplicaId], fields: &[&str]) -> Result<Option<Command>, AllocError>
+    ensures { IfOk result (λ found. found ≡ stale_of liars.now (map (λ field. field.now) fields.now)) }
+{
+    let [who, height, phase, source, what, to] = fields else {
+        return Ok(None);
+    };
+    let Some(source) = positive(source) else {
+        return Ok(None);
+    };
+    let Some(lie) = lie(alloc, liars, &[*who, *height, *phase, *what, *to])? else {
+        return Ok(None);
+    };
+    Ok(Some(Command::LieStale {
+        lie,
+        source: Phase::new(source),
     }))
 }
 
@@ -207,6 +227,7 @@ pub(crate) fn command(
         Keyword::LieReport | Keyword::LieLock | Keyword::LieAck => {
             lying(alloc, liars, keyword, fields)
         }
+        Keyword::LieStale => stale(alloc, liars, fields),
         _ => Ok(simple(keyword, fields)),
     }
 }

@@ -22,6 +22,7 @@ pub(crate) enum Keyword {
     Round,
     LieReport,
     LieLock,
+    LieStale,
     LieAck,
 }
 
@@ -47,6 +48,7 @@ pub(crate) fn keyword_of(word: &str) -> Option<Keyword>
         "round" => Some(Keyword::Round),
         "lie-report" => Some(Keyword::LieReport),
         "lie-lock" => Some(Keyword::LieLock),
+        "lie-stale" => Some(Keyword::LieStale),
         "lie-ack" => Some(Keyword::LieAck),
         _ => None,
     }

@@ -4,12 +4,14 @@
 mod audit;
 mod cluster;
 mod deliver;
+mod draw;
 mod sign;
 mod simulate;
 
 pub use audit::{AuditSettings, Receipt};
 pub use cluster::{ClusterSettings, ServeSettings};
 pub use deliver::DeliverSettings;
+pub use draw::DrawSettings;
 pub use sign::{SignSettings, What};
 pub use simulate::SimulateSettings;
 
@@ -22,4 +24,5 @@ pub enum Settings {
     Cluster(ClusterSettings),
     Serve(ServeSettings),
     Audit(AuditSettings),
+    Draw(DrawSettings),
 }

@@ -20,33 +20,33 @@ use Rattle.ledger_model.proofs.Lists.{none_if_not_some}
 
 -- ---- one frame
 
-kept : (l : Lie) (r : ℕ) (o : Option SignedReport) → slice_get (filter (serves l r) (cons_option o [])) 0 ≡ if_serves l r o
-kept l r None = refl
-kept l r (Some s) = elim (serves l r s) as (λ b. slice_get (cond b (s ∷ []) []) 0 ≡ cond b (Some s) None) [ true ↦ refl | false ↦ refl ]
+kept : (l : Lie) (k r : ℕ) (o : Option SignedReport) → slice_get (filter (serves l k r) (cons_option o [])) 0 ≡ if_serves l k r o
+kept l k r None = refl
+kept l k r (Some s) = elim (serves l k r s) as (λ b. slice_get (cond b (s ∷ []) []) 0 ≡ cond b (Some s) None) [ true ↦ refl | false ↦ refl ]
 
-of_one : (l : Lie) (r : ℕ) (bytes : List ℕ) → first_serving l r (bytes ∷ []) ≡ if_serves l r (report_in bytes)
+of_one : (l : Lie) (k r : ℕ) (bytes : List ℕ) → first_serving l k r (bytes ∷ []) ≡ if_serves l k r (report_in bytes)
 unfolding first_serving
-of_one l r bytes = kept l r (report_in bytes)
+of_one l k r bytes = kept l k r (report_in bytes)
 
 -- of the one frame that bytes are
-pub of_frame : (l : Lie) (r : ℕ) (bytes : List ℕ) (frame : SignedStatement) → reading bytes ≡ Some frame
-    → if_serves l r (report_of frame) ≡ first_serving l r (bytes ∷ [])
-of_frame l r bytes frame reads = ap (λ o. if_serves l r (option_and_then report_of o)) (sym reads) ∙ sym (of_one l r bytes)
+pub of_frame : (l : Lie) (k r : ℕ) (bytes : List ℕ) (frame : SignedStatement) → reading bytes ≡ Some frame
+    → if_serves l k r (report_of frame) ≡ first_serving l k r (bytes ∷ [])
+of_frame l k r bytes frame reads = ap (λ o. if_serves l k r (option_and_then report_of o)) (sym reads) ∙ sym (of_one l k r bytes)
 
 -- of bytes that are no frame there is none
-pub of_no_frame : (l : Lie) (r : ℕ) (bytes : List ℕ) → reading bytes ≡ None → None ≡ first_serving l r (bytes ∷ [])
-of_no_frame l r bytes reads = ap (λ o. if_serves l r (option_and_then report_of o)) (sym reads) ∙ sym (of_one l r bytes)
+pub of_no_frame : (l : Lie) (k r : ℕ) (bytes : List ℕ) → reading bytes ≡ None → None ≡ first_serving l k r (bytes ∷ [])
+of_no_frame l k r bytes reads = ap (λ o. if_serves l k r (option_and_then report_of o)) (sym reads) ∙ sym (of_one l k r bytes)
 
 -- ---- frames, and those behind them
 
-abbrev serving_of : Lie → ℕ → List (List ℕ) → List SignedReport
-serving_of l r frames = filter (serves l r) (filter_map report_in frames)
+abbrev serving_of : Lie → ℕ → ℕ → List (List ℕ) → List SignedReport
+serving_of l k r frames = filter (serves l k r) (filter_map report_in frames)
 
-serving_append : (l : Lie) (r : ℕ) (front back : List (List ℕ))
-    → serving_of l r (front ++ back) ≡ serving_of l r front ++ serving_of l r back
-serving_append l r front back =
-    ap (filter (serves l r)) (filter_map-append report_in front back)
-    ∙ filter-append (serves l r) (filter_map report_in front) (filter_map report_in back)
+serving_append : (l : Lie) (k r : ℕ) (front back : List (List ℕ))
+    → serving_of l k r (front ++ back) ≡ serving_of l k r front ++ serving_of l k r back
+serving_append l k r front back =
+    ap (filter (serves l k r)) (filter_map-append report_in front back)
+    ∙ filter-append (serves l k r) (filter_map report_in front) (filter_map report_in back)
 
 first_behind : {X : Type 0} (xs ys : List X) → slice_get xs 0 ≡ None → slice_get (xs ++ ys) 0 ≡ slice_get ys 0
 first_behind [] ys none = refl
@@ -61,40 +61,40 @@ first_before [] ys o is some = absurd (none_is_some o is some)
 first_before (x ∷ xs) ys o is some = is
 
 -- where none served before, the first is that of what comes next
-behind : (l : Lie) (r : ℕ) (front here : List (List ℕ)) → first_serving l r front ≡ None
-    → first_serving l r (front ++ here) ≡ first_serving l r here
+behind : (l : Lie) (k r : ℕ) (front here : List (List ℕ)) → first_serving l k r front ≡ None
+    → first_serving l k r (front ++ here) ≡ first_serving l k r here
 unfolding first_serving
-behind l r front here none = ap (λ reports. slice_get reports 0) (serving_append l r front here)
-    ∙ first_behind (serving_of l r front) (serving_of l r here) none
+behind l k r front here none = ap (λ reports. slice_get reports 0) (serving_append l k r front here)
+    ∙ first_behind (serving_of l k r front) (serving_of l k r here) none
 
 -- where one served before, it is that one
-before : (l : Lie) (r : ℕ) (front back : List (List ℕ)) (found : Option SignedReport) → found ≡ first_serving l r front
-    → is_some found ≡ true → found ≡ first_serving l r (front ++ back)
+before : (l : Lie) (k r : ℕ) (front back : List (List ℕ)) (found : Option SignedReport) → found ≡ first_serving l k r front
+    → is_some found ≡ true → found ≡ first_serving l k r (front ++ back)
 unfolding first_serving
-before l r front back found is some =
-    first_before (serving_of l r front) (serving_of l r back) found is some
-    ∙ ap (λ reports. slice_get reports 0) (sym (serving_append l r front back))
+before l k r front back found is some =
+    first_before (serving_of l k r front) (serving_of l k r back) found is some
+    ∙ ap (λ reports. slice_get reports 0) (sym (serving_append l k r front back))
 
 -- none served before, and what is found here is the first of all
-pub found_here : (l : Lie) (r : ℕ) (front here back frames : List (List ℕ)) (found : Option SignedReport)
-    → frames ≡ (front ++ here) ++ back → first_serving l r front ≡ None
-    → found ≡ first_serving l r here → is_some found ≡ true → found ≡ first_serving l r frames
-found_here l r front here back frames found whole none is some =
-    before l r (front ++ here) back found (is ∙ sym (behind l r front here none)) some ∙ ap (first_serving l r) (sym whole)
+pub found_here : (l : Lie) (k r : ℕ) (front here back frames : List (List ℕ)) (found : Option SignedReport)
+    → frames ≡ (front ++ here) ++ back → first_serving l k r front ≡ None
+    → found ≡ first_serving l k r here → is_some found ≡ true → found ≡ first_serving l k r frames
+found_here l k r front here back frames found whole none is some =
+    before l k r (front ++ here) back found (is ∙ sym (behind l k r front here none)) some ∙ ap (first_serving l k r) (sym whole)
 
 -- none served before, and none here
-pub none_here : (l : Lie) (r : ℕ) (front here frames : List (List ℕ)) (found : Option SignedReport) → frames ≡ front ++ here
-    → first_serving l r front ≡ None
-    → found ≡ first_serving l r here → is_some found ≡ false → first_serving l r frames ≡ None
-none_here l r front here frames found whole none is nothing =
-    ap (first_serving l r) whole ∙ behind l r front here none ∙ sym is ∙ none_if_not_some found nothing
+pub none_here : (l : Lie) (k r : ℕ) (front here frames : List (List ℕ)) (found : Option SignedReport) → frames ≡ front ++ here
+    → first_serving l k r front ≡ None
+    → found ≡ first_serving l k r here → is_some found ≡ false → first_serving l k r frames ≡ None
+none_here l k r front here frames found whole none is nothing =
+    ap (first_serving l k r) whole ∙ behind l k r front here none ∙ sym is ∙ none_if_not_some found nothing
 
 -- ---- one place after the other
 
 -- among no frames none serves
-pub among_none : (l : Lie) (r : ℕ) → first_serving l r [] ≡ None
+pub among_none : (l : Lie) (k r : ℕ) → first_serving l k r [] ≡ None
 unfolding first_serving
-among_none l r = refl
+among_none l k r = refl
 
 -- the items up to and with this one
 pub next_item : {X : Type 0} (xs : List X) (i : ℕ) (x : X) → slice_get xs i ≡ Some x → take (i + 1) xs ≡ take i xs ++ x ∷ []

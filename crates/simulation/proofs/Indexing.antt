@@ -86,68 +86,68 @@ reports_next now next front here frames is then whole =
 
 -- ---- those at the lie's height and phase
 
-at_append : (l : Lie) (r : ℕ) (xs ys : List ReportFrame) → frames_at l r (xs ++ ys) ≡ frames_at l r xs ++ frames_at l r ys
-at_append l r xs ys =
-    ap (map (λ (f : ReportFrame). f.frame)) (filter-append (is_at l r) xs ys)
-    ∙ map-append (λ (f : ReportFrame). f.frame) (filter (is_at l r) xs) (filter (is_at l r) ys)
+at_append : (l : Lie) (k r : ℕ) (xs ys : List ReportFrame) → frames_at l k r (xs ++ ys) ≡ frames_at l k r xs ++ frames_at l k r ys
+at_append l k r xs ys =
+    ap (map (λ (f : ReportFrame). f.frame)) (filter-append (is_at l k r) xs ys)
+    ∙ map-append (λ (f : ReportFrame). f.frame) (filter (is_at l k r) xs) (filter (is_at l k r) ys)
 
 -- one more report is at that height and phase
-pub at_kept : (l : Lie) (r : ℕ) (xs : List ReportFrame) (f : ReportFrame) → is_at l r f ≡ true
-    → frames_at l r (xs ++ f ∷ []) ≡ frames_at l r xs ++ f.frame ∷ []
-at_kept l r xs f is = at_append l r xs (f ∷ []) ∙ ap (λ b. frames_at l r xs ++ map (λ (x : ReportFrame). x.frame) (cond b (f ∷ []) [])) is
+pub at_kept : (l : Lie) (k r : ℕ) (xs : List ReportFrame) (f : ReportFrame) → is_at l k r f ≡ true
+    → frames_at l k r (xs ++ f ∷ []) ≡ frames_at l k r xs ++ f.frame ∷ []
+at_kept l k r xs f is = at_append l k r xs (f ∷ []) ∙ ap (λ b. frames_at l k r xs ++ map (λ (x : ReportFrame). x.frame) (cond b (f ∷ []) [])) is
 
 -- one more report is not
-pub at_left : (l : Lie) (r : ℕ) (xs : List ReportFrame) (f : ReportFrame) → is_at l r f ≡ false
-    → frames_at l r (xs ++ f ∷ []) ≡ frames_at l r xs
-at_left l r xs f other =
-    at_append l r xs (f ∷ []) ∙ ap (λ b. frames_at l r xs ++ map (λ (x : ReportFrame). x.frame) (cond b (f ∷ []) [])) other ∙ append-nil _
+pub at_left : (l : Lie) (k r : ℕ) (xs : List ReportFrame) (f : ReportFrame) → is_at l k r f ≡ false
+    → frames_at l k r (xs ++ f ∷ []) ≡ frames_at l k r xs
+at_left l k r xs f other =
+    at_append l k r xs (f ∷ []) ∙ ap (λ b. frames_at l k r xs ++ map (λ (x : ReportFrame). x.frame) (cond b (f ∷ []) [])) other ∙ append-nil _
 
 -- all of them are those so far, this one, and the others
-pub at_whole : (l : Lie) (r : ℕ) (xs : List ReportFrame) (i : ℕ) (f : ReportFrame) → take (i + 1) xs ≡ take i xs ++ f ∷ []
-    → is_at l r f ≡ true
-    → frames_at l r xs ≡ (frames_at l r (take i xs) ++ f.frame ∷ []) ++ frames_at l r (drop (i + 1) xs)
-at_whole l r xs i f upto is =
-    ap (frames_at l r) (sym (take-append-drop (i + 1) xs)) ∙ at_append l r (take (i + 1) xs) (drop (i + 1) xs)
-    ∙ ap (λ fs. fs ++ frames_at l r (drop (i + 1) xs)) (ap (frames_at l r) upto ∙ at_kept l r (take i xs) f is)
+pub at_whole : (l : Lie) (k r : ℕ) (xs : List ReportFrame) (i : ℕ) (f : ReportFrame) → take (i + 1) xs ≡ take i xs ++ f ∷ []
+    → is_at l k r f ≡ true
+    → frames_at l k r xs ≡ (frames_at l k r (take i xs) ++ f.frame ∷ []) ++ frames_at l k r (drop (i + 1) xs)
+at_whole l k r xs i f upto is =
+    ap (frames_at l k r) (sym (take-append-drop (i + 1) xs)) ∙ at_append l k r (take (i + 1) xs) (drop (i + 1) xs)
+    ∙ ap (λ fs. fs ++ frames_at l k r (drop (i + 1) xs)) (ap (frames_at l k r) upto ∙ at_kept l k r (take i xs) f is)
 
 -- the reports of the lie's height and phase have the same serving reports as all frames
-same_serving : (l : Lie) (r : ℕ) (frames : List (List ℕ))
-    → filter (serves l r) (filter_map report_in (frames_at l r (report_frames frames))) ≡ filter (serves l r) (filter_map report_in frames)
+same_serving : (l : Lie) (k r : ℕ) (frames : List (List ℕ))
+    → filter (serves l k r) (filter_map report_in (frames_at l k r (report_frames frames))) ≡ filter (serves l k r) (filter_map report_in frames)
 unfolding report_frames
-same_serving l r [] = refl
-same_serving l r (f ∷ fs) = by (report_in f) refl (same_serving l r fs)
+same_serving l k r [] = refl
+same_serving l k r (f ∷ fs) = by (report_in f) refl (same_serving l k r fs)
   where
     at : (s : SignedReport) → ReportFrame
     at s = record { signer = s.report.signer; height = s.report.height; phase = s.report.phase; frame = f }
 
     looked : List SignedReport
-    looked = filter (serves l r) (filter_map report_in (frames_at l r (filter_map (λ g. frame_of_report g (report_in g)) fs)))
+    looked = filter (serves l k r) (filter_map report_in (frames_at l k r (filter_map (λ g. frame_of_report g (report_in g)) fs)))
 
     all : List SignedReport
-    all = filter (serves l r) (filter_map report_in fs)
+    all = filter (serves l k r) (filter_map report_in fs)
 
     here : List ReportFrame
-    here = filter (is_at l r) (filter_map (λ g. frame_of_report g (report_in g)) fs)
+    here = filter (is_at l k r) (filter_map (λ g. frame_of_report g (report_in g)) fs)
 
-    kept : (s : SignedReport) (b : Bool) → is_at l r (at s) ≡ b → report_in f ≡ Some s → looked ≡ all
-        → filter (serves l r) (filter_map report_in (map (λ (x : ReportFrame). x.frame) (cond b (at s ∷ here) here)))
-        ≡ cond (serves l r s) (s ∷ all) all
-    kept s true at_it is rest = rw is (ap (λ ys. cond (serves l r s) (s ∷ ys) ys) rest)
+    kept : (s : SignedReport) (b : Bool) → is_at l k r (at s) ≡ b → report_in f ≡ Some s → looked ≡ all
+        → filter (serves l k r) (filter_map report_in (map (λ (x : ReportFrame). x.frame) (cond b (at s ∷ here) here)))
+        ≡ cond (serves l k r s) (s ∷ all) all
+    kept s true at_it is rest = rw is (ap (λ ys. cond (serves l k r s) (s ∷ ys) ys) rest)
     kept s false other is rest =
-        let no : serves l r s ≡ false = ap (λ b. b && finds s.report l.batch) other in
+        let no : serves l k r s ≡ false = ap (λ b. b && finds s.report l.batch) other in
         subst (λ b. looked ≡ cond b (s ∷ all) all) (sym no) rest
 
     by : (o : Option SignedReport) → report_in f ≡ o → looked ≡ all
-        → filter (serves l r)
-        (filter_map report_in (frames_at l r (cons_option (frame_of_report f o) (filter_map (λ g. frame_of_report g (report_in g)) fs))))
-        ≡ filter (serves l r) (cons_option o (filter_map report_in fs))
+        → filter (serves l k r)
+        (filter_map report_in (frames_at l k r (cons_option (frame_of_report f o) (filter_map (λ g. frame_of_report g (report_in g)) fs))))
+        ≡ filter (serves l k r) (cons_option o (filter_map report_in fs))
     by None is rest = rest
-    by (Some s) is rest = kept s (is_at l r (at s)) refl is rest
+    by (Some s) is rest = kept s (is_at l k r (at s)) refl is rest
 
-pub found_at : (l : Lie) (r : ℕ) (frames : List (List ℕ))
-    → first_serving l r (frames_at l r (report_frames frames)) ≡ first_serving l r frames
+pub found_at : (l : Lie) (k r : ℕ) (frames : List (List ℕ))
+    → first_serving l k r (frames_at l k r (report_frames frames)) ≡ first_serving l k r frames
 unfolding first_serving
-found_at l r frames = ap (λ reports. slice_get reports 0) (same_serving l r frames)
+found_at l k r frames = ap (λ reports. slice_get reports 0) (same_serving l k r frames)
 
 -- ---- the index of a cluster that goes on
 
@@ -216,17 +216,17 @@ index_later index c d lies is goes = record {
 -- ---- what the index finds
 
 -- of a correct replica, in the reports that it sent
-pub finds_sent : (c : WorldView) (lies : List (List ℕ)) (l : Lie) (r : ℕ) (reports : List ReportFrame)
+pub finds_sent : (c : WorldView) (lies : List (List ℕ)) (l : Lie) (k r : ℕ) (reports : List ReportFrame)
     → is_correct (world_of c).histories r ≡ true → reports ≡ report_frames (frames_sent (entries_in (world_of c) r))
-    → first_serving l r (frames_at l r reports) ≡ serving (simulation_of c lies) l r
-finds_sent c lies l r reports correct is =
-    ap (λ x. first_serving l r (frames_at l r x)) is ∙ found_at l r (frames_sent (entries_in (world_of c) r))
-    ∙ ap (λ b. first_serving l r (cond b (frames_sent (entries_in (world_of c) r)) lies)) (sym correct)
+    → first_serving l k r (frames_at l k r reports) ≡ serving (simulation_of c lies) l k r
+finds_sent c lies l k r reports correct is =
+    ap (λ x. first_serving l k r (frames_at l k r x)) is ∙ found_at l k r (frames_sent (entries_in (world_of c) r))
+    ∙ ap (λ b. first_serving l k r (cond b (frames_sent (entries_in (world_of c) r)) lies)) (sym correct)
 
 -- of a liar, in the reports that liars signed
-pub finds_signed : (c : WorldView) (lies : List (List ℕ)) (l : Lie) (r : ℕ) (reports : List ReportFrame)
+pub finds_signed : (c : WorldView) (lies : List (List ℕ)) (l : Lie) (k r : ℕ) (reports : List ReportFrame)
     → is_correct (world_of c).histories r ≡ false → reports ≡ report_frames lies
-    → first_serving l r (frames_at l r reports) ≡ serving (simulation_of c lies) l r
-finds_signed c lies l r reports liar is =
-    ap (λ x. first_serving l r (frames_at l r x)) is ∙ found_at l r lies
-    ∙ ap (λ b. first_serving l r (cond b (frames_sent (entries_in (world_of c) r)) lies)) (sym liar)
+    → first_serving l k r (frames_at l k r reports) ≡ serving (simulation_of c lies) l k r
+finds_signed c lies l k r reports liar is =
+    ap (λ x. first_serving l k r (frames_at l k r x)) is ∙ found_at l k r lies
+    ∙ ap (λ b. first_serving l k r (cond b (frames_sent (entries_in (world_of c) r)) lies)) (sym liar)

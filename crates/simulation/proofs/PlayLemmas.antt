@@ -1,5 +1,5 @@
 -- The text for a step, a round and a lie.
-use Rattle.std.proofs.Common.{◌≡◌, inl, inr, ℕ, ◌+◌, ◌-◌, ◌<◌, Bool, true, false, List, [], ◌∷◌, ◌++◌, length, take, refl, sym, ap, subst}
+use Rattle.std.proofs.Common.{◌≡◌, inl, inr, ℕ, ◌+◌, ◌<◌, Bool, true, false, List, [], ◌∷◌, ◌++◌, length, take, refl, sym, ap, subst}
 use Rattle.std.proofs.Common.{◌∙◌, append_assoc, append-nil, arith}
 use Rattle.std.specs.Prelude.{None, Result, Ok, Err, OnOk, nat_lt, get_or, slice_get, codes, MatchBool, if◌then◌else◌}
 use Rattle.std.proofs.lemmas.Bool.{ltb-true, lt-ltb}
@@ -164,28 +164,25 @@ tells_nothing l said p q before (none, same) kept =
     ([], (inr (none, all, refl), sym (append-nil before)))
 
 -- too few reports serve
-pub lock_cannot : (l : Lie) (proof : List SignedReport) (p q : SimulationView) (before after : List ℕ)
+pub lock_cannot : (l : Lie) (proof : List SignedReport) (cannot : List ℕ) (p q : SimulationView) (before after : List ℕ)
     → length proof < quorum p.cluster.config → q ≡ p
-    → after ≡ before ++ codes "lie-lock cannot\n" → (text : List ℕ) × (LiesLock l proof p text q × (after ≡ before ++ text))
-lock_cannot l proof p q before after few same is = (
-  ended (codes "lie-lock cannot"),
-  (by (nat_lt (length proof) (quorum p.cluster.config)) (lt-ltb _ _ few), is),
-)
+    → after ≡ before ++ cannot → (text : List ℕ) × (LiesLock l proof cannot p text q × (after ≡ before ++ text))
+lock_cannot l proof cannot p q before after few same is =
+    (cannot, (by (nat_lt (length proof) (quorum p.cluster.config)) (lt-ltb _ _ few), is))
   where
-    by : (b : Bool) → b ≡ true → MatchBool b ((ended (codes "lie-lock cannot") ≡ ended (codes "lie-lock cannot")) × (q ≡ p))
-        (Lies l (statement.Lock (lying_lock l proof)) p (ended (codes "lie-lock cannot")) q)
+    by : (b : Bool) → b ≡ true → MatchBool b ((cannot ≡ cannot) × (q ≡ p)) (Lies l (statement.Lock (lying_lock l proof)) p cannot q)
     by b is = rw is (refl, same)
 
 -- enough do
-pub lock_can : (l : Lie) (proof : List SignedReport) (p q : SimulationView) (before after : List ℕ)
+pub lock_can : (l : Lie) (proof : List SignedReport) (cannot : List ℕ) (p q : SimulationView) (before after : List ℕ)
     → length proof ≡ quorum p.cluster.config
     → ToldTo l (statement.Lock (lying_lock l proof)) p before after q
-    → (text : List ℕ) × (LiesLock l proof p text q × (after ≡ before ++ text))
-lock_can l proof p q before after many (text, (lies, is)) =
+    → (text : List ℕ) × (LiesLock l proof cannot p text q × (after ≡ before ++ text))
+lock_can l proof cannot p q before after many (text, (lies, is)) =
     (text, (by (nat_lt (length proof) (quorum p.cluster.config)) refl, is))
   where
     by : (b : Bool) → nat_lt (length proof) (quorum p.cluster.config) ≡ b
-        → MatchBool b ((text ≡ ended (codes "lie-lock cannot")) × (q ≡ p)) (Lies l (statement.Lock (lying_lock l proof)) p text q)
+        → MatchBool b ((text ≡ cannot) × (q ≡ p)) (Lies l (statement.Lock (lying_lock l proof)) p text q)
     by true few = absurd (omega (arith, many, ltb-true _ _ few))
     by false enough = lies
 

@@ -1,5 +1,5 @@
 -- The reports that serve in the proof of a lie's lock: whose they are, and that those of all replicas ascend.
-use Rattle.std.proofs.Common.{◌≡◌, ℕ, zero, suc, ◌+◌, ◌-◌, ◌≤◌, Bool, true, false, List, [], ◌∷◌, map, refl, sym, subst, arith}
+use Rattle.std.proofs.Common.{◌≡◌, ℕ, zero, suc, ◌+◌, ◌≤◌, Bool, true, false, List, [], ◌∷◌, map, refl, sym, subst, arith}
 use Rattle.std.specs.Prelude.{Option, Some, None, filter, slice_get}
 use Rattle.std.specs.List.{filter_map, cons_option, range_with_len}
 use Rattle.std.proofs.lemmas.Bool.{and_parts, eqb-true}
@@ -23,10 +23,10 @@ first_passes p (y ∷ ys) x is = by (p y) refl is (first_passes p ys x)
     by false passes is later = later (rw passes at is)
 
 -- what serves for a replica is its report
-pub serving_signer : (p : SimulationView) (l : Lie) (r : ℕ) (s : SignedReport) → serving p l r ≡ Some s → s.report.signer ≡ r
+pub serving_signer : (p : SimulationView) (l : Lie) (k r : ℕ) (s : SignedReport) → serving p l k r ≡ Some s → s.report.signer ≡ r
 unfolding first_serving
-serving_signer p l r s is = eqb-true _ _
-    (and_parts _ _ (and_parts _ _ (and_parts _ _ (first_passes (serves l r) (filter_map report_in (frames_of p r)) s is)).0).0).0
+serving_signer p l k r s is = eqb-true _ _
+    (and_parts _ _ (and_parts _ _ (and_parts _ _ (first_passes (serves l k r) (filter_map report_in (frames_of p r)) s is)).0).0).0
 
 -- what is found at ascending numbers, and has them as its keys, ascends
 pub found-within : {X : Type 0} (key : X → ℕ) (f : ℕ → Option X) → ((r : ℕ) (x : X) → f r ≡ Some x → key x ≡ r) → (low n high : ℕ)
@@ -44,9 +44,9 @@ found-within {X = X} key f named low (suc n) high fits = by (f low) refl (found-
         (subst (λ k. ascends_within (k + 1) high (map key (filter_map f (range_with_len (low + 1) n))) ≡ true) (sym same) rest)
 
 -- the signers of a lying lock's proof ascend
-pub proof_ascends : (p : SimulationView) (l : Lie) → p.cluster.config.replicas ≤ 256
-    → ascends_within 0 256 (signers_of (proof_for p l)) ≡ true
-proof_ascends p l fits =
-    take-within (λ (s : SignedReport). s.report.signer) (quorum p.cluster.config) 0 256 (all_serving p l)
-    (found-within (λ (s : SignedReport). s.report.signer) (serving p l) (serving_signer p l) 0 p.cluster.config.replicas 256
+pub proof_ascends : (p : SimulationView) (l : Lie) (k : ℕ) → p.cluster.config.replicas ≤ 256
+    → ascends_within 0 256 (signers_of (proof_for p l k)) ≡ true
+proof_ascends p l k fits =
+    take-within (λ (s : SignedReport). s.report.signer) (quorum p.cluster.config) 0 256 (all_serving p l k)
+    (found-within (λ (s : SignedReport). s.report.signer) (serving p l k) (serving_signer p l k) 0 p.cluster.config.replicas 256
     (omega (arith, fits)))

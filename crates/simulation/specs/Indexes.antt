@@ -25,13 +25,13 @@ frame_of_report frame (Some s) = Some (record {
 unfoldable pub report_frames : List (List ℕ) → List ReportFrame
 report_frames frames = filter_map (λ f. frame_of_report f (report_in f)) frames
 
--- the report is this replica's, and of the lie's height and phase
-abbrev pub is_at : Lie → ℕ → ReportFrame → Bool
-is_at l r f = (f.signer == r) && (f.height == l.height) && (f.phase == l.phase)
+-- the report is replica r's, at the lie's height and in phase k
+abbrev pub is_at : Lie → ℕ → ℕ → ReportFrame → Bool
+is_at l k r f = (f.signer == r) && (f.height == l.height) && (f.phase == k)
 
--- the bytes of those frames whose report is this replica's, and of the lie's height and phase
-abbrev pub frames_at : Lie → ℕ → List ReportFrame → List (List ℕ)
-frames_at l r reports = map (λ (f : ReportFrame). f.frame) (filter (is_at l r) reports)
+-- the bytes of those frames whose report is replica r's, at the lie's height and in phase k
+abbrev pub frames_at : Lie → ℕ → ℕ → List ReportFrame → List (List ℕ)
+frames_at l k r reports = map (λ (f : ReportFrame). f.frame) (filter (is_at l k r) reports)
 
 -- the list has exactly the frames of reports that the first `seen` entries of the history sent
 pub record CoversHistory (list : ReportList) (entries : List Entry) : Type 0 where

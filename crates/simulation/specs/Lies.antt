@@ -1,4 +1,5 @@
--- The statements of liars, and which reports serve in the proof of a liar's lock.
+-- The statements of liars, and which reports serve in the proof of a liar's lock. The phase of the reports is given for itself: an
+-- honest proof has reports of the lock's phase, a stale one those of another.
 use Rattle.std.specs.Prelude.{ℕ, ◌==◌, Bool, false, ◌&&◌, List, [], ◌∷◌, filter, slice_get, Option, Some, None, option_and_then}
 use Rattle.std.specs.Prelude.{if◌then◌else◌}
 use Rattle.std.specs.List.{filter_map}
@@ -27,13 +28,13 @@ lying_report l = record {
   locked = [];
 }
 
--- the report is this replica's, and serves in a proof of the lie's lock
-abbrev pub serves_report : Lie → ℕ → Report → Bool
-serves_report l r report = (report.signer == r) && (report.height == l.height) && (report.phase == l.phase) && finds report l.batch
+-- the report is replica r's, at the lie's height and in phase k, and finds its batch: it serves in a proof from phase k
+abbrev pub serves_report : Lie → ℕ → ℕ → Report → Bool
+serves_report l k r report = (report.signer == r) && (report.height == l.height) && (report.phase == k) && finds report l.batch
 
--- the signed report is this replica's, and serves in a proof of the lie's lock
-abbrev pub serves : Lie → ℕ → SignedReport → Bool
-serves l r s = serves_report l r s.report
+-- the signed report is replica r's, and serves in a proof from phase k
+abbrev pub serves : Lie → ℕ → ℕ → SignedReport → Bool
+serves l k r s = serves_report l k r s.report
 
 -- the signed report that a signed statement is, if it is one
 abbrev pub report_of : SignedStatement → Option SignedReport
@@ -48,9 +49,9 @@ abbrev pub report_in : List ℕ → Option SignedReport
 report_in frame = option_and_then report_of (reading frame)
 
 -- the report, if it is a serving report
-abbrev pub if_serves : Lie → ℕ → Option SignedReport → Option SignedReport
-if_serves l r None = None
-if_serves l r (Some s) = if serves l r s then Some s else None
+abbrev pub if_serves : Lie → ℕ → ℕ → Option SignedReport → Option SignedReport
+if_serves l k r None = None
+if_serves l k r (Some s) = if serves l k r s then Some s else None
 
 -- the frames that the entry sent; none if there is no entry
 abbrev pub frames_of : Option Entry → List (List ℕ)
@@ -58,8 +59,8 @@ frames_of None = []
 frames_of (Some e) = frames_in e.reply
 
 -- the earliest serving report of replica r among the frames
-unfoldable pub first_serving : Lie → ℕ → List (List ℕ) → Option SignedReport
-first_serving l r frames = slice_get (filter (serves l r) (filter_map report_in frames)) 0
+unfoldable pub first_serving : Lie → ℕ → ℕ → List (List ℕ) → Option SignedReport
+first_serving l k r frames = slice_get (filter (serves l k r) (filter_map report_in frames)) 0
 
 -- the lock of a liar
 abbrev pub lying_lock : Lie → List SignedReport → Lock

@@ -156,17 +156,17 @@ info_text config w r = unless (fault_at config w r)
 abbrev pub frames_of : SimulationView → ℕ → List (List ℕ)
 frames_of p r = if is_correct (world_of p.cluster).histories r then frames_sent (entries_in (world_of p.cluster) r) else p.lies
 
--- the earliest serving report of a replica
-abbrev pub serving : SimulationView → Lie → ℕ → Option SignedReport
-serving p l r = first_serving l r (frames_of p r)
+-- the earliest report of replica r in phase k that serves
+abbrev pub serving : SimulationView → Lie → ℕ → ℕ → Option SignedReport
+serving p l k r = first_serving l k r (frames_of p r)
 
 -- the serving reports, at most one for each replica, in ascending order
-abbrev pub all_serving : SimulationView → Lie → List SignedReport
-all_serving p l = filter_map (serving p l) (range_with_len 0 p.cluster.config.replicas)
+abbrev pub all_serving : SimulationView → Lie → ℕ → List SignedReport
+all_serving p l k = filter_map (serving p l k) (range_with_len 0 p.cluster.config.replicas)
 
 -- as many of them as a proof has
-abbrev pub proof_for : SimulationView → Lie → List SignedReport
-proof_for p l = take (quorum p.cluster.config) (all_serving p l)
+abbrev pub proof_for : SimulationView → Lie → ℕ → List SignedReport
+proof_for p l k = take (quorum p.cluster.config) (all_serving p l k)
 
 -- the replicas that a lie goes to
 abbrev pub lie_receivers : WorldView → Towards → List ℕ
@@ -206,11 +206,11 @@ Lies l said p text q =
     ((given : Result (List ℕ) SignFault) × Tells l said p given text q)
     ⊎ ((liar_at p.cluster l.liar ≡ None) × (q ≡ p) × (text ≡ []))
 
--- a liar tells a lock with this proof, if there are enough serving reports
-abbrev pub LiesLock : Lie → List SignedReport → SimulationView → List ℕ → SimulationView → Type 0
-LiesLock l proof p text q =
+-- a liar tells a lock with this proof, if there are enough serving reports; otherwise the text is that it cannot
+abbrev pub LiesLock : Lie → List SignedReport → List ℕ → SimulationView → List ℕ → SimulationView → Type 0
+LiesLock l proof cannot p text q =
     MatchBool (nat_lt (length proof) (quorum p.cluster.config))
-    ((text ≡ ended (codes "lie-lock cannot")) × (q ≡ p))
+    ((text ≡ cannot) × (q ≡ p))
     (Lies l (statement.Lock (lying_lock l proof)) p text q)
 
 -- ---- commands
@@ -242,7 +242,8 @@ PlaysOther p (command.Info r) text q = (text ≡ info_text p.cluster.config (wor
 PlaysOther p command.Silent text q = PlaysSilent p text q
 PlaysOther p command.Round text q = PlaysRound p.cluster text q.cluster × (q.lies ≡ p.lies)
 PlaysOther p (command.LieReport l) text q = Lies l (statement.Report (lying_report l)) p text q
-PlaysOther p (command.LieLock l) text q = LiesLock l (proof_for p l) p text q
+PlaysOther p (command.LieLock l) text q = LiesLock l (proof_for p l l.phase) (ended (codes "lie-lock cannot")) p text q
+PlaysOther p (command.LieStale l k) text q = LiesLock l (proof_for p l k) (ended (codes "lie-stale cannot")) p text q
 PlaysOther p (command.LieAck l) text q = Lies l (statement.Ack (lying_ack l)) p text q
 PlaysOther p _ text q = ⊥
 

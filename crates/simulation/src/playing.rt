@@ -78,7 +78,10 @@ impl<A: Application> Simulation<A> {
             Command::Silent => self.play_silent(out),
             Command::Round => self.play_round(out),
             Command::LieReport(lie) => self.tell_report(lie, out),
-            Command::LieLock(lie) => self.tell_lock(lie, out),
+            Command::LieLock(lie) => self.tell_lock(lie, lie.phase, "lie-lock cannot\n", out),
+            Command::LieStale { lie, source } => {
+                self.tell_lock(lie, *source, "lie-stale cannot\n", out)
+            }
             Command::LieAck(lie) => self.tell_ack(lie, out),
             _ => unreachable!(),
         }

@@ -10,7 +10,7 @@ use crate::report_list::ReportList;
 use abci::Application;
 use adversary_net::World;
 use bytes::Bytes;
-use ledger_model::{ReplicaId, SignedReport};
+use ledger_model::{Phase, ReplicaId, SignedReport};
 use scenario_texts::Lie;
 use std::alloc::{AllocError, Global};
 
@@ -50,18 +50,19 @@ fn make_list(alloc: Global, index: &mut ReportIndex, replica: u8) -> Result<(), 
     Ok(())
 }
 
-/// The earliest serving report of a replica.
+/// The earliest serving report of a replica in the source phase.
 fn serving<A: Application>(
     alloc: Global,
     index: &mut ReportIndex,
     world: &World<A>,
     lies: &[Bytes],
     lie: &Lie,
+    source: Phase,
     replica: u8,
 ) -> Result<Option<SignedReport>, AllocError>
     requires index { IsIndexOf index.old world.now lies.now }
     requires next { replica ≤ length index.old.sent.items }
-    ensures found { IfOk result (λ found. found ≡ serving (simulation_of world.now lies.now) lie.now replica) }
+    ensures found { IfOk result (λ found. found ≡ serving (simulation_of world.now lies.now) lie.now source replica) }
     ensures spelled { IfOk result (λ found. IfSome found (λ signed. IsSigned signed)) }
     ensures made { OnOk result (replica + 1 ≤ length index.new.sent.items) }
     ensures index { IsIndexOf index.new world.now lies.now }
@@ -72,16 +73,16 @@ fn serving<A: Application>(
         Some(state) => {
             let list = &mut index.sent[usize::from(replica)];
             list.follow_history(alloc, state)?;
-            list.first_serving(alloc, lie, id)
+            list.first_serving(alloc, lie, source, id)
         }
         None => {
             index.lies.follow_frames(alloc, lies)?;
-            index.lies.first_serving(alloc, lie, id)
+            index.lies.first_serving(alloc, lie, source, id)
         }
     }
 }
 
-/// The serving reports, at most one for each replica, in ascending order.
+/// The serving reports of the source phase, at most one for each replica, in ascending order.
 ///
 /// The only error is allocation failure.
 pub(crate) fn all_serving<A: Application>(
@@ -90,15 +91,16 @@ pub(crate) fn all_serving<A: Application>(
     world: &World<A>,
     lies: &[Bytes],
     lie: &Lie,
+    source: Phase,
 ) -> Result<Vec<SignedReport>, AllocError>
     requires index { IsIndexOf index.old world.now lies.now }
-    ensures found { IfOk result (λ found. found.items ≡ all_serving (simulation_of world.now lies.now) lie.now) }
+    ensures found { IfOk result (λ found. found.items ≡ all_serving (simulation_of world.now lies.now) lie.now source) }
     ensures spelled { IfOk result (λ found. AllByRecursion IsSigned found.items) }
     ensures index { IsIndexOf index.new world.now lies.now }
 {
     let mut reports = Vec::new(alloc);
     for replica in 0..world.config().replicas {
-        if let Some(report) = serving(alloc, index, world, lies, lie, replica)? {
+        if let Some(report) = serving(alloc, index, world, lies, lie, source, replica)? {
             reports.push(report)?;
         }
     }

@@ -46,11 +46,11 @@ pub(crate) struct ReportList {
 impl ReportFrame {
     ghost use Rattle.simulation.specs.Indexes.{is_at};
 
-    /// Whether the report is this replica's, and of the lie's height and phase.
-    fn is_at(&self, lie: &Lie, replica: ReplicaId) -> bool
-        ensures { result ≡ is_at lie.now replica self.now }
+    /// Whether the report is this replica's, at the lie's height and in the source phase.
+    fn is_at(&self, lie: &Lie, source: Phase, replica: ReplicaId) -> bool
+        ensures { result ≡ is_at lie.now source replica self.now }
     {
-        self.signer == replica && self.height == lie.height && self.phase == lie.phase
+        self.signer == replica && self.height == lie.height && self.phase == source
     }
 }
 
@@ -214,21 +214,22 @@ impl ReportList {
         }
     }
 
-    /// The first report that serves in a proof of the lie's lock. Only reports of the lie's height and phase are parsed.
+    /// The first report that serves in a proof of the lie's lock. Only reports of the lie's height and the source phase are parsed.
     ///
     /// The only error is allocation failure.
     pub(crate) fn first_serving(
         &self,
         alloc: Global,
         lie: &Lie,
+        source: Phase,
         replica: ReplicaId,
     ) -> Result<Option<SignedReport>, AllocError>
-        ensures found { IfOk result (λ found. found ≡ first_serving lie.now replica (frames_at lie.now replica self.now.reports.items)) }
+        ensures found { IfOk result (λ found. found ≡ first_serving lie.now source replica (frames_at lie.now source replica self.now.reports.items)) }
         ensures spelled { IfOk result (λ found. IfSome found (λ signed. IsSigned signed)) }
     {
         for report in &self.reports {
-            if report.is_at(lie, replica) {
-                let found = serving_bytes(alloc, lie, replica, &report.frame)?;
+            if report.is_at(lie, source, replica) {
+                let found = serving_bytes(alloc, lie, source, replica, &report.frame)?;
                 if found.is_some() {
                     return Ok(found);
                 }

@@ -1,22 +1,22 @@
-//! The reports that serve in the proof of a liar's lock: those of its height and phase that find its value.
+//! The reports that serve in the proof of a liar's lock: those of its height and of one phase that find its value.
 ghost use Rattle.std.specs.Prelude.{◌≡◌, ◌∷◌, [], IfOk, IfSome};
 ghost use Rattle.ledger_model.specs.Spelling.{IsSigned};
 ghost use Rattle.simulation.specs.Lies.{serves_report, report_of, if_serves, first_serving};
 
 use bytes::Bytes;
-use ledger_model::{ReplicaId, Report, Signature, SignedReport, Statement};
+use ledger_model::{Phase, ReplicaId, Report, Signature, SignedReport, Statement};
 use scenario_texts::Lie;
 use signed_frames::Frame;
 use statements::DecodeFault;
 use std::alloc::{AllocError, Global};
 
-/// Whether the replica's report serves in a proof of the lie's lock.
-fn serves(lie: &Lie, replica: ReplicaId, report: &Report) -> bool
-    ensures { result ≡ serves_report lie.now replica report.now }
+/// Whether the report is the replica's, and serves in a proof that has reports of the source phase.
+fn serves(lie: &Lie, source: Phase, replica: ReplicaId, report: &Report) -> bool
+    ensures { result ≡ serves_report lie.now source replica report.now }
 {
     report.signer == replica
         && report.height == lie.height
-        && report.phase == lie.phase
+        && report.phase == source
         && report.finds(&lie.batch)
 }
 
@@ -24,14 +24,15 @@ fn serves(lie: &Lie, replica: ReplicaId, report: &Report) -> bool
 fn serving_in(
     alloc: Global,
     lie: &Lie,
+    source: Phase,
     replica: ReplicaId,
     frame: &Frame,
 ) -> Result<Option<SignedReport>, AllocError>
-    ensures found { IfOk result (λ found. found ≡ if_serves lie.now replica (report_of frame.now)) }
+    ensures found { IfOk result (λ found. found ≡ if_serves lie.now source replica (report_of frame.now)) }
     ensures spelled { IfOk result (λ found. IfSome found (λ signed. IsSigned signed)) }
 {
     match frame.statement() {
-        Statement::Report(report) if serves(lie, replica, report) => {
+        Statement::Report(report) if serves(lie, source, replica, report) => {
             let signature = Signature::new(Vec::from_slice(alloc, frame.signature())?);
             Ok(Some(SignedReport {
                 report: report.copy()?,
@@ -46,14 +47,15 @@ fn serving_in(
 pub(crate) fn serving_bytes(
     alloc: Global,
     lie: &Lie,
+    source: Phase,
     replica: ReplicaId,
     bytes: &Bytes,
 ) -> Result<Option<SignedReport>, AllocError>
-    ensures found { IfOk result (λ found. found ≡ first_serving lie.now replica (bytes.now ∷ [])) }
+    ensures found { IfOk result (λ found. found ≡ first_serving lie.now source replica (bytes.now ∷ [])) }
     ensures spelled { IfOk result (λ found. IfSome found (λ signed. IsSigned signed)) }
 {
     match Frame::parse(alloc, bytes.clone()?) {
-        Ok(frame) => serving_in(alloc, lie, replica, &frame),
+        Ok(frame) => serving_in(alloc, lie, source, replica, &frame),
         Err(DecodeFault::Malformed) => Ok(None),
         Err(DecodeFault::NoMemory) => Err(AllocError),
     }

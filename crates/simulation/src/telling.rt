@@ -8,7 +8,7 @@ use crate::said::{ack_of, lock_of, report_of};
 use crate::signing::{Signing, signing_of};
 use crate::simulation::Simulation;
 use abci::Application;
-use ledger_model::{ReplicaId, Statement, WorldStep};
+use ledger_model::{Phase, ReplicaId, Statement, WorldStep};
 use reply_lines::Text;
 use scenario_texts::{Lie, Towards};
 use signed_frames::{Frame, UnsignedFrame};
@@ -133,14 +133,22 @@ impl<A: Application> Simulation<A> {
         self.tell(lie, Statement::Ack(ack), out)
     }
 
-    /// Lets a liar sign a lock, if the reports so far make a proof for it.
+    /// Lets a liar sign a lock, if the reports of the source phase so far make a proof for it. Otherwise the line is that it
+    /// cannot.
     #[tactic(auto, using(crate::proofs::StepLemmas::stays))]
-    pub(crate) fn tell_lock(&mut self, lie: &Lie, out: &mut Text) -> Result<(), AllocError>
-        ensures done { OnOk result ((text : List ℕ) × (LiesLock lie.now (proof_for self.old lie.now) self.old text self.new × (out.new ≡ out.old ++ text))) }
+    pub(crate) fn tell_lock(
+        &mut self,
+        lie: &Lie,
+        source: Phase,
+        cannot: &str,
+        out: &mut Text,
+    ) -> Result<(), AllocError>
+        ensures done { OnOk result ((text : List ℕ)
+            × (LiesLock lie.now (proof_for self.old lie.now source) cannot.now self.old text self.new × (out.new ≡ out.old ++ text))) }
         ensures goes_on { GoesOn self.old.cluster self.new.cluster }
     {
-        let Some(proof) = self.proof(lie)? else {
-            return out.add("lie-lock cannot\n");
+        let Some(proof) = self.proof(lie, source)? else {
+            return out.add(cannot);
         };
         let lock = lock_of(lie, proof)?;
         self.tell(lie, Statement::Lock(lock), out)

@@ -11,7 +11,7 @@ use Rattle.ledger_model.specs.declared.statement.SignedReport.{SignedReport}
 use Rattle.ledger_model.specs.Notes.{Has}
 use Rattle.ledger_model.specs.Values.{Value, same_value}
 use Rattle.ledger_model.proofs.Lists.{any_has, has_any, has_cases, has_left, has_right, has_map, any_mapped, same_value-refl}
-use Rattle.ledger_model.proofs.Lists.{same_value-equal}
+use Rattle.ledger_model.proofs.Lists.{same_value-equal, has_index}
 use Rattle.tally.specs.Tallies.{Places, read_of, count_where}
 use Rattle.tally.specs.Masks.{mask_of}
 use Rattle.tally.specs.ReportMasks.{values_within, begins_with, lists_proper, lists_lock, value_at, value_of, is_of, is_numbered}
@@ -38,33 +38,6 @@ lock_within v s e =
     let found = any_has (same_value v) s.report.locked e in
     inr (has_right s.report.proper s.report.locked v
     (subst (λ x. Has s.report.locked x) (sym (same_value-equal v found.0 found.1.1)) found.1.0))
-
--- an element of a list is at an index
-has_index : {X : Type 0} (xs : List X) (x : X) → Has xs x → (i : ℕ) × ((i < length xs) × (slice_get xs i ≡ Some x))
-has_index [] x h = absurd h
-has_index (y ∷ ys) x (inl here) = (0, (omega arith, ap Some here))
-has_index (y ∷ ys) x (inr later) = let r = has_index ys x later in (suc r.0, (omega (arith, r.1.0), r.1.1))
-
--- what a list of options gives comes from an element
-pub filter_map_has : {X Y : Type 0} (f : X → Option Y) (xs : List X) (y : Y) → Has (filter_map f xs) y → (x : X) × (Has xs x × (f x
-    ≡ Some y))
-filter_map_has f [] y h = absurd h
-filter_map_has {X = X} {Y = Y} f (x ∷ xs) y h = at (f x) refl (filter_map_has f xs y)
-  where
-    at : (o : Option Y) → f x ≡ o → (Has (filter_map f xs) y → (z : X) × (Has xs z × (f z ≡ Some y)))
-        → (z : X) × (Has (x ∷ xs) z × (f z ≡ Some y))
-    at None none rest =
-        let found = rest (subst (λ o. Has (cons_option o (filter_map f xs)) y) none h) in (found.0, (inr found.1.0, found.1.1))
-    at (Some z) some rest = elim (subst (λ o. Has (cons_option o (filter_map f xs)) y) some h) [
-      | inl here ↦ (x, (inl refl, some ∙ ap Some here))
-      | inr later ↦ (let found = rest later in (found.0, (inr found.1.0, found.1.1)))
-    ]
-
--- what is at an index of a list is one of it
-pub there_at : {X : Type 0} (xs : List X) (i : ℕ) (x : X) → i < length xs → x ≡ get_or xs i x → Has xs x
-there_at [] i x below is = absurd (omega arith)
-there_at (y ∷ ys) zero x below is = inl (sym is)
-there_at (y ∷ ys) (suc i) x below is = inr (there_at ys i x (omega arith) is)
 
 -- ---- numbers
 

@@ -1,27 +1,63 @@
+use Rattle.std.proofs.Common.{inl, inr}
 use Rattle.byte_streams.proofs.Faults.{on_error}
-use Rattle.byte_streams.proofs.WritingLemmas.{all_some}
-use Rattle.cluster_service.specs.Reporting.{port_line}
-use Rattle.cluster_service.proofs.ReportingLemmas.{nothing_served, port_first, port_some}
+use Rattle.byte_streams.proofs.WritingLemmas.{all_some, nothing_some}
+use Rattle.cluster_service.specs.Reporting.{bytes_in, port_line}
+use Rattle.cluster_service.specs.RunFaults.{EndsServer, IsReportFault}
+use Rattle.cluster_service.proofs.ReportingLemmas.{nothing_served, of_each, passed, port_first, port_some}
 use Rattle.cluster_service.proofs.subcommands.serve.Goals as goal
 
-pub returns-in_err-stop : goal.returns-in_err-stop
-returns-in_err-stop g c = on_error _ _ c.from_residual.ensures.0 (nothing_served c.args.settings.now (g.W.Write.contents c.args.writer.now))
+pub returns-in_err-stop-clause-serves : goal.returns-in_err-stop-clause-serves
+returns-in_err-stop-clause-serves g c = on_error _ _ c.from_residual.ensures.0
+    (nothing_served c.args.settings.now (g.W.Write.contents c.args.writer.now) (bytes_in c.args.file.now))
 
-pub returns-in_err-listener : goal.returns-in_err-listener
-returns-in_err-listener g c = on_error _ _ c.from_residual-in_err-listener.ensures.0
-    (nothing_served c.args.settings.now (g.W.Write.contents c.args.writer.now))
+pub returns-in_err-listener-clause-serves : goal.returns-in_err-listener-clause-serves
+returns-in_err-listener-clause-serves g c = on_error _ _ c.from_residual-in_err-listener.ensures.0
+    (nothing_served c.args.settings.now (g.W.Write.contents c.args.writer.now) (bytes_in c.args.file.now))
 
-pub returns-in_err-write_port : goal.returns-in_err-write_port
-returns-in_err-write_port g c =
+pub returns-in_err-write_port-clause-serves : goal.returns-in_err-write_port-clause-serves
+returns-in_err-write_port-clause-serves g c =
     on_error _ _ c.from_residual-in_err-write_port.ensures.0
-    (port_some c.args.settings.now c.in_ok-listener.port _ _ c.in_ok-listener.ensures.asked c.in_err-write_port.ensures)
+    (port_some c.args.settings.now c.in_ok-listener.port _ _ (bytes_in c.args.file.now) c.in_ok-listener.ensures.asked
+    c.in_err-write_port.ensures.written)
 
-pub returns-in_err-left : goal.returns-in_err-left
-returns-in_err-left g c =
+pub returns-in_err-left-clause-serves : goal.returns-in_err-left-clause-serves
+returns-in_err-left-clause-serves g c =
     on_error _ _ c.from_residual-in_err-left.ensures.0
-    (port_some c.args.settings.now c.in_ok-listener.port _ _ c.in_ok-listener.ensures.asked
-    (all_some _ _ (port_line c.in_ok-listener.port) c.in_ok-write_port.ensures))
+    (port_some c.args.settings.now c.in_ok-listener.port _ _ (bytes_in c.args.file.now) c.in_ok-listener.ensures.asked
+    (all_some _ _ (port_line c.in_ok-listener.port) c.in_ok-write_port.ensures.written))
 
-pub returns : goal.returns
-returns g c = port_first c.report.result c.args.settings.now c.in_ok-listener.port _ _ _ c.in_ok-listener.ensures.asked
-    c.in_ok-write_port.ensures c.report.ensures
+pub returns-clause-serves : goal.returns-clause-serves
+returns-clause-serves g c = port_first c.report.result c.args.settings.now c.in_ok-listener.port _ _ _ _ _ c.in_ok-listener.ensures.asked
+    c.in_ok-write_port.ensures.written c.report.ensures.reports
+
+pub returns-in_err-stop-clause-fault : goal.returns-in_err-stop-clause-fault
+returns-in_err-stop-clause-fault g c =
+    let a = g.W.Write.contents c.args.writer.now in
+    passed _ c.in_err-stop.field-0.0 (EndsServer a a) c.from_residual.ensures.1
+    (inr (inl c.in_err-stop.ensures, (0, nothing_some a (port_line 0))))
+
+pub returns-in_err-listener-clause-fault : goal.returns-in_err-listener-clause-fault
+returns-in_err-listener-clause-fault g c =
+    let a = g.W.Write.contents c.args.writer.now in
+    passed _ c.in_err-listener.field-0.0 (EndsServer a a) c.from_residual-in_err-listener.ensures.1
+    (inr (inr c.in_err-listener.ensures.fault, (0, nothing_some a (port_line 0))))
+
+pub returns-in_err-write_port-clause-fault : goal.returns-in_err-write_port-clause-fault
+returns-in_err-write_port-clause-fault g c =
+    let a = g.W.Write.contents c.args.writer.now in
+    let b = g.W.Write.contents c.write_port.new.writer in
+    passed _ c.in_err-write_port.field-0.0 (EndsServer a b) c.from_residual-in_err-write_port.ensures.1
+    (inl c.in_err-write_port.ensures.fault)
+
+pub returns-in_err-left-clause-fault : goal.returns-in_err-left-clause-fault
+returns-in_err-left-clause-fault g c =
+    let a = g.W.Write.contents c.args.writer.now in
+    let b = g.W.Write.contents c.write_port.new.writer in
+    let port = c.in_ok-listener.port in
+    passed _ c.in_err-left.field-0.0 (EndsServer a b) c.from_residual-in_err-left.ensures.1
+    (inr (inl c.in_err-left.ensures.fault, (port, all_some a b (port_line port) c.in_ok-write_port.ensures.written)))
+
+pub returns-clause-fault : goal.returns-clause-fault
+returns-clause-fault g c =
+    of_each c.report.result IsReportFault
+    (EndsServer (g.W.Write.contents c.args.writer.now) (g.W.Write.contents c.report.new.writer)) (λ e is. inl is) c.report.ensures.fault

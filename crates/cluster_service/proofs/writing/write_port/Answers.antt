@@ -5,8 +5,8 @@ use Rattle.byte_streams.proofs.WritingLemmas.{kept_some}
 use Rattle.cluster_service.specs.Reporting.{port_line}
 use Rattle.cluster_service.proofs.writing.write_port.Goals as goal
 
-pub returns-in_err-flush_output : goal.returns-in_err-flush_output
-returns-in_err-flush_output g c =
+pub returns-in_err-flush_output-clause-written : goal.returns-in_err-flush_output-clause-written
+returns-in_err-flush_output-clause-written g c =
     on_error _ _ c.from_residual-in_err-flush_output.ensures.0 (kept_some _ _ _ (port_line c.args.port)
     (subst (λ l. Appends (g.W.Write.contents c.args.writer.now) (g.W.Write.contents c.write_output.new.output) l)
     (c.as_bytes.ensures.value ∙ c.in_ok-line.ensures) c.in_ok-write_output.ensures.written) c.in_err-flush_output.ensures.written)

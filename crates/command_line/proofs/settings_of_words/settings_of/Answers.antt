@@ -1,12 +1,12 @@
 use Rattle.std.proofs.Common.{◌≡◌, ◌∙◌, inl, inr, List, Some, refl, rules, codes, subst, sym}
 use Rattle.std.proofs.lemmas.Option.{same_Some}
 use Rattle.clap.specs.Words.{Row, found_of, rows_of}
-use Rattle.command_line.specs.Options.{Sets, SetsSign, SetsDeliver, SetsSimulate, SetsRunning, SetsServe, SetsAudit, WantsMemory, running_options}
+use Rattle.command_line.specs.Options.{Sets, SetsSign, SetsDeliver, SetsSimulate, SetsRunning, SetsServe, SetsAudit, SetsDraw, WantsMemory, running_options}
 use Rattle.settings.specs.declared.Settings.TheVariants as settings
 use Rattle.command_line.specs.Faults.{IsNoSubcommand}
 use Rattle.command_line.proofs.FaultLemmas.{right_alike}
 use Rattle.command_line.proofs.MatchesLemmas.{found_is, names_one, refused_alike, set_alike, refused_anyway, sets_sign, sets_deliver}
-use Rattle.command_line.proofs.MatchesLemmas.{sets_simulate, sets_cluster, sets_serve, sets_audit}
+use Rattle.command_line.proofs.MatchesLemmas.{sets_simulate, sets_cluster, sets_serve, sets_audit, sets_draw}
 use Rattle.command_line.proofs.settings_of_words.settings_of.Goals as goal
 
 pub returns-in-sign-clause-set : goal.returns-in-sign-clause-set
@@ -103,6 +103,15 @@ returns-in-audit-clause-set c =
     (λ t s is set. subst (λ x. Sets (Some (codes "audit", rows)) x) (sym is) (refl, set)) c.audit_settings.ensures.some
     c.map-in-audit.ensures.cases
 
+pub returns-in-draw-clause-set : goal.returns-in-draw-clause-set
+returns-in-draw-clause-set c =
+    let rows : List Row = rows_of (found_of c.in-Some.options.now) in
+    let found = found_is c.args.matches.now (codes "draw") rows (search (rules, c.in-draw.is, c.in-Some.ensures.name))
+    c.in-Some.ensures.rows in
+    set_alike (λ t s. s ≡ settings.Draw t) (SetsDraw rows) _ _ c.draw_settings.result c.map-in-draw.result found
+    (λ t s is set. subst (λ x. Sets (Some (codes "draw", rows)) x) (sym is) (refl, set)) c.draw_settings.ensures.some
+    c.map-in-draw.ensures.cases
+
 pub returns-in-audit-clause-refused : goal.returns-in-audit-clause-refused
 returns-in-audit-clause-refused c =
     let rows : List Row = rows_of (found_of c.in-Some.options.now) in
@@ -110,6 +119,14 @@ returns-in-audit-clause-refused c =
     c.in-Some.ensures.rows in
     refused_alike _ (SetsAudit rows) _ _ c.audit_settings.result c.map-in-audit.result found (λ e s. sets_audit rows s)
     c.audit_settings.ensures.none c.map-in-audit.ensures.cases
+
+pub returns-in-draw-clause-refused : goal.returns-in-draw-clause-refused
+returns-in-draw-clause-refused c =
+    let rows : List Row = rows_of (found_of c.in-Some.options.now) in
+    let found = found_is c.args.matches.now (codes "draw") rows (search (rules, c.in-draw.is, c.in-Some.ensures.name))
+    c.in-Some.ensures.rows in
+    refused_alike _ (SetsDraw rows) _ _ c.draw_settings.result c.map-in-draw.result found (λ e s. sets_draw rows s)
+    c.draw_settings.ensures.none c.map-in-draw.ensures.cases
 
 pub returns-in_default-name-clause-refused : goal.returns-in_default-name-clause-refused
 returns-in_default-name-clause-refused c = λ s sets.
@@ -121,8 +138,10 @@ returns-in_default-name-clause-refused c = λ s sets.
           (same_Some c.in-Some.name.now (codes "cluster") (c.in-Some.ensures.name ∙ h))
       | inr (inr (inr (inr (inl h)))) ↦ c.in_default-name.not-serve
           (same_Some c.in-Some.name.now (codes "serve") (c.in-Some.ensures.name ∙ h))
-      | inr (inr (inr (inr (inr h)))) ↦ c.in_default-name.not-audit
+      | inr (inr (inr (inr (inr (inl h))))) ↦ c.in_default-name.not-audit
           (same_Some c.in-Some.name.now (codes "audit") (c.in-Some.ensures.name ∙ h))
+      | inr (inr (inr (inr (inr (inr h))))) ↦ c.in_default-name.not-draw
+          (same_Some c.in-Some.name.now (codes "draw") (c.in-Some.ensures.name ∙ h))
     ]
 
 pub returns-in-sign-clause-right : goal.returns-in-sign-clause-right
@@ -189,6 +208,13 @@ returns-in-audit-clause-right c =
     c.in-Some.ensures.rows in
     right_alike _ _ _ c.audit_settings.result c.map-in-audit.result found c.audit_settings.ensures.right c.map-in-audit.ensures.cases
 
+pub returns-in-draw-clause-right : goal.returns-in-draw-clause-right
+returns-in-draw-clause-right c =
+    let rows : List Row = rows_of (found_of c.in-Some.options.now) in
+    let found = found_is c.args.matches.now (codes "draw") rows (search (rules, c.in-draw.is, c.in-Some.ensures.name))
+    c.in-Some.ensures.rows in
+    right_alike _ _ _ c.draw_settings.result c.map-in-draw.result found c.draw_settings.ensures.right c.map-in-draw.ensures.cases
+
 pub returns-in_default-name-clause-right : goal.returns-in_default-name-clause-right
 returns-in_default-name-clause-right c =
     let rows : List Row = rows_of (found_of c.in-Some.options.now) in
@@ -199,7 +225,7 @@ returns-in_default-name-clause-right c =
         c.in_default-name.not-deliver,
         (
           c.in_default-name.not-simulate,
-          (c.in_default-name.not-cluster, (c.in_default-name.not-serve, c.in_default-name.not-audit)),
+          (c.in_default-name.not-cluster, (c.in_default-name.not-serve, (c.in_default-name.not-audit, c.in_default-name.not-draw))),
         ),
       ),
     )

@@ -4,7 +4,7 @@ use Rattle.std.specs.Prelude.{option_copied}
 use Rattle.tally.specs.Tallies.{all_read}
 use Rattle.tally.specs.Readings.{reports_of}
 use Rattle.phase_core.specs.Choices.{is_found_by}
-use Rattle.tally.proofs.Numbering.{there_at}
+use Rattle.ledger_model.proofs.Lists.{there_at}
 use Rattle.phase_core.proofs.Listed.{least_listed, least_more, with_found}
 use Rattle.phase_core.proofs.choice.least_found.Goals as goal
 use Rattle.phase_core.proofs.choice.least_found.Goals.{in-Some, in_default}

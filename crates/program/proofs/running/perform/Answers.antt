@@ -1,17 +1,18 @@
 use Rattle.std.proofs.Common.{◌∙◌}
 use Rattle.byte_streams.proofs.Faults.{on_error}
-use Rattle.program.proofs.RunningLemmas.{audit_explains, audited_done}
+use Rattle.program.proofs.RunningLemmas.{audit_explains, audited_done, drawn_done, plain_explains}
+use Rattle.program.specs.Doing.{settings_of}
 use Rattle.program.proofs.RunningLemmas.{signed_done, signed_halted, delivered_done, delivered_halted, played_done, played_halted}
 use Rattle.program.proofs.running.perform.Goals as goal
 
 pub returns-in_err-sign-in-Sign-clause-done : goal.returns-in_err-sign-in-Sign-clause-done
 returns-in_err-sign-in-Sign-clause-done g c =
     on_error _ _ c.from_residual.ensures.0
-    (signed_halted c.args.settings.now c.in-Sign.settings _ _ _ c.in-Sign.is c.in_err-sign-in-Sign.ensures)
+    (signed_halted c.args.settings.now c.in-Sign.settings _ _ _ c.in-Sign.is c.in_err-sign-in-Sign.ensures.written)
 
 pub returns-in_ok-sign-in-Sign-clause-done : goal.returns-in_ok-sign-in-Sign-clause-done
 returns-in_ok-sign-in-Sign-clause-done g c = signed_done c.args.settings.now c.in-Sign.settings c.plain.result.status _ _ _ c.in-Sign.is c.plain.ensures.status
-    c.in_ok-sign-in-Sign.ensures
+    c.in_ok-sign-in-Sign.ensures.written
 
 pub returns-in_err-end-in-Deliver-clause-done : goal.returns-in_err-end-in-Deliver-clause-done
 returns-in_err-end-in-Deliver-clause-done g c =
@@ -41,3 +42,9 @@ returns-in-Audit-clause-done g c =
 
 pub returns-in-Audit-clause-explains : goal.returns-in-Audit-clause-explains
 returns-in-Audit-clause-explains g c = audit_explains c.args.settings.now c.in-Audit.settings c.audit.result c.in-Audit.is c.audit.ensures.explains
+
+pub returns-in-Draw-clause-done : goal.returns-in-Draw-clause-done
+returns-in-Draw-clause-done g c = drawn_done c.args.settings.now c.in-Draw.settings c.draw.result _ _ _ _ c.in-Draw.is c.draw.ensures.draws
+
+pub returns-in-Draw-clause-explains : goal.returns-in-Draw-clause-explains
+returns-in-Draw-clause-explains g c = plain_explains (settings_of c.args.settings.now) c.draw.result c.draw.ensures.plain

@@ -11,7 +11,7 @@ use Rattle.ledger_model.proofs.Lists.{each_append}
 pub loop-replica-preserved : goal.loop-replica-preserved
 loop-replica-preserved g c =
     let (found, spelled, index, made) = c.loop-replica.invariant in
-    let serves = serving (simulation_of c.args.world.now c.args.lies.now) c.args.lie.now in
+    let serves = serving (simulation_of c.args.world.now c.args.lies.now) c.args.lie.now c.args.source in
     let here = sym c.in_ok-report.ensures.found in
     elim c.match-branch-2.branch [
       | in-Some+in_ok-push w ↦

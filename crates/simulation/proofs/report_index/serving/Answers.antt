@@ -11,19 +11,19 @@ pub returns-in_ok-follow_history-in-Some-clause-found : goal.returns-in_ok-follo
 returns-in_ok-follow_history-in-Some-clause-found g c =
     IfOk-weaker c.first_serving.result _ _
     (λ found is.
-    is ∙ finds_sent c.args.world.now c.args.lies.now c.args.lie.now c.new-id.result c.follow_history.new.self.reports.items
+    is ∙ finds_sent c.args.world.now c.args.lies.now c.args.lie.now c.args.source c.new-id.result c.follow_history.new.self.reports.items
     (sym c.in-Some.ensures.correct)
     (c.in_ok-follow_history-in-Some.ensures.whole ∙ ap (λ es. report_frames (frames_sent es)) (sym c.in-Some.ensures.entries))
-    ∙ ap (serving (simulation_of c.args.world.now c.args.lies.now) c.args.lie.now) c.new-id.ensures)
+    ∙ ap (serving (simulation_of c.args.world.now c.args.lies.now) c.args.lie.now c.args.source) c.new-id.ensures)
     c.first_serving.ensures.found
 
 pub returns-in_ok-follow_frames-in-None-clause-found : goal.returns-in_ok-follow_frames-in-None-clause-found
 returns-in_ok-follow_frames-in-None-clause-found g c =
     IfOk-weaker c.first_serving-in-None.result _ _
     (λ found is.
-    is ∙ finds_signed c.args.world.now c.args.lies.now c.args.lie.now c.new-id.result c.follow_frames.new.self.reports.items
+    is ∙ finds_signed c.args.world.now c.args.lies.now c.args.lie.now c.args.source c.new-id.result c.follow_frames.new.self.reports.items
     (sym c.in-None.ensures.correct) c.in_ok-follow_frames-in-None.ensures.whole
-    ∙ ap (serving (simulation_of c.args.world.now c.args.lies.now) c.args.lie.now) c.new-id.ensures)
+    ∙ ap (serving (simulation_of c.args.world.now c.args.lies.now) c.args.lie.now c.args.source) c.new-id.ensures)
     c.first_serving-in-None.ensures.found
 
 pub returns-in_err-make_list-clause-index : goal.returns-in_err-make_list-clause-index

@@ -1,7 +1,6 @@
 use Rattle.std.proofs.Common.{◌≡◌, not, length, take, sym, ap, ◌∙◌, arith}
 use Rattle.std.proofs.Math.Seq.{take-length}
-use Rattle.ledger_model.proofs.Lists.{has_any}
-use Rattle.tally.proofs.Numbering.{there_at}
+use Rattle.ledger_model.proofs.Lists.{has_any, there_at}
 use Rattle.proper_sets.specs.Numbers.{is_common}
 use Rattle.proper_sets.proofs.Numbers.{rare_by_numbers, none_more}
 use Rattle.proper_sets.proofs.reported.Absorption.are_others_rare.Goals as goal

@@ -1,7 +1,7 @@
 use Rattle.std.proofs.Common.{◌≡◌, length, take, sym, ap, ◌∙◌, arith}
 use Rattle.std.specs.Prelude.{option_copied}
 use Rattle.std.proofs.Math.Seq.{take-length}
-use Rattle.tally.proofs.Numbering.{there_at}
+use Rattle.ledger_model.proofs.Lists.{there_at}
 use Rattle.proper_sets.proofs.Numbers.{with_option, named_more, named_by_numbers}
 use Rattle.proper_sets.proofs.reported.Absorption.put_named.Goals as goal
 use Rattle.proper_sets.proofs.reported.Absorption.put_named.Goals.{in-Some+in_ok-put, in_default}

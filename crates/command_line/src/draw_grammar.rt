@@ -1,0 +1,47 @@
+//! The grammar of `abft draw`.
+use crate::shared_arguments::{APPLICATION, FAULTS, REPLICAS, SEED, TREE, WIDTH};
+use crate::subcommand::{Argument, Kind, Subcommand};
+
+/// The end of `abft draw --help`.
+const PICTURE: &str = "\
+Input: the histories of replicas, as bytes, one after another. 'abft simulate --histories' prints such bytes, and
+'abft cluster --histories FILE' writes them. The options are those of the cluster; only --n and --t change the picture.
+
+Output: an SVG document, or 'bad history' if the input is not spelled as histories. docs/PICTURES.md says how to read it.
+
+Exit status:
+  0  the picture was written
+  1  'bad history' was printed
+  2  a fault of usage
+  3  out of memory, or a failed read or write";
+
+/// `abft draw`.
+pub(crate) const DRAW: Subcommand = Subcommand {
+    name: "draw",
+    about: "Draws the run of the histories of standard input, as an SVG document",
+    usage: Some("abft draw [OPTIONS] <HISTORIES >PICTURE.svg"),
+    arguments: &[
+        REPLICAS,
+        FAULTS,
+        APPLICATION,
+        WIDTH,
+        TREE,
+        SEED,
+        Argument {
+            name: "height",
+            kind: Kind::Value("0"),
+            help: "The one height to draw, 1 to 4096; 0 for all heights",
+        },
+        Argument {
+            name: "first",
+            kind: Kind::Value("0"),
+            help: "The first round to draw, 0 to 4000000000; 0 is the time before round 1",
+        },
+        Argument {
+            name: "last",
+            kind: Kind::Value("64"),
+            help: "The last round to draw, 0 to 4000000000",
+        },
+    ],
+    after_help: PICTURE,
+};

@@ -1,0 +1,53 @@
+-- What `abft draw` writes for the bytes that it reads.
+use Rattle.std.specs.Prelude.{◌≡◌, ◌⊎◌, ℕ, ◌==◌, List, [], Option, Some, None, if◌then◌else◌}
+use Rattle.std.specs.Io.KnownBytes.{Appends, Consumes, IsAtEnd}
+use Rattle.ledger_model.specs.declared.history.History.{History}
+use Rattle.history_bytes.specs.HistoryReading.{histories_reading}
+use Rattle.run_picture.specs.declared.part.Part.{Part}
+use Rattle.run_picture.specs.declared.picture.Picture.{Picture}
+use Rattle.run_picture.specs.Pictures.{IsPictureOf}
+use Rattle.picture_svg.specs.Documents.{picture_text}
+use Rattle.settings.specs.declared.draw.DrawSettings.{DrawSettings}
+use Rattle.byte_streams.specs.Writing.{AppendsSome}
+use Rattle.byte_streams.specs.Responding.{Responds, RespondsSome}
+use Rattle.program.specs.Auditing.{bad_history}
+
+-- the height that is drawn, unless all are
+abbrev pub wanted_height : ℕ → Option ℕ
+wanted_height h = if h == 0 then None else Some h
+
+-- the part of the run that is drawn
+abbrev pub part_of : DrawSettings → Part
+part_of s = record { first = s.first; last = s.last; height = wanted_height s.height }
+
+-- the text is the picture of what these histories show in the part
+pub record Drawn (s : DrawSettings) (histories : List History) (text : List ℕ) : Type 0 where
+  pub picture : Picture
+  pub shows : IsPictureOf s.cluster.config histories (part_of s) picture
+  pub prints : text ≡ picture_text picture
+
+-- the input has this status, and this is written for it: it is no histories, or these are drawn
+abbrev pub IsDrawn : DrawSettings → List ℕ → ℕ → List ℕ → Type 0
+IsDrawn s input status text =
+    ((histories_reading input ≡ None) × (status ≡ 1) × (text ≡ bad_history))
+    ⊎ ((histories : List History) × (histories_reading input ≡ Some histories) × (status ≡ 0) × Drawn s histories text)
+
+-- the whole input was read, and what is written for it was written
+abbrev pub Draws : DrawSettings → ℕ → Option (List ℕ) → Option (List ℕ) → Option (List ℕ) → Option (List ℕ) → Type 0
+Draws s status unread left before after =
+    IsAtEnd left × Responds (λ input text. IsDrawn s input status text) unread left before after
+
+-- nothing was written, or the whole input was read, and a prefix of what is written for it was written
+abbrev pub DrawsSome : DrawSettings → Option (List ℕ) → Option (List ℕ) → Option (List ℕ) → Option (List ℕ) → Type 0
+DrawsSome s unread left before after =
+    RespondsSome (λ input text. (text ≡ []) ⊎ (IsAtEnd left × ((status : ℕ) × IsDrawn s input status text))) unread left before after
+
+-- ---- the results of calls
+
+-- the picture of these histories was written
+abbrev pub DrawsWritten : DrawSettings → List History → Option (List ℕ) → Option (List ℕ) → Type 0
+DrawsWritten s histories before after = (text : List ℕ) × (Drawn s histories text × Appends before after text)
+
+-- nothing was written, or a prefix of the picture of these histories
+abbrev pub DrawsWrittenSome : DrawSettings → List History → Option (List ℕ) → Option (List ℕ) → Type 0
+DrawsWrittenSome s histories before after = (text : List ℕ) × (((text ≡ []) ⊎ Drawn s histories text) × AppendsSome before after text)

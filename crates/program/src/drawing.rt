@@ -1,0 +1,90 @@
+//! `abft draw`: reads histories, and writes a picture of their run.
+ghost use Rattle.std.specs.Prelude.{◌≡◌, None, MatchResult, IfErr, IfOk};
+ghost use Rattle.program_streams.specs.Faults.{IsMemoryOrAsked};
+ghost use Rattle.program.specs.Drawing.{Draws, DrawsSome, DrawsWritten, DrawsWrittenSome, part_of};
+
+use crate::auditing::print_bad_history;
+use crate::outcome::Ending;
+use crate::reading::read_whole;
+use crate::status::DONE;
+use bytes::Bytes;
+use history_reading::{HistoryFault, read_histories};
+use ledger_model::{Height, History};
+use picture_svg::svg_of;
+use program_streams::{ProgramFault, write_output};
+use run_picture::{Part, picture_of};
+use settings::DrawSettings;
+use std::alloc::Global;
+use std::io::{Read, Write};
+
+/// The part of the run that is drawn.
+fn part_of(settings: &DrawSettings) -> Part
+    ensures { result ≡ part_of settings.now }
+{
+    let height = if settings.height == 0 {
+        None
+    } else {
+        Some(Height::new(settings.height))
+    };
+    Part {
+        first: settings.first,
+        last: settings.last,
+        height,
+    }
+}
+
+/// Draws histories, and writes the picture.
+fn draw_histories<W: Write>(
+    alloc: Global,
+    settings: &DrawSettings,
+    histories: &[History],
+    writer: &mut W,
+) -> Result<(), ProgramFault>
+    ensures draws { MatchResult result
+        (λ _. DrawsWritten settings.now histories.now (W.contents writer.old) (W.contents writer.new))
+        (λ _. DrawsWrittenSome settings.now histories.now (W.contents writer.old) (W.contents writer.new)) }
+    ensures fault { IfErr result IsMemoryOrAsked }
+{
+    let part = part_of(settings);
+    let picture = picture_of(alloc, &settings.cluster.config, histories, part)?;
+    let svg = svg_of(alloc, &picture)?;
+    write_output(writer, &svg)
+}
+
+/// Draws histories, writes the picture, and ends.
+fn draw_and_end<W: Write>(
+    alloc: Global,
+    settings: &DrawSettings,
+    histories: &[History],
+    writer: &mut W,
+) -> Result<Ending, ProgramFault>
+    ensures draws { MatchResult result
+        (λ ending. (ending.status ≡ 0) × DrawsWritten settings.now histories.now (W.contents writer.old) (W.contents writer.new))
+        (λ _. DrawsWrittenSome settings.now histories.now (W.contents writer.old) (W.contents writer.new)) }
+    ensures plain { IfOk result (λ ending. ending.explanation ≡ None) }
+    ensures fault { IfErr result IsMemoryOrAsked }
+{
+    draw_histories(alloc, settings, histories, writer)?;
+    Ok(Ending::plain(DONE))
+}
+
+/// Reads the histories of a stream to its end, and writes a picture of their run. If the bytes are no histories, it writes that.
+pub fn draw<R: Read, W: Write>(
+    alloc: Global,
+    settings: &DrawSettings,
+    reader: &mut R,
+    writer: &mut W,
+) -> Result<Ending, ProgramFault>
+    ensures draws { MatchResult result
+        (λ ending. Draws settings.now ending.status (R.remaining reader.old) (R.remaining reader.new) (W.contents writer.old) (W.contents writer.new))
+        (λ _. DrawsSome settings.now (R.remaining reader.old) (R.remaining reader.new) (W.contents writer.old) (W.contents writer.new)) }
+    ensures plain { IfOk result (λ ending. ending.explanation ≡ None) }
+    ensures fault { IfErr result IsMemoryOrAsked }
+{
+    let bytes = read_whole(alloc, reader)?;
+    match read_histories(alloc, Bytes::from_vec(bytes)?) {
+        Ok(histories) => draw_and_end(alloc, settings, &histories, writer),
+        Err(HistoryFault::BadHistory) => print_bad_history(writer),
+        Err(HistoryFault::NoMemory) => Err(ProgramFault::NoMemory),
+    }
+}

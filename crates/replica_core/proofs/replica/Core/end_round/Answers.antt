@@ -1,6 +1,0 @@
-use Rattle.std.proofs.Common.{refl}
-use Rattle.replica_core.proofs.Endings.{over}
-use Rattle.replica_core.proofs.replica.Core.end_round.Goals as goal
-
-pub returns-then-is_over-clause-step : goal.returns-then-is_over-clause-step
-returns-then-is_over-clause-step g c = over c.args.self.now.held (c.if-is_over.ensures.over refl)

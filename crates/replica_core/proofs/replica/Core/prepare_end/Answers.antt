@@ -1,0 +1,6 @@
+use Rattle.std.proofs.Common.{refl}
+use Rattle.replica_core.proofs.Endings.{over}
+use Rattle.replica_core.proofs.replica.Core.prepare_end.Goals as goal
+
+pub returns-then-is_over-clause-step : goal.returns-then-is_over-clause-step
+returns-then-is_over-clause-step g c = over c.args.self.now.held (c.if-is_over.ensures.over refl)

@@ -1,0 +1,6 @@
+pub mod Orders
+pub mod Collecting
+pub mod Indexes
+pub mod Searches
+pub mod Rows
+pub mod DecidedSoFar

@@ -1,0 +1,40 @@
+-- Lists that grow by what each element shows.
+use Rattle.std.proofs.Common.{◌≡◌, ◌∙◌, ℕ, zero, suc, ◌+◌, ◌-◌, ◌<◌, ◌≤◌, List, [], ◌∷◌, ◌++◌, length, get_or, drop, sym, ap, refl, append_assoc, append-nil, arith}
+use Rattle.std.proofs.Math.Seq.{drop-cons}
+use Rattle.std.proofs.Math.ListN.{drop_of_length-le}
+use native.Mathlib.Numerals.{unary_clauses}
+use Rattle.ledger_model.specs.declared.history.Entry.{Entry}
+use Rattle.run_picture.specs.Orders.{clock_after, shown_from}
+
+-- the rest of a list, from the place of an element on
+pub drop_item : {X : Type 0} (xs : List X) (i : ℕ) (x : X) → i < length xs → x ≡ get_or xs i x → drop i xs ≡ x ∷ drop (i + 1) xs
+drop_item xs i x inside is = simp unary_clauses (drop-cons xs i x inside ∙ ap (λ y. y ∷ drop (suc i) xs) (sym is))
+
+-- a list with one more piece, and what the rest shows
+pub one_more : {X : Type 0} (out next start piece rest all : List X) → out ++ (piece ++ rest) ≡ start ++ all → next ≡ out ++ piece
+    → next ++ rest ≡ start ++ all
+one_more out next start piece rest all before now = ap (λ l. l ++ rest) now ∙ append_assoc out piece rest ∙ before
+
+-- a list to which nothing more is added
+pub no_more : {X : Type 0} (out start rest all : List X) → out ++ rest ≡ start ++ all → rest ≡ [] → out ≡ start ++ all
+no_more out start rest all before none = sym (append-nil out) ∙ ap (λ l. out ++ l) (sym none) ∙ before
+
+-- what one entry more shows
+pub shown_next : {X : Type 0} (shown : ℕ → ℕ → Entry → List X) (out next start : List X) (i clock : ℕ) (entries : List Entry) (e : Entry)
+    → i < length entries → e ≡ get_or entries i e
+    → out ++ shown_from shown i clock (drop i entries) ≡ start ++ shown_from shown 0 0 entries
+    → next ≡ out ++ shown i clock e
+    → next ++ shown_from shown (i + 1) (clock_after clock e) (drop (i + 1) entries) ≡ start ++ shown_from shown 0 0 entries
+shown_next shown out next start i clock entries e inside is before now =
+    one_more out next start (shown i clock e) (shown_from shown (i + 1) (clock_after clock e) (drop (i + 1) entries))
+    (shown_from shown 0 0 entries)
+    (sym (ap (λ es. out ++ shown_from shown i clock es) (drop_item entries i e inside is)) ∙ before) now
+
+-- no entry more
+pub shown_last : {X : Type 0} (shown : ℕ → ℕ → Entry → List X) (out start : List X) (i clock : ℕ) (entries : List Entry)
+    → length entries ≤ i
+    → out ++ shown_from shown i clock (drop i entries) ≡ start ++ shown_from shown 0 0 entries
+    → out ≡ start ++ shown_from shown 0 0 entries
+shown_last shown out start i clock entries over before =
+    no_more out start (shown_from shown i clock (drop i entries)) (shown_from shown 0 0 entries) before
+    (ap (shown_from shown i clock) (drop_of_length-le entries over))

@@ -1,0 +1,9 @@
+pub mod Parts
+pub mod Orders
+pub mod Frames
+pub mod Facts
+pub mod Decisions
+pub mod Sources
+pub mod Candidates
+pub mod Pictures
+pub mod Collected

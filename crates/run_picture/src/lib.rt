@@ -1,0 +1,21 @@
+//! What a picture of a run shows: the frames that replicas send, where these arrive, and what the replicas do at each height.
+#![tactic(auto)]
+
+mod agreeing;
+mod deciding;
+mod deliveries;
+mod entry_facts;
+mod frame_index;
+mod frame_reading;
+mod locks_held;
+mod part;
+mod picture;
+mod sent_frames;
+mod sources;
+
+pub use deliveries::Delivery;
+pub use entry_facts::{Fact, Mark};
+pub use part::{Moment, Part};
+pub use picture::{Picture, picture_of};
+pub use sent_frames::SentFrame;
+pub use sources::Arrival;
