@@ -16,7 +16,7 @@ a = [b"a=1"]
 begin = "".join(f"submit {r} a=1\n" for r in range(4)) + "".join(f"propose {r} 1\n" for r in range(4))
 begin_3 = "".join(f"submit {r} a=1\n" for r in (0, 2, 3)) + "".join(f"propose {r} 1\n" for r in (0, 2, 3))
 
-# a lock of the sixth phase, signed as its leader would
+# a lock of the sixth phase, signed as its owner would
 later = lock(1, 6, 2, a, [signed(report(1, 6, r, a), keys[r], 30) for r in (0, 1, 3)])
 write("lock-of-a-later-phase", f"""\
 # A lock of the sixth phase comes in the third, where held locks are shown: it is not read, and the held lock stays.
@@ -54,7 +54,7 @@ inject 0 {frame(signed(lock(1, 1, 1, a, strangers), keys[1], 0))}
 # acknowledgements for others
 forged = [frame(signed(ack(1, 1, r, a), keys[3], r)) for r in (0, 2)]
 write("forged-acknowledgements", f"""\
-# A liar signs acknowledgements in the names of two others. Neither verifies, and the leader decides nothing by them.
+# A liar signs acknowledgements in the names of two others. Neither verifies, and the owner decides nothing by them.
 config 4 1 1
 liar 3
 {"".join(f"submit {r} a=1" + chr(10) for r in (0, 1, 2))}{"".join(f"propose {r} 1" + chr(10) for r in (0, 1, 2))}round

@@ -156,6 +156,7 @@ refuses 'error: the scenario comes on standard input: abft simulate <plain-run.t
 refuses 'error: the scenario comes on standard input: abft simulate <plain-run.txt' simulate plain-run.txt --histories
 refuses 'error: the frames come on standard input: abft deliver <frames.bin' deliver frames.bin --n 4
 refuses 'error: the histories come on standard input: abft audit <histories' audit histories
+refuses 'error: the histories come on standard input: abft draw <histories' draw histories
 refuses "error: --receipt is R:I:TX, such as 0:0:a=1, with a transaction of 1 to 64 bytes, not '256:0:a'" audit --receipt 256:0:a
 refuses "error: --receipt is R:I:TX, such as 0:0:a=1, with a transaction of 1 to 64 bytes, not '00:0:a'" audit --receipt 00:0:a
 refuses "error: --receipt is R:I:TX, such as 0:0:a=1, with a transaction of 1 to 64 bytes, not '0:4294967296:a'" audit --receipt 0:4294967296:a
@@ -507,12 +508,12 @@ Usage: abft draw [OPTIONS] <HISTORIES >PICTURE.svg
 
 Options:
 EOT
-    cat "$room/common"
+    sed -E 's/^(.{25})  /\1/' "$room/common"
     cat <<'EOT'
-      --height <height>    The one height to draw, 1 to 4096; 0 for all heights [default: 0]
-      --first <first>      The first round to draw, 0 to 4000000000; 0 is the time before round 1 [default: 0]
-      --last <last>        The last round to draw, 0 to 4000000000 [default: 64]
-  -h, --help               Print help
+      --height <height>  The one height to draw, 1 to 4096; 0 for all heights [default: 0]
+      --first <first>    The first round to draw, 0 to 4000000000; 0 is the time before round 1 [default: 0]
+      --last <last>      The last round to draw, 0 to 4000000000 [default: 64]
+  -h, --help             Print help
 
 Input: the histories of replicas, as bytes, one after another. 'abft simulate --histories' prints such bytes, and
 'abft cluster --histories FILE' writes them. The options are those of the cluster; only --n and --t change the picture.

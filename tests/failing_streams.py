@@ -87,7 +87,8 @@ def main():
     refusing = Refusing()
     told, sent, failed = histories(refusing, ABFT), frames(refusing, ABFT), 0
     for words, data in [(["simulate"], SCENARIO), (["simulate", "--histories"], SCENARIO), (["audit"], told), (["audit"], told[:-1]),
-                        (["deliver"], sent), (["deliver"], sent[:-1]), (["sign", "report"], b""), (["--help"], b"")]:
+                        (["draw"], told), (["draw"], told[:-1]), (["deliver"], sent), (["deliver"], sent[:-1]),
+                        (["sign", "report"], b""), (["--help"], b"")]:
         calls, ends = streams(refusing, [ABFT, *words], data)
         failed += sum(count for end, count in ends.items() if end.startswith("WRONG"))
         print(f"{' '.join(words)}, {len(data)} bytes: {calls}: " + "; ".join(f"{end}: {count}" for end, count in sorted(ends.items())), flush=True)

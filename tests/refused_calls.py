@@ -1,5 +1,6 @@
 """A program whose calls of the C library fail: `Refusing` runs it with one allocation refused, one read or write failing, or each of them
-short. The calls are replaced by a small library that is compiled here and loaded before the C library."""
+short, or with a thread that sleeps within an allocation. The calls are replaced by a small library that is compiled here and loaded before
+the C library."""
 import mmap
 import os
 import struct
@@ -11,14 +12,20 @@ SOURCE = r"""
 #include <dlfcn.h>
 #include <errno.h>
 #include <fcntl.h>
+#include <pthread.h>
 #include <stdlib.h>
 #include <sys/mman.h>
 #include <sys/types.h>
+#include <time.h>
 #include <unistd.h>
 
 /* How many allocations, reads and writes there were: shared with the script. */
 static unsigned long spare[3], *calls = spare;
 static unsigned long refused[64], refused_count, refused_from, read_fails_at, write_fails_at, at_most;
+/* A thread's number from 1 on, in the order in which they are made, and the allocations that it has made. */
+static unsigned long threads, sleeper, sleeps_at, sleeps_for;
+static __thread unsigned long thread, allocations;
+static int (*next_create)(pthread_t *, const pthread_attr_t *, void *(*)(void *), void *);
 static void *(*next_malloc)(size_t);
 static void *(*next_realloc)(void *, size_t);
 static ssize_t (*next_read)(int, void *, size_t);
@@ -41,6 +48,7 @@ static void find_refused(void) {
 }
 
 static void find_calls(void) {
+    next_create = dlsym(RTLD_NEXT, "pthread_create");
     next_malloc = dlsym(RTLD_NEXT, "malloc");
     next_realloc = dlsym(RTLD_NEXT, "realloc");
     next_read = dlsym(RTLD_NEXT, "read");
@@ -57,6 +65,7 @@ __attribute__((constructor)) static void begin(void) {
     find_refused();
     refused_from = number("REFUSED_FROM");
     read_fails_at = number("READ_FAILS_AT"), write_fails_at = number("WRITE_FAILS_AT"), at_most = number("AT_MOST");
+    sleeper = number("SLEEPER"), sleeps_at = number("SLEEPS_AT"), sleeps_for = number("SLEEPS_FOR");
     is_ready = 1;
 }
 
@@ -75,10 +84,33 @@ static int fails(int kind, unsigned long at) {
     return 1;
 }
 
+struct start { void *(*body)(void *); void *argument; unsigned long number; };
+
+static void *begin_thread(void *given) {
+    struct start start = *(struct start *)given;
+    free(given);
+    thread = start.number;
+    return start.body(start.argument);
+}
+
+int pthread_create(pthread_t *made, const pthread_attr_t *how, void *(*body)(void *), void *argument) {
+    struct start *start = next_malloc(sizeof *start);
+    if (!start) return EAGAIN;
+    *start = (struct start){body, argument, __sync_add_and_fetch(&threads, 1)};
+    return next_create(made, how, begin_thread, start);
+}
+
+static void sleep_if_due(void) {
+    if (thread == 0 || thread != sleeper || ++allocations != sleeps_at) return;
+    struct timespec left = {sleeps_for, 0};
+    while (nanosleep(&left, &left)) {}
+}
+
 static size_t some(size_t count) { return at_most && count > at_most ? at_most : count; }
 
 void *malloc(size_t count) {
     if (!next_malloc) find_calls();
+    sleep_if_due();
     return is_refused() ? NULL : next_malloc(count);
 }
 
@@ -118,8 +150,9 @@ class Refusing:
 
     def run(self, words, data, counts=None, **limits):
         """What a run answers and how many allocations, reads and writes it made. Limits are REFUSED (up to 64 allocations that are refused,
-        separated by commas), REFUSED_FROM (that one is, and all later ones), READ_FAILS_AT, WRITE_FAILS_AT and AT_MOST (the bytes of a
-        read or a write)."""
+        separated by commas), REFUSED_FROM (that one is, and all later ones), READ_FAILS_AT, WRITE_FAILS_AT, AT_MOST (the bytes of a read
+        or a write), and SLEEPER (the thread that was made as that one, from 1 on), which at its allocation SLEEPS_AT sleeps for SLEEPS_FOR
+        seconds."""
         counts = counts or self.counts
         # Files and no pipes: of a pipe nobody knows how much a read takes, and a million short writes to one would wake its reader each time.
         with open(counts, "w+b") as file, tempfile.TemporaryFile() as given, tempfile.TemporaryFile() as printed:

@@ -101,6 +101,7 @@ def main():
     commands = [Command(refusing, "simulate", ["simulate"], SCENARIO, prints_steps=True),
                 Command(refusing, "simulate --histories", ["simulate", "--histories"], SCENARIO, writes_histories=True),
                 Command(refusing, "audit", ["audit", "--receipt", "0:0:a=0"], histories(refusing, ABFT)),
+                Command(refusing, "draw", ["draw"], histories(refusing, ABFT)),
                 Command(refusing, "deliver", ["deliver"], frames(refusing, ABFT)),
                 Command(refusing, "sign", ["sign", "report"], b""),
                 Command(refusing, "cluster", ["cluster", "--rounds", "0"], b""),

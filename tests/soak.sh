@@ -30,8 +30,8 @@ notes '1000 sessions one after another' $?
 tests/sessions.py "$abft" 64 64
 notes '64 sessions at once' $?
 
-# Hostile use: ten thousand scenarios, each cut and changed frame, each allocation refused, each read and write that fails, a client that
-# sends one byte a second.
+# Hostile use: ten thousand scenarios, each cut and changed frame, each allocation refused, of each event too, a full inbox, each read and
+# write that fails, a client that sends one byte a second.
 tests/hostile.py "$abft" 1001 10000 "$(nproc)"
 notes '10000 hostile scenarios' $?
 tests/hostile_frames.py "$abft" >"$room/frames"
@@ -44,6 +44,10 @@ tests/refused_memory.py "$abft" 1 "$(nproc)"
 notes 'each allocation refused' $?
 tests/refused_round_ends.py "$abft"
 notes 'round ends without memory' $?
+tests/refused_events.py "$abft"
+notes 'each event without memory' $?
+tests/sleeping_replica.py "$abft"
+notes 'a replica that sleeps' $?
 tests/failing_streams.py "$abft"
 notes 'each read and write that fails' $?
 tests/hostile_clients.py "$abft" >"$room/clients"

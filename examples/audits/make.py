@@ -11,7 +11,7 @@ from histories import histories, spell  # noqa: E402
 
 HERE = os.path.dirname(os.path.abspath(__file__))
 START = "config 4 1 1\nkeys 8 5\n" + "".join(f"submit {r} TX\n" for r in range(4)) + "".join(f"propose {r} 1\n" for r in range(4))
-# Replica 1 commits in the first phase, which it leads; or replica 2 in the second, since nothing arrives in the first.
+# Replica 1 commits in the first phase, which it owns; or replica 2 in the second, since nothing arrives in the first.
 FIRST_PHASE = START + "round\n" * 3 + "end 1\nexecute 1\n"
 SECOND_PHASE = START + "silent\n" * 4 + "round\n" * 3 + "end 2\nexecute 2\n"
 

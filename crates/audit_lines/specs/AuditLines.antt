@@ -32,7 +32,8 @@ fault_text fault.Count = fault_head fault.Count ++ codes " Count\n"
 fault_text (fault.NotReplay r i) =
     fault_head (fault.NotReplay r i) ++ codes " NotReplay " ++ decimal r ++ codes " " ++ decimal i ++ codes "\n"
 fault_text (fault.Unsent reader i signer) =
-    fault_head (fault.Unsent reader i signer) ++ codes " Unsent " ++ decimal reader ++ codes " " ++ decimal i ++ codes " " ++ decimal signer ++ codes "\n"
+    fault_head (fault.Unsent reader i signer) ++ codes " Unsent " ++ decimal reader ++ codes " " ++ decimal i ++ codes " "
+    ++ decimal signer ++ codes "\n"
 fault_text fault.NoMemory = []
 
 -- what is printed of a finding

@@ -1,2 +1,4 @@
 mod Begun
+mod Taken
+mod RunFaultLemmas
 pub mod ReportingLemmas

@@ -1,8 +1,7 @@
 -- The lines of one more replica, and the texts that are written.
 use Rattle.std.proofs.Common.{◌≡◌, ℕ, ◌+◌, List, [], ◌∷◌, ◌++◌, length, ◌<◌, ◌≤◌, take, get_or, refl, sym, ap, ◌∙◌, append_assoc}
 use Rattle.std.proofs.Common.{append-nil, inl, inr, subst, suc, arith}
-use Rattle.std.specs.Prelude.{◌⊎◌, Option, Result, Ok, Err, IfErr}
-use Rattle.std.specs.Result.{IsErrAnd}
+use Rattle.std.specs.Prelude.{◌⊎◌, Option, Result, Ok, Err}
 use Rattle.std.proofs.lemmas.List.{length-take-le}
 use Rattle.std.proofs.Math.Seq.{take-suc}
 use Rattle.std.specs.Io.KnownBytes.{Appends}
@@ -19,24 +18,25 @@ use Rattle.history_audit.specs.declared.fault.AuditFault.{AuditFault}
 use Rattle.audit_lines.specs.AuditLines.{finding_status, finding_text}
 use Rattle.settings.specs.declared.cluster.ClusterSettings.{ClusterSettings}
 use Rattle.settings.specs.declared.cluster.ServeSettings.{ServeSettings}
-use Rattle.program_streams.specs.declared.program_fault.ProgramFault.{ProgramFault}
 use Rattle.byte_streams.specs.Writing.{AppendsSome}
 use Rattle.byte_streams.proofs.Faults.{each_way}
 use Rattle.byte_streams.proofs.WritingLemmas.{longer_some, nothing_some, then_some}
 use Rattle.cluster_service.specs.Reporting.{AreTaken, IsTaken, Reports, ReportsCommits, ReportsSome, Serves, ServesSome, WritesSuch}
 use Rattle.cluster_service.specs.Reporting.{commit_line, commit_lines, port_line}
+use Rattle.cluster_service.proofs.Taken.{ledger_or_unsent}
 
 -- one more replica's history was taken
-pub one_taken : (config : Config) (first : ℕ) (ms : List History) (hs : List ℕ) (m : History) (h : ℕ) → AreTaken config first ms hs
-    → IsTaken config (first + length hs) m h → AreTaken config first (ms ++ m ∷ []) (hs ++ h ∷ [])
-one_taken config first [] [] m h all one =
-    let same : first + 0 ≡ first = omega arith in
-    (subst (λ k. IsTaken config k m h) same one, tt)
-one_taken config first (m1 ∷ ms) (h1 ∷ hs) m h all one =
-    let same : first + suc (length hs) ≡ first + 1 + length hs = omega arith in
-    (all.0, one_taken config (first + 1) ms hs m h all.1 (subst (λ k. IsTaken config k m h) same one))
-one_taken config first [] (h1 ∷ hs) m h all one = absurd all
-one_taken config first (m1 ∷ ms) [] m h all one = absurd all
+module _ (config : Config) (ring : Ring) where
+  pub one_taken : (first : ℕ) (ms : List History) (hs : List ℕ) (m : History) (h : ℕ) → AreTaken config ring first ms hs
+      → IsTaken config ring (first + length hs) m h → AreTaken config ring first (ms ++ m ∷ []) (hs ++ h ∷ [])
+  one_taken first [] [] m h all one =
+      let same : first + 0 ≡ first = omega arith in
+      (subst (λ k. IsTaken config ring k m h) same one, tt)
+  one_taken first (m1 ∷ ms) (h1 ∷ hs) m h all one =
+      let same : first + suc (length hs) ≡ first + 1 + length hs = omega arith in
+      (all.0, one_taken (first + 1) ms hs m h all.1 (subst (λ k. IsTaken config ring k m h) same one))
+  one_taken first [] (h1 ∷ hs) m h all one = absurd all
+  one_taken first (m1 ∷ ms) [] m h all one = absurd all
 
 -- the lines of replicas and of one behind them
 pub lines_append : (r : ℕ) (first : List ℕ) (h : ℕ)
@@ -69,18 +69,6 @@ pub no_line : commit_lines 0 [] ≡ []
 unfolding commit_lines
 no_line = refl
 
--- `?` passes a fault up as it is
-pub passed : {T : Type 0} (r : Result T ProgramFault) (e : ProgramFault) (P : ProgramFault → Type 0) → IsErrAnd r (λ y. y ≡ e) → P e
-    → IfErr r P
-passed (Ok x) e P is p = tt
-passed (Err y) e P is p = subst P (sym is) p
-
--- what follows from a fact about each fault
-pub of_each : {T : Type 0} (r : Result T ProgramFault) (P Q : ProgramFault → Type 0) → ((e : ProgramFault) → P e → Q e) → IfErr r P
-    → IfErr r Q
-of_each (Ok x) P Q so p = tt
-of_each (Err e) P Q so p = so e p
-
 -- prefixes of what a cluster writes that a fault ended
 abbrev pub WrittenSome : (List ℕ → List ℕ → Type 0) → Option (List ℕ) → Option (List ℕ) → Option (List ℕ) → Option (List ℕ) → Type 0
 WrittenSome P a b e f = (lines : List ℕ) × ((file : List ℕ) × (P lines file × (AppendsSome a b lines × AppendsSome e f file)))
@@ -91,12 +79,18 @@ nothing_ran s a e = ([], ([], (inl (refl, refl), (nothing_some a [], nothing_som
 
 -- the lines of the replicas were written, or a prefix of them
 pub commits_some : (s : ClusterSettings) (a b e : Option (List ℕ)) (histories : List History) (heights : List ℕ)
-    → length heights ≡ s.cluster.config.replicas → AreTaken s.cluster.config 0 histories heights → AppendsSome a b (commit_lines 0 heights)
+    → length heights ≡ s.cluster.config.replicas → AreTaken s.cluster.config (ring_of s.cluster) 0 histories heights
+    → AppendsSome a b (commit_lines 0 heights)
     → WrittenSome (ReportsSome s) a b e e
 commits_some s a b e histories heights each taken some =
     let commits : ReportsCommits s (commit_lines 0 heights) [] =
     record { histories = histories; heights = heights; each = each; taken = taken; shows = refl; none = refl } in
     (commit_lines 0 heights, ([], (inr (inl commits), (some, nothing_some e []))))
+
+-- histories that were taken under the keys of the settings
+pub taken_by : (s : ClusterSettings) (ring : Ring) (histories : List History) (heights : List ℕ) → ring ≡ ring_of s.cluster
+    → AreTaken s.cluster.config ring 0 histories heights → AreTaken s.cluster.config (ring_of s.cluster) 0 histories heights
+taken_by s ring histories heights keys taken = subst (λ r. AreTaken s.cluster.config r 0 histories heights) keys taken
 
 -- an audit of these histories, under the keys of the settings
 pub found_of : (s : ClusterSettings) (ring : Ring) (given histories : List History) (finding : Result (List Value) AuditFault)
@@ -106,7 +100,7 @@ found_of s ring given histories finding keys same found =
     subst (λ r. IsFinding s.cluster.config r histories finding) keys (subst (λ m. IsFinding s.cluster.config ring m finding) same found)
 
 module _ (s : ClusterSettings) (histories : List History) (heights : List ℕ) (finding : Result (List Value) AuditFault) (status : ℕ)
-    (each : length heights ≡ s.cluster.config.replicas) (taken : AreTaken s.cluster.config 0 histories heights)
+    (each : length heights ≡ s.cluster.config.replicas) (taken : AreTaken s.cluster.config (ring_of s.cluster) 0 histories heights)
     (found : IsFinding s.cluster.config (ring_of s.cluster) histories finding) (ends : status ≡ finding_status finding)
     (a b c e f : Option (List ℕ)) (first : Appends a b (commit_lines 0 heights)) where
   reported : Reports s status (commit_lines 0 heights ++ finding_text finding) (flat_map history_bytes histories)
@@ -117,6 +111,7 @@ module _ (s : ClusterSettings) (histories : List History) (heights : List ℕ) (
     taken = taken;
     finding = finding;
     found = found;
+    sound = ledger_or_unsent s.cluster.config (ring_of s.cluster) histories heights finding taken each found;
     ends = ends;
     shows = refl;
     saves = refl;

@@ -14,24 +14,32 @@ use Rattle.cluster_keys.specs.Keys.{ring_of}
 use Rattle.history_bytes.specs.Histories.{history_bytes}
 use Rattle.history_audit.specs.Findings.{IsFinding}
 use Rattle.history_audit.specs.declared.fault.AuditFault.{AuditFault}
+use Rattle.history_audit.specs.declared.fault.AuditFault.TheVariants as fault
 use Rattle.audit_lines.specs.AuditLines.{finding_status, finding_text}
 use Rattle.settings.specs.declared.cluster.ClusterSettings.{ClusterSettings}
 use Rattle.settings.specs.declared.cluster.ServeSettings.{ServeSettings}
 
 -- ---- what a cluster leaves
 
--- the history is the replica's at one moment, under the cluster's configuration; and it had committed this number of blocks by then
-pub record IsTaken (config : Config) (replica : ℕ) (m : History) (height : ℕ) : Type 0 where
+-- the history is the replica's at one moment, under the cluster's configuration and public keys; and the replica had committed this
+-- number of blocks by then
+pub record IsTaken (config : Config) (ring : Ring) (replica : ℕ) (m : History) (height : ℕ) : Type 0 where
   pub own : m.replica ≡ replica
-  pub ring : Ring
   pub replay : Replay config ring replica m.entries
   pub blocks : height ≡ length (commits_of config replica m.entries)
 
 -- the histories of replicas, from this number on, and the number of blocks that each had committed
-abbrev pub AreTaken : Config → ℕ → List History → List ℕ → Type 0
-AreTaken config first [] [] = ⊤
-AreTaken config first (m ∷ ms) (h ∷ hs) = IsTaken config first m h × AreTaken config (first + 1) ms hs
-AreTaken config first _ _ = ⊥
+abbrev pub AreTaken : Config → Ring → ℕ → List History → List ℕ → Type 0
+AreTaken config ring first [] [] = ⊤
+AreTaken config ring first (m ∷ ms) (h ∷ hs) = IsTaken config ring first m h × AreTaken config ring (first + 1) ms hs
+AreTaken config ring first _ _ = ⊥
+
+-- The histories of all replicas are a quorum's, and replays. So an audit of them finds their ledger, or a statement that its signer
+-- didn't send.
+abbrev pub IsLedgerOrUnsent : Result (List Value) AuditFault → Type 0
+IsLedgerOrUnsent (Ok ledger) = ⊤
+IsLedgerOrUnsent (Err (fault.Unsent reader i signer)) = ⊤
+IsLedgerOrUnsent (Err _) = ⊥
 
 -- ---- lines
 
@@ -44,15 +52,16 @@ unfoldable pub commit_lines : ℕ → List ℕ → List ℕ
 commit_lines replica [] = []
 commit_lines replica (height ∷ heights) = commit_line replica height ++ commit_lines (replica + 1) heights
 
--- The lines have one for each replica of the cluster, by number, with the blocks that it committed, and then what the audit of their
--- histories finds, by which the exit status is. The file has these histories.
+-- There is one line for each replica of the cluster, by number, with the blocks that it committed; then comes what the audit of their
+-- histories finds, which gives the exit status. The file has these histories.
 pub record Reports (s : ClusterSettings) (status : ℕ) (lines file : List ℕ) : Type 0 where
   pub histories : List History
   pub heights : List ℕ
   pub each : length heights ≡ s.cluster.config.replicas
-  pub taken : AreTaken s.cluster.config 0 histories heights
+  pub taken : AreTaken s.cluster.config (ring_of s.cluster) 0 histories heights
   pub finding : Result (List Value) AuditFault
   pub found : IsFinding s.cluster.config (ring_of s.cluster) histories finding
+  pub sound : IsLedgerOrUnsent finding
   pub ends : status ≡ finding_status finding
   pub shows : lines ≡ commit_lines 0 heights ++ finding_text finding
   pub saves : file ≡ flat_map history_bytes histories
@@ -62,7 +71,7 @@ pub record ReportsCommits (s : ClusterSettings) (lines file : List ℕ) : Type 0
   pub histories : List History
   pub heights : List ℕ
   pub each : length heights ≡ s.cluster.config.replicas
-  pub taken : AreTaken s.cluster.config 0 histories heights
+  pub taken : AreTaken s.cluster.config (ring_of s.cluster) 0 histories heights
   pub shows : lines ≡ commit_lines 0 heights
   pub none : file ≡ []
 
@@ -91,10 +100,20 @@ pub record Serves (s : ServeSettings) (P : List ℕ → List ℕ → Type 0) (li
 abbrev pub ServesSome : ServeSettings → List ℕ → List ℕ → Type 0
 ServesSome s lines file = ReportsNothing lines file ⊎ Serves s (ReportsSome s.cluster) lines file
 
--- the bytes in a file of which they may be known, if there is one
-abbrev pub bytes_in : Option (Option (List ℕ)) → Option (List ℕ)
+-- a file for histories: its path, and the bytes in it, if they are known
+pub record HistoriesFileView : Type 0 where
+  pub path : List ℕ
+  pub bytes : Option (List ℕ)
+
+-- the bytes in the file, if there is one and they are known
+abbrev pub bytes_in : Option HistoriesFileView → Option (List ℕ)
 bytes_in None = None
-bytes_in (Some bytes) = bytes
+bytes_in (Some file) = file.bytes
+
+-- the path of the file, if there is one
+abbrev pub path_of : Option HistoriesFileView → Option (List ℕ)
+path_of None = None
+path_of (Some file) = Some file.path
 
 -- such lines were written, and such bytes into the file; after a fault, prefixes of others
 abbrev pub WritesSuch : {E : Type 0} → Result ℕ E → (ℕ → List ℕ → List ℕ → Type 0) → (List ℕ → List ℕ → Type 0)

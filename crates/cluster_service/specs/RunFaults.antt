@@ -1,12 +1,13 @@
 -- Which faults end a running cluster, and when.
-use Rattle.std.specs.Prelude.{◌≡◌, ◌⊎◌, ℕ, Bool, true, false, IsTrue, ⊤, List, [], Option}
+use Rattle.std.specs.Prelude.{◌≡◌, ◌⊎◌, ℕ, Bool, true, false, IsTrue, ⊤, List, [], Option, Some}
 use Rattle.std.specs.Io.KnownBytes.{Keeps}
+use Rattle.std.specs.String.{string_bytes}
 use Rattle.program_streams.specs.declared.program_fault.ProgramFault.{ProgramFault}
 use Rattle.program_streams.specs.declared.program_fault.ProgramFault.TheVariants as fault
 use Rattle.program_streams.specs.declared.resource.Resource.{Resource}
 use Rattle.program_streams.specs.declared.resource.Resource.TheVariants as resource
 use Rattle.byte_streams.specs.Writing.{AppendsSome}
-use Rattle.cluster_service.specs.Reporting.{port_line}
+use Rattle.cluster_service.specs.Reporting.{HistoriesFileView, path_of, port_line}
 
 -- a cluster asks for this before it has ended: the input whose end stops it, the clock, and random bytes
 abbrev pub is_asked_in_run : Resource → Bool
@@ -24,6 +25,12 @@ IsRunFault fault.NoThread = ⊤
 IsRunFault (fault.Stranger replica) = ⊤
 IsRunFault _ = ⊥
 
+-- memory ran out, or standard output refused a write
+abbrev pub IsWriteFault : ProgramFault → Type 0
+IsWriteFault fault.NoMemory = ⊤
+IsWriteFault (fault.Refused refused error) = refused ≡ resource.Output
+IsWriteFault _ = ⊥
+
 -- its end asks for this: random bytes for the audit, and standard output
 abbrev pub is_asked_at_end : Resource → Bool
 is_asked_at_end resource.Random = true
@@ -31,28 +38,31 @@ is_asked_at_end resource.Output = true
 is_asked_at_end _ = false
 
 -- the end of a cluster that was run could not be written: memory ran out, one of these was refused, or the file of the histories was
-abbrev pub IsReportFault : ProgramFault → Type 0
-IsReportFault fault.NoMemory = ⊤
-IsReportFault (fault.Refused refused error) = IsTrue (is_asked_at_end refused)
-IsReportFault (fault.NoFile path error) = ⊤
-IsReportFault _ = ⊥
+abbrev pub IsReportFault : Option HistoriesFileView → ProgramFault → Type 0
+IsReportFault file fault.NoMemory = ⊤
+IsReportFault file (fault.Refused refused error) = IsTrue (is_asked_at_end refused)
+IsReportFault file (fault.NoFile path error) = path_of file ≡ Some (string_bytes path)
+IsReportFault file _ = ⊥
 
--- the file of the histories could not be made or written, or memory ran out
-abbrev pub IsFileFault : ProgramFault → Type 0
-IsFileFault fault.NoMemory = ⊤
-IsFileFault (fault.NoFile path error) = ⊤
-IsFileFault _ = ⊥
+-- the file of the histories with this path, if one is named, could not be made or written, or memory ran out
+abbrev pub IsFileFault : Option (List ℕ) → ProgramFault → Type 0
+IsFileFault named fault.NoMemory = ⊤
+IsFileFault named (fault.NoFile path error) = named ≡ Some (string_bytes path)
+IsFileFault named _ = ⊥
 
--- the port could not be listened at
-abbrev pub IsPortFault : ProgramFault → Type 0
-IsPortFault (fault.NoListener port error) = ⊤
-IsPortFault _ = ⊥
+-- this port could not be listened at
+abbrev pub IsPortFault : ℕ → ProgramFault → Type 0
+IsPortFault port (fault.NoListener refused error) = refused ≡ port
+IsPortFault port _ = ⊥
 
--- a fault of a run comes before anything is written, all others once it has ended
-abbrev pub EndsCluster : Option (List ℕ) → Option (List ℕ) → ProgramFault → Type 0
-EndsCluster before after f = IsReportFault f ⊎ (IsRunFault f × Keeps before after)
+-- A fault of a run comes before anything is written, into the file too, and all others come once it has ended.
+abbrev pub EndsCluster : Option HistoriesFileView → Option HistoriesFileView → Option (List ℕ) → Option (List ℕ) → ProgramFault → Type 0
+EndsCluster empty full before after f = IsReportFault empty f ⊎ (IsRunFault f × (Keeps before after × (full ≡ empty)))
 
--- the same of a server, which first writes the line of its port: by then at most that
-abbrev pub EndsServer : Option (List ℕ) → Option (List ℕ) → ProgramFault → Type 0
-EndsServer before after f =
-    IsReportFault f ⊎ ((IsRunFault f ⊎ IsPortFault f) × ((port : ℕ) × AppendsSome before after (port_line port)))
+-- The same of a server that was to listen at this port. If it can't listen there, it writes nothing. Otherwise it first writes the line of
+-- its port: by then at most that.
+abbrev pub EndsServer : ℕ → Option HistoriesFileView → Option HistoriesFileView → Option (List ℕ) → Option (List ℕ) → ProgramFault → Type 0
+EndsServer port empty full before after f =
+    IsReportFault empty f
+    ⊎ ((IsPortFault port f × (Keeps before after × (full ≡ empty)))
+    ⊎ (IsRunFault f × (((found : ℕ) × AppendsSome before after (port_line found)) × (full ≡ empty))))

@@ -44,17 +44,28 @@ fn are_same(one: &Config, other: &Config) -> bool
     one.replicas == other.replicas && one.faults == other.faults && one.kind == other.kind
 }
 
+/// Whether two rings have the same keys.
+fn have_same_keys(one: &KeyRing, other: &KeyRing) -> bool
+    ensures { result ≡ true → one.now ≡ other.now }
+{
+    one == other
+}
+
 /// What the replica with this number has by now, if this state is that replica's. A lock doesn't tell which state it guards, so this
 /// compares.
 fn taken_of<A: Application>(
     state: &State<A>,
     config: &Config,
+    ring: &KeyRing,
     id: ReplicaId,
 ) -> Result<Taken, ProgramFault>
-    ensures taken { IfOk result (λ taken. IsTaken config.now id taken.history taken.height) }
+    ensures taken { IfOk result (λ taken. IsTaken config.now ring.now id taken.history taken.height) }
     ensures fault { IfErr result IsRunFault }
 {
-    if state.id() != id || !are_same(state.config(), config) {
+    if state.id() != id
+        || !are_same(state.config(), config)
+        || !have_same_keys(state.ring(), ring)
+    {
         return Err(ProgramFault::Stranger(id.number()));
     }
     let height = state.height();
@@ -67,19 +78,20 @@ fn take<A: Application, R: Wait>(
     rt: &R,
     cluster: &RunningCluster<A>,
     config: &Config,
+    ring: &KeyRing,
     id: u8,
 ) -> Result<Taken, ProgramFault>
     requires { id < cluster.now.replicas }
-    ensures taken { IfOk result (λ taken. IsTaken config.now id taken.history taken.height) }
+    ensures taken { IfOk result (λ taken. IsTaken config.now ring.now id taken.history taken.height) }
     ensures fault { IfErr result IsRunFault }
 {
     let id = ReplicaId::new(id);
     let state = cluster.replica(id).lock(rt);
-    taken_of(&*state, config, id)
+    taken_of(&*state, config, ring, id)
 }
 
-/// The histories of the replicas, by number, each as of some moment of this call. The errors are that memory runs out, and that a
-/// state is of another cluster or has another number.
+/// The histories of the replicas, by number, each as of some moment of this call. The errors are NoMemory, and Stranger
+/// if a state has another number, configuration or key ring.
 pub(crate) fn take_all<A: Application, R: Wait>(
     rt: &R,
     alloc: Global,
@@ -89,7 +101,7 @@ pub(crate) fn take_all<A: Application, R: Wait>(
 ) -> Result<FinalHistories, ProgramFault>
     requires { config.now.replicas ≡ cluster.now.replicas }
     ensures each { IfOk result (λ all. vec_len all.heights ≡ config.now.replicas) }
-    ensures taken { IfOk result (λ all. AreTaken config.now 0 all.histories.items all.heights.items) }
+    ensures taken { IfOk result (λ all. AreTaken config.now all.ring 0 all.histories.items all.heights.items) }
     ensures ring { IfOk result (λ all. all.ring ≡ ring) }
     ensures fault { IfErr result IsRunFault }
 {
@@ -97,7 +109,7 @@ pub(crate) fn take_all<A: Application, R: Wait>(
     let mut histories = Vec::with_capacity(alloc, usize::from(replicas))?;
     let mut heights = Vec::with_capacity(alloc, usize::from(replicas))?;
     for id in 0..replicas {
-        let Taken { history, height } = take(rt, cluster, config, id)?;
+        let Taken { history, height } = take(rt, cluster, config, &ring, id)?;
         histories.push(history)?;
         heights.push(height)?;
     }

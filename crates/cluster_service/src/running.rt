@@ -36,7 +36,7 @@ pub fn listen_at<R: Net<Listener = TcpListener, Stream = TcpStream>>(
     port: u16,
 ) -> Result<(TcpListener, u16), ProgramFault>
     ensures asked { IfOk result (λ r. (port ≡ 0) ⊎ (r.1 ≡ port)) }
-    ensures fault { IfErr result IsPortFault }
+    ensures fault { IfErr result (IsPortFault port) }
 {
     match TcpListener::bind(rt, (Ipv4Addr::LOCALHOST, port)) {
         Ok(listener) => {
@@ -96,7 +96,7 @@ fn run_through<R: Clock + RandomSource + Threads + Wait + Sync>(
     stop: &Stop,
 ) -> Result<FinalHistories, ProgramFault>
     ensures each { IfOk result (λ left. vec_len left.heights ≡ settings.now.cluster.config.replicas) }
-    ensures taken { IfOk result (λ left. AreTaken settings.now.cluster.config 0 left.histories.items left.heights.items) }
+    ensures taken { IfOk result (λ left. AreTaken settings.now.cluster.config left.ring 0 left.histories.items left.heights.items) }
     ensures ring { IfOk result (λ left. left.ring ≡ ring_of settings.now.cluster) }
     ensures fault { IfErr result IsRunFault }
 {
@@ -119,7 +119,7 @@ pub fn run_cluster<R: Clock + RandomSource + Threads + Wait + Sync>(
     stop: &Stop,
 ) -> Result<FinalHistories, ProgramFault>
     ensures each { IfOk result (λ left. vec_len left.heights ≡ settings.now.cluster.config.replicas) }
-    ensures taken { IfOk result (λ left. AreTaken settings.now.cluster.config 0 left.histories.items left.heights.items) }
+    ensures taken { IfOk result (λ left. AreTaken settings.now.cluster.config left.ring 0 left.histories.items left.heights.items) }
     ensures ring { IfOk result (λ left. left.ring ≡ ring_of settings.now.cluster) }
     ensures fault { IfErr result IsRunFault }
 {
@@ -261,7 +261,7 @@ where
         + Wait
         + Sync,
     ensures each { IfOk result (λ left. vec_len left.heights ≡ settings.now.cluster.cluster.config.replicas) }
-    ensures taken { IfOk result (λ left. AreTaken settings.now.cluster.cluster.config 0 left.histories.items left.heights.items) }
+    ensures taken { IfOk result (λ left. AreTaken settings.now.cluster.cluster.config left.ring 0 left.histories.items left.heights.items) }
     ensures ring { IfOk result (λ left. left.ring ≡ ring_of settings.now.cluster.cluster) }
     ensures fault { IfErr result IsRunFault }
 {
@@ -300,7 +300,7 @@ where
         + Threads
         + Wait,
     ensures each { IfOk result (λ left. vec_len left.heights ≡ settings.now.cluster.cluster.config.replicas) }
-    ensures taken { IfOk result (λ left. AreTaken settings.now.cluster.cluster.config 0 left.histories.items left.heights.items) }
+    ensures taken { IfOk result (λ left. AreTaken settings.now.cluster.cluster.config left.ring 0 left.histories.items left.heights.items) }
     ensures ring { IfOk result (λ left. left.ring ≡ ring_of settings.now.cluster.cluster) }
     ensures fault { IfErr result IsRunFault }
 {

@@ -1,9 +1,10 @@
 //! The file into which a cluster writes its histories at its end.
-ghost use Rattle.std.specs.Prelude.{◌≡◌, IfErr, IfOk, is_some};
+ghost use Rattle.std.specs.Prelude.{◌≡◌, IfErr, IfOk, Some, option_map};
+ghost use Rattle.std.specs.String.{string_bytes};
 ghost use Rattle.std.specs.List.{flat_map};
 ghost use Rattle.history_bytes.specs.Histories.{history_bytes};
 ghost use Rattle.byte_streams.specs.Writing.{Writes};
-ghost use Rattle.cluster_service.specs.Reporting.{bytes_in};
+ghost use Rattle.cluster_service.specs.Reporting.{bytes_in, path_of};
 ghost use Rattle.cluster_service.specs.RunFaults.{IsFileFault};
 
 use byte_streams::write_whole;
@@ -56,7 +57,7 @@ fn write_histories<W: Write>(
     Ok(())
 }
 
-/// A file for the histories of a cluster, with its path. Contracts see its bytes, if they are known.
+/// A file for the histories of a cluster, with its path. Contracts see both, the bytes if they are known.
 pub struct HistoriesFile<W: Write> {
     path: String,
     file: W,
@@ -73,25 +74,26 @@ impl<W: Write + Drop> Drop for HistoriesFile<W> {
 }
 
 impl<W: Write> Model for HistoriesFile<W> {
-    ghost use Rattle.std.specs.Prelude.{ℕ, List, Option};
+    ghost use Rattle.std.specs.String.{string_bytes};
+    ghost use Rattle.cluster_service.specs.Reporting.{HistoriesFileView};
 
-    ghost Value = { Option (List ℕ) };
+    ghost Value = { HistoriesFileView };
 
-    ghost view = { λ f. W.contents f.file };
+    ghost view = { λ f. record { path = string_bytes f.path; bytes = W.contents f.file } };
 }
 
 impl<W: Write> HistoriesFile<W> {
-    ghost use Rattle.std.specs.Prelude.{IfErr};
+    ghost use Rattle.std.specs.Prelude.{IfErr, Some};
     ghost use Rattle.std.specs.List.{flat_map};
     ghost use Rattle.history_bytes.specs.Histories.{history_bytes};
     ghost use Rattle.byte_streams.specs.Writing.{Writes};
     ghost use Rattle.cluster_service.specs.RunFaults.{IsFileFault};
 
     /// Writes the histories, one after another. After an error a prefix of them was written: memory ran out, or a write
-    /// was refused. The fault of a refused write has the path, and a second one has no path.
+    /// was refused. A refused write moves the path into its fault; the fault of a later write has an empty path.
     pub fn save(&mut self, alloc: Global, histories: &[History]) -> Result<(), ProgramFault>
-        ensures written { Writes result self.old self.new (flat_map history_bytes histories.now) }
-        ensures fault { IfErr result IsFileFault }
+        ensures written { Writes result self.old.bytes self.new.bytes (flat_map history_bytes histories.now) }
+        ensures fault { IfErr result (IsFileFault (Some self.old.path)) }
     {
         match write_histories(alloc, histories, &mut self.file) {
             Ok(()) => Ok(()),
@@ -106,7 +108,8 @@ impl<W: Write> HistoriesFile<W> {
 
 /// Makes the file with this path, in place of what is there.
 fn create<R: Files>(rt: &R, path: &String) -> Result<HistoriesFile<R::File>, ProgramFault>
-    ensures { IfErr result IsFileFault }
+    ensures path { IfOk result (λ file. file.path ≡ string_bytes path.now) }
+    ensures fault { IfErr result (IsFileFault (Some (string_bytes path.now))) }
 {
     let path = path.clone()?;
     match fs::create(rt, path.as_str()) {
@@ -121,8 +124,8 @@ pub fn open_histories<R: Files>(
     rt: &R,
     settings: &ClusterSettings,
 ) -> Result<Option<HistoriesFile<R::File>>, ProgramFault>
-    ensures opened { IfOk result (λ file. is_some file ≡ is_some settings.now.histories) }
-    ensures fault { IfErr result IsFileFault }
+    ensures opened { IfOk result (λ file. path_of file ≡ option_map string_bytes settings.now.histories) }
+    ensures fault { IfErr result (IsFileFault (option_map string_bytes settings.now.histories)) }
 {
     match &settings.histories {
         Some(path) => Ok(Some(create(rt, path)?)),
@@ -137,7 +140,7 @@ pub(crate) fn save_histories<W: Write>(
     file: &mut Option<HistoriesFile<W>>,
 ) -> Result<(), ProgramFault>
     ensures written { Writes result (bytes_in file.old) (bytes_in file.new) (flat_map history_bytes histories.now) }
-    ensures fault { IfErr result IsFileFault }
+    ensures fault { IfErr result (IsFileFault (path_of file.old)) }
 {
     match file {
         Some(file) => file.save(alloc, histories),

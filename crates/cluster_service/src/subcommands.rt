@@ -50,11 +50,11 @@ fn report<S: RandomSource, W: Write, H: Write>(
     file: &mut Option<HistoriesFile<H>>,
 ) -> Result<u8, ProgramFault>
     requires each { length left.now.heights.items ≡ settings.now.cluster.config.replicas }
-    requires taken { AreTaken settings.now.cluster.config 0 left.now.histories.items left.now.heights.items }
+    requires taken { AreTaken settings.now.cluster.config left.now.ring 0 left.now.histories.items left.now.heights.items }
     requires ring { left.now.ring ≡ ring_of settings.now.cluster }
     ensures reports { WritesSuch result (Reports settings.now) (ReportsSome settings.now)
         (W.contents writer.old) (W.contents writer.new) (bytes_in file.old) (bytes_in file.new) }
-    ensures fault { IfErr result IsReportFault }
+    ensures fault { IfErr result (IsReportFault file.old) }
 {
     write_commits(alloc, &left.heights, writer)?;
     let config = &settings.cluster.config;
@@ -83,7 +83,7 @@ where
         (W.contents writer.old) (W.contents writer.new) (bytes_in file.old) (bytes_in file.new) }
     // A cluster that isn't run to its end writes nothing. After that it ends by its audit, whatever that finds, unless memory,
     // random bytes, standard output or the file is refused.
-    ensures fault { IfErr result (EndsCluster (W.contents writer.old) (W.contents writer.new)) }
+    ensures fault { IfErr result (EndsCluster file.old file.new (W.contents writer.old) (W.contents writer.new)) }
 {
     let stop = new_stop(rt, alloc, settings, input)?;
     let left = run_cluster(rt, alloc, settings, status, &stop)?;
@@ -115,7 +115,7 @@ where
     ensures serves { WritesSuch result (λ status. Serves settings.now (Reports settings.now.cluster status)) (ServesSome settings.now)
         (W.contents writer.old) (W.contents writer.new) (bytes_in file.old) (bytes_in file.new) }
     // A server that isn't run to its end writes at most its port.
-    ensures fault { IfErr result (EndsServer (W.contents writer.old) (W.contents writer.new)) }
+    ensures fault { IfErr result (EndsServer settings.now.port file.old file.new (W.contents writer.old) (W.contents writer.new)) }
 {
     let stop = new_stop(rt, alloc, &settings.cluster, input)?;
     let (listener, port) = listen_at(rt, settings.port)?;

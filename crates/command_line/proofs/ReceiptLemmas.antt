@@ -1,5 +1,6 @@
 -- Receipts, and the numbers before their colons.
-use Rattle.std.proofs.Common.{◌≡◌, ◌≢◌, ◌∙◌, ℕ, ◌<◌, ◌^◌, List, ◌∷◌, ◌++◌, length, get_or, true, false, ap, codes, sym, subst, inl, inr, arith, Bor}
+use Rattle.std.proofs.Common.{◌≡◌, ◌≢◌, ◌∙◌, ℕ, ◌<◌, ◌^◌, List, ◌∷◌, ◌++◌, length, get_or, true, false, ap, codes, sym, subst, inl, inr}
+use Rattle.std.proofs.Common.{arith, Bor}
 use Rattle.std.specs.Prelude.{◌⊎◌, ◌==◌, not, Option, Some, None}
 use Rattle.std.specs.List.{list_all}
 use Rattle.std.specs.Option.{MatchOption}

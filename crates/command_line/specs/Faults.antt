@@ -13,7 +13,7 @@ use Rattle.command_line.specs.Receipts.{SpellsReceipt}
 use Rattle.command_line.specs.Options.{HasOption, IsNumber, IsSeed, IsWritten, OptionTable, TakesEither, TakesNumber, TakesTransaction}
 use Rattle.command_line.specs.Options.{number_of, options_of, word_of}
 use Rattle.command_line.specs.declared.usage_fault.Input.{Input}
-use Rattle.command_line.specs.declared.usage_fault.Input.TheVariants.{Frames, Scenario, Histories}
+use Rattle.command_line.specs.declared.usage_fault.Input.TheVariants.{Frames, Scenario, AuditedHistories, DrawnHistories}
 use Rattle.command_line.specs.declared.usage_fault.UsageFault.{UsageFault}
 use Rattle.command_line.specs.declared.usage_fault.UsageFault.TheVariants as fault
 
@@ -42,7 +42,8 @@ pub record IsOperand (words : List Text) (subcommand word : Text) : Type 0 where
 abbrev pub reader_of : Input → Text
 reader_of Frames = codes "deliver"
 reader_of Scenario = codes "simulate"
-reader_of Histories = codes "audit"
+reader_of AuditedHistories = codes "audit"
+reader_of DrawnHistories = codes "draw"
 
 -- the fault names the word after a subcommand that reads its input from standard input
 abbrev pub NamesInput : List Text → UsageFault → Type 0
@@ -126,7 +127,8 @@ abbrev pub IsNoSubcommand : Option (Text × List Row) → Type 0
 IsNoSubcommand None = ⊤
 IsNoSubcommand (Some found) =
     (found.0 ≢ codes "sign") × ((found.0 ≢ codes "deliver")
-    × ((found.0 ≢ codes "simulate") × ((found.0 ≢ codes "cluster") × ((found.0 ≢ codes "serve") × ((found.0 ≢ codes "audit") × (found.0 ≢ codes "draw"))))))
+    × ((found.0 ≢ codes "simulate") × ((found.0 ≢ codes "cluster")
+    × ((found.0 ≢ codes "serve") × ((found.0 ≢ codes "audit") × (found.0 ≢ codes "draw"))))))
 
 -- the table of the subcommand that was found
 abbrev pub table_in : Option (Text × List Row) → OptionTable
@@ -151,7 +153,8 @@ IsRightOption words e = (kinds_of words ≡ []) × IsRightIn (subcommand_of abft
 -- has this fault
 abbrev pub IsRightFault : List Text → UsageFault → Type 0
 IsRightFault words (fault.CommandLine error) = HasKind (kinds_of words) error
-IsRightFault words (fault.NamedInput input word) = IsAmong kind.UnknownArgument (kinds_of words) × IsOperand words (reader_of input) word.now
+IsRightFault words (fault.NamedInput input word) = IsAmong kind.UnknownArgument (kinds_of words)
+    × IsOperand words (reader_of input) word.now
 IsRightFault words (fault.Number option least most word) = IsRightOption words (fault.Number option least most word)
 IsRightFault words (fault.Neither option one other word) = IsRightOption words (fault.Neither option one other word)
 IsRightFault words (fault.Seed word) = IsRightOption words (fault.Seed word)

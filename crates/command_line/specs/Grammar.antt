@@ -151,7 +151,8 @@ at_top a = record a { top = record a.top { has_version = true; subcommand_requir
 -- the program: its seven subcommands
 abbrev pub abft_app : App
 abft_app =
-    with_subcommand (with_subcommand (with_subcommand (with_subcommand (with_subcommand (with_subcommand (with_subcommand (at_top (new_app (codes "abft")))
+    with_subcommand (with_subcommand (with_subcommand (with_subcommand
+    (with_subcommand (with_subcommand (with_subcommand (at_top (new_app (codes "abft")))
     sign_app.top)
     deliver_app.top)
     simulate_app.top)

@@ -105,7 +105,8 @@ audit_options = record { numbers = cluster_numbers; transactions = []; names = c
 -- of `abft draw`
 abbrev pub draw_options : OptionTable
 draw_options = record {
-  numbers = cluster_numbers ++ limits (codes "height") 0 4096 ∷ limits (codes "first") 0 4000000000 ∷ limits (codes "last") 0 4000000000 ∷ [];
+  numbers = cluster_numbers ++ limits (codes "height") 0 4096 ∷ limits (codes "first") 0 4000000000 ∷ limits
+      (codes "last") 0 4000000000 ∷ [];
   transactions = [];
   names = cluster_names ++ codes "height" ∷ codes "first" ∷ codes "last" ∷ [];
 }

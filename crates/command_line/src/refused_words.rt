@@ -36,7 +36,11 @@ fn named_input<'a>(words: &'a [&'a str]) -> Option<UsageFault<'a>>
             word,
         }),
         "audit" => Some(UsageFault::NamedInput {
-            input: Input::Histories,
+            input: Input::AuditedHistories,
+            word,
+        }),
+        "draw" => Some(UsageFault::NamedInput {
+            input: Input::DrawnHistories,
             word,
         }),
         _ => None,

@@ -18,7 +18,9 @@ pub enum Input {
     /// The scenario of `abft simulate`.
     Scenario,
     /// The histories of `abft audit`.
-    Histories,
+    AuditedHistories,
+    /// The histories of `abft draw`.
+    DrawnHistories,
 }
 
 /// Why the words of a command line give no settings: what was wrong, and what was expected.
@@ -152,7 +154,8 @@ fn show_named<W: fmt::Write>(f: &mut fmt::Formatter<W>, input: Input, word: &str
     let told = match input {
         Input::Frames => "the frames come on standard input: abft deliver",
         Input::Scenario => "the scenario comes on standard input: abft simulate",
-        Input::Histories => "the histories come on standard input: abft audit",
+        Input::AuditedHistories => "the histories come on standard input: abft audit",
+        Input::DrawnHistories => "the histories come on standard input: abft draw",
     };
     let word = ShownWord::new(word);
     write!(f, "error: {told} <{word}")

@@ -1,5 +1,4 @@
 pub mod Tables
-pub mod Items
 pub mod Searching
 pub mod Replaying
 pub mod Waiting

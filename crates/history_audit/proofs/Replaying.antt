@@ -222,7 +222,8 @@ module _ (config : Config) (ring : Ring) (histories : List History) (n : ℕ) (o
 pub member_of : (config : Config) (histories : List History) (n : ℕ) (m : History) → are_of_a_quorum config histories ≡ true
     → history_of histories n ≡ Some m → m.replica < config.replicas
 member_of config histories n m count is =
-    subst (λ r. r < config.replicas) (sym (eqb-true m.replica n ((found_history histories n m is).1))) (is_member config histories n m count is)
+    subst (λ r. r < config.replicas) (sym (eqb-true m.replica n ((found_history histories n m is).1)))
+    (is_member config histories n m count is)
 
 -- some history was handed in, and none of them commits more than nothing
 some_empty : (config : Config) (histories : List History) → are_of_a_quorum config histories ≡ true

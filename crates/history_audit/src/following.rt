@@ -8,8 +8,8 @@ ghost use Rattle.replica_core.specs.Following.{IsSameReplicaState};
 ghost use Rattle.history_audit.specs.Followed.{AnswersFollowing, FollowedTo, FollowsOne, FollowsAll};
 
 use crate::fault::AuditFault;
-use crate::lookup::history_of;
 use abci::Application;
+use history_parts::history_of;
 use key_ring::KeyRing;
 use ledger_model::{Config, Entry, Height, History, Ledger, ReplicaId};
 use replica_core::Follower;

@@ -5,7 +5,6 @@ mod auditing;
 mod counting;
 mod fault;
 mod following;
-mod lookup;
 mod receipt;
 mod sending;
 mod sent_table;

@@ -1,10 +1,10 @@
 //! The statements of their own that histories send.
 ghost use Rattle.std.specs.Prelude.{◌≡◌, ◌<◌, ◌∷◌, [], IfOk, OnOk};
 ghost use Rattle.ledger_model.specs.Audits.{sends, own_sent};
-ghost use Rattle.ledger_model.specs.Lawful.{is_opened};
 ghost use Rattle.history_audit.specs.Tables.{Gains, IsTableOf, statements_of, bytes_of};
 
 use crate::sent_table::SentTable;
+use history_parts::is_opened;
 use ledger_model::{Entry, History, Place, ReplicaId, Reply, Sent, place_of};
 use signed_frames::Frame;
 use statements::DecodeFault;
@@ -61,13 +61,6 @@ fn add_reply(
         Place::Release => Ok(()),
         _ => add_frames(alloc, table, replica, ended.frames.as_slice()),
     }
-}
-
-/// Whether a round end opened a round.
-fn is_opened(reply: &Reply) -> bool
-    ensures { result ≡ is_opened reply.now }
-{
-    matches!(reply, Reply::RoundEnded(Ok(_)))
 }
 
 /// Adds the statements of its own that the replica sends in these entries, which are all of its history.

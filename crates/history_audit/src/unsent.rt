@@ -8,9 +8,9 @@ ghost use Rattle.history_audit.specs.Tables.{IsTableOf, lacks_part};
 ghost use Rattle.history_audit.specs.Searches.{IsLeast, AnswersSearch, AnswersReader, FindsUnsent, with_signer, least_with, accepted};
 
 use crate::fault::AuditFault;
-use crate::lookup::{has_history, history_of};
 use crate::sent_table::SentTable;
 use bytes::Bytes;
+use history_parts::{has_history, history_of};
 use ledger_model::{Config, Entry, Event, History, ReplicaId, Reply};
 use signed_frames::{Frame, SignedPart};
 use statements::DecodeFault;

@@ -252,7 +252,8 @@ module _ (ring : Ring) (row : InstanceView) (log : List Note) (old : MatchesLog 
       let none = taken_place (λ (a : Ack). a.signer) row.acks old.acks.ackers row.id ∙ sym (old.acks.same (λ a. nat_eq a.signer row.id))
       ∙ unread log (round_at ack_place j) _ old.timely (omega arith) in
       joined _ (own_ack_read ring _ _ (opens_acks place) c clock_now (own_ack_of row k v) signature
-      (record { some = omega arith; place = rw place refl; phase = eq-eqb k k refl }) refl (none_if_not_some (read_of row.acks row.id) none))
+      (record { some = omega arith; place = rw place refl; phase = eq-eqb k k refl }) refl
+      (none_if_not_some (read_of row.acks row.id) none))
 
   -- ---- by place
 

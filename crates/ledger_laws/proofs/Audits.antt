@@ -95,10 +95,12 @@ lacking n (m ∷ ms) below apart =
     ]
 
 -- histories of a quorum are at most as many as the cluster has replicas
-pub quorum_fits : (config : Config) (histories : List History) → are_of_a_quorum config histories ≡ true → length histories ≤ config.replicas
+pub quorum_fits : (config : Config) (histories : List History) → are_of_a_quorum config histories ≡ true
+    → length histories ≤ config.replicas
 quorum_fits config histories count =
     let parts = and_parts (nat_le config.replicas (length histories + config.faults)
-    && list_all (λ (m : History). nat_lt m.replica config.replicas) histories) (all_differ (map (λ (m : History). m.replica) histories)) count
+    && list_all (λ (m : History). nat_lt m.replica config.replicas) histories)
+    (all_differ (map (λ (m : History). m.replica) histories)) count
     in
     let ends = and_parts (nat_le config.replicas (length histories + config.faults))
     (list_all (λ (m : History). nat_lt m.replica config.replicas) histories) parts.0 in
@@ -110,7 +112,8 @@ pub are_correct : (config : Config) (ring : Ring) (histories : List History) →
 unfolding Replay Follows
 are_correct config ring histories count replay =
     let parts = and_parts (nat_le config.replicas (length histories + config.faults)
-    && list_all (λ (m : History). nat_lt m.replica config.replicas) histories) (all_differ (map (λ (m : History). m.replica) histories)) count
+    && list_all (λ (m : History). nat_lt m.replica config.replicas) histories)
+    (all_differ (map (λ (m : History). m.replica) histories)) count
     in
     let ends = and_parts (nat_le config.replicas (length histories + config.faults))
     (list_all (λ (m : History). nat_lt m.replica config.replicas) histories) parts.0 in

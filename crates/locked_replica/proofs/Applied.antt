@@ -157,7 +157,8 @@ abbrev pub IsStoredReplica : Core → List (List ℕ) → List StoredEntry → T
 IsStoredReplica core strings entries = IsReplica core.held core.keys (entries_of strings entries) × AreStored strings entries
 
 -- a core took an event, and the entry is stored as the last one
-pub record IsApplied (old new : Core) (before after : List (List ℕ)) (event : Event) (entries news : List StoredEntry) (stored : StoredEntry)
+pub record IsApplied (old new : Core) (before after : List (List ℕ)) (event : Event) (entries news : List StoredEntry)
+    (stored : StoredEntry)
     : Type 0 where
   pub was : IsStoredReplica old before entries
   pub few : length (entries_of before entries) < max_history_len
@@ -167,7 +168,8 @@ pub record IsApplied (old new : Core) (before after : List (List ℕ)) (event : 
   pub due : (es : List Entry) → MatchesHistory old.held es → IsDueBy old es
   pub grown : news ≡ entries ++ stored ∷ []
 
-pub applied_by : {old new : Core} {before after : List (List ℕ)} {event : Event} {entries reserved news : List StoredEntry} {stored : StoredEntry}
+pub applied_by : {old new : Core} {before after : List (List ℕ)} {event : Event} {entries reserved news : List StoredEntry}
+    {stored : StoredEntry}
     → IsTakenAs old new before after event stored → LeavesCore old new event → Extends before after
     → IsReplica old.held old.keys (entries_of before entries) × AreStored before entries → length entries < max_history_len
     → ((es : List Entry) → MatchesHistory old.held es → IsDueBy old es) → reserved ≡ entries → news ≡ reserved ++ stored ∷ []
@@ -237,7 +239,8 @@ module _ {old new : Core} {before after : List (List ℕ)} {event : Event} {entr
   still_mute = mute_on old new (entries_of before entries) (entries_of after news) (entry_of after stored) taken_on
       ∙ ap (is_mute_after (replica_of old.held old.keys (entries_of before entries))) facts.told.event_is
 
-  pub still_signed : UsesAsSigned (replica_of old.held old.keys (entries_of before entries)) (replica_of new.held new.keys (entries_of after news))
+  pub still_signed : UsesAsSigned (replica_of old.held old.keys (entries_of before entries))
+      (replica_of new.held new.keys (entries_of after news))
   still_signed = signed_on old new (entries_of before entries) (entries_of after news) (entry_of after stored) taken_on
 
 -- where memory ran out, all is as before, but leaves may be used

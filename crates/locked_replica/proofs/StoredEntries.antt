@@ -16,9 +16,10 @@ use Rattle.ledger_model.specs.Rules.{Ring}
 use Rattle.ledger_model.specs.declared.config.Config.{Config}
 use Rattle.locked_replica.specs.declared.stored_entry.StoredEntry.{StoredEntry}
 use Rattle.locked_replica.specs.declared.stored_entry.StoredEntry.TheVariants as stored
-use Rattle.locked_replica.specs.declared.stored_entry.StoredSent.{StoredSent}
+use Rattle.locked_replica.specs.declared.stored_entry.StoredFrame.{StoredFrame}
 use Rattle.locked_replica.specs.Strings.{Extends, strings_of, with_string, with_strings, strings_at, strings_in}
-use Rattle.locked_replica.specs.StoredEntries.{sent_of, entry_of, entries_of, AreSentWithin, IsWithin, EndsNone, BringsNone, IsDelivered, AreStored}
+use Rattle.locked_replica.specs.StoredEntries.{sent_of, entry_of, entries_of, AreSentWithin, IsWithin, EndsNone, BringsNone, IsDelivered}
+use Rattle.locked_replica.specs.StoredEntries.{AreStored}
 use Rattle.locked_replica.proofs.Strings.{extends_one, within_still, string_still, put_within, put_at, with_strings-append, strings_of-snoc}
 
 -- what holds of each element holds at an index
@@ -33,7 +34,7 @@ each_read P xs i x all below is = each_at P xs i x all (slice_get_read xs (lengt
 
 module _ (old new : List (List ℕ)) (grown : Extends old new) where
   -- sent frames stay
-  pub sent_still : (sent : List StoredSent) → AreSentWithin (length old) sent → map (sent_of new) sent ≡ map (sent_of old) sent
+  pub sent_still : (sent : List StoredFrame) → AreSentWithin (length old) sent → map (sent_of new) sent ≡ map (sent_of old) sent
   sent_still [] within = refl
   sent_still (s ∷ sent) within =
       let same : sent_of new s ≡ sent_of old s =
@@ -41,9 +42,9 @@ module _ (old new : List (List ℕ)) (grown : Extends old new) where
       let rest = sent_still sent within.1 in
       ap (λ x. x ∷ map (sent_of new) sent) same ∙ ap (λ l. sent_of old s ∷ l) rest
 
-  pub sent_within : (sent : List StoredSent) → AreSentWithin (length old) sent → AreSentWithin (length new) sent
+  pub sent_within : (sent : List StoredFrame) → AreSentWithin (length old) sent → AreSentWithin (length new) sent
   sent_within sent within =
-      each_weaker (λ (s : StoredSent). s.position < length old) (λ (s : StoredSent). s.position < length new) sent
+      each_weaker (λ (s : StoredFrame). s.position < length old) (λ (s : StoredFrame). s.position < length new) sent
       (λ s below. within_still old new s.position grown below) within
 
   -- an entry stays
@@ -94,20 +95,20 @@ module _ (old new : List (List ℕ)) (x : Sent) (position : ℕ) (put : new ≡ 
   one_grown = subst (Extends old) (sym put) (extends_one old x.frame)
 
   -- the frames that were stored stay, and this one is the next
-  pub sent_more : (stored : List StoredSent) (shown : List Sent) → AreSentWithin (length old) stored → map (sent_of old) stored ≡ shown
+  pub sent_more : (stored : List StoredFrame) (shown : List Sent) → AreSentWithin (length old) stored → map (sent_of old) stored ≡ shown
       → map (sent_of new) (stored ++ record { addressee = x.addressee; position = position } ∷ []) ≡ shown ++ x ∷ []
   sent_more stored shown within was =
-      let s : StoredSent = record { addressee = x.addressee; position = position } in
+      let s : StoredFrame = record { addressee = x.addressee; position = position } in
       let same : sent_of new s ≡ x = ap (λ frame. record { addressee = x.addressee; frame = frame }) (put_at new position x.frame there) in
       map-append (sent_of new) stored (s ∷ [])
       ∙ ap (λ l. l ++ sent_of new s ∷ []) (sent_still old new one_grown stored within ∙ was)
       ∙ ap (λ y. shown ++ y ∷ []) same
 
   -- all of their positions are those of strings
-  pub sent_within_more : (stored : List StoredSent) → AreSentWithin (length old) stored
+  pub sent_within_more : (stored : List StoredFrame) → AreSentWithin (length old) stored
       → AreSentWithin (length new) (stored ++ record { addressee = x.addressee; position = position } ∷ [])
   sent_within_more stored within =
-      each_append (λ (s : StoredSent). s.position < length new) stored (record { addressee = x.addressee; position = position } ∷ [])
+      each_append (λ (s : StoredFrame). s.position < length new) stored (record { addressee = x.addressee; position = position } ∷ [])
       (sent_within old new one_grown stored within) (put_within new position x.frame there, tt)
 
   -- and the table has their strings, and what it had at first
@@ -138,11 +139,15 @@ pub opens_none : (config : Config) (ring : Ring) (id : ℕ) (entries : List Entr
     → BringsNone e → Lawful config ring id entries e r → EndsNone r
 opens_none config ring id entries (event.Deliver bytes) r none lawful = absurd none
 opens_none config ring id entries event.RoundEnd r none lawful = absurd none
-opens_none config ring id entries (event.Submit bytes) r none lawful = λ ended is. subst (Lawful config ring id entries (event.Submit bytes)) is lawful
-opens_none config ring id entries (event.Propose h) r none lawful = λ ended is. subst (Lawful config ring id entries (event.Propose h)) is lawful
+opens_none config ring id entries (event.Submit bytes) r none lawful =
+    λ ended is. subst (Lawful config ring id entries (event.Submit bytes)) is lawful
+opens_none config ring id entries (event.Propose h) r none lawful =
+    λ ended is. subst (Lawful config ring id entries (event.Propose h)) is lawful
 opens_none config ring id entries event.Execute r none lawful = λ ended is. subst (Lawful config ring id entries event.Execute) is lawful
-opens_none config ring id entries (event.Query key h) r none lawful = λ ended is. subst (Lawful config ring id entries (event.Query key h)) is lawful
-opens_none config ring id entries (event.Retire floor) r none lawful = λ ended is. subst (Lawful config ring id entries (event.Retire floor)) is lawful
+opens_none config ring id entries (event.Query key h) r none lawful =
+    λ ended is. subst (Lawful config ring id entries (event.Query key h)) is lawful
+opens_none config ring id entries (event.Retire floor) r none lawful =
+    λ ended is. subst (Lawful config ring id entries (event.Retire floor)) is lawful
 
 -- and brings no string
 pub brings_none : (e : Event) (r : Reply) → BringsNone e → strings_at e r ≡ []

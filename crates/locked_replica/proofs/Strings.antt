@@ -1,22 +1,18 @@
 -- Tables of strings that grow, and the strings of a history with one more entry.
-use Rattle.std.proofs.Common.{◌≡◌, ℕ, ◌<◌, Bool, true, false, ◌||◌, cond, inl, inr, List, [], ◌∷◌, ◌++◌, length, take, refl, sym, ap, subst, ◌∙◌, append_assoc, length-append, arith}
+use Rattle.std.proofs.Common.{◌≡◌, ℕ, ◌<◌, Bool, true, false, ◌||◌, cond, inl, inr, List, [], ◌∷◌, ◌++◌, length, take, refl, sym, ap, subst}
+use Rattle.std.proofs.Common.{◌∙◌, append_assoc, length-append, arith}
 use Rattle.std.specs.Prelude.{Some, slice_get}
 use Rattle.std.proofs.Math.Seq.{take-append_seam}
-use Rattle.std.proofs.lemmas.Bool.{cases_Bool, eqb-true}
+use Rattle.std.proofs.lemmas.Bool.{cases_Bool}
 use Rattle.std.proofs.lemmas.Grind.{flat_map-append}
 use Rattle.std.proofs.lemmas.List.{append-nil, get_or_append_left}
 use Rattle.std.proofs.lemmas.List.Folds.{list_any-append}
 use Rattle.std.proofs.lemmas.Option.{get_or_from_slice_get, slice_get_within}
-use Rattle.std.specs.Prelude.{nat_eq}
 use Rattle.ledger_model.specs.Applications.{same_bytes}
 use Rattle.ledger_model.specs.Pools.{is_among}
 use Rattle.ledger_model.specs.declared.history.Entry.{Entry}
-use Rattle.ledger_model.proofs.Lists.{pointwise_equal}
+use Rattle.history_parts.proofs.Found.{bytes_equal}
 use Rattle.locked_replica.specs.Strings.{with_string, with_strings, strings_in, strings_of, all_strings, string_at, Extends, HaveSame}
-
--- strings that are the same are equal
-pub bytes_equal : (xs ys : List ℕ) → same_bytes xs ys ≡ true → xs ≡ ys
-bytes_equal xs ys same = pointwise_equal nat_eq (λ x y e. eqb-true x y e) xs ys same
 
 -- ---- a table that grows
 

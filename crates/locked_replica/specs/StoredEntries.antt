@@ -14,13 +14,13 @@ use Rattle.replica_core.specs.Steps.{IsStep, UsesLeaves}
 use Rattle.locked_replica.specs.declared.stored_entry.StoredEntry.{StoredEntry}
 use Rattle.locked_replica.specs.declared.stored_entry.StoredEntry.TheVariants as stored
 use Rattle.locked_replica.specs.declared.stored_entry.StoredRoundEnd.{StoredRoundEnd}
-use Rattle.locked_replica.specs.declared.stored_entry.StoredSent.{StoredSent}
+use Rattle.locked_replica.specs.declared.stored_entry.StoredFrame.{StoredFrame}
 use Rattle.locked_replica.specs.Strings.{string_at, strings_at, strings_of, with_strings}
 
 -- ---- what the positions mean
 
 -- a sent frame, with its addressee
-abbrev pub sent_of : List (List ℕ) → StoredSent → Sent
+abbrev pub sent_of : List (List ℕ) → StoredFrame → Sent
 sent_of strings s = record { addressee = s.addressee; frame = string_at strings s.position }
 
 -- a round end
@@ -29,8 +29,16 @@ round_end_of strings ended = record { mute = ended.mute; frames = map (sent_of s
 
 -- an entry
 abbrev pub entry_of : List (List ℕ) → StoredEntry → Entry
-entry_of strings (stored.Delivered position answer) = record { event = event.Deliver (string_at strings position); reply = reply.Delivered answer }
-entry_of strings (stored.RoundEnded (Ok ended)) = record { event = event.RoundEnd; reply = reply.RoundEnded (Ok (round_end_of strings ended.value)) }
+entry_of strings (stored.Delivered position answer) = record {
+  event = event.Deliver (string_at strings position);
+  reply =
+      reply.Delivered answer;
+}
+entry_of strings (stored.RoundEnded (Ok ended)) = record {
+  event = event.RoundEnd;
+  reply =
+      reply.RoundEnded (Ok (round_end_of strings ended.value));
+}
 entry_of strings (stored.RoundEnded (Err last)) = record { event = event.RoundEnd; reply = reply.RoundEnded (Err last) }
 entry_of strings (stored.Other entry) = entry.value
 
@@ -41,7 +49,7 @@ entries_of strings entries = map (entry_of strings) entries
 -- ---- the positions are those of strings
 
 -- the positions of sent frames are below n
-abbrev pub AreSentWithin : ℕ → List StoredSent → Type 0
+abbrev pub AreSentWithin : ℕ → List StoredFrame → Type 0
 AreSentWithin n sent = AllByRecursion (λ s. s.position < n) sent
 
 -- the reply opens no round

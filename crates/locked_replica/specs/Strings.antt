@@ -1,5 +1,6 @@
 -- The different byte strings of a history: what was delivered, and the frames that were sent.
-use Rattle.std.specs.Prelude.{◌≡◌, ℕ, List, [], ◌∷◌, ◌++◌, map, get_or, Ok, if◌then◌else◌}
+pub use Rattle.history_parts.specs.Strings.{with_string, string_at}
+use Rattle.std.specs.Prelude.{◌≡◌, ℕ, List, [], ◌∷◌, ◌++◌, map, Ok}
 use Rattle.std.specs.List.{flat_map}
 use Rattle.ledger_model.specs.Pools.{is_among}
 use Rattle.ledger_model.specs.declared.event.Event.{Event}
@@ -7,10 +8,6 @@ use Rattle.ledger_model.specs.declared.event.Event.TheVariants as event
 use Rattle.ledger_model.specs.declared.history.Entry.{Entry}
 use Rattle.ledger_model.specs.declared.reply.Reply.{Reply}
 use Rattle.ledger_model.specs.declared.reply.Reply.TheVariants as reply
-
--- the strings, with this one as the last unless it is one of them
-abbrev pub with_string : List (List ℕ) → List ℕ → List (List ℕ)
-with_string strings s = if is_among strings s then strings else strings ++ s ∷ []
 
 -- the strings, with each of these in turn
 abbrev pub with_strings : List (List ℕ) → List (List ℕ) → List (List ℕ)
@@ -38,10 +35,6 @@ strings_of entries = with_strings [] (all_strings entries)
 -- both lists have the same strings
 abbrev pub HaveSame : List (List ℕ) → List (List ℕ) → Type 0
 HaveSame xs ys = (s : List ℕ) → is_among xs s ≡ is_among ys s
-
--- the string at a position
-abbrev pub string_at : List (List ℕ) → ℕ → List ℕ
-string_at strings position = get_or strings position []
 
 -- the new strings are the old ones, and perhaps more after them
 pub record Extends (old new : List (List ℕ)) : Type 0 where

@@ -40,8 +40,6 @@ mod reply_view;
 mod snapshot;
 mod state;
 mod stored_entry;
-mod stored_string;
-mod string_table;
 mod taking;
 
 pub use entry_view::EntryView;

@@ -5,11 +5,11 @@ use crate::entry_view::EntryView;
 use crate::fault::ApplyFault;
 use crate::snapshot::{Snapshot, copy_entries};
 use crate::stored_entry::StoredEntry;
-use crate::string_table::StringTable;
 use crate::taking::take_event;
 use abci::{Application, Info};
 use batch_pool::Pool;
 use bytes::Bytes;
+use history_parts::StringTable;
 use key_ring::{KeyRing, Signer};
 use ledger_model::{Batch, Config, Entries, Event, Height, History, Ignored, ReplicaId};
 use replica_core::Core;
@@ -198,7 +198,7 @@ impl<A: Application> State<A> {
     /// The number of different byte strings in the history: delivered bytes and sent frames. Each is stored once.
     pub fn strings(&self) -> usize
         ensures count { result ≡ length (strings_of self.now.entries) }
-        // They are all different, and exactly those of the history.
+        // So they are all different, and exactly those of the history: both follow from the definition.
         ensures distinct { IsDistinct same_bytes (strings_of self.now.entries) }
         ensures same { HaveSame (strings_of self.now.entries) (all_strings self.now.entries) }
     {
@@ -206,10 +206,13 @@ impl<A: Application> State<A> {
     }
 
     /// The byte string at a position, in the order in which they came first; `None` if there are fewer.
-    pub fn string(&self, position: usize) -> Option<&Bytes>
+    pub fn string(&self, position: usize) -> Option<&[u8]>
         ensures { option_copied result ≡ slice_get (strings_of self.now.entries) position }
     {
-        self.strings.get(position)
+        match self.strings.get(position) {
+            Some(string) => Some(string.as_slice()),
+            None => None,
+        }
     }
 
     /// The pool: the transactions that wait for a block, in order of arrival.

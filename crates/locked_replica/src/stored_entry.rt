@@ -3,7 +3,7 @@ ghost use Rattle.std.specs.Prelude.{◌≡◌, ◌<◌, length, map, IfOk, OnOk}
 ghost use Rattle.locked_replica.specs.Strings.{Extends, with_strings};
 ghost use Rattle.locked_replica.specs.StoredEntries.{AreSentWithin, IsWithin, sent_of, round_end_of, entry_of};
 
-use crate::string_table::StringTable;
+use history_parts::StringTable;
 use ledger_model::{
     Addressee, Entry, Event, Ignored, LastRound, Reply, RoundEnded, Sent, SentFrames,
 };
@@ -24,12 +24,12 @@ pub(crate) enum StoredEntry {
 pub(crate) struct StoredRoundEnd {
     /// Whether the replica is mute: it makes no further statement.
     pub(crate) mute: bool,
-    pub(crate) sent: Vec<StoredSent>,
+    pub(crate) sent: Vec<StoredFrame>,
 }
 
 /// The position of a frame that was sent, and its addressee.
 #[derive(Clone, Copy)]
-pub(crate) struct StoredSent {
+pub(crate) struct StoredFrame {
     pub(crate) addressee: Addressee,
     pub(crate) position: usize,
 }
@@ -40,7 +40,7 @@ fn store_frames(
     alloc: Global,
     strings: &mut StringTable,
     frames: &[Sent],
-) -> Result<Vec<StoredSent>, AllocError>
+) -> Result<Vec<StoredFrame>, AllocError>
     ensures sent { IfOk result (λ sent. map (sent_of strings.new) sent.items ≡ frames.now) }
     ensures within { IfOk result (λ sent. AreSentWithin (length strings.new) sent.items) }
     ensures strings { OnOk result (strings.new ≡ with_strings strings.old (map (λ sent. sent.frame) frames.now)) }
@@ -49,7 +49,7 @@ fn store_frames(
     let mut stored = Vec::with_capacity(alloc, frames.len())?;
     for sent in frames {
         let position = strings.put(sent.frame.clone()?)?;
-        stored.push(StoredSent {
+        stored.push(StoredFrame {
             addressee: sent.addressee,
             position,
         })?;
@@ -76,7 +76,7 @@ pub(crate) fn store_round_end(
 }
 
 /// The sent frames, which share the bytes of the table.
-fn frames_of(strings: &StringTable, stored: &[StoredSent]) -> Result<SentFrames, AllocError>
+fn frames_of(strings: &StringTable, stored: &[StoredFrame]) -> Result<SentFrames, AllocError>
     requires { AreSentWithin (length strings.now) stored.now }
     ensures { IfOk result (λ frames. frames ≡ map (sent_of strings.now) stored.now) }
 {

@@ -1,8 +1,10 @@
 -- A text to which pieces are appended one by one.
-use Rattle.std.proofs.Common.{◌≡◌, ◌∙◌, ℕ, List, [], ◌∷◌, ◌++◌, sym, ap, append_assoc, append-nil, ◌+◌, ◌-◌, ◌<◌, ◌≤◌, zero, suc, length, drop, get_or, arith}
+use Rattle.std.proofs.Common.{◌≡◌, ◌∙◌, ℕ, List, [], ◌∷◌, ◌++◌, sym, ap, append_assoc, append-nil, ◌+◌, ◌-◌, ◌<◌, ◌≤◌, zero, suc, length}
+use Rattle.std.proofs.Common.{drop, get_or, arith}
 use Rattle.std.specs.List.{flat_map}
 use Rattle.std.proofs.Math.ListN.{drop_of_length-le}
-use Rattle.run_picture.proofs.Orders.{drop_item, one_more, no_more}
+use Rattle.history_parts.proofs.Items.{drop_item}
+use Rattle.run_picture.proofs.Orders.{one_more, no_more}
 use Rattle.picture_svg.specs.Xml.{joined}
 
 -- the pieces are appended one by one
@@ -21,7 +23,8 @@ appended_joined out (p ∷ q ∷ ps) end done =
 
 -- the text of one element more is appended
 pub each_next : {X : Type 0} (f : X → List ℕ) (xs : List X) (i : ℕ) (x : X) (out next start : List ℕ) → i < length xs → x ≡ get_or xs i x
-    → out ++ flat_map f (drop i xs) ≡ start ++ flat_map f xs → next ≡ out ++ f x → next ++ flat_map f (drop (i + 1) xs) ≡ start ++ flat_map f xs
+    → out ++ flat_map f (drop i xs) ≡ start ++ flat_map f xs → next ≡ out ++ f x
+    → next ++ flat_map f (drop (i + 1) xs) ≡ start ++ flat_map f xs
 each_next f xs i x out next start inside is before now =
     one_more out next start (f x) (flat_map f (drop (i + 1) xs)) (flat_map f xs)
     (sym (ap (λ ys. out ++ flat_map f ys) (drop_item xs i x inside is)) ∙ before) now
@@ -29,7 +32,8 @@ each_next f xs i x out next start inside is before now =
 -- no element is left
 pub each_last : {X : Type 0} (f : X → List ℕ) (xs : List X) (i : ℕ) (out start : List ℕ) → length xs ≤ i
     → out ++ flat_map f (drop i xs) ≡ start ++ flat_map f xs → out ≡ start ++ flat_map f xs
-each_last f xs i out start over before = no_more out start (flat_map f (drop i xs)) (flat_map f xs) before (ap (flat_map f) (drop_of_length-le xs over))
+each_last f xs i out start over before = no_more out start (flat_map f (drop i xs)) (flat_map f xs) before
+    (ap (flat_map f) (drop_of_length-le xs over))
 
 -- ---- what each of n numbers adds
 

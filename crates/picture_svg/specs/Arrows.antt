@@ -36,7 +36,8 @@ sent_text l s =
 -- the arrow from a sent frame to where it is delivered
 abbrev pub arrow_text : Layout → SentFrame → Delivery → List ℕ
 arrow_text l s d =
-    shape_text (joined (codes "arrow " ∷ kind_class d.statement ∷ answer_class d.answer ∷ [])) (start_x l s) (statement_y s.at.replica s.statement)
+    shape_text (joined (codes "arrow " ∷ kind_class d.statement ∷ answer_class d.answer ∷ [])) (start_x l s)
+    (statement_y s.at.replica s.statement)
     (line_text (end_x l d.at s.at.replica) (statement_y d.at.replica d.statement))
 
 -- the replica that a frame from outside the picture claims to be of

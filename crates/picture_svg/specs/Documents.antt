@@ -14,7 +14,8 @@ use Rattle.picture_svg.specs.Marks.{marks_from}
 -- the start of the document, with its size
 abbrev pub open_text : ℕ → ℕ → List ℕ
 open_text w h =
-    joined (codes "<svg xmlns=\"http://www.w3.org/2000/svg\" viewBox=\"0 0 " ∷ decimal w ∷ codes " " ∷ decimal h ∷ codes "\" width=\"" ∷ decimal w
+    joined (codes "<svg xmlns=\"http://www.w3.org/2000/svg\" viewBox=\"0 0 " ∷ decimal w ∷ codes " " ∷ decimal h ∷ codes "\" width=\"" ∷
+    decimal w
     ∷ codes "\" height=\"" ∷ decimal h ∷ codes "\">\n" ∷ [])
 
 -- which rounds the picture shows, and of how many
@@ -58,7 +59,8 @@ frames_text l p = joined (flat_map (sent_text l) p.sent.items ∷ flat_map (arri
 abbrev pub elements_text : Layout → Picture → List ℕ
 elements_text l p =
     joined (rows_from l p.rounds.items 0 l.config.replicas ∷ columns_from l l.first (l.last + 1 - l.first) ∷ frames_text l p
-    ∷ marks_from l None 0 p.facts.items ∷ marks_from l None 0 p.locks.items ∷ marks_from l None 0 p.decisions.items ∷ [])
+    ∷ marks_from l None 0 p.facts.items ∷ marks_from l None 0 p.locks.items ∷ marks_from l None 0 p.decisions.items
+    ∷ marks_from l None 0 p.retired.items ∷ [])
 
 -- the picture as a document, in this style and with this legend
 abbrev pub svg_text : List ℕ → List ℕ → Picture → List ℕ

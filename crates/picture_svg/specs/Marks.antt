@@ -49,7 +49,7 @@ fact_words (fact.Opens v) h = value_words h (codes "opened with") v
 fact_words (fact.Holds v) h = value_words h (codes "locked on") v
 fact_words (fact.Decides v) h = value_words h (codes "decided:") v
 fact_words fact.Runs h = done_words h (codes "run")
-fact_words fact.Retires h = done_words h (codes "and all below retired")
+fact_words fact.Retires h = done_words h (codes "retired")
 
 -- where a mark is that has the number k of those at one spot
 abbrev pub mark_x : Layout → ℕ → Mark → ℕ
@@ -81,4 +81,5 @@ spread (Some b) k s = if is_same_spot b s then (k + 1) % 8 else 0
 -- marks, after one at a spot with the number k
 abbrev pub marks_from : Layout → Option Spot → ℕ → List Mark → List ℕ
 marks_from l before k [] = []
-marks_from l before k (m ∷ ms) = mark_text l (spread before k (spot_of m)) m ++ marks_from l (Some (spot_of m)) (spread before k (spot_of m)) ms
+marks_from l before k (m ∷ ms) = mark_text l (spread before k (spot_of m)) m ++ marks_from l (Some (spot_of m))
+    (spread before k (spot_of m)) ms

@@ -13,7 +13,8 @@ line_text x y = joined (codes "L" ∷ decimal x ∷ codes " " ∷ decimal y ∷ 
 
 -- a number that is shown at a point
 abbrev pub label_text : ℕ → ℕ → ℕ → List ℕ
-label_text x y n = joined (codes "<text x=\"" ∷ decimal x ∷ codes "\" y=\"" ∷ decimal y ∷ codes "\" dy=\"4\">" ∷ decimal n ∷ codes "</text>" ∷ [])
+label_text x y n = joined (codes "<text x=\"" ∷ decimal x ∷ codes "\" y=\"" ∷ decimal y ∷ codes "\" dy=\"4\">" ∷ decimal n ∷ codes
+    "</text>" ∷ [])
 
 -- a name that is shown from a point on: a word, and a number
 abbrev pub name_text : ℕ → ℕ → List ℕ → ℕ → List ℕ

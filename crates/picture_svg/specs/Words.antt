@@ -46,7 +46,8 @@ statement_words (Some (statement.Ack a)) = ack_words a
 
 -- ` by replica 1 in round 3 (entry 17)`
 abbrev pub place_words : ℕ → ℕ → ℕ → List ℕ
-place_words r c i = joined (codes " by replica " ∷ decimal r ∷ codes " in round " ∷ decimal c ∷ codes " (entry " ∷ decimal i ∷ codes ")" ∷ [])
+place_words r c i = joined (codes " by replica " ∷ decimal r ∷ codes " in round " ∷ decimal c ∷ codes " (entry " ∷ decimal i
+    ∷ codes ")" ∷ [])
 
 -- to whom a frame is sent
 abbrev pub addressee_words : Addressee → List ℕ

@@ -188,7 +188,8 @@ fn add_elements(out: &mut Vec<u8>, layout: &Layout, picture: &Picture) -> Result
     add_frames(out, layout, picture)?;
     add_marks(out, layout, &picture.facts)?;
     add_marks(out, layout, &picture.locks)?;
-    add_marks(out, layout, &picture.decisions)
+    add_marks(out, layout, &picture.decisions)?;
+    add_marks(out, layout, &picture.retired)
 }
 
 /// Appends the picture as a document, in this style and with this legend.

@@ -77,7 +77,7 @@ fn add_fact(out: &mut Vec<u8>, fact: &Fact, height: u32) -> Result<(), AllocErro
         Fact::Holds(value) => add_value_at(out, height, "locked on", value),
         Fact::Decides(value) => add_value_at(out, height, "decided:", value),
         Fact::Runs => add_done_at(out, height, "run"),
-        Fact::Retires => add_done_at(out, height, "and all below retired"),
+        Fact::Retires => add_done_at(out, height, "retired"),
     }
 }
 

@@ -12,7 +12,7 @@ use Rattle.settings.specs.declared.audit.AuditSettings.{AuditSettings}
 use Rattle.byte_streams.specs.Writing.{AppendsSome, Writes}
 use Rattle.byte_streams.proofs.Faults.{each_way}
 use Rattle.byte_streams.proofs.WritingLemmas.{nothing_some}
-use Rattle.program.specs.declared.outcome.Ending.{Ending}
+use Rattle.program.specs.declared.outcome.Conclusion.{Conclusion}
 use Rattle.program.specs.Auditing.{Audits, AuditsSome, AuditsWritten, AuditsWrittenSome, IsAudited, ReadsWhole}
 use Rattle.program.specs.Auditing.{audit_status, audit_text, bad_history, receipt_check}
 
@@ -58,7 +58,7 @@ module _ (s : AuditSettings) (input : List ℕ) (unread left : Option (List ℕ)
     written = written;
   }
 
-  pub audits_histories : {E : Type 0} (r : Result Ending E) (histories : List History) (before after : Option (List ℕ))
+  pub audits_histories : {E : Type 0} (r : Result Conclusion E) (histories : List History) (before after : Option (List ℕ))
       → ReadsWhole unread left input → histories_reading input ≡ Some histories
       → MatchResult r (λ ending. AuditsWritten s histories ending.status before after)
       (λ _. AuditsWrittenSome s histories before after)
@@ -68,7 +68,7 @@ module _ (s : AuditSettings) (input : List ℕ) (unread left : Option (List ℕ)
       (λ fault part. audits_part histories before after whole reads part) done
 
   -- the input is no histories, which was told
-  pub audits_none : {E : Type 0} (r : Result Ending E) (before after : Option (List ℕ)) → ReadsWhole unread left input
+  pub audits_none : {E : Type 0} (r : Result Conclusion E) (before after : Option (List ℕ)) → ReadsWhole unread left input
       → histories_reading input ≡ None → Writes r before after bad_history
       → IfOk r (λ ending. (ending.explanation ≡ None) × (ending.status ≡ 1))
       → MatchResult r (λ ending. Audits s ending.status unread left before after) (λ _. AuditsSome s unread left before after)

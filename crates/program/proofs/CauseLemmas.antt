@@ -1,7 +1,6 @@
 -- Why `abft deliver` stops, from call to call.
 use Rattle.std.proofs.Common.{◌≡◌, ℕ, ◌≤◌, List, length, refl, subst, sym}
 use Rattle.std.specs.Prelude.{Option, Result, Ok, Err, IfErr, IsTrue}
-use Rattle.std.specs.Result.{IsErrAnd}
 use Rattle.ledger_model.specs.declared.history.Entry.{Entry}
 use Rattle.settings.specs.declared.deliver.DeliverSettings.{DeliverSettings}
 use Rattle.program_streams.specs.declared.program_fault.ProgramFault.{ProgramFault}
@@ -10,12 +9,6 @@ use Rattle.program_streams.specs.Faults.{IsMemoryOrAsked, is_asked}
 use Rattle.program.specs.Faults.{IsReadFault, StopsAt}
 use Rattle.program.specs.Streams.{FillsHistory, StopsDelivery}
 use Rattle.ledger_model.specs.Limits.{max_history_len}
-
--- `?` passes a fault up as it is
-pub passed : {T : Type 0} (r : Result T ProgramFault) (e : ProgramFault) (P : ProgramFault → Type 0) → IsErrAnd r (λ y. y ≡ e) → P e
-    → IfErr r P
-passed (Ok x) e P is p = tt
-passed (Err y) e P is p = subst P (sym is) p
 
 -- allocation failure, or a resource that the system refused, stops the program whatever the history is
 pub stops_anyway : (entries : List Entry) (e : ProgramFault) → IsMemoryOrAsked e → StopsAt entries e

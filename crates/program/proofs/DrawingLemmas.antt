@@ -7,7 +7,7 @@ use Rattle.history_bytes.specs.HistoryReading.{histories_reading}
 use Rattle.settings.specs.declared.draw.DrawSettings.{DrawSettings}
 use Rattle.byte_streams.specs.Writing.{Writes}
 use Rattle.byte_streams.proofs.WritingLemmas.{nothing_some}
-use Rattle.program.specs.declared.outcome.Ending.{Ending}
+use Rattle.program.specs.declared.outcome.Conclusion.{Conclusion}
 use Rattle.program.specs.Auditing.{ReadsWhole, bad_history}
 use Rattle.program.specs.Drawing.{Draws, DrawsSome, DrawsWritten, DrawsWrittenSome, IsDrawn, Drawn}
 
@@ -25,7 +25,7 @@ module _ (s : DrawSettings) (input : List ℕ) (unread left : Option (List ℕ))
       record { input = input; text = []; goes_with = inl refl; read = read; written = nothing_some before [] }
 
   -- the input is histories, which were drawn
-  pub draws_histories : {E : Type 0} (r : Result Ending E) (histories : List History) (before after : Option (List ℕ))
+  pub draws_histories : {E : Type 0} (r : Result Conclusion E) (histories : List History) (before after : Option (List ℕ))
       → ReadsWhole unread left input → histories_reading input ≡ Some histories
       → MatchResult r (λ ending. (ending.status ≡ 0) × DrawsWritten s histories before after)
       (λ _. DrawsWrittenSome s histories before after)
@@ -45,7 +45,7 @@ module _ (s : DrawSettings) (input : List ℕ) (unread left : Option (List ℕ))
   }
 
   -- the input is no histories, which was told
-  pub draws_none : {E : Type 0} (r : Result Ending E) (before after : Option (List ℕ)) → ReadsWhole unread left input
+  pub draws_none : {E : Type 0} (r : Result Conclusion E) (before after : Option (List ℕ)) → ReadsWhole unread left input
       → histories_reading input ≡ None → Writes r before after bad_history
       → IfOk r (λ ending. (ending.explanation ≡ None) × (ending.status ≡ 1))
       → MatchResult r (λ ending. Draws s ending.status unread left before after) (λ _. DrawsSome s unread left before after)
@@ -62,7 +62,7 @@ module _ (s : DrawSettings) (input : List ℕ) (unread left : Option (List ℕ))
   }
 
 -- what ends with nothing to explain does so whatever its status
-pub plain_ended : {E : Type 0} (r : Result Ending E) → IfOk r (λ ending. (ending.explanation ≡ None) × (ending.status ≡ 1))
+pub plain_ended : {E : Type 0} (r : Result Conclusion E) → IfOk r (λ ending. (ending.explanation ≡ None) × (ending.status ≡ 1))
     → IfOk r (λ ending. ending.explanation ≡ None)
 plain_ended (Ok ending) is = is.0
 plain_ended (Err fault) is = tt

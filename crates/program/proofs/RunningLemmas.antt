@@ -30,7 +30,7 @@ use Rattle.program.specs.Auditing.{Audits, AuditsSome}
 use Rattle.program.specs.Drawing.{Draws, DrawsSome}
 use Rattle.program.proofs.DrawingLemmas.{drawn_small}
 use Rattle.program.proofs.AuditingLemmas.{audited_small}
-use Rattle.program.specs.declared.outcome.Ending.{Ending}
+use Rattle.program.specs.declared.outcome.Conclusion.{Conclusion}
 use Rattle.program.specs.declared.outcome.Outcome.{Outcome}
 use Rattle.program.specs.declared.outcome.Outcome.TheVariants as outcome
 use Rattle.program.specs.declared.outcome.Piped.{Piped}
@@ -84,7 +84,7 @@ pub played_halted : (x : Piped) (s : SimulateSettings) (unread left before after
 played_halted x s unread left before after is some = subst (λ y. Halted (settings_of y) unread left before after) (sym is) some
 
 -- histories were audited
-pub audited_done : {E : Type 0} (x : Piped) (s : AuditSettings) (r : Result Ending E) (unread left before after : Option (List ℕ))
+pub audited_done : {E : Type 0} (x : Piped) (s : AuditSettings) (r : Result Conclusion E) (unread left before after : Option (List ℕ))
     → x ≡ piped.Audit s
     → MatchResult r (λ ending. Audits s ending.status unread left before after) (λ _. AuditsSome s unread left before after)
     → MatchResult r (λ ending. Done (settings_of x) ending.status unread left before after)
@@ -93,14 +93,14 @@ audited_done x s r unread left before after is done =
     subst (λ y. MatchResult r (λ ending. Done (settings_of y) ending.status unread left before after)
     (λ _. Halted (settings_of y) unread left before after)) (sym is) done
 
-pub audit_explains : {E : Type 0} (x : Piped) (s : AuditSettings) (r : Result Ending E) → x ≡ piped.Audit s
+pub audit_explains : {E : Type 0} (x : Piped) (s : AuditSettings) (r : Result Conclusion E) → x ≡ piped.Audit s
     → IfOk r (λ ending. (ending.explanation ≡ None) ⊎ (ending.status ≡ 1)) → IfOk r (ExplainsAudit (settings_of x))
 audit_explains x s (Ok ending) is (inl none) = inl none
 audit_explains x s (Ok ending) is (inr one) = inr (one, subst (λ y. IsAudit (settings_of y)) (sym is) (s, refl))
 audit_explains x s (Err fault) is explains = tt
 
 -- histories were drawn
-pub drawn_done : {E : Type 0} (x : Piped) (s : DrawSettings) (r : Result Ending E) (unread left before after : Option (List ℕ))
+pub drawn_done : {E : Type 0} (x : Piped) (s : DrawSettings) (r : Result Conclusion E) (unread left before after : Option (List ℕ))
     → x ≡ piped.Draw s
     → MatchResult r (λ ending. Draws s ending.status unread left before after) (λ _. DrawsSome s unread left before after)
     → MatchResult r (λ ending. Done (settings_of x) ending.status unread left before after)
@@ -109,7 +109,8 @@ drawn_done x s r unread left before after is done =
     subst (λ y. MatchResult r (λ ending. Done (settings_of y) ending.status unread left before after)
     (λ _. Halted (settings_of y) unread left before after)) (sym is) done
 
-pub plain_explains : {E : Type 0} (x : Settings) (r : Result Ending E) → IfOk r (λ ending. ending.explanation ≡ None) → IfOk r (ExplainsAudit x)
+pub plain_explains : {E : Type 0} (x : Settings) (r : Result Conclusion E) → IfOk r (λ ending. ending.explanation ≡ None)
+    → IfOk r (ExplainsAudit x)
 plain_explains x (Ok ending) none = inl none
 plain_explains x (Err fault) none = tt
 
@@ -176,7 +177,7 @@ Settled s status unread left before after Quiet =
     (Quiet × Done s status unread left before after) ⊎ ((status ≡ 3) × Halted s unread left before after)
 
 -- the status of what was done
-pub settled : {E : Type 0} (s x : Settings) (r : Result Ending E) (status : ℕ) (unread left before after mute told : Option (List ℕ))
+pub settled : {E : Type 0} (s x : Settings) (r : Result Conclusion E) (status : ℕ) (unread left before after mute told : Option (List ℕ))
     → s ≡ x
     → MatchResult r (λ ending. Done s ending.status unread left before after) (λ _. Halted s unread left before after)
     → IfOk r (ExplainsAudit s)

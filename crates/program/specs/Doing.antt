@@ -18,7 +18,7 @@ use Rattle.program.specs.declared.text_end.TextEnd.TheVariants as scenario
 use Rattle.program.specs.Simulating.{PlaysText, PlaysTextSome}
 use Rattle.program.specs.Auditing.{Audits, AuditsSome}
 use Rattle.program.specs.Drawing.{Draws, DrawsSome}
-use Rattle.program.specs.declared.outcome.Ending.{Ending}
+use Rattle.program.specs.declared.outcome.Conclusion.{Conclusion}
 use Rattle.program.specs.declared.outcome.Outcome.{Outcome}
 use Rattle.program.specs.declared.outcome.Outcome.TheVariants as outcome
 use Rattle.program.specs.declared.outcome.Piped.{Piped}
@@ -114,7 +114,7 @@ abbrev pub AsksForAudit : List (List ℕ) → Type 0
 AsksForAudit words = (s : AuditSettings) × IsSet words (settings.Audit s)
 
 -- nothing is explained, but for an audit whose status is 1
-abbrev pub ExplainsAudit : Settings → Ending → Type 0
+abbrev pub ExplainsAudit : Settings → Conclusion → Type 0
 ExplainsAudit x ending = (ending.explanation ≡ None) ⊎ ((ending.status ≡ 1) × IsAudit x)
 
 -- standard error was left alone, but for an audit whose status is 1

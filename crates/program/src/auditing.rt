@@ -6,7 +6,7 @@ ghost use Rattle.byte_streams.specs.Writing.{Writes};
 ghost use Rattle.program_streams.specs.Faults.{IsMemoryOrAsked, IsMemoryOrRandom};
 ghost use Rattle.program.specs.Auditing.{Audits, AuditsSome, AuditsWritten, AuditsWrittenSome, audit_status, audit_text, bad_history, receipt_check};
 
-use crate::outcome::Ending;
+use crate::outcome::Conclusion;
 use crate::reading::read_whole;
 use crate::status::BAD_INPUT;
 use audit_lines::{add_finding, add_receipt, audited, explanation, finding_status, has_receipt};
@@ -97,7 +97,7 @@ fn audit_histories<S: RandomSource, W: Write>(
     settings: &AuditSettings,
     histories: &[History],
     writer: &mut W,
-) -> Result<Ending, ProgramFault>
+) -> Result<Conclusion, ProgramFault>
     ensures audits { MatchResult result
         (λ ending. AuditsWritten settings.now histories.now ending.status (W.contents writer.old) (W.contents writer.new))
         (λ _. AuditsWrittenSome settings.now histories.now (W.contents writer.old) (W.contents writer.new)) }
@@ -109,20 +109,20 @@ fn audit_histories<S: RandomSource, W: Write>(
     let text = text_of(alloc, &finding, receipt)?;
     let explanation = explained(alloc, &settings.cluster.config, histories, &finding)?;
     write_output(writer, text.as_bytes())?;
-    Ok(Ending {
+    Ok(Conclusion {
         status: status_of(&finding, receipt),
         explanation,
     })
 }
 
 /// Writes that the input is no histories.
-pub(crate) fn print_bad_history<W: Write>(writer: &mut W) -> Result<Ending, ProgramFault>
+pub(crate) fn print_bad_history<W: Write>(writer: &mut W) -> Result<Conclusion, ProgramFault>
     ensures written { Writes result (W.contents writer.old) (W.contents writer.new) bad_history }
     ensures ending { IfOk result (λ ending. (ending.explanation ≡ None) × (ending.status ≡ 1)) }
     ensures fault { IfErr result IsMemoryOrAsked }
 {
     write_output(writer, b"bad history\n")?;
-    Ok(Ending::plain(BAD_INPUT))
+    Ok(Conclusion::plain(BAD_INPUT))
 }
 
 /// Reads the histories of a stream to its end, audits them under the keys of the settings' cluster, and writes what it finds:
@@ -136,7 +136,7 @@ pub fn audit<S: RandomSource, R: Read, W: Write>(
     settings: &AuditSettings,
     reader: &mut R,
     writer: &mut W,
-) -> Result<Ending, ProgramFault>
+) -> Result<Conclusion, ProgramFault>
     ensures audits { MatchResult result
         (λ ending. Audits settings.now ending.status (R.remaining reader.old) (R.remaining reader.new) (W.contents writer.old) (W.contents writer.new))
         (λ _. AuditsSome settings.now (R.remaining reader.old) (R.remaining reader.new) (W.contents writer.old) (W.contents writer.new)) }

@@ -27,7 +27,7 @@ mod text_end;
 pub use auditing::audit;
 pub use delivering::deliver;
 pub use drawing::draw;
-pub use outcome::{Ending, Outcome};
+pub use outcome::{Conclusion, Outcome};
 pub use running::{finish, refuse_words, run};
 pub use signing::signed_frame;
 pub use simulating::simulate;

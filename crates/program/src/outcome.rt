@@ -18,22 +18,22 @@ pub enum Outcome {
     Serve(ServeSettings),
 }
 
-/// The end of a subcommand that did all that it could.
+/// What a subcommand that did all that it could concludes with.
 #[derive(Drop)]
-pub struct Ending {
+pub struct Conclusion {
     /// The exit status.
     pub status: u8,
     /// A sentence for standard error about the fault that an audit found.
     pub explanation: Option<String>,
 }
 
-impl Ending {
-    /// An end with this exit status and nothing to explain.
+impl Conclusion {
+    /// A conclusion with this exit status and nothing to explain.
     pub(crate) fn plain(status: u8) -> Self
         ensures status { result.status ≡ status }
         ensures none { result.explanation ≡ None }
     {
-        Ending {
+        Conclusion {
             status,
             explanation: None,
         }

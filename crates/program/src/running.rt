@@ -13,7 +13,7 @@ ghost use Rattle.program.specs.Doing.{AsksForAudit, Begins, Done, ExplainsAudit,
 use crate::auditing::audit;
 use crate::delivering::deliver;
 use crate::drawing::draw;
-use crate::outcome::{Ending, Outcome, Piped};
+use crate::outcome::{Conclusion, Outcome, Piped};
 use crate::signing::signed_frame;
 use crate::simulating::simulate;
 use crate::status::{BAD_INPUT, BAD_USAGE, DONE};
@@ -145,7 +145,7 @@ fn perform<S: RandomSource, R: Read, W: Write>(
     settings: &Piped,
     reader: &mut R,
     writer: &mut W,
-) -> Result<Ending, ProgramFault>
+) -> Result<Conclusion, ProgramFault>
     ensures done { MatchResult result
         (λ ending. Done (settings_of settings.now) ending.status (R.remaining reader.old) (R.remaining reader.new) (W.contents writer.old) (W.contents writer.new))
         (λ _. Halted (settings_of settings.now) (R.remaining reader.old) (R.remaining reader.new) (W.contents writer.old) (W.contents writer.new)) }
@@ -154,18 +154,18 @@ fn perform<S: RandomSource, R: Read, W: Write>(
     match settings {
         Piped::Sign(settings) => {
             sign(alloc, settings, writer)?;
-            Ok(Ending::plain(DONE))
+            Ok(Conclusion::plain(DONE))
         }
         Piped::Deliver(settings) => {
             let end = deliver(source, alloc, settings, reader, writer)?;
-            Ok(Ending::plain(stream_status(end)))
+            Ok(Conclusion::plain(stream_status(end)))
         }
         Piped::Simulate(settings) => {
             let end = simulate(source, alloc, settings, reader, writer)?;
-            Ok(Ending::plain(text_status(end)))
+            Ok(Conclusion::plain(text_status(end)))
         }
         Piped::Audit(settings) => audit(source, alloc, settings, reader, writer),
-        Piped::Draw(settings) => draw(alloc, settings, reader, writer),
+        Piped::Draw(settings) => draw(source, alloc, settings, reader, writer),
     }
 }
 
@@ -176,7 +176,7 @@ fn perform_whole<S: RandomSource, R: Read, W: Write>(
     settings: &Piped,
     reader: &mut R,
     writer: &mut W,
-) -> Result<Ending, ProgramFault>
+) -> Result<Conclusion, ProgramFault>
     ensures done { MatchResult result
         (λ ending. Done (settings_of settings.now) ending.status (R.remaining reader.old) (R.remaining reader.new) (W.contents writer.old) (W.contents writer.new))
         (λ _. Halted (settings_of settings.now) (R.remaining reader.old) (R.remaining reader.new) (W.contents writer.old) (W.contents writer.new)) }
@@ -234,7 +234,7 @@ fn show<W: Write>(
 }
 
 /// Writes the explanation of an end, if it has one, and returns its exit status. A failed write changes nothing.
-fn explain<F: Write>(alloc: Global, ending: &Ending, faults: &mut F) -> u8
+fn explain<F: Write>(alloc: Global, ending: &Conclusion, faults: &mut F) -> u8
     ensures status { result ≡ ending.now.status }
     ensures quiet { ending.now.explanation ≡ None → Keeps (F.contents faults.old) (F.contents faults.new) }
 {
@@ -245,7 +245,7 @@ fn explain<F: Write>(alloc: Global, ending: &Ending, faults: &mut F) -> u8
 }
 
 /// The exit status of what was done. Writes the explanation of the end, or why the program stopped.
-fn end<F: Write>(alloc: Global, done: Result<Ending, ProgramFault>, faults: &mut F) -> u8
+fn end<F: Write>(alloc: Global, done: Result<Conclusion, ProgramFault>, faults: &mut F) -> u8
     ensures { MatchResult done
         (λ ending. (result ≡ ending.status) × (ending.explanation ≡ None → Keeps (F.contents faults.old) (F.contents faults.new)))
         (λ _. result ≡ 3) }

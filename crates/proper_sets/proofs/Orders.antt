@@ -86,7 +86,8 @@ pub with_value-few : (v : Value) (ws : List Value) → length (with_value v ws) 
 with_value-few v [] = omega arith
 with_value-few v (w ∷ ws) =
     let rest = with_value-few v ws in
-    elim (same_value v w) as (λ b. length (cond b (w ∷ ws) (cond (is_below v w) (v ∷ w ∷ ws) (w ∷ with_value v ws))) ≤ length (w ∷ ws) + 1) [
+    elim (same_value v w) as (λ b. length (cond b (w ∷ ws) (cond (is_below v w) (v ∷ w ∷ ws) (w ∷ with_value v ws))) ≤ length
+    (w ∷ ws) + 1) [
       | true ↦ omega arith
       | false ↦ elim (is_below v w) as (λ b. length (cond b (v ∷ w ∷ ws) (w ∷ with_value v ws)) ≤ length (w ∷ ws) + 1) [
         | true ↦ omega arith

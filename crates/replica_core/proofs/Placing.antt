@@ -11,7 +11,8 @@ use Rattle.ledger_model.specs.declared.statement.Statement.{Statement}
 use Rattle.ledger_model.specs.Notes.{Note, clock_of, signer_of}
 use Rattle.ledger_model.specs.Logs.{log_of, height_of}
 use Rattle.ledger_model.specs.Lawful.{answer}
-use Rattle.ledger_model.specs.Rules.{Ring, is_signed, is_repeated, first_of, place_causes, causes_before_signature, proof_causes, causes, answer_to}
+use Rattle.ledger_model.specs.Rules.{Ring, is_signed, is_repeated, first_of, place_causes, causes_before_signature, proof_causes, causes}
+use Rattle.ledger_model.specs.Rules.{answer_to}
 use Rattle.ledger_model.specs.Rules.{is_table_full, is_not_mine}
 use Rattle.instance.specs.Instances.{InstanceView}
 use Rattle.instance.specs.Matching.{MatchesLog}

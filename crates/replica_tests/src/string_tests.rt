@@ -21,17 +21,17 @@ fn numbers_of(simulation: &Simulation<AnyKind>) -> Result<(usize, usize), Fault>
 }
 
 /// The string at a position.
-fn string_of(state: &State<AnyKind>, position: usize) -> Result<Bytes, Fault> {
+fn string_of(alloc: Global, state: &State<AnyKind>, position: usize) -> Result<Bytes, Fault> {
     match state.string(position) {
-        Some(string) => Ok(string.clone()?),
+        Some(string) => Ok(Bytes::copy_from_slice(alloc, string)?),
         None => Err(Fault::NoFrame),
     }
 }
 
 /// The report of replica 0, its first string.
-fn report_of(simulation: &Simulation<AnyKind>) -> Result<Bytes, Fault> {
+fn report_of(alloc: Global, simulation: &Simulation<AnyKind>) -> Result<Bytes, Fault> {
     match simulation.world().state(ReplicaId::new(0)) {
-        Some(state) => string_of(state, 0),
+        Some(state) => string_of(alloc, state, 0),
         None => Err(Fault::NoHistory),
     }
 }
@@ -42,8 +42,8 @@ fn inject(simulation: &mut Simulation<AnyKind>, bytes: Bytes) -> Result<(), Faul
 }
 
 /// Delivers the report of replica 0 to replica 1 once more.
-fn repeat_report(simulation: &mut Simulation<AnyKind>) -> Result<(), Fault> {
-    let report = report_of(simulation)?;
+fn repeat_report(alloc: Global, simulation: &mut Simulation<AnyKind>) -> Result<(), Fault> {
+    let report = report_of(alloc, simulation)?;
     inject(simulation, report)
 }
 
@@ -54,7 +54,7 @@ fn numbers_in_first_round(
 ) -> Result<[(usize, usize); 3], Fault> {
     let mut simulation = played(alloc, random, FIRST_ROUND)?;
     let first = numbers_of(&simulation)?;
-    repeat_report(&mut simulation)?;
+    repeat_report(alloc, &mut simulation)?;
     let second = numbers_of(&simulation)?;
     inject(&mut simulation, Bytes::from_static(b"a"))?;
     Ok([first, second, numbers_of(&simulation)?])

@@ -1,7 +1,5 @@
--- Which round a frame belongs to, and which replicas it goes to.
-use Rattle.std.specs.Prelude.{ℕ, ◌+◌, ◌==◌, Bool, false, not, ◌&&◌, Option, Some, None}
-use Rattle.ledger_model.specs.declared.reply.Addressee.{Addressee}
-use Rattle.ledger_model.specs.declared.reply.Addressee.TheVariants as addressee
+-- Which round a frame belongs to.
+use Rattle.std.specs.Prelude.{ℕ, ◌+◌, Bool, false, ◌&&◌, Option, Some, None}
 use Rattle.ledger_model.specs.declared.statement.SignedStatement.{SignedStatement}
 use Rattle.ledger_model.specs.declared.statement.Statement.{Statement}
 use Rattle.ledger_model.specs.Rounds.{place_of}
@@ -15,8 +13,3 @@ is_of_round c s = has_place (place_of c) s && has_phase c s
 abbrev pub is_early : ℕ → Option SignedStatement → Bool
 is_early clock None = false
 is_early clock (Some s) = is_of_round (clock + 1) s.statement
-
--- a frame that replica `from` sent goes to `to`: never to its sender; to all others, or to the one that is addressed
-abbrev pub is_for : Addressee → ℕ → ℕ → Bool
-is_for addressee.All from to = not (to == from)
-is_for (addressee.One r) from to = not (to == from) && (to == r)

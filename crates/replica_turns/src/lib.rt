@@ -7,12 +7,10 @@
 //!
 //! The decisions of a replica's worker are here too: what the replica does by itself next, and which heights it gives up
 //! ([`own_of`]); which frames arrive one round early ([`early_of`]); which of their signatures are worth a check before
-//! they are delivered ([`keep_checked`], [`unknown_parts`], [`unknown_reports`], [`deliveries_of`]); which frames an entry
-//! of the history sent ([`sent_at`]); and which replicas a frame goes to ([`goes_to`]). [`new_replica`] makes the replicas
-//! of a cluster.
+//! they are delivered ([`keep_checked`], [`unknown_parts`], [`unknown_reports`], [`deliveries_of`]); and which frames an
+//! entry of the history sent ([`sent_at`]). [`new_replica`] makes the replicas of a cluster.
 #![tactic(auto)]
 
-mod addressing;
 mod arrivals;
 mod client_turns;
 mod deliveries;
@@ -24,7 +22,6 @@ mod status;
 mod turns;
 mod waiting;
 
-pub use addressing::goes_to;
 pub use arrivals::{arrived_frames, keep_checked, unknown_parts, unknown_reports};
 pub use client_turns::{ClientEntries, query, submit};
 pub use deliveries::deliveries_of;

@@ -1,5 +1,5 @@
 -- What is collected of a history's entries, one by one.
-use Rattle.std.proofs.Common.{◌≡◌, ◌∙◌, ℕ, ◌+◌, ◌<◌, ◌≤◌, List, [], ◌∷◌, ◌++◌, Bool, true, false, cond, length, get_or, drop, refl, sym, ap, arith}
+use Rattle.std.proofs.Common.{◌≡◌, ◌∙◌, ℕ, ◌+◌, ◌<◌, ◌≤◌, List, ◌∷◌, ◌++◌, Bool, true, false, cond, length, get_or, drop, sym, ap, arith}
 use Rattle.ledger_model.specs.declared.history.Entry.{Entry}
 use Rattle.ledger_model.specs.Lawful.{clock_at, is_opened}
 use Rattle.std.proofs.Math.ListN.{drop_of_length-le}
@@ -9,15 +9,18 @@ use Rattle.run_picture.specs.Orders.{shown_from, clock_after}
 use Rattle.run_picture.specs.Frames.{sent_at, delivered_at}
 use Rattle.run_picture.specs.Facts.{facts_at}
 use Rattle.run_picture.specs.Collected.{Adds, AddsHistory}
-use Rattle.run_picture.proofs.Orders.{drop_item, shown_next, shown_last}
+use Rattle.history_parts.proofs.Items.{drop_item}
+use Rattle.run_picture.proofs.Orders.{shown_next, shown_last}
 
 -- what was appended, with what the rest shows, is what all entries show; so is the number of opened rounds
 pub record Reaches (part : Part) (r : ℕ) (entries : List Entry) (old now : Shown) (i clock : ℕ) : Type 0 where
   pub within : clock ≤ i
-  pub sent : now.sent.items ++ shown_from (sent_at part r) i clock (drop i entries) ≡ old.sent.items ++ shown_from (sent_at part r) 0 0 entries
+  pub sent : now.sent.items ++ shown_from (sent_at part r) i clock (drop i entries) ≡ old.sent.items ++ shown_from
+      (sent_at part r) 0 0 entries
   pub deliveries : now.deliveries.items ++ shown_from (delivered_at part r) i clock (drop i entries)
       ≡ old.deliveries.items ++ shown_from (delivered_at part r) 0 0 entries
-  pub facts : now.facts.items ++ shown_from (facts_at part r) i clock (drop i entries) ≡ old.facts.items ++ shown_from (facts_at part r) 0 0 entries
+  pub facts : now.facts.items ++ shown_from (facts_at part r) i clock (drop i entries) ≡ old.facts.items ++ shown_from
+      (facts_at part r) 0 0 entries
   pub rounds : clock + clock_at (drop i entries) ≡ clock_at entries
 
 -- the number of rounds with one entry more
@@ -29,7 +32,7 @@ clock_next clock e es all before = by (is_opened e.reply) before
     by true h = omega arith
     by false h = omega arith
 
-clock_within : (i clock : ℕ) (e : Entry) → clock ≤ i → clock_after clock e ≤ i + 1
+pub clock_within : (i clock : ℕ) (e : Entry) → clock ≤ i → clock_after clock e ≤ i + 1
 clock_within i clock e h = by (is_opened e.reply)
   where
     by : (b : Bool) → cond b (clock + 1) clock ≤ i + 1

@@ -1,5 +1,6 @@
 -- What a replica's history decides, entry by entry.
-use Rattle.std.proofs.Common.{◌≡◌, ◌∙◌, ℕ, zero, suc, ◌+◌, ◌-◌, ◌<◌, ◌≤◌, List, [], ◌∷◌, ◌++◌, Bool, true, false, cond, length, get_or, drop, refl, sym, ap, arith}
+use Rattle.std.proofs.Common.{◌≡◌, ◌∙◌, ℕ, suc, ◌+◌, ◌-◌, ◌<◌, ◌≤◌, List, ◌++◌, Bool, true, false, cond, length, get_or, drop, sym, ap}
+use Rattle.std.proofs.Common.{arith}
 use Rattle.std.specs.Prelude.{Option, Some, None, Ok, Err}
 use Rattle.std.proofs.Math.ListN.{drop_of_length-le}
 use Rattle.ledger_model.specs.declared.config.Config.{Config}
@@ -13,8 +14,10 @@ use Rattle.ledger_model.specs.Rounds.{count_from}
 use Rattle.run_picture.specs.declared.part.Part.{Part}
 use Rattle.run_picture.specs.declared.deciding.Agreed.{Agreed}
 use Rattle.run_picture.specs.declared.entry_facts.Mark.{Mark}
-use Rattle.run_picture.specs.Decisions.{PhaseView, is_deciding_round, ack_of, with_ack, after_reply, decided_with, decision_marks, decisions_from, decisions_in}
-use Rattle.run_picture.proofs.Orders.{drop_item, one_more, no_more}
+use Rattle.run_picture.specs.Decisions.{PhaseView, is_deciding_round, ack_of, with_ack, after_reply, decided_with, decision_marks}
+use Rattle.run_picture.specs.Decisions.{decisions_from, decisions_in}
+use Rattle.history_parts.proofs.Items.{drop_item}
+use Rattle.run_picture.proofs.Orders.{one_more, no_more}
 
 -- the count with one number more, and that of the rest
 pub counted_next : (test : ℕ → Bool) (count a n all : ℕ) → a < n → count + count_from a (n - a) test ≡ all
@@ -52,7 +55,8 @@ clock_after_reply config r p agreed e (reply.RoundEnded (Err last)) = omega arit
 clock_after_reply config r p agreed e a = omega arith
 
 -- one entry more
-pub decisions_next : (config : Config) (part : Part) (r : ℕ) (p next : PhaseView) (i : ℕ) (entries : List Entry) (e : Entry) (agreed : List Agreed)
+pub decisions_next : (config : Config) (part : Part) (r : ℕ) (p next : PhaseView) (i : ℕ) (entries : List Entry) (e : Entry)
+    (agreed : List Agreed)
     (out more start : List Mark) → i < length entries → e ≡ get_or entries i e
     → agreed ≡ decided_with config r p e.reply → next ≡ after_reply config r p agreed e.event e.reply
     → more ≡ out ++ decision_marks part r i p.clock agreed

@@ -1,14 +1,9 @@
 -- Lists that grow by what each element shows.
-use Rattle.std.proofs.Common.{◌≡◌, ◌∙◌, ℕ, zero, suc, ◌+◌, ◌-◌, ◌<◌, ◌≤◌, List, [], ◌∷◌, ◌++◌, length, get_or, drop, sym, ap, refl, append_assoc, append-nil, arith}
-use Rattle.std.proofs.Math.Seq.{drop-cons}
+use Rattle.std.proofs.Common.{◌≡◌, ◌∙◌, ℕ, ◌+◌, ◌<◌, ◌≤◌, List, [], ◌++◌, length, get_or, drop, sym, ap, append_assoc, append-nil}
 use Rattle.std.proofs.Math.ListN.{drop_of_length-le}
-use native.Mathlib.Numerals.{unary_clauses}
+use Rattle.history_parts.proofs.Items.{drop_item}
 use Rattle.ledger_model.specs.declared.history.Entry.{Entry}
 use Rattle.run_picture.specs.Orders.{clock_after, shown_from}
-
--- the rest of a list, from the place of an element on
-pub drop_item : {X : Type 0} (xs : List X) (i : ℕ) (x : X) → i < length xs → x ≡ get_or xs i x → drop i xs ≡ x ∷ drop (i + 1) xs
-drop_item xs i x inside is = simp unary_clauses (drop-cons xs i x inside ∙ ap (λ y. y ∷ drop (suc i) xs) (sym is))
 
 -- a list with one more piece, and what the rest shows
 pub one_more : {X : Type 0} (out next start piece rest all : List X) → out ++ (piece ++ rest) ≡ start ++ all → next ≡ out ++ piece

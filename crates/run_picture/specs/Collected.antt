@@ -1,5 +1,5 @@
 -- What is collected of histories, entry by entry.
-use Rattle.std.specs.Prelude.{◌≡◌, ℕ, List, [], ◌++◌, Option}
+use Rattle.std.specs.Prelude.{◌≡◌, ℕ, List, ◌++◌, Option}
 use Rattle.ledger_model.specs.declared.history.Entry.{Entry}
 use Rattle.ledger_model.specs.declared.history.History.{History}
 use Rattle.run_picture.specs.declared.part.Part.{Part}

@@ -3,7 +3,7 @@
 -- The owner of a phase sends a lock as the second round of the phase opens. It decides the lock's value as the third round ends if
 -- 2t+1 replicas acknowledged the lock in that round. The owner is one of them if it took its own lock: it then sends the lock on as
 -- the fourth round opens. A mute replica acknowledges nothing. Only the first decision at a height counts.
-use Rattle.std.specs.Prelude.{ℕ, zero, suc, ◌+◌, ◌*◌, ◌==◌, nat_le, Bool, true, false, not, ◌&&◌, ◌||◌, List, [], ◌∷◌, ◌++◌, map, filter}
+use Rattle.std.specs.Prelude.{◌≡◌, ◌↔◌, ℕ, ◌+◌, ◌*◌, ◌==◌, nat_le, Bool, false, not, ◌&&◌, ◌||◌, List, [], ◌∷◌, ◌++◌, map, filter}
 use Rattle.std.specs.Prelude.{Option, Some, None, Ok, option_and_then, if◌then◌else◌}
 use Rattle.std.specs.List.{filter_map, list_any, flat_map}
 use Rattle.ledger_model.specs.declared.config.Config.{Config}
@@ -18,6 +18,10 @@ use Rattle.ledger_model.specs.declared.statement.Ack.{Ack}
 use Rattle.ledger_model.specs.declared.statement.Lock.{Lock}
 use Rattle.ledger_model.specs.declared.statement.Statement.{Statement}
 use Rattle.ledger_model.specs.declared.statement.Statement.TheVariants as statement
+use Rattle.ledger_model.specs.Commits.{decided_at}
+use Rattle.ledger_model.specs.Lawful.{Replay}
+use Rattle.ledger_model.specs.Notes.{Has}
+use Rattle.ledger_model.specs.Rules.{Ring}
 use Rattle.ledger_model.specs.Values.{Value, same_value}
 use Rattle.ledger_model.specs.Rounds.{phase_of, place_of, owner_of, number_of, lock_place, ack_place}
 use Rattle.run_picture.specs.declared.part.Part.{Part}
@@ -131,6 +135,11 @@ after_reply config r p agreed (event.Deliver bytes) (reply.Delivered (Ok _)) =
     if is_deciding_round config r p.clock then with_ack p (ack_of bytes) else p
 after_reply config r p agreed _ _ = p
 
+-- what matters for the decisions of replica r after these entries
+abbrev pub phase_after : Config → ℕ → PhaseView → List Entry → PhaseView
+phase_after config r p [] = p
+phase_after config r p (e ∷ es) = phase_after config r (after_reply config r p (decided_with config r p e.reply) e.event e.reply) es
+
 -- the marks of what is decided
 abbrev pub decision_marks : Part → ℕ → ℕ → ℕ → List Agreed → List Mark
 decision_marks part r i clock agreed =
@@ -146,3 +155,13 @@ decisions_from config part r p i (e ∷ es) =
 -- the decisions that replica r's history shows
 abbrev pub decisions_in : Config → Part → ℕ → List Entry → List Mark
 decisions_in config part r entries = decisions_from config part r no_phase 0 entries
+
+-- ---- a law
+
+-- A lawful entry is shown to decide a height with a value exactly if the height isn't decided before it, and is decided with that value
+-- after it.
+abbrev pub MarksAreDecisions : Type 0
+MarksAreDecisions = (config : Config) (ring : Ring) (id : ℕ) (front : List Entry) (e : Entry) (h : ℕ) (v : Value)
+    → Replay config ring id (front ++ e ∷ [])
+    → Has (decided_with config id (phase_after config id no_phase front) e.reply) (record { height = h; value = v })
+    ↔ ((decided_at config id front h ≡ None) × (decided_at config id (front ++ e ∷ []) h ≡ Some v))

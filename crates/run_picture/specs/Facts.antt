@@ -1,5 +1,5 @@
 -- What a replica does at a height, as its entries and its frames show it.
-use Rattle.std.specs.Prelude.{ℕ, ◌-◌, ◌==◌, List, [], ◌∷◌, ◌++◌, map, Option, Some, None, Ok, if◌then◌else◌}
+use Rattle.std.specs.Prelude.{ℕ, ◌==◌, List, [], ◌∷◌, map, Option, Some, None, Ok, if◌then◌else◌}
 use Rattle.std.specs.List.{flat_map}
 use Rattle.ledger_model.specs.declared.event.Event.{Event}
 use Rattle.ledger_model.specs.declared.event.Event.TheVariants as event
@@ -31,12 +31,10 @@ mark_in part r i (Some c) h f = if has_height part h then mark_of (moment_of r i
 
 -- ---- what entries show
 
--- A height is opened by an accepted proposal, a block is run by an execution, and a new floor retires the height below it. The
--- replica's round is c, if it is shown.
+-- A height is opened by an accepted proposal, and a block is run by an execution. The replica's round is c, if it is shown.
 abbrev pub facts_of : Part → ℕ → ℕ → Option ℕ → Event → Reply → List Mark
 facts_of part r i c (event.Propose h) (reply.Proposed (Ok v)) = mark_in part r i c h (fact.Opens v)
 facts_of part r i c _ (reply.Executed (Ok block)) = mark_in part r i c block.height fact.Runs
-facts_of part r i c _ (reply.Retired (Ok floor)) = mark_in part r i c (floor - 1) fact.Retires
 facts_of part r i c _ _ = []
 
 -- what replica r's entry i shows

@@ -3,7 +3,8 @@ pub mod Orders
 pub mod Frames
 pub mod Facts
 pub mod Decisions
+pub mod Retiring
 pub mod Sources
-pub mod Candidates
+pub mod Incoming
 pub mod Pictures
 pub mod Collected

@@ -1,6 +1,5 @@
 -- What a picture of a run shows.
 use Rattle.std.specs.Prelude.{◌≡◌, ℕ, zero, suc, ◌+◌, List, [], ◌∷◌, map, Option, option_map}
-use Rattle.std.specs.List.{AllByRecursion}
 use Rattle.ledger_model.specs.declared.config.Config.{Config}
 use Rattle.ledger_model.specs.declared.history.History.{History}
 use Rattle.ledger_model.specs.Groups.{history_of}
@@ -9,13 +8,13 @@ use Rattle.run_picture.specs.declared.part.Part.{Part}
 use Rattle.run_picture.specs.declared.entry_facts.Mark.{Mark}
 use Rattle.run_picture.specs.declared.sent_frames.SentFrame.{SentFrame}
 use Rattle.run_picture.specs.declared.deliveries.Delivery.{Delivery}
-use Rattle.run_picture.specs.declared.sources.Arrival.{Arrival}
 use Rattle.run_picture.specs.declared.picture.Picture.{Picture}
 use Rattle.run_picture.specs.Orders.{shown_from, shown_by}
 use Rattle.run_picture.specs.Frames.{sent_at, delivered_at}
 use Rattle.run_picture.specs.Facts.{facts_at, locks_held}
 use Rattle.run_picture.specs.Decisions.{decisions_in}
-use Rattle.run_picture.specs.Sources.{IsSource}
+use Rattle.run_picture.specs.Retiring.{all_retired}
+use Rattle.run_picture.specs.Sources.{arrival_of}
 
 -- the number of rounds that the history opens, if it was handed in
 abbrev pub rounds_if : Option History → Option ℕ
@@ -46,18 +45,14 @@ facts_in config part histories = shown_by (λ r. shown_from (facts_at part r) 0 
 abbrev pub decided_in : Config → Part → List History → List Mark
 decided_in config part histories = shown_by (decisions_in config part) histories 0 config.replicas
 
--- the arrivals are these deliveries, each with its source among the sent frames
-pub record ComeFrom (sent : List SentFrame) (deliveries : List Delivery) (arrivals : List Arrival) : Type 0 where
-  pub all : map (λ (a : Arrival). a.delivery) arrivals ≡ deliveries
-  pub sources : AllByRecursion (λ (a : Arrival). IsSource sent a.delivery a.source) arrivals
-
 -- what a picture of these histories' run shows in the part
 pub record IsPictureOf (cluster : Config) (histories : List History) (drawn : Part) (p : Picture) : Type 0 where
   pub config : p.config ≡ cluster
   pub part : p.part ≡ drawn
   pub rounds : p.rounds.items ≡ rounds_in cluster histories
   pub sent : p.sent.items ≡ sent_in cluster drawn histories
-  pub arrivals : ComeFrom p.sent.items (delivered_in cluster drawn histories) p.arrivals.items
+  pub arrivals : p.arrivals.items ≡ map (arrival_of p.sent.items) (delivered_in cluster drawn histories)
   pub facts : p.facts.items ≡ facts_in cluster drawn histories
   pub locks : p.locks.items ≡ locks_held p.sent.items
   pub decisions : p.decisions.items ≡ decided_in cluster drawn histories
+  pub retired : p.retired.items ≡ all_retired cluster drawn histories

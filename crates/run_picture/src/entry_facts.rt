@@ -1,5 +1,5 @@
-//! What a replica does at a height, as its entries show it: it opens the height, runs the block, or retires the height.
-ghost use Rattle.std.specs.Prelude.{◌≡◌, ◌-◌, ◌++◌, OnOk};
+//! What a replica does at a height, as its entries show it: it opens the height, or runs the block.
+ghost use Rattle.std.specs.Prelude.{◌≡◌, ◌++◌, OnOk};
 ghost use Rattle.run_picture.specs.Parts.{drawn_round};
 ghost use Rattle.run_picture.specs.Facts.{facts_at, mark_in};
 
@@ -18,7 +18,7 @@ pub enum Fact {
     Decides(Batch),
     /// It runs the block.
     Runs,
-    /// It retires the height, and every height below.
+    /// It retires the height.
     Retires,
 }
 
@@ -58,13 +58,6 @@ pub(crate) fn add_mark(
     Ok(())
 }
 
-/// The height below a floor.
-fn below(floor: Height) -> Height
-    ensures { result ≡ floor - 1 }
-{
-    Height::new(floor.number().saturating_sub(1))
-}
-
 /// Appends what an entry does at a height, if it does one of these things and the picture shows it. The open round before the
 /// entry is `clock`.
 pub(crate) fn add_facts(
@@ -84,10 +77,6 @@ pub(crate) fn add_facts(
         }
         (_, Reply::Executed(Ok(block))) => {
             add_mark(out, part, replica, index, clock, block.height, Fact::Runs)
-        }
-        (_, Reply::Retired(Ok(floor))) => {
-            let height = below(*floor);
-            add_mark(out, part, replica, index, clock, height, Fact::Retires)
         }
         _ => Ok(()),
     }

@@ -5,11 +5,14 @@ mod agreeing;
 mod deciding;
 mod deliveries;
 mod entry_facts;
-mod frame_index;
+mod frame_numbers;
 mod frame_reading;
+mod incoming;
+pub mod laws;
 mod locks_held;
 mod part;
 mod picture;
+mod retiring;
 mod sent_frames;
 mod sources;
 

@@ -1,8 +1,7 @@
 //! What a picture of a run shows, from the histories of the run's replicas.
 ghost use Rattle.std.specs.Prelude.{◌≡◌, ◌++◌, ◌<◌, ◌-◌, ◌^◌, IfOk, OnOk};
 ghost use Rattle.std.specs.Option.{option_copied};
-ghost use Rattle.ledger_model.specs.Groups.{history_of};
-ghost use Rattle.ledger_model.specs.Lawful.{is_opened, clock_at};
+ghost use Rattle.ledger_model.specs.Lawful.{clock_at};
 ghost use Rattle.run_picture.specs.Orders.{shown_if};
 ghost use Rattle.run_picture.specs.Frames.{sent_at, delivered_at};
 ghost use Rattle.run_picture.specs.Facts.{facts_at};
@@ -15,10 +14,13 @@ use crate::deliveries::{Delivery, add_delivered};
 use crate::entry_facts::{Mark, add_facts};
 use crate::locks_held::locks_held;
 use crate::part::Part;
+use crate::retiring::retired_heights;
 use crate::sent_frames::{SentFrame, add_sent};
 use crate::sources::{Arrival, arrivals};
-use ledger_model::{Config, Entry, History, ReplicaId, Reply};
+use history_parts::{history_of, is_opened};
+use ledger_model::{Config, Entry, History, ReplicaId};
 use std::alloc::{AllocError, Global};
+use std::hash::RandomState;
 
 /// What a picture of a run shows. Each list is in the order of replicas, then of their entries.
 pub struct Picture {
@@ -30,12 +32,14 @@ pub struct Picture {
     pub sent: Vec<SentFrame>,
     /// What is delivered to replicas, and where it comes from.
     pub arrivals: Vec<Arrival>,
-    /// The heights that replicas open, run and retire.
+    /// The heights that replicas open and run.
     pub facts: Vec<Mark>,
     /// The locks that replicas hold.
     pub locks: Vec<Mark>,
     /// What replicas decide.
     pub decisions: Vec<Mark>,
+    /// The heights that replicas retire.
+    pub retired: Vec<Mark>,
 }
 
 // An own `Drop` keeps proofs short: an owner drops it by one call. See docs/WORKING.md.
@@ -50,6 +54,7 @@ impl Drop for Picture {
             facts: _facts,
             locks: _locks,
             decisions: _decisions,
+            retired: _retired,
         } = self;
     }
 }
@@ -60,20 +65,6 @@ struct Shown {
     sent: Vec<SentFrame>,
     deliveries: Vec<Delivery>,
     facts: Vec<Mark>,
-}
-
-/// The history of this replica, if it was handed in: the first, if there are several.
-fn history_of(histories: &[History], replica: ReplicaId) -> Option<&History>
-    ensures { option_copied result ≡ history_of histories.now replica }
-{
-    histories.iter().find(|history| history.replica == replica)
-}
-
-/// Whether a reply opens a round.
-fn is_opened(reply: &Reply) -> bool
-    ensures { result ≡ is_opened reply.now }
-{
-    matches!(reply, Reply::RoundEnded(Ok(_)))
 }
 
 /// Appends what an entry shows. The open round before it is `clock`.
@@ -175,12 +166,15 @@ fn add_all(
 /// histories of one replica the first counts, and histories of other replicas are left out. Nothing is presumed of the histories, and
 /// no signature is checked.
 ///
-/// The work is linear in the entries, and in the frames of the part. The only error is allocation failure.
+/// Each entry is read three times, and each frame of the part is parsed once and hashed once under the random keys. The sent frames of
+/// the part are sorted once for each replica. As the third round of an own phase ends, each lock that the owner sent is compared with each
+/// acknowledgement that it accepted in that round, once for each replica. The only error is allocation failure.
 pub fn picture_of(
     alloc: Global,
     config: &Config,
     histories: &[History],
     part: Part,
+    random: RandomState,
 ) -> Result<Picture, AllocError>
     ensures { IfOk result (IsPictureOf config.now histories.now part) }
 {
@@ -196,8 +190,9 @@ pub fn picture_of(
         deliveries,
         facts,
     } = shown;
+    let retired = retired_heights(alloc, config, &part, histories)?;
     let locks = locks_held(alloc, &sent)?;
-    let arrivals = arrivals(alloc, &sent, deliveries)?;
+    let arrivals = arrivals(alloc, random, &sent, deliveries)?;
     Ok(Picture {
         config: *config,
         part,
@@ -207,5 +202,6 @@ pub fn picture_of(
         facts,
         locks,
         decisions,
+        retired,
     })
 }

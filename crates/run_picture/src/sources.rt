@@ -1,17 +1,19 @@
 //! Finds where delivered frames come from.
-ghost use Rattle.std.specs.Prelude.{◌≡◌, ◌<◌, length, IfOk};
-ghost use Rattle.run_picture.specs.Sources.{IsSource, IsIndexOf, reaches};
-ghost use Rattle.run_picture.specs.Candidates.{IsBetter, IsCandidate};
-ghost use Rattle.run_picture.specs.Pictures.{ComeFrom};
+ghost use Rattle.std.specs.Prelude.{◌≡◌, List, map, IfOk, OnOk};
+ghost use Rattle.run_picture.specs.declared.sent_frames.SentFrame.{SentFrame as SentFrameValue};
+ghost use Rattle.run_picture.specs.Incoming.{AreIncoming, IsInOrder, IsNumbering};
+ghost use Rattle.run_picture.specs.Sources.{arrival_of, source_of};
 
 use crate::deliveries::Delivery;
-use crate::frame_index::FrameIndex;
+use crate::frame_numbers::FrameNumbers;
+use crate::incoming::IncomingFrames;
 use crate::sent_frames::SentFrame;
-use ledger_model::{Addressee, ReplicaId};
+use ledger_model::ReplicaId;
 use std::alloc::{AllocError, Global};
+use std::hash::RandomState;
 
-/// A delivery, and the sent frame that it comes from: its index among those of the picture. A delivery without a source comes from
-/// outside the picture.
+/// A delivery, and the index of the sent frame that it comes from among those of the picture. No sent frame of the picture that has the
+/// bytes of a delivery without a source goes to its replica.
 pub struct Arrival {
     pub delivery: Delivery,
     pub source: Option<usize>,
@@ -27,119 +29,58 @@ impl Drop for Arrival {
     }
 }
 
-/// Whether a frame that the replica `from` sends goes to `to`.
-fn reaches(addressee: Addressee, from: ReplicaId, to: ReplicaId) -> bool
-    ensures { result ≡ reaches addressee from to }
-{
-    match addressee {
-        Addressee::All => to != from,
-        Addressee::One(replica) => to != from && to == replica,
-    }
-}
-
-/// A sent frame that a delivery may come from.
-#[derive(Clone, Copy)]
-struct Candidate {
-    index: usize,
-    /// Whether it is sent as the delivery's round opens.
-    in_round: bool,
-    /// Whether no earlier delivery at the same replica comes from it.
-    is_free: bool,
-}
-
-/// The better of two candidates: one that is sent as the delivery's round opens, and among such candidates a free one.
-fn better(best: Option<Candidate>, candidate: Candidate) -> Candidate
-    ensures { IsBetter best candidate result }
-{
-    let Some(best) = best else {
-        return candidate;
-    };
-    if best.in_round != candidate.in_round {
-        return if best.in_round { best } else { candidate };
-    }
-    if candidate.is_free && !best.is_free {
-        candidate
-    } else {
-        best
-    }
-}
-
-/// The bit of a replica in a mask.
-fn bit_of(replica: ReplicaId) -> u16 {
-    1 << (replica.number() % 16)
-}
-
-/// The frame as a candidate, if it goes to the delivery's replica. It has the delivery's bytes. `used` has for each frame the mask of
-/// the replicas at which deliveries come from it.
-fn candidate_at(
-    sent: &[SentFrame],
-    used: &[u16],
-    delivery: &Delivery,
-    index: usize,
-) -> Option<Candidate>
-    requires inside { index < length sent.now }
-    ensures { IsCandidate sent.now delivery.now index result }
-{
-    let frame = &sent[index];
-    let to = delivery.at.replica;
-    if !reaches(frame.addressee, frame.at.replica, to) {
-        return None;
-    }
-    let mask = used.get(index).copied().unwrap_or(0);
-    Some(Candidate {
-        index,
-        in_round: frame.at.round == delivery.at.round,
-        is_free: mask & bit_of(to) == 0,
-    })
-}
-
-/// The frame that a delivery comes from, if one of these does. The index is that of these frames.
-fn source_of(
-    index: &FrameIndex,
-    sent: &[SentFrame],
-    used: &[u16],
+/// The index of the sent frame that a delivery comes from, if it comes from one. The incoming frames are those of its replica.
+fn source_among(
+    numbers: &FrameNumbers,
+    incoming: &IncomingFrames,
     delivery: &Delivery,
 ) -> Result<Option<usize>, AllocError>
-    requires { IsIndexOf sent.now index.now.last index.now.earlier.items }
-    ensures { IfOk result (IsSource sent.now delivery.now) }
+    requires { IsInOrder incoming.now.frames.items }
+    ensures { IfOk result (λ source. (sent : List SentFrameValue) → IsNumbering sent numbers.now.strings numbers.now.numbers.items
+        → AreIncoming sent numbers.now.numbers.items delivery.now.at.replica incoming.now.frames.items
+        → source ≡ source_of sent delivery.now) }
 {
-    let mut best = None;
-    let mut next = index.last_with(&delivery.bytes)?;
-    while let Some(number) = next {
-        if let Some(found) = candidate_at(sent, used, delivery, number) {
-            best = Some(better(best, found));
-        }
-        next = index.before(number);
-    }
-    match best {
-        Some(best) => Ok(Some(best.index)),
+    match numbers.strings.position_of(&delivery.bytes)? {
+        Some(number) => Ok(incoming.source(number, delivery.at.round)),
         None => Ok(None),
     }
 }
 
-/// Notes that the delivery comes from the frame.
-fn note_used(used: &mut [u16], source: Option<usize>, delivery: &Delivery) {
-    if let Some(index) = source
-        && index < used.len()
-    {
-        used[index] |= bit_of(delivery.at.replica);
-    }
+/// The index of the sent frame that a delivery comes from, if it comes from one. The incoming frames turn to its replica. The only error
+/// is allocation failure.
+fn find_source(
+    alloc: Global,
+    numbers: &FrameNumbers,
+    sent: &[SentFrame],
+    incoming: &mut IncomingFrames,
+    delivery: &Delivery,
+) -> Result<Option<usize>, AllocError>
+    requires numbers { IsNumbering sent.now numbers.now.strings numbers.now.numbers.items }
+    requires frames { AreIncoming sent.now numbers.now.numbers.items incoming.old.to incoming.old.frames.items }
+    ensures frames { OnOk result (AreIncoming sent.now numbers.now.numbers.items incoming.new.to incoming.new.frames.items) }
+    ensures source { IfOk result (λ source. source ≡ source_of sent.now delivery.now) }
+{
+    incoming.turn_to(alloc, numbers, sent, delivery.at.replica)?;
+    source_among(numbers, incoming, delivery)
 }
 
-/// The deliveries, each with the sent frame that it comes from. The only error is allocation failure.
+/// The deliveries, each with the sent frame that it comes from.
+///
+/// Hashes each sent frame and each delivery once. Finds the source of a delivery by binary search in the frames that go to its replica,
+/// which it sorts anew where the next delivery is at another replica. The only error is allocation failure.
 pub(crate) fn arrivals(
     alloc: Global,
+    random: RandomState,
     sent: &[SentFrame],
     deliveries: Vec<Delivery>,
 ) -> Result<Vec<Arrival>, AllocError>
-    ensures { IfOk result (λ arrivals. ComeFrom sent.now deliveries.items arrivals.items) }
+    ensures { IfOk result (λ arrivals. arrivals.items ≡ map (arrival_of sent.now) deliveries.items) }
 {
-    let index = FrameIndex::of(alloc, sent)?;
-    let mut used = vec![in alloc; 0_u16; sent.len()]?;
+    let numbers = FrameNumbers::of(alloc, random, sent)?;
+    let mut incoming = IncomingFrames::of(alloc, &numbers, sent, ReplicaId::new(0))?;
     let mut arrivals = Vec::with_capacity(alloc, deliveries.len())?;
     for delivery in deliveries {
-        let source = source_of(&index, sent, &used, &delivery)?;
-        note_used(&mut used, source, &delivery);
+        let source = find_source(alloc, &numbers, sent, &mut incoming, &delivery)?;
         arrivals.push(Arrival { delivery, source })?;
     }
     Ok(arrivals)

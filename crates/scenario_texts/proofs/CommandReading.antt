@@ -15,7 +15,8 @@ use Rattle.scenario_texts.specs.Lawful.{IsNumber, IsLie, IsCommand}
 use Rattle.scenario_texts.specs.Texts.{lie_words, command_words}
 use Rattle.scenario_texts.specs.Reading.{keyword_among, all_keywords, keyword_of, number_of, positive_of, one_number, two_numbers}
 use Rattle.scenario_texts.specs.Reading.{three_numbers, optional_bytes, optional_hex, batch_of, towards_of, liar_of, lie_at, lie_of}
-use Rattle.scenario_texts.specs.Reading.{submit_of, inject_of, query_of, propose_of, retire_of, pass_of, simple_of, stale_of, lying_of, command_of}
+use Rattle.scenario_texts.specs.Reading.{submit_of, inject_of, query_of, propose_of, retire_of, pass_of, simple_of, stale_of, lying_of}
+use Rattle.scenario_texts.specs.Reading.{command_of}
 use Rattle.scenario_texts.specs.declared.keyword.Keyword.{Keyword}
 use Rattle.scenario_texts.specs.declared.keyword.Keyword.TheVariants as keyword
 use Rattle.scenario_texts.specs.declared.command.Towards.{Towards}

@@ -94,13 +94,15 @@ at_append l k r xs ys =
 -- one more report is at that height and phase
 pub at_kept : (l : Lie) (k r : ℕ) (xs : List ReportFrame) (f : ReportFrame) → is_at l k r f ≡ true
     → frames_at l k r (xs ++ f ∷ []) ≡ frames_at l k r xs ++ f.frame ∷ []
-at_kept l k r xs f is = at_append l k r xs (f ∷ []) ∙ ap (λ b. frames_at l k r xs ++ map (λ (x : ReportFrame). x.frame) (cond b (f ∷ []) [])) is
+at_kept l k r xs f is = at_append l k r xs (f ∷ []) ∙ ap (λ b. frames_at l k r xs ++ map (λ (x : ReportFrame). x.frame)
+    (cond b (f ∷ []) [])) is
 
 -- one more report is not
 pub at_left : (l : Lie) (k r : ℕ) (xs : List ReportFrame) (f : ReportFrame) → is_at l k r f ≡ false
     → frames_at l k r (xs ++ f ∷ []) ≡ frames_at l k r xs
 at_left l k r xs f other =
-    at_append l k r xs (f ∷ []) ∙ ap (λ b. frames_at l k r xs ++ map (λ (x : ReportFrame). x.frame) (cond b (f ∷ []) [])) other ∙ append-nil _
+    at_append l k r xs (f ∷ []) ∙ ap (λ b. frames_at l k r xs ++ map (λ (x : ReportFrame). x.frame) (cond b (f ∷ []) [])) other
+    ∙ append-nil _
 
 -- all of them are those so far, this one, and the others
 pub at_whole : (l : Lie) (k r : ℕ) (xs : List ReportFrame) (i : ℕ) (f : ReportFrame) → take (i + 1) xs ≡ take i xs ++ f ∷ []
@@ -112,7 +114,8 @@ at_whole l k r xs i f upto is =
 
 -- the reports of the lie's height and phase have the same serving reports as all frames
 same_serving : (l : Lie) (k r : ℕ) (frames : List (List ℕ))
-    → filter (serves l k r) (filter_map report_in (frames_at l k r (report_frames frames))) ≡ filter (serves l k r) (filter_map report_in frames)
+    → filter (serves l k r) (filter_map report_in (frames_at l k r (report_frames frames))) ≡ filter (serves l k r)
+    (filter_map report_in frames)
 unfolding report_frames
 same_serving l k r [] = refl
 same_serving l k r (f ∷ fs) = by (report_in f) refl (same_serving l k r fs)

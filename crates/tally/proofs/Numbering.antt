@@ -110,7 +110,8 @@ once_more places values e v once there none w =
 
 module _ (places read : Places SignedReport) (r : ℕ) where
   -- one more value of the report of replica r has a number
-  one_more : (i : ℕ) (values : List ReportedValue) → AreNumbered places read values → AreNumbered places read (with_number places r i values)
+  one_more : (i : ℕ) (values : List ReportedValue) → AreNumbered places read values
+      → AreNumbered places read (with_number places r i values)
   one_more i values h = at (value_at places r i) refl
     where
       numbers : Option Value → List ReportedValue
@@ -139,7 +140,8 @@ module _ (places read : Places SignedReport) (r : ℕ) where
             | inr none ↦ rw none (fresh v there none)
           ])
 
-  all_more : (n : ℕ) (values : List ReportedValue) → AreNumbered places read values → AreNumbered places read (with_numbers places r n values)
+  all_more : (n : ℕ) (values : List ReportedValue) → AreNumbered places read values
+      → AreNumbered places read (with_numbers places r n values)
   all_more zero values h = h
   all_more (suc n) values h = one_more n (with_numbers places r n values) (all_more n values h)
 

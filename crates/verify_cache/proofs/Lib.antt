@@ -1,2 +1,2 @@
-pub mod Known
+pub mod StoredAnswers
 pub mod Priming

@@ -11,5 +11,6 @@ returns c =
     let head = c.deref.ensures ∙ c.in_ok-head.ensures.ok in
     let added = c.in_ok-add.ensures ∙ ap (λ l. out ++ l) head in
     subst (λ t. OnOk c.add_blocks.result (c.add_blocks.new.out ≡ t))
-    (ap (λ l. l ++ block_lines 1 blocks) added ∙ append_assoc out _ (block_lines 1 blocks) ∙ ap (λ v. out ++ ledger_text v) c.blocks-blocks.ensures)
+    (ap (λ l. l ++ block_lines 1 blocks) added ∙ append_assoc out _ (block_lines 1 blocks)
+    ∙ ap (λ v. out ++ ledger_text v) c.blocks-blocks.ensures)
     c.add_blocks.ensures

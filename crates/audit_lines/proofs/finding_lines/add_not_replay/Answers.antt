@@ -14,6 +14,7 @@ returns c =
     c.deref.ensures ∙ c.in_ok-line.ensures.ok
     ∙ sym (headed (codes "fault ") (decimal n) (codes " NotReplay ") (decimal r ++ (codes " " ++ (decimal i ++ codes "\n"))))
     ∙ sym (two_words (codes "fault " ++ decimal n ++ codes " NotReplay ") (decimal r) (decimal i) (codes "\n"))
-    ∙ ap (λ m. codes "fault " ++ decimal m ++ codes " NotReplay " ++ decimal r ++ codes " " ++ decimal i ++ codes "\n") c.number-number.ensures
+    ∙ ap (λ m. codes "fault " ++ decimal m ++ codes " NotReplay " ++ decimal r ++ codes " " ++ decimal i
+    ++ codes "\n") c.number-number.ensures
     ∙ ap (λ x. fault_text (NotReplay x i)) c.number-replica.ensures in
     subst (λ t. OnOk c.add.result (c.add.new.self ≡ c.args.out.now ++ t)) line c.add.ensures

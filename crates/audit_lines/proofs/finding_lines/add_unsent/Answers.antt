@@ -17,7 +17,8 @@ returns c =
     (decimal reader ++ (codes " " ++ (decimal i ++ (codes " " ++ (decimal signer ++ codes "\n"))))))
     ∙ sym (three_words (codes "fault " ++ decimal n ++ codes " Unsent ") (decimal reader) (decimal i) (decimal signer) (codes "\n"))
     ∙ ap
-    (λ m. codes "fault " ++ decimal m ++ codes " Unsent " ++ decimal reader ++ codes " " ++ decimal i ++ codes " " ++ decimal signer ++ codes "\n")
+    (λ m. codes "fault " ++ decimal m ++ codes " Unsent " ++ decimal reader ++ codes " " ++ decimal i ++ codes " " ++ decimal signer
+    ++ codes "\n")
     c.number-number.ensures
     ∙ ap (λ r. fault_text (Unsent r i signer)) c.number-reader.ensures
     ∙ ap (λ s. fault_text (Unsent c.args.reader i s)) c.number-signer.ensures in

@@ -7,8 +7,8 @@ pub loop-id-preserved : goal.loop-id-preserved
 loop-id-preserved g c =
     let taken = c.in_ok-history.field-0 in
     let place : c.loop-id.id ≡ 0 + length c.loop-id.heights.items = omega (arith, c.loop-id.invariant.count) in
-    let next = subst (λ k. IsTaken c.args.config.now k taken.history taken.height) place c.in_ok-history.ensures.taken in
-    let more = one_taken c.args.config.now 0 _ _ _ _ c.loop-id.invariant.taken next in
+    let next = subst (λ k. IsTaken c.args.config.now c.args.ring k taken.history taken.height) place c.in_ok-history.ensures.taken in
+    let more = one_taken c.args.config.now c.args.ring 0 _ _ _ _ c.loop-id.invariant.taken next in
     let histories : c.push.new.self.items ≡ c.loop-id.histories.items ++ taken.history ∷ [] = search rules in
     let heights : c.push-in-loop-id.new.self.items ≡ c.loop-id.heights.items ++ taken.height ∷ [] = search rules in
     record {

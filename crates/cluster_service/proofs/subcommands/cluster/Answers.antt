@@ -1,9 +1,9 @@
-use Rattle.std.proofs.Common.{inl, inr}
+use Rattle.std.proofs.Common.{inl, inr, refl}
 use Rattle.std.proofs.KnownBytes.{Keeps-refl}
-use Rattle.byte_streams.proofs.Faults.{on_error}
+use Rattle.byte_streams.proofs.Faults.{of_each, on_error, passed}
 use Rattle.cluster_service.specs.Reporting.{bytes_in}
 use Rattle.cluster_service.specs.RunFaults.{EndsCluster, IsReportFault}
-use Rattle.cluster_service.proofs.ReportingLemmas.{nothing_ran, of_each, passed}
+use Rattle.cluster_service.proofs.ReportingLemmas.{nothing_ran}
 use Rattle.cluster_service.proofs.subcommands.cluster.Goals as goal
 
 pub returns-in_err-stop-clause-reports : goal.returns-in_err-stop-clause-reports
@@ -13,7 +13,9 @@ returns-in_err-stop-clause-reports g c = on_error _ _ c.from_residual.ensures.0
 pub returns-in_err-stop-clause-fault : goal.returns-in_err-stop-clause-fault
 returns-in_err-stop-clause-fault g c =
     let a = g.W.Write.contents c.args.writer.now in
-    passed _ c.in_err-stop.field-0.0 (EndsCluster a a) c.from_residual.ensures.1 (inr (c.in_err-stop.ensures, Keeps-refl a))
+    let empty = c.args.file.now in
+    passed _ c.in_err-stop.field-0.0 (EndsCluster empty empty a a) c.from_residual.ensures.1
+    (inr (c.in_err-stop.ensures, (Keeps-refl a, refl)))
 
 pub returns-in_err-left-clause-reports : goal.returns-in_err-left-clause-reports
 returns-in_err-left-clause-reports g c = on_error _ _ c.from_residual-in_err-left.ensures.0
@@ -22,12 +24,16 @@ returns-in_err-left-clause-reports g c = on_error _ _ c.from_residual-in_err-lef
 pub returns-in_err-left-clause-fault : goal.returns-in_err-left-clause-fault
 returns-in_err-left-clause-fault g c =
     let a = g.W.Write.contents c.args.writer.now in
-    passed _ c.in_err-left.field-0.0 (EndsCluster a a) c.from_residual-in_err-left.ensures.1 (inr (c.in_err-left.ensures.fault, Keeps-refl a))
+    let empty = c.args.file.now in
+    passed _ c.in_err-left.field-0.0 (EndsCluster empty empty a a) c.from_residual-in_err-left.ensures.1
+    (inr (c.in_err-left.ensures.fault, (Keeps-refl a, refl)))
 
 pub returns-clause-reports : goal.returns-clause-reports
 returns-clause-reports g c = c.report.ensures.reports
 
 pub returns-clause-fault : goal.returns-clause-fault
 returns-clause-fault g c =
-    of_each c.report.result IsReportFault
-    (EndsCluster (g.W.Write.contents c.args.writer.now) (g.W.Write.contents c.report.new.writer)) (λ e is. inl is) c.report.ensures.fault
+    let empty = c.args.file.now in
+    of_each c.report.result (IsReportFault empty)
+    (EndsCluster empty c.report.new.file (g.W.Write.contents c.args.writer.now) (g.W.Write.contents c.report.new.writer)) (λ e is. inl is)
+    c.report.ensures.fault

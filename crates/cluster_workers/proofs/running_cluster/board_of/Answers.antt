@@ -24,7 +24,8 @@ pub returns-clause-readers : goal.returns-clause-readers
 returns-clause-readers c =
     λ k lt.
     let all : c.args.readers ≤ c.in-Some.all = omega arith in
-    rw c.in_ok-looking.ensures.items (get_take c.args.readers k c.in_ok-board.reading.items lt) ∙ c.in_ok-board.ensures.readers k (omega arith)
+    rw c.in_ok-looking.ensures.items (get_take c.args.readers k c.in_ok-board.reading.items lt)
+    ∙ c.in_ok-board.ensures.readers k (omega arith)
 
 pub returns-clause-reader_count : goal.returns-clause-reader_count
 returns-clause-reader_count c = grind (arith, common_steps)

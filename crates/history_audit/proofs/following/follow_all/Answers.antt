@@ -63,7 +63,8 @@ loop-number-preserved g c =
     let found = sym (ap (history_of histories) c.new.ensures) ∙ sym c.in-Some.ensures in
     let followed = subst (λ r. FollowsOne c.args.config.now r m c.loop-number.ledger (Ok c.in_ok-follow_one.field-0)
     c.follow_one.new.ledger) ring c.in_ok-follow_one.ensures.answer in (
-      follows_one c.args.config.now c.args.verifier.now.ring histories n c.loop-number.ledger m c.loop-number.invariant.0 found c.in_ok-follow_one.field-0 c.follow_one.new.ledger followed,
+      follows_one c.args.config.now c.args.verifier.now.ring histories n c.loop-number.ledger m c.loop-number.invariant.0 found
+          c.in_ok-follow_one.field-0 c.follow_one.new.ledger followed,
       c.in_ok-follow_one.ensures.ring ∙ ring,
       left (waiting (n + 1) histories) (waiting n histories) (into_iter_len c.next.new.self) (into_iter_len c.loop-number.apps)
           (waiting_one n histories m found) (c.loop-number.invariant.2) (c.in-Some-next.ensures.cases.1),
@@ -86,5 +87,6 @@ loop-number-preserved-in_default g c =
 
 pub returns : goal.returns
 returns g c =
-    longest_of_all c.args.config.now c.args.verifier.now.ring c.args.histories.now c.loop-number.number c.loop-number.ledger c.requires.count
+    longest_of_all c.args.config.now c.args.verifier.now.ring c.args.histories.now c.loop-number.number c.loop-number.ledger
+    c.requires.count
     c.loop-number-test.false (c.loop-number.invariant.0)

@@ -13,7 +13,8 @@ lacks_nothing (Some m) bytes none = cc
 
 pub returns-then-not-has_history : goal.returns-then-not-has_history
 returns-then-not-has_history c =
-    lacks_nothing (history_of c.args.histories.now c.args.replica) c.args.statement.now (sym c.has_history.ensures ∙ c.if-not-has_history.true)
+    lacks_nothing (history_of c.args.histories.now c.args.replica) c.args.statement.now (sym c.has_history.ensures
+    ∙ c.if-not-has_history.true)
 
 pub returns : goal.returns
 returns c =

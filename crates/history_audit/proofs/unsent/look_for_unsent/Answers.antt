@@ -7,7 +7,8 @@ use Rattle.history_audit.proofs.unsent.look_for_unsent.Goals as goal
 
 pub returns : goal.returns
 returns c =
-    none_at_all c.args.config.now c.args.histories.now c.loop-number.number c.requires.count c.loop-number-test.false c.loop-number.invariant
+    none_at_all c.args.config.now c.args.histories.now c.loop-number.number c.requires.count c.loop-number-test.false
+    c.loop-number.invariant
 
 pub returns-in-Some : goal.returns-in-Some
 returns-in-Some c =

@@ -15,7 +15,8 @@ returns-clause-taken g c =
     record {
       event_is = ap event.Deliver at;
       step = subst (λ bytes. IsStep c.args.core.now.held (event.Deliver bytes) (Delivered c.answer_in.result) c.step.new.self.held) shared
-          (subst (λ (r : Reply). IsStep c.args.core.now.held (event.Deliver c.in_ok-shared.shared) r c.step.new.self.held) c.answer_in.ensures
+          (subst (λ (r : Reply). IsStep c.args.core.now.held (event.Deliver c.in_ok-shared.shared) r c.step.new.self.held)
+          c.answer_in.ensures
           told.step);
       leaves = subst (λ (r : Reply). UsesLeaves c.args.core.now.keys c.args.core.now.held.clock r c.step.new.self.keys) c.answer_in.ensures
           told.leaves;

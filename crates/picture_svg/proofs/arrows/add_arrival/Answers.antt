@@ -14,7 +14,8 @@ returns c =
     let way = c.add_way.new.out.items in
     subst (λ t. OnOk c.add-3.result (c.add-3.new.out.items ≡ t))
     (appended_joined c.args.out.now.items
-    (codes "<g><title>" ∷ statement_words d.statement ∷ source_words from ∷ answer_words d.answer ∷ place_words d.at.replica d.at.round d.at.entry
+    (codes "<g><title>" ∷ statement_words d.statement ∷ source_words from ∷ answer_words d.answer ∷ place_words d.at.replica d.at.round
+    d.at.entry
     ∷ codes "</title>" ∷ way_text l from d ∷ codes "</g>\n" ∷ [])
     (way ++ codes "</g>\n") (
       c.add.new.out.items,

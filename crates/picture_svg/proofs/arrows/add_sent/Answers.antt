@@ -15,7 +15,8 @@ returns c =
     let shape = c.add_shape.new.out.items in
     subst (λ t. OnOk c.add-4.result (c.add-4.new.out.items ≡ t))
     (appended_joined c.args.out.now.items
-    (codes "<g><title>" ∷ statement_words s.statement ∷ codes "; sent" ∷ addressee_words s.addressee ∷ place_words s.at.replica s.at.round s.at.entry
+    (codes "<g><title>" ∷ statement_words s.statement ∷ codes "; sent" ∷ addressee_words s.addressee ∷ place_words s.at.replica s.at.round
+    s.at.entry
     ∷ codes "</title>" ∷ shape_text (codes "dot") (start_x l s) (statement_y s.at.replica s.statement) dot ∷ codes "</g>\n" ∷ [])
     (shape ++ codes "</g>\n") (
       c.add.new.out.items,

@@ -21,5 +21,6 @@ returns c =
     let r = c.loop-number.number in
     let n = l.last + 1 in
     let over : n ≤ r = subst (λ k. k + 1 ≤ r) c.from-number-end.ensures c.loop-number-test.false in
-    no_more c.loop-number.out.items c.args.out.now.items (columns_from l r (n - r)) (columns_from l l.first (n - l.first)) c.loop-number.invariant
+    no_more c.loop-number.out.items c.args.out.now.items (columns_from l r (n - r))
+    (columns_from l l.first (n - l.first)) c.loop-number.invariant
     (ap (columns_from l r) (none_left n r over))

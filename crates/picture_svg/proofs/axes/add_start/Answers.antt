@@ -13,7 +13,8 @@ returns c =
     let before = c.add.new.out.items in
     let shape = c.add_shape.new.out.items in
     subst (λ t. OnOk c.add-2.result (c.add-2.new.out.items ≡ t))
-    (appended_joined c.args.out.now.items (codes "<g><title>before round 1</title>" ∷ shape_text (codes "start") (column_x l 0) 4 (down_text (bottom_of l)) ∷ word_text (column_x l 0 + 4) 42 (codes "start") ∷ codes "</g>\n" ∷ [])
+    (appended_joined c.args.out.now.items (codes "<g><title>before round 1</title>" ∷ shape_text (codes "start") (column_x l 0) 4
+    (down_text (bottom_of l)) ∷ word_text (column_x l 0 + 4) 42 (codes "start") ∷ codes "</g>\n" ∷ [])
     (c.add_word.new.out.items ++ codes "</g>\n") (
       before,
       (
@@ -21,7 +22,8 @@ returns c =
         (
           shape,
           (
-            c.in_ok-add_shape.ensures ∙ ap (λ n. before ++ shape_text (codes "start") n 4 c.deref.result.now) x ∙ ap (λ o. before ++ shape_text (codes "start") (column_x l 0) 4 o) line,
+            c.in_ok-add_shape.ensures ∙ ap (λ n. before ++ shape_text (codes "start") n 4 c.deref.result.now) x
+                ∙ ap (λ o. before ++ shape_text (codes "start") (column_x l 0) 4 o) line,
             (
               c.add_word.new.out.items,
               (

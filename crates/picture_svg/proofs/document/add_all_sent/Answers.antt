@@ -6,9 +6,11 @@ use Rattle.picture_svg.proofs.document.add_all_sent.Goals as goal
 pub loop-frame-preserved : goal.loop-frame-preserved
 loop-frame-preserved c =
     let x : SentFrame = c.frame-item.result in
-    each_next (sent_text c.args.layout.now) c.args.sent.now c.loop-frame.frame-index x c.loop-frame.out.items c.add_sent.new.out.items c.args.out.now.items
+    each_next (sent_text c.args.layout.now) c.args.sent.now c.loop-frame.frame-index x c.loop-frame.out.items c.add_sent.new.out.items
+    c.args.out.now.items
     c.loop-frame-test.true c.frame-item.is c.loop-frame.invariant c.in_ok-add_sent.ensures
 
 pub returns : goal.returns
 returns c =
-    each_last (sent_text c.args.layout.now) c.args.sent.now c.loop-frame.frame-index c.loop-frame.out.items c.args.out.now.items c.loop-frame-test.false c.loop-frame.invariant
+    each_last (sent_text c.args.layout.now) c.args.sent.now c.loop-frame.frame-index c.loop-frame.out.items c.args.out.now.items
+    c.loop-frame-test.false c.loop-frame.invariant

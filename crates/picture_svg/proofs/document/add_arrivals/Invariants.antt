@@ -6,4 +6,5 @@ use Rattle.picture_svg.proofs.document.add_arrivals.Given as goal
 
 abbrev pub invariant-loop-arrival : goal.invariant-loop-arrival
 invariant-loop-arrival l =
-    l.out.items ++ flat_map (arrival_text l.layout l.sent) (drop l.arrival-index l.arrivals) ≡ l.fn.out.items ++ flat_map (arrival_text l.layout l.sent) l.arrivals
+    l.out.items ++ flat_map (arrival_text l.layout l.sent) (drop l.arrival-index l.arrivals) ≡ l.fn.out.items ++ flat_map
+    (arrival_text l.layout l.sent) l.arrivals

@@ -8,7 +8,8 @@ pub returns : goal.returns
 returns c =
     let l = c.args.layout.now in
     subst (λ t. OnOk c.add-3.result (c.add-3.new.out.items ≡ t))
-    (appended_joined c.args.out.now.items (codes "<g><title>" ∷ part_words l.first l.last l.opened ∷ codes "</title>" ∷ part_names l.first l.last l.opened ∷ height_text c.args.height ∷ codes "</g>\n" ∷ [])
+    (appended_joined c.args.out.now.items (codes "<g><title>" ∷ part_words l.first l.last l.opened ∷ codes "</title>" ∷ part_names l.first
+    l.last l.opened ∷ height_text c.args.height ∷ codes "</g>\n" ∷ [])
     (c.add_height.new.out.items ++ codes "</g>\n") (
       c.add.new.out.items,
       (

@@ -11,7 +11,8 @@ returns c =
     let l : c.of-layout.result ≡ layout_of p = c.of-layout.ensures in
     let elements = c.add_elements.new.out.items in
     subst (λ t. OnOk c.add_foot.result (c.add_foot.new.out.items ≡ t))
-    (appended_joined c.args.out.now.items (head_text c.args.style.now (layout_of p) p.part.height ∷ elements_text (layout_of p) p ∷ foot_text c.args.legend.now (bottom_of (layout_of p)) ∷ [])
+    (appended_joined c.args.out.now.items (head_text c.args.style.now (layout_of p) p.part.height ∷ elements_text
+    (layout_of p) p ∷ foot_text c.args.legend.now (bottom_of (layout_of p)) ∷ [])
     (elements ++ foot_text c.args.legend.now c.bottom.result) (
       c.add_head.new.out.items,
       (
@@ -20,7 +21,10 @@ returns c =
           elements,
           (
             c.in_ok-add_elements.ensures ∙ ap (λ x. c.add_head.new.out.items ++ elements_text x p) l,
-            (elements ++ foot_text c.args.legend.now c.bottom.result, (ap (λ n. elements ++ foot_text c.args.legend.now n) (c.bottom.ensures ∙ ap bottom_of l), refl)),
+            (
+              elements ++ foot_text c.args.legend.now c.bottom.result,
+              (ap (λ n. elements ++ foot_text c.args.legend.now n) (c.bottom.ensures ∙ ap bottom_of l), refl),
+            ),
           ),
         ),
       ),

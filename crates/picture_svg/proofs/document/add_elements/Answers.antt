@@ -13,9 +13,12 @@ returns c =
     let p = c.args.picture.now in
     let facts = c.add_marks.new.out.items in
     let locks = c.add_marks-2.new.out.items in
-    subst (λ t. OnOk c.add_marks-3.result (c.add_marks-3.new.out.items ≡ t))
-    (appended_joined c.args.out.now.items (rows_from l p.rounds.items 0 l.config.replicas ∷ columns_from l l.first (l.last + 1 - l.first) ∷ frames_text l p ∷ marks_from l None 0 p.facts.items ∷ marks_from l None 0 p.locks.items ∷ marks_from l None 0 p.decisions.items ∷ [])
-    (locks ++ marks_from l None 0 c.deref-4.result.now) (
+    let decisions = c.add_marks-3.new.out.items in
+    subst (λ t. OnOk c.add_marks-4.result (c.add_marks-4.new.out.items ≡ t))
+    (appended_joined c.args.out.now.items (rows_from l p.rounds.items 0 l.config.replicas ∷ columns_from l l.first
+    (l.last + 1 - l.first) ∷ frames_text l p ∷ marks_from l None 0 p.facts.items ∷ marks_from l None 0 p.locks.items ∷ marks_from l
+    None 0 p.decisions.items ∷ marks_from l None 0 p.retired.items ∷ [])
+    (decisions ++ marks_from l None 0 c.deref-5.result.now) (
       c.add_rows.new.out.items,
       (
         c.in_ok-add_rows.ensures ∙ ap (λ o. c.args.out.now.items ++ rows_from l o 0 l.config.replicas) c.deref.ensures.value,
@@ -35,7 +38,16 @@ returns c =
                       locks,
                       (
                         c.in_ok-add_marks-2.ensures ∙ ap (λ ms. facts ++ marks_from l None 0 ms) c.deref-3.ensures.value,
-                        (locks ++ marks_from l None 0 c.deref-4.result.now, (ap (λ ms. locks ++ marks_from l None 0 ms) c.deref-4.ensures.value, refl)),
+                        (
+                          decisions,
+                          (
+                            c.in_ok-add_marks-3.ensures ∙ ap (λ ms. locks ++ marks_from l None 0 ms) c.deref-4.ensures.value,
+                            (
+                              decisions ++ marks_from l None 0 c.deref-5.result.now,
+                              (ap (λ ms. decisions ++ marks_from l None 0 ms) c.deref-5.ensures.value, refl),
+                            ),
+                          ),
+                        ),
                       ),
                     ),
                   ),
@@ -46,4 +58,4 @@ returns c =
         ),
       ),
     ))
-    c.add_marks-3.ensures
+    c.add_marks-4.ensures

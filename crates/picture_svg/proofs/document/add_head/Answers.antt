@@ -13,7 +13,8 @@ returns c =
     (c.add.new.out.items ++ corner_text l c.args.height) (
       c.add_open.new.out.items,
       (
-        c.in_ok-add_open.ensures ∙ ap (λ w. c.args.out.now.items ++ open_text w c.height.result) c.width.ensures ∙ ap (λ h. c.args.out.now.items ++ open_text (width_of l) h) c.height.ensures,
+        c.in_ok-add_open.ensures ∙ ap (λ w. c.args.out.now.items ++ open_text w c.height.result) c.width.ensures
+            ∙ ap (λ h. c.args.out.now.items ++ open_text (width_of l) h) c.height.ensures,
         (
           c.add.new.out.items,
           (

@@ -7,7 +7,8 @@ use Rattle.picture_svg.proofs.document.add_part_names.Goals as goal
 pub returns : goal.returns
 returns c =
     subst (λ t. OnOk c.add_name-3.result (c.add_name-3.new.out.items ≡ t))
-    (appended_joined c.args.out.now.items (name_text 8 14 (codes "rounds") c.args.first ∷ name_text 8 28 (codes "to") c.args.last ∷ name_text 8 42 (codes "of") c.args.opened ∷ [])
+    (appended_joined c.args.out.now.items (name_text 8 14 (codes "rounds") c.args.first ∷ name_text 8 28
+    (codes "to") c.args.last ∷ name_text 8 42 (codes "of") c.args.opened ∷ [])
     (c.add_name-2.new.out.items ++ name_text 8 42 (codes "of") c.args.opened) (
       c.add_name.new.out.items,
       (

@@ -14,7 +14,8 @@ returns c =
     let h = c.args.height in
     let before = c.add-2.new.out.items in
     subst (λ t. OnOk c.add-3.result (c.add-3.new.out.items ≡ t))
-    (appended_joined c.args.out.now.items (codes "<g><title>" ∷ fact_words m.fact h ∷ place_words m.at.replica m.at.round m.at.entry ∷ codes "</title>" ∷ shape_text (fact_class m.fact) x y (fact_outline m.fact) ∷ label_text x y h ∷ codes "</g>\n" ∷ [])
+    (appended_joined c.args.out.now.items (codes "<g><title>" ∷ fact_words m.fact h ∷ place_words m.at.replica m.at.round m.at.entry ∷
+    codes "</title>" ∷ shape_text (fact_class m.fact) x y (fact_outline m.fact) ∷ label_text x y h ∷ codes "</g>\n" ∷ [])
     (c.add_label.new.out.items ++ codes "</g>\n") (
       c.add.new.out.items,
       (
@@ -34,7 +35,8 @@ returns c =
                     (
                       c.add_shape.new.out.items,
                       (
-                        c.in_ok-add_shape.ensures ∙ ap (λ k. before ++ shape_text k x y c.fact_outline.result.now) c.fact_class.ensures ∙ ap (λ o. before ++ shape_text (fact_class m.fact) x y o) c.fact_outline.ensures,
+                        c.in_ok-add_shape.ensures ∙ ap (λ k. before ++ shape_text k x y c.fact_outline.result.now) c.fact_class.ensures
+                            ∙ ap (λ o. before ++ shape_text (fact_class m.fact) x y o) c.fact_outline.ensures,
                         (
                           c.add_label.new.out.items,
                           (

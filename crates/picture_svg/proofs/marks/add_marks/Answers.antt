@@ -3,7 +3,8 @@ use Rattle.std.specs.Prelude.{None, Some}
 use Rattle.std.proofs.Math.ListN.{drop_of_length-le}
 use Rattle.run_picture.specs.declared.entry_facts.Mark.{Mark}
 use Rattle.picture_svg.specs.Marks.{mark_text, marks_from, spot_of, spread}
-use Rattle.run_picture.proofs.Orders.{drop_item, one_more, no_more}
+use Rattle.history_parts.proofs.Items.{drop_item}
+use Rattle.run_picture.proofs.Orders.{one_more, no_more}
 use Rattle.picture_svg.proofs.marks.add_marks.Goals as goal
 
 pub loop-mark-preserved : goal.loop-mark-preserved
@@ -31,6 +32,7 @@ pub returns : goal.returns
 returns c =
     let l = c.args.layout.now in
     let marks = c.args.marks.now in
-    no_more c.loop-mark.out.items c.args.out.now.items (marks_from l c.loop-mark.before c.loop-mark.place (drop c.loop-mark.mark-index marks))
+    no_more c.loop-mark.out.items c.args.out.now.items (marks_from l c.loop-mark.before c.loop-mark.place
+    (drop c.loop-mark.mark-index marks))
     (marks_from l None 0 marks) c.loop-mark.invariant.1
     (ap (marks_from l c.loop-mark.before c.loop-mark.place) (drop_of_length-le marks c.loop-mark-test.false))

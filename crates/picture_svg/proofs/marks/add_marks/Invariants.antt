@@ -7,4 +7,5 @@ use Rattle.picture_svg.proofs.marks.add_marks.Given as goal
 abbrev pub invariant-loop-mark : goal.invariant-loop-mark
 invariant-loop-mark l =
     (l.place < 8)
-    × (l.out.items ++ marks_from l.layout l.before l.place (drop l.mark-index l.marks) ≡ l.fn.out.items ++ marks_from l.layout None 0 l.marks)
+    × (l.out.items ++ marks_from l.layout l.before l.place (drop l.mark-index l.marks) ≡ l.fn.out.items
+    ++ marks_from l.layout None 0 l.marks)

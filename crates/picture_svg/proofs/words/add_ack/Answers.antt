@@ -10,7 +10,8 @@ returns c =
     let a = c.args.ack.now in
     let last = value_text a.value in
     subst (λ t. OnOk c.add_value.result (c.add_value.new.out.items ≡ t))
-    (appended_joined c.args.out.now.items (head_words (codes "acknowledgement") a.height a.phase a.signer ∷ codes " of " ∷ last ∷ []) (c.add.new.out.items ++ last) (
+    (appended_joined c.args.out.now.items (head_words (codes "acknowledgement") a.height a.phase a.signer ∷ codes " of " ∷ last ∷ [])
+    (c.add.new.out.items ++ last) (
       c.add_head.new.out.items,
       (
         c.in_ok-add_head.ensures,

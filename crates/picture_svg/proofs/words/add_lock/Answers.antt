@@ -10,7 +10,8 @@ returns c =
     let l = c.args.lock.now in
     let last = value_text l.value in
     subst (λ t. OnOk c.add_value.result (c.add_value.new.out.items ≡ t))
-    (appended_joined c.args.out.now.items (head_words (codes "lock") l.height l.phase l.signer ∷ codes " on " ∷ last ∷ []) (c.add.new.out.items ++ last) (
+    (appended_joined c.args.out.now.items (head_words (codes "lock") l.height l.phase l.signer ∷ codes " on " ∷ last ∷ [])
+    (c.add.new.out.items ++ last) (
       c.add_head.new.out.items,
       (
         c.in_ok-add_head.ensures,

@@ -1,6 +1,6 @@
-use Rattle.byte_streams.proofs.Faults.{on_error}
+use Rattle.byte_streams.proofs.Faults.{on_error, passed}
 use Rattle.program.specs.Streams.{StopsDelivery}
-use Rattle.program.proofs.CauseLemmas.{passed, stops_delivery_anyway}
+use Rattle.program.proofs.CauseLemmas.{stops_delivery_anyway}
 use Rattle.program.proofs.DeliveringLemmas.{halted_at_first}
 use Rattle.program.proofs.delivering.deliver.Goals as goal
 

@@ -1,6 +1,6 @@
-use Rattle.byte_streams.proofs.Faults.{on_error}
+use Rattle.byte_streams.proofs.Faults.{on_error, passed}
 use Rattle.program.specs.Streams.{StopsDelivery}
-use Rattle.program.proofs.CauseLemmas.{passed, stops_delivery, stops_delivery_anyway}
+use Rattle.program.proofs.CauseLemmas.{stops_delivery, stops_delivery_anyway}
 use Rattle.program.proofs.DeliveringLemmas.{done_to_end, filled_before, filled_within, halted_at_end, halted_before, halted_within}
 use Rattle.program.proofs.delivering.deliver_to.Goals as goal
 

@@ -1,4 +1,6 @@
-use Rattle.std.proofs.Common.{◌∙◌, sym, subst}
+use Rattle.std.proofs.Common.{◌∙◌, [], refl, sym, subst, inl}
+use Rattle.byte_streams.proofs.Faults.{on_error}
+use Rattle.byte_streams.proofs.WritingLemmas.{nothing_some}
 use Rattle.run_picture.specs.Pictures.{IsPictureOf}
 use Rattle.program.proofs.DrawingLemmas.{drawn_written}
 use Rattle.program.proofs.drawing.draw_histories.Goals as goal
@@ -14,3 +16,9 @@ returns-clause-draws g c =
       prints = c.deref.ensures.value ∙ c.in_ok-svg.ensures;
     })
     c.write_output.ensures.written
+
+pub returns-in_err-random-clause-draws : goal.returns-in_err-random-clause-draws
+returns-in_err-random-clause-draws g c = on_error _ _ c.from_residual.ensures.0 ([], (inl refl, nothing_some _ []))
+
+pub returns-in_err-picture-clause-draws : goal.returns-in_err-picture-clause-draws
+returns-in_err-picture-clause-draws g c = on_error _ _ c.from_residual-in_err-picture.ensures.0 ([], (inl refl, nothing_some _ []))

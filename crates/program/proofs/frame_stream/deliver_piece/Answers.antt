@@ -1,8 +1,8 @@
 use Rattle.std.proofs.Common.{◌++◌, subst}
 use Rattle.signed_frames.specs.Reader.{HandsOut}
-use Rattle.byte_streams.proofs.Faults.{on_error}
+use Rattle.byte_streams.proofs.Faults.{on_error, passed}
 use Rattle.program.specs.Faults.{StopsAt}
-use Rattle.program.proofs.CauseLemmas.{if_stops, passed, stops_anyway}
+use Rattle.program.proofs.CauseLemmas.{if_stops, stops_anyway}
 use Rattle.program.proofs.StreamLemmas.{reading_unfailed}
 use Rattle.program.proofs.PieceLemmas.{piece_behind, piece_stops, piece_told, piece_lost}
 use Rattle.program.proofs.frame_stream.deliver_piece.Goals as goal

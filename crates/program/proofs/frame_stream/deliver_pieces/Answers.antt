@@ -1,8 +1,8 @@
 use Rattle.std.proofs.Common.{rules, ◌<◌, length}
 use Rattle.std.proofs.KnownBytes.{Keeps-refl}
-use Rattle.byte_streams.proofs.Faults.{on_error}
+use Rattle.byte_streams.proofs.Faults.{on_error, passed}
 use Rattle.program.specs.Faults.{StopsAt}
-use Rattle.program.proofs.CauseLemmas.{passed, read_stops}
+use Rattle.program.proofs.CauseLemmas.{read_stops}
 use Rattle.program.proofs.StreamEnds.{begun, ended_of, ends_at, goes_on, stopped_of}
 use Rattle.program.proofs.frame_stream.deliver_pieces.Goals as goal
 

@@ -11,7 +11,8 @@ returns-in_err-sign-in-Sign-clause-done g c =
     (signed_halted c.args.settings.now c.in-Sign.settings _ _ _ c.in-Sign.is c.in_err-sign-in-Sign.ensures.written)
 
 pub returns-in_ok-sign-in-Sign-clause-done : goal.returns-in_ok-sign-in-Sign-clause-done
-returns-in_ok-sign-in-Sign-clause-done g c = signed_done c.args.settings.now c.in-Sign.settings c.plain.result.status _ _ _ c.in-Sign.is c.plain.ensures.status
+returns-in_ok-sign-in-Sign-clause-done g c = signed_done c.args.settings.now c.in-Sign.settings c.plain.result.status _ _ _ c.in-Sign.is
+    c.plain.ensures.status
     c.in_ok-sign-in-Sign.ensures.written
 
 pub returns-in_err-end-in-Deliver-clause-done : goal.returns-in_err-end-in-Deliver-clause-done
@@ -41,7 +42,8 @@ returns-in-Audit-clause-done g c =
     audited_done c.args.settings.now c.in-Audit.settings c.audit.result _ _ _ _ c.in-Audit.is c.audit.ensures.audits
 
 pub returns-in-Audit-clause-explains : goal.returns-in-Audit-clause-explains
-returns-in-Audit-clause-explains g c = audit_explains c.args.settings.now c.in-Audit.settings c.audit.result c.in-Audit.is c.audit.ensures.explains
+returns-in-Audit-clause-explains g c = audit_explains c.args.settings.now c.in-Audit.settings c.audit.result c.in-Audit.is
+    c.audit.ensures.explains
 
 pub returns-in-Draw-clause-done : goal.returns-in-Draw-clause-done
 returns-in-Draw-clause-done g c = drawn_done c.args.settings.now c.in-Draw.settings c.draw.result _ _ _ _ c.in-Draw.is c.draw.ensures.draws

@@ -1,7 +1,8 @@
 use Rattle.std.proofs.Common.{map, inl, inr, subst, sym}
 use Rattle.std.proofs.KnownBytes.{Keeps-refl}
 use Rattle.command_line.specs.Options.{IsSet}
-use Rattle.program.proofs.RunningLemmas.{if_ended, if_handed, settled_finishes, settled_explains, settled_quiet, settled_refuses, settled_stops}
+use Rattle.program.proofs.RunningLemmas.{if_ended, if_handed, settled_finishes, settled_explains, settled_quiet, settled_refuses}
+use Rattle.program.proofs.RunningLemmas.{settled_stops}
 use Rattle.program.proofs.RunningLemmas.{settled_known, told_finishes, told_quiet, told_refuses, told_stops, told_known}
 use Rattle.program.proofs.running.run.Goals as goal
 
@@ -50,7 +51,13 @@ returns-in-Ok-clause-known g c =
 pub returns-in-Ok-clause-hands_back : goal.returns-in-Ok-clause-hands_back
 returns-in-Ok-clause-hands_back g c =
     if_handed c.run_settings.result _ _
-    (λ handed is. (subst (IsSet (map (λ w. w.now) c.args.words.now)) (sym is.0) c.in-Ok.ensures.set, is.1, is.2, is.3, c.in-Ok.ensures.taken))
+    (λ handed is. (
+      subst (IsSet (map (λ w. w.now) c.args.words.now)) (sym is.0) c.in-Ok.ensures.set,
+      is.1,
+      is.2,
+      is.3,
+      c.in-Ok.ensures.taken,
+    ))
     c.run_settings.ensures.handed
 
 pub returns-in-Err-clause-finishes : goal.returns-in-Err-clause-finishes

@@ -1,11 +1,11 @@
 use Rattle.program_streams.specs.Faults.{IsMemoryOrAsked}
-use Rattle.program.proofs.CauseLemmas.{passed, read_is}
+use Rattle.program.proofs.CauseLemmas.{read_is}
 use Rattle.std.proofs.Common.{◌≡◌, ◌<◌, ◌≤◌, ◌++◌, inl, inr, length, rules, subst, sym, take}
 use Rattle.std.proofs.KnownBytes.{Consumes-kept, Consumes-nil}
 use Rattle.std.specs.Io.KnownBytes.{Consumes}
 use Rattle.scenario_texts.specs.Lines.{HasLines, IsTooLarge}
 use Rattle.scenario_texts.proofs.Sizes.{nothing_fits}
-use Rattle.byte_streams.proofs.Faults.{on_error}
+use Rattle.byte_streams.proofs.Faults.{on_error, passed}
 use Rattle.program.specs.Simulating.{IsReadInTime}
 use Rattle.program.proofs.ScenarioLemmas.{all_in_time, piece_in_time, read_none, read_on}
 use Rattle.program.proofs.scenario_input.read_text.Goals as goal

@@ -1,4 +1,4 @@
-use Rattle.std.proofs.Common.{◌≡◌, ◌∙◌, ◌∷◌, [], ◌++◌, sym, ap, subst}
+use Rattle.std.proofs.Common.{◌≡◌, ◌∙◌, ◌∷◌, [], ◌++◌, ap, subst}
 use Rattle.std.specs.Option.{option_copied}
 use Rattle.ledger_model.specs.Groups.{history_of}
 use Rattle.run_picture.specs.Orders.{shown_if}
@@ -15,8 +15,10 @@ loop-number-preserved c =
     let histories = c.args.histories.now in
     let r = c.loop-number.number in
     let is : c.new-replica.result ≡ r = c.new-replica.ensures in
-    let of : option_copied c.history_of-history.result ≡ history_of histories r = c.history_of-history.ensures ∙ ap (history_of histories) is in
-    rows_next config part histories c.args.shown.now c.loop-number.shown c.add_history.new.shown c.args.decisions.now.items c.loop-number.decisions.items
+    let of : option_copied c.history_of-history.result ≡ history_of histories r = c.history_of-history.ensures
+    ∙ ap (history_of histories) is in
+    rows_next config part histories c.args.shown.now c.loop-number.shown c.add_history.new.shown c.args.decisions.now.items
+    c.loop-number.decisions.items
     c.add_history.new.decisions.items c.loop-number.rounds.items c.push.new.self.items r c.loop-number-test.true c.loop-number.invariant
     (subst (λ h. AddsIf part r h c.loop-number.shown c.add_history.new.shown) of
     (subst (λ q. AddsIf part q (option_copied c.history_of-history.result) c.loop-number.shown c.add_history.new.shown) is

@@ -3,4 +3,5 @@ use Rattle.run_picture.proofs.Rows.{RowsTo}
 use Rattle.run_picture.proofs.picture.add_all.Given as goal
 
 abbrev pub invariant-loop-number : goal.invariant-loop-number
-invariant-loop-number l = RowsTo l.config l.part l.histories l.fn.shown l.shown l.fn.decisions.items l.decisions.items l.rounds.items l.number
+invariant-loop-number l = RowsTo l.config l.part l.histories l.fn.shown l.shown l.fn.decisions.items l.decisions.items l.rounds.items
+    l.number

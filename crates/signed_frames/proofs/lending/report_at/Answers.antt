@@ -11,17 +11,35 @@ within frame m s rest at e = signed_within frame m (to_be_bytes w16 (length s)) 
 pub overflow_add-end : goal.overflow_add-end
 overflow_add-end c =
     let s = c.args.signed.now in
-    omega (arith, c.report_len.ensures.len, within c.args.frame.now (report_bytes s.report) s.signature c.requires.front.0 c.args.at c.requires.front.1, c.requires.short)
+    omega (
+      arith,
+      c.report_len.ensures.len,
+      within c.args.frame.now
+          (report_bytes s.report) s.signature c.requires.front.0 c.args.at c.requires.front.1,
+      c.requires.short,
+    )
 
 pub overflow_add-signature_start : goal.overflow_add-signature_start
 overflow_add-signature_start c =
     let s = c.args.signed.now in
-    omega (arith, c.report_len.ensures.len, within c.args.frame.now (report_bytes s.report) s.signature c.requires.front.0 c.args.at c.requires.front.1, c.requires.short)
+    omega (
+      arith,
+      c.report_len.ensures.len,
+      within c.args.frame.now
+          (report_bytes s.report) s.signature c.requires.front.0 c.args.at c.requires.front.1,
+      c.requires.short,
+    )
 
 pub overflow_add-signature_end : goal.overflow_add-signature_end
 overflow_add-signature_end c =
     let s = c.args.signed.now in
-    omega (arith, c.report_len.ensures.len, ap length c.as_bytes.ensures, within c.args.frame.now (report_bytes s.report) s.signature c.requires.front.0 c.args.at c.requires.front.1, c.requires.short)
+    omega (
+      arith,
+      c.report_len.ensures.len,
+      ap length c.as_bytes.ensures,
+      within c.args.frame.now (report_bytes s.report) s.signature c.requires.front.0 c.args.at c.requires.front.1,
+      c.requires.short,
+    )
 
 pub invariant_of-part : goal.invariant_of-part
 invariant_of-part c =
@@ -37,11 +55,17 @@ pub returns-clause-part : goal.returns-clause-part
 unfolding statement_bytes
 returns-clause-part c =
     let s = c.args.signed.now in
-    let cuts = signed_cut c.args.frame.now (report_bytes s.report) (to_be_bytes w16 (length s.signature)) s.signature c.requires.front.0 c.args.at
+    let cuts = signed_cut c.args.frame.now (report_bytes s.report)
+    (to_be_bytes w16 (length s.signature)) s.signature c.requires.front.0 c.args.at
     c.requires.front.1 refl in
     rw (c.report_len.ensures.len, c.as_bytes.ensures) (same_part s.report.signer _ _ _ _ cuts.0 cuts.1)
 
 pub returns-clause-behind : goal.returns-clause-behind
 returns-clause-behind c =
     let s = c.args.signed.now in
-    omega (arith, c.report_len.ensures.len, ap length c.as_bytes.ensures, length-append (report_bytes s.report) (signature_bytes s.signature))
+    omega (
+      arith,
+      c.report_len.ensures.len,
+      ap length c.as_bytes.ensures,
+      length-append (report_bytes s.report) (signature_bytes s.signature),
+    )

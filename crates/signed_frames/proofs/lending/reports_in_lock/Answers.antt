@@ -12,7 +12,13 @@ overflow_sub-end-2 c = omega (arith, c.len.ensures.value, reports_fit c.args.fra
 pub overflow_sub-result : goal.overflow_sub-result
 overflow_sub-result c =
     let all = ap (λ r. length (flat_map signed_bytes r)) c.as_slice-reports.ensures in
-    omega (arith, c.len.ensures.value, c.reports_len.ensures.len, all, reports_fit c.args.frame.now c.args.lock.now c.args.signature_len c.requires)
+    omega (
+      arith,
+      c.len.ensures.value,
+      c.reports_len.ensures.len,
+      all,
+      reports_fit c.args.frame.now c.args.lock.now c.args.signature_len c.requires,
+    )
 
 pub invariant_of-result : goal.invariant_of-result
 invariant_of-result c =

@@ -9,7 +9,8 @@ use Rattle.simulation.proofs.serving_reports.serving_bytes.Goals as goal
 pub returns-in-Ok-clause-found : goal.returns-in-Ok-clause-found
 returns-in-Ok-clause-found c =
     let reads = ap reading (sym c.in_ok-clone.ensures.cases) ∙ c.in-Ok.ensures.exact in
-    IfOk-weaker c.serving_in.result _ _ (λ found is. is ∙ of_frame c.args.lie.now c.args.source c.args.replica c.args.bytes.now c.in-Ok.frame reads)
+    IfOk-weaker c.serving_in.result _ _ (λ found is. is ∙ of_frame c.args.lie.now c.args.source c.args.replica c.args.bytes.now
+    c.in-Ok.frame reads)
     c.serving_in.ensures.found
 
 pub returns-in-Err-Malformed-clause-found : goal.returns-in-Err-Malformed-clause-found

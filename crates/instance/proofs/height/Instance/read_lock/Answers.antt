@@ -13,7 +13,8 @@ use Rattle.instance.proofs.height.Instance.read_lock.Goals as goal
 pub returns-in-Err-clause-answer : goal.returns-in-Err-clause-answer
 returns-in-Err-clause-answer g c =
     ap Err c.cause_of.ensures
-    ∙ lock_fault c.args.self.now (g.C.CheckSignatures.ring c.args.checks.now) c.args.round c.args.frame.statement c.args.frame.signature c.in-Err.fault c.requires.kind
+    ∙ lock_fault c.args.self.now (g.C.CheckSignatures.ring c.args.checks.now) c.args.round c.args.frame.statement c.args.frame.signature
+    c.in-Err.fault c.requires.kind
     c.requires.owner (search rules)
 
 pub read_valid-requires-clause-lock : goal.read_valid-requires-clause-lock
@@ -22,12 +23,14 @@ read_valid-requires-clause-lock g c =
 
 pub returns-in-Ok-clause-answer : goal.returns-in-Ok-clause-answer
 returns-in-Ok-clause-answer g c =
-    let valid = subst (λ (s : SignedStatement). Ok tt ≡ first_of (faults c.self.inside.config (g.C.CheckSignatures.ring c.args.checks.now) (lock_in s)))
+    let valid = subst (λ (s : SignedStatement). Ok tt ≡ first_of
+    (faults c.self.inside.config (g.C.CheckSignatures.ring c.args.checks.now) (lock_in s)))
     (sym c.in-Ok.ensures.lock) c.in-Ok.ensures.fault in
     rw (sym c.in-Ok.ensures.lock)
     (by_row c.read_valid.result _ _ c.read_valid.ensures.answer
     (lock_room c.args.self.now (g.C.CheckSignatures.ring c.args.checks.now) c.args.round c.in-Ok.lock
-    (subst (λ (row : InstanceView). Ok tt ≡ first_of (faults row.config (g.C.CheckSignatures.ring c.args.checks.now) c.in-Ok.lock)) c.self.view_is valid)))
+    (subst (λ (row : InstanceView). Ok tt ≡ first_of (faults row.config
+    (g.C.CheckSignatures.ring c.args.checks.now) c.in-Ok.lock)) c.self.view_is valid)))
 
 pub returns-in-Ok-clause-after : goal.returns-in-Ok-clause-after
 returns-in-Ok-clause-after g c = rw (sym c.in-Ok.ensures.lock) c.read_valid.ensures.after

@@ -11,12 +11,15 @@ returns-in-Err-clause-answer g c = λ log matches clock.
     ∙ answers_at (g.C.CheckSignatures.ring c.args.checks.now) c.args.self.now log c.args.clock matches clock c.args.frame c.requires.signer
 
 of_report : (g : Over) (c : goal.After-read_report g)
-    → Outcome (g.C.CheckSignatures.ring c.args.checks.now) c.args.self.now c.read_report.new.self c.args.clock c.args.frame c.read_report.result
+    → Outcome (g.C.CheckSignatures.ring c.args.checks.now) c.args.self.now c.read_report.new.self c.args.clock c.args.frame
+    c.read_report.result
 of_report g c =
-    outcome (g.C.CheckSignatures.ring c.args.checks.now) c.args.self.now c.read_report.new.self c.args.clock c.args.frame c.read_report.result c.requires.signer
+    outcome (g.C.CheckSignatures.ring c.args.checks.now) c.args.self.now c.read_report.new.self c.args.clock c.args.frame
+    c.read_report.result c.requires.signer
     c.requires.height c.statement.ensures.frame
     (by_row c.read_report.result _ _ c.read_report.ensures.answer
-    (report_answer c.args.self.now (g.C.CheckSignatures.ring c.args.checks.now) c.args.clock c.args.frame.signature tt c.args.frame.statement (search rules)
+    (report_answer c.args.self.now (g.C.CheckSignatures.ring c.args.checks.now) c.args.clock c.args.frame.signature tt
+    c.args.frame.statement (search rules)
     (search rules)))
     (c.read_report.ensures.after c.args.clock) c.read_report.ensures.err
 
@@ -34,10 +37,12 @@ returns-in-Report g c = let o = of_report g c in record {
 of_lock : (g : Over) (c : goal.After-read_lock g)
     → Outcome (g.C.CheckSignatures.ring c.args.checks.now) c.args.self.now c.read_lock.new.self c.args.clock c.args.frame c.read_lock.result
 of_lock g c =
-    outcome (g.C.CheckSignatures.ring c.args.checks.now) c.args.self.now c.read_lock.new.self c.args.clock c.args.frame c.read_lock.result c.requires.signer
+    outcome (g.C.CheckSignatures.ring c.args.checks.now) c.args.self.now c.read_lock.new.self c.args.clock c.args.frame c.read_lock.result
+    c.requires.signer
     c.requires.height c.statement.ensures.frame
     (by_row c.read_lock.result _ _ c.read_lock.ensures.answer
-    (lock_answer c.args.self.now (g.C.CheckSignatures.ring c.args.checks.now) c.args.clock c.args.frame.signature tt c.args.frame.statement (search rules)
+    (lock_answer c.args.self.now (g.C.CheckSignatures.ring c.args.checks.now) c.args.clock c.args.frame.signature tt
+    c.args.frame.statement (search rules)
     (search rules)))
     c.read_lock.ensures.after c.read_lock.ensures.err
 
@@ -53,11 +58,14 @@ returns-in-Lock g c = let o = of_lock g c in record {
 }
 
 of_ack : (g : Over) (c : goal.After-read_ack g)
-    → Outcome {E = Unit {0}} (g.C.CheckSignatures.ring c.args.checks.now) c.args.self.now c.read_ack.new.self c.args.clock c.args.frame (Ok c.read_ack.result)
+    → Outcome {E = Unit {0}} (g.C.CheckSignatures.ring c.args.checks.now) c.args.self.now c.read_ack.new.self c.args.clock c.args.frame
+    (Ok c.read_ack.result)
 of_ack g c =
-    outcome (g.C.CheckSignatures.ring c.args.checks.now) c.args.self.now c.read_ack.new.self c.args.clock c.args.frame (Ok c.read_ack.result) c.requires.signer
+    outcome (g.C.CheckSignatures.ring c.args.checks.now) c.args.self.now c.read_ack.new.self c.args.clock c.args.frame
+    (Ok c.read_ack.result) c.requires.signer
     c.requires.height c.statement.ensures.frame
-    (c.read_ack.ensures.answer ∙ ack_answer c.args.self.now (g.C.CheckSignatures.ring c.args.checks.now) c.args.clock c.args.frame.signature tt c.args.frame.statement
+    (c.read_ack.ensures.answer ∙ ack_answer c.args.self.now (g.C.CheckSignatures.ring c.args.checks.now) c.args.clock
+    c.args.frame.signature tt c.args.frame.statement
     (search rules) (search rules))
     (c.read_ack.ensures.after c.args.clock) tt
 

@@ -2,7 +2,8 @@ use Rattle.std.proofs.Common.{◌≤◌, length, sym, arith, rules}
 use Rattle.std.proofs.lemmas.List.{length-map}
 use Rattle.ledger_model.specs.Limits.{max_history_len}
 use Rattle.locked_replica.specs.StoredEntries.{entry_of, entries_of}
-use Rattle.locked_replica.proofs.Applied.{applied_by, still_replica, still_stored, added_on, still_mute, still_signed, left_stored, runs_alone}
+use Rattle.locked_replica.proofs.Applied.{applied_by, still_replica, still_stored, added_on, still_mute, still_signed, left_stored}
+use Rattle.locked_replica.proofs.Applied.{runs_alone}
 use Rattle.locked_replica.proofs.state.State.apply.Goals as goal
 
 pub take_event-requires : goal.take_event-requires
@@ -16,7 +17,8 @@ invariant_of-self-2 g c =
 
 pub returns-clause-added : goal.returns-clause-added
 returns-clause-added g c =
-    rw (sym c.self.view_is) (added_on (applied_by c.in_ok-entry.ensures.taken c.in_ok-entry.ensures.left c.in_ok-entry.ensures.kept c.self.invariant
+    rw (sym c.self.view_is) (added_on (applied_by c.in_ok-entry.ensures.taken c.in_ok-entry.ensures.left c.in_ok-entry.ensures.kept
+    c.self.invariant
     (omega (arith, c.len-index.ensures, c.if-index-ge-MAX_ENTRIES.false)) c.is_mute.ensures.due c.reserve.ensures.items c.store.ensures))
 
 pub returns-clause-replay : goal.returns-clause-replay
@@ -29,12 +31,14 @@ returns-clause-machine g c =
 
 pub returns-clause-mute : goal.returns-clause-mute
 returns-clause-mute g c =
-    rw (sym c.self.view_is) (still_mute (applied_by c.in_ok-entry.ensures.taken c.in_ok-entry.ensures.left c.in_ok-entry.ensures.kept c.self.invariant
+    rw (sym c.self.view_is) (still_mute (applied_by c.in_ok-entry.ensures.taken c.in_ok-entry.ensures.left c.in_ok-entry.ensures.kept
+    c.self.invariant
     (omega (arith, c.len-index.ensures, c.if-index-ge-MAX_ENTRIES.false)) c.is_mute.ensures.due c.reserve.ensures.items c.store.ensures))
 
 pub returns-clause-signed : goal.returns-clause-signed
 returns-clause-signed g c =
-    rw (sym c.self.view_is) (still_signed (applied_by c.in_ok-entry.ensures.taken c.in_ok-entry.ensures.left c.in_ok-entry.ensures.kept c.self.invariant
+    rw (sym c.self.view_is) (still_signed (applied_by c.in_ok-entry.ensures.taken c.in_ok-entry.ensures.left c.in_ok-entry.ensures.kept
+    c.self.invariant
     (omega (arith, c.len-index.ensures, c.if-index-ge-MAX_ENTRIES.false)) c.is_mute.ensures.due c.reserve.ensures.items c.store.ensures))
 
 pub returns-clause-account : goal.returns-clause-account

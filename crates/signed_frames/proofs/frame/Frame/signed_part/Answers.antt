@@ -27,7 +27,8 @@ returns c =
     let n : ℕ = f.signature_len in
     let length_is = holds_length f.bytes f.statement n c.self.invariant in
     let message : take (length f.bytes - n - 2 - 4) (drop 4 f.bytes) ≡ statement_bytes f.statement =
-    ap (λ (k : ℕ). take k (drop 4 f.bytes)) (omega (arith, length-drop 4 f.bytes, length_is)) ∙ statement_part f.bytes f.statement n c.self.invariant in
+    ap (λ (k : ℕ). take k (drop 4 f.bytes)) (omega (arith, length-drop 4 f.bytes, length_is))
+    ∙ statement_part f.bytes f.statement n c.self.invariant in
     let sig : List ℕ = drop (length f.bytes - n) f.bytes in
     let signature : take (length f.bytes - (length f.bytes - n)) sig ≡ sig =
     ap (λ (k : ℕ). take k sig) (omega (arith, length-drop (length f.bytes - n) f.bytes, length_is)) ∙ take-length sig in

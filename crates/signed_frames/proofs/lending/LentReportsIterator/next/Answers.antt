@@ -13,7 +13,8 @@ report_at-part-requires-clause-front c =
     let rest = c.self.invariant.spelled.0 in
     let is : c.self.inside.reports.now ≡ first ∷ others = search rules in (
       flat_map signed_bytes others ++ rest,
-      c.self.invariant.spelled.1 ∙ ap (λ x. flat_map signed_bytes x ++ rest) is ∙ ap (λ (x : List ℕ). x ++ rest) (flat_map-cons signed_bytes first others)
+      c.self.invariant.spelled.1 ∙ ap (λ x. flat_map signed_bytes x ++ rest) is
+          ∙ ap (λ (x : List ℕ). x ++ rest) (flat_map-cons signed_bytes first others)
           ∙ append_assoc (signed_bytes first) (flat_map signed_bytes others) rest,
     )
 
@@ -24,7 +25,8 @@ invariant_of-self c =
     let rest = c.self.invariant.spelled.0 in
     let is : c.self.inside.reports.now ≡ first ∷ others = search rules in
     let whole : drop c.self.inside.at c.self.inside.frame.now ≡ signed_bytes first ++ (flat_map signed_bytes others ++ rest) =
-    c.self.invariant.spelled.1 ∙ ap (λ x. flat_map signed_bytes x ++ rest) is ∙ ap (λ (x : List ℕ). x ++ rest) (flat_map-cons signed_bytes first others)
+    c.self.invariant.spelled.1 ∙ ap (λ x. flat_map signed_bytes x ++ rest) is
+    ∙ ap (λ (x : List ℕ). x ++ rest) (flat_map-cons signed_bytes first others)
     ∙ append_assoc (signed_bytes first) (flat_map signed_bytes others) rest in
     record {
       each = (subst (AllByRecursion IsSigned) is c.self.invariant.each).1;

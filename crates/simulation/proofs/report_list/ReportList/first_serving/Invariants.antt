@@ -6,4 +6,5 @@ use Rattle.simulation.proofs.report_list.ReportList.first_serving.Given as goal
 
 -- nothing served so far
 abbrev pub invariant-loop-report : goal.invariant-loop-report
-invariant-loop-report l = first_serving l.lie l.source l.replica (frames_at l.lie l.source l.replica (take l.report-index l.self.reports.items)) ≡ None
+invariant-loop-report l = first_serving l.lie l.source l.replica
+    (frames_at l.lie l.source l.replica (take l.report-index l.self.reports.items)) ≡ None

@@ -16,7 +16,8 @@ returns-clause-ascend g c =
     c.truncate.ensures.items ∙ ap (λ n. take n c.in_ok-reports.reports.items)
     (c.from-count.ensures ∙ c.quorum.ensures ∙ ap (λ config. quorum config) same)
     ∙ ap (take (quorum c.args.self.now.cluster.config)) c.in_ok-reports.ensures.found in
-    subst (λ rs. IsTrue (ascends_within 0 256 (signers_of rs))) (sym items) (proof_ascends c.args.self.now c.args.lie.now c.args.source (rw same at fits))
+    subst (λ rs. IsTrue (ascends_within 0 256 (signers_of rs))) (sym items)
+    (proof_ascends c.args.self.now c.args.lie.now c.args.source (rw same at fits))
 
 pub returns-then-len-count-clause-none : goal.returns-then-len-count-clause-none
 returns-then-len-count-clause-none g c = grind (arith, common_steps)

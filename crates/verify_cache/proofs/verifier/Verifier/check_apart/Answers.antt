@@ -1,7 +1,7 @@
 use Rattle.std.proofs.Common.{◌∙◌, subst, sym}
 use Rattle.verify_cache.specs.Same.{signed_of}
 use Rattle.verify_cache.specs.Verifiers.{AreAnswers}
-use Rattle.verify_cache.proofs.Known.{found}
+use Rattle.verify_cache.proofs.StoredAnswers.{found}
 use Rattle.verify_cache.proofs.verifier.Verifier.check_apart.Goals as goal
 
 pub returns-in-Some-clause-answer : goal.returns-in-Some-clause-answer

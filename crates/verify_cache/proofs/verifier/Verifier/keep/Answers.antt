@@ -3,7 +3,7 @@ use Rattle.lru.specs.LruCache.{lru_cache}
 use Rattle.verify_cache.specs.Same.{same}
 use Rattle.verify_cache.specs.Verifiers.{answer_by, added, is_known}
 use Rattle.std.specs.Map.{lookup}
-use Rattle.verify_cache.proofs.Known.{put-new, held-put, none-from}
+use Rattle.verify_cache.proofs.StoredAnswers.{put-new, held-put, none-from}
 use Rattle.verify_cache.proofs.verifier.Verifier.keep.Goals as goal
 
 -- what `put` leaves

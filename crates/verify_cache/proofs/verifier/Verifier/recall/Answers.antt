@@ -3,7 +3,7 @@ use Rattle.lru.specs.LruCache.{LruCache, lru_cache, promoted}
 use Rattle.verify_cache.specs.declared.signed.SignedMessage.{SignedMessage}
 use Rattle.verify_cache.specs.Same.{same}
 use Rattle.verify_cache.specs.Verifiers.{AreAnswers}
-use Rattle.verify_cache.proofs.Known.{held-promoted, found-any, promoted-new}
+use Rattle.verify_cache.proofs.StoredAnswers.{held-promoted, found-any, promoted-new}
 use Rattle.verify_cache.proofs.verifier.Verifier.recall.Goals as goal
 
 pub invariant_of-self : goal.invariant_of-self

@@ -1,0 +1,5 @@
+pub mod Texts
+pub mod Results
+pub mod Errors
+pub mod Metrics
+pub mod Replies

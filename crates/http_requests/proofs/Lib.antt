@@ -1,0 +1,7 @@
+mod Texts
+mod NumberReading
+mod Lookups
+mod Steps
+mod Asked
+mod Answering
+mod Examples

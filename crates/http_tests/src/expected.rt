@@ -1,0 +1,286 @@
+//! The replies that the tests expect: made of JSON values, base64 and SHA-256 by Python, with the lengths of the bodies.
+
+pub(crate) const HEALTH: &str = "\
+    HTTP/1.1 200 OK\r\n\
+    Content-Type: application/json\r\n\
+    Content-Length: 37\r\n\
+    Connection: close\r\n\
+    \r\n\
+    {\"jsonrpc\":\"2.0\",\"id\":-1,\"result\":{}}";
+
+pub(crate) const STATUS: &str = "\
+    HTTP/1.1 200 OK\r\n\
+    Content-Type: application/json\r\n\
+    Content-Length: 183\r\n\
+    Connection: close\r\n\
+    \r\n\
+    {\"jsonrpc\":\"2.0\",\"id\":-1,\"result\":{\"node_info\":{\"network\":\"abft\",\"moniker\":\"replica 2\"},\
+    \"sync_info\":{\"latest_block_height\":\"12\",\"catching_up\":false},\"abft\":{\"replica\":2,\"round\":345}}}";
+
+pub(crate) const INFO: &str = "\
+    HTTP/1.1 200 OK\r\n\
+    Content-Type: application/json\r\n\
+    Content-Length: 160\r\n\
+    Connection: close\r\n\
+    \r\n\
+    {\"jsonrpc\":\"2.0\",\"id\":-1,\"result\":{\"response\":{\"data\":\"kvstore\",\"last_block_height\":\"12\",\
+    \"last_block_app_hash\":\"AAAAAAAAAAAAAAAAAAAAAAAAAAAAAAAAAAAAAAAAAAA=\"}}}";
+
+pub(crate) const FOUND: &str = "\
+    HTTP/1.1 200 OK\r\n\
+    Content-Type: application/json\r\n\
+    Content-Length: 176\r\n\
+    Connection: close\r\n\
+    \r\n\
+    {\"jsonrpc\":\"2.0\",\"id\":-1,\"result\":{\"response\":{\"code\":0,\"log\":\"exists\",\"info\":\"\",\
+    \"index\":\"0\",\"key\":\"YWJjZA==\",\"value\":\"YWJjZA==\",\"proofOps\":null,\"height\":\"12\",\"codespace\":\"\"}}}";
+
+pub(crate) const MISSING: &str = "\
+    HTTP/1.1 200 OK\r\n\
+    Content-Type: application/json\r\n\
+    Content-Length: 173\r\n\
+    Connection: close\r\n\
+    \r\n\
+    {\"jsonrpc\":\"2.0\",\"id\":-1,\"result\":{\"response\":{\"code\":0,\"log\":\"does not exist\",\"info\":\"\",\
+    \"index\":\"0\",\"key\":\"Iv8=\",\"value\":null,\"proofOps\":null,\"height\":\"0\",\"codespace\":\"\"}}}";
+
+pub(crate) const EMPTY_BLOCK: &str = "\
+    HTTP/1.1 200 OK\r\n\
+    Content-Type: application/json\r\n\
+    Content-Length: 141\r\n\
+    Connection: close\r\n\
+    \r\n\
+    {\"jsonrpc\":\"2.0\",\"id\":-1,\"result\":{\"block_id\":{\"hash\":\"\",\"parts\":{\"total\":0,\"hash\":\"\"}},\
+    \"block\":{\"header\":{\"height\":\"1\"},\"data\":{\"txs\":[]}}}}";
+
+pub(crate) const BLOCK: &str = "\
+    HTTP/1.1 200 OK\r\n\
+    Content-Type: application/json\r\n\
+    Content-Length: 169\r\n\
+    Connection: close\r\n\
+    \r\n\
+    {\"jsonrpc\":\"2.0\",\"id\":-1,\"result\":{\"block_id\":{\"hash\":\"\",\"parts\":{\"total\":0,\"hash\":\"\"}},\
+    \"block\":{\"header\":{\"height\":\"4096\"},\"data\":{\"txs\":[\"YT0x\",\"bmFtZT1zYXRvc2hp\"]}}}}";
+
+pub(crate) const UNCONFIRMED: &str = "\
+    HTTP/1.1 200 OK\r\n\
+    Content-Type: application/json\r\n\
+    Content-Length: 95\r\n\
+    Connection: close\r\n\
+    \r\n\
+    {\"jsonrpc\":\"2.0\",\"id\":-1,\"result\":{\"n_txs\":\"31\",\"total\":\"31\",\"total_bytes\":\"19974\",\
+    \"txs\":null}}";
+
+pub(crate) const SYNC: &str = "\
+    HTTP/1.1 200 OK\r\n\
+    Content-Type: application/json\r\n\
+    Content-Length: 185\r\n\
+    Connection: close\r\n\
+    \r\n\
+    {\"jsonrpc\":\"2.0\",\"id\":-1,\"result\":{\"code\":0,\"data\":\"\",\"log\":\"\",\
+    \"codespace\":\"\",\"hash\":\"57D835FBBA0DBF922D8A2EDA56922C9B24E7760927F245A7684A736C4769DB8A\",\
+    \"abft\":{\"replica\":3,\"index\":44}}}";
+
+pub(crate) const REJECTED: &str = "\
+    HTTP/1.1 200 OK\r\n\
+    Content-Type: application/json\r\n\
+    Content-Length: 153\r\n\
+    Connection: close\r\n\
+    \r\n\
+    {\"jsonrpc\":\"2.0\",\"id\":-1,\"result\":{\"code\":7,\"data\":\"\",\"log\":\"\",\
+    \"codespace\":\"\",\"hash\":\"57D835FBBA0DBF922D8A2EDA56922C9B24E7760927F245A7684A736C4769DB8A\"}}";
+
+pub(crate) const COMMIT: &str = "\
+    HTTP/1.1 200 OK\r\n\
+    Content-Type: application/json\r\n\
+    Content-Length: 381\r\n\
+    Connection: close\r\n\
+    \r\n\
+    {\"jsonrpc\":\"2.0\",\"id\":-1,\"result\":{\"check_tx\":{\"code\":0,\"data\":null,\"log\":\"\",\"info\":\"\",\
+    \"gas_wanted\":\"0\",\"gas_used\":\"0\",\"events\":[],\"codespace\":\"\"},\"deliver_tx\":{\"code\":1,\
+    \"data\":null,\"log\":\"\",\"info\":\"\",\"gas_wanted\":\"0\",\"gas_used\":\"0\",\"events\":[],\"codespace\":\"\"},\
+    \"hash\":\"57D835FBBA0DBF922D8A2EDA56922C9B24E7760927F245A7684A736C4769DB8A\",\"height\":\"5\",\"abft\":{\"replica\":0,\
+    \"index\":39}}}";
+
+pub(crate) const REJECTED_COMMIT: &str = "\
+    HTTP/1.1 200 OK\r\n\
+    Content-Type: application/json\r\n\
+    Content-Length: 349\r\n\
+    Connection: close\r\n\
+    \r\n\
+    {\"jsonrpc\":\"2.0\",\"id\":-1,\"result\":{\"check_tx\":{\"code\":7,\"data\":null,\"log\":\"\",\"info\":\"\",\
+    \"gas_wanted\":\"0\",\"gas_used\":\"0\",\"events\":[],\"codespace\":\"\"},\"deliver_tx\":{\"code\":0,\
+    \"data\":null,\"log\":\"\",\"info\":\"\",\"gas_wanted\":\"0\",\"gas_used\":\"0\",\"events\":[],\"codespace\":\"\"},\
+    \"hash\":\"57D835FBBA0DBF922D8A2EDA56922C9B24E7760927F245A7684A736C4769DB8A\",\"height\":\"0\"}}";
+
+pub(crate) const MALFORMED: &str = "\
+    HTTP/1.1 400 Bad Request\r\n\
+    Content-Type: application/json\r\n\
+    Content-Length: 114\r\n\
+    Connection: close\r\n\
+    \r\n\
+    {\"jsonrpc\":\"2.0\",\"id\":-1,\"error\":{\"code\":-32600,\"message\":\"Invalid Request\",\
+    \"data\":\"this is no HTTP/1.x request\"}}";
+
+pub(crate) const WRONG: &str = "\
+    HTTP/1.1 400 Bad Request\r\n\
+    Content-Type: application/json\r\n\
+    Content-Length: 124\r\n\
+    Connection: close\r\n\
+    \r\n\
+    {\"jsonrpc\":\"2.0\",\"id\":-1,\"error\":{\"code\":-32602,\"message\":\"Invalid params\",\
+    \"data\":\"the parameter data is missing or wrong\"}}";
+
+pub(crate) const NOT_FOUND: &str = "\
+    HTTP/1.1 404 Not Found\r\n\
+    Content-Type: application/json\r\n\
+    Content-Length: 100\r\n\
+    Connection: close\r\n\
+    \r\n\
+    {\"jsonrpc\":\"2.0\",\"id\":-1,\"error\":{\"code\":-32601,\"message\":\"Method not found\",\"data\":\"no such path\"}}";
+
+pub(crate) const METHOD: &str = "\
+    HTTP/1.1 405 Method Not Allowed\r\n\
+    Content-Type: application/json\r\n\
+    Content-Length: 112\r\n\
+    Allow: GET\r\n\
+    Connection: close\r\n\
+    \r\n\
+    {\"jsonrpc\":\"2.0\",\"id\":-1,\"error\":{\"code\":-32600,\"message\":\"Invalid Request\",\
+    \"data\":\"only GET is answered here\"}}";
+
+pub(crate) const TOO_LONG: &str = "\
+    HTTP/1.1 431 Request Header Fields Too Large\r\n\
+    Content-Type: application/json\r\n\
+    Content-Length: 122\r\n\
+    Connection: close\r\n\
+    \r\n\
+    {\"jsonrpc\":\"2.0\",\"id\":-1,\"error\":{\"code\":-32600,\"message\":\"Invalid Request\",\
+    \"data\":\"the head of the request is too long\"}}";
+
+pub(crate) const NO_MEMORY: &str = "\
+    HTTP/1.1 500 Internal Server Error\r\n\
+    Content-Type: application/json\r\n\
+    Content-Length: 99\r\n\
+    Connection: close\r\n\
+    \r\n\
+    {\"jsonrpc\":\"2.0\",\"id\":-1,\"error\":{\"code\":-32603,\"message\":\"Internal error\",\"data\":\"out of memory\"}}";
+
+pub(crate) const NO_REPLICA: &str = "\
+    HTTP/1.1 400 Bad Request\r\n\
+    Content-Type: application/json\r\n\
+    Content-Length: 117\r\n\
+    Connection: close\r\n\
+    \r\n\
+    {\"jsonrpc\":\"2.0\",\"id\":-1,\"error\":{\"code\":-32602,\"message\":\"Invalid params\",\
+    \"data\":\"the cluster has no such replica\"}}";
+
+pub(crate) const NOT_COMMITTED: &str = "\
+    HTTP/1.1 500 Internal Server Error\r\n\
+    Content-Type: application/json\r\n\
+    Content-Length: 127\r\n\
+    Connection: close\r\n\
+    \r\n\
+    {\"jsonrpc\":\"2.0\",\"id\":-1,\"error\":{\"code\":-32603,\"message\":\"Internal error\",\
+    \"data\":\"the replica has not committed this height\"}}";
+
+pub(crate) const HISTORY_FULL: &str = "\
+    HTTP/1.1 503 Service Unavailable\r\n\
+    Content-Type: application/json\r\n\
+    Content-Length: 139\r\n\
+    Connection: close\r\n\
+    \r\n\
+    {\"jsonrpc\":\"2.0\",\"id\":-1,\"error\":{\"code\":-32603,\"message\":\"Internal error\",\
+    \"data\":\"the replica's history has no entries left for clients\"}}";
+
+pub(crate) const TIMED_OUT: &str = "\
+    HTTP/1.1 500 Internal Server Error\r\n\
+    Content-Type: application/json\r\n\
+    Content-Length: 136\r\n\
+    Connection: close\r\n\
+    \r\n\
+    {\"jsonrpc\":\"2.0\",\"id\":-1,\"error\":{\"code\":-32603,\"message\":\"Internal error\",\
+    \"data\":\"timed out waiting for tx to be included in a block\"}}";
+
+pub(crate) const EMPTY: &str = "\
+    HTTP/1.1 400 Bad Request\r\n\
+    Content-Type: application/json\r\n\
+    Content-Length: 113\r\n\
+    Connection: close\r\n\
+    \r\n\
+    {\"jsonrpc\":\"2.0\",\"id\":-1,\"error\":{\"code\":-32602,\"message\":\"Invalid params\",\
+    \"data\":\"the transaction has no byte\"}}";
+
+pub(crate) const LONG: &str = "\
+    HTTP/1.1 400 Bad Request\r\n\
+    Content-Type: application/json\r\n\
+    Content-Length: 124\r\n\
+    Connection: close\r\n\
+    \r\n\
+    {\"jsonrpc\":\"2.0\",\"id\":-1,\"error\":{\"code\":-32602,\"message\":\"Invalid params\",\
+    \"data\":\"the transaction has more than 64 bytes\"}}";
+
+pub(crate) const DUPLICATE: &str = "\
+    HTTP/1.1 500 Internal Server Error\r\n\
+    Content-Type: application/json\r\n\
+    Content-Length: 112\r\n\
+    Connection: close\r\n\
+    \r\n\
+    {\"jsonrpc\":\"2.0\",\"id\":-1,\"error\":{\"code\":-32603,\"message\":\"Internal error\",\
+    \"data\":\"tx already exists in cache\"}}";
+
+pub(crate) const FULL: &str = "\
+    HTTP/1.1 500 Internal Server Error\r\n\
+    Content-Type: application/json\r\n\
+    Content-Length: 101\r\n\
+    Connection: close\r\n\
+    \r\n\
+    {\"jsonrpc\":\"2.0\",\"id\":-1,\"error\":{\"code\":-32603,\"message\":\"Internal error\",\"data\":\"mempool is full\"}}";
+
+pub(crate) const METRICS: &str = "\
+    HTTP/1.1 200 OK\r\n\
+    Content-Type: text/plain; version=0.0.4; charset=utf-8\r\n\
+    Content-Length: 1639\r\n\
+    Connection: close\r\n\
+    \r\n\
+    # HELP abft_round The open round.\n\
+    # TYPE abft_round gauge\n\
+    abft_round{replica=\"0\"} 17\n\
+    abft_round{replica=\"3\"} 4000000000\n\
+    # HELP abft_height The last committed height.\n\
+    # TYPE abft_height gauge\n\
+    abft_height{replica=\"0\"} 4\n\
+    abft_height{replica=\"3\"} 0\n\
+    # HELP abft_committed_blocks Blocks that the replica ran.\n\
+    # TYPE abft_committed_blocks gauge\n\
+    abft_committed_blocks{replica=\"0\"} 3\n\
+    abft_committed_blocks{replica=\"3\"} 0\n\
+    # HELP abft_frames_taken_total Frames handed to the replica.\n\
+    # TYPE abft_frames_taken_total counter\n\
+    abft_frames_taken_total{replica=\"0\"} 120\n\
+    abft_frames_taken_total{replica=\"3\"} 0\n\
+    # HELP abft_frames_ignored_total Frames that the replica ignored, by cause.\n\
+    # TYPE abft_frames_ignored_total counter\n\
+    abft_frames_ignored_total{replica=\"0\",cause=\"7 Repeated\"} 9\n\
+    abft_frames_ignored_total{replica=\"0\",cause=\"11 NotMine\"} 0\n\
+    # HELP abft_frames_lost_total Frames that found the inbox full.\n\
+    # TYPE abft_frames_lost_total counter\n\
+    abft_frames_lost_total{replica=\"0\"} 2\n\
+    abft_frames_lost_total{replica=\"3\"} 18446744073709551615\n\
+    # HELP abft_leaves_left One-time keys that are unused.\n\
+    # TYPE abft_leaves_left gauge\n\
+    abft_leaves_left{replica=\"0\"} 1001\n\
+    abft_leaves_left{replica=\"3\"} 0\n\
+    # HELP abft_pool_transactions Transactions that wait for a block.\n\
+    # TYPE abft_pool_transactions gauge\n\
+    abft_pool_transactions{replica=\"0\"} 5\n\
+    abft_pool_transactions{replica=\"3\"} 0\n\
+    # HELP abft_history_entries Entries of the history.\n\
+    # TYPE abft_history_entries gauge\n\
+    abft_history_entries{replica=\"0\"} 333\n\
+    abft_history_entries{replica=\"3\"} 0\n\
+    # HELP abft_sessions Client sessions.\n\
+    # TYPE abft_sessions gauge\n\
+    abft_sessions{replica=\"0\"} 6\n\
+    abft_sessions{replica=\"3\"} 0\n\
+    ";

@@ -1,0 +1,9 @@
+//! Tests of HTTP: what the head of a request asks, and the bytes of replies.
+#![tactic(auto)]
+
+#[cfg(test)]
+mod expected;
+#[cfg(test)]
+mod reply_tests;
+#[cfg(test)]
+mod request_tests;
