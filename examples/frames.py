@@ -64,3 +64,27 @@ inject 1 {forged[0]}
 inject 1 {forged[1]}
 end 1
 """)
+
+# frames of version 2: a report in both versions, and locks whose proofs have reports of both
+first = signed(report(1, 1, 1, a), keys[1], 0)
+others = [signed(report(1, 1, r, a, version=2), keys[r], 0) for r in (2, 3)]
+long_report = frame(signed(report(1, 1, 1, [b"a"] * 17), keys[1], 1))
+locks = [frame(signed(lock(1, 1, 1, a, [first, *others], version), keys[1], leaf)) for version, leaf in ((1, 2), (2, 3))]
+write("both-versions", f"""\
+# Frames have version 2. A liar signs its report in both versions, in either order, and each replica counts it once. Its report of version 1
+# with 17 transactions is malformed. So is its lock of version 1 with reports of version 2; one of version 2 may have both.
+config 4 1 1
+frames 2
+liar 1
+{begin_3}round
+inject 0 {frame(first)}
+lie-report 1 1 1 [a=1] 0
+inject 2 {long_report}
+lie-report 1 1 1 [a=1] 2
+inject 2 {frame(first)}
+silent
+inject 0 {locks[0]}
+inject 0 {locks[1]}
+inject 0 {locks[1]}
+round
+""")

@@ -54,8 +54,8 @@ def batch(transactions):
     return bytes([len(transactions)]) + b"".join(bytes([len(t)]) + t for t in transactions)
 
 
-def place(kind, height, phase, signer):
-    return bytes([kind]) + u32(height) + u32(phase) + bytes([signer])
+def place(kind, version, height, phase, signer):
+    return bytes([16 * (version - 1) + kind]) + u32(height) + u32(phase) + bytes([signer])
 
 
 def signed(statement, key, leaf):
@@ -68,17 +68,17 @@ def batches(values):
     return bytes([len(values)]) + b"".join(sorted(map(batch, values)))
 
 
-def report(height, phase, signer, value, proper=None, locked=(), says_all=False):
+def report(height, phase, signer, value, proper=None, locked=(), says_all=False, version=1):
     """A report; without `proper` the initial value is the only proper one."""
-    return place(1, height, phase, signer) + bytes([says_all]) + batch(value) + batches(proper or [value]) + batches(locked)
+    return place(1, version, height, phase, signer) + bytes([says_all]) + batch(value) + batches(proper or [value]) + batches(locked)
 
 
-def lock(height, phase, signer, value, proof):
-    return place(2, height, phase, signer) + batch(value) + bytes([len(proof)]) + b"".join(proof)
+def lock(height, phase, signer, value, proof, version=1):
+    return place(2, version, height, phase, signer) + batch(value) + bytes([len(proof)]) + b"".join(proof)
 
 
-def ack(height, phase, signer, value):
-    return place(3, height, phase, signer) + batch(value)
+def ack(height, phase, signer, value, version=1):
+    return place(3, version, height, phase, signer) + batch(value)
 
 
 def frame(body):

@@ -558,6 +558,20 @@ faults 'an output of a cluster that is closed' 3 "$closed" "timeout 60 '$abft' c
 faults 'an output of a server that is closed' 3 "$closed" "timeout 60 '$abft' serve --quiet >&-"
 faults 'an error stream that is closed' 3 '' "'$abft' serve --quiet --rounds 0 2>&-"
 runs 'an error stream to a full disk' 0 "$none" "'$abft' cluster --rounds 0 2>/dev/full"
+# The histories are in the file though the lines are lost, and the lines are there though the file is full.
+faults 'the lines of a cluster to a reader that is gone' 3 "$gone" \
+    "(sleep 0.3; '$abft' cluster --quiet --rounds 0 --histories '$room/saved') | true"
+runs 'an audit of its histories' 0 $'ledger 0\n' "'$abft' audit <'$room/saved'"
+faults 'the lines of a cluster to a full disk' 3 "$full" "'$abft' cluster --quiet --rounds 0 --histories '$room/saved' >/dev/full"
+runs 'an audit of its histories' 0 $'ledger 0\n' "'$abft' audit <'$room/saved'"
+faults 'the lines of a server to a reader that leaves with the port' 3 "$gone" \
+    "sleep 1 | '$abft' serve --quiet --rounds 0 --stop-at-eof --histories '$room/saved' | (read -r port)"
+runs 'an audit of its histories' 0 $'ledger 0\n' "'$abft' audit <'$room/saved'"
+faults 'histories to a full disk' 3 $'error: can\'t write the file /dev/full: No space left on device (os error 28)\n' \
+    "'$abft' cluster --quiet --rounds 0 --histories /dev/full >'$room/lines'"
+runs 'and their lines' 0 "$none" "cat '$room/lines'"
+faults 'a path with control characters' 3 $'error: can\'t write the file no\\u{1b}[2J\\u{9b}\\n/file: No such file or directory (os error 2)\n' \
+    "'$abft' cluster --quiet --rounds 0 --histories $'no\\e[2J\\xc2\\x9b\\n/file'"
 faults 'no memory for threads' 3 $'error: a thread could not be made\n' \
     "ulimit -v 24000; timeout 60 '$abft' cluster --quiet --rounds 4000000000"
 # A server that the end of its input stops. It opens heights until its clients are done.
@@ -578,8 +592,10 @@ runs 'a client sees its transaction run' 0 $'0:I:colour=blue\n1:I:colour=blue\n2
 runs 'and another one of the same key, which its receipts spell' 0 \
     $'0:I:colour=\\5cred\n1:I:colour=\\5cred\n2:I:colour=\\5cred\n3:I:colour=\\5cred\nheight N: \\red\n' \
     "examples/client.py '$port' colour '\\red' | $told"
+printf 'earlier' >"$room/earlier"
 faults 'a port that is taken' 3 "error: can't listen at 127.0.0.1:$port: Address already in use (os error 98)"$'\n' \
-    "'$abft' serve --quiet --port '$port'"
+    "'$abft' serve --quiet --port '$port' --histories '$room/earlier'"
+runs 'an earlier file of histories is as it was' 0 'earlier' "cat '$room/earlier'"
 runs 'what live clusters do at their limits' 0 \
     'entries: 11 12 0000 13 000000000000 0000 04 04 11 0000000000 00 0001 13 00 0002, in order; 4 lines, status 0
 flood: 12: 100000; 00: 32768 04: 67232; bounded; all commit; 4 lines, status 0

@@ -44,8 +44,15 @@ class Reader:
         return self.place == len(self.data)
 
 
+def read_kind(reader):
+    """1 of a report, 2 of a lock, 3 of an acknowledgement, in either version."""
+    version, kind = divmod(reader.number(1), 16)
+    assert version in (0, 1) and kind in (1, 2, 3)
+    return kind
+
+
 def read_report(reader):
-    assert reader.number(1) == 1
+    assert read_kind(reader) == 1
     height, phase, signer, says_all = reader.number(4), reader.number(4), reader.number(1), reader.number(1)
     return Report(height, phase, signer, says_all == 1, reader.batch(), reader.batches(), reader.batches())
 
@@ -55,10 +62,9 @@ def read_signed_report(reader):
 
 
 def read_statement(reader):
-    kind = reader.data[reader.place]
-    if kind == 1:
+    if reader.data[reader.place] % 16 == 1:
         return read_report(reader)
-    assert reader.number(1) == kind and kind in (2, 3)
+    kind = read_kind(reader)
     height, phase, signer, value = reader.number(4), reader.number(4), reader.number(1), reader.batch()
     if kind == 3:
         return Ack(height, phase, signer, value)

@@ -4,8 +4,8 @@ one and all later ones; each STEP-th allocation is tried, without STEP each, and
 
 A run answers as with memory; or with status 3, that it is out of memory or makes no thread, and a prefix of what it prints with memory. A
 scenario may go on after a step that is refused as 5: then its histories are still those of one ledger, for `conclusions.py` and for
-`abft audit`. A live cluster ends with status 0 or 3, and the histories that it writes are those of one ledger. Prints for each command how
-many runs ended in which way; the status is 1 if one ended otherwise."""
+`abft audit`. A live cluster ends with status 0 or 3, and the histories that it writes are those of one ledger, also if a line can't be
+printed. Prints for each command how many runs ended in which way; the status is 1 if one ended otherwise."""
 import collections
 import concurrent.futures
 import os
@@ -74,18 +74,27 @@ class LiveCluster(Command):
         super().__init__(refusing, "live cluster", ["cluster", "--quiet", "--rounds", "16", "--base-ms", "50"], b"")
         self.step = 50 * STEP
 
+    def lines_of(self, file):
+        """What the run prints before the blocks, by the histories in its file."""
+        with open(file, "rb") as data:
+            replicas, ledger = follow(read_histories(data.read()), 4, 1, 1)
+        heights = [len(replica.commits) for replica in replicas.values()]
+        return b"".join(b"commits %d %d\n" % pair for pair in enumerate(heights)) + b"ledger %d\n" % len(ledger)
+
     def outcome(self, limit, at):
         file = os.path.join(self.refusing.room.name, f"live-{limit}-{at}")
         done, _ = self.refusing.run([*self.words, "--histories", file], b"", file + ".counts", **{limit: at})
-        if done.returncode == 0:
-            with open(file, "rb") as data:
-                replicas, ledger = follow(read_histories(data.read()), 4, 1, 1)
-            heights = [len(replica.commits) for replica in replicas.values()]
-            wanted = b"".join(b"commits %d %d\n" % pair for pair in enumerate(heights)) + b"ledger %d\n" % len(ledger)
-            if done.stdout.startswith(wanted):
-                return "one ledger"
-        elif done.returncode == 3 and last_line(done.stderr) in FAULTS:
-            return last_line(done.stderr).decode()
+        fault = last_line(done.stderr)
+        if done.returncode == 0 and done.stdout.startswith(self.lines_of(file)):
+            return "one ledger"
+        if done.returncode == 3 and fault == b"error: can't write the file %s: out of memory" % file.encode():
+            return "out of memory for the file"
+        if done.returncode == 3 and fault in FAULTS:
+            # Once there is a line, the histories are saved whatever becomes of the others, unless they get no memory either.
+            if not done.stdout or (limit == "REFUSED_FROM" and os.path.getsize(file) == 0):
+                return fault.decode()
+            if self.lines_of(file).startswith(done.stdout):
+                return f"{fault.decode()}, with histories"
         return f"WRONG: {limit} {at}: status {done.returncode}, {done.stderr}, {done.stdout[-200:]}"
 
 

@@ -50,6 +50,20 @@ prints 'a floor that may not be raised' "${setup}liar 1"$'\nretire 0 0\nretire 0
     $'retire 0 0 refused 2\nretire 0 1 refused 2\nretire 0 2 refused 1\nretire 0 4294967295 refused 1\nrefused 3\nrefused 2\n'
 prints 'an empty value' "$setup"$'query 0 x\n' $'query 0 0 absent\n'
 
+# With frames of version 2 the same is decided, and a proposal may have more transactions.
+for name in plain-run four-proposals two-proposals two-locks; do
+    awk '{ print } /^config / { print "frames 2" }' "examples/$name.txt" >"$room/text"
+    cp "examples/$name.out" "$room/wanted-out" || exit 1
+    : >"$room/wanted-err"
+    check "$name with frames 2" 0 "'$abft' simulate <'$room/text'"
+done
+submits=$(printf 'submit 0 t%02d\n' {1..17})$'\n'
+oks=$(printf 'submit 0 ok\n%.0s' {1..17})$'\n'
+sixteen=$(printf ',t%02d' {1..16})
+prints 'a proposal of 16 of 17 transactions' "$setup${submits}propose 0 1"$'\n' "${oks}propose 0 1 [${sixteen#,}]"$'\n'
+prints 'a proposal of 17 transactions with frames 2' "${setup}frames 2"$'\n'"${submits}propose 0 1"$'\n' \
+    "${oks}propose 0 1 [${sixteen#,},t17]"$'\n'
+
 # Bad texts, each with the line that is bad.
 bad 'nothing' 1 ''
 bad 'an empty line' 2 '\n'
@@ -72,6 +86,14 @@ bad 'keys of no height' 2 "${setup}keys 4 6\n"
 bad 'keys of no width' 2 "${setup}keys 5 5\n"
 bad 'keys twice' 3 "${setup}keys 4 5\nkeys 4 5\n"
 bad 'keys behind a liar' 3 "${setup}liar 1\nkeys 4 5\n"
+bad 'frames before the cluster' 1 'frames 2\nconfig 4 1 1\n'
+bad 'frames before keys' 3 "${setup}frames 2\nkeys 4 5\n"
+bad 'frames twice' 3 "${setup}frames 2\nframes 2\n"
+bad 'frames behind a liar' 3 "${setup}liar 1\nframes 2\n"
+bad 'frames behind a step' 3 "${setup}silent\nframes 2\n"
+for line in 'frames 1' 'frames 3' 'frames 02' 'frames' 'frames 2 2'; do
+    bad "no version: $line" 2 "$setup$line\n"
+done
 bad 'a second liar' 3 "${setup}liar 1\nliar 2\n"
 bad 'a liar where there is one' 3 "${setup}liar 1\nliar 1\n"
 bad 'a liar twice' 3 'config 7 2 1\nliar 1\nliar 1\n'
@@ -136,8 +158,15 @@ prints 'as long a transaction as may be' "${setup}liar 1"$'\n'"lie-lock 1 1 1 [$
 bad 'a transaction that is too long' 3 "${setup}liar 1\nlie-lock 1 1 1 [$(many k 65)] all\n"
 prints 'as many transactions as may be' "${setup}liar 1"$'\n'"lie-lock 1 1 1 [a$(printf ',a%.0s' {1..15})] all"$'\n' $'lie-lock cannot\n'
 bad 'too many transactions' 3 "${setup}liar 1\nlie-lock 1 1 1 [a$(printf ',a%.0s' {1..16})] all\n"
+setup_2="${setup}frames 2"$'\n'
+prints 'as many transactions as may be with frames 2' "${setup_2}liar 1"$'\n'"lie-lock 1 1 1 [a$(printf ',a%.0s' {1..63})] all"$'\n' \
+    $'lie-lock cannot\n'
+bad 'too many transactions with frames 2' 4 "${setup_2}liar 1\nlie-lock 1 1 1 [a$(printf ',a%.0s' {1..64})] all\n"
 prints 'as long a line as may be' "$setup$(many '#' 400000)"$'\n' ''
 bad 'a line that is too long' 2 "$setup$(many '#' 400001)\n"
+prints 'as long a line as may be with frames 2' "$setup_2$(many '#' 1300000)"$'\n' ''
+bad 'a line that is too long with frames 2' 3 "$setup_2$(many '#' 1300001)\n"
+bad 'a line that is too long before frames 2' 2 "$setup$(many '#' 400001)\nframes 2\n"
 (printf '%s' "$setup" && yes 'info 0' | head -n 10000) >"$room/long"
 runs 'too many lines' 1 $'line 10001 bad\n' "'$abft' simulate <'$room/long'"
 (printf '%s' "$setup" && yes '#' | head -n 9999) >"$room/most"

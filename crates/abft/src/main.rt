@@ -1,7 +1,9 @@
 //! The program `abft`: a Byzantine fault tolerant replicated ledger.
 #![tactic(auto)]
 
-use cluster_service::{SharedStatus, Watcher, cluster, open_histories, serve, start_reporter};
+use cluster_service::{
+    SharedStatus, Watcher, cluster, listen_at, open_histories, serve, start_reporter,
+};
 use program::{Outcome, finish, refuse_words, run};
 use program_streams::{ProgramFault, Resource, require_open};
 use settings::{ClusterSettings, ServeSettings};
@@ -86,7 +88,8 @@ where
     cluster(rt, alloc, settings, status, input, &mut output, &mut file)
 }
 
-/// `abft serve`, if standard output is open, and the file for the histories.
+/// `abft serve`, if standard output is open, and the file for the histories. The file is emptied only once there is a listener, so a port
+/// that is taken leaves an earlier file as it was.
 fn run_server<R>(
     rt: &R,
     alloc: Global,
@@ -108,8 +111,19 @@ where
         + 'static,
 {
     require_open(&output, Resource::Output)?;
+    let (listener, port) = listen_at(rt, settings.port)?;
     let mut file = open_histories(rt, &settings.cluster)?;
-    serve(rt, alloc, settings, status, input, &mut output, &mut file)
+    serve(
+        rt,
+        alloc,
+        settings,
+        listener,
+        port,
+        status,
+        input,
+        &mut output,
+        &mut file,
+    )
 }
 
 /// Runs the program on the words and streams of the process. An `Err` means that the words could not be read.

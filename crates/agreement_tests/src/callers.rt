@@ -3,7 +3,8 @@
 
 ghost use Rattle.std.specs.Prelude.{◌≡◌, ◌<◌, ◌≤◌, ◌+◌, List, Some, is_some, true, false, IfOk, IfSome, IsTrue};
 ghost use Rattle.ledger_model.specs.Limits.{last_round};
-ghost use Rattle.ledger_model.specs.Notes.{Note, clock_of, signer_of};
+ghost use Rattle.ledger_model.specs.Notes.{Note, clock_of, signer_of, version_of};
+ghost use Rattle.ledger_model.specs.Versions.{reads};
 ghost use Rattle.ledger_model.specs.Logs.{height_of};
 ghost use Rattle.ledger_model.specs.Rules.{answer_to, is_signed};
 ghost use Rattle.ledger_model.specs.Reading.{reading};
@@ -19,7 +20,7 @@ use bytes::Bytes;
 use height_row::HeightRow;
 use instance::{Instance, OwnFrame, RoundPlan, RoundStatement};
 use key_ring::{KeyRing, Signer};
-use ledger_model::{Ignored, Statement};
+use ledger_model::{Ignored, Statement, Version};
 use lock_proofs::is_signed;
 use signed_frames::{Frame, UnsignedFrame};
 use statements::DecodeFault;
@@ -35,6 +36,7 @@ pub(crate) fn reads_in_the_cluster(
 ) -> Result<Result<(), Ignored>, AllocError>
     requires signer { signer_of frame.statement < row.old.config.replicas }
     requires open { is_some (row_at row.old.rows (height_of frame.statement)) ≡ true }
+    requires version { IsTrue (reads row.old.config.frames (version_of frame.statement)) }
     requires clock { clock ≤ last_round }
     ensures { IfOk result (λ r. (kept : InstanceView) → row_at row.old.rows (height_of frame.statement) ≡ Some kept → (log : List Note)
         → MatchesLog ring.now kept log → clock_of log ≡ clock → r ≡ answer_to row.old.config ring.now log frame) }
@@ -80,7 +82,7 @@ fn is_signed_frame(alloc: Global, ring: &KeyRing, bytes: &Bytes) -> Result<bool,
     requires signed { (s : SignedStatement) × ((reading bytes.now ≡ Some s) × (is_signed ring.now s ≡ true)) }
     ensures { IfOk result (λ yes. yes ≡ true) }
 {
-    match Frame::parse(alloc, bytes.clone()?) {
+    match Frame::parse_in(Version::Two, alloc, bytes.clone()?) {
         Ok(frame) => Ok(is_signed(ring, &frame)),
         Err(DecodeFault::Malformed) => Ok(false),
         Err(DecodeFault::NoMemory) => Err(AllocError),

@@ -1,7 +1,7 @@
 //! Four replicas, each with its own keys, that pass frames to each other: what they send, and that one of them decides.
 
 ghost use Rattle.std.specs.Prelude.{◌≡◌, IfSome};
-ghost use Rattle.ledger_model.specs.Notes.{signer_of};
+ghost use Rattle.ledger_model.specs.Notes.{signer_of, version_of};
 ghost use Rattle.ledger_model.specs.Spelling.{IsStatement};
 ghost use Rattle.instance.specs.Plans.{IsOwnMade};
 
@@ -9,7 +9,7 @@ use super::replica::OpenHeight;
 use bytes::Bytes;
 use instance::{OwnFrame, RoundEffects, RoundPlan, RoundStatement};
 use key_ring::KeyRing;
-use ledger_model::{Signature, Statement};
+use ledger_model::{Config, Signature, Statement};
 use signed_frames::{Frame, UnsignedFrame};
 use std::alloc::{AllocError, Global};
 use test_support::{TestCluster, value};
@@ -35,13 +35,15 @@ fn framed(alloc: Global, cluster: &mut TestCluster, statement: Statement) -> Opt
 // The round's statement for a chosen statement.
 fn made(
     alloc: Global,
+    config: &Config,
     cluster: &mut TestCluster,
     statement: Option<Statement>,
     number: u8,
 ) -> Option<RoundStatement>
     requires spelled { IfSome statement IsStatement }
     requires own { IfSome statement (λ s. signer_of s ≡ number) }
-    ensures { IfSome result (λ made. IsOwnMade number made) }
+    requires version { IfSome statement (λ s. version_of s ≡ config.now.frames) }
+    ensures { IfSome result (IsOwnMade config.now number) }
 {
     let Some(statement) = statement else {
         return Some(RoundStatement::Unsent);
@@ -80,7 +82,7 @@ impl OpenHeight {
         else {
             return false;
         };
-        let Some(made) = made(self.alloc, cluster, statement, self.number) else {
+        let Some(made) = made(self.alloc, &self.config, cluster, statement, self.number) else {
             return false;
         };
         let are_put = put_sent(frames, &ending, &made);

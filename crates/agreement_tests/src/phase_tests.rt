@@ -1,7 +1,9 @@
 //! Which value the owner of a phase chooses, and when acknowledgements decide.
 
 use super::read_reports::{four, read};
-use ledger_model::{Ack, AppKind, Batch, Config, Height, Lock, LockProof, Phase, ReplicaId};
+use ledger_model::{
+    Ack, AppKind, Batch, Config, Height, Lock, LockProof, Phase, ReplicaId, Version,
+};
 use phase_core::{choose, decides};
 use std::alloc::Global;
 use tally::Tally;
@@ -102,6 +104,7 @@ fn acknowledged(alloc: Global, config: &Config, count: u8) -> Option<Tally<Ack>>
 // The lock of a phase on the value of one transaction.
 fn lock_of(alloc: Global, phase: u32, bytes: &[u8]) -> Option<Lock> {
     Some(Lock {
+        version: Version::One,
         height: Height::new(1),
         phase: Phase::new(phase),
         signer: ReplicaId::new(2),

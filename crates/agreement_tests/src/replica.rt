@@ -1,23 +1,26 @@
 //! One replica of four at height 1, and its open round.
 
 ghost use Rattle.std.specs.Prelude.{◌≡◌};
+ghost use Rattle.ledger_model.specs.declared.version.Version.TheVariants.{One};
 
-use super::frames::parsed;
+use super::frames::{parsed, small_value};
 use instance::Instance;
 use key_ring::KeyRing;
 use ledger_model::{AppKind, Config, Height, Ignored, ReplicaId};
 use std::alloc::Global;
-use test_support::value;
 
 /// A replica of four at height 1, of which one may lie, and its open round.
 #[derive(Drop)]
 pub(crate) struct OpenHeight {
     pub(crate) alloc: Global,
+    pub(crate) config: Config,
     pub(crate) number: u8,
     pub(crate) instance: Instance,
     pub(crate) clock: u32,
     ghost own: { instance.id ≡ number },
+    ghost same: { instance.config ≡ config },
     ghost four: { instance.config.replicas ≡ 4 },
+    ghost frames: { instance.config.frames ≡ One },
 }
 
 impl OpenHeight {
@@ -32,11 +35,12 @@ impl OpenHeight {
         if number >= 4 {
             return None;
         }
-        let own = value(alloc, tx).ok()?;
+        let own = small_value(alloc, tx)?;
         let id = ReplicaId::new(number);
         let instance = Instance::open(alloc, &config, id, Height::new(1), &own).ok()?;
         Some(OpenHeight {
             alloc,
+            config,
             number,
             instance,
             clock: 0,

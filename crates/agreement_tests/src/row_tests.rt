@@ -1,14 +1,15 @@
 //! The heights that replica 1 of four has opened. The replica is mute.
 
 ghost use Rattle.std.specs.Prelude.{◌≡◌};
+ghost use Rattle.ledger_model.specs.declared.version.Version.TheVariants.{One};
 
-use super::frames::parsed;
+use super::frames::{parsed, small_value};
 use height_row::HeightRow;
 use instance::{RoundPlan, RoundStatement};
 use key_ring::KeyRing;
 use ledger_model::{AppKind, Config, Height, Ignored, ProposeRefusal, ReplicaId, Statement};
 use std::alloc::Global;
-use test_support::{TestCluster, report_bytes, value};
+use test_support::{TestCluster, report_bytes};
 
 #[derive(Drop)]
 struct OpenHeights {
@@ -17,6 +18,7 @@ struct OpenHeights {
     // the round that is open
     clock: u32,
     ghost four: { row.config.replicas ≡ 4 },
+    ghost frames: { row.config.frames ≡ One },
 }
 
 impl OpenHeights {
@@ -35,7 +37,7 @@ impl OpenHeights {
         if committed > 4096 {
             return None;
         }
-        let own = value(self.alloc, b"a=1").ok()?;
+        let own = small_value(self.alloc, b"a=1")?;
         let height = Height::new(height);
         let answer = self.row.open(self.alloc, height, &own, committed).ok()?;
         Some(answer.err())

@@ -4,7 +4,7 @@ use super::tests::{is_run, submits};
 use abci_executor::Executor;
 use app_kinds::{Counter, KvStore};
 use batch_pool::{Pool, SubmitFault};
-use ledger_model::{Batch, SubmitRefusal};
+use ledger_model::{Batch, SubmitRefusal, Version};
 use std::alloc::Global;
 use std::hash::RandomState;
 use std::test::Fail;
@@ -101,7 +101,7 @@ fn refuses(pool: &mut Pool, app: &Counter) -> bool {
 
 // Whether a pool proposes `count` numbers, from `first` on.
 fn proposes(pool: &Pool, first: u16, count: usize) -> bool {
-    match pool.reap() {
+    match pool.reap(Version::One) {
         Ok(block) => block.transactions().len() == count && are_numbers_from(&block, first),
         Err(_) => false,
     }

@@ -4,7 +4,7 @@ use abci::{Application, Info};
 use abci_executor::Executor;
 use app_kinds::{Counted, Counter, KvStore, Refusing};
 use batch_pool::{Pool, SubmitFault};
-use ledger_model::{Batch, BlockResult, Height, QueryAnswer, SubmitRefusal};
+use ledger_model::{Batch, BlockResult, Height, QueryAnswer, SubmitRefusal, Version};
 use std::alloc::Global;
 use std::hash::RandomState;
 use std::test::Fail;
@@ -182,7 +182,7 @@ fn is_proposed_and_run<A: Application>(
     executor: &mut Executor<A>,
     pool: &mut Pool,
 ) -> bool {
-    let Ok(block) = pool.reap() else {
+    let Ok(block) = pool.reap(Version::One) else {
         return false;
     };
     block.transactions().len() == 1

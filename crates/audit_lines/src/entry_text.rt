@@ -1,6 +1,6 @@
 //! Names the statement of a signer that an entry accepts.
 use bytes::Bytes;
-use ledger_model::{Entry, Event, Lock, ReplicaId, Statement};
+use ledger_model::{Entry, Event, Lock, ReplicaId, Statement, Version};
 use signed_frames::Frame;
 use statements::DecodeFault;
 use std::alloc::{AllocError, Global};
@@ -35,7 +35,7 @@ fn kind_text(statement: &Statement, signer: ReplicaId) -> &'static str {
 
 /// The statement that a frame has of the signer.
 fn frame_text(alloc: Global, bytes: &Bytes, signer: ReplicaId) -> Result<String, AllocError> {
-    match Frame::parse(alloc, bytes.clone()?) {
+    match Frame::parse_in(Version::Two, alloc, bytes.clone()?) {
         Ok(frame) => {
             let kind = kind_text(frame.statement(), signer);
             let place = place_text(alloc, frame.statement())?;

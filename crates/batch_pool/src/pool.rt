@@ -2,7 +2,9 @@
 ghost use Rattle.std.specs.Prelude.{◌≡◌, ◌<◌, ◌≤◌, ◌==◌, false, not, [], ◌∷◌, ◌++◌, length, take, IfOk, OnOk, IfSome, is_ok, if◌then◌else◌};
 ghost use Rattle.std.specs.Map.Iter.{ShowsInOrder, deref};
 ghost use Rattle.ledger_model.specs.declared.batch.Tx.{Tx as TxValue};
-ghost use Rattle.ledger_model.specs.Limits.{max_tx_len, max_batch_len, max_pool_len};
+ghost use Rattle.ledger_model.specs.Limits.{max_tx_len, max_pool_len};
+ghost use Rattle.ledger_model.specs.Versions.{batch_limit};
+ghost use Rattle.ledger_model.specs.Values.{IsValueIn};
 ghost use Rattle.ledger_model.specs.Pools.{is_among, first_fault, own_refusals};
 ghost use Rattle.batch_pool.specs.Distinct.{NoneTwice};
 ghost use Rattle.batch_pool.specs.Pools.{Answers, Leaves, StaysBy, answer_of, own_part};
@@ -11,7 +13,7 @@ use crate::SubmitFault;
 use abci::{Application, CheckKind};
 use indexmap::IndexMap;
 use indexmap::map::Values;
-use ledger_model::{Batch, SubmitRefusal, Tx};
+use ledger_model::{Batch, SubmitRefusal, Tx, Version};
 use std::alloc::{AllocError, Global};
 use std::hash::RandomState;
 use std::marker::Model;
@@ -125,11 +127,13 @@ impl Pool {
         Ok(())
     }
 
-    /// The first 16 transactions, or all if there are fewer. They stay in the pool. The only error is allocation failure.
-    pub fn reap(&self) -> Result<Batch, AllocError>
-        ensures { IfOk result (λ batch. batch ≡ take max_batch_len self.now) }
+    /// The first transactions, as many as a statement of this version can contain, or all if there are fewer. They stay in the
+    /// pool. The only error is allocation failure.
+    pub fn reap(&self, version: Version) -> Result<Batch, AllocError>
+        ensures first { IfOk result (λ batch. batch ≡ take (batch_limit version) self.now) }
+        ensures fits { IfOk result (λ batch. IsValueIn version batch) }
     {
-        let count = self.len().min(Batch::MAX_LEN);
+        let count = self.len().min(version.batch_limit());
         let mut transactions = Vec::with_capacity(*self.waiting.allocator(), count)?;
         for index in 0..count {
             transactions.push(self.waiting[index].copy()?)?;

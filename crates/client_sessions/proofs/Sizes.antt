@@ -19,5 +19,5 @@ txs_bound (tx ∷ v) all =
     )
 
 -- a batch
-pub value_bound : (v : Value) → IsValue v → length (value_bytes v) ≤ 1041
+pub value_bound : (v : Value) → IsValue v → length (value_bytes v) ≤ 4161
 value_bound v is = omega (arith, is.few, txs_bound v is.each)

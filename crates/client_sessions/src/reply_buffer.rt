@@ -130,7 +130,7 @@ impl ReplyBuffer {
     }
 
     fn put_batch(&mut self, batch: &Batch)
-        requires { length self.old + 1041 ≤ 65535 }
+        requires { length self.old + 4161 ≤ 65535 }
         ensures { self.new ≡ self.old ++ value_bytes batch.now }
     {
         let transactions = batch.transactions();

@@ -1,12 +1,13 @@
 -- The lines of one more replica, and the texts that are written.
 use Rattle.std.proofs.Common.{◌≡◌, ℕ, ◌+◌, List, [], ◌∷◌, ◌++◌, length, ◌<◌, ◌≤◌, take, get_or, refl, sym, ap, ◌∙◌, append_assoc}
 use Rattle.std.proofs.Common.{append-nil, inl, inr, subst, suc, arith}
-use Rattle.std.specs.Prelude.{◌⊎◌, Option, Result, Ok, Err}
+use Rattle.std.specs.Prelude.{Option, Result, Ok, Err, IfErr, MatchResult}
 use Rattle.std.proofs.lemmas.List.{length-take-le}
 use Rattle.std.proofs.Math.Seq.{take-suc}
 use Rattle.std.specs.Io.KnownBytes.{Appends}
 use Rattle.std.specs.List.{flat_map}
-use Rattle.std.proofs.KnownBytes.{Appends-trans}
+use Rattle.std.proofs.KnownBytes.{Appends-nil, Appends-trans}
+use Rattle.std.specs.Result.{IsErrAnd}
 use Rattle.ledger_model.specs.declared.config.Config.{Config}
 use Rattle.ledger_model.specs.declared.history.History.{History}
 use Rattle.ledger_model.specs.Rules.{Ring}
@@ -17,12 +18,16 @@ use Rattle.history_audit.specs.Findings.{IsFinding}
 use Rattle.history_audit.specs.declared.fault.AuditFault.{AuditFault}
 use Rattle.audit_lines.specs.AuditLines.{finding_status, finding_text}
 use Rattle.settings.specs.declared.cluster.ClusterSettings.{ClusterSettings}
-use Rattle.settings.specs.declared.cluster.ServeSettings.{ServeSettings}
 use Rattle.byte_streams.specs.Writing.{AppendsSome}
 use Rattle.byte_streams.proofs.Faults.{each_way}
-use Rattle.byte_streams.proofs.WritingLemmas.{longer_some, nothing_some, then_some}
-use Rattle.cluster_service.specs.Reporting.{AreTaken, IsTaken, Reports, ReportsCommits, ReportsSome, Serves, ServesSome, WritesSuch}
-use Rattle.cluster_service.specs.Reporting.{commit_line, commit_lines, port_line}
+use Rattle.byte_streams.proofs.WritingLemmas.{all_some, longer_some, nothing_some, then_some}
+use Rattle.program_streams.specs.declared.program_fault.ProgramFault.{ProgramFault}
+use Rattle.program_streams.specs.declared.program_fault.ProgramFault.TheVariants as fault
+use Rattle.cluster_service.specs.HistoriesFiles.{Saves}
+use Rattle.cluster_service.specs.Lines.{commit_line, commit_lines, port_line}
+use Rattle.cluster_service.specs.RunFaults.{IsLineFault, IsRunFault, IsSaveFault, IsWriteFault}
+use Rattle.cluster_service.specs.Reporting.{AreTaken, IsTaken, Reports, ReportsCommits, ReportsEnd, ReportsSome, Serves, ServesSome}
+use Rattle.cluster_service.specs.Reporting.{WritesFinding, WritesSuch}
 use Rattle.cluster_service.proofs.Taken.{ledger_or_unsent}
 
 -- one more replica's history was taken
@@ -69,42 +74,61 @@ pub no_line : commit_lines 0 [] ≡ []
 unfolding commit_lines
 no_line = refl
 
--- prefixes of what a cluster writes that a fault ended
-abbrev pub WrittenSome : (List ℕ → List ℕ → Type 0) → Option (List ℕ) → Option (List ℕ) → Option (List ℕ) → Option (List ℕ) → Type 0
-WrittenSome P a b e f = (lines : List ℕ) × ((file : List ℕ) × (P lines file × (AppendsSome a b lines × AppendsSome e f file)))
+-- what `?` passes up as it is has the fact of its fault
+pub failed_with : {T E : Type 0} (P : T → Type 0) (Q : E → Type 0) (r : Result T E) (e : E) → IsErrAnd r (λ y. y ≡ e) → Q e
+    → MatchResult r P Q
+failed_with P Q (Ok x) e bad so = absurd bad
+failed_with P Q (Err y) e is so = subst Q (sym is) so
 
--- nothing was written
-pub nothing_ran : (s : ClusterSettings) (a e : Option (List ℕ)) → WrittenSome (ReportsSome s) a a e e
-nothing_ran s a e = ([], ([], (inl (refl, refl), (nothing_some a [], nothing_some e []))))
+-- what a cluster writes that this fault ended: prefixes of such lines, and of such bytes of the file
+abbrev pub WrittenSome : (ProgramFault → List ℕ → List ℕ → Type 0) → ProgramFault
+    → Option (List ℕ) → Option (List ℕ) → Option (List ℕ) → Option (List ℕ) → Type 0
+WrittenSome P f before after empty full =
+    (lines : List ℕ) × ((file : List ℕ) × (P f lines file × (AppendsSome before after lines × Saves f empty full file)))
 
--- the lines of the replicas were written, or a prefix of them
-pub commits_some : (s : ClusterSettings) (a b e : Option (List ℕ)) (histories : List History) (heights : List ℕ)
-    → length heights ≡ s.cluster.config.replicas → AreTaken s.cluster.config (ring_of s.cluster) 0 histories heights
-    → AppendsSome a b (commit_lines 0 heights)
-    → WrittenSome (ReportsSome s) a b e e
-commits_some s a b e histories heights each taken some =
-    let commits : ReportsCommits s (commit_lines 0 heights) [] =
-    record { histories = histories; heights = heights; each = each; taken = taken; shows = refl; none = refl } in
-    (commit_lines 0 heights, ([], (inr (inl commits), (some, nothing_some e []))))
+-- a file in which there was nothing to write
+nothing_saved : (f : ProgramFault) (empty : Option (List ℕ)) → Saves f empty empty []
+nothing_saved fault.NoMemory empty = Appends-nil empty
+nothing_saved (fault.Refused refused error) empty = Appends-nil empty
+nothing_saved fault.HistoryFull empty = Appends-nil empty
+nothing_saved (fault.NoListener port error) empty = Appends-nil empty
+nothing_saved fault.NoThread empty = Appends-nil empty
+nothing_saved (fault.NoFile path error) empty = nothing_some empty []
+nothing_saved (fault.Stranger replica) empty = Appends-nil empty
+
+-- a fault of the lines is none of the file
+saved_beside : (f : ProgramFault) (empty full : Option (List ℕ)) (bytes : List ℕ) → IsLineFault f → Appends empty full bytes
+    → Saves f empty full bytes
+saved_beside fault.NoMemory empty full bytes is all = all
+saved_beside (fault.Refused refused error) empty full bytes is all = all
+saved_beside fault.HistoryFull empty full bytes is all = all
+saved_beside (fault.NoListener port error) empty full bytes is all = all
+saved_beside fault.NoThread empty full bytes is all = all
+saved_beside (fault.NoFile path error) empty full bytes is all = absurd is
+saved_beside (fault.Stranger replica) empty full bytes is all = all
+
+-- a fault of the file leaves a prefix in it
+saved_some : (named : Option (List ℕ)) (f : ProgramFault) (empty full : Option (List ℕ)) (bytes : List ℕ) → IsSaveFault named f
+    → AppendsSome empty full bytes → Saves f empty full bytes
+saved_some named fault.NoMemory empty full bytes is some = absurd is
+saved_some named (fault.Refused refused error) empty full bytes is some = absurd is
+saved_some named fault.HistoryFull empty full bytes is some = absurd is
+saved_some named (fault.NoListener port error) empty full bytes is some = absurd is
+saved_some named fault.NoThread empty full bytes is some = absurd is
+saved_some named (fault.NoFile path error) empty full bytes is some = some
+saved_some named (fault.Stranger replica) empty full bytes is some = absurd is
 
 -- histories that were taken under the keys of the settings
 pub taken_by : (s : ClusterSettings) (ring : Ring) (histories : List History) (heights : List ℕ) → ring ≡ ring_of s.cluster
     → AreTaken s.cluster.config ring 0 histories heights → AreTaken s.cluster.config (ring_of s.cluster) 0 histories heights
 taken_by s ring histories heights keys taken = subst (λ r. AreTaken s.cluster.config r 0 histories heights) keys taken
 
--- an audit of these histories, under the keys of the settings
-pub found_of : (s : ClusterSettings) (ring : Ring) (given histories : List History) (finding : Result (List Value) AuditFault)
-    → ring ≡ ring_of s.cluster → given ≡ histories → IsFinding s.cluster.config ring given finding
-    → IsFinding s.cluster.config (ring_of s.cluster) histories finding
-found_of s ring given histories finding keys same found =
-    subst (λ r. IsFinding s.cluster.config r histories finding) keys (subst (λ m. IsFinding s.cluster.config ring m finding) same found)
-
-module _ (s : ClusterSettings) (histories : List History) (heights : List ℕ) (finding : Result (List Value) AuditFault) (status : ℕ)
-    (each : length heights ≡ s.cluster.config.replicas) (taken : AreTaken s.cluster.config (ring_of s.cluster) 0 histories heights)
-    (found : IsFinding s.cluster.config (ring_of s.cluster) histories finding) (ends : status ≡ finding_status finding)
-    (a b c e f : Option (List ℕ)) (first : Appends a b (commit_lines 0 heights)) where
-  reported : Reports s status (commit_lines 0 heights ++ finding_text finding) (flat_map history_bytes histories)
-  reported = record {
+module _ (s : ClusterSettings) (histories : List History) (heights : List ℕ)
+    (each : length heights ≡ s.cluster.config.replicas) (taken : AreTaken s.cluster.config (ring_of s.cluster) 0 histories heights) where
+  reported : (finding : Result (List Value) AuditFault) (status : ℕ)
+      → IsFinding s.cluster.config (ring_of s.cluster) histories finding → status ≡ finding_status finding
+      → Reports s status (commit_lines 0 heights ++ finding_text finding) (flat_map history_bytes histories)
+  reported finding status found ends = record {
     histories = histories;
     heights = heights;
     each = each;
@@ -117,63 +141,93 @@ module _ (s : ClusterSettings) (histories : List History) (heights : List ℕ) (
     saves = refl;
   }
 
-  -- the lines of the replicas were written, and then what the audit finds, and the histories into the file
-  pub report_written : Appends b c (finding_text finding) → Appends e f (flat_map history_bytes histories)
-      → (lines : List ℕ) × ((file : List ℕ) × (Reports s status lines file × (Appends a c lines × Appends e f file)))
-  report_written rest saved = (
-    commit_lines 0 heights ++ finding_text finding,
-    (
-      flat_map history_bytes histories,
-      (reported, (Appends-trans a b c (commit_lines 0 heights) (finding_text finding) first rest, saved)),
-    ),
-  )
+  reported_commits : ReportsCommits s (commit_lines 0 heights) (flat_map history_bytes histories)
+  reported_commits = record { histories = histories; heights = heights; each = each; taken = taken; shows = refl; saves = refl }
 
-  -- or prefixes of the latter
-  pub report_begun : AppendsSome b c (finding_text finding) → AppendsSome e f (flat_map history_bytes histories)
-      → WrittenSome (ReportsSome s) a c e f
-  report_begun rest saved = (
-    commit_lines 0 heights ++ finding_text finding,
-    (
-      flat_map history_bytes histories,
-      (inr (inr (status, reported)), (then_some a b c (commit_lines 0 heights) (finding_text finding) first rest, saved)),
-    ),
+  -- the lines that were written, in whole or in part, and the histories that belong to them
+  lines_end : {E : Type 0} (r : Result ℕ E) (a b : Option (List ℕ))
+      → WritesFinding s.cluster.config (ring_of s.cluster) histories heights r a b
+      → (lines : List ℕ) × (ReportsEnd s lines (flat_map history_bytes histories) × AppendsSome a b lines)
+  lines_end (Ok status) a b w =
+      let lines = commit_lines 0 heights ++ finding_text w.0 in
+      (lines, (inr (status, reported w.0 status w.1.0 w.1.1.0), all_some a b lines w.1.1.1))
+  lines_end (Err e) a b (inl some) = (commit_lines 0 heights, (inl reported_commits, some))
+  lines_end (Err e) a b (inr w) =
+      (commit_lines 0 heights ++ finding_text w.0, (inr (finding_status w.0, reported w.0 (finding_status w.0) w.1.0 refl), w.1.1))
+
+  -- all histories were saved, whatever became of the lines
+  pub report_saved : (r : Result ℕ ProgramFault) (a b empty full : Option (List ℕ))
+      → WritesFinding s.cluster.config (ring_of s.cluster) histories heights r a b → IfErr r IsLineFault
+      → Appends empty full (flat_map history_bytes histories) → WritesSuch r (Reports s) (λ _. ReportsEnd s) a b empty full
+  report_saved (Ok status) a b empty full w line saved = (
+    commit_lines 0 heights ++ finding_text w.0,
+    (flat_map history_bytes histories, (reported w.0 status w.1.0 w.1.1.0, (w.1.1.1, saved))),
   )
+  report_saved (Err f) a b empty full w line saved =
+      let l = lines_end (Err f) a b w in
+      (l.0, (flat_map history_bytes histories, (l.1.0, (l.1.1, saved_beside f empty full (flat_map history_bytes histories) line saved))))
+
+  -- the file refused a write, whatever became of the lines
+  pub report_unsaved : (r : Result ℕ ProgramFault) (named : Option (List ℕ)) (f : ProgramFault) (a b empty full : Option (List ℕ))
+      → WritesFinding s.cluster.config (ring_of s.cluster) histories heights r a b → IsSaveFault named f
+      → AppendsSome empty full (flat_map history_bytes histories) → WrittenSome (λ _. ReportsEnd s) f a b empty full
+  report_unsaved r named f a b empty full w is some =
+      let l = lines_end r a b w in
+      (l.0, (flat_map history_bytes histories, (l.1.0, (l.1.1, saved_some named f empty full (flat_map history_bytes histories) is some))))
 
 -- nothing was written
-pub nothing_served : (s : ServeSettings) (a e : Option (List ℕ)) → WrittenSome (ServesSome s) a a e e
-nothing_served s a e = ([], ([], (inl (refl, refl), (nothing_some a [], nothing_some e []))))
+pub nothing_ran : (s : ClusterSettings) (f : ProgramFault) (a empty : Option (List ℕ)) → IsRunFault f
+    → WrittenSome (ReportsSome s) f a a empty empty
+nothing_ran s f a empty is = ([], ([], (inl (is, (refl, refl)), (nothing_some a [], nothing_saved f empty))))
 
--- the line of the port was written, or a prefix of it
-pub port_some : (s : ServeSettings) (port : ℕ) (a b e : Option (List ℕ)) → (s.port ≡ 0) ⊎ (port ≡ s.port) → AppendsSome a b (port_line port)
-    → WrittenSome (ServesSome s) a b e e
-port_some s port a b e asked some =
-    let served : Serves s (ReportsSome s.cluster) (port_line port ++ []) [] =
-    record { port = port; asked = asked; later = []; reports = inl (refl, refl); shows = refl } in
-    (port_line port ++ [], ([], (inr served, (longer_some a b (port_line port) [] some, nothing_some e []))))
+-- a cluster that was run to its end
+pub ran : (s : ClusterSettings) (r : Result ℕ ProgramFault) (a b empty full : Option (List ℕ))
+    → WritesSuch r (Reports s) (λ _. ReportsEnd s) a b empty full → WritesSuch r (Reports s) (ReportsSome s) a b empty full
+ran s r a b empty full ended = each_way _ _ _ _ r (λ status w. w) (λ _ w. (w.0, (w.1.0, (inr w.1.1.0, w.1.1.1)))) ended
 
--- that line was written, and then what a cluster writes
-pub port_first : {E : Type 0} (r : Result ℕ E) (s : ServeSettings) (port : ℕ) (a b c e f : Option (List ℕ))
-    → (s.port ≡ 0) ⊎ (port ≡ s.port) → Appends a b (port_line port) → WritesSuch r (Reports s.cluster) (ReportsSome s.cluster) b c e f
-    → WritesSuch r (λ status. Serves s (Reports s.cluster status)) (ServesSome s) a c e f
-port_first r s port a b c e f asked first later = each_way _ _ _ _ r
-    (λ status w. (
-      port_line port ++ w.0,
-      (
-        w.1.0,
+module _ (s : ClusterSettings) (port : ℕ) where
+  -- nothing was written
+  pub nothing_served : (f : ProgramFault) (a empty : Option (List ℕ)) → IsRunFault f → WrittenSome (ServesSome s port) f a a empty empty
+  nothing_served f a empty is = ([], ([], (inl (is, (refl, refl)), (nothing_some a [], nothing_saved f empty))))
+
+  -- the line of the port was refused
+  pub port_refused : (f : ProgramFault) (a b empty : Option (List ℕ)) → IsWriteFault f → AppendsSome a b (port_line port)
+      → WrittenSome (ServesSome s port) f a b empty empty
+  port_refused f a b empty is some = (port_line port, ([], (inr (inl (is, (refl, refl))), (some, nothing_saved f empty))))
+
+  -- the line of the port was written, and then nothing
+  pub port_alone : (f : ProgramFault) (a b empty : Option (List ℕ)) → IsRunFault f → Appends a b (port_line port)
+      → WrittenSome (ServesSome s port) f a b empty empty
+  port_alone f a b empty is whole =
+      let served : Serves port (ReportsSome s f) (port_line port ++ []) [] =
+      record { later = []; reports = inl (is, (refl, refl)); shows = refl } in (
+        port_line port ++ [],
+        ([], (inr (inr served), (longer_some a b (port_line port) [] (all_some a b (port_line port) whole), nothing_saved f empty))),
+      )
+
+  -- that line was written, and then what a cluster writes
+  pub port_first : (r : Result ℕ ProgramFault) (a b c empty full : Option (List ℕ)) → Appends a b (port_line port)
+      → WritesSuch r (Reports s) (λ _. ReportsEnd s) b c empty full
+      → WritesSuch r (λ status. Serves port (Reports s status)) (ServesSome s port) a c empty full
+  port_first r a b c empty full first later = each_way _ _ _ _ r
+      (λ status w. (
+        port_line port ++ w.0,
         (
-          record { port = port; asked = asked; later = w.0; reports = w.1.1.0; shows = refl },
-          (Appends-trans a b c (port_line port) w.0 first w.1.1.1.0, w.1.1.1.1),
+          w.1.0,
+          (
+            record { later = w.0; reports = w.1.1.0; shows = refl },
+            (Appends-trans a b c (port_line port) w.0 first w.1.1.1.0, w.1.1.1.1),
+          ),
         ),
-      ),
-    ))
-    (λ _ w. (
-      port_line port ++ w.0,
-      (
-        w.1.0,
+      ))
+      (λ _ w. (
+        port_line port ++ w.0,
         (
-          inr (record { port = port; asked = asked; later = w.0; reports = w.1.1.0; shows = refl }),
-          (then_some a b c (port_line port) w.0 first w.1.1.1.0, w.1.1.1.1),
+          w.1.0,
+          (
+            inr (inr (record { later = w.0; reports = inr w.1.1.0; shows = refl })),
+            (then_some a b c (port_line port) w.0 first w.1.1.1.0, w.1.1.1.1),
+          ),
         ),
-      ),
-    ))
-    later
+      ))
+      later

@@ -1,4 +1,6 @@
 pub mod Replicas
 pub mod Targets
-pub mod Reporting
+pub mod HistoriesFiles
+pub mod Lines
 pub mod RunFaults
+pub mod Reporting

@@ -1,6 +1,5 @@
 -- What `abft cluster` and `abft serve` write.
-use Rattle.std.specs.Prelude.{◌≡◌, ◌⊎◌, ℕ, ◌+◌, ⊤, List, [], ◌∷◌, ◌++◌, length, codes, decimal, Option, Some, None, Result, Ok, Err}
-use Rattle.std.specs.Prelude.{MatchResult}
+use Rattle.std.specs.Prelude.{◌≡◌, ◌⊎◌, ℕ, ◌+◌, ⊤, List, [], ◌∷◌, ◌++◌, length, Option, Result, Ok, Err, MatchResult}
 use Rattle.std.specs.Io.KnownBytes.{Appends}
 use Rattle.std.specs.List.{flat_map}
 use Rattle.ledger_model.specs.declared.config.Config.{Config}
@@ -17,7 +16,10 @@ use Rattle.history_audit.specs.declared.fault.AuditFault.{AuditFault}
 use Rattle.history_audit.specs.declared.fault.AuditFault.TheVariants as fault
 use Rattle.audit_lines.specs.AuditLines.{finding_status, finding_text}
 use Rattle.settings.specs.declared.cluster.ClusterSettings.{ClusterSettings}
-use Rattle.settings.specs.declared.cluster.ServeSettings.{ServeSettings}
+use Rattle.program_streams.specs.declared.program_fault.ProgramFault.{ProgramFault}
+use Rattle.cluster_service.specs.HistoriesFiles.{Saves}
+use Rattle.cluster_service.specs.Lines.{commit_lines, port_line}
+use Rattle.cluster_service.specs.RunFaults.{IsRunFault, IsWriteFault}
 
 -- ---- what a cluster leaves
 
@@ -41,16 +43,15 @@ IsLedgerOrUnsent (Ok ledger) = ⊤
 IsLedgerOrUnsent (Err (fault.Unsent reader i signer)) = ⊤
 IsLedgerOrUnsent (Err _) = ⊥
 
--- ---- lines
-
--- the line of a replica: the number of blocks that it committed
-abbrev pub commit_line : ℕ → ℕ → List ℕ
-commit_line replica height = codes "commits " ++ (decimal replica ++ 32 ∷ (decimal height ++ 10 ∷ []))
-
--- the lines of replicas, from this number on
-unfoldable pub commit_lines : ℕ → List ℕ → List ℕ
-commit_lines replica [] = []
-commit_lines replica (height ∷ heights) = commit_line replica height ++ commit_lines (replica + 1) heights
+-- The lines of replicas that committed these numbers of blocks were written, and then what the audit of these histories finds, which
+-- gives the exit status. After a fault a prefix of those lines was written, or of all.
+abbrev pub WritesFinding : {E : Type 0} → Config → Ring → List History → List ℕ → Result ℕ E → Option (List ℕ) → Option (List ℕ) → Type 0
+WritesFinding config ring histories heights result before after = MatchResult result
+    (λ status. (finding : Result (List Value) AuditFault) × (IsFinding config ring histories finding
+    × ((status ≡ finding_status finding) × Appends before after (commit_lines 0 heights ++ finding_text finding))))
+    (λ _. AppendsSome before after (commit_lines 0 heights)
+    ⊎ ((finding : Result (List Value) AuditFault) × (IsFinding config ring histories finding
+    × AppendsSome before after (commit_lines 0 heights ++ finding_text finding))))
 
 -- There is one line for each replica of the cluster, by number, with the blocks that it committed; then comes what the audit of their
 -- histories finds, which gives the exit status. The file has these histories.
@@ -66,58 +67,45 @@ pub record Reports (s : ClusterSettings) (status : ℕ) (lines file : List ℕ) 
   pub shows : lines ≡ commit_lines 0 heights ++ finding_text finding
   pub saves : file ≡ flat_map history_bytes histories
 
--- the lines of the replicas alone
+-- There are the lines of the replicas alone. The file has their histories.
 pub record ReportsCommits (s : ClusterSettings) (lines file : List ℕ) : Type 0 where
   pub histories : List History
   pub heights : List ℕ
   pub each : length heights ≡ s.cluster.config.replicas
   pub taken : AreTaken s.cluster.config (ring_of s.cluster) 0 histories heights
   pub shows : lines ≡ commit_lines 0 heights
-  pub none : file ≡ []
+  pub saves : file ≡ flat_map history_bytes histories
+
+-- what a cluster that was run to its end has written, if a fault came then: prefixes of the lines of its replicas, or of all
+abbrev pub ReportsEnd : ClusterSettings → List ℕ → List ℕ → Type 0
+ReportsEnd s lines file = ReportsCommits s lines file ⊎ ((status : ℕ) × Reports s status lines file)
 
 -- nothing
 abbrev pub ReportsNothing : List ℕ → List ℕ → Type 0
 ReportsNothing lines file = (lines ≡ []) × (file ≡ [])
 
--- what a cluster that a fault ended has written prefixes of: nothing, the lines of its replicas, or all
-abbrev pub ReportsSome : ClusterSettings → List ℕ → List ℕ → Type 0
-ReportsSome s lines file =
-    ReportsNothing lines file ⊎ (ReportsCommits s lines file ⊎ ((status : ℕ) × Reports s status lines file))
+-- what a cluster that this fault ended has written prefixes of: nothing only if it was not run to its end
+abbrev pub ReportsSome : ClusterSettings → ProgramFault → List ℕ → List ℕ → Type 0
+ReportsSome s fault lines file = (IsRunFault fault × ReportsNothing lines file) ⊎ ReportsEnd s lines file
 
--- the line with the port of the listener
-abbrev pub port_line : ℕ → List ℕ
-port_line port = codes "listening " ++ decimal port ++ 10 ∷ []
-
--- the lines have first the port, which is the requested one if one is requested, and then such lines
-pub record Serves (s : ServeSettings) (P : List ℕ → List ℕ → Type 0) (lines file : List ℕ) : Type 0 where
-  pub port : ℕ
-  pub asked : (s.port ≡ 0) ⊎ (port ≡ s.port)
+-- the lines have first the port, and then such lines
+pub record Serves (port : ℕ) (P : List ℕ → List ℕ → Type 0) (lines file : List ℕ) : Type 0 where
   pub later : List ℕ
   pub reports : P later file
   pub shows : lines ≡ port_line port ++ later
 
--- the same, or nothing
-abbrev pub ServesSome : ServeSettings → List ℕ → List ℕ → Type 0
-ServesSome s lines file = ReportsNothing lines file ⊎ Serves s (ReportsSome s.cluster) lines file
+-- The same of a server with this port. If the line of its port can't be written, the server is not run.
+abbrev pub ServesSome : ClusterSettings → ℕ → ProgramFault → List ℕ → List ℕ → Type 0
+ServesSome s port fault lines file =
+    (IsRunFault fault × ReportsNothing lines file)
+    ⊎ ((IsWriteFault fault × ((lines ≡ port_line port) × (file ≡ [])))
+    ⊎ Serves port (ReportsSome s fault) lines file)
 
--- a file for histories: its path, and the bytes in it, if they are known
-pub record HistoriesFileView : Type 0 where
-  pub path : List ℕ
-  pub bytes : Option (List ℕ)
-
--- the bytes in the file, if there is one and they are known
-abbrev pub bytes_in : Option HistoriesFileView → Option (List ℕ)
-bytes_in None = None
-bytes_in (Some file) = file.bytes
-
--- the path of the file, if there is one
-abbrev pub path_of : Option HistoriesFileView → Option (List ℕ)
-path_of None = None
-path_of (Some file) = Some file.path
-
--- such lines were written, and such bytes into the file; after a fault, prefixes of others
-abbrev pub WritesSuch : {E : Type 0} → Result ℕ E → (ℕ → List ℕ → List ℕ → Type 0) → (List ℕ → List ℕ → Type 0)
+-- Such lines were written, and such bytes into the file. After a fault, prefixes of others were: of the file's bytes only if the fault is
+-- the file's own.
+abbrev pub WritesSuch : Result ℕ ProgramFault → (ℕ → List ℕ → List ℕ → Type 0) → (ProgramFault → List ℕ → List ℕ → Type 0)
     → Option (List ℕ) → Option (List ℕ) → Option (List ℕ) → Option (List ℕ) → Type 0
 WritesSuch result Whole Part before after empty full = MatchResult result
     (λ status. (lines : List ℕ) × ((file : List ℕ) × (Whole status lines file × (Appends before after lines × Appends empty full file))))
-    (λ _. (lines : List ℕ) × ((file : List ℕ) × (Part lines file × (AppendsSome before after lines × AppendsSome empty full file))))
+    (λ fault. (lines : List ℕ)
+    × ((file : List ℕ) × (Part fault lines file × (AppendsSome before after lines × Saves fault empty full file))))

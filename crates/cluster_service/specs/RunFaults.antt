@@ -7,7 +7,8 @@ use Rattle.program_streams.specs.declared.program_fault.ProgramFault.TheVariants
 use Rattle.program_streams.specs.declared.resource.Resource.{Resource}
 use Rattle.program_streams.specs.declared.resource.Resource.TheVariants as resource
 use Rattle.byte_streams.specs.Writing.{AppendsSome}
-use Rattle.cluster_service.specs.Reporting.{HistoriesFileView, path_of, port_line}
+use Rattle.cluster_service.specs.HistoriesFiles.{HistoriesFileView, path_of}
+use Rattle.cluster_service.specs.Lines.{port_line}
 
 -- a cluster asks for this before it has ended: the input whose end stops it, the clock, and random bytes
 abbrev pub is_asked_in_run : Resource → Bool
@@ -37,14 +38,25 @@ is_asked_at_end resource.Random = true
 is_asked_at_end resource.Output = true
 is_asked_at_end _ = false
 
--- the end of a cluster that was run could not be written: memory ran out, one of these was refused, or the file of the histories was
+-- memory ran out for the lines at the end of a cluster, or one of these was refused
+abbrev pub IsLineFault : ProgramFault → Type 0
+IsLineFault fault.NoMemory = ⊤
+IsLineFault (fault.Refused refused error) = IsTrue (is_asked_at_end refused)
+IsLineFault _ = ⊥
+
+-- the file of the histories, which has this path, could not be written
+abbrev pub IsSaveFault : Option (List ℕ) → ProgramFault → Type 0
+IsSaveFault named (fault.NoFile path error) = named ≡ Some (string_bytes path)
+IsSaveFault named _ = ⊥
+
+-- the end of a cluster that was run could not be written: its lines, or the file of the histories
 abbrev pub IsReportFault : Option HistoriesFileView → ProgramFault → Type 0
 IsReportFault file fault.NoMemory = ⊤
 IsReportFault file (fault.Refused refused error) = IsTrue (is_asked_at_end refused)
 IsReportFault file (fault.NoFile path error) = path_of file ≡ Some (string_bytes path)
 IsReportFault file _ = ⊥
 
--- the file of the histories with this path, if one is named, could not be made or written, or memory ran out
+-- the file of the histories with this path, if one is named, could not be made, or memory ran out
 abbrev pub IsFileFault : Option (List ℕ) → ProgramFault → Type 0
 IsFileFault named fault.NoMemory = ⊤
 IsFileFault named (fault.NoFile path error) = named ≡ Some (string_bytes path)
@@ -59,10 +71,7 @@ IsPortFault port _ = ⊥
 abbrev pub EndsCluster : Option HistoriesFileView → Option HistoriesFileView → Option (List ℕ) → Option (List ℕ) → ProgramFault → Type 0
 EndsCluster empty full before after f = IsReportFault empty f ⊎ (IsRunFault f × (Keeps before after × (full ≡ empty)))
 
--- The same of a server that was to listen at this port. If it can't listen there, it writes nothing. Otherwise it first writes the line of
--- its port: by then at most that.
+-- The same of a server, which listens at this port and first writes the line of it: by then it has written at most that.
 abbrev pub EndsServer : ℕ → Option HistoriesFileView → Option HistoriesFileView → Option (List ℕ) → Option (List ℕ) → ProgramFault → Type 0
 EndsServer port empty full before after f =
-    IsReportFault empty f
-    ⊎ ((IsPortFault port f × (Keeps before after × (full ≡ empty)))
-    ⊎ (IsRunFault f × (((found : ℕ) × AppendsSome before after (port_line found)) × (full ≡ empty))))
+    IsReportFault empty f ⊎ (IsRunFault f × (AppendsSome before after (port_line port) × (full ≡ empty)))

@@ -41,7 +41,10 @@ struct Taken {
 fn are_same(one: &Config, other: &Config) -> bool
     ensures { result ≡ true → one.now ≡ other.now }
 {
-    one.replicas == other.replicas && one.faults == other.faults && one.kind == other.kind
+    one.replicas == other.replicas
+        && one.faults == other.faults
+        && one.kind == other.kind
+        && one.frames == other.frames
 }
 
 /// Whether two rings have the same keys.

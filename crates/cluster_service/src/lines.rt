@@ -1,6 +1,6 @@
 //! The lines that `abft cluster` and `abft serve` write.
 ghost use Rattle.std.specs.Prelude.{◌≡◌, IfOk, string_bytes};
-ghost use Rattle.cluster_service.specs.Reporting.{commit_lines, port_line};
+ghost use Rattle.cluster_service.specs.Lines.{commit_lines, port_line};
 
 use std::alloc::{AllocError, Global};
 

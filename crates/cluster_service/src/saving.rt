@@ -4,55 +4,27 @@ ghost use Rattle.std.specs.String.{string_bytes};
 ghost use Rattle.std.specs.List.{flat_map};
 ghost use Rattle.history_bytes.specs.Histories.{history_bytes};
 ghost use Rattle.byte_streams.specs.Writing.{Writes};
-ghost use Rattle.cluster_service.specs.Reporting.{bytes_in, path_of};
-ghost use Rattle.cluster_service.specs.RunFaults.{IsFileFault};
+ghost use Rattle.cluster_service.specs.HistoriesFiles.{bytes_in, path_of};
+ghost use Rattle.cluster_service.specs.RunFaults.{IsFileFault, IsSaveFault};
 
 use byte_streams::write_whole;
 use history_bytes::history_bytes;
 use ledger_model::History;
 use program_streams::ProgramFault;
 use settings::ClusterSettings;
-use std::alloc::{AllocError, Global};
+use std::alloc::Global;
 use std::io::{self, Write};
 use std::marker::Model;
 use std::rt::Files;
 use std::{fs, mem};
 
-/// Why the bytes of histories weren't all written.
-enum SaveFault {
-    /// Memory ran out.
-    NoMemory,
-    /// The system refused a write.
-    Refused(io::Error),
-}
-
-impl From<AllocError> for SaveFault {
-    fn from(_error: AllocError) -> SaveFault {
-        SaveFault::NoMemory
-    }
-}
-
-/// Writes the bytes of a file.
-fn write_bytes<W: Write>(file: &mut W, bytes: &[u8]) -> Result<(), SaveFault>
-    ensures { Writes result (W.contents file.old) (W.contents file.new) bytes.now }
-{
-    match write_whole(file, bytes) {
-        Ok(()) => Ok(()),
-        Err(error) => Err(SaveFault::Refused(error)),
-    }
-}
-
 /// Writes the histories, one after another. After an error a prefix of them was written.
-fn write_histories<W: Write>(
-    alloc: Global,
-    histories: &[History],
-    file: &mut W,
-) -> Result<(), SaveFault>
+fn write_histories<W: Write>(alloc: Global, histories: &[History], file: &mut W) -> io::Result<()>
     ensures { Writes result (W.contents file.old) (W.contents file.new) (flat_map history_bytes histories.now) }
 {
     for history in histories {
         let bytes = history_bytes(alloc, history)?;
-        write_bytes(file, &bytes)?;
+        write_whole(file, &bytes)?;
     }
     Ok(())
 }
@@ -75,7 +47,7 @@ impl<W: Write + Drop> Drop for HistoriesFile<W> {
 
 impl<W: Write> Model for HistoriesFile<W> {
     ghost use Rattle.std.specs.String.{string_bytes};
-    ghost use Rattle.cluster_service.specs.Reporting.{HistoriesFileView};
+    ghost use Rattle.cluster_service.specs.HistoriesFiles.{HistoriesFileView};
 
     ghost Value = { HistoriesFileView };
 
@@ -87,18 +59,17 @@ impl<W: Write> HistoriesFile<W> {
     ghost use Rattle.std.specs.List.{flat_map};
     ghost use Rattle.history_bytes.specs.Histories.{history_bytes};
     ghost use Rattle.byte_streams.specs.Writing.{Writes};
-    ghost use Rattle.cluster_service.specs.RunFaults.{IsFileFault};
+    ghost use Rattle.cluster_service.specs.RunFaults.{IsSaveFault};
 
     /// Writes the histories, one after another. After an error a prefix of them was written: memory ran out, or a write
-    /// was refused. A refused write moves the path into its fault; the fault of a later write has an empty path.
+    /// was refused. Either moves the path into its fault; the fault of a later write has an empty path.
     pub fn save(&mut self, alloc: Global, histories: &[History]) -> Result<(), ProgramFault>
         ensures written { Writes result self.old.bytes self.new.bytes (flat_map history_bytes histories.now) }
-        ensures fault { IfErr result (IsFileFault (Some self.old.path)) }
+        ensures fault { IfErr result (IsSaveFault (Some self.old.path)) }
     {
         match write_histories(alloc, histories, &mut self.file) {
             Ok(()) => Ok(()),
-            Err(SaveFault::NoMemory) => Err(ProgramFault::NoMemory),
-            Err(SaveFault::Refused(error)) => {
+            Err(error) => {
                 let path = mem::replace(&mut self.path, String::new(alloc));
                 Err(ProgramFault::NoFile(path, error))
             }
@@ -140,7 +111,7 @@ pub(crate) fn save_histories<W: Write>(
     file: &mut Option<HistoriesFile<W>>,
 ) -> Result<(), ProgramFault>
     ensures written { Writes result (bytes_in file.old) (bytes_in file.new) (flat_map history_bytes histories.now) }
-    ensures fault { IfErr result (IsFileFault (path_of file.old)) }
+    ensures fault { IfErr result (IsSaveFault (path_of file.old)) }
 {
     match file {
         Some(file) => file.save(alloc, histories),

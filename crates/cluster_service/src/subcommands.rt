@@ -1,14 +1,14 @@
 //! `abft cluster` and `abft serve`: runs a cluster, and writes its lines.
 ghost use Rattle.std.specs.Prelude.{◌≡◌, length, IfErr};
 ghost use Rattle.cluster_keys.specs.Keys.{ring_of};
-ghost use Rattle.cluster_service.specs.Reporting.{AreTaken, Reports, ReportsSome, Serves, ServesSome, WritesSuch, bytes_in};
+ghost use Rattle.cluster_service.specs.HistoriesFiles.{bytes_in};
+ghost use Rattle.cluster_service.specs.Reporting.{AreTaken, Reports, ReportsEnd, ReportsSome, Serves, ServesSome, WritesSuch};
 ghost use Rattle.cluster_service.specs.RunFaults.{EndsCluster, EndsServer, IsReportFault, IsRunFault};
 
 use crate::final_histories::FinalHistories;
 use crate::saving::{HistoriesFile, save_histories};
-use crate::writing::{write_commits, write_finding, write_port};
-use crate::{SharedStatus, listen_at, run_cluster, serve_cluster, stop_at_end};
-use audit_lines::{audited, finding_status};
+use crate::writing::{write_lines, write_port};
+use crate::{SharedStatus, run_cluster, serve_cluster, stop_at_end};
 use cluster_workers::Stop;
 use program_streams::ProgramFault;
 use settings::{ClusterSettings, ServeSettings};
@@ -39,8 +39,8 @@ where
     Ok(stop)
 }
 
-/// Writes a line for each replica, and what the audit of their histories finds; and then the histories to the file, if there is one.
-/// Returns the exit status.
+/// Writes a line for each replica, and what the audit of their histories finds. Then, whatever became of the lines, writes the histories
+/// to the file, if there is one. Returns the exit status. If both fail, the fault is that of the file, which lacks histories.
 fn report<S: RandomSource, W: Write, H: Write>(
     source: &S,
     alloc: Global,
@@ -52,21 +52,18 @@ fn report<S: RandomSource, W: Write, H: Write>(
     requires each { length left.now.heights.items ≡ settings.now.cluster.config.replicas }
     requires taken { AreTaken settings.now.cluster.config left.now.ring 0 left.now.histories.items left.now.heights.items }
     requires ring { left.now.ring ≡ ring_of settings.now.cluster }
-    ensures reports { WritesSuch result (Reports settings.now) (ReportsSome settings.now)
+    ensures reports { WritesSuch result (Reports settings.now) (λ _. ReportsEnd settings.now)
         (W.contents writer.old) (W.contents writer.new) (bytes_in file.old) (bytes_in file.new) }
     ensures fault { IfErr result (IsReportFault file.old) }
 {
-    write_commits(alloc, &left.heights, writer)?;
-    let config = &settings.cluster.config;
-    let finding = audited(source, alloc, config, &left.ring, &left.histories)?;
-    write_finding(alloc, &finding, writer)?;
+    let written = write_lines(source, alloc, &settings.cluster.config, left, writer);
     save_histories(alloc, &left.histories, file)?;
-    Ok(finding_status(&finding))
+    written
 }
 
 /// `abft cluster`: runs a cluster, and writes a line for each replica with the number of blocks that it committed, and then what the
-/// audit of their histories finds; then it writes the histories to the file, if there is one. How it stands is stored in `status`.
-/// Returns the exit status: 1 if the audit finds a fault.
+/// audit of their histories finds. Then, whatever became of the lines, it writes the histories to the file, if there is one. How it
+/// stands is stored in `status`. Returns the exit status: 1 if the audit finds a fault.
 pub fn cluster<R, I, W: Write, H: Write>(
     rt: &R,
     alloc: Global,
@@ -90,12 +87,14 @@ where
     report(rt, alloc, settings, &left, writer, file)
 }
 
-/// `abft serve`: listens and writes the port at once; then runs a cluster and serves clients in parallel; at the end writes what
-/// [`cluster`] writes.
+/// `abft serve`: writes the port of the listener at once; then runs a cluster and serves clients in parallel; at the end writes what
+/// [`cluster`] writes. The listener comes from [`listen_at`](crate::listen_at), so no port is refused here.
 pub fn serve<R, I, W: Write, H: Write>(
     rt: &R,
     alloc: Global,
     settings: &ServeSettings,
+    listener: TcpListener,
+    port: u16,
     status: &SharedStatus,
     input: I,
     writer: &mut W,
@@ -112,13 +111,12 @@ where
         + Wait
         + 'static,
     I: Read + Drop + Send + 'static,
-    ensures serves { WritesSuch result (λ status. Serves settings.now (Reports settings.now.cluster status)) (ServesSome settings.now)
+    ensures serves { WritesSuch result (λ status. Serves port (Reports settings.now.cluster status)) (ServesSome settings.now.cluster port)
         (W.contents writer.old) (W.contents writer.new) (bytes_in file.old) (bytes_in file.new) }
     // A server that isn't run to its end writes at most its port.
-    ensures fault { IfErr result (EndsServer settings.now.port file.old file.new (W.contents writer.old) (W.contents writer.new)) }
+    ensures fault { IfErr result (EndsServer port file.old file.new (W.contents writer.old) (W.contents writer.new)) }
 {
     let stop = new_stop(rt, alloc, &settings.cluster, input)?;
-    let (listener, port) = listen_at(rt, settings.port)?;
     write_port(alloc, port, writer)?;
     let left = serve_cluster(rt, alloc, settings, listener, port, status, &stop)?;
     report(rt, alloc, &settings.cluster, &left, writer, file)

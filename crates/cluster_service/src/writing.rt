@@ -2,17 +2,20 @@
 ghost use Rattle.std.specs.Prelude.{IfErr};
 ghost use Rattle.byte_streams.specs.Writing.{Writes};
 ghost use Rattle.audit_lines.specs.AuditLines.{finding_text};
-ghost use Rattle.cluster_service.specs.Reporting.{commit_lines, port_line};
-ghost use Rattle.cluster_service.specs.RunFaults.{IsWriteFault};
+ghost use Rattle.cluster_service.specs.Lines.{commit_lines, port_line};
+ghost use Rattle.cluster_service.specs.Reporting.{WritesFinding};
+ghost use Rattle.cluster_service.specs.RunFaults.{IsLineFault, IsWriteFault};
 
+use crate::final_histories::FinalHistories;
 use crate::lines::{commit_lines, port_line};
-use audit_lines::add_finding;
+use audit_lines::{add_finding, audited, finding_status};
 use history_audit::AuditFault;
-use ledger_model::Ledger;
+use ledger_model::{Config, Ledger};
 use program_streams::{ProgramFault, flush_output, write_output};
 use reply_lines::Text;
 use std::alloc::Global;
 use std::io::Write;
+use std::random::RandomSource;
 
 /// Writes a line for each replica.
 pub fn write_commits<W: Write>(
@@ -41,7 +44,7 @@ pub fn write_port<W: Write>(alloc: Global, port: u16, writer: &mut W) -> Result<
 }
 
 /// Writes what an audit finds.
-pub(crate) fn write_finding<W: Write>(
+fn write_finding<W: Write>(
     alloc: Global,
     finding: &Result<Ledger, AuditFault>,
     writer: &mut W,
@@ -54,4 +57,22 @@ pub(crate) fn write_finding<W: Write>(
     write_output(writer, text.as_bytes())?;
     flush_output(writer)?;
     Ok(())
+}
+
+/// Writes a line for each replica, and then what the audit of their histories finds. Returns the exit status.
+pub(crate) fn write_lines<S: RandomSource, W: Write>(
+    source: &S,
+    alloc: Global,
+    config: &Config,
+    left: &FinalHistories,
+    writer: &mut W,
+) -> Result<u8, ProgramFault>
+    ensures written { WritesFinding config.now left.now.ring left.now.histories.items left.now.heights.items
+        result (W.contents writer.old) (W.contents writer.new) }
+    ensures fault { IfErr result IsLineFault }
+{
+    write_commits(alloc, &left.heights, writer)?;
+    let finding = audited(source, alloc, config, &left.ring, &left.histories)?;
+    write_finding(alloc, &finding, writer)?;
+    Ok(finding_status(&finding))
 }

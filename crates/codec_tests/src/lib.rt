@@ -15,3 +15,5 @@ mod spellings;
 mod statement_tests;
 #[cfg(test)]
 mod value_tests;
+#[cfg(test)]
+mod version_tests;

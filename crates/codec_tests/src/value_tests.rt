@@ -117,7 +117,7 @@ fn sizes(alloc: Global, count: usize) -> Option<Result<usize, BatchFault>> {
 
 #[test]
 fn sizes_of_batches(rt: HostRuntime) {
-    for (count, wanted) in [(0, Ok(0)), (16, Ok(16)), (17, Err(BatchFault::TooMany))] {
+    for (count, wanted) in [(0, Ok(0)), (64, Ok(64)), (65, Err(BatchFault::TooMany))] {
         assert!(rt; sizes(rt.alloc(), count) == Some(wanted), "{count}");
     }
 }

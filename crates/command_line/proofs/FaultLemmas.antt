@@ -28,19 +28,7 @@ unknown_among words error (inr among) is = subst (λ k. IsAmong k (kinds_of word
 named_right : (words : List Text) (f : UsageFault) → IsAmong kind.UnknownArgument (kinds_of words) → NamesInput words f
     → IsRightFault words f
 named_right words (fault.NamedInput input word) among names = (among, names)
-named_right words (fault.CommandLine error) among names = absurd names
-named_right words (fault.Number option least most word) among names = absurd names
-named_right words (fault.Neither option one other word) among names = absurd names
-named_right words (fault.Seed word) among names = absurd names
-named_right words (fault.TooFew replicas faults) among names = absurd names
-named_right words (fault.Spelling option why) among names = absurd names
-named_right words (fault.NoTransaction option word) among names = absurd names
-named_right words (fault.Rejected option code word) among names = absurd names
-named_right words (fault.Receipt word) among names = absurd names
-named_right words (fault.What word) among names = absurd names
-named_right words (fault.Missing option) among names = absurd names
-named_right words fault.NoSubcommand among names = absurd names
-named_right words fault.NoMemory among names = absurd names
+named_right words f among names = absurd names
 
 -- the fault of words that clap refuses
 pub refused_right : (words : List Text) (error : Error) (f : UsageFault) → HasKind (kinds_of words) error
@@ -50,20 +38,8 @@ refused_right words error f has (inr (unknown, names)) = named_right words f (un
 
 -- the fault of an option is one of the subcommand that has it
 of_found : (o : Option (Text × List Row)) (f : UsageFault) → IsRightOf (table_in o) (rows_in o) f → IsRightIn o f
-of_found o (fault.CommandLine error) right = right
-of_found o (fault.Number option least most word) right = right
-of_found o (fault.Neither option one other word) right = right
-of_found o (fault.Seed word) right = right
-of_found o (fault.TooFew replicas faults) right = right
-of_found o (fault.Spelling option why) right = right
-of_found o (fault.NoTransaction option word) right = right
-of_found o (fault.Rejected option code word) right = right
-of_found o (fault.Receipt word) right = right
-of_found o (fault.NamedInput input word) right = right
-of_found o (fault.What word) right = right
-of_found o (fault.Missing option) right = right
 of_found o fault.NoSubcommand right = absurd right
-of_found o fault.NoMemory right = right
+of_found o f right = right
 
 pub right_alike : {T : Type 0} (Q : T → Settings → Type 0) (o : Option (Text × List Row)) (p : Text × List Row) (r : Result T UsageFault)
     (told : Result Settings UsageFault) → o ≡ Some p
@@ -78,18 +54,8 @@ right_alike Q o p (Err e) told found right cases =
 option_right : (words : List Text) (f : UsageFault) → IsRightOption words f → IsRightFault words f
 option_right words (fault.CommandLine error) right = absurd right.1
 option_right words (fault.NamedInput input word) right = absurd right.1
-option_right words (fault.Number option least most word) right = right
-option_right words (fault.Neither option one other word) right = right
-option_right words (fault.Seed word) right = right
-option_right words (fault.TooFew replicas faults) right = right
-option_right words (fault.Spelling option why) right = right
-option_right words (fault.NoTransaction option word) right = right
-option_right words (fault.Rejected option code word) right = right
-option_right words (fault.Receipt word) right = right
-option_right words (fault.What word) right = right
-option_right words (fault.Missing option) right = right
-option_right words fault.NoSubcommand right = right
 option_right words fault.NoMemory right = tt
+option_right words f right = right
 
 pub options_right : {T : Type 0} (words : List Text) (o : Option (Text × List Row)) (r : Result T UsageFault) → kinds_of words ≡ []
     → o ≡ subcommand_of abft_app words
@@ -103,19 +69,7 @@ asked words (fault.CommandLine error) (inl memory) (inl help) = let bad = sym me
 asked words (fault.CommandLine error) (inl memory) (inr version) = let bad = sym memory ∙ version in absurd cc
 asked words (fault.CommandLine error) (inr among) (inl help) = inl (subst (λ k. IsAmong k (kinds_of words)) help among)
 asked words (fault.CommandLine error) (inr among) (inr version) = inr (subst (λ k. IsAmong k (kinds_of words)) version among)
-asked words (fault.Number option least most word) right asks = absurd asks
-asked words (fault.Neither option one other word) right asks = absurd asks
-asked words (fault.Seed word) right asks = absurd asks
-asked words (fault.TooFew replicas faults) right asks = absurd asks
-asked words (fault.Spelling option why) right asks = absurd asks
-asked words (fault.NoTransaction option word) right asks = absurd asks
-asked words (fault.Rejected option code word) right asks = absurd asks
-asked words (fault.Receipt word) right asks = absurd asks
-asked words (fault.NamedInput input word) right asks = absurd asks
-asked words (fault.What word) right asks = absurd asks
-asked words (fault.Missing option) right asks = absurd asks
-asked words fault.NoSubcommand right asks = absurd asks
-asked words fault.NoMemory right asks = absurd asks
+asked words f right asks = absurd asks
 
 module _ (ks : Kinds) where
   some_kind : ks ≡ [] → (ks ≡ kind.DisplayHelp ∷ []) ⊎ (ks ≡ kind.DisplayVersion ∷ []) → ⊥
@@ -152,18 +106,8 @@ module _ (ks : Kinds) where
 answered : (words : List Text) (f : UsageFault) → IsRightFault words f → AskForHelpAlone words → AsksForText f ⊎ WantsMemory f
 answered words (fault.CommandLine error) right alone = shown (kinds_of words) error right alone
 answered words (fault.NamedInput input word) right alone = absurd (none_unknown (kinds_of words) right.0 alone)
-answered words (fault.Number option least most word) right alone = absurd (some_kind (kinds_of words) right.0 alone)
-answered words (fault.Neither option one other word) right alone = absurd (some_kind (kinds_of words) right.0 alone)
-answered words (fault.Seed word) right alone = absurd (some_kind (kinds_of words) right.0 alone)
-answered words (fault.TooFew replicas faults) right alone = absurd (some_kind (kinds_of words) right.0 alone)
-answered words (fault.Spelling option why) right alone = absurd (some_kind (kinds_of words) right.0 alone)
-answered words (fault.NoTransaction option word) right alone = absurd (some_kind (kinds_of words) right.0 alone)
-answered words (fault.Rejected option code word) right alone = absurd (some_kind (kinds_of words) right.0 alone)
-answered words (fault.Receipt word) right alone = absurd (some_kind (kinds_of words) right.0 alone)
-answered words (fault.What word) right alone = absurd (some_kind (kinds_of words) right.0 alone)
-answered words (fault.Missing option) right alone = absurd (some_kind (kinds_of words) right.0 alone)
-answered words fault.NoSubcommand right alone = absurd (some_kind (kinds_of words) right.0 alone)
 answered words fault.NoMemory right alone = inr tt
+answered words f right alone = absurd (some_kind (kinds_of words) right.0 alone)
 
 -- whatever else is told is not told of words that ask for them alone
 pub not_alone : (words : List Text) (f : UsageFault) → IsRightFault words f → (AsksForText f → ⊥) → (WantsMemory f → ⊥)

@@ -3,3 +3,4 @@ pub mod FaultLemmas
 pub mod MatchesLemmas
 pub mod NumberLemmas
 pub mod ReceiptLemmas
+pub mod Tables

@@ -21,6 +21,7 @@ use Rattle.clap.proofs.OnLiterals.{clap_on_literals}
 use Rattle.command_line.specs.Grammar.{abft_app}
 use Rattle.command_line.specs.Options.{Sets, SetsAudit, SetsDraw, SetsSign, SetsDeliver, SetsSimulate, SetsRunning, SetsServe, WantsMemory}
 use Rattle.command_line.specs.declared.usage_fault.UsageFault.{UsageFault}
+use Rattle.command_line.proofs.NumberLemmas.{on_err}
 use Rattle.settings.specs.declared.sign.SignSettings.{SignSettings}
 use Rattle.settings.specs.declared.deliver.DeliverSettings.{DeliverSettings}
 use Rattle.settings.specs.declared.simulate.SimulateSettings.{SimulateSettings}
@@ -94,72 +95,37 @@ differ x y are same = absurd (not_from_Decides (bytes_eq x y) (bytes_eq-Decides 
 pub sets_sign : {W : Type 0} (rows : List Row) (s : Settings) → ((t : SignSettings) → SetsSign rows t → W)
     → Sets (Some (codes "sign", rows)) s → W
 sets_sign rows (settings.Sign t) then sets = then t sets.1
-sets_sign rows (settings.Deliver t) then sets = differ _ _ refl sets.0
-sets_sign rows (settings.Simulate t) then sets = differ _ _ refl sets.0
-sets_sign rows (settings.Cluster t) then sets = differ _ _ refl sets.0
-sets_sign rows (settings.Serve t) then sets = differ _ _ refl sets.0
-sets_sign rows (settings.Audit t) then sets = differ _ _ refl sets.0
-sets_sign rows (settings.Draw t) then sets = differ _ _ refl sets.0
+sets_sign rows s then sets = differ _ _ refl sets.0
 
 pub sets_deliver : {W : Type 0} (rows : List Row) (s : Settings) → ((t : DeliverSettings) → SetsDeliver rows t → W)
     → Sets (Some (codes "deliver", rows)) s → W
 sets_deliver rows (settings.Deliver t) then sets = then t sets.1
-sets_deliver rows (settings.Sign t) then sets = differ _ _ refl sets.0
-sets_deliver rows (settings.Simulate t) then sets = differ _ _ refl sets.0
-sets_deliver rows (settings.Cluster t) then sets = differ _ _ refl sets.0
-sets_deliver rows (settings.Serve t) then sets = differ _ _ refl sets.0
-sets_deliver rows (settings.Audit t) then sets = differ _ _ refl sets.0
-sets_deliver rows (settings.Draw t) then sets = differ _ _ refl sets.0
+sets_deliver rows s then sets = differ _ _ refl sets.0
 
 pub sets_simulate : {W : Type 0} (rows : List Row) (s : Settings) → ((t : SimulateSettings) → SetsSimulate rows t → W)
     → Sets (Some (codes "simulate", rows)) s → W
 sets_simulate rows (settings.Simulate t) then sets = then t sets.1
-sets_simulate rows (settings.Sign t) then sets = differ _ _ refl sets.0
-sets_simulate rows (settings.Deliver t) then sets = differ _ _ refl sets.0
-sets_simulate rows (settings.Cluster t) then sets = differ _ _ refl sets.0
-sets_simulate rows (settings.Serve t) then sets = differ _ _ refl sets.0
-sets_simulate rows (settings.Audit t) then sets = differ _ _ refl sets.0
-sets_simulate rows (settings.Draw t) then sets = differ _ _ refl sets.0
+sets_simulate rows s then sets = differ _ _ refl sets.0
 
 pub sets_cluster : {W : Type 0} (rows : List Row) (s : Settings) → ((t : ClusterSettings) → SetsRunning rows t → W)
     → Sets (Some (codes "cluster", rows)) s → W
 sets_cluster rows (settings.Cluster t) then sets = then t sets.1
-sets_cluster rows (settings.Sign t) then sets = differ _ _ refl sets.0
-sets_cluster rows (settings.Deliver t) then sets = differ _ _ refl sets.0
-sets_cluster rows (settings.Simulate t) then sets = differ _ _ refl sets.0
-sets_cluster rows (settings.Serve t) then sets = differ _ _ refl sets.0
-sets_cluster rows (settings.Audit t) then sets = differ _ _ refl sets.0
-sets_cluster rows (settings.Draw t) then sets = differ _ _ refl sets.0
+sets_cluster rows s then sets = differ _ _ refl sets.0
 
 pub sets_serve : {W : Type 0} (rows : List Row) (s : Settings) → ((t : ServeSettings) → SetsServe rows t → W)
     → Sets (Some (codes "serve", rows)) s → W
 sets_serve rows (settings.Serve t) then sets = then t sets.1
-sets_serve rows (settings.Sign t) then sets = differ _ _ refl sets.0
-sets_serve rows (settings.Deliver t) then sets = differ _ _ refl sets.0
-sets_serve rows (settings.Simulate t) then sets = differ _ _ refl sets.0
-sets_serve rows (settings.Cluster t) then sets = differ _ _ refl sets.0
-sets_serve rows (settings.Audit t) then sets = differ _ _ refl sets.0
-sets_serve rows (settings.Draw t) then sets = differ _ _ refl sets.0
+sets_serve rows s then sets = differ _ _ refl sets.0
 
 pub sets_audit : {W : Type 0} (rows : List Row) (s : Settings) → ((t : AuditSettings) → SetsAudit rows t → W)
     → Sets (Some (codes "audit", rows)) s → W
 sets_audit rows (settings.Audit t) then sets = then t sets.1
-sets_audit rows (settings.Sign t) then sets = differ _ _ refl sets.0
-sets_audit rows (settings.Deliver t) then sets = differ _ _ refl sets.0
-sets_audit rows (settings.Simulate t) then sets = differ _ _ refl sets.0
-sets_audit rows (settings.Cluster t) then sets = differ _ _ refl sets.0
-sets_audit rows (settings.Serve t) then sets = differ _ _ refl sets.0
-sets_audit rows (settings.Draw t) then sets = differ _ _ refl sets.0
+sets_audit rows s then sets = differ _ _ refl sets.0
 
 pub sets_draw : {W : Type 0} (rows : List Row) (s : Settings) → ((t : DrawSettings) → SetsDraw rows t → W)
     → Sets (Some (codes "draw", rows)) s → W
 sets_draw rows (settings.Draw t) then sets = then t sets.1
-sets_draw rows (settings.Sign t) then sets = differ _ _ refl sets.0
-sets_draw rows (settings.Deliver t) then sets = differ _ _ refl sets.0
-sets_draw rows (settings.Simulate t) then sets = differ _ _ refl sets.0
-sets_draw rows (settings.Cluster t) then sets = differ _ _ refl sets.0
-sets_draw rows (settings.Serve t) then sets = differ _ _ refl sets.0
-sets_draw rows (settings.Audit t) then sets = differ _ _ refl sets.0
+sets_draw rows s then sets = differ _ _ refl sets.0
 
 -- where an option's value came from, among the entries and among the rows
 pub source_is : (f : Found) (id : Text)
@@ -200,3 +166,8 @@ pub refused_anyway : {T E : Type 0} (S : T → Type 0) (P : E → Type 0) (r : R
     → IfErr r (λ e. (t : T) → S t → P e)
 refused_anyway S P (Ok x) none = tt
 refused_anyway S P (Err e) none = λ t sets. absurd (none t sets)
+
+-- the same, if it is known that nothing is set
+pub none_set : {T E : Type 0} (S : T → Type 0) (P : E → Type 0) (r : Result T E) → ((t : T) → S t → ⊥)
+    → IfErr r (λ e. (t : T) → S t → P e)
+none_set S P r none = refused_anyway S P r (on_err r none)

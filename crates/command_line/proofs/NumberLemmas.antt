@@ -1,5 +1,5 @@
 -- Numbers and transactions in their printed form.
-use Rattle.std.proofs.Common.{◌≡◌, ◌∙◌, ℕ, ◌<◌, ◌≤◌, false, List, [], refl, arith, ap, codes, sym, subst}
+use Rattle.std.proofs.Common.{◌≡◌, ◌∙◌, ℕ, ◌-◌, ◌<◌, ◌≤◌, false, List, [], refl, arith, ap, codes, sym, subst}
 use Rattle.std.specs.Prelude.{Result, Ok, Err, Some, None, IfOk, IfErr, OnErr, IsErrOf, is_ok, ◌↔◌}
 use Rattle.std.specs.Result.{result_ok}
 use Rattle.std.specs.Str.Parse.{digits_value}
@@ -37,6 +37,12 @@ pub one_number : (rows : List Row) (name : Text) (low high low2 high2 n m : ℕ)
 one_number rows name low high low2 high2 n m i j =
     let same : i.text ≡ j.text = same_Some i.text j.text (sym i.has ∙ j.has) in
     sym i.number ∙ subst (λ t. digits_value 10 t ≡ m) (sym same) j.number
+
+-- a replica's number that is below one number of replicas is below the other, which is the same
+pub same_limit : (rows : List Row) (n m r : ℕ) → IsNumber rows (codes "n") 0 255 n → IsNumber rows (codes "n") 0 255 m
+    → IsNumber rows (codes "replica") 0 (n - 1) r → IsNumber rows (codes "replica") 0 (m - 1) r
+same_limit rows n m r i j below =
+    subst (λ k. IsNumber rows (codes "replica") 0 (k - 1) r) (one_number rows (codes "n") 0 255 0 255 n m i j) below
 
 -- a number is one within other limits if it lies there
 pub narrowed : (rows : List Row) (name : Text) (low high low2 high2 n : ℕ) → IsNumber rows name low high n → low2 ≤ n → n ≤ high2

@@ -10,7 +10,6 @@ mod refused_words;
 mod running_grammar;
 mod settings_of_words;
 mod shared_arguments;
-mod shown_word;
 mod subcommand;
 mod usage_fault;
 

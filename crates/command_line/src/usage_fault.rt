@@ -2,10 +2,9 @@
 ghost use Rattle.std.specs.Prelude.{◌≡◌};
 ghost use Rattle.command_line.specs.declared.usage_fault.UsageFault.TheVariants.{NoMemory};
 
-use crate::shown_word::ShownWord;
 use clap::error::ErrorKind;
 use ledger_model::Tx;
-use plain_text::SpellingFault;
+use plain_text::{ShownText, SpellingFault};
 use std::alloc::AllocError;
 use std::error::Error;
 use std::fmt;
@@ -116,7 +115,7 @@ fn show_number<W: fmt::Write>(
     most: u32,
     word: &str,
 ) -> fmt::Result {
-    let word = ShownWord::new(word);
+    let word = ShownText(word);
     write!(
         f,
         "error: --{option} is a number from {least} to {most}, not '{word}'"
@@ -131,7 +130,7 @@ fn show_neither<W: fmt::Write>(
     other: u32,
     word: &str,
 ) -> fmt::Result {
-    let word = ShownWord::new(word);
+    let word = ShownText(word);
     write!(f, "error: --{option} is {one} or {other}, not '{word}'")
 }
 
@@ -142,7 +141,7 @@ fn show_rejected<W: fmt::Write>(
     code: u32,
     word: &str,
 ) -> fmt::Result {
-    let word = ShownWord::new(word);
+    let word = ShownText(word);
     write!(
         f,
         "error: --{option} '{word}' is refused by the application's check: code {code}"
@@ -157,13 +156,13 @@ fn show_named<W: fmt::Write>(f: &mut fmt::Formatter<W>, input: Input, word: &str
         Input::AuditedHistories => "the histories come on standard input: abft audit",
         Input::DrawnHistories => "the histories come on standard input: abft draw",
     };
-    let word = ShownWord::new(word);
+    let word = ShownText(word);
     write!(f, "error: {told} <{word}")
 }
 
 /// Writes what is expected, and the word that is there.
 fn show_wanted<W: fmt::Write>(f: &mut fmt::Formatter<W>, wanted: &str, word: &str) -> fmt::Result {
-    let word = ShownWord::new(word);
+    let word = ShownText(word);
     write!(f, "error: {wanted}, not '{word}'")
 }
 
@@ -182,7 +181,7 @@ fn show_no_transaction<W: fmt::Write>(
     option: &str,
     word: &str,
 ) -> fmt::Result {
-    let word = ShownWord::new(word);
+    let word = ShownText(word);
     write!(
         f,
         "error: --{option} is a transaction of 1 to {} bytes, not '{word}'",

@@ -26,14 +26,15 @@ abbrev pub mades : List RoundClosing → List RoundStatement
 mades xs = map (λ x. x.made) xs
 
 -- where each ends as its height prepares, and makes nothing of another's, they are the heights' closings
-pub are_closings : (c id : ℕ) (rows : List InstanceView) (xs : List RoundClosing)
+pub are_closings : (config : Config) (c id : ℕ) (rows : List InstanceView) (xs : List RoundClosing)
     → map (λ x. x.ending) xs ≡ map (λ row. ended row c) rows
-    → AllByRecursion (λ row. row.id ≡ id) rows → AllByRecursion (λ x. IsOwnMade id x.made) xs → AreClosings c rows xs
-are_closings c id [] [] endings of own = tt
-are_closings c id [] (x ∷ xs) endings of own = absurd cc
-are_closings c id (row ∷ rows) [] endings of own = absurd cc
-are_closings c id (row ∷ rows) (x ∷ xs) endings of own =
-    (cc, subst (λ n. IsOwnMade n x.made) (sym of.0) own.0, are_closings c id rows xs (cc) of.1 own.1)
+    → AllByRecursion (λ row. (row.config ≡ config) × (row.id ≡ id)) rows → AllByRecursion (λ x. IsOwnMade config id x.made) xs
+    → AreClosings c rows xs
+are_closings config c id [] [] endings of own = tt
+are_closings config c id [] (x ∷ xs) endings of own = absurd cc
+are_closings config c id (row ∷ rows) [] endings of own = absurd cc
+are_closings config c id (row ∷ rows) (x ∷ xs) endings of own =
+    (cc, rw (of.0.0, of.0.1) own.0, are_closings config c id rows xs (cc) of.1 own.1)
 
 -- ---- the slots before a place are closed
 
@@ -78,7 +79,7 @@ module _ (c : ℕ) where
       here : AreClosings c (row ∷ all_read (drop (place + 1) now)) (x ∷ rest)
       here = subst (λ rows. AreClosings c rows (x ∷ rest)) after (subst (AreClosings c (all_read (drop place now))) more so_far.closings)
 
-      pub due : (x.ending ≡ ended row c) × IsOwnMade row.id x.made
+      pub due : (x.ending ≡ ended row c) × IsOwnMade row.config row.id x.made
       due = (here.0, here.1)
 
       pub closes : (new : InstanceView) → new ≡ closed row c x.ending x.made

@@ -40,7 +40,9 @@ impl HeightRow {
     ghost use Rattle.std.specs.List.{AllByRecursion};
     ghost use Rattle.std.specs.Option.{option_copied};
     ghost use Rattle.ledger_model.specs.Rounds.{place_of, release_place};
-    ghost use Rattle.ledger_model.specs.Notes.{Note, Proposed, Read, clock_of, signer_of};
+    ghost use Rattle.ledger_model.specs.Notes.{Note, Proposed, Read, clock_of, signer_of, version_of};
+    ghost use Rattle.ledger_model.specs.Values.{IsValueIn};
+    ghost use Rattle.ledger_model.specs.Versions.{reads};
     ghost use Rattle.ledger_model.specs.Locks.{decided_of};
     ghost use Rattle.ledger_model.specs.Logs.{height_of};
     ghost use Rattle.ledger_model.specs.Rules.{Ring, answer_to};
@@ -146,6 +148,7 @@ impl HeightRow {
         committed: u32,
     ) -> Result<Result<(), ProposeRefusal>, AllocError>
         requires committed { committed ≤ max_height }
+        requires initial { IsValueIn self.old.config.frames initial.now }
         ensures answer { IfOk result (λ r. r ≡ open_answer self.old.floor self.old.rows committed height) }
         // The height is open then, and matches every log of opened rounds that ends with this proposal.
         ensures opened { IfOk result (λ r. OnOk r (row_at self.new.rows height ≡ Some (opened_row self.old.config self.old.id height initial.now))) }
@@ -198,6 +201,7 @@ impl HeightRow {
         frame: Frame,
         clock: u32,
     ) -> Result<Result<(), Ignored>, AllocError>
+        requires version { IsTrue (reads self.old.config.frames (version_of frame.statement)) }
         requires signer { signer_of frame.statement < self.old.config.replicas }
         requires open { is_some (row_at self.old.rows (height_of frame.statement)) ≡ true }
         requires clock { clock ≤ last_round }
@@ -226,6 +230,7 @@ impl HeightRow {
         frame: Frame,
         clock: u32,
     ) -> Result<Result<(), Ignored>, AllocError>
+        requires version { IsTrue (reads self.old.config.frames (version_of frame.statement)) }
         requires signer { signer_of frame.statement < self.old.config.replicas }
         requires open { is_some (row_at self.old.rows (height_of frame.statement)) ≡ true }
         requires clock { clock ≤ last_round }
@@ -314,7 +319,7 @@ impl HeightRow {
         requires open { is_some (row_at self.old.rows height) ≡ true }
         requires clock { clock < last_round }
         requires ending { (row : InstanceView) → row_at self.old.rows height ≡ Some row → ending ≡ ended row (clock + 1) }
-        requires own { IsOwnMade self.old.id made }
+        requires own { IsOwnMade self.old.config self.old.id made }
         // For every log that the height matched and that allows what is made: the height then matches that log,
         // continued with the round and with what is made.
         ensures matches { (row new : InstanceView) → row_at self.old.rows height ≡ Some row → row_at self.new.rows height ≡ Some new
@@ -336,7 +341,7 @@ impl HeightRow {
     pub fn close_all(&mut self, closings: Vec<RoundClosing>, clock: u32)
         requires clock { clock < last_round }
         requires endings { map (λ c. c.ending) closings.items ≡ map (λ row. ended row (clock + 1)) self.old.rows }
-        requires own { AllByRecursion (λ c. IsOwnMade self.old.id c.made) closings.items }
+        requires own { AllByRecursion (λ c. IsOwnMade self.old.config self.old.id c.made) closings.items }
         ensures rows { self.new.rows ≡ closed_each (clock + 1) self.old.rows (map (λ c. c.made) closings.items) }
         ensures ascend { AreAscending self.new.rows }
         ensures same { IsSameReplica self.old self.new }

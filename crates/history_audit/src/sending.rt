@@ -5,7 +5,7 @@ ghost use Rattle.history_audit.specs.Tables.{Gains, IsTableOf, statements_of, by
 
 use crate::sent_table::SentTable;
 use history_parts::is_opened;
-use ledger_model::{Entry, History, Place, ReplicaId, Reply, Sent, place_of};
+use ledger_model::{Entry, History, Place, ReplicaId, Reply, Sent, Version, place_of};
 use signed_frames::Frame;
 use statements::DecodeFault;
 use std::alloc::{AllocError, Global};
@@ -20,7 +20,7 @@ fn add_frame(
 ) -> Result<(), AllocError>
     ensures { OnOk result (Gains table.old replica (bytes_of (statements_of (sent.now ∷ []))) table.new) }
 {
-    match Frame::parse(alloc, sent.frame.clone()?) {
+    match Frame::parse_in(Version::Two, alloc, sent.frame.clone()?) {
         Ok(frame) => table.insert(replica, frame.signed_part().share_message()?),
         Err(DecodeFault::Malformed) => Ok(()),
         Err(DecodeFault::NoMemory) => Err(AllocError),

@@ -11,7 +11,7 @@ use crate::fault::AuditFault;
 use crate::sent_table::SentTable;
 use bytes::Bytes;
 use history_parts::{has_history, history_of};
-use ledger_model::{Config, Entry, Event, History, ReplicaId, Reply};
+use ledger_model::{Config, Entry, Event, History, ReplicaId, Reply, Version};
 use signed_frames::{Frame, SignedPart};
 use statements::DecodeFault;
 use std::alloc::{AllocError, Global};
@@ -92,7 +92,7 @@ fn accepted(alloc: Global, entry: &Entry) -> Result<Option<Frame>, AllocError>
     let (Event::Deliver(bytes), Reply::Delivered(Ok(()))) = (&entry.event, &entry.reply) else {
         return Ok(None);
     };
-    match Frame::parse(alloc, bytes.clone()?) {
+    match Frame::parse_in(Version::Two, alloc, bytes.clone()?) {
         Ok(frame) => Ok(Some(frame)),
         Err(DecodeFault::Malformed) => Ok(None),
         Err(DecodeFault::NoMemory) => Err(AllocError),

@@ -1,4 +1,5 @@
--- What bytes read as histories, if anything. That reading inverts encoding is a law.
+-- What bytes read as histories, if anything. That reading inverts encoding is a law. The version is that of the cluster's frames.
+-- It limits the batches of replies, and says which frames can have been sent; the bytes of a delivery are any bytes.
 use Rattle.std.specs.Prelude.{ℕ, zero, suc, ◌+◌, ◌==◌, nat_le, List, [], ◌∷◌, length, find, Option, Some, None, is_some}
 use Rattle.std.specs.Prelude.{Result, Ok, Err, if◌then◌else◌}
 use Rattle.std.specs.Int.{w16, w32}
@@ -25,9 +26,10 @@ use Rattle.ledger_model.specs.declared.reply.RoundEnded.{RoundEnded}
 use Rattle.ledger_model.specs.declared.reply.Sent.{Sent}
 use Rattle.ledger_model.specs.declared.reply.SubmitRefusal.{SubmitRefusal}
 use Rattle.ledger_model.specs.declared.reply.SubmitRefusal.TheVariants as refusal
+use Rattle.ledger_model.specs.declared.version.Version.{Version}
 use Rattle.ledger_model.specs.Causes.{submit_refusal_number, propose_refusal_number, retire_refusal_number, cause_number}
 use Rattle.ledger_model.specs.Limits.{max_key_len}
-use Rattle.ledger_model.specs.Reading.{◌>>=◌, only_if, guarded, bytes_at, byte_at, number_at, flag_at, value_at, reading}
+use Rattle.ledger_model.specs.Reading.{◌>>=◌, only_if, guarded, bytes_at, byte_at, number_at, flag_at, value_at, reading_in}
 
 -- ---- fields
 
@@ -111,39 +113,39 @@ submit_refusal_of n bytes =
 abbrev pub addressee_of : ℕ → Addressee
 addressee_of n = if n == 255 then addressee.All else addressee.One n
 
--- a frame, with its length
-unfoldable pub frame_at : List ℕ → Option (List ℕ × List ℕ)
-frame_at bytes = do
+-- a frame of this version, with its length
+unfoldable pub frame_at : Version → List ℕ → Option (List ℕ × List ℕ)
+frame_at version bytes = do
   len ← number_at w32 bytes
   frame ← bytes_at (4 + len.0) bytes
-  only_if (is_some (reading frame.0)) frame
+  only_if (is_some (reading_in version frame.0)) frame
 
 -- a frame that was sent
-unfoldable pub sent_at : List ℕ → Option (Sent × List ℕ)
-sent_at bytes = do
+unfoldable pub sent_at : Version → List ℕ → Option (Sent × List ℕ)
+sent_at version bytes = do
   to ← byte_at bytes
-  frame ← frame_at to.1
+  frame ← frame_at version to.1
   Some (record { addressee = addressee_of to.0; frame = frame.0 }, frame.1)
 
 -- n frames that were sent
-unfoldable pub frames_of : ℕ → List ℕ → Option (List Sent × List ℕ)
-frames_of zero bytes = Some ([], bytes)
-frames_of (suc n) bytes = do
-  first ← sent_at bytes
-  rest ← frames_of n first.1
+unfoldable pub frames_of : Version → ℕ → List ℕ → Option (List Sent × List ℕ)
+frames_of version zero bytes = Some ([], bytes)
+frames_of version (suc n) bytes = do
+  first ← sent_at version bytes
+  rest ← frames_of version n first.1
   Some (first.0 ∷ rest.0, rest.1)
 
 -- frames that were sent, after their number in two bytes
-unfoldable pub frames_at : List ℕ → Option (List Sent × List ℕ)
-frames_at bytes = do
+unfoldable pub frames_at : Version → List ℕ → Option (List Sent × List ℕ)
+frames_at version bytes = do
   count ← number_at w16 bytes
-  frames_of count.0 count.1
+  frames_of version count.0 count.1
 
 -- a round end that opened a round
-unfoldable pub ended_at : List ℕ → Option (RoundEnded × List ℕ)
-ended_at bytes = do
+unfoldable pub ended_at : Version → List ℕ → Option (RoundEnded × List ℕ)
+ended_at version bytes = do
   mute ← flag_at bytes
-  frames ← frames_at mute.1
+  frames ← frames_at version mute.1
   Some (record { mute = mute.0; frames = frames.0 }, frames.1)
 
 -- n codes
@@ -203,14 +205,14 @@ only_refusal r n = only_if (n == 1) r
 unfoldable pub submitted_at : List ℕ → Option (Result (Unit {0}) SubmitRefusal × List ℕ)
 submitted_at = outcome_at nothing_at submit_refusal_of
 
-unfoldable pub proposed_at : List ℕ → Option (Result (List (List ℕ)) ProposeRefusal × List ℕ)
-proposed_at = outcome_at value_at (numbered propose_refusal_of)
+unfoldable pub proposed_at : Version → List ℕ → Option (Result (List (List ℕ)) ProposeRefusal × List ℕ)
+proposed_at version = outcome_at (value_at version) (numbered propose_refusal_of)
 
 unfoldable pub delivered_at : List ℕ → Option (Result (Unit {0}) Ignored × List ℕ)
 delivered_at = outcome_at nothing_at (numbered cause_of)
 
-unfoldable pub round_ended_at : List ℕ → Option (Result RoundEnded LastRound × List ℕ)
-round_ended_at = outcome_at ended_at (numbered (only_refusal (record {})))
+unfoldable pub round_ended_at : Version → List ℕ → Option (Result RoundEnded LastRound × List ℕ)
+round_ended_at version = outcome_at (ended_at version) (numbered (only_refusal (record {})))
 
 unfoldable pub executed_at : List ℕ → Option (Result BlockResult NothingDecided × List ℕ)
 executed_at = outcome_at block_at (numbered (only_refusal (record {})))
@@ -221,13 +223,13 @@ queried_at = outcome_at answer_at (numbered (only_refusal (record {})))
 unfoldable pub retired_at : List ℕ → Option (Result ℕ RetireRefusal × List ℕ)
 retired_at = outcome_at (number_at w32) (numbered retire_refusal_of)
 
--- a reply without its number, which is `kind`
-unfoldable pub reply_of : ℕ → List ℕ → Option (Reply × List ℕ)
-reply_of kind bytes =
+-- a reply, in a cluster with frames of this version, without its number, which is `kind`
+unfoldable pub reply_of : Version → ℕ → List ℕ → Option (Reply × List ℕ)
+reply_of version kind bytes =
     if kind == 1 then submitted_at bytes >>= (λ r. Some (reply.Submitted r.0, r.1))
-    else if kind == 2 then proposed_at bytes >>= (λ r. Some (reply.Proposed r.0, r.1))
+    else if kind == 2 then proposed_at version bytes >>= (λ r. Some (reply.Proposed r.0, r.1))
     else if kind == 3 then delivered_at bytes >>= (λ r. Some (reply.Delivered r.0, r.1))
-    else if kind == 4 then round_ended_at bytes >>= (λ r. Some (reply.RoundEnded r.0, r.1))
+    else if kind == 4 then round_ended_at version bytes >>= (λ r. Some (reply.RoundEnded r.0, r.1))
     else if kind == 5 then executed_at bytes >>= (λ r. Some (reply.Executed r.0, r.1))
     else if kind == 6 then queried_at bytes >>= (λ r. Some (reply.Queried r.0, r.1))
     else if kind == 7 then retired_at bytes >>= (λ r. Some (reply.Retired r.0, r.1))
@@ -236,44 +238,44 @@ reply_of kind bytes =
 -- ---- histories
 
 -- an entry: an event, and a reply that repeats the event's number
-unfoldable pub entry_at : List ℕ → Option (Entry × List ℕ)
-entry_at bytes = do
+unfoldable pub entry_at : Version → List ℕ → Option (Entry × List ℕ)
+entry_at version bytes = do
   kind ← byte_at bytes
   event ← event_of kind.0 kind.1
   again ← byte_at event.1
-  reply ← guarded (again.0 == kind.0) (reply_of kind.0 again.1)
+  reply ← guarded (again.0 == kind.0) (reply_of version kind.0 again.1)
   Some (record { event = event.0; reply = reply.0 }, reply.1)
 
 -- n entries
-unfoldable pub entries_of : ℕ → List ℕ → Option (List Entry × List ℕ)
-entries_of zero bytes = Some ([], bytes)
-entries_of (suc n) bytes = do
-  first ← entry_at bytes
-  rest ← entries_of n first.1
+unfoldable pub entries_of : Version → ℕ → List ℕ → Option (List Entry × List ℕ)
+entries_of version zero bytes = Some ([], bytes)
+entries_of version (suc n) bytes = do
+  first ← entry_at version bytes
+  rest ← entries_of version n first.1
   Some (first.0 ∷ rest.0, rest.1)
 
 -- entries, after their number in four bytes
-unfoldable pub entries_at : List ℕ → Option (List Entry × List ℕ)
-entries_at bytes = do
+unfoldable pub entries_at : Version → List ℕ → Option (List Entry × List ℕ)
+entries_at version bytes = do
   count ← number_at w32 bytes
-  entries_of count.0 count.1
+  entries_of version count.0 count.1
 
 -- a history: its replica and its entries
-unfoldable pub history_at : List ℕ → Option (History × List ℕ)
-history_at bytes = do
+unfoldable pub history_at : Version → List ℕ → Option (History × List ℕ)
+history_at version bytes = do
   replica ← byte_at bytes
-  entries ← entries_at replica.1
+  entries ← entries_at version replica.1
   Some (record { replica = replica.0; entries = entries.0 }, entries.1)
 
 -- the histories that all of the bytes are, if they are at most n
-unfoldable pub histories_within : ℕ → List ℕ → Option (List History)
-histories_within n [] = Some []
-histories_within zero (b ∷ bytes) = None
-histories_within (suc n) (b ∷ bytes) = do
-  first ← history_at (b ∷ bytes)
-  rest ← histories_within n first.1
+unfoldable pub histories_within : Version → ℕ → List ℕ → Option (List History)
+histories_within version n [] = Some []
+histories_within version zero (b ∷ bytes) = None
+histories_within version (suc n) (b ∷ bytes) = do
+  first ← history_at version (b ∷ bytes)
+  rest ← histories_within version n first.1
   Some (first.0 ∷ rest)
 
 -- the histories that all of the bytes are, one after another, if they are histories; each has at least one byte
-unfoldable pub histories_reading : List ℕ → Option (List History)
-histories_reading bytes = histories_within (length bytes) bytes
+unfoldable pub histories_reading : Version → List ℕ → Option (List History)
+histories_reading version bytes = histories_within version (length bytes) bytes

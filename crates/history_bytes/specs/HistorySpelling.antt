@@ -1,6 +1,6 @@
 -- Which histories have an encoding that is read back: counts fit their bytes, a reply is of its event's kind, and what a
 -- reply contains is spelled. A history may have any number of entries that fits, heights that no ledger has, and
--- addressees that no cluster has.
+-- addressees that no cluster has. The version is that of the cluster's frames.
 use Rattle.std.specs.Prelude.{◌≡◌, ℕ, ◌<◌, ◌≤◌, ◌^◌, List, length, Option, Some, None, Ok, Err}
 use Rattle.std.specs.List.{AllByRecursion}
 use Rattle.ledger_model.specs.declared.event.Event.{Event}
@@ -18,9 +18,10 @@ use Rattle.ledger_model.specs.declared.reply.Sent.{Sent}
 use Rattle.ledger_model.specs.declared.reply.SubmitRefusal.{SubmitRefusal}
 use Rattle.ledger_model.specs.declared.reply.SubmitRefusal.TheVariants as refusal
 use Rattle.ledger_model.specs.declared.statement.SignedStatement.{SignedStatement}
+use Rattle.ledger_model.specs.declared.version.Version.{Version}
 use Rattle.ledger_model.specs.Limits.{max_key_len}
 use Rattle.ledger_model.specs.Spelling.{SpellsFrame}
-use Rattle.ledger_model.specs.Values.{IsByte, IsValue}
+use Rattle.ledger_model.specs.Values.{IsByte, IsValueIn}
 
 -- a number of four bytes
 abbrev pub IsWord : ℕ → Type 0
@@ -81,19 +82,19 @@ abbrev pub IsAddressee : Addressee → Type 0
 IsAddressee addressee.All = Unit {0}
 IsAddressee (addressee.One r) = r < 255
 
--- the bytes encode a frame
-abbrev pub IsFrameText : List ℕ → Type 0
-IsFrameText bytes = (s : SignedStatement) × SpellsFrame bytes s
+-- the bytes encode a frame of this version
+abbrev pub IsFrameText : Version → List ℕ → Type 0
+IsFrameText version bytes = (s : SignedStatement) × SpellsFrame version bytes s
 
 -- a frame that was sent
-pub record IsSent (sent : Sent) : Type 0 where
+pub record IsSent (version : Version) (sent : Sent) : Type 0 where
   pub addressee : IsAddressee sent.addressee
-  pub frame : IsFrameText sent.frame
+  pub frame : IsFrameText version sent.frame
 
 -- a round end that can be encoded
-pub record IsRoundEnded (ended : RoundEnded) : Type 0 where
+pub record IsRoundEnded (version : Version) (ended : RoundEnded) : Type 0 where
   pub few : length ended.frames < 2 ^ 16
-  pub each : AllByRecursion IsSent ended.frames
+  pub each : AllByRecursion (IsSent version) ended.frames
 
 -- a block's result that can be encoded
 pub record IsBlock (block : BlockResult) : Type 0 where
@@ -113,30 +114,30 @@ pub record IsAnswer (answer : QueryAnswer) : Type 0 where
   pub height : IsWord answer.height
   pub value : IsPresent answer.value
 
--- a reply that can be encoded
-abbrev pub IsReply : Reply → Type 0
-IsReply (reply.Submitted (Ok _)) = Unit {0}
-IsReply (reply.Submitted (Err r)) = IsRefusal r
-IsReply (reply.Proposed (Ok batch)) = IsValue batch
-IsReply (reply.Proposed (Err _)) = Unit {0}
-IsReply (reply.Delivered result) = Unit {0}
-IsReply (reply.RoundEnded (Ok ended)) = IsRoundEnded ended
-IsReply (reply.RoundEnded (Err _)) = Unit {0}
-IsReply (reply.Executed (Ok block)) = IsBlock block
-IsReply (reply.Executed (Err _)) = Unit {0}
-IsReply (reply.Queried (Ok answer)) = IsAnswer answer
-IsReply (reply.Queried (Err _)) = Unit {0}
-IsReply (reply.Retired (Ok floor)) = IsWord floor
-IsReply (reply.Retired (Err _)) = Unit {0}
+-- a reply that can be encoded in a cluster with frames of this version: a batch has at most 16 or 64 transactions
+abbrev pub IsReply : Version → Reply → Type 0
+IsReply version (reply.Submitted (Ok _)) = Unit {0}
+IsReply version (reply.Submitted (Err r)) = IsRefusal r
+IsReply version (reply.Proposed (Ok batch)) = IsValueIn version batch
+IsReply version (reply.Proposed (Err _)) = Unit {0}
+IsReply version (reply.Delivered result) = Unit {0}
+IsReply version (reply.RoundEnded (Ok ended)) = IsRoundEnded version ended
+IsReply version (reply.RoundEnded (Err _)) = Unit {0}
+IsReply version (reply.Executed (Ok block)) = IsBlock block
+IsReply version (reply.Executed (Err _)) = Unit {0}
+IsReply version (reply.Queried (Ok answer)) = IsAnswer answer
+IsReply version (reply.Queried (Err _)) = Unit {0}
+IsReply version (reply.Retired (Ok floor)) = IsWord floor
+IsReply version (reply.Retired (Err _)) = Unit {0}
 
 -- an entry that can be encoded: the reply is of its event's kind
-pub record IsEntry (e : Entry) : Type 0 where
+pub record IsEntry (version : Version) (e : Entry) : Type 0 where
   pub event : IsEvent e.event
-  pub reply : IsReply e.reply
+  pub reply : IsReply version e.reply
   pub kind : reply_number e.reply ≡ event_number e.event
 
 -- a history that can be encoded
-pub record IsHistory (h : History) : Type 0 where
+pub record IsHistory (version : Version) (h : History) : Type 0 where
   pub replica : IsByte h.replica
   pub few : length h.entries < 2 ^ 32
-  pub each : AllByRecursion IsEntry h.entries
+  pub each : AllByRecursion (IsEntry version) h.entries

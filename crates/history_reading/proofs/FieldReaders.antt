@@ -7,11 +7,15 @@ use Rattle.std.specs.Int.{w16, w32, to_be_bytes}
 use Rattle.std.proofs.lemmas.Bool.{leb-true, le-leb}
 use Rattle.std.proofs.lemmas.List.{length-append}
 use Rattle.ledger_model.specs.declared.statement.SignedStatement.{SignedStatement}
-use Rattle.ledger_model.specs.Limits.{max_key_len, max_body_len}
+use Rattle.ledger_model.specs.Limits.{max_key_len}
+use Rattle.ledger_model.specs.declared.version.Version.{Version}
+use Rattle.ledger_model.specs.declared.version.Version.TheVariants.{One, Two}
+use Rattle.ledger_model.specs.Versions.{body_limit}
+use Rattle.ledger_model.specs.Notes.{version_of}
 use Rattle.ledger_model.specs.Values.{IsByte}
-use Rattle.ledger_model.specs.Spelling.{IsFrame, SpellsFrame, body_bytes, frame_bytes}
+use Rattle.ledger_model.specs.Spelling.{IsFrameIn, SpellsFrame, body_bytes, frame_bytes}
 use Rattle.ledger_model.specs.GrammarLaws.{IsBytes}
-use Rattle.ledger_model.specs.Reading.{◌>>=◌, only_if, guarded, bytes_at, byte_at, number_at, reading}
+use Rattle.ledger_model.specs.Reading.{◌>>=◌, only_if, guarded, bytes_at, byte_at, number_at, reading_in}
 use Rattle.ledger_model.proofs.Readers.{bind_some, only_if-some, guarded-some, each_byte, IsReader, byte_takes, bytes_take, bytes_again}
 use Rattle.ledger_model.proofs.Readers.{wide16, wide32, number_reader}
 use Rattle.ledger_model.proofs.FrameReading.{reading-spells, reading-again}
@@ -121,13 +125,17 @@ is_there None is = absurd cc
 is_there (Some x) is = (x, refl)
 
 -- a frame's length is in front of it
-frame_length_at : (s : SignedStatement) (rest : List ℕ) → IsFrame s
+frame_length_at : (version : Version) (s : SignedStatement) (rest : List ℕ) → IsFrameIn version s
     → number_at w32 (frame_bytes s ++ rest) ≡ Some (length (body_bytes s), body_bytes s ++ rest)
 unfolding frame_bytes
-frame_length_at s rest is =
-    let short : length (body_bytes s) ≤ max_body_len = is.short in
+frame_length_at version s rest is =
+    let short : length (body_bytes s) ≤ 600000 = within (version_of s.statement) is.short in
     ap (number_at w32) (append_assoc (to_be_bytes w32 (length (body_bytes s))) (body_bytes s) rest)
     ∙ word_reader.again (length (body_bytes s)) (body_bytes s ++ rest) (omega arith)
+  where
+    within : (own : Version) → length (body_bytes s) ≤ body_limit own → length (body_bytes s) ≤ 600000
+    within One short = omega (arith, short)
+    within Two short = short
 
 frame_header : (s : SignedStatement) → length (frame_bytes s) ≡ 4 + length (body_bytes s)
 unfolding frame_bytes
@@ -138,25 +146,27 @@ frame_text_at : (s : SignedStatement) (rest : List ℕ)
 frame_text_at s rest =
     subst (λ (n : ℕ). bytes_at n (frame_bytes s ++ rest) ≡ Some (frame_bytes s, rest)) (frame_header s) (bytes_again (frame_bytes s) rest)
 
-frame_spelled : (s : SignedStatement) (rest : List ℕ) → IsFrame s → frame_at (frame_bytes s ++ rest) ≡ Some (frame_bytes s, rest)
+frame_spelled : (version : Version) (s : SignedStatement) (rest : List ℕ) → IsFrameIn version s
+    → frame_at version (frame_bytes s ++ rest) ≡ Some (frame_bytes s, rest)
 unfolding frame_at
-frame_spelled s rest is = rw (frame_length_at s rest is, frame_text_at s rest, reading-again s is) refl
+frame_spelled version s rest is = rw (frame_length_at version s rest is, frame_text_at s rest, reading-again version s is) refl
 
-pub frame_reader : IsReader same_bytes IsFrameText frame_at
+pub frame_reader : (version : Version) → IsReader same_bytes (IsFrameText version) (frame_at version)
 unfolding frame_at
-frame_reader = record { takes = takes; again = again }
+frame_reader version = record { takes = takes; again = again }
   where
-    takes : (bytes frame rest : List ℕ) → IsBytes bytes → frame_at bytes ≡ Some (frame, rest)
-        → (bytes ≡ frame ++ rest) × IsFrameText frame × IsBytes rest
+    takes : (bytes frame rest : List ℕ) → IsBytes bytes → frame_at version bytes ≡ Some (frame, rest)
+        → (bytes ≡ frame ++ rest) × IsFrameText version frame × IsBytes rest
     takes bytes frame rest fits e =
-        let a = bind_some (number_at w32 bytes) (λ len. bytes_at (4 + len.0) bytes >>= λ text. only_if (is_some (reading text.0)) text)
+        let a = bind_some (number_at w32 bytes) (λ len. bytes_at (4 + len.0) bytes >>= λ text. only_if
+        (is_some (reading_in version text.0)) text)
         (frame, rest) e in
-        let b = bind_some (bytes_at (4 + a.0.0) bytes) (λ text. only_if (is_some (reading text.0)) text) (frame, rest) a.2 in
-        let o = only_if-some (is_some (reading b.0.0)) b.0 (frame, rest) b.2 in
+        let b = bind_some (bytes_at (4 + a.0.0) bytes) (λ text. only_if (is_some (reading_in version text.0)) text) (frame, rest) a.2 in
+        let o = only_if-some (is_some (reading_in version b.0.0)) b.0 (frame, rest) b.2 in
         let t = bytes_take (4 + a.0.0) bytes b.0.0 b.0.1 fits b.1 in
-        let s = is_there (reading b.0.0) o.0 in
-        let spells : SpellsFrame b.0.0 s.0 = reading-spells b.0.0 s.0 t.1 s.1 in
-        subst (λ (p : List ℕ × List ℕ). (bytes ≡ p.0 ++ p.1) × IsFrameText p.0 × IsBytes p.1) o.1 (t.0, (s.0, spells), t.2)
+        let s = is_there (reading_in version b.0.0) o.0 in
+        let spells : SpellsFrame version b.0.0 s.0 = reading-spells version b.0.0 s.0 t.1 s.1 in
+        subst (λ (p : List ℕ × List ℕ). (bytes ≡ p.0 ++ p.1) × IsFrameText version p.0 × IsBytes p.1) o.1 (t.0, (s.0, spells), t.2)
 
-    again : (frame rest : List ℕ) → IsFrameText frame → frame_at (frame ++ rest) ≡ Some (frame, rest)
-    again frame rest is = rw is.1.1 (frame_spelled is.0 rest is.1.0)
+    again : (frame rest : List ℕ) → IsFrameText version frame → frame_at version (frame ++ rest) ≡ Some (frame, rest)
+    again frame rest is = rw is.1.1 (frame_spelled version is.0 rest is.1.0)

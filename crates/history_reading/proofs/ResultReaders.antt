@@ -11,6 +11,7 @@ use Rattle.ledger_model.specs.declared.reply.BlockResult.{BlockResult}
 use Rattle.ledger_model.specs.declared.reply.QueryAnswer.{QueryAnswer}
 use Rattle.ledger_model.specs.declared.reply.RoundEnded.{RoundEnded}
 use Rattle.ledger_model.specs.declared.reply.Sent.{Sent}
+use Rattle.ledger_model.specs.declared.version.Version.{Version}
 use Rattle.ledger_model.specs.Values.{IsByte}
 use Rattle.ledger_model.specs.GrammarLaws.{IsBytes}
 use Rattle.ledger_model.specs.Reading.{◌>>=◌, byte_at, bytes_at}
@@ -48,49 +49,52 @@ addressee_back : (a : Addressee) → IsAddressee a → addressee_of (addressee_n
 addressee_back addressee.All is = refl
 addressee_back (addressee.One r) is = let other : eqb r 255 ≡ false = ne_eqb r 255 (λ e. omega (arith, e, is)) in rw other refl
 
-sent_reader : IsReader sent_bytes IsSent sent_at
+sent_reader : (version : Version) → IsReader sent_bytes (IsSent version) (sent_at version)
 unfolding sent_at
-sent_reader = record {
+sent_reader version = record {
   takes = λ bytes sent rest fits e.
-      taken byte_reader bytes (λ to. frame_at to.1 >>= λ frame. Some (record { addressee = addressee_of to.0; frame = frame.0 }, frame.1))
+      taken byte_reader bytes (λ to. frame_at version to.1 >>= λ frame. Some
+      (record { addressee = addressee_of to.0; frame = frame.0 }, frame.1))
       (sent, rest) fits e
-      (λ to more t_parts t_is t_fits f. taken frame_reader more
+      (λ to more t_parts t_is t_fits f. taken (frame_reader version) more
       (λ frame. Some (record { addressee = addressee_of to; frame = frame.0 }, frame.1)) (sent, rest) t_fits f
       (λ frame last f_parts f_is f_fits g.
       let made : Sent × List ℕ = (record { addressee = addressee_of to; frame = frame }, last) in
       let back = number_back to t_is in
-      subst (λ (p : Sent × List ℕ). (bytes ≡ sent_bytes p.0 ++ p.1) × IsSent p.0 × IsBytes p.1) (some_is made (sent, rest) g) (
+      subst (λ (p : Sent × List ℕ). (bytes ≡ sent_bytes p.0 ++ p.1) × IsSent version p.0 × IsBytes p.1) (some_is made (sent, rest) g) (
         t_parts ∙ ap (λ (k : ℕ). k ∷ more) (sym back.0) ∙ ap (λ (t : List ℕ). addressee_number (addressee_of to) ∷ t) f_parts,
         record { addressee = back.1; frame = f_is },
         f_fits,
       )));
   again = λ sent rest is.
-      rw (frame_reader.again sent.frame rest is.frame, addressee_back sent.addressee is.addressee) refl;
+      rw ((frame_reader version).again sent.frame rest is.frame, addressee_back sent.addressee is.addressee) refl;
 }
 
-frames_of_reader : IsSizedReader (flat_map sent_bytes) (AllByRecursion IsSent) length frames_of
+frames_of_reader : (version : Version) → IsSizedReader (flat_map sent_bytes) (AllByRecursion (IsSent version)) length (frames_of version)
 unfolding frames_of
-frames_of_reader = many_reader sent_reader frames_of (λ bytes. refl) (λ n bytes. refl)
+frames_of_reader version = many_reader (sent_reader version) (frames_of version) (λ bytes. refl) (λ n bytes. refl)
 
 abbrev frames_bytes : List Sent → List ℕ
 frames_bytes frames = count_in_2 (length frames) ++ flat_map sent_bytes frames
 
-abbrev AreFrames : List Sent → Type 0
-AreFrames frames = (length frames < 2 ^ 16) × AllByRecursion IsSent frames
+abbrev AreFrames : Version → List Sent → Type 0
+AreFrames version frames = (length frames < 2 ^ 16) × AllByRecursion (IsSent version) frames
 
-frames_reader : IsReader frames_bytes AreFrames frames_at
+frames_reader : (version : Version) → IsReader frames_bytes (AreFrames version) (frames_at version)
 unfolding frames_at
-frames_reader = counted_reader count_2_reader frames_of_reader
+frames_reader version = counted_reader count_2_reader (frames_of_reader version)
 
 -- a round's end of its parts
 abbrev ended_of : Bool → List Sent → RoundEnded
 ended_of mute frames = record { mute = mute; frames = frames }
 
-pub ended_reader : IsReader ended_bytes IsRoundEnded ended_at
+pub ended_reader : (version : Version) → IsReader ended_bytes (IsRoundEnded version) (ended_at version)
 unfolding ended_at
-ended_reader = same_reader (pair_reader flag_reader frames_reader ended_of (λ x. x.mute) (λ x. x.frames) (λ x. refl) (λ a b. refl)
+ended_reader version = same_reader (pair_reader flag_reader (frames_reader version) ended_of (λ x. x.mute) (λ x. x.frames) (λ x. refl)
+    (λ a b. refl)
     (λ a b. refl))
-    ended_bytes IsRoundEnded (λ x. sym (append_assoc (flag_bytes x.mute) (count_in_2 (length x.frames)) (flat_map sent_bytes x.frames)))
+    ended_bytes (IsRoundEnded version) (λ x. sym (append_assoc (flag_bytes x.mute) (count_in_2 (length x.frames))
+    (flat_map sent_bytes x.frames)))
     (λ x is. record { few = is.1.0; each = is.1.1 }) (λ x is. (tt, (is.few, is.each)))
 
 -- ---- blocks and answers

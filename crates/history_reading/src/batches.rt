@@ -4,7 +4,7 @@ ghost use Rattle.ledger_model.specs.Reading.{tx_at, txs_at, value_at};
 ghost use Rattle.statements.specs.Reads.{Reads, ReadsAs};
 
 use crate::input::Input;
-use ledger_model::{Batch, Tx};
+use ledger_model::{Batch, Tx, Version};
 use statements::DecodeFault;
 use std::alloc::Global;
 
@@ -29,13 +29,17 @@ fn take_txs(alloc: Global, input: &mut Input, count: u8) -> Result<Vec<Tx>, Deco
     Ok(txs)
 }
 
-/// A batch: the number of its transactions, at most 16, and each after its length.
+/// A batch in a cluster with frames of this version: the number of its transactions, at most 16 or 64, and each after its length.
 #[tactic(auto, unfolding(ledger_model::specs::Reading::value_at))]
-pub(crate) fn take_batch(alloc: Global, input: &mut Input) -> Result<Batch, DecodeFault>
-    ensures { Reads result input.new (value_at input.old) }
+pub(crate) fn take_batch(
+    version: Version,
+    alloc: Global,
+    input: &mut Input,
+) -> Result<Batch, DecodeFault>
+    ensures { Reads result input.new (value_at version input.old) }
 {
     let count = input.take_byte()?;
-    if usize::from(count) > Batch::MAX_LEN {
+    if usize::from(count) > version.batch_limit() {
         return Err(DecodeFault::Malformed);
     }
     let txs = take_txs(alloc, input, count)?;

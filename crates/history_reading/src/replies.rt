@@ -11,7 +11,7 @@ use crate::refusals::{cause_of, propose_refusal_of, retire_refusal_of, take_subm
 use crate::sent_frames::take_ended;
 use ledger_model::{
     Batch, BlockResult, Height, Ignored, LastRound, NotHeld, NothingDecided, ProposeRefusal,
-    QueryAnswer, Reply, RetireRefusal, RoundEnded, SubmitRefusal,
+    QueryAnswer, Reply, RetireRefusal, RoundEnded, SubmitRefusal, Version,
 };
 use statements::DecodeFault;
 use std::alloc::Global;
@@ -28,13 +28,14 @@ fn take_submitted(input: &mut Input) -> Result<Result<(), SubmitRefusal>, Decode
 
 #[tactic(auto, unfolding(history_bytes::specs::HistoryReading::proposed_at))]
 fn take_proposed(
+    version: Version,
     alloc: Global,
     input: &mut Input,
 ) -> Result<Result<Batch, ProposeRefusal>, DecodeFault>
-    ensures { Reads result input.new (proposed_at input.old) }
+    ensures { Reads result input.new (proposed_at version input.old) }
 {
     match input.take_byte()? {
-        0 => Ok(Ok(take_batch(alloc, input)?)),
+        0 => Ok(Ok(take_batch(version, alloc, input)?)),
         number => Ok(Err(propose_refusal_of(number)?)),
     }
 }
@@ -51,13 +52,14 @@ fn take_delivered(input: &mut Input) -> Result<Result<(), Ignored>, DecodeFault>
 
 #[tactic(auto, unfolding(history_bytes::specs::HistoryReading::round_ended_at))]
 fn take_round_ended(
+    version: Version,
     alloc: Global,
     input: &mut Input,
 ) -> Result<Result<RoundEnded, LastRound>, DecodeFault>
-    ensures { Reads result input.new (round_ended_at input.old) }
+    ensures { Reads result input.new (round_ended_at version input.old) }
 {
     match input.take_byte()? {
-        0 => Ok(Ok(take_ended(alloc, input)?)),
+        0 => Ok(Ok(take_ended(version, alloc, input)?)),
         1 => Ok(Err(LastRound)),
         _ => Err(DecodeFault::Malformed),
     }
@@ -98,16 +100,21 @@ fn take_retired(input: &mut Input) -> Result<Result<Height, RetireRefusal>, Deco
     }
 }
 
-/// Takes the reply to an event of this number, without the number.
+/// Takes the reply to an event of this number, in a cluster with frames of this version, without the number.
 #[tactic(auto, unfolding(history_bytes::specs::HistoryReading::reply_of))]
-pub(crate) fn take_reply(alloc: Global, input: &mut Input, number: u8) -> Result<Reply, DecodeFault>
-    ensures { Reads result input.new (reply_of number input.old) }
+pub(crate) fn take_reply(
+    version: Version,
+    alloc: Global,
+    input: &mut Input,
+    number: u8,
+) -> Result<Reply, DecodeFault>
+    ensures { Reads result input.new (reply_of version number input.old) }
 {
     match number {
         1 => Ok(Reply::Submitted(take_submitted(input)?)),
-        2 => Ok(Reply::Proposed(take_proposed(alloc, input)?)),
+        2 => Ok(Reply::Proposed(take_proposed(version, alloc, input)?)),
         3 => Ok(Reply::Delivered(take_delivered(input)?)),
-        4 => Ok(Reply::RoundEnded(take_round_ended(alloc, input)?)),
+        4 => Ok(Reply::RoundEnded(take_round_ended(version, alloc, input)?)),
         5 => Ok(Reply::Executed(take_executed(alloc, input)?)),
         6 => Ok(Reply::Queried(take_queried(input)?)),
         7 => Ok(Reply::Retired(take_retired(input)?)),

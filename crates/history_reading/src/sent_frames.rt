@@ -5,7 +5,7 @@ ghost use Rattle.statements.specs.Reads.{Reads, ReadsAs};
 
 use crate::input::Input;
 use bytes::Bytes;
-use ledger_model::{Addressee, ReplicaId, RoundEnded, Sent, SentFrames};
+use ledger_model::{Addressee, ReplicaId, RoundEnded, Sent, SentFrames, Version};
 use octets::Cursor;
 use signed_frames::Frame;
 use statements::DecodeFault;
@@ -24,32 +24,37 @@ fn addressee_of(number: u8) -> Addressee
     }
 }
 
-/// Takes a frame, with its length. The frame is parsed, and only its bytes are kept.
+/// Takes a frame of this version, with its length. The frame is parsed, and only its bytes are kept.
 #[tactic(auto, unfolding(history_bytes::specs::HistoryReading::frame_at))]
-fn take_frame(alloc: Global, input: &mut Input) -> Result<Bytes, DecodeFault>
-    ensures { Reads result input.new (frame_at input.old) }
+fn take_frame(version: Version, alloc: Global, input: &mut Input) -> Result<Bytes, DecodeFault>
+    ensures { Reads result input.new (frame_at version input.old) }
 {
     let len = Cursor::new(input.rest()).take_u32()? as usize;
     let bytes = input.take_shared(HEADER_LEN + len)?;
-    let frame = Frame::parse(alloc, bytes)?;
+    let frame = Frame::parse_in(version, alloc, bytes)?;
     Ok(frame.into_bytes())
 }
 
 #[tactic(auto, unfolding(history_bytes::specs::HistoryReading::sent_at))]
-fn take_sent(alloc: Global, input: &mut Input) -> Result<Sent, DecodeFault>
-    ensures { Reads result input.new (sent_at input.old) }
+fn take_sent(version: Version, alloc: Global, input: &mut Input) -> Result<Sent, DecodeFault>
+    ensures { Reads result input.new (sent_at version input.old) }
 {
     let addressee = addressee_of(input.take_byte()?);
-    let frame = take_frame(alloc, input)?;
+    let frame = take_frame(version, alloc, input)?;
     Ok(Sent { addressee, frame })
 }
 
-fn frames_of(alloc: Global, input: &mut Input, count: u16) -> Result<Vec<Sent>, DecodeFault>
-    ensures { ReadsAs (λ frames. frames.items) result input.new (frames_of count input.old) }
+fn frames_of(
+    version: Version,
+    alloc: Global,
+    input: &mut Input,
+    count: u16,
+) -> Result<Vec<Sent>, DecodeFault>
+    ensures { ReadsAs (λ frames. frames.items) result input.new (frames_of version count input.old) }
 {
     let mut frames = Vec::new(alloc);
     for _ in 0..count {
-        let sent = take_sent(alloc, input)?;
+        let sent = take_sent(version, alloc, input)?;
         frames.push(sent)?;
     }
     Ok(frames)
@@ -57,20 +62,28 @@ fn frames_of(alloc: Global, input: &mut Input, count: u16) -> Result<Vec<Sent>, 
 
 /// Takes frames after their number in two bytes.
 #[tactic(auto, unfolding(history_bytes::specs::HistoryReading::frames_at))]
-fn take_frames(alloc: Global, input: &mut Input) -> Result<SentFrames, DecodeFault>
-    ensures { Reads result input.new (frames_at input.old) }
+fn take_frames(
+    version: Version,
+    alloc: Global,
+    input: &mut Input,
+) -> Result<SentFrames, DecodeFault>
+    ensures { Reads result input.new (frames_at version input.old) }
 {
     let count = input.take_u16()?;
-    let frames = frames_of(alloc, input, count)?;
+    let frames = frames_of(version, alloc, input, count)?;
     Ok(SentFrames::new(frames))
 }
 
 /// Takes the result of a round end that opened a round.
 #[tactic(auto, unfolding(history_bytes::specs::HistoryReading::ended_at))]
-pub(crate) fn take_ended(alloc: Global, input: &mut Input) -> Result<RoundEnded, DecodeFault>
-    ensures { Reads result input.new (ended_at input.old) }
+pub(crate) fn take_ended(
+    version: Version,
+    alloc: Global,
+    input: &mut Input,
+) -> Result<RoundEnded, DecodeFault>
+    ensures { Reads result input.new (ended_at version input.old) }
 {
     let mute = input.take_flag()?;
-    let frames = take_frames(alloc, input)?;
+    let frames = take_frames(version, alloc, input)?;
     Ok(RoundEnded { mute, frames })
 }

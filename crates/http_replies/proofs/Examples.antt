@@ -3,7 +3,7 @@ use Rattle.std.proofs.Common.{◌≡◌, ◌++◌, codes, refl}
 use Rattle.std.specs.Prelude.{⊤}
 use Rattle.std.specs.Fmt.{digits}
 use Rattle.http_requests.specs.declared.fault.RequestFault.TheVariants as fault
-use Rattle.http_replies.specs.declared.answer.Answer.TheVariants as answer
+use Rattle.http_replies.specs.Answers as answer
 use Rattle.http_replies.specs.Errors.{reason_text, error_text}
 use Rattle.http_replies.specs.Results.{unconfirmed_result}
 use Rattle.http_replies.specs.Replies.{status_of, content_type, allow_text, fields_text, head_text, result_text, body_text, reply_bytes}

@@ -36,6 +36,7 @@ error_text kind sentence =
 -- the kind of error that a fault of a request is
 abbrev pub fault_kind : RequestFault → ErrorKind
 fault_kind request.Malformed = kind.InvalidRequest
+fault_kind request.Incomplete = kind.InvalidRequest
 fault_kind (request.Parameter p) = kind.InvalidParams
 fault_kind request.NotFound = kind.MethodNotFound
 fault_kind request.Method = kind.InvalidRequest
@@ -47,20 +48,26 @@ fault_kind request.NoMemory = kind.Internal
 abbrev pub service_status : ServiceFault → ℕ
 service_status service.NoReplica = 400
 service_status service.NotCommitted = 500
+service_status service.NotLastHeight = 400
 service_status service.HistoryFull = 503
 service_status service.TimedOut = 500
+service_status service.Stopping = 503
 
 abbrev pub service_kind : ServiceFault → ErrorKind
 service_kind service.NoReplica = kind.InvalidParams
 service_kind service.NotCommitted = kind.Internal
+service_kind service.NotLastHeight = kind.InvalidParams
 service_kind service.HistoryFull = kind.Internal
 service_kind service.TimedOut = kind.Internal
+service_kind service.Stopping = kind.Internal
 
 abbrev pub service_text : ServiceFault → List ℕ
 service_text service.NoReplica = codes "the cluster has no such replica"
 service_text service.NotCommitted = codes "the replica has not committed this height"
+service_text service.NotLastHeight = codes "the application answers as of its last block alone"
 service_text service.HistoryFull = codes "the replica's history has no entries left for clients"
 service_text service.TimedOut = codes "timed out waiting for tx to be included in a block"
+service_text service.Stopping = codes "the cluster was asked to stop"
 
 -- ---- why the pool refused a transaction; if the application refused it, that is an answer and no error
 

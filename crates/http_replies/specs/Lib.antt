@@ -2,4 +2,5 @@ pub mod Texts
 pub mod Results
 pub mod Errors
 pub mod Metrics
+pub mod Answers
 pub mod Replies

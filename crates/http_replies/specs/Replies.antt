@@ -1,18 +1,17 @@
 -- The bytes of a reply.
 use Rattle.std.specs.Prelude.{ℕ, List, [], ◌∷◌, ◌++◌, length, codes, decimal}
-use Rattle.std.specs.Option.{option_copied}
 use Rattle.ledger_model.specs.declared.reply.SubmitRefusal.{SubmitRefusal}
 use Rattle.ledger_model.specs.declared.reply.SubmitRefusal.TheVariants as refusal
 use Rattle.http_requests.specs.Faults.{fault_text}
 use Rattle.http_requests.specs.Faults as requests
 use Rattle.http_requests.specs.declared.fault.RequestFault.TheVariants as fault
-use Rattle.http_replies.specs.declared.answer.Answer.{Answer}
-use Rattle.http_replies.specs.declared.answer.Answer.TheVariants as answer
 use Rattle.http_replies.specs.declared.answer.Submission.{Submission}
 use Rattle.http_replies.specs.declared.answer.Submission.TheVariants as submission
 use Rattle.http_replies.specs.declared.answer.Commitment.{Commitment}
 use Rattle.http_replies.specs.declared.answer.Commitment.TheVariants as commitment
 use Rattle.http_replies.specs.declared.page.TheConstants.{PAGE}
+use Rattle.http_replies.specs.Answers.{AnswerView, Page, Health, Status, AbciInfo, AbciQuery, Block, UnconfirmedTxs, BroadcastSync}
+use Rattle.http_replies.specs.Answers.{BroadcastCommit, Metrics, Fault, Unanswered}
 use Rattle.http_replies.specs.Texts.{joined}
 use Rattle.http_replies.specs.Results.{status_result, info_result, query_result, block_result, unconfirmed_result, sync_result}
 use Rattle.http_replies.specs.Results.{rejected_sync, commit_result, rejected_commit}
@@ -31,29 +30,29 @@ commitment_status (commitment.Committed receipt height code) = 200
 commitment_status (commitment.Refused r) = refusal_status r
 
 -- the status of a reply
-unfoldable pub status_of : Answer → ℕ
-status_of answer.Page = 200
-status_of answer.Health = 200
-status_of (answer.Status replica round height) = 200
-status_of (answer.AbciInfo kind height hash) = 200
-status_of (answer.AbciQuery key value height) = 200
-status_of (answer.Block height batch) = 200
-status_of (answer.UnconfirmedTxs count bytes) = 200
-status_of (answer.BroadcastSync tx s) = submission_status s
-status_of (answer.BroadcastCommit tx c) = commitment_status c
-status_of (answer.Metrics replicas) = 200
-status_of (answer.Fault f) = requests.status_of f
-status_of (answer.Unanswered f) = service_status f
+unfoldable pub status_of : AnswerView → ℕ
+status_of Page = 200
+status_of Health = 200
+status_of (Status replica round height) = 200
+status_of (AbciInfo kind height hash) = 200
+status_of (AbciQuery key value height) = 200
+status_of (Block height batch) = 200
+status_of (UnconfirmedTxs count bytes) = 200
+status_of (BroadcastSync tx s) = submission_status s
+status_of (BroadcastCommit tx c) = commitment_status c
+status_of (Metrics replicas) = 200
+status_of (Fault f) = requests.status_of f
+status_of (Unanswered f) = service_status f
 
 -- the type of a body: a page, Prometheus' text, or JSON
-unfoldable pub content_type : Answer → List ℕ
-content_type answer.Page = codes "text/html; charset=utf-8"
-content_type (answer.Metrics replicas) = codes "text/plain; version=0.0.4; charset=utf-8"
+unfoldable pub content_type : AnswerView → List ℕ
+content_type Page = codes "text/html; charset=utf-8"
+content_type (Metrics replicas) = codes "text/plain; version=0.0.4; charset=utf-8"
 content_type _ = codes "application/json"
 
 -- the field line that says which methods are answered, if the method was not (RFC 9110, section 15.5.6)
-unfoldable pub allow_text : Answer → List ℕ
-allow_text (answer.Fault fault.Method) = codes "Allow: GET\r\n"
+unfoldable pub allow_text : AnswerView → List ℕ
+allow_text (Fault fault.Method) = codes "Allow: GET\r\n"
 allow_text _ = []
 
 -- the head of a reply with this status, this type and length of the body, and this field line more (RFC 9112, section 2.1)
@@ -63,7 +62,7 @@ fields_text status kind len allow =
     ∷ codes "\r\nContent-Length: " ∷ decimal len ∷ codes "\r\n" ∷ allow ∷ codes "Connection: close\r\n\r\n" ∷ [])
 
 -- the head of the reply with a body of this length
-unfoldable pub head_text : Answer → ℕ → List ℕ
+unfoldable pub head_text : AnswerView → ℕ → List ℕ
 head_text a len = fields_text (status_of a) (content_type a) len (allow_text a)
 
 -- the body of a reply with a result
@@ -93,20 +92,20 @@ commit_body tx (commitment.Refused refusal.Full) = refusal_body refusal.Full
 commit_body tx (commitment.Refused (refusal.Rejected code)) = result_text (rejected_commit tx code)
 
 -- the body of a reply
-unfoldable pub body_text : Answer → List ℕ
-body_text answer.Page = PAGE.now
-body_text answer.Health = result_text (codes "{}")
-body_text (answer.Status replica round height) = result_text (status_result replica round height)
-body_text (answer.AbciInfo kind height hash) = result_text (info_result kind height hash.now)
-body_text (answer.AbciQuery key value height) = result_text (query_result key.now (option_copied value) height)
-body_text (answer.Block height batch) = result_text (block_result height batch.now)
-body_text (answer.UnconfirmedTxs count bytes) = result_text (unconfirmed_result count bytes)
-body_text (answer.BroadcastSync tx s) = sync_body tx.now s
-body_text (answer.BroadcastCommit tx c) = commit_body tx.now c
-body_text (answer.Metrics replicas) = metrics_text replicas.now
-body_text (answer.Fault f) = error_text (kind_text (fault_kind f)) (fault_text f)
-body_text (answer.Unanswered f) = error_text (kind_text (service_kind f)) (service_text f)
+unfoldable pub body_text : AnswerView → List ℕ
+body_text Page = PAGE.now
+body_text Health = result_text (codes "{}")
+body_text (Status replica round height) = result_text (status_result replica round height)
+body_text (AbciInfo kind height hash) = result_text (info_result kind height hash)
+body_text (AbciQuery key value height) = result_text (query_result key value height)
+body_text (Block height batch) = result_text (block_result height batch)
+body_text (UnconfirmedTxs count bytes) = result_text (unconfirmed_result count bytes)
+body_text (BroadcastSync tx s) = sync_body tx s
+body_text (BroadcastCommit tx c) = commit_body tx c
+body_text (Metrics replicas) = metrics_text replicas
+body_text (Fault f) = error_text (kind_text (fault_kind f)) (fault_text f)
+body_text (Unanswered f) = error_text (kind_text (service_kind f)) (service_text f)
 
 -- the bytes of a reply: its head, which has the length of the body, and the body
-unfoldable pub reply_bytes : Answer → List ℕ
+unfoldable pub reply_bytes : AnswerView → List ℕ
 reply_bytes a = head_text a (length (body_text a)) ++ body_text a

@@ -1,12 +1,12 @@
 //! What is answered to a question.
 use crate::metrics::ReplicaMetrics;
 use http_requests::RequestFault;
-use ledger_model::{AppKind, Batch, SubmitRefusal};
+use ledger_model::{AppKind, Batch, Height, ReplicaId, SubmitRefusal};
 
 /// Where a transaction is kept: a replica, and the index of the submit's entry in its history.
 #[derive(Clone, Copy, Debug)]
 pub struct Receipt {
-    pub replica: u8,
+    pub replica: ReplicaId,
     pub index: u32,
 }
 
@@ -23,7 +23,7 @@ pub enum Commitment {
     /// The block at this height has the transaction, and the application returned this code for it.
     Committed {
         receipt: Receipt,
-        height: u32,
+        height: Height,
         code: u32,
     },
     Refused(SubmitRefusal),
@@ -36,10 +36,14 @@ pub enum ServiceFault {
     NoReplica,
     /// The replica has not committed the height that the request names.
     NotCommitted,
+    /// The application answers as of its last block, and the request names another height.
+    NotLastHeight,
     /// The replica's history has no entries left for clients.
     HistoryFull,
     /// No block had the transaction in time. It may still be in a later one.
     TimedOut,
+    /// The cluster was asked to stop.
+    Stopping,
 }
 
 /// What is answered. Byte strings are written in base64 or as a hash, so they may have any bytes.
@@ -51,25 +55,25 @@ pub enum Answer<'a> {
     Health,
     /// How far a replica is: its open round and its last committed height.
     Status {
-        replica: u8,
+        replica: ReplicaId,
         round: u32,
-        height: u32,
+        height: Height,
     },
     /// What an application says of itself: its kind, its last height, and the hash of its state then.
     AbciInfo {
         kind: AppKind,
-        height: u32,
+        height: Height,
         hash: &'a [u8],
     },
     /// What an application has under a key after the block at a height.
     AbciQuery {
         key: &'a [u8],
         value: Option<&'a [u8]>,
-        height: u32,
+        height: Height,
     },
     /// The block at a height.
     Block {
-        height: u32,
+        height: Height,
         batch: &'a Batch,
     },
     /// How many transactions wait for a block, and how many bytes they have together.
@@ -88,7 +92,7 @@ pub enum Answer<'a> {
         commitment: Commitment,
     },
     /// The metrics of replicas, in this order.
-    Metrics(&'a [ReplicaMetrics<'a>]),
+    Metrics(&'a [ReplicaMetrics]),
     /// The head asks nothing that is answered.
     Fault(RequestFault),
     /// The question has no answer.

@@ -65,8 +65,10 @@ fn fault_kind(fault: RequestFault) -> ErrorKind
         RequestFault::Parameter(_) => ErrorKind::InvalidParams,
         RequestFault::NotFound => ErrorKind::MethodNotFound,
         RequestFault::NoMemory => ErrorKind::Internal,
-        RequestFault::Malformed | RequestFault::Method | RequestFault::TooLong =>
-            ErrorKind::InvalidRequest,
+        RequestFault::Malformed
+        | RequestFault::Incomplete
+        | RequestFault::Method
+        | RequestFault::TooLong => ErrorKind::InvalidRequest,
     }
 }
 
@@ -83,9 +85,9 @@ pub(crate) fn service_status(fault: ServiceFault) -> u16
     ensures { result ≡ service_status fault }
 {
     match fault {
-        ServiceFault::NoReplica => 400,
+        ServiceFault::NoReplica | ServiceFault::NotLastHeight => 400,
         ServiceFault::NotCommitted | ServiceFault::TimedOut => 500,
-        ServiceFault::HistoryFull => 503,
+        ServiceFault::HistoryFull | ServiceFault::Stopping => 503,
     }
 }
 
@@ -93,7 +95,7 @@ fn service_kind(fault: ServiceFault) -> ErrorKind
     ensures { result ≡ service_kind fault }
 {
     match fault {
-        ServiceFault::NoReplica => ErrorKind::InvalidParams,
+        ServiceFault::NoReplica | ServiceFault::NotLastHeight => ErrorKind::InvalidParams,
         _ => ErrorKind::Internal,
     }
 }
@@ -104,8 +106,10 @@ fn service_text(fault: ServiceFault) -> &'static str
     match fault {
         ServiceFault::NoReplica => "the cluster has no such replica",
         ServiceFault::NotCommitted => "the replica has not committed this height",
+        ServiceFault::NotLastHeight => "the application answers as of its last block alone",
         ServiceFault::HistoryFull => "the replica's history has no entries left for clients",
         ServiceFault::TimedOut => "timed out waiting for tx to be included in a block",
+        ServiceFault::Stopping => "the cluster was asked to stop",
     }
 }
 

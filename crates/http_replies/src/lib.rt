@@ -12,5 +12,5 @@ mod results;
 mod texts;
 
 pub use answer::{Answer, Commitment, Receipt, ServiceFault, Submission};
-pub use metrics::{IgnoredCount, ReplicaMetrics};
-pub use replying::put_reply;
+pub use metrics::ReplicaMetrics;
+pub use replying::{out_of_memory_reply, put_reply};

@@ -1,6 +1,8 @@
 //! The whole reply: its head, and the body.
 ghost use Rattle.std.specs.Prelude.{◌≡◌, ◌++◌, IfOk, OnOk, OnErr};
 ghost use Rattle.std.specs.String.{string_bytes};
+ghost use Rattle.http_requests.specs.declared.fault.RequestFault.TheVariants as faults;
+ghost use Rattle.http_replies.specs.Answers.{answer_view, Fault};
 ghost use Rattle.http_replies.specs.Replies.{status_of, content_type, allow_text, fields_text, head_text, result_text, sync_body, commit_body, body_text, reply_bytes};
 
 use crate::answer::{Answer, Commitment, Submission};
@@ -17,7 +19,7 @@ use std::alloc::{AllocError, Global};
 /// The status of the reply.
 #[tactic(auto, unfolding(crate::specs::Replies::status_of))]
 fn status_of(answer: &Answer<'_>) -> u16
-    ensures { result ≡ status_of answer.now }
+    ensures { result ≡ status_of (answer_view answer.now) }
 {
     match answer {
         Answer::Fault(fault) => fault.status(),
@@ -37,7 +39,7 @@ fn status_of(answer: &Answer<'_>) -> u16
 /// The type of the body.
 #[tactic(auto, unfolding(crate::specs::Replies::content_type))]
 fn content_type(answer: &Answer<'_>) -> &'static str
-    ensures { result.now ≡ content_type answer.now }
+    ensures { result.now ≡ content_type (answer_view answer.now) }
 {
     match answer {
         Answer::Page => "text/html; charset=utf-8",
@@ -49,7 +51,7 @@ fn content_type(answer: &Answer<'_>) -> &'static str
 /// The field line that says which methods are answered, if the method was not.
 #[tactic(auto, unfolding(crate::specs::Replies::allow_text))]
 fn allow_text(answer: &Answer<'_>) -> &'static str
-    ensures { result.now ≡ allow_text answer.now }
+    ensures { result.now ≡ allow_text (answer_view answer.now) }
 {
     match answer {
         Answer::Fault(RequestFault::Method) => "Allow: GET\r\n",
@@ -77,7 +79,7 @@ fn fields(
 /// The head of the reply with a body of `len` bytes.
 #[tactic(auto, unfolding(crate::specs::Replies::head_text))]
 fn head(alloc: Global, answer: &Answer<'_>, len: usize) -> Result<String, AllocError>
-    ensures { IfOk result (λ head. string_bytes head ≡ head_text answer.now len) }
+    ensures { IfOk result (λ head. string_bytes head ≡ head_text (answer_view answer.now) len) }
 {
     fields(
         alloc,
@@ -138,7 +140,7 @@ fn page_body(alloc: Global, page: &str) -> Result<String, AllocError>
 /// The body of the reply.
 #[tactic(auto, unfolding(crate::specs::Replies::body_text))]
 fn body(alloc: Global, answer: &Answer<'_>) -> Result<String, AllocError>
-    ensures { IfOk result (λ body. string_bytes body ≡ body_text answer.now) }
+    ensures { IfOk result (λ body. string_bytes body ≡ body_text (answer_view answer.now)) }
 {
     match answer {
         Answer::Page => page_body(alloc, PAGE),
@@ -171,7 +173,7 @@ fn body(alloc: Global, answer: &Answer<'_>) -> Result<String, AllocError>
 /// Appends the reply: the status line, the fields, and the body, whose length the head has. If memory runs out, nothing is appended.
 #[tactic(auto, unfolding(crate::specs::Replies::reply_bytes))]
 pub fn put_reply(out: &mut Vec<u8>, answer: &Answer<'_>) -> Result<(), AllocError>
-    ensures ok { OnOk result (out.new.items ≡ out.old.items ++ reply_bytes answer.now) }
+    ensures ok { OnOk result (out.new.items ≡ out.old.items ++ reply_bytes (answer_view answer.now)) }
     ensures err { OnErr result (out.new.items ≡ out.old.items) }
 {
     let alloc = *out.allocator();
@@ -180,4 +182,20 @@ pub fn put_reply(out: &mut Vec<u8>, answer: &Answer<'_>) -> Result<(), AllocErro
     out.reserve(head.len() + body.len())?;
     out.extend_from_slice(head.as_bytes())?;
     out.extend_from_slice(body.as_bytes())
+}
+
+/// The reply to a request for which memory ran out, as a constant.
+const OUT_OF_MEMORY: &str = "\
+    HTTP/1.1 500 Internal Server Error\r\n\
+    Content-Type: application/json\r\n\
+    Content-Length: 99\r\n\
+    Connection: close\r\n\
+    \r\n\
+    {\"jsonrpc\":\"2.0\",\"id\":-1,\"error\":{\"code\":-32603,\"message\":\"Internal error\",\"data\":\"out of memory\"}}";
+
+/// The reply to a request for which memory ran out. It needs no memory.
+pub fn out_of_memory_reply() -> &'static [u8]
+    ensures { result.now ≡ reply_bytes (Fault faults.NoMemory) }
+{
+    OUT_OF_MEMORY.as_bytes()
 }

@@ -8,19 +8,21 @@ ghost use Rattle.http_replies.specs.Results.{status_result, info_result, log_tex
 
 use crate::answer::Receipt;
 use crate::texts::{base64, hash, value};
-use ledger_model::{AppKind, Batch, Tx};
+use ledger_model::{AppKind, Batch, Height, ReplicaId, Tx};
 use std::alloc::{AllocError, Global};
 
 /// How far a replica is.
 #[tactic(auto, unfolding(crate::specs::Results::status_result))]
 pub(crate) fn status(
     alloc: Global,
-    replica: u8,
+    replica: ReplicaId,
     round: u32,
-    height: u32,
+    height: Height,
 ) -> Result<String, AllocError>
     ensures { IfOk result (λ text. string_bytes text ≡ status_result replica round height) }
 {
+    let replica = replica.number();
+    let height = height.number();
     format!(in alloc;
         "{{\"node_info\":{{\"network\":\"abft\",\"moniker\":\"replica {replica}\"}},\
          \"sync_info\":{{\"latest_block_height\":\"{height}\",\"catching_up\":false}},\
@@ -44,12 +46,13 @@ fn kind_name(kind: AppKind) -> &'static str
 pub(crate) fn info(
     alloc: Global,
     kind: AppKind,
-    height: u32,
+    height: Height,
     hash: &[u8],
 ) -> Result<String, AllocError>
     ensures { IfOk result (λ text. string_bytes text ≡ info_result kind height hash.now) }
 {
     let kind = kind_name(kind);
+    let height = height.number();
     let hash = base64(alloc, hash)?;
     format!(in alloc;
         "{{\"response\":{{\"data\":\"{kind}\",\"last_block_height\":\"{height}\",\"last_block_app_hash\":\"{hash}\"}}}}"
@@ -72,11 +75,12 @@ pub(crate) fn query(
     alloc: Global,
     key: &[u8],
     found: Option<&[u8]>,
-    height: u32,
+    height: Height,
 ) -> Result<String, AllocError>
     ensures { IfOk result (λ text. string_bytes text ≡ query_result key.now (option_copied found.entry) height) }
 {
     let log = log(found);
+    let height = height.number();
     let key = base64(alloc, key)?;
     let value = value(alloc, found)?;
     format!(in alloc;
@@ -121,9 +125,10 @@ fn add_txs(out: &mut String, transactions: &[Tx]) -> Result<(), AllocError>
 
 /// The block at a height.
 #[tactic(auto, unfolding(crate::specs::Results::block_result))]
-pub(crate) fn block(alloc: Global, height: u32, batch: &Batch) -> Result<String, AllocError>
+pub(crate) fn block(alloc: Global, height: Height, batch: &Batch) -> Result<String, AllocError>
     ensures { IfOk result (λ text. string_bytes text ≡ block_result height batch.now) }
 {
+    let height = height.number();
     let mut txs = String::new(alloc);
     add_txs(&mut txs, batch.transactions())?;
     format!(in alloc;
@@ -148,6 +153,7 @@ fn receipt_text(alloc: Global, receipt: Receipt) -> Result<String, AllocError>
     ensures { IfOk result (λ text. string_bytes text ≡ receipt_text receipt.replica receipt.index) }
 {
     let Receipt { replica, index } = receipt;
+    let replica = replica.number();
     format!(in alloc; "{{\"replica\":{replica},\"index\":{index}}}")
 }
 
@@ -191,11 +197,12 @@ pub(crate) fn commit(
     alloc: Global,
     tx: &[u8],
     receipt: Receipt,
-    height: u32,
+    height: Height,
     code: u32,
 ) -> Result<String, AllocError>
     ensures { IfOk result (λ text. string_bytes text ≡ commit_result tx.now receipt.replica receipt.index height code) }
 {
+    let height = height.number();
     let check = tx_result(alloc, 0)?;
     let deliver = tx_result(alloc, code)?;
     let hash = hash(alloc, tx)?;

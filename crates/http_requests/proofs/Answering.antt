@@ -35,6 +35,9 @@ answered bytes h rest (Ok request) reads short few gives memory =
 answered bytes h rest (Err fault.Malformed) reads short few gives memory =
     let asked = asked_by-asked h.method h.target in
     absurd (subst IsAsked (asked_fault (asked_by h.method h.target) fault.Malformed asked (λ e. absurd cc) gives) asked)
+answered bytes h rest (Err fault.Incomplete) reads short few gives memory =
+    let asked = asked_by-asked h.method h.target in
+    absurd (subst IsAsked (asked_fault (asked_by h.method h.target) fault.Incomplete asked (λ e. absurd cc) gives) asked)
 answered bytes h rest (Err (fault.Parameter p)) reads short few gives memory =
     record {
       head = h;

@@ -20,6 +20,7 @@ use Rattle.http_requests.specs.Requests.{path_of, query_of, question_in, request
 abbrev pub IsAsked : {A : Type 0} → Result A RequestFault → Type 0
 IsAsked (Ok x) = Unit {0}
 IsAsked (Err fault.Malformed) = ⊥
+IsAsked (Err fault.Incomplete) = ⊥
 IsAsked (Err (fault.Parameter p)) = Unit {0}
 IsAsked (Err fault.NotFound) = Unit {0}
 IsAsked (Err fault.Method) = Unit {0}
@@ -29,6 +30,7 @@ IsAsked (Err fault.NoMemory) = ⊥
 -- a fault of a step is one of both
 same_fault : (A B : Type 0) (e : RequestFault) → IsAsked {A = A} (Err e) → IsAsked {A = B} (Err e)
 same_fault A B fault.Malformed h = absurd h
+same_fault A B fault.Incomplete h = absurd h
 same_fault A B (fault.Parameter p) h = tt
 same_fault A B fault.NotFound h = tt
 same_fault A B fault.Method h = tt

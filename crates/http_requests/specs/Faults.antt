@@ -15,6 +15,7 @@ parameter_name parameter.Replica = codes "replica"
 -- the sentence of a fault
 abbrev pub fault_text : RequestFault → List ℕ
 fault_text fault.Malformed = codes "this is no HTTP/1.x request"
+fault_text fault.Incomplete = codes "the request ends within its head"
 fault_text (fault.Parameter p) = codes "the parameter " ++ parameter_name p ++ codes " is missing or wrong"
 fault_text fault.NotFound = codes "no such path"
 fault_text fault.Method = codes "only GET is answered here"
@@ -24,6 +25,7 @@ fault_text fault.NoMemory = codes "out of memory"
 -- the status code of the reply (RFC 9110, section 15; RFC 6585, section 5)
 abbrev pub status_of : RequestFault → ℕ
 status_of fault.Malformed = 400
+status_of fault.Incomplete = 400
 status_of (fault.Parameter p) = 400
 status_of fault.NotFound = 404
 status_of fault.Method = 405

@@ -3,7 +3,7 @@ use Rattle.std.specs.Prelude.{◌&&◌, Bool, IsTrue, is_some, ◌≡◌, ◌⊎
 use Rattle.std.specs.Prelude.{if◌then◌else◌}
 use Rattle.std.specs.Str.{bytes_eq}
 use Rattle.form_urlencoded.specs.Form.{split_once}
-use Rattle.httparse.specs.Grammar.{RequestHead, ReadsRequest, HasNoRequest}
+use Rattle.httparse.specs.Grammar.{RequestHead, ReadsRequest, HasNoRequest, MayBecomeRequest, NeverHasRequest}
 use Rattle.httparse.specs.Spans.{RequestExceeds}
 use Rattle.http_requests.specs.declared.endpoint.Endpoint.{Endpoint}
 use Rattle.http_requests.specs.declared.endpoint.Endpoint.TheVariants as endpoint
@@ -93,7 +93,8 @@ IsTooLong bytes = (max_head_len < length bytes) ⊎ RequestExceeds max_fields by
 -- this is a right answer to a head
 abbrev pub Answers : List ℕ → Result Request RequestFault → Type 0
 Answers bytes (Ok request) = Asks bytes (Ok (request_view request))
-Answers bytes (Err fault.Malformed) = (length bytes ≤ max_head_len) × HasNoRequest bytes
+Answers bytes (Err fault.Malformed) = (length bytes ≤ max_head_len) × NeverHasRequest bytes
+Answers bytes (Err fault.Incomplete) = (length bytes ≤ max_head_len) × (HasNoRequest bytes × MayBecomeRequest bytes)
 Answers bytes (Err (fault.Parameter p)) = Asks bytes (Err (fault.Parameter p))
 Answers bytes (Err fault.NotFound) = Asks bytes (Err fault.NotFound)
 Answers bytes (Err fault.Method) = Asks bytes (Err fault.Method)

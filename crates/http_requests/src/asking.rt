@@ -7,7 +7,7 @@ ghost use Rattle.http_requests.specs.Parameters.{is_any_given};
 
 use crate::endpoint::{Endpoint, endpoint_of};
 use crate::fault::{Parameter, RequestFault};
-use crate::parameters::{optional_number, replica_in, required_bytes};
+use crate::parameters::{height_in, replica_in, required_bytes};
 use crate::request::{Question, Request};
 use std::alloc::Global;
 
@@ -35,11 +35,11 @@ fn question_in(alloc: Global, endpoint: Endpoint, query: &[u8]) -> Result<Questi
         Endpoint::AbciInfo => Ok(Question::AbciInfo),
         Endpoint::AbciQuery => {
             let key = required_bytes(alloc, Parameter::Data, query)?;
-            let height = optional_number(alloc, Parameter::Height, query)?;
+            let height = height_in(alloc, query)?;
             Ok(Question::AbciQuery { key, height })
         }
         Endpoint::Block => {
-            let height = optional_number(alloc, Parameter::Height, query)?;
+            let height = height_in(alloc, query)?;
             Ok(Question::Block { height })
         }
         Endpoint::UnconfirmedTxs => Ok(Question::UnconfirmedTxs),

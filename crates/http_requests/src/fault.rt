@@ -42,8 +42,10 @@ impl fmt::Display for Parameter {
 /// Why `parse` refuses a head. `Display` shows a sentence.
 #[derive(Clone, Copy, Debug, PartialEq, Eq)]
 pub enum RequestFault {
-    /// The bytes are no head of an HTTP/1.0 or HTTP/1.1 request.
+    /// No head of an HTTP/1.0 or HTTP/1.1 request starts with the bytes.
     Malformed,
+    /// The bytes end within a head: with more of them there may be one.
+    Incomplete,
     /// A value is not of the parameter's form, or a parameter is missing that the path needs.
     Parameter(Parameter),
     /// The path is none of those that are answered.
@@ -62,6 +64,7 @@ impl fmt::Display for RequestFault {
     fn fmt<W: fmt::Write>(&self, f: &mut fmt::Formatter<W>) -> fmt::Result {
         match self {
             RequestFault::Malformed => write!(f, "this is no HTTP/1.x request"),
+            RequestFault::Incomplete => write!(f, "the request ends within its head"),
             RequestFault::Parameter(parameter) => write!(
                 f,
                 "the parameter {parameter} is missing or wrong"
@@ -82,7 +85,7 @@ impl RequestFault {
         ensures { result ≡ status_of self }
     {
         match self {
-            RequestFault::Malformed | RequestFault::Parameter(_) => 400,
+            RequestFault::Malformed | RequestFault::Incomplete | RequestFault::Parameter(_) => 400,
             RequestFault::NotFound => 404,
             RequestFault::Method => 405,
             RequestFault::TooLong => 431,

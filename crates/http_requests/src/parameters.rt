@@ -7,6 +7,7 @@ ghost use Rattle.http_requests.specs.declared.fault.Parameter.TheVariants as par
 use crate::fault::{Parameter, RequestFault};
 use crate::values::{byte_string, decoded, written_number};
 use form_urlencoded::raw_pairs;
+use ledger_model::{Height, ReplicaId};
 use std::alloc::Global;
 
 /// The value of the first pair of this name, still encoded.
@@ -43,7 +44,7 @@ pub(crate) fn required_bytes(
 
 /// The number below 2^32 that a parameter has, if it is there.
 #[tactic(auto, unfolding(crate::specs::Parameters::optional_number))]
-pub(crate) fn optional_number(
+fn optional_number(
     alloc: Global,
     parameter: Parameter,
     query: &[u8],
@@ -61,15 +62,26 @@ pub(crate) fn optional_number(
     }
 }
 
+/// The height that the query names, if it names one.
+pub(crate) fn height_in(alloc: Global, query: &[u8]) -> Result<Option<Height>, RequestFault>
+    ensures gives { Gives (λ height. height) result (optional_number parameters.Height query.now) }
+    ensures memory { IsErrOf result RequestFault.NoMemory → IsTrue (is_given parameters.Height query.now) }
+{
+    match optional_number(alloc, Parameter::Height, query)? {
+        Some(number) => Ok(Some(Height::new(number))),
+        None => Ok(None),
+    }
+}
+
 /// The replica that the query names, if it names one.
 #[tactic(auto, using(crate::proofs::Steps::first_fault), unfolding(crate::specs::Parameters::replica_in))]
-pub(crate) fn replica_in(alloc: Global, query: &[u8]) -> Result<Option<u8>, RequestFault>
+pub(crate) fn replica_in(alloc: Global, query: &[u8]) -> Result<Option<ReplicaId>, RequestFault>
     ensures gives { Gives (λ replica. replica) result (replica_in query.now) }
     ensures memory { IsErrOf result RequestFault.NoMemory → IsTrue (is_given parameters.Replica query.now) }
 {
     match optional_number(alloc, Parameter::Replica, query)? {
         Some(number) => match u8::try_from(number) {
-            Ok(replica) => Ok(Some(replica)),
+            Ok(replica) => Ok(Some(ReplicaId::new(replica))),
             Err(_) => Err(RequestFault::Parameter(Parameter::Replica)),
         },
         None => Ok(None),

@@ -20,9 +20,10 @@ pub const MAX_HEAD_LEN: usize = 8192;
 pub const MAX_FIELDS: usize = 64;
 
 /// What the head of a request asks: its bytes up to the blank line, which is part of it. Bytes after the blank line are not read. The
-/// values of fields are not read either.
+/// values of fields are not read either. `Incomplete` tells a reader of a stream to read on; `Malformed`, that no more bytes help.
 pub fn parse(alloc: Global, head: &[u8]) -> Result<Request, RequestFault>
-    // `TooLong` only if there are too many bytes or field lines, `Malformed` only if the bytes start with no head.
+    // `TooLong` only if there are too many bytes or field lines, `Malformed` only if no head starts with the bytes, `Incomplete` only if
+    // more bytes may make them one.
     ensures answers { Answers head.now result }
 
     // Too many bytes are refused before anything else.
@@ -38,7 +39,7 @@ pub fn parse(alloc: Global, head: &[u8]) -> Result<Request, RequestFault>
     let mut fields = [EMPTY_HEADER_SPAN; MAX_FIELDS];
     match parse_request(head, &mut fields) {
         Ok(Status::Complete(line)) => asked_by(alloc, line.method.of(head), line.path.of(head)),
-        Ok(Status::Partial) => Err(RequestFault::Malformed),
+        Ok(Status::Partial) => Err(RequestFault::Incomplete),
         Err(Error::TooManyHeaders) => Err(RequestFault::TooLong),
         Err(_) => Err(RequestFault::Malformed),
     }

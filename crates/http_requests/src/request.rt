@@ -1,4 +1,5 @@
 //! What a request asks, and of which replica.
+use ledger_model::{Height, ReplicaId};
 
 /// A question. A height or a number of a replica is as it was written: whether it exists, the replica answers.
 #[derive(Debug, Drop)]
@@ -12,15 +13,24 @@ pub enum Question {
     /// `/abci_info`: what the application says of itself.
     AbciInfo,
     /// `/abci_query`: what the application has under a key, at this height or as the replica chooses.
-    AbciQuery { key: Vec<u8>, height: Option<u32> },
+    AbciQuery {
+        key: Vec<u8>,
+        height: Option<Height>,
+    },
     /// `/block`: the block at this height, or the last one.
-    Block { height: Option<u32> },
+    Block {
+        height: Option<Height>,
+    },
     /// `/num_unconfirmed_txs`: how many transactions wait for a block.
     UnconfirmedTxs,
     /// `/broadcast_tx_sync`: a transaction for the pool.
-    BroadcastSync { tx: Vec<u8> },
+    BroadcastSync {
+        tx: Vec<u8>,
+    },
     /// `/broadcast_tx_commit`: a transaction for the pool, to be answered when a block has it.
-    BroadcastCommit { tx: Vec<u8> },
+    BroadcastCommit {
+        tx: Vec<u8>,
+    },
     /// `/metrics`: numbers for Prometheus.
     Metrics,
 }
@@ -29,5 +39,5 @@ pub enum Question {
 #[derive(Debug, Drop)]
 pub struct Request {
     pub question: Question,
-    pub replica: Option<u8>,
+    pub replica: Option<ReplicaId>,
 }

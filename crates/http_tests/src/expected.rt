@@ -149,6 +149,15 @@ pub(crate) const METHOD: &str = "\
     {\"jsonrpc\":\"2.0\",\"id\":-1,\"error\":{\"code\":-32600,\"message\":\"Invalid Request\",\
     \"data\":\"only GET is answered here\"}}";
 
+pub(crate) const INCOMPLETE: &str = "\
+    HTTP/1.1 400 Bad Request\r\n\
+    Content-Type: application/json\r\n\
+    Content-Length: 119\r\n\
+    Connection: close\r\n\
+    \r\n\
+    {\"jsonrpc\":\"2.0\",\"id\":-1,\"error\":{\"code\":-32600,\"message\":\"Invalid Request\",\
+    \"data\":\"the request ends within its head\"}}";
+
 pub(crate) const TOO_LONG: &str = "\
     HTTP/1.1 431 Request Header Fields Too Large\r\n\
     Content-Type: application/json\r\n\
@@ -183,6 +192,24 @@ pub(crate) const NOT_COMMITTED: &str = "\
     \r\n\
     {\"jsonrpc\":\"2.0\",\"id\":-1,\"error\":{\"code\":-32603,\"message\":\"Internal error\",\
     \"data\":\"the replica has not committed this height\"}}";
+
+pub(crate) const NOT_LAST_HEIGHT: &str = "\
+    HTTP/1.1 400 Bad Request\r\n\
+    Content-Type: application/json\r\n\
+    Content-Length: 136\r\n\
+    Connection: close\r\n\
+    \r\n\
+    {\"jsonrpc\":\"2.0\",\"id\":-1,\"error\":{\"code\":-32602,\"message\":\"Invalid params\",\
+    \"data\":\"the application answers as of its last block alone\"}}";
+
+pub(crate) const STOPPING: &str = "\
+    HTTP/1.1 503 Service Unavailable\r\n\
+    Content-Type: application/json\r\n\
+    Content-Length: 115\r\n\
+    Connection: close\r\n\
+    \r\n\
+    {\"jsonrpc\":\"2.0\",\"id\":-1,\"error\":{\"code\":-32603,\"message\":\"Internal error\",\
+    \"data\":\"the cluster was asked to stop\"}}";
 
 pub(crate) const HISTORY_FULL: &str = "\
     HTTP/1.1 503 Service Unavailable\r\n\
@@ -240,47 +267,27 @@ pub(crate) const FULL: &str = "\
 pub(crate) const METRICS: &str = "\
     HTTP/1.1 200 OK\r\n\
     Content-Type: text/plain; version=0.0.4; charset=utf-8\r\n\
-    Content-Length: 1639\r\n\
+    Content-Length: 823\r\n\
     Connection: close\r\n\
     \r\n\
-    # HELP abft_round The open round.\n\
-    # TYPE abft_round gauge\n\
-    abft_round{replica=\"0\"} 17\n\
-    abft_round{replica=\"3\"} 4000000000\n\
-    # HELP abft_height The last committed height.\n\
+    # HELP abft_rounds Rounds that the replica ended.\n\
+    # TYPE abft_rounds gauge\n\
+    abft_rounds{replica=\"0\"} 17\n\
+    abft_rounds{replica=\"3\"} 4000000000\n\
+    # HELP abft_height The last height that the replica committed.\n\
     # TYPE abft_height gauge\n\
     abft_height{replica=\"0\"} 4\n\
     abft_height{replica=\"3\"} 0\n\
-    # HELP abft_committed_blocks Blocks that the replica ran.\n\
-    # TYPE abft_committed_blocks gauge\n\
-    abft_committed_blocks{replica=\"0\"} 3\n\
-    abft_committed_blocks{replica=\"3\"} 0\n\
-    # HELP abft_frames_taken_total Frames handed to the replica.\n\
-    # TYPE abft_frames_taken_total counter\n\
-    abft_frames_taken_total{replica=\"0\"} 120\n\
-    abft_frames_taken_total{replica=\"3\"} 0\n\
-    # HELP abft_frames_ignored_total Frames that the replica ignored, by cause.\n\
-    # TYPE abft_frames_ignored_total counter\n\
-    abft_frames_ignored_total{replica=\"0\",cause=\"7 Repeated\"} 9\n\
-    abft_frames_ignored_total{replica=\"0\",cause=\"11 NotMine\"} 0\n\
-    # HELP abft_frames_lost_total Frames that found the inbox full.\n\
-    # TYPE abft_frames_lost_total counter\n\
-    abft_frames_lost_total{replica=\"0\"} 2\n\
-    abft_frames_lost_total{replica=\"3\"} 18446744073709551615\n\
-    # HELP abft_leaves_left One-time keys that are unused.\n\
-    # TYPE abft_leaves_left gauge\n\
-    abft_leaves_left{replica=\"0\"} 1001\n\
-    abft_leaves_left{replica=\"3\"} 0\n\
+    # HELP abft_signatures_left One-time signatures that its key pair has left.\n\
+    # TYPE abft_signatures_left gauge\n\
+    abft_signatures_left{replica=\"0\"} 1001\n\
+    abft_signatures_left{replica=\"3\"} 0\n\
     # HELP abft_pool_transactions Transactions that wait for a block.\n\
     # TYPE abft_pool_transactions gauge\n\
     abft_pool_transactions{replica=\"0\"} 5\n\
-    abft_pool_transactions{replica=\"3\"} 0\n\
+    abft_pool_transactions{replica=\"3\"} 18446744073709551615\n\
     # HELP abft_history_entries Entries of the history.\n\
     # TYPE abft_history_entries gauge\n\
     abft_history_entries{replica=\"0\"} 333\n\
     abft_history_entries{replica=\"3\"} 0\n\
-    # HELP abft_sessions Client sessions.\n\
-    # TYPE abft_sessions gauge\n\
-    abft_sessions{replica=\"0\"} 6\n\
-    abft_sessions{replica=\"3\"} 0\n\
     ";

@@ -2,10 +2,11 @@
 
 use crate::expected::*;
 use http_replies::{
-    Answer, Commitment, IgnoredCount, Receipt, ReplicaMetrics, ServiceFault, Submission, put_reply,
+    Answer, Commitment, Receipt, ReplicaMetrics, ServiceFault, Submission, out_of_memory_reply,
+    put_reply,
 };
 use http_requests::{Parameter, RequestFault};
-use ledger_model::{AppKind, Ignored, SubmitRefusal};
+use ledger_model::{AppKind, Height, ReplicaId, SubmitRefusal};
 use std::alloc::Global;
 use test_support::batch;
 
@@ -25,23 +26,31 @@ fn is_reply(alloc: Global, answer: &Answer<'_>, text: &str) -> bool {
 
 // Whether the reply with a block of these transactions is this text.
 fn is_block(alloc: Global, height: u32, transactions: &[&[u8]], text: &str) -> bool {
-    match batch(alloc, transactions) {
-        Ok(batch) => is_reply(
-            alloc,
-            &Answer::Block {
-                height,
-                batch: &batch,
-            },
-            text,
-        ),
-        Err(_) => false,
+    let Ok(batch) = batch(alloc, transactions) else {
+        return false;
+    };
+    let height = Height::new(height);
+    for (answer, text) in &[(
+        Answer::Block {
+            height,
+            batch: &batch,
+        },
+        text,
+    )] {
+        if !is_reply(alloc, answer, text) {
+            return false;
+        }
     }
+    true
 }
 
-const RECEIPT: Receipt = Receipt {
-    replica: 3,
-    index: 44,
-};
+// Replica 3's receipt for entry 44.
+fn receipt() -> Receipt {
+    Receipt {
+        replica: ReplicaId::new(3),
+        index: 44,
+    }
+}
 
 #[test]
 fn each_question_is_answered(rt: HostRuntime) {
@@ -50,16 +59,16 @@ fn each_question_is_answered(rt: HostRuntime) {
         (Answer::Health, HEALTH),
         (
             Answer::Status {
-                replica: 2,
+                replica: ReplicaId::new(2),
                 round: 345,
-                height: 12,
+                height: Height::new(12),
             },
             STATUS,
         ),
         (
             Answer::AbciInfo {
                 kind: AppKind::KvStore,
-                height: 12,
+                height: Height::new(12),
                 hash: &hash,
             },
             INFO,
@@ -68,7 +77,7 @@ fn each_question_is_answered(rt: HostRuntime) {
             Answer::AbciQuery {
                 key: b"abcd",
                 value: Some(b"abcd"),
-                height: 12,
+                height: Height::new(12),
             },
             FOUND,
         ),
@@ -76,7 +85,7 @@ fn each_question_is_answered(rt: HostRuntime) {
             Answer::AbciQuery {
                 key: b"\"\xff",
                 value: None,
-                height: 0,
+                height: Height::new(0),
             },
             MISSING,
         ),
@@ -120,7 +129,7 @@ fn commit(commitment: Commitment) -> Answer<'static> {
 #[test]
 fn each_transaction_is_answered(rt: HostRuntime) {
     for (answer, text) in &[
-        (sync(Submission::Pooled(RECEIPT)), SYNC),
+        (sync(Submission::Pooled(receipt())), SYNC),
         (
             sync(Submission::Refused(SubmitRefusal::Rejected(7))),
             REJECTED,
@@ -133,10 +142,10 @@ fn each_transaction_is_answered(rt: HostRuntime) {
         (
             commit(Commitment::Committed {
                 receipt: Receipt {
-                    replica: 0,
+                    replica: ReplicaId::new(0),
                     index: 39,
                 },
-                height: 5,
+                height: Height::new(5),
                 code: 1,
             }),
             COMMIT,
@@ -160,6 +169,7 @@ fn each_fault_is_answered(rt: HostRuntime) {
             Answer::Fault(RequestFault::Parameter(Parameter::Data)),
             WRONG,
         ),
+        (Answer::Fault(RequestFault::Incomplete), INCOMPLETE),
         (Answer::Fault(RequestFault::NotFound), NOT_FOUND),
         (Answer::Fault(RequestFault::Method), METHOD),
         (Answer::Fault(RequestFault::TooLong), TOO_LONG),
@@ -169,66 +179,60 @@ fn each_fault_is_answered(rt: HostRuntime) {
             Answer::Unanswered(ServiceFault::NotCommitted),
             NOT_COMMITTED,
         ),
+        (
+            Answer::Unanswered(ServiceFault::NotLastHeight),
+            NOT_LAST_HEIGHT,
+        ),
         (Answer::Unanswered(ServiceFault::HistoryFull), HISTORY_FULL),
         (Answer::Unanswered(ServiceFault::TimedOut), TIMED_OUT),
+        (Answer::Unanswered(ServiceFault::Stopping), STOPPING),
     ] {
         assert!(rt; is_reply(rt.alloc(), answer, text), "{text}");
     }
 }
 
 #[test]
-fn metrics_are_one_text_for_all_replicas(rt: HostRuntime) {
-    let ignored = [
-        IgnoredCount {
-            cause: Ignored::Repeated,
-            count: 9,
-        },
-        IgnoredCount {
-            cause: Ignored::NotMine,
-            count: 0,
-        },
-    ];
-    let replicas = [
-        ReplicaMetrics {
-            replica: 0,
-            round: 17,
-            height: 4,
-            committed_blocks: 3,
-            frames_taken: 120,
-            frames_ignored: &ignored,
-            frames_lost: 2,
-            leaves_left: 1001,
-            pool_transactions: 5,
-            history_entries: 333,
-            sessions: 6,
-        },
-        ReplicaMetrics {
-            replica: 3,
-            round: 4_000_000_000,
-            height: 0,
-            committed_blocks: 0,
-            frames_taken: 0,
-            frames_ignored: &[],
-            frames_lost: u64::MAX,
-            leaves_left: 0,
-            pool_transactions: 0,
-            history_entries: 0,
-            sessions: 0,
-        },
-    ];
-    assert!(rt; is_reply(rt.alloc(), &Answer::Metrics(&replicas), METRICS));
+fn the_reply_that_needs_no_memory_is_that_of_no_memory(rt: HostRuntime) {
+    assert!(rt; out_of_memory_reply() == NO_MEMORY.as_bytes());
 }
 
-// Whether the reply to `/` starts with the head of a page.
-fn is_page(alloc: Global) -> bool {
+#[test]
+fn metrics_are_one_text_for_all_replicas(rt: HostRuntime) {
+    let replicas = [
+        ReplicaMetrics {
+            replica: ReplicaId::new(0),
+            rounds: 17,
+            height: Height::new(4),
+            signatures_left: 1001,
+            pool_transactions: 5,
+            history_entries: 333,
+        },
+        ReplicaMetrics {
+            replica: ReplicaId::new(3),
+            rounds: 4_000_000_000,
+            height: Height::new(0),
+            signatures_left: 0,
+            pool_transactions: u64::MAX,
+            history_entries: 0,
+        },
+    ];
+    for (answer, text) in &[(Answer::Metrics(&replicas), METRICS)] {
+        assert!(rt; is_reply(rt.alloc(), answer, text));
+    }
+}
+
+// Whether the reply to the answer starts with these bytes.
+fn starts_with(alloc: Global, answer: &Answer<'_>, start: &str) -> bool {
     let mut out = Vec::new(alloc);
-    put_reply(&mut out, &Answer::Page).is_ok()
-        && out.starts_with(
-            b"HTTP/1.1 200 OK\r\nContent-Type: text/html; charset=utf-8\r\nContent-Length: ",
-        )
+    put_reply(&mut out, answer).is_ok() && out.starts_with(start.as_bytes())
 }
 
 #[test]
 fn the_page_is_html(rt: HostRuntime) {
-    assert!(rt; is_page(rt.alloc()));
+    for (answer, start) in &[(
+        Answer::Page,
+        "HTTP/1.1 200 OK\r\nContent-Type: text/html; charset=utf-8\r\nContent-Length: ",
+    )] {
+        assert!(rt; starts_with(rt.alloc(), answer, start));
+    }
 }

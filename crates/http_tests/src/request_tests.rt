@@ -1,13 +1,14 @@
 //! What the head of a request asks, and each fault.
 
 use http_requests::{Question, Request, RequestFault, parse};
+use ledger_model::Height;
 use plain_text::Escaped;
 use std::alloc::{AllocError, Global};
 
 // A height of a question: its number, or `-`.
-fn height_text(alloc: Global, height: Option<u32>) -> Result<String, AllocError> {
+fn height_text(alloc: Global, height: Option<Height>) -> Result<String, AllocError> {
     match height {
-        Some(height) => format!(in alloc; "{height}"),
+        Some(height) => format!(in alloc; "{}", height.number()),
         None => format!(in alloc; "-"),
     }
 }
@@ -18,13 +19,13 @@ fn bytes_text(alloc: Global, word: &str, bytes: &[u8]) -> Result<String, AllocEr
     format!(in alloc; "{word} {bytes}")
 }
 
-fn query_text(alloc: Global, key: &[u8], height: Option<u32>) -> Result<String, AllocError> {
+fn query_text(alloc: Global, key: &[u8], height: Option<Height>) -> Result<String, AllocError> {
     let words = bytes_text(alloc, "query", key)?;
     let height = height_text(alloc, height)?;
     format!(in alloc; "{words} at {height}")
 }
 
-fn block_text(alloc: Global, height: Option<u32>) -> Result<String, AllocError> {
+fn block_text(alloc: Global, height: Option<Height>) -> Result<String, AllocError> {
     let height = height_text(alloc, height)?;
     format!(in alloc; "block {height}")
 }
@@ -47,7 +48,7 @@ fn question_text(alloc: Global, question: &Question) -> Result<String, AllocErro
 fn request_text(alloc: Global, request: &Request) -> Result<String, AllocError> {
     let question = question_text(alloc, &request.question)?;
     match request.replica {
-        Some(replica) => format!(in alloc; "{question} of {replica}"),
+        Some(replica) => format!(in alloc; "{question} of {}", replica.number()),
         None => Ok(question),
     }
 }
@@ -220,11 +221,12 @@ fn each_fault_of_a_head_is_found(rt: HostRuntime) {
             "405 only GET is answered here",
         ),
         ("POST /other HTTP/1.1\r\n\r\n", "404 no such path"),
-        ("", "400 this is no HTTP/1.x request"),
+        ("", "400 the request ends within its head"),
         (
             "GET /status HTTP/1.1\r\n",
-            "400 this is no HTTP/1.x request",
+            "400 the request ends within its head",
         ),
+        ("GET /sta", "400 the request ends within its head"),
         ("GET /status\r\n\r\n", "400 this is no HTTP/1.x request"),
         (
             "GET /status HTTP/2.0\r\n\r\n",

@@ -9,7 +9,7 @@ use Rattle.ledger_model.specs.Logs.{height_of}
 use Rattle.ledger_model.specs.Rules.{Ring, answer_to, first_of}
 use Rattle.ledger_model.specs.Lawful.{held_locks, are_signed_reports}
 use Rattle.ledger_model.specs.declared.statement.Statement.{Statement}
-use Rattle.ledger_model.specs.Spelling.{IsFrame, frame_bytes}
+use Rattle.ledger_model.specs.Spelling.{IsFrameIn, frame_bytes}
 use Rattle.instance.specs.declared.round_statement.RoundStatement.{RoundStatement}
 use Rattle.instance.specs.Instances.{InstanceView}
 use Rattle.instance.specs.Matching.{MatchesLog}
@@ -30,7 +30,8 @@ module _ (ring : Ring) (row : InstanceView) (log : List Note) (c : ℕ) (matches
   answers_at s member = subst (λ n. first_of (row_causes row ring n s) ≡ answer_to row.config ring log s) clock
       (answers ring row log s matches member)
 
-  reads_at : (s : SignedStatement) → signer_of s.statement < row.config.replicas → height_of s.statement ≡ row.height → IsFrame s
+  reads_at : (s : SignedStatement) → signer_of s.statement < row.config.replicas → height_of s.statement ≡ row.height
+      → IsFrameIn row.config.frames s
       → first_of (row_causes row ring c s) ≡ Ok tt
       → MatchesLog ring (after_read row c s) (log ++ Read c s ∷ [])
   reads_at s member height frame ok =
@@ -80,7 +81,8 @@ pub record Outcome {E : Type 0} (ring : Ring) (old new : InstanceView) (c : ℕ)
 
 -- what a call that answers by the row's causes, and keeps what they say, comes to
 pub outcome : {E : Type 0} (ring : Ring) (old new : InstanceView) (c : ℕ) (s : SignedStatement) (x : Result (Result (Unit {0}) Ignored) E)
-    → signer_of s.statement < old.config.replicas → height_of s.statement ≡ old.height → IsFrame s
+    → signer_of s.statement < old.config.replicas → height_of s.statement ≡ old.height
+    → IsFrameIn old.config.frames s
     → IfOk x (λ r. r ≡ first_of (row_causes old ring c s)) → IfOk x (λ r. new ≡ if_accepted r (after_read old c s) old)
     → OnErr x (new ≡ old) → Outcome ring old new c s x
 outcome ring old new c s (Ok (Ok u)) member height frame is after kept = record {

@@ -43,6 +43,7 @@ use Rattle.ledger_model.specs.declared.statement.SignedStatement.{SignedStatemen
 use Rattle.ledger_model.specs.declared.statement.Statement.TheVariants as statement
 use Rattle.ledger_model.specs.Logs.{made_notes}
 use Rattle.ledger_model.specs.Spelling.{IsFrame}
+use Rattle.ledger_model.proofs.FrameReading.{own_frame}
 use Rattle.lock_proofs.proofs.HeldLocks.{full_alike}
 use Rattle.instance.specs.declared.round_statement.RoundStatement.{RoundStatement}
 use Rattle.instance.specs.declared.round_statement.RoundStatement.TheVariants as made
@@ -55,8 +56,8 @@ use Rattle.instance.proofs.OneStatement.{own_report_read, own_ack_read, own_lock
 -- ---- what a phase decides
 
 -- the acknowledgements of a lock of phase k on v decide it
-abbrev decides : Config → List Ack → ℕ → ℕ → ℕ → Value → Bool
-decides config acks height k id v = is_decided_by config acks (record { height = height; phase = k; signer = id; value = v; proof = [] })
+abbrev decides : Config → List Ack → ℕ → Value → Bool
+decides config acks k v = is_decided_by config acks k v
 
 module _ (config : Config) (log : List Note) (height k id : ℕ) where
   -- only the value of the lock that was made is acknowledged
@@ -67,13 +68,13 @@ module _ (config : Config) (log : List Note) (height k id : ℕ) where
   found : (acks : List Ack) → AreAcksIn config log k acks → (made : Option Value)
       → ((test : Value → Bool) → was_made log (round_at lock_place k) (is_lock (λ l. test l.value)) ≡ option_map_or test made false)
       → find (is_acked config log k) (filter_map value_made log)
-      ≡ option_map_or (λ w. cond (decides config acks height k id w) (Some w) None) made None
+      ≡ option_map_or (λ w. cond (decides config acks k w) (Some w) None) made None
   found acks are None made = find_none (is_acked config log k) (filter_map value_made log)
       (λ v has acked. both_ways _ (made (same_value v)) (and_parts _ _ acked).0)
   found acks are (Some w) made =
-      let same : decides config acks height k id w ≡ is_acked config log k w =
-      decided_is_acked config log k acks are _ refl (made (same_value w) ∙ same_value-refl w) in
-      elim (cases_Bool (decides config acks height k id w)) [
+      let same : decides config acks k w ≡ is_acked config log k w =
+      decided_is_acked config log k acks are w (made (same_value w) ∙ same_value-refl w) in
+      elim (cases_Bool (decides config acks k w)) [
         | inl enough ↦
             let acked : is_acked config log k w ≡ true = sym same ∙ enough in
             rw enough (find_only (is_acked config log k) (filter_map value_made log) w (acked_known config log k w acked) acked
@@ -154,7 +155,7 @@ module _ (ring : Ring) (row : InstanceView) (log : List Note) (old : MatchesLog 
       assembled ring row log old (Round c) (next_round log c) row.proper row.table (replicate row.config.replicas None)
       (replicate row.config.replicas None) None None (or_else row.decided None)
       c clock_now (omega arith) (forgets_soundly old.sound) refl (proper (λ e. omega arith)) held (still (λ e. omega arith))
-      (no_reports opened k none ring row.config.replicas row.height)
+      (no_reports opened k none row.config.frames ring row.config.replicas row.height)
       (no_lock opened k none (λ test. made_same log (Round c) (round_at lock_place k) test refl
       ∙ unmade log (round_at lock_place k) test old.made_by_now (omega arith)))
       (no_acks opened k none row.config.replicas)
@@ -227,7 +228,9 @@ module _ (ring : Ring) (row : InstanceView) (log : List Note) (old : MatchesLog 
   own_reported place signature signed frame =
       joined _ (own_report_read ring _ _ (opens_reports place) c clock_now (record { report = own_report row k; signature = signature })
       (record { some = omega arith; place = rw place refl; phase = eq-eqb k k refl }) refl refl (none_there row.config.replicas row.id)
-      signed (record { report = frame.statement; signature = frame.signature }))
+      signed
+      (let within = own_frame row.config.frames _ frame refl in
+      record { read = within.read; report = frame.statement; signature = frame.signature }))
 
   own_locked : (place : place_of c ≡ lock_place) (l : Lock) (signature : List ℕ) → l.phase ≡ k
       → IsHeldLock ring row.config row.height (record { lock = l; signature = signature })
@@ -276,7 +279,7 @@ module _ (ring : Ring) (row : InstanceView) (log : List Note) (old : MatchesLog 
       (λ signs spelled. own_locked place own.0 f.signature own.2.of_phase
       (record {
         of_height = own.2.of_height;
-        frame = spelled;
+        frame = own_frame row.config.frames _ spelled own.2.of_version;
         signed = signs;
         proved =
             and_from _ _ (and_from _ _ own.2.quorate signed_proof) own.2.supporting;

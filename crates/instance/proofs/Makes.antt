@@ -2,6 +2,7 @@
 use Rattle.std.proofs.Common.{◌≡◌, ℕ, ◌+◌, false, inl, inr, List, ◌∷◌, refl, sym, ap, ◌∙◌, arith, ◌&&◌, [], ◌++◌, subst}
 use Rattle.std.specs.Prelude.{nat_eq, Option, Some, None, map}
 use Rattle.std.proofs.lemmas.Bool.{cases_Bool, and_parts}
+use Rattle.ledger_model.specs.declared.version.Version.TheVariants.{Two}
 use Rattle.ledger_model.specs.Values.{Value}
 use Rattle.ledger_model.specs.Rounds.{phase_of, place_of, owner_of, ack_place, report_place}
 use Rattle.ledger_model.specs.Notes.{Note, clock_of, open_of, Has}
@@ -27,7 +28,7 @@ use Rattle.ledger_model.specs.declared.statement.Statement.TheVariants as statem
 use Rattle.ledger_model.specs.Spelling.{frame_bytes}
 use Rattle.lock_proofs.specs.LockTables.{SignedLock, as_statement}
 use Rattle.ledger_model.specs.Validity.{is_quorate, is_supporting}
-use Rattle.ledger_model.proofs.FrameReading.{reading-again}
+use Rattle.ledger_model.proofs.FrameReading.{reading-again, any_frame}
 use Rattle.ledger_model.proofs.Lists.{all_from, has_map, each_from}
 use Rattle.tally.specs.Readings.{reports_of}
 use Rattle.phase_core.specs.Choices.{is_found_by, chosen}
@@ -104,6 +105,7 @@ module _ (ring : Ring) (row : InstanceView) (log : List Note) (m : MatchesLog ri
       let proper = m.proper ∙ ap (λ j. proper_at row.config row.id log j row.proper.own) phase in
       let held = values_are_held log row.table m.locks in
       λ i. record {
+        version = row.config.frames;
         height = row.height;
         phase = k;
         signer = row.id;
@@ -123,6 +125,7 @@ module _ (ring : Ring) (row : InstanceView) (log : List Note) (m : MatchesLog ri
     own_alike : (l : Lock) → Alike (IsOwnLockOf row k l) (IsOwnLock row.config row.id row.height log k l)
     own_alike l = (
       λ h. record {
+        of_version = h.of_version;
         of_height = h.of_height;
         of_phase = h.of_phase;
         own = h.own;
@@ -132,6 +135,7 @@ module _ (ring : Ring) (row : InstanceView) (log : List Note) (m : MatchesLog ri
             λ s has. (now.reports.kept s.report.signer s (h.kept s has)).read;
       },
       λ h. record {
+        of_version = h.of_version;
         of_height = h.of_height;
         of_phase = h.of_phase;
         own = h.own;
@@ -165,7 +169,7 @@ module _ (ring : Ring) (row : InstanceView) (log : List Note) (m : MatchesLog ri
   -- ---- the acknowledgement
 
   ack_alike : (sent : Option Statement) (taken : Option Value)
-      → Alike (sent ≡ sent_ack row k taken) (beside sent (unsent_frames (unsent_ack row k taken)) ≡ acks_of row.id row.height k taken)
+      → Alike (sent ≡ sent_ack row k taken) (beside sent (unsent_frames (unsent_ack row k taken)) ≡ acks_of row.config row.id row.height k taken)
   ack_alike sent taken = grind arith
 
   -- ---- in any round
@@ -182,7 +186,7 @@ module _ (ring : Ring) (row : InstanceView) (log : List Note) (m : MatchesLog ri
       | inr other ↦ rw (e, other) (none_alike sent)
     ]
     | at_acks e ↦ rw e (subst (λ o. Alike (sent ≡ sent_ack row k row.taken)
-        (beside sent (unsent_frames (unsent_ack row k row.taken)) ≡ acks_of row.id row.height k o))
+        (beside sent (unsent_frames (unsent_ack row k row.taken)) ≡ acks_of row.config row.id row.height k o))
         (now_in (λ f. omega (arith, e, f))).lock.taken (ack_alike sent row.taken))
     | at_release e ↦ rw e (none_alike sent)
   ]
@@ -248,7 +252,7 @@ sends_locks ring row log c m = elim (at_place c) [
         subst (IsLockSentOn ring row.height) s.1.1 (record {
           lock = s.0;
           is = refl;
-          reads = reading-again (as_statement s.0) held.frame;
+          reads = reading-again Two (as_statement s.0) (any_frame row.config.frames (as_statement s.0) held.frame);
           of_height = held.of_height;
           signed = held.signed;
           proof_signed = (and_parts (is_quorate row.config s.0.lock) (list_all (λ p. is_signed ring (with_signature p)) s.0.lock.proof)

@@ -22,12 +22,20 @@ use Rattle.tally.specs.Tallies.{all_read, read_of}
 use Rattle.ledger_model.proofs.Lists.{all_has, all_from, pointwise_refl, pointwise_equal, same_value-refl, same_value-equal, same_some}
 use Rattle.instance.specs.Instances.{InstanceView}
 use Rattle.phase_core.proofs.Choosing.{chosen_found, none_chosen}
-use Rattle.instance.specs.Plans.{own_report, own_ack_of, sent_ack, unsent_ack, MaySend, MaySendLock, IsOwnLockOf, IsOwnStatement, same_flag}
+use Rattle.instance.specs.Plans.{own_report, own_ack_of, sent_ack, unsent_ack, MaySend, MaySendLock, IsOwnLockOf, IsOwnStatement, same_flag, same_version}
+use Rattle.ledger_model.specs.declared.version.Version.{Version}
+use Rattle.ledger_model.specs.declared.version.Version.TheVariants.{One, Two}
 use Rattle.instance.specs.Plans.{same_report, same_signed, is_kept, is_own_lock, is_own_ack, may_send, may_send_report, may_send_lock}
 use Rattle.instance.specs.Plans.{may_send_ack}
 use Rattle.ledger_model.proofs.AtPlace.{at_place, at_reports, at_lock, at_acks, at_release}
 
 -- ---- the tests of equality decide it
+
+version_decides : (v w : Version) → Decides (same_version v w) (v ≡ w)
+version_decides One One = (λ h. refl, λ e. refl)
+version_decides One Two = (λ h. absurd cc, λ e. absurd cc)
+version_decides Two One = (λ h. absurd cc, λ e. absurd cc)
+version_decides Two Two = (λ h. refl, λ e. refl)
 
 flag_decides : (a b : Bool) → Decides (same_flag a b) (a ≡ b)
 flag_decides a b = grind arith
@@ -43,7 +51,8 @@ report_decides : (p q : Report) → Decides (same_report p q) (p ≡ q)
 report_decides p q =
     Decides-like (same_report p q)
     (λ h i. record {
-      height = h.0.0.0.0.0.0 i;
+      version = h.0.0.0.0.0.0.0 i;
+      height = h.0.0.0.0.0.0.1 i;
       phase = h.0.0.0.0.0.1 i;
       signer = h.0.0.0.0.1 i;
       all = h.0.0.0.1 i;
@@ -56,7 +65,10 @@ report_decides p q =
       (
         (
           (
-            ((ap (λ (r : Report). r.height) e, ap (λ (r : Report). r.phase) e), ap (λ (r : Report). r.signer) e),
+            (
+              ((ap (λ (r : Report). r.version) e, ap (λ (r : Report). r.height) e), ap (λ (r : Report). r.phase) e),
+              ap (λ (r : Report). r.signer) e,
+            ),
             ap (λ (r : Report). r.all)
                 e,
           ),
@@ -67,7 +79,8 @@ report_decides p q =
       ap (λ (r : Report). r.locked) e,
     ))
     (Decides-and _ _ (Decides-and _ _
-    (Decides-and _ _ (Decides-and _ _ (Decides-and _ _ (Decides-and _ _ (Decides-eqb p.height q.height) (Decides-eqb p.phase q.phase))
+    (Decides-and _ _ (Decides-and _ _ (Decides-and _ _ (Decides-and _ _
+    (Decides-and _ _ (version_decides p.version q.version) (Decides-eqb p.height q.height)) (Decides-eqb p.phase q.phase))
     (Decides-eqb p.signer q.signer)) (flag_decides p.all q.all)) (value_decides p.initial q.initial))
     (list_decides same_value value_decides p.proper q.proper))
     (list_decides same_value value_decides p.locked q.locked))
@@ -95,18 +108,37 @@ module _ (row : InstanceView) (k : ℕ) where
   lock_decides : (l : Lock) → Decides (is_own_lock row k l) (IsOwnLockOf row k l)
   lock_decides l =
       Decides-like (is_own_lock row k l)
-      (λ h. record { of_height = h.0.0.0.0.0; of_phase = h.0.0.0.0.1; own = h.0.0.0.1; quorate = h.0.0.1; supporting = h.0.1; kept = h.1 })
-      (λ o. (((((o.of_height, o.of_phase), o.own), o.quorate), o.supporting), o.kept))
+      (λ h. record {
+        of_version = h.0.0.0.0.0.0;
+        of_height = h.0.0.0.0.0.1;
+        of_phase = h.0.0.0.0.1;
+        own = h.0.0.0.1;
+        quorate = h.0.0.1;
+        supporting = h.0.1;
+        kept = h.1;
+      })
+      (λ o. ((((((o.of_version, o.of_height), o.of_phase), o.own), o.quorate), o.supporting), o.kept))
       (Decides-and _ _ (Decides-and _ _
-      (Decides-and _ _ (Decides-and _ _ (Decides-and _ _ (Decides-eqb l.height row.height) (Decides-eqb l.phase k))
+      (Decides-and _ _ (Decides-and _ _ (Decides-and _ _
+      (Decides-and _ _ (version_decides l.version row.config.frames) (Decides-eqb l.height row.height)) (Decides-eqb l.phase k))
       (Decides-eqb l.signer row.id))
       (λ h. h, λ h. h)) (λ h. h, λ h. h)) (all_kept l.proof))
 
   ack_decides : (v : Value) (a : Ack) → Decides (is_own_ack row k v a) (a ≡ own_ack_of row k v)
   ack_decides v a =
-      Decides-like (is_own_ack row k v a) (λ h i. record { height = h.0.0.0 i; phase = h.0.0.1 i; signer = h.0.1 i; value = h.1 i })
-      (λ e. (((ap (λ (x : Ack). x.height) e, ap (λ (x : Ack). x.phase) e), ap (λ (x : Ack). x.signer) e), ap (λ (x : Ack). x.value) e))
-      (Decides-and _ _ (Decides-and _ _ (Decides-and _ _ (Decides-eqb a.height row.height) (Decides-eqb a.phase k))
+      Decides-like (is_own_ack row k v a) (λ h i. record {
+        version = h.0.0.0.0 i;
+        height = h.0.0.0.1 i;
+        phase = h.0.0.1 i;
+        signer = h.0.1 i;
+        value = h.1 i;
+      })
+      (λ e. (
+        (((ap (λ (x : Ack). x.version) e, ap (λ (x : Ack). x.height) e), ap (λ (x : Ack). x.phase) e), ap (λ (x : Ack). x.signer) e),
+        ap (λ (x : Ack). x.value) e,
+      ))
+      (Decides-and _ _ (Decides-and _ _ (Decides-and _ _
+      (Decides-and _ _ (version_decides a.version row.config.frames) (Decides-eqb a.height row.height)) (Decides-eqb a.phase k))
       (Decides-eqb a.signer row.id)) (value_decides a.value v))
 
   -- ---- what may be sent

@@ -16,6 +16,7 @@ use Rattle.proper_sets.specs.Propriety.{ProperSet}
 use Rattle.ledger_model.specs.Rules.{Ring, with_signature, has_phase}
 use Rattle.ledger_model.proofs.LockSafety.{has_read, read_has, made_has, took_tells}
 use Rattle.ledger_model.proofs.Staying.{find_none, From, decided_stays, find_same, find_append}
+use Rattle.ledger_model.specs.declared.version.Version.{Version}
 use Rattle.instance.specs.Matching.{ReportsMatch, LockMatches, AcksMatch, MatchesLog, IsKept, IsSound, proper_phase}
 use Rattle.tally.proofs.Puts.{none_there}
 use Rattle.instance.proofs.KeptPlaces.{none_read}
@@ -43,8 +44,8 @@ use Rattle.std.proofs.lemmas.List.Elements.{filter_map-append}
 
 module _ (log : List Note) (k : ℕ)
     (unread : (place : ℕ) (test : Statement → Bool) → 1 ≤ place → was_read log (round_at place k) test ≡ false) where
-  pub no_reports : (ring : Ring) (replicas height : ℕ) → ReportsMatch ring replicas height log k (replicate replicas None)
-  no_reports ring replicas height = record {
+  pub no_reports : (version : Version) (ring : Ring) (replicas height : ℕ) → ReportsMatch version ring replicas height log k (replicate replicas None)
+  no_reports version ring replicas height = record {
     count = length-replicate replicas None;
     same = λ test. unread 1 (is_report test) (omega arith) ∙ sym (ap (λ ss. list_any test (reports_of ss)) (none_read replicas));
     kept = λ r s e. absurd (cc (none_there {X = SignedReport} replicas r));
@@ -116,7 +117,8 @@ module _ (log : List Note) (n : Note) where
 
   -- ---- what a phase brought stays, where the note is none of it
 
-  pub kept_stays : {ring : Ring} {height k r : ℕ} {p : SignedReport} → IsKept ring height log k r p → IsKept ring height more k r p
+  pub kept_stays : {version : Version} {ring : Ring} {height k r : ℕ} {p : SignedReport} → IsKept version ring height log k r p
+      → IsKept version ring height more k r p
   kept_stays h = record {
     of_height = h.of_height;
     of_phase = h.of_phase;
@@ -127,9 +129,9 @@ module _ (log : List Note) (n : Note) where
     read = has_left log (n ∷ []) _ h.read;
   }
 
-  pub reports_stay : {ring : Ring} {replicas height k : ℕ} {places : Places SignedReport}
+  pub reports_stay : {version : Version} {ring : Ring} {replicas height k : ℕ} {places : Places SignedReport}
       → ((test : Report → Bool) → reads_in (round_at report_place k) (is_report test) n ≡ false)
-      → ReportsMatch ring replicas height log k places → ReportsMatch ring replicas height more k places
+      → ReportsMatch version ring replicas height log k places → ReportsMatch version ring replicas height more k places
   reports_stay {k = k} none h = record {
     count = h.count;
     same = λ test. read_same (round_at report_place k) (is_report test) (none test) ∙ h.same test;
@@ -213,7 +215,7 @@ module _ (ring : Ring) (row : InstanceView) (log : List Note) (old : MatchesLog 
       → clock_of (more log n) ≡ c → clock_of log ≤ c → IsSound ring (with_parts proper table reports acks taken made decided)
       → proper.own ≡ row.proper.own → proper ≡ proper_at row.config row.id (more log n) (proper_phase c) row.proper.own
       → held_locks (more log n) ≡ map as_statement table → decided ≡ decided_by row.config (more log n) (c / rounds_in_phase)
-      → ReportsMatch ring row.config.replicas row.height (more log n) (phase_of c) reports
+      → ReportsMatch row.config.frames ring row.config.replicas row.height (more log n) (phase_of c) reports
       → LockMatches (more log n) (phase_of c) taken made
       → AcksMatch row.config.replicas (more log n) (phase_of c) acks
       → MatchesLog ring (with_parts proper table reports acks taken made decided) (more log n)
@@ -232,7 +234,7 @@ module _ (ring : Ring) (row : InstanceView) (log : List Note) (old : MatchesLog 
         ∙ ap (λ d. proper_at row.config row.id (more log n) (proper_phase d) proper.own) (sym clock);
     locks = sym held;
     decided = decides ∙ ap (λ d. decided_by row.config (more log n) (d / rounds_in_phase)) (sym clock);
-    reports = subst (λ d. ReportsMatch ring row.config.replicas row.height (more log n) (phase_of d) reports) (sym clock) are;
+    reports = subst (λ d. ReportsMatch row.config.frames ring row.config.replicas row.height (more log n) (phase_of d) reports) (sym clock) are;
     lock = subst (λ d. LockMatches (more log n) (phase_of d) taken made) (sym clock) lock;
     acks = subst (λ d. AcksMatch row.config.replicas (more log n) (phase_of d) acks) (sym clock) ack;
   }

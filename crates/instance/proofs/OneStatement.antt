@@ -21,7 +21,7 @@ use Rattle.ledger_model.specs.Locks.{took, value_read, decided_of, is_full}
 use Rattle.ledger_model.specs.Rules.{Ring, is_signed, with_signature}
 use Rattle.ledger_model.specs.Lawful.{held_locks}
 use Rattle.lock_proofs.specs.LockTables.{SignedLock, as_statement, with_lock, released, has_four_others}
-use Rattle.ledger_model.specs.Spelling.{IsFrame, IsSigned}
+use Rattle.ledger_model.specs.Spelling.{IsFrameIn, IsSigned}
 use Rattle.tally.specs.Tallies.{Places, all_read, read_of}
 use Rattle.ledger_model.proofs.Lists.{has_right, has_filter_map, same_value-refl, same_value-equal, any_mapped, find_only, none_if_not_some}
 use Rattle.ledger_model.proofs.LockSafety.{has_read, took_tells}
@@ -92,7 +92,7 @@ module _ (ring : Ring) (row : InstanceView) (log : List Note) (m : MatchesLog ri
       → {table : List SignedLock} {reports : Places SignedReport} {acks : Places Ack} {taken made : Option Value}
       → IsSound ring (record row { table = table; reports = reports; acks = acks; taken = taken; made = made })
       → held_locks (more log n) ≡ map as_statement table
-      → ReportsMatch ring row.config.replicas row.height (more log n) k reports → LockMatches (more log n) k taken made
+      → ReportsMatch row.config.frames ring row.config.replicas row.height (more log n) k reports → LockMatches (more log n) k taken made
       → AcksMatch row.config.replicas (more log n) k acks
       → MatchesLog ring (record row { table = table; reports = reports; acks = acks; taken = taken; made = made }) (more log n)
   unfolding decided_of
@@ -129,7 +129,7 @@ module _ (ring : Ring) (row : InstanceView) (log : List Note) (m : MatchesLog ri
 
   reads_report : (p : SignedReport) → OnTime now (statement.Report p.report) → p.report.signer < row.config.replicas
       → read_of row.reports p.report.signer ≡ None
-      → p.report.height ≡ row.height → IsTrue (is_signed ring (with_signature p)) → IsSigned p
+      → p.report.height ≡ row.height → IsTrue (is_signed ring (with_signature p)) → IsSigned row.config.frames p
       → MatchesLog ring (record row { reports = slice_set row.reports p.report.signer (Some p) }) (more log (Read now (with_signature p)))
   reads_report p t member none height signed spelled =
       let n : Note = Read now (with_signature p) in
@@ -146,7 +146,7 @@ module _ (ring : Ring) (row : InstanceView) (log : List Note) (m : MatchesLog ri
             ∙ sym (any_put (λ s. test s.report) row.reports r p below none)
             ∙ sym (any_mapped test (λ s. s.report) (all_read (slice_set row.reports r (Some p))));
         kept = λ q s e. elim (read_put row.reports r q p s e) [
-          | inl new ↦ subst (λ x. IsKept ring row.height (more log n) k q x) new.1 (record {
+          | inl new ↦ subst (λ x. IsKept row.config.frames ring row.height (more log n) k q x) new.1 (record {
             of_height = height;
             of_phase = eqb-true p.report.phase k t.phase;
             of_signer = sym new.0;
@@ -220,7 +220,8 @@ module _ (ring : Ring) (row : InstanceView) (log : List Note) (m : MatchesLog ri
 
 read_one : (ring : Ring) (row : InstanceView) (log : List Note) (m : MatchesLog ring row log) (signature : List ℕ) (s : Statement)
     → OnTime (clock_of log) s → is_kept_already row (clock_of log) s ≡ false
-    → signer_of s < row.config.replicas → height_of s ≡ row.height → IsFrame (record { statement = s; signature = signature })
+    → signer_of s < row.config.replicas → height_of s ≡ row.height
+    → IsFrameIn row.config.frames (record { statement = s; signature = signature })
     → is_signed ring (record { statement = s; signature = signature }) ≡ true
     → IsSound ring (with_statement row (clock_of log) signature s)
     → MatchesLog ring (with_statement row (clock_of log) signature s)
@@ -228,7 +229,7 @@ read_one : (ring : Ring) (row : InstanceView) (log : List Note) (m : MatchesLog 
 read_one ring row log m signature (statement.Report r) t new member height frame signed sound =
     reads_report ring row log m (record { report = r; signature = signature }) t member
     (none_if_not_some (read_of row.reports r.signer) new)
-    height signed (record { report = frame.statement; signature = frame.signature })
+    height signed (record { read = frame.read; report = frame.statement; signature = frame.signature })
 read_one ring row log m signature (statement.Ack a) t new member height frame signed sound =
     reads_ack ring row log m a signature t member (none_if_not_some (read_of row.acks a.signer) new)
 read_one ring row log m signature (statement.Lock l) t new member height frame signed sound =
@@ -270,7 +271,7 @@ module _ (ring : Ring) (row : InstanceView) (log : List Note) (m : MatchesLog ri
   -- a report
   pub own_report_read : (p : SignedReport) → OnTime c (statement.Report p.report) → p.report.signer ≡ row.id → p.report.height ≡ row.height
       → read_of row.reports p.report.signer ≡ None
-      → IsTrue (is_signed ring (with_signature p)) → IsSigned p
+      → IsTrue (is_signed ring (with_signature p)) → IsSigned row.config.frames p
       → MatchesLog ring (with_own (with_signature p) row)
       (log ++ OwnStatement c (statement.Report p.report) ∷ Read c (with_signature p) ∷ [])
   own_report_read p t own height none signed spelled =

@@ -131,7 +131,7 @@ opens config id height own ring log member heights value only =
           (λ j one below s has. none_read own log only (round_at report_place j) s has) ∙ only_own-empty config id _ own);
       locks = sym (none_held own log only);
       decided = sym (none_decided own log only config);
-      reports = no_reports log_now k none_in ring config.replicas height;
+      reports = no_reports log_now k none_in config.frames ring config.replicas height;
       lock = no_lock log_now k none_in (unmade own log only (round_at lock_place k));
       acks = no_acks log_now k none_in config.replicas;
     }

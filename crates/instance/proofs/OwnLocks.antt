@@ -57,6 +57,7 @@ own_lock_right ring row log k m v found =
     let h = m.sound.spelled in
     let known = in_proof row h m.reports.count k v in
     record {
+      of_version = refl;
       of_height = refl;
       of_phase = refl;
       own = refl;

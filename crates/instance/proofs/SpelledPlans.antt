@@ -3,11 +3,12 @@ use Rattle.std.proofs.Common.{◌≡◌, inl, inr, List, ◌++◌, ℕ, ◌<◌,
 use Rattle.std.specs.Prelude.{Some, nat_eq, Option, None, IfSome}
 use Rattle.ledger_model.specs.declared.config.Config.{Config}
 use Rattle.ledger_model.specs.declared.statement.Report.{Report}
-use Rattle.ledger_model.specs.Values.{Value, IsValue}
+use Rattle.ledger_model.specs.Values.{Value, IsValueIn}
+use Rattle.ledger_model.proofs.VersionLaws.{value_within}
 use Rattle.ledger_model.specs.Notes.{Has}
 use Rattle.phase_core.specs.Choices.{chosen}
 use Rattle.tally.specs.Readings.{reports_of}
-use Rattle.ledger_model.specs.Spelling.{IsReport, IsSigned, IsPlace, IsStatement}
+use Rattle.ledger_model.specs.Spelling.{IsSigned, IsPlace, IsStatement}
 use Rattle.ledger_model.proofs.Lists.{each_has, flat_map_has, has_cases, each_from}
 use Rattle.phase_core.proofs.Choosing.{chosen_named, chosen_found}
 use Rattle.std.proofs.lemmas.Bool.{cases_Bool}
@@ -21,16 +22,20 @@ use Rattle.ledger_model.proofs.AtPlace.{at_place, at_reports, at_lock, at_acks, 
 use Rattle.instance.proofs.OwnLocks.{in_proof, proof_length, signers_within}
 use Rattle.proper_sets.specs.ProperViews.{ProperView}
 use Rattle.ledger_model.proofs.Counting.{ascends_higher}
-use Rattle.instance.proofs.SpelledRows.{each_spelled, absorbs}
+use Rattle.instance.proofs.SpelledRows.{IsReadable, each_spelled, absorbs}
 
 module _ (config : Config) (reports : List Report) (own : Value) where
   -- it has a spelling, where the own one and the reports do
-  chosen_spelled : IsValue own → ((p : Report) → Has reports p → IsReport p) → (v : Value) → chosen config reports own ≡ Some v → IsValue v
+  chosen_spelled : IsValueIn config.frames own → ((p : Report) → Has reports p → IsReadable config.frames p) → (v : Value)
+      → chosen config reports own ≡ Some v → IsValueIn config.frames v
   chosen_spelled own_spelled spelled v e =
       let told = chosen_named config reports own v e in
       let listed = flat_map_has (λ (p : Report). p.proper ++ p.locked) reports v in
-      let proper = λ (p : Report) (has : Has reports p). each_has IsValue p.proper v (spelled p has).proper.each in
-      let locked = λ (p : Report) (has : Has reports p). each_has IsValue p.locked v (spelled p has).locked.each in
+      let within = λ (p : Report) (has : Has reports p). value_within config.frames p.version v (spelled p has).read in
+      let proper = λ (p : Report) (has : Has reports p) (there : Has p.proper v). within p has
+      (each_has (IsValueIn p.version) p.proper v (spelled p has).report.proper.each there) in
+      let locked = λ (p : Report) (has : Has reports p) (there : Has p.locked v). within p has
+      (each_has (IsValueIn p.version) p.locked v (spelled p has).report.locked.each there) in
       let cases = λ (p : Report). has_cases p.proper p.locked v in
       grind arith
 
@@ -61,13 +66,13 @@ module _ (row : InstanceView) (h : IsSpelled row) (member : row.id < row.config.
         place = place;
         value = chosen_spelled row.config (reports_of (all_read row.reports)) row.proper.own h.own (each_spelled h) v is;
         count = (omega arith, omega arith);
-        each = each_from IsSigned (own_lock row k v).proof
+        each = each_from (IsSigned row.config.frames) (own_lock row k v).proof
             (λ s has. (h.reports s.report.signer s (in_proof row h places k v s has).0).spelled);
         signers = ascends_higher 0 row.config.replicas 256 (signers_of (own_lock row k v).proof) (omega arith)
             (signers_within row h places k v);
       }
 
-  ack_spelled : (o : Option Value) → IfSome o IsValue → IfSome (sent_ack row k o) IsStatement
+  ack_spelled : (o : Option Value) → IfSome o (IsValueIn row.config.frames) → IfSome (sent_ack row k o) IsStatement
   ack_spelled o value = let at = place in grind arith
 
   pub chosen_spelled_as : IfSome (chosen_statement row c) IsStatement
@@ -90,7 +95,7 @@ chosen_own_statement row c = grind arith
 
 -- what the end of a round makes proper
 pub proper_spelled : (row : InstanceView) (c : ℕ) (known : ProperView) → IsSpelled row → (ended row c).proper ≡ Some known
-    → IsSpelledSet known.set
+    → IsSpelledSet row.config.frames known.set
 unfolding ended
 proper_spelled row c known h e = let set = absorbs h in grind arith
 

@@ -5,7 +5,8 @@ use Rattle.ledger_model.specs.declared.config.Config.{Config}
 use Rattle.ledger_model.specs.declared.statement.SignedStatement.{SignedStatement}
 use Rattle.ledger_model.specs.declared.statement.Statement.{Statement}
 use Rattle.ledger_model.specs.declared.statement.Statement.TheVariants as statement
-use Rattle.ledger_model.specs.Values.{Value, IsValue}
+use Rattle.ledger_model.specs.Values.{Value, IsValueIn}
+use Rattle.ledger_model.specs.declared.version.Version.{Version}
 use Rattle.ledger_model.specs.Rounds.{place_of, release_place}
 use Rattle.ledger_model.specs.Notes.{Note, Proposed, Round, Read, clock_of, signer_of}
 use Rattle.ledger_model.specs.Logs.{height_of, made_notes, own_ack}
@@ -13,7 +14,7 @@ use Rattle.ledger_model.specs.Rules.{Ring, MayMake, answer_to, first_of, is_sign
 use Rattle.ledger_model.specs.Reading.{reading}
 use Rattle.lock_proofs.specs.LockTables.{SignedLock, as_statement}
 use Rattle.ledger_model.specs.Lawful.{held_locks, are_signed_reports}
-use Rattle.ledger_model.specs.Spelling.{IsFrame, frame_bytes}
+use Rattle.ledger_model.specs.Spelling.{IsFrame, IsFrameIn, frame_bytes}
 use Rattle.instance.specs.declared.round_statement.RoundStatement.{RoundStatement}
 use Rattle.instance.specs.declared.round_statement.RoundStatement.TheVariants as made
 use Rattle.instance.specs.Instances.{InstanceView}
@@ -25,7 +26,7 @@ use Rattle.instance.specs.Plans.{MaySend, chosen_statement, ended, is_mute_made,
 abbrev pub Opens : Type 0
 Opens =
     (config : Config) (id height : ℕ) (own : Value) (ring : Ring) (log : List Note)
-    → id < config.replicas → (1 ≤ height) × (height < 2 ^ 32) → IsValue own → only_rounds log ≡ true
+    → id < config.replicas → (1 ≤ height) × (height < 2 ^ 32) → IsValueIn config.frames own → only_rounds log ≡ true
     → MatchesLog ring (opened_row config id height own) (log ++ Proposed own ∷ [])
 
 -- the answer to a statement is the one by the log
@@ -46,7 +47,8 @@ Judges =
 abbrev pub Reads : Type 0
 Reads =
     (ring : Ring) (row : InstanceView) (log : List Note) (s : SignedStatement)
-    → MatchesLog ring row log → signer_of s.statement < row.config.replicas → height_of s.statement ≡ row.height → IsFrame s
+    → MatchesLog ring row log → signer_of s.statement < row.config.replicas → height_of s.statement ≡ row.height
+    → IsFrameIn row.config.frames s
     → first_of (row_causes row ring (clock_of log) s) ≡ Ok tt
     → MatchesLog ring (after_read row (clock_of log) s) (log ++ Read (clock_of log) s ∷ [])
 
@@ -147,5 +149,5 @@ Closes =
 abbrev pub ReadsSound : Type 0
 ReadsSound =
     (ring : Ring) (row : InstanceView) (log : List Note) (s : SignedStatement)
-    → MatchesLog ring row log → height_of s.statement ≡ row.height → IsFrame s → first_of (row_causes row ring (clock_of log) s) ≡ Ok tt
+    → MatchesLog ring row log → height_of s.statement ≡ row.height → IsFrameIn row.config.frames s → first_of (row_causes row ring (clock_of log) s) ≡ Ok tt
     → IsSound ring (after_read row (clock_of log) s)

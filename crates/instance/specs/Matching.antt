@@ -11,7 +11,8 @@ use Rattle.ledger_model.specs.declared.statement.Statement.{Statement}
 use Rattle.ledger_model.specs.Rounds.{phase_of, place_of, round_at, ack_place, lock_place, report_place}
 use Rattle.ledger_model.specs.Notes.{Note, Round, OwnStatement, Read, Has, clock_of, open_of, is_report, is_lock, is_ack}
 use Rattle.ledger_model.specs.Notes.{was_read, was_made}
-use Rattle.ledger_model.specs.Values.{Value, IsValue}
+use Rattle.ledger_model.specs.Values.{Value, IsValueIn}
+use Rattle.ledger_model.specs.declared.version.Version.{Version}
 use Rattle.ledger_model.specs.Locks.{value_taken, decided_of}
 use Rattle.ledger_model.specs.Lawful.{held_locks}
 use Rattle.ledger_model.specs.Rules.{Ring, is_signed, with_signature, is_proved}
@@ -19,7 +20,7 @@ use Rattle.proper_sets.specs.Propriety.{ProperSet}
 use Rattle.tally.specs.Readings.{reports_of}
 use Rattle.tally.specs.Tallies.{Places, all_read, read_of}
 use Rattle.lock_proofs.specs.LockTables.{SignedLock, as_statement}
-use Rattle.ledger_model.specs.Spelling.{IsFrame, IsSigned, IsValueList}
+use Rattle.ledger_model.specs.Spelling.{IsFrameIn, IsSigned, IsValueList}
 use Rattle.lock_proofs.specs.Tables.{values_of}
 use Rattle.proper_sets.specs.Laws.{proper_at}
 use Rattle.lock_proofs.specs.Laws.{IsTimely}
@@ -31,19 +32,19 @@ abbrev pub proper_phase : ℕ → ℕ
 proper_phase c = if place_of c == report_place then phase_of c else phase_of c + 1
 
 -- the stored report of replica r is one of phase k that was read, and it is signed and can be encoded
-pub record IsKept (ring : Ring) (height : ℕ) (log : List Note) (k r : ℕ) (s : SignedReport) : Type 0 where
+pub record IsKept (version : Version) (ring : Ring) (height : ℕ) (log : List Note) (k r : ℕ) (s : SignedReport) : Type 0 where
   pub of_height : s.report.height ≡ height
   pub of_phase : s.report.phase ≡ k
   pub of_signer : s.report.signer ≡ r
   pub signed : IsTrue (is_signed ring (with_signature s))
-  pub spelled : IsSigned s
+  pub spelled : IsSigned version s
   pub read : Has log (Read (round_at report_place k) (with_signature s))
 
 -- the stored reports are those that were read in phase k, each at its signer's place
-pub record ReportsMatch (ring : Ring) (replicas height : ℕ) (log : List Note) (k : ℕ) (places : Places SignedReport) : Type 0 where
+pub record ReportsMatch (version : Version) (ring : Ring) (replicas height : ℕ) (log : List Note) (k : ℕ) (places : Places SignedReport) : Type 0 where
   pub count : length places ≡ replicas
   pub same : (test : Report → Bool) → was_read log (round_at report_place k) (is_report test) ≡ list_any test (reports_of (all_read places))
-  pub kept : (r : ℕ) (s : SignedReport) → read_of places r ≡ Some s → IsKept ring height log k r s
+  pub kept : (r : ℕ) (s : SignedReport) → read_of places r ≡ Some s → IsKept version ring height log k r s
   pub every : (s : SignedReport) → Has log (Read (round_at report_place k) (with_signature s)) → read_of places s.report.signer ≡ Some s
 
 -- the stored values are those of the lock that was taken in phase k, and of the lock that was made
@@ -59,30 +60,30 @@ pub record AcksMatch (replicas : ℕ) (log : List Note) (k : ℕ) (places : Plac
   pub ackers : (r : ℕ) (a : Ack) → read_of places r ≡ Some a → a.signer ≡ r
 
 -- the report that is stored for replica r is that replica's, and can be encoded with its signature
-pub record IsKeptReport (r : ℕ) (s : SignedReport) : Type 0 where
+pub record IsKeptReport (version : Version) (r : ℕ) (s : SignedReport) : Type 0 where
   pub of_signer : s.report.signer ≡ r
-  pub spelled : IsSigned s
+  pub spelled : IsSigned version s
 
--- the proper values can be encoded
-pub record IsSpelledSet (proper : ProperSet) : Type 0 where
-  pub own : IsValue proper.own
-  pub explicit : IsValueList proper.explicit
+-- the proper values can be encoded in a statement of this version
+pub record IsSpelledSet (version : Version) (proper : ProperSet) : Type 0 where
+  pub own : IsValueIn version proper.own
+  pub explicit : IsValueList version proper.explicit
   pub some : 1 ≤ length proper.explicit
 
--- everything in the instance can be encoded
+-- everything in the instance can be encoded in a statement of the cluster's version
 pub record IsSpelled (row : InstanceView) : Type 0 where
   pub heights : (1 ≤ row.height) × (row.height < 2 ^ 32)
-  pub own : IsValue row.proper.own
-  pub proper : IsValueList row.proper.explicit
+  pub own : IsValueIn row.config.frames row.proper.own
+  pub proper : IsValueList row.config.frames row.proper.explicit
   pub some : 1 ≤ length row.proper.explicit
-  pub locked : IsValueList (values_of row.table)
-  pub taken : IfSome row.taken IsValue
-  pub reports : (r : ℕ) (s : SignedReport) → read_of row.reports r ≡ Some s → IsKeptReport r s
+  pub locked : IsValueList row.config.frames (values_of row.table)
+  pub taken : IfSome row.taken (IsValueIn row.config.frames)
+  pub reports : (r : ℕ) (s : SignedReport) → read_of row.reports r ≡ Some s → IsKeptReport row.config.frames r s
 
 -- a held lock is of this height and has a frame, its signature verifies, and its proof is valid
 pub record IsHeldLock (ring : Ring) (config : Config) (height : ℕ) (s : SignedLock) : Type 0 where
   pub of_height : s.lock.height ≡ height
-  pub frame : IsFrame (as_statement s)
+  pub frame : IsFrameIn config.frames (as_statement s)
   pub signed : IsTrue (is_signed ring (as_statement s))
   pub proved : IsTrue (is_proved config ring s.lock)
 
@@ -102,7 +103,7 @@ pub record MatchesIn (ring : Ring) (row : InstanceView) (log : List Note) (k : �
   pub locks : map as_statement row.table ≡ held_locks log
   pub decided : row.decided ≡ decided_of row.config log
   -- what was read and made in the open phase
-  pub reports : ReportsMatch ring row.config.replicas row.height log k row.reports
+  pub reports : ReportsMatch row.config.frames ring row.config.replicas row.height log k row.reports
   pub lock : LockMatches log k row.taken row.made
   pub acks : AcksMatch row.config.replicas log k row.acks
 

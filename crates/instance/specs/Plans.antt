@@ -4,6 +4,7 @@ use Rattle.std.specs.Prelude.{filter, Option, Some, None, is_some, slice_set, re
 use Rattle.std.specs.List.{list_all}
 use Rattle.std.specs.Cmp.Lexicographic.{pointwise}
 use Rattle.std.specs.Option.{is_none, option_map_or}
+use Rattle.ledger_model.specs.declared.config.Config.{Config}
 use Rattle.ledger_model.specs.declared.statement.Ack.{Ack}
 use Rattle.ledger_model.specs.declared.statement.Lock.{Lock}
 use Rattle.ledger_model.specs.declared.statement.Report.{Report}
@@ -13,7 +14,10 @@ use Rattle.ledger_model.specs.declared.statement.Statement.{Statement}
 use Rattle.ledger_model.specs.declared.statement.Statement.TheVariants as statement
 use Rattle.ledger_model.specs.Values.{Value, same_value}
 use Rattle.ledger_model.specs.Rounds.{phase_of, place_of, owner_of, quorum, ack_place, lock_place, report_place}
-use Rattle.ledger_model.specs.Notes.{Has, signer_of}
+use Rattle.ledger_model.specs.Notes.{Has, signer_of, version_of}
+use Rattle.ledger_model.specs.Rules.{ack_of}
+use Rattle.ledger_model.specs.declared.version.Version.{Version}
+use Rattle.ledger_model.specs.declared.version.Version.TheVariants.{One, Two}
 use Rattle.ledger_model.specs.Locks.{finds, or_else}
 use Rattle.ledger_model.specs.Logs.{height_of}
 use Rattle.ledger_model.specs.Spelling.{frame_bytes}
@@ -34,6 +38,7 @@ use Rattle.instance.specs.Instances.{InstanceView}
 -- the replica's report of phase k
 abbrev pub own_report : InstanceView → ℕ → Report
 own_report row k = record {
+  version = row.config.frames;
   height = row.height;
   phase = k;
   signer = row.id;
@@ -46,6 +51,7 @@ own_report row k = record {
 -- the replica's lock on v in phase k; its proof has the reports that find v, from the lowest signers
 abbrev pub own_lock : InstanceView → ℕ → Value → Lock
 own_lock row k v = record {
+  version = row.config.frames;
   height = row.height;
   phase = k;
   signer = row.id;
@@ -55,7 +61,7 @@ own_lock row k v = record {
 
 -- the replica's acknowledgement of the lock on v in phase k
 abbrev pub own_ack_of : InstanceView → ℕ → Value → Ack
-own_ack_of row k v = record { height = row.height; phase = k; signer = row.id; value = v }
+own_ack_of row k v = ack_of row.config row.id row.height k v
 
 -- the replica's acknowledgement of the lock that was taken, if one was
 abbrev pub own_acks : InstanceView → ℕ → Option Value → Option Ack
@@ -76,6 +82,7 @@ unsent_ack row k (Some v) = if owner_of row.config k == row.id then Some (own_ac
 
 -- a lock that the owner may make; its proof consists of reports that the instance has
 pub record IsOwnLockOf (row : InstanceView) (k : ℕ) (l : Lock) : Type 0 where
+  pub of_version : l.version ≡ row.config.frames
   pub of_height : l.height ≡ row.height
   pub of_phase : l.phase ≡ k
   pub own : l.signer ≡ row.id
@@ -105,10 +112,17 @@ abbrev pub same_flag : Bool → Bool → Bool
 same_flag true b = b
 same_flag false b = not b
 
+-- the two versions are equal
+abbrev pub same_version : Version → Version → Bool
+same_version One One = true
+same_version One Two = false
+same_version Two One = false
+same_version Two Two = true
+
 -- the two reports are equal
 abbrev pub same_report : Report → Report → Bool
 same_report p q =
-    (p.height == q.height) && (p.phase == q.phase) && (p.signer == q.signer) && same_flag p.all q.all && same_value p.initial q.initial
+    same_version p.version q.version && (p.height == q.height) && (p.phase == q.phase) && (p.signer == q.signer) && same_flag p.all q.all && same_value p.initial q.initial
     && pointwise same_value p.proper q.proper && pointwise same_value p.locked q.locked
 
 -- the two signed reports are equal
@@ -122,12 +136,13 @@ is_kept row s = option_map_or (same_signed s) (read_of row.reports s.report.sign
 -- the owner may make the lock in phase k
 abbrev pub is_own_lock : InstanceView → ℕ → Lock → Bool
 is_own_lock row k l =
-    (l.height == row.height) && (l.phase == k) && (l.signer == row.id) && is_quorate row.config l && is_supporting l
+    same_version l.version row.config.frames && (l.height == row.height) && (l.phase == k) && (l.signer == row.id) && is_quorate row.config l && is_supporting l
     && list_all (is_kept row) l.proof
 
 -- it is the replica's acknowledgement of the lock on v in phase k
 abbrev pub is_own_ack : InstanceView → ℕ → Value → Ack → Bool
-is_own_ack row k v a = (a.height == row.height) && (a.phase == k) && (a.signer == row.id) && same_value a.value v
+is_own_ack row k v a =
+    same_version a.version row.config.frames && (a.height == row.height) && (a.phase == k) && (a.signer == row.id) && same_value a.value v
 
 -- at place 1: its own report
 abbrev pub may_send_report : InstanceView → ℕ → Option Statement → Bool
@@ -177,6 +192,7 @@ chosen_statement row c =
 
 -- the statement is the replica's own, of this height
 pub record IsOwnStatement (row : InstanceView) (s : Statement) : Type 0 where
+  pub version : version_of s ≡ row.config.frames
   pub signer : signer_of s ≡ row.id
   pub height : height_of s ≡ row.height
 
@@ -196,7 +212,7 @@ pub record RoundEffectsView : Type 0 where
 abbrev pub decides_now : InstanceView → ℕ → Option Value → Option Value
 decides_now row k None = None
 decides_now row k (Some v) =
-    if is_decided_by row.config (all_read row.acks) (record { height = row.height; phase = k; signer = row.id; value = v; proof = [] })
+    if is_decided_by row.config (all_read row.acks) k v
     then Some v else None
 
 -- that value, unless one was decided before
@@ -243,11 +259,11 @@ made_by unsent made.Mute = []
 made_by unsent made.Unsent = unsent_frames unsent
 made_by unsent (made.Sent f) = f ∷ unsent_frames unsent
 
--- a statement that is sent is the replica's own
-abbrev pub IsOwnMade : ℕ → RoundStatement → Type 0
-IsOwnMade id made.Mute = Unit {0}
-IsOwnMade id made.Unsent = Unit {0}
-IsOwnMade id (made.Sent f) = signer_of f.statement ≡ id
+-- a statement that is sent is the replica's own, and has the version of the cluster's frames
+abbrev pub IsOwnMade : Config → ℕ → RoundStatement → Type 0
+IsOwnMade config id made.Mute = Unit {0}
+IsOwnMade config id made.Unsent = Unit {0}
+IsOwnMade config id (made.Sent f) = (signer_of f.statement ≡ id) × (version_of f.statement ≡ config.frames)
 
 -- ---- the state afterwards
 

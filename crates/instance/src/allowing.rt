@@ -15,7 +15,8 @@ use phase_core::chosen_value;
 fn same_report(one: &Report, other: &Report) -> bool
     ensures { result ≡ same_report one.now other.now }
 {
-    one.height == other.height
+    one.version == other.version
+        && one.height == other.height
         && one.phase == other.phase
         && one.signer == other.signer
         && one.all == other.all
@@ -68,7 +69,8 @@ impl Instance {
     fn is_own_report(&self, report: &Report, phase: Phase) -> bool
         ensures { result ≡ same_report report.now (own_report self.now phase) }
     {
-        report.height == self.height
+        report.version == self.config.frames
+            && report.height == self.height
             && report.phase == phase
             && report.signer == self.id
             && report.all == self.proper.all()
@@ -98,7 +100,8 @@ impl Instance {
     fn is_own_lock(&self, lock: &Lock, phase: Phase) -> bool
         ensures { result ≡ is_own_lock self.now phase lock.now }
     {
-        lock.height == self.height
+        lock.version == self.config.frames
+            && lock.height == self.height
             && lock.phase == phase
             && lock.signer == self.id
             && is_quorate(&self.config, lock)
@@ -110,7 +113,8 @@ impl Instance {
     fn is_own_ack(&self, ack: &Ack, phase: Phase, value: &Batch) -> bool
         ensures { result ≡ is_own_ack self.now phase value.now ack.now }
     {
-        ack.height == self.height
+        ack.version == self.config.frames
+            && ack.height == self.height
             && ack.phase == phase
             && ack.signer == self.id
             && ack.value == *value

@@ -14,7 +14,7 @@ use signed_frames::Frame;
 
 impl Instance {
     ghost use Rattle.std.specs.Prelude.{◌≡◌, ◌<◌, ◌≤◌, ◌+◌, ◌++◌, ◌∷◌, List, [], Some, IsTrue, true};
-    ghost use Rattle.ledger_model.specs.Notes.{Note, clock_of, signer_of, is_report, is_ack};
+    ghost use Rattle.ledger_model.specs.Notes.{Note, clock_of, signer_of, version_of, is_report, is_ack};
     ghost use Rattle.ledger_model.specs.Rules.{Ring};
     ghost use Rattle.ledger_model.specs.Spelling.{IsFrame};
     ghost use Rattle.ledger_model.specs.Locks.{or_else, lock_value};
@@ -37,7 +37,7 @@ impl Instance {
     /// Replaces the set of proper values. Allocates nothing.
     fn put_proper(&mut self, proper: Proper)
         requires config { proper.config ≡ self.old.config }
-        requires spelled { IsSpelledSet proper.set }
+        requires spelled { IsSpelledSet self.old.config.frames proper.set }
         ensures { self.new ≡ record self.old { proper = proper.set } }
     {
         self.proper = proper;
@@ -57,6 +57,7 @@ impl Instance {
         requires kind { IsTrue (is_report (λ r. true) frame.statement) }
         requires signature { signature ≡ frame.signature }
         requires own { signer_of frame.statement ≡ self.old.id }
+        requires version { version_of frame.statement ≡ self.old.config.frames }
         ensures { self.new ≡ with_own frame self.old }
     {
         // This call shows the proof that the frame's statement can be encoded.
@@ -72,6 +73,7 @@ impl Instance {
     fn put_lock(&mut self, frame: Frame, made: Batch, taken: Batch)
         requires made { lock_value frame.statement ≡ Some made }
         requires taken { lock_value frame.statement ≡ Some taken }
+        requires version { version_of frame.statement ≡ self.old.config.frames }
         ensures { self.new ≡ with_own frame self.old }
     {
         // This call shows the proof that the frame's statement can be encoded.
@@ -92,6 +94,7 @@ impl Instance {
     /// Stores a signed statement of the replica's own. Allocates nothing.
     fn put_own(&mut self, own: OwnFrame)
         requires own { signer_of own.statement ≡ self.old.id }
+        requires version { version_of own.statement ≡ self.old.config.frames }
         ensures after { self.new ≡ with_own own self.old }
         ensures frame { IsFrame own }
     {
@@ -105,7 +108,7 @@ impl Instance {
 
     /// Stores what the replica makes. Allocates nothing.
     fn put_made(&mut self, made: RoundStatement, unsent: Option<Ack>)
-        requires own { IsOwnMade self.old.id made }
+        requires own { IsOwnMade self.old.config self.old.id made }
         ensures after { self.new ≡ with_all (made_by unsent made) self.old }
         ensures frame { IsFrameMade made }
     {
@@ -125,7 +128,7 @@ impl Instance {
     pub fn close(&mut self, ending: RoundEffects, made: RoundStatement, clock: u32)
         requires clock { clock < last_round }
         requires ending { ending ≡ ended self.old (clock + 1) }
-        requires own { IsOwnMade self.old.id made }
+        requires own { IsOwnMade self.old.config self.old.id made }
         ensures row { self.new ≡ closed self.old (clock + 1) ending made }
         // For every log that the instance matched and that allows what is made: the instance then matches that log,
         // continued with the round and with what is made.

@@ -86,12 +86,14 @@ impl Instance {
     ghost use Rattle.tally.specs.Tallies.{read_of};
     ghost use Rattle.ledger_model.specs.Notes.{Note, Proposed};
     ghost use Rattle.ledger_model.specs.Locks.{decided_of, finds};
+    ghost use Rattle.ledger_model.specs.Values.{IsValueIn};
     ghost use Rattle.ledger_model.specs.Rules.{Ring};
     ghost use Rattle.ledger_model.specs.Limits.{max_height};
     ghost use Rattle.instance.specs.Matching.{MatchesLog, only_rounds};
     ghost use Rattle.instance.specs.Reads.{opened_row};
 
-    /// A height that replica `id` opens with its own initial value, in any round.
+    /// A height that replica `id` opens with its own initial value, in any round. The value is one that a statement of the
+    /// cluster's version can contain.
     pub fn open(
         alloc: Global,
         config: &Config,
@@ -101,6 +103,7 @@ impl Instance {
     ) -> Result<Self, AllocError>
         requires member { id < config.now.replicas }
         requires height { (1 ≤ height) × (height ≤ max_height) }
+        requires initial { IsValueIn config.now.frames initial.now }
         ensures row { IfOk result (λ row. row ≡ opened_row config.now id height initial.now) }
         // It matches every log of opened rounds that ends with this proposal.
         ensures matches { IfOk result (λ row. (ring : Ring) (log : List Note) → only_rounds log ≡ true

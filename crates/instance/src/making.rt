@@ -51,6 +51,7 @@ impl Instance {
         let locked = Batches::new(self.held_values(alloc)?);
         let (initial, proper) = copies_of(alloc, &self.proper)?;
         Ok(Report {
+            version: self.config.frames,
             height: self.height,
             phase,
             signer: self.id,
@@ -76,6 +77,7 @@ impl Instance {
     {
         let proof = LockProof::new(self.proof(alloc, &value)?);
         Ok(Lock {
+            version: self.config.frames,
             height: self.height,
             phase,
             signer: self.id,
@@ -111,6 +113,7 @@ impl Instance {
         match &self.taken {
             None => Ok(None),
             Some(value) => Ok(Some(Ack {
+                version: self.config.frames,
                 height: self.height,
                 phase,
                 signer: self.id,

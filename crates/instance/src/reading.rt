@@ -53,10 +53,12 @@ impl Instance {
     ghost use Rattle.std.specs.Option.{option_map_or};
     ghost use Rattle.ledger_model.specs.Values.{same_value};
     ghost use Rattle.ledger_model.specs.Rounds.{phase_of, place_of, lock_place};
-    ghost use Rattle.ledger_model.specs.Notes.{Note, Read, clock_of, signer_of, is_report, is_lock, is_ack};
+    ghost use Rattle.ledger_model.specs.Notes.{Note, Read, clock_of, signer_of, version_of, is_report, is_lock, is_ack};
     ghost use Rattle.ledger_model.specs.Logs.{height_of};
     ghost use Rattle.ledger_model.specs.Rules.{Ring, answer_to, first_of, place_causes, is_repeated};
-    ghost use Rattle.ledger_model.specs.Spelling.{IsFrame, IsLock};
+    ghost use Rattle.ledger_model.specs.Spelling.{IsFrameIn};
+    ghost use Rattle.ledger_model.specs.Values.{IsValueIn};
+    ghost use Rattle.ledger_model.specs.Versions.{reads};
     ghost use Rattle.lock_proofs.specs.LockTables.{as_statement, with_lock, has_four_others, released};
     ghost use Rattle.tally.specs.Tallies.{read_of};
     ghost use Rattle.instance.specs.Matching.{MatchesLog};
@@ -100,7 +102,7 @@ impl Instance {
         requires kind { IsTrue (is_report (λ r. true) frame.statement) }
         requires signer { signer_of frame.statement < self.old.config.replicas }
         requires first { read_of self.old.reports (signer_of frame.statement) ≡ None }
-        requires frame { IsFrame frame }
+        requires frame { IsFrameIn self.old.config.frames frame }
         requires signature { signature ≡ frame.signature }
         ensures { (round : ℕ) → self.new ≡ after_read self.old round frame }
     {
@@ -115,7 +117,7 @@ impl Instance {
         requires kind { IsTrue (is_report (λ r. true) frame.statement) }
         requires signer { signer_of frame.statement < self.old.config.replicas }
         requires first { read_of self.old.reports (signer_of frame.statement) ≡ None }
-        requires frame { IsFrame frame }
+        requires frame { IsFrameIn self.old.config.frames frame }
         ensures after { (round : ℕ) → OnOk result (self.new ≡ after_read self.old round frame) }
         ensures err { OnErr result (self.new ≡ self.old) }
     {
@@ -134,7 +136,7 @@ impl Instance {
         requires kind { IsTrue (is_report (λ r. true) frame.statement) }
         requires signer { signer_of frame.statement < self.old.config.replicas }
         requires first { read_of self.old.reports (signer_of frame.statement) ≡ None }
-        requires frame { IsFrame frame }
+        requires frame { IsFrameIn self.old.config.frames frame }
         ensures answer { IfOk result (λ r. r ≡ first_of (report_causes (C.ring checks.old) frame)) }
         ensures after { (round : ℕ) → IfOk result (λ r. self.new ≡ if_accepted r (after_read self.old round frame) self.old) }
         ensures err { OnErr result (self.new ≡ self.old) }
@@ -185,7 +187,7 @@ impl Instance {
 
     /// Stores a lock for which the table has a place, and its value as that of the lock that was taken. Allocates nothing.
     fn put_taken(&mut self, lock: LockFrame, value: Batch)
-        requires lock { IsLock lock.lock }
+        requires fits { IsValueIn self.old.config.frames lock.lock.value }
         requires value { value ≡ lock.lock.value }
         requires room { has_four_others lock.lock.value self.old.table ≡ false }
         ensures { self.new ≡ record self.old { table = with_lock lock self.old.table; taken = Some lock.lock.value } }
@@ -205,7 +207,7 @@ impl Instance {
 
     /// Takes a valid lock, if the table has a place for it.
     fn take_lock(&mut self, lock: LockFrame) -> Result<Result<(), Ignored>, AllocError>
-        requires lock { IsLock lock.lock }
+        requires fits { IsValueIn self.old.config.frames lock.lock.value }
         ensures answer { IfOk result (λ r. r ≡ first_of (room_causes true self.old lock.lock.value)) }
         ensures after { IfOk result (λ r. self.new
             ≡ if_accepted r (record self.old { table = with_lock lock self.old.table; taken = Some lock.lock.value }) self.old) }
@@ -230,7 +232,7 @@ impl Instance {
     /// Reads a valid lock of its phase's owner: takes it in the round of locks, and lets it release others in a lock-release round.
     fn read_valid(&mut self, lock: LockFrame, round: u32) -> Result<Result<(), Ignored>, AllocError>
         requires round { round ≤ last_round }
-        requires lock { IsLock lock.lock }
+        requires fits { IsValueIn self.old.config.frames lock.lock.value }
         ensures answer { IfOk result (λ r. r ≡ first_of (room_causes (place_of round == lock_place) self.old lock.lock.value)) }
         ensures after { IfOk result (λ r. self.new ≡ if_accepted r (after_read self.old round (as_statement lock)) self.old) }
         ensures err { OnErr result (self.new ≡ self.old) }
@@ -253,7 +255,7 @@ impl Instance {
         requires kind { IsTrue (is_lock (λ l. true) frame.statement) }
         requires round { round ≤ last_round }
         requires owner { has_owner self.old.config frame.statement ≡ true }
-        requires frame { IsFrame frame }
+        requires frame { IsFrameIn self.old.config.frames frame }
         ensures answer { IfOk result (λ r. r ≡ first_of (lock_causes self.old (C.ring checks.old) round frame)) }
         ensures after { IfOk result (λ r. self.new ≡ if_accepted r (after_read self.old round frame) self.old) }
         ensures err { OnErr result (self.new ≡ self.old) }
@@ -276,7 +278,7 @@ impl Instance {
         self.judge_round(statement, clock)
     }
 
-    /// Reads or ignores a frame of this height, whose signer is in the cluster, while round `clock` is open. A frame is
+    /// Reads or ignores a frame of this height and of a version that the cluster's frames carry, whose signer is in the cluster, while round `clock` is open. A frame is
     /// ignored with the first cause that applies, and then nothing changes.
     ///
     /// If memory runs out, nothing changes either.
@@ -289,6 +291,7 @@ impl Instance {
     ) -> Result<Result<(), Ignored>, AllocError>
         requires signer { signer_of frame.statement < self.old.config.replicas }
         requires height { height_of frame.statement ≡ self.old.height }
+        requires version { IsTrue (reads self.old.config.frames (version_of frame.statement)) }
         requires clock { clock ≤ last_round }
         // The answer and its effect are those of the definitions, on every log that the instance matches.
         ensures answer { IfOk result (λ r. (log : List Note) → MatchesLog ring.now self.old log → clock_of log ≡ clock
@@ -313,6 +316,7 @@ impl Instance {
     ) -> Result<Result<(), Ignored>, AllocError>
         requires signer { signer_of frame.statement < self.old.config.replicas }
         requires height { height_of frame.statement ≡ self.old.height }
+        requires version { IsTrue (reads self.old.config.frames (version_of frame.statement)) }
         requires clock { clock ≤ last_round }
         // The answer and its effect are those of the definitions, on every log that the instance matches.
         ensures answer { IfOk result (λ r. (log : List Note) → MatchesLog (C.ring checks.old) self.old log → clock_of log ≡ clock

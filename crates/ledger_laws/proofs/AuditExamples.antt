@@ -11,7 +11,7 @@ use Rattle.ledger_model.specs.Lawful.{Replay, ReplaysFrom}
 use Rattle.ledger_model.specs.Logs.{log_of, log_after, notes_of, statements_made, statements_sent, own_ack}
 use Rattle.ledger_model.specs.Rules.{MayMake}
 use Rattle.ledger_model.specs.Spelling.{statement_bytes, body_bytes, frame_bytes}
-use Rattle.ledger_model.specs.Reading.{reading, body_reading, statement_at, report_at, lock_at, ack_at, proof_at, signed_at, place_at}
+use Rattle.ledger_model.specs.Reading.{reading_in, body_reading, statement_at, report_at, lock_at, ack_at, proof_at, signed_at, place_at}
 use Rattle.ledger_model.specs.Reading.{positive_at, flag_at, value_at, tx_at, txs_at, list_at, values_at, signature_at}
 use Rattle.ledger_model.specs.Audits.{own_sent, unsent_in, is_not_after, NothingUnsent}
 use Rattle.ledger_model.proofs.Lists.{same_some}
@@ -34,7 +34,7 @@ at_place : (x e : Entry) (y : ℕ) → Some x ≡ Some e → Has (unsent_in fork
 at_place x e y at has = subst (λ z. Has (unsent_in forked z) y) (sym (same_some x e at)) has
 
 first_of_1 : (j y : ℕ) (e : Entry) → slice_get of_1 j ≡ Some e → Has (unsent_in forked e) y → IsTrue (is_not_after 1 4 0 1 j y)
-unfolding own_sent unsent_in statement_bytes body_bytes frame_bytes reading body_reading statement_at report_at lock_at ack_at proof_at
+unfolding own_sent unsent_in statement_bytes body_bytes frame_bytes reading_in body_reading statement_at report_at lock_at ack_at proof_at
     signed_at place_at positive_at flag_at value_at tx_at txs_at list_at values_at signature_at
 first_of_1 j y e at has = elim (cases_lt 4 j) [ inl above ↦ rw (lt-ltb 4 j above) refl | inr low ↦ below j low at ]
   where
@@ -50,7 +50,7 @@ first_of_1 j y e at has = elim (cases_lt 4 j) [ inl above ↦ rw (lt-ltb 4 j abo
     below (suc (suc (suc (suc (suc j))))) low at = absurd (omega (arith, low))
 
 pub caught_fork_example : CaughtForkExample
-unfolding own_sent unsent_in statement_bytes body_bytes frame_bytes reading body_reading statement_at report_at lock_at ack_at proof_at
+unfolding own_sent unsent_in statement_bytes body_bytes frame_bytes reading_in body_reading statement_at report_at lock_at ack_at proof_at
     signed_at place_at positive_at flag_at value_at tx_at txs_at list_at values_at signature_at
 caught_fork_example = (
   refl,
@@ -125,7 +125,7 @@ quiet_histories_pass = (
 )
 
 pub report_example : ReportExample
-unfolding own_sent unsent_in statement_bytes body_bytes frame_bytes reading body_reading statement_at report_at lock_at ack_at proof_at
+unfolding own_sent unsent_in statement_bytes body_bytes frame_bytes reading_in body_reading statement_at report_at lock_at ack_at proof_at
     signed_at place_at positive_at flag_at value_at tx_at txs_at list_at values_at signature_at
 report_example = (
   nothing_of_three (proposes a ∷ sends signed_report ∷ []) (accepts signed_report ∷ []) (accepts signed_report ∷ [])
@@ -147,6 +147,6 @@ report_example = (
 )
 
 pub lock_example : LockExample
-unfolding own_sent unsent_in statement_bytes body_bytes frame_bytes reading body_reading statement_at report_at lock_at ack_at proof_at
+unfolding own_sent unsent_in statement_bytes body_bytes frame_bytes reading_in body_reading statement_at report_at lock_at ack_at proof_at
     signed_at place_at positive_at flag_at value_at tx_at txs_at list_at values_at signature_at
 lock_example = (refl, refl)

@@ -21,7 +21,8 @@ use Rattle.ledger_model.specs.Rounds.{count_from, round_at, report_place}
 use Rattle.ledger_model.specs.Notes.{Note, OwnStatement, Read, Has, clock_of, signer_of}
 use Rattle.ledger_model.specs.Logs.{height_of, statements_made, notes_of, log_after, log_of}
 use Rattle.ledger_model.specs.Spelling.{statement_bytes}
-use Rattle.ledger_model.specs.Reading.{reading}
+use Rattle.ledger_model.proofs.FrameReading.{reading-reads}
+use Rattle.ledger_model.specs.Reading.{reading, reading_in}
 use Rattle.ledger_model.specs.Rules.{Ring, answer_to, with_signature}
 use Rattle.ledger_model.specs.Lawful.{Lawful, answer, Follows, Replay}
 use Rattle.ledger_model.specs.Groups.{history_of, is_correct, log_if, log_in, Backed, BackedWhole, AreCorrect, ReadsBacked}
@@ -225,20 +226,21 @@ module _ (config : Config) (ring : Ring) (histories : List History) (replay : Ar
     unfolding notes_of
     new_backed front back (event.Deliver bytes) (reply.Delivered (Ok u)) is follows lawful known h c s has =
         let entry : Entry = record { event = event.Deliver bytes; reply = reply.Delivered (Ok u) } in
-        let told = delivered_only (reading bytes) (clock_of (log_of config r h front)) h c s has in
+        let told = delivered_only (reading_in config.frames bytes) (clock_of (log_of config r h front)) h c s has in
         let ok : answer_to config ring (log_of config r (height_of s.statement) front) s ≡ Ok u =
         subst (λ o. answer config ring r front o ≡ Ok u) (told.0) (sym lawful) in
-        let fits = accepted_fits config ring r front bytes s u follows told.0 ok in
+        let read = (reading-reads config.frames bytes s told.0).0 in
+        let fits = accepted_fits config ring r front bytes s u follows read ok in
         let at : slice_get m.entries (length front) ≡ Some entry =
         ap (λ es. slice_get es (length front)) (is ∙ append_assoc front (entry ∷ []) back) ∙ get_seam front entry back in
         record {
           own = accepted_backed r (length front) m entry found at s.statement
-              (accepted_has bytes u s s.statement told.0 (in_itself s.statement)) fits;
+              (accepted_has bytes u s s.statement read (in_itself s.statement)) fits;
           reports = λ l p lock has_p.
               let fits_l : FitsLock l = subst FitsWidths lock fits in
               let fits_p = each_has FitsSigned l.proof p fits_l.proof has_p in
               accepted_backed r (length front) m entry found at (statement.Report p.report)
-              (accepted_has bytes u s (statement.Report p.report) told.0 (in_proof s.statement l p lock has_p)) fits_p.report;
+              (accepted_has bytes u s (statement.Report p.report) read (in_proof s.statement l p lock has_p)) fits_p.report;
         }
     new_backed front back event.RoundEnd (reply.RoundEnded (Ok ended)) is follows lawful known h c s has =
         let entry : Entry = record { event = event.RoundEnd; reply = reply.RoundEnded (Ok ended) } in

@@ -23,8 +23,9 @@ use Rattle.ledger_model.specs.Notes.{Note, Proposed, OwnStatement, Read, Retired
 use Rattle.ledger_model.specs.Locks.{value_taken}
 use Rattle.ledger_model.specs.Validity.{is_quorate, is_supporting}
 use Rattle.ledger_model.specs.Logs.{height_of, if_some, made_notes, statements_made, notes_of, log_after, log_of}
-use Rattle.ledger_model.specs.Reading.{reading}
-use Rattle.ledger_model.specs.Rules.{Ring, report_of, acks_of, causes, answer_to, is_signed, is_proved, with_signature}
+use Rattle.ledger_model.proofs.FrameReading.{reading-reads}
+use Rattle.ledger_model.specs.Reading.{reading, reading_in}
+use Rattle.ledger_model.specs.Rules.{Ring, report_of, ack_of, acks_of, causes, answer_to, is_signed, is_proved, with_signature}
 use Rattle.ledger_model.specs.declared.reply.RoundEnded.{RoundEnded}
 use Rattle.ledger_model.specs.Lawful.{Lawful, LawfulRoundEnd, answer, FollowsFrom, Follows}
 use Rattle.ledger_model.specs.Groups.{history_of, is_correct, log_if, log_in, Backed, BackedWhole, AreCorrect, ReadsBacked}
@@ -101,17 +102,18 @@ has_made_note log c (x ∷ xs) s (inl here) =
 has_made_note log c (x ∷ xs) s (inr later) =
     has_right (made_notes log c x) (flat_map (made_notes log c) xs) (OwnStatement c s.statement) (has_made_note log c xs s later)
 
-acks_signer : (id h k : ℕ) (o : Option Value) (made : List Statement) (u : Statement) → made ≡ acks_of id h k o → Has made u
+acks_signer : (config : Config) (id h k : ℕ) (o : Option Value) (made : List Statement) (u : Statement) → made ≡ acks_of config id h k o
+    → Has made u
     → signer_of u ≡ id
-acks_signer id h k None made u e has = absurd (has_none made u e has)
-acks_signer id h k (Some v) made u e has =
-    sym (ap signer_of (is_only made (statement.Ack (record { height = h; phase = k; signer = id; value = v })) u e has))
+acks_signer config id h k None made u e has = absurd (has_none made u e has)
+acks_signer config id h k (Some v) made u e has =
+    sym (ap signer_of (is_only made (statement.Ack (ack_of config id h k v)) u e has))
 
 pub signer_made : (config : Config) (id h : ℕ) (front : List Note) (d : ℕ) (made : List Statement) (u : Statement)
     → Made_by config id h front d made → Has made u → signer_of u ≡ id
 unfolding report_of
 signer_made config id h front d made u (Of_nothing e) has = absurd (has_none made u e has)
-signer_made config id h front d made u (Of_ack place e) has = acks_signer id h (phase_of d) (value_taken front (phase_of d)) made u e has
+signer_made config id h front d made u (Of_ack place e) has = acks_signer config id h (phase_of d) (value_taken front (phase_of d)) made u e has
 signer_made config id h front d made u (Of_lock lock place owner e own) has =
     sym (ap signer_of (is_only made (statement.Lock lock) u e has)) ∙ own.own
 signer_made config id h front d made u (Of_report own began place e) has =
@@ -261,10 +263,10 @@ module _ (config : Config) (ring : Ring) (correct : List ℕ) where
       → BackedWhole config (histories_at correct (front ++ a ∷ [])) s.statement
   unfolding notes_of
   new_read front a h backed is (event.Deliver bytes) (reply.Delivered (Ok u)) same_e same_r lawful unforged d s has =
-      let told = delivered_only (reading bytes) (clock_of (log_of config a.replica h (entries_at front a.replica))) h d s has in
+      let told = delivered_only (reading_in config.frames bytes) (clock_of (log_of config a.replica h (entries_at front a.replica))) h d s has in
       let ok : answer_to config ring (log_of config a.replica (height_of s.statement) (entries_at front a.replica)) s ≡ Ok u =
       subst (λ o. answer config ring a.replica (entries_at front a.replica) o ≡ Ok u) (told.0) (sym lawful) in
-      let fine = unforged s (told.0) in
+      let fine = unforged s (reading-reads config.frames bytes s told.0).0 in
       whole_later front a (s.statement) (record {
         own = fine.own (accepted_signed config ring (log_of config a.replica (height_of s.statement) (entries_at front a.replica)) s u ok);
         reports = λ l p lock in_proof. fine.reports l p lock in_proof

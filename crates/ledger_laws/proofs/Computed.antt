@@ -11,7 +11,7 @@ use Rattle.ledger_laws.specs.Examples.{RoundEntriesReplay, WorldRuns, tx_a, worl
 use Rattle.ledger_model.specs.Proper.{is_all_proper, proper_values}
 use Rattle.ledger_model.specs.Locks.{decided_of, holds, held_values}
 use Rattle.ledger_model.specs.Spelling.{statement_bytes, body_bytes, frame_bytes}
-use Rattle.ledger_model.specs.Reading.{reading, body_reading, statement_at, report_at, lock_at, proof_at, signed_at, place_at, positive_at}
+use Rattle.ledger_model.specs.Reading.{reading_in, body_reading, statement_at, report_at, lock_at, proof_at, signed_at, place_at, positive_at}
 use Rattle.ledger_model.specs.Reading.{flag_at, value_at, txs_at, tx_at, list_at, values_at, signature_at}
 use Rattle.ledger_model.specs.Signatures.{coef, checksum}
 use Rattle.ledger_model.specs.Applications.{codes, code_after, check_after, accepted, held_at}
@@ -58,13 +58,13 @@ pub report_spelled : ReportSpelled
 report_spelled = (refl, refl)
 
 pub frames_read_back : FramesReadBack
-unfolding frame_bytes body_bytes statement_bytes reading body_reading statement_at place_at positive_at flag_at tx_at report_at lock_at
+unfolding frame_bytes body_bytes statement_bytes reading_in body_reading statement_at place_at positive_at flag_at tx_at report_at lock_at
     proof_at signed_at value_at txs_at list_at values_at signature_at
 frames_read_back = (refl, refl, refl, refl)
 
 pub batch_limits : BatchLimits
 unfolding value_at
-batch_limits = (refl, λ bytes. refl)
+batch_limits = (refl, refl, λ bytes. refl, λ bytes. refl)
 
 pub digits_and_checksums : DigitsAndChecksums
 unfolding checksum coef
@@ -92,7 +92,7 @@ unfolding proper_values is_all_proper
 own_listing_is_no_others = (refl, refl, refl)
 
 pub log_of_a_round : LogOfARound
-unfolding log_of log_after notes_of statements_made statements_sent own_ack reading body_reading statement_at place_at positive_at flag_at
+unfolding log_of log_after notes_of statements_made statements_sent own_ack reading_in body_reading statement_at place_at positive_at flag_at
     tx_at report_at value_at txs_at list_at values_at signature_at frame_bytes body_bytes statement_bytes
 log_of_a_round = (refl, refl)
 
@@ -102,7 +102,7 @@ lock_sent_on = refl
 
 pub round_entries_replay : RoundEntriesReplay
 unfolding Replay ReplaysFrom propose_reply commits_of floor_of pool_of pool_after log_of log_after notes_of statements_made statements_sent
-    own_ack MayMake causes reading body_reading statement_at place_at positive_at flag_at tx_at report_at value_at txs_at list_at values_at
+    own_ack MayMake causes reading_in body_reading statement_at place_at positive_at flag_at tx_at report_at value_at txs_at list_at values_at
     signature_at frame_bytes body_bytes statement_bytes
 round_entries_replay = (
   (
@@ -121,7 +121,7 @@ round_entries_replay = (
 )
 
 pub world_runs : WorldRuns
-unfolding Runs event_of frames_sent submit_reply commits_of pool_of pool_after check_reply check_after accepted reading
+unfolding Runs event_of frames_sent submit_reply commits_of pool_of pool_after check_reply check_after accepted reading_in
 world_runs = (
   start,
   (refl, refl),

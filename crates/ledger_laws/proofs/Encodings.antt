@@ -18,8 +18,12 @@ use Rattle.ledger_model.specs.Order.{tx_bytes}
 use Rattle.ledger_model.specs.Validity.{ascends_within, signers_of}
 use Rattle.ledger_model.specs.Spelling.{list_bytes, report_bytes, signature_bytes, signed_bytes, lock_bytes, ack_bytes, statement_bytes}
 use Rattle.ledger_model.specs.Reading.{◌>>=◌, only_if, guarded, bytes_at, byte_at, number_at, signature_at, place_at, value_at, report_at}
-use Rattle.ledger_model.specs.Reading.{signed_at, proof_at, lock_at, ack_at, statement_at, body_reading, reading}
-use Rattle.ledger_model.specs.Limits.{max_signature_len, max_body_len}
+use Rattle.ledger_model.specs.Reading.{signed_at, proof_at, lock_at, ack_at, statement_at, body_reading, reading, reading_in, report_version, as_report, as_lock, as_ack}
+use Rattle.ledger_model.specs.Limits.{max_signature_len}
+use Rattle.ledger_model.specs.Versions.{first_byte}
+use Rattle.ledger_model.specs.declared.version.Version.{Version}
+use Rattle.ledger_model.specs.declared.version.Version.TheVariants.{One, Two}
+use Rattle.ledger_model.proofs.FrameReading.{body_parts}
 use Rattle.ledger_model.proofs.Readers.{bind_some, bind_then, only_if-some, guarded-some, some_is, read_once, wide16, wide32, number_reader}
 
 -- ---- encodings of which none is a proper prefix of another
@@ -115,17 +119,31 @@ FitsPlace height phase = (height < 2 ^ 32) × (phase < 2 ^ 32)
 abbrev pub FitsReport : Report → Type 0
 FitsReport r = FitsPlace r.height r.phase
 
-report_parts : (h p v l m rest : List ℕ) (s f : ℕ)
-    → (1 ∷ h ++ p ++ (s ∷ f ∷ []) ++ v ++ l ++ m) ++ rest ≡ 1 ∷ (h ++ (p ++ (s ∷ (f ∷ (v ++ (l ++ (m ++ rest)))))))
-report_parts h p v l m rest s f = simp append_assoc
+-- a first byte tells the version and the kind
+versions_once : (v w : Version) (kind : ℕ) → first_byte v kind ≡ first_byte w kind → v ≡ w
+versions_once One One kind e = refl
+versions_once One Two kind e = absurd (omega (arith, e))
+versions_once Two One kind e = absurd (omega (arith, e))
+versions_once Two Two kind e = refl
+
+kinds_once : (v w : Version) (k l : ℕ) → k < 16 → l < 16 → first_byte v k ≡ first_byte w l → k ≡ l
+kinds_once One One k l small also e = e
+kinds_once One Two k l small also e = absurd (omega (arith, e))
+kinds_once Two One k l small also e = absurd (omega (arith, e))
+kinds_once Two Two k l small also e = omega (arith, e)
+
+report_parts : (h p v l m rest : List ℕ) (b s f : ℕ)
+    → (b ∷ h ++ p ++ (s ∷ f ∷ []) ++ v ++ l ++ m) ++ rest ≡ b ∷ (h ++ (p ++ (s ∷ (f ∷ (v ++ (l ++ (m ++ rest)))))))
+report_parts h p v l m rest b s f = simp append_assoc
 
 report_once : Once report_bytes FitsReport
 report_once r q rest more is also e =
     let parts_r = report_parts (to_be_bytes w32 r.height) (to_be_bytes w32 r.phase) (value_bytes r.initial) (list_bytes r.proper)
-    (list_bytes r.locked) rest r.signer (cond r.all 1 0) in
+    (list_bytes r.locked) rest (first_byte r.version 1) r.signer (cond r.all 1 0) in
     let parts_q = report_parts (to_be_bytes w32 q.height) (to_be_bytes w32 q.phase) (value_bytes q.initial) (list_bytes q.proper)
-    (list_bytes q.locked) more q.signer (cond q.all 1 0) in
-    let tail = heads 1 1 _ _ (sym parts_r ∙ e ∙ parts_q) in
+    (list_bytes q.locked) more (first_byte q.version 1) q.signer (cond q.all 1 0) in
+    let tail = heads (first_byte r.version 1) (first_byte q.version 1) _ _ (sym parts_r ∙ e ∙ parts_q) in
+    let version = versions_once r.version q.version 1 tail.0 in
     let height = number_once r.height q.height _ _ is.0 also.0 tail.1 in
     let phase = number_once r.phase q.phase _ _ is.1 also.1 height.1 in
     let signer = heads r.signer q.signer _ _ phase.1 in
@@ -134,6 +152,7 @@ report_once r q rest more is also e =
     let proper = list_once r.proper q.proper _ _ tt tt initial.1 in
     let locked = list_once r.locked q.locked rest more tt tt proper.1 in (
       λ i. record {
+        version = version i;
         height = height.0 i;
         phase = phase.0 i;
         signer = signer.0 i;
@@ -165,27 +184,35 @@ pub record FitsLock (l : Lock) : Type 0 where
   pub place : FitsPlace l.height l.phase
   pub proof : AllByRecursion FitsSigned l.proof
 
-lock_parts : (h p v f rest : List ℕ) (s n : ℕ)
-    → (2 ∷ h ++ p ++ (s ∷ []) ++ v ++ (n ∷ []) ++ f) ++ rest ≡ 2 ∷ (h ++ (p ++ (s ∷ (v ++ (n ∷ (f ++ rest))))))
-lock_parts h p v f rest s n = simp append_assoc
+lock_parts : (h p v f rest : List ℕ) (b s n : ℕ)
+    → (b ∷ h ++ p ++ (s ∷ []) ++ v ++ (n ∷ []) ++ f) ++ rest ≡ b ∷ (h ++ (p ++ (s ∷ (v ++ (n ∷ (f ++ rest))))))
+lock_parts h p v f rest b s n = simp append_assoc
 
-ack_parts : (h p v rest : List ℕ) (s : ℕ) → (3 ∷ h ++ p ++ (s ∷ []) ++ v) ++ rest ≡ 3 ∷ (h ++ (p ++ (s ∷ (v ++ rest))))
-ack_parts h p v rest s = simp append_assoc
+ack_parts : (h p v rest : List ℕ) (b s : ℕ) → (b ∷ h ++ p ++ (s ∷ []) ++ v) ++ rest ≡ b ∷ (h ++ (p ++ (s ∷ (v ++ rest))))
+ack_parts h p v rest b s = simp append_assoc
 
 lock_once : Once lock_bytes FitsLock
 lock_once l m rest more is also e =
     let parts_l = lock_parts (to_be_bytes w32 l.height) (to_be_bytes w32 l.phase) (value_bytes l.value) (flat_map signed_bytes l.proof)
-    rest l.signer (length l.proof) in
+    rest (first_byte l.version 2) l.signer (length l.proof) in
     let parts_m = lock_parts (to_be_bytes w32 m.height) (to_be_bytes w32 m.phase) (value_bytes m.value) (flat_map signed_bytes m.proof)
-    more m.signer (length m.proof) in
-    let tail = heads 2 2 _ _ (sym parts_l ∙ e ∙ parts_m) in
+    more (first_byte m.version 2) m.signer (length m.proof) in
+    let tail = heads (first_byte l.version 2) (first_byte m.version 2) _ _ (sym parts_l ∙ e ∙ parts_m) in
+    let version = versions_once l.version m.version 2 tail.0 in
     let height = number_once l.height m.height _ _ is.place.0 also.place.0 tail.1 in
     let phase = number_once l.phase m.phase _ _ is.place.1 also.place.1 height.1 in
     let signer = heads l.signer m.signer _ _ phase.1 in
     let value = value_once l.value m.value _ _ tt tt signer.1 in
     let count = heads (length l.proof) (length m.proof) _ _ value.1 in
     let proof = many_once signed_bytes FitsSigned signed_once l.proof m.proof rest more count.0 is.proof also.proof count.1 in (
-      λ i. record { height = height.0 i; phase = phase.0 i; signer = signer.0 i; value = value.0 i; proof = proof.0 i },
+      λ i. record {
+        version = version i;
+        height = height.0 i;
+        phase = phase.0 i;
+        signer = signer.0 i;
+        value = value.0 i;
+        proof = proof.0 i;
+      },
       proof.1,
     )
 
@@ -194,14 +221,15 @@ FitsAck a = FitsPlace a.height a.phase
 
 ack_once : Once ack_bytes FitsAck
 ack_once a b rest more is also e =
-    let parts_a = ack_parts (to_be_bytes w32 a.height) (to_be_bytes w32 a.phase) (value_bytes a.value) rest a.signer in
-    let parts_b = ack_parts (to_be_bytes w32 b.height) (to_be_bytes w32 b.phase) (value_bytes b.value) more b.signer in
-    let tail = heads 3 3 _ _ (sym parts_a ∙ e ∙ parts_b) in
+    let parts_a = ack_parts (to_be_bytes w32 a.height) (to_be_bytes w32 a.phase) (value_bytes a.value) rest (first_byte a.version 3) a.signer in
+    let parts_b = ack_parts (to_be_bytes w32 b.height) (to_be_bytes w32 b.phase) (value_bytes b.value) more (first_byte b.version 3) b.signer in
+    let tail = heads (first_byte a.version 3) (first_byte b.version 3) _ _ (sym parts_a ∙ e ∙ parts_b) in
+    let version = versions_once a.version b.version 3 tail.0 in
     let height = number_once a.height b.height _ _ is.0 also.0 tail.1 in
     let phase = number_once a.phase b.phase _ _ is.1 also.1 height.1 in
     let signer = heads a.signer b.signer _ _ phase.1 in
     let value = value_once a.value b.value rest more tt tt signer.1 in
-    (λ i. record { height = height.0 i; phase = phase.0 i; signer = signer.0 i; value = value.0 i }, value.1)
+    (λ i. record { version = version i; height = height.0 i; phase = phase.0 i; signer = signer.0 i; value = value.0 i }, value.1)
 
 -- ---- statements
 
@@ -220,12 +248,18 @@ fitting_once (statement.Lock l) (statement.Lock m) is also e =
     ap statement.Lock (lock_once l m [] [] is also (ap (λ (b : List ℕ). b ++ []) e)).0
 fitting_once (statement.Ack a) (statement.Ack b) is also e =
     ap statement.Ack (ack_once a b [] [] is also (ap (λ (x : List ℕ). x ++ []) e)).0
-fitting_once (statement.Report r) (statement.Lock m) is also e = absurd cc
-fitting_once (statement.Report r) (statement.Ack b) is also e = absurd cc
-fitting_once (statement.Lock l) (statement.Report q) is also e = absurd cc
-fitting_once (statement.Lock l) (statement.Ack b) is also e = absurd cc
-fitting_once (statement.Ack a) (statement.Report q) is also e = absurd cc
-fitting_once (statement.Ack a) (statement.Lock m) is also e = absurd cc
+fitting_once (statement.Report r) (statement.Lock m) is also e =
+    absurd (omega (arith, kinds_once r.version m.version 1 2 (omega arith) (omega arith) (heads _ _ _ _ e).0))
+fitting_once (statement.Report r) (statement.Ack b) is also e =
+    absurd (omega (arith, kinds_once r.version b.version 1 3 (omega arith) (omega arith) (heads _ _ _ _ e).0))
+fitting_once (statement.Lock l) (statement.Report q) is also e =
+    absurd (omega (arith, kinds_once l.version q.version 2 1 (omega arith) (omega arith) (heads _ _ _ _ e).0))
+fitting_once (statement.Lock l) (statement.Ack b) is also e =
+    absurd (omega (arith, kinds_once l.version b.version 2 3 (omega arith) (omega arith) (heads _ _ _ _ e).0))
+fitting_once (statement.Ack a) (statement.Report q) is also e =
+    absurd (omega (arith, kinds_once a.version q.version 3 1 (omega arith) (omega arith) (heads _ _ _ _ e).0))
+fitting_once (statement.Ack a) (statement.Lock m) is also e =
+    absurd (omega (arith, kinds_once a.version m.version 3 2 (omega arith) (omega arith) (heads _ _ _ _ e).0))
 
 -- ---- the signatures of what was read
 
@@ -245,39 +279,47 @@ short_signature bytes signature rest e =
     let text : take a.0.0 a.0.1 ≡ signature = ap (λ (p : List ℕ × List ℕ). p.0) b.1 in
     omega (arith, short, ap length text, length-take a.0.0 a.0.1)
 
-short_signed : (bytes : List ℕ) (s : SignedReport) (rest : List ℕ) → signed_at bytes ≡ Some (s, rest) → IsShort s.signature
+short_signed : (version : Version) (bytes : List ℕ) (s : SignedReport) (rest : List ℕ) → signed_at version bytes ≡ Some (s, rest)
+    → IsShort s.signature
 unfolding signed_at
-short_signed bytes s rest e =
-    let a = bind_some (byte_at bytes)
-    (λ kind. guarded (eqb kind.0 1) (report_at kind.1) >>= λ report. signature_at report.1 >>= λ signature. Some
-    (record { report = report.0; signature = signature.0 }, signature.1)) (s, rest) e in
-    let b = bind_some (guarded (eqb a.0.0 1) (report_at a.0.1))
+short_signed version bytes s rest e =
+    bind_then (byte_at bytes)
+    (λ first. report_version version first.0 >>= λ own. report_at own first.1 >>= λ report. signature_at report.1 >>= λ signature. Some
+    (record { report = report.0; signature = signature.0 }, signature.1)) (s, rest) e (λ first first_is after_first.
+    bind_then (report_version version first.0) (λ own. report_at own first.1 >>= λ report. signature_at report.1 >>= λ signature. Some
+    (record { report = report.0; signature = signature.0 }, signature.1)) (s, rest) after_first (λ own own_is after_own.
+    bind_then (report_at own first.1)
     (λ report. signature_at report.1 >>= λ signature. Some (record { report = report.0; signature = signature.0 }, signature.1))
-    (s, rest) a.2 in
-    let c = bind_some (signature_at b.0.1) (λ signature. Some (record { report = b.0.0; signature = signature.0 }, signature.1)) (s, rest)
-    b.2 in
-    let made : SignedReport × List ℕ = (record { report = b.0.0; signature = c.0.0 }, c.0.1) in
-    subst (λ (q : SignedReport × List ℕ). IsShort q.0.signature) (some_is made (s, rest) c.2) (short_signature b.0.1 c.0.0 c.0.1 c.1)
+    (s, rest) after_own (λ report report_is after_report.
+    bind_then (signature_at report.1) (λ signature. Some (record { report = report.0; signature = signature.0 }, signature.1)) (s, rest)
+    after_report (λ signature signature_is after_signature.
+    let made : SignedReport × List ℕ = (record { report = report.0; signature = signature.0 }, signature.1) in
+    subst (λ (q : SignedReport × List ℕ). IsShort q.0.signature) (some_is made (s, rest) after_signature)
+    (short_signature report.1 signature.0 signature.1 signature_is)))))
 
-short_proof : (n : ℕ) (bytes : List ℕ) (proof : List SignedReport) (rest : List ℕ) → proof_at n bytes ≡ Some (proof, rest)
+short_proof : (version : Version) (n : ℕ) (bytes : List ℕ) (proof : List SignedReport) (rest : List ℕ)
+    → proof_at version n bytes ≡ Some (proof, rest)
     → AllByRecursion (λ (s : SignedReport). IsShort s.signature) proof
 unfolding proof_at
-short_proof zero bytes proof rest e =
+short_proof version zero bytes proof rest e =
     subst (λ (p : List SignedReport × List ℕ). AllByRecursion (λ (s : SignedReport). IsShort s.signature) p.0)
     (some_is ([], bytes) (proof, rest) e) tt
-short_proof (suc n) bytes proof rest e =
-    let a = bind_some (signed_at bytes) (λ first. proof_at n first.1 >>= λ others. Some (first.0 ∷ others.0, others.1)) (proof, rest) e in
-    let b = bind_some (proof_at n a.0.1) (λ others. Some (a.0.0 ∷ others.0, others.1)) (proof, rest) a.2 in
+short_proof version (suc n) bytes proof rest e =
+    let a = bind_some (signed_at version bytes) (λ first. proof_at version n first.1 >>= λ others. Some (first.0 ∷ others.0, others.1))
+    (proof, rest) e in
+    let b = bind_some (proof_at version n a.0.1) (λ others. Some (a.0.0 ∷ others.0, others.1)) (proof, rest) a.2 in
     let made : List SignedReport × List ℕ = (a.0.0 ∷ b.0.0, b.0.1) in
     subst (λ (p : List SignedReport × List ℕ). AllByRecursion (λ (s : SignedReport). IsShort s.signature) p.0)
-    (some_is made (proof, rest) b.2) (short_signed bytes a.0.0 a.0.1 a.1, short_proof n a.0.1 b.0.0 b.0.1 b.1)
+    (some_is made (proof, rest) b.2) (short_signed version bytes a.0.0 a.0.1 a.1, short_proof version n a.0.1 b.0.0 b.0.1 b.1)
 
-short_lock : (bytes : List ℕ) (l : Lock) (rest : List ℕ) → lock_at bytes ≡ Some (l, rest) → HasShortProof (statement.Lock l)
+short_lock : (version : Version) (bytes : List ℕ) (l : Lock) (rest : List ℕ) → lock_at version bytes ≡ Some (l, rest)
+    → HasShortProof (statement.Lock l)
 unfolding lock_at
-short_lock bytes l rest e =
-    bind_then (place_at bytes) (λ place. value_at place.1 >>= λ value. byte_at value.1 >>= λ count. guarded
-    (leb 3 count.0 && leb count.0 12) (proof_at count.0 count.1) >>= λ reports. only_if (ascends_within 0 256 (signers_of reports.0)) (
+short_lock version bytes l rest e =
+    bind_then (place_at bytes) (λ place. value_at version place.1 >>= λ value. byte_at value.1 >>= λ count. guarded
+    (leb 3 count.0 && leb count.0 12) (proof_at version count.0 count.1) >>= λ reports. only_if (ascends_within 0 256 (signers_of reports.0)) (
       record {
+        version = version;
         height = place.0.height;
         phase = place.0.phase;
         signer = place.0.signer;
@@ -287,9 +329,10 @@ short_lock bytes l rest e =
       },
       reports.1,
     )) (l, rest) e (λ place place_is after_place.
-    bind_then (value_at place.1) (λ value. byte_at value.1 >>= λ count. guarded (leb 3 count.0 && leb count.0 12)
-    (proof_at count.0 count.1) >>= λ reports. only_if (ascends_within 0 256 (signers_of reports.0)) (
+    bind_then (value_at version place.1) (λ value. byte_at value.1 >>= λ count. guarded (leb 3 count.0 && leb count.0 12)
+    (proof_at version count.0 count.1) >>= λ reports. only_if (ascends_within 0 256 (signers_of reports.0)) (
       record {
+        version = version;
         height = place.0.height;
         phase = place.0.phase;
         signer = place.0.signer;
@@ -299,9 +342,10 @@ short_lock bytes l rest e =
       },
       reports.1,
     )) (l, rest) after_place (λ value value_is after_value.
-    bind_then (byte_at value.1) (λ count. guarded (leb 3 count.0 && leb count.0 12) (proof_at count.0 count.1) >>= λ reports. only_if
+    bind_then (byte_at value.1) (λ count. guarded (leb 3 count.0 && leb count.0 12) (proof_at version count.0 count.1) >>= λ reports. only_if
     (ascends_within 0 256 (signers_of reports.0)) (
       record {
+        version = version;
         height = place.0.height;
         phase = place.0.phase;
         signer = place.0.signer;
@@ -311,9 +355,10 @@ short_lock bytes l rest e =
       },
       reports.1,
     )) (l, rest) after_value (λ count count_is after_count.
-    bind_then (guarded (leb 3 count.0 && leb count.0 12) (proof_at count.0 count.1))
+    bind_then (guarded (leb 3 count.0 && leb count.0 12) (proof_at version count.0 count.1))
     (λ reports. only_if (ascends_within 0 256 (signers_of reports.0)) (
       record {
+        version = version;
         height = place.0.height;
         phase = place.0.phase;
         signer = place.0.signer;
@@ -323,9 +368,10 @@ short_lock bytes l rest e =
       },
       reports.1,
     )) (l, rest) after_count (λ reports reports_is after_reports.
-    let g = guarded-some (leb 3 count.0 && leb count.0 12) (proof_at count.0 count.1) reports reports_is in
+    let g = guarded-some (leb 3 count.0 && leb count.0 12) (proof_at version count.0 count.1) reports reports_is in
     let made : Lock × List ℕ = (
       record {
+        version = version;
         height = place.0.height;
         phase = place.0.phase;
         signer = place.0.signer;
@@ -336,53 +382,53 @@ short_lock bytes l rest e =
       reports.1,
     ) in
     let o = only_if-some (ascends_within 0 256 (signers_of reports.0)) made (l, rest) after_reports in
-    subst (λ (q : Lock × List ℕ). HasShortProof (statement.Lock q.0)) o.1 (short_proof count.0 count.1 reports.0 reports.1 g.1)))))
+    subst (λ (q : Lock × List ℕ). HasShortProof (statement.Lock q.0)) o.1 (short_proof version count.0 count.1 reports.0 reports.1 g.1)))))
 
-abbrev as_report : Report × List ℕ → Option (Statement × List ℕ)
-as_report r = Some (statement.Report r.0, r.1)
-
-abbrev as_lock : Lock × List ℕ → Option (Statement × List ℕ)
-as_lock l = Some (statement.Lock l.0, l.1)
-
-abbrev as_ack : Ack × List ℕ → Option (Statement × List ℕ)
-as_ack a = Some (statement.Ack a.0, a.1)
-
-short_kind : (bytes : List ℕ) (s : Statement) (rest : List ℕ) (one two three : Bool)
-    → cond one (report_at bytes >>= as_report) (cond two (lock_at bytes >>= as_lock) (cond three (ack_at bytes >>= as_ack) None))
-    ≡ Some (s, rest)
+short_as_report : (version : Version) (bytes : List ℕ) (s : Statement) (rest : List ℕ) → as_report version bytes ≡ Some (s, rest)
     → HasShortProof s
-short_kind bytes s rest true two three e =
-    let a = bind_some (report_at bytes) as_report (s, rest) e in
+short_as_report version bytes s rest e =
+    let a = bind_some (report_at version bytes) (λ r. Some (statement.Report r.0, r.1)) (s, rest) e in
     subst (λ (q : Statement × List ℕ). HasShortProof q.0) (some_is (statement.Report a.0.0, a.0.1) (s, rest) a.2) tt
-short_kind bytes s rest false true three e =
-    let a = bind_some (lock_at bytes) as_lock (s, rest) e in
+
+short_as_lock : (version : Version) (bytes : List ℕ) (s : Statement) (rest : List ℕ) → as_lock version bytes ≡ Some (s, rest)
+    → HasShortProof s
+short_as_lock version bytes s rest e =
+    let a = bind_some (lock_at version bytes) (λ l. Some (statement.Lock l.0, l.1)) (s, rest) e in
     subst (λ (q : Statement × List ℕ). HasShortProof q.0) (some_is (statement.Lock a.0.0, a.0.1) (s, rest) a.2)
-    (short_lock bytes a.0.0 a.0.1 a.1)
-short_kind bytes s rest false false true e =
-    let a = bind_some (ack_at bytes) as_ack (s, rest) e in
+    (short_lock version bytes a.0.0 a.0.1 a.1)
+
+short_as_ack : (version : Version) (bytes : List ℕ) (s : Statement) (rest : List ℕ) → as_ack version bytes ≡ Some (s, rest)
+    → HasShortProof s
+short_as_ack version bytes s rest e =
+    let a = bind_some (ack_at version bytes) (λ a. Some (statement.Ack a.0, a.1)) (s, rest) e in
     subst (λ (q : Statement × List ℕ). HasShortProof q.0) (some_is (statement.Ack a.0.0, a.0.1) (s, rest) a.2) tt
-short_kind bytes s rest false false false e = absurd cc
+
+-- the tests ask whether the first byte is 01, 02, 03, 11, 12, 13
+short_kind : (bytes : List ℕ) (s : Statement) (rest : List ℕ) (a b c d e f : Bool)
+    → cond a (as_report One bytes) (cond b (as_lock One bytes) (cond c (as_ack One bytes)
+    (cond d (as_report Two bytes) (cond e (as_lock Two bytes) (cond f (as_ack Two bytes) None))))) ≡ Some (s, rest)
+    → HasShortProof s
+short_kind bytes s rest true b c d e f is = short_as_report One bytes s rest is
+short_kind bytes s rest false true c d e f is = short_as_lock One bytes s rest is
+short_kind bytes s rest false false true d e f is = short_as_ack One bytes s rest is
+short_kind bytes s rest false false false true e f is = short_as_report Two bytes s rest is
+short_kind bytes s rest false false false false true f is = short_as_lock Two bytes s rest is
+short_kind bytes s rest false false false false false true is = short_as_ack Two bytes s rest is
+short_kind bytes s rest false false false false false false is = absurd cc
 
 short_statement : (bytes : List ℕ) (s : Statement) (rest : List ℕ) → statement_at bytes ≡ Some (s, rest) → HasShortProof s
 unfolding statement_at
 short_statement bytes s rest e =
-    let a = bind_some (byte_at bytes) (λ kind. cond (eqb kind.0 1) (report_at kind.1 >>= as_report)
-    (cond (eqb kind.0 2) (lock_at kind.1 >>= as_lock)
-    (cond (eqb kind.0 3) (ack_at kind.1 >>= as_ack) None))) (s, rest) e in
-    short_kind a.0.1 s rest (eqb a.0.0 1) (eqb a.0.0 2) (eqb a.0.0 3) a.2
+    let a = bind_some (byte_at bytes) (λ first. cond (eqb first.0 1) (as_report One first.1) (cond (eqb first.0 2) (as_lock One first.1)
+    (cond (eqb first.0 3) (as_ack One first.1) (cond (eqb first.0 17) (as_report Two first.1) (cond (eqb first.0 18) (as_lock Two first.1)
+    (cond (eqb first.0 19) (as_ack Two first.1) None)))))) (s, rest) e in
+    short_kind a.0.1 s rest (eqb a.0.0 1) (eqb a.0.0 2) (eqb a.0.0 3) (eqb a.0.0 17) (eqb a.0.0 18) (eqb a.0.0 19) a.2
 
 -- whatever numbers a frame contains, the signatures that are read from it are short
 pub read_short : (bytes : List ℕ) (s : SignedStatement) → reading bytes ≡ Some s → HasShortProof s.statement
-unfolding reading body_reading
+unfolding reading_in
 read_short bytes s e =
-    let a = bind_some (number_at w32 bytes) (λ len. guarded (eqb (length len.1) len.0 && leb len.0 max_body_len) (body_reading len.1)) s e
-    in
-    let g = guarded-some (eqb (length a.0.1) a.0.0 && leb a.0.0 max_body_len) (body_reading a.0.1) s a.2 in
-    let b = bind_some (statement_at a.0.1)
-    (λ t. signature_at t.1 >>= λ signature. only_if (eqb (length signature.1) 0) (record { statement = t.0; signature = signature.0 }))
-    s g.1 in
-    let c = bind_some (signature_at b.0.1)
-    (λ signature. only_if (eqb (length signature.1) 0) (record { statement = b.0.0; signature = signature.0 })) s b.2 in
-    let made : SignedStatement = record { statement = b.0.0; signature = c.0.0 } in
-    let o = only_if-some (eqb (length c.0.1) 0) made s c.2 in
-    subst (λ (x : SignedStatement). HasShortProof x.statement) o.1 (short_statement a.0.1 b.0.0 b.0.1 b.1)
+    let a = bind_some (number_at w32 bytes) (λ len. guarded (eqb (length len.1) len.0) (body_reading Two len.1)) s e in
+    let g = guarded-some (eqb (length a.0.1) a.0.0) (body_reading Two a.0.1) s a.2 in
+    let (left, is_statement, is_signature, ends, carried) = body_parts Two a.0.1 s g.1 in
+    short_statement a.0.1 s.statement left.0 is_statement

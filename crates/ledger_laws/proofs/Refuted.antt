@@ -17,7 +17,7 @@ use Rattle.ledger_model.specs.declared.history.Entry.{Entry}
 use Rattle.ledger_model.specs.Locks.{decided_of, held_values, holds}
 use Rattle.ledger_model.specs.Logs.{log_of, log_after, notes_of, statements_made, statements_sent, own_ack}
 use Rattle.ledger_model.specs.Spelling.{statement_bytes, body_bytes, frame_bytes}
-use Rattle.ledger_model.specs.Reading.{reading, body_reading, statement_at, report_at, lock_at, ack_at, proof_at, signed_at, place_at}
+use Rattle.ledger_model.specs.Reading.{reading_in, body_reading, statement_at, report_at, lock_at, ack_at, proof_at, signed_at, place_at}
 use Rattle.ledger_model.specs.Reading.{positive_at, flag_at, value_at, txs_at, tx_at, list_at, values_at, signature_at}
 use Rattle.ledger_model.specs.Timelines.{AreReplicas}
 use Rattle.ledger_model.specs.Worlds.{World, world_at, Refines, Begins, IsReplyOn, IsLedger}
@@ -50,19 +50,19 @@ unproposed_batch_has_no_ledger config histories r h m v w found at_w proposed di
 
 commits_a : (result : BlockResult) → commits_of (four KvStore) 1 (commits a a result) ≡ a ∷ []
 unfolding commits_of decided_of log_of log_after notes_of statements_made statements_sent own_ack held_values holds statement_bytes
-    body_bytes frame_bytes reading body_reading statement_at report_at lock_at ack_at proof_at signed_at place_at positive_at flag_at
+    body_bytes frame_bytes reading_in body_reading statement_at report_at lock_at ack_at proof_at signed_at place_at positive_at flag_at
     value_at txs_at tx_at list_at values_at signature_at
 commits_a result = refl
 
 commits_b : (result : BlockResult) → commits_of (four KvStore) 2 (commits b b result) ≡ b ∷ []
 unfolding commits_of decided_of log_of log_after notes_of statements_made statements_sent own_ack held_values holds statement_bytes
-    body_bytes frame_bytes reading body_reading statement_at report_at lock_at ack_at proof_at signed_at place_at positive_at flag_at
+    body_bytes frame_bytes reading_in body_reading statement_at report_at lock_at ack_at proof_at signed_at place_at positive_at flag_at
     value_at txs_at tx_at list_at values_at signature_at
 commits_b result = refl
 
 commits_other : (result : BlockResult) → commits_of (four KvStore) 1 (commits a b result) ≡ b ∷ []
 unfolding commits_of decided_of log_of log_after notes_of statements_made statements_sent own_ack held_values holds statement_bytes
-    body_bytes frame_bytes reading body_reading statement_at report_at lock_at ack_at proof_at signed_at place_at positive_at flag_at
+    body_bytes frame_bytes reading_in body_reading statement_at report_at lock_at ack_at proof_at signed_at place_at positive_at flag_at
     value_at txs_at tx_at list_at values_at signature_at
 commits_other result = refl
 
@@ -164,7 +164,7 @@ wrong_block_has_no_ledger result wrong ledger is =
 
 pub wrong_query_has_no_ledger : WrongQueryHasNoLedger
 unfolding commits_of decided_of log_of log_after notes_of statements_made statements_sent own_ack held_values holds statement_bytes
-    body_bytes frame_bytes reading body_reading statement_at report_at lock_at ack_at proof_at signed_at place_at positive_at flag_at
+    body_bytes frame_bytes reading_in body_reading statement_at report_at lock_at ack_at proof_at signed_at place_at positive_at flag_at
     value_at txs_at tx_at list_at values_at signature_at
 wrong_query_has_no_ledger key given wrong ledger is =
     let m : History = record { replica = 1; entries = commits a a (first_result a) ++ answers_query key given ∷ [] } in
@@ -201,14 +201,14 @@ unproposed_batch_example = (
 
 commits_too : (result : BlockResult) → commits_of (four KvStore) 2 (commits a a result) ≡ a ∷ []
 unfolding commits_of decided_of log_of log_after notes_of statements_made statements_sent own_ack held_values holds statement_bytes
-    body_bytes frame_bytes reading body_reading statement_at report_at lock_at ack_at proof_at signed_at place_at positive_at flag_at
+    body_bytes frame_bytes reading_in body_reading statement_at report_at lock_at ack_at proof_at signed_at place_at positive_at flag_at
     value_at txs_at tx_at list_at values_at signature_at
 commits_too result = refl
 
 commits_asked : (key : List ℕ) (given : Result QueryAnswer NotHeld)
     → commits_of (four KvStore) 1 (commits a a (first_result a) ++ answers_query key given ∷ []) ≡ a ∷ []
 unfolding commits_of decided_of log_of log_after notes_of statements_made statements_sent own_ack held_values holds statement_bytes
-    body_bytes frame_bytes reading body_reading statement_at report_at lock_at ack_at proof_at signed_at place_at positive_at flag_at
+    body_bytes frame_bytes reading_in body_reading statement_at report_at lock_at ack_at proof_at signed_at place_at positive_at flag_at
     value_at txs_at tx_at list_at values_at signature_at
 commits_asked key given = refl
 
@@ -239,7 +239,7 @@ module _ (key : List ℕ) where
 
   replies_1 : Replies 1 asked
   unfolding commits_of decided_of log_of log_after notes_of statements_made statements_sent own_ack held_values holds statement_bytes
-      body_bytes frame_bytes reading body_reading statement_at report_at lock_at ack_at proof_at signed_at place_at positive_at flag_at
+      body_bytes frame_bytes reading_in body_reading statement_at report_at lock_at ack_at proof_at signed_at place_at positive_at flag_at
       value_at txs_at tx_at list_at values_at signature_at
   replies_1 zero e at = same_reply 1 asked 0 _ e at tt
   replies_1 (suc zero) e at = same_reply 1 asked 1 _ e at tt
@@ -292,6 +292,6 @@ agreement_has_ledger = is_agreed
 
 pub floor_example : FloorExample
 unfolding commits_of floor_of retire_reply propose_reply decided_of log_of log_after notes_of statements_made statements_sent own_ack
-    held_values holds statement_bytes body_bytes frame_bytes reading body_reading statement_at report_at lock_at ack_at proof_at signed_at
+    held_values holds statement_bytes body_bytes frame_bytes reading_in body_reading statement_at report_at lock_at ack_at proof_at signed_at
     place_at positive_at flag_at value_at txs_at tx_at list_at values_at signature_at
 floor_example = (refl, refl, refl, refl, refl, refl)

@@ -6,7 +6,8 @@ use Rattle.std.specs.Prelude.{nat_eq, nat_lt, nat_le, length, take, Option, Some
 use Rattle.std.specs.List.{flat_map, filter_map, list_all, AllByRecursion}
 use Rattle.std.proofs.lemmas.List.{append-nil}
 use Rattle.std.proofs.lemmas.Bool.{and_parts, cases_Bool, eqb-true, eq-eqb, leb-true, ltb-false, not-false, or_parts}
-use Rattle.ledger_model.specs.Limits.{max_height, last_round, max_ahead, max_batch_len}
+use Rattle.ledger_model.specs.Limits.{max_height, last_round, max_ahead}
+use Rattle.ledger_model.specs.Versions.{batch_limit}
 use Rattle.ledger_model.specs.declared.config.Config.{Config}
 use Rattle.ledger_model.specs.declared.event.Event.{Event}
 use Rattle.ledger_model.specs.declared.event.Event.TheVariants as event
@@ -29,7 +30,7 @@ use Rattle.ledger_model.specs.Validity.{ascends_within, signers_of, is_quorate}
 use Rattle.ledger_model.specs.Logs.{height_of, if_some, is_read_at_once, made_notes, statements_sent, statements_made, notes_of, log_after}
 use Rattle.ledger_model.specs.Logs.{log_of}
 use Rattle.ledger_model.specs.Spelling.{statement_bytes}
-use Rattle.ledger_model.specs.Reading.{reading}
+use Rattle.ledger_model.specs.Reading.{reading, reading_in}
 use Rattle.ledger_model.specs.Pools.{first_fault}
 use Rattle.ledger_model.specs.Commits.{commits_of, floor_of, pool_of, propose_reply}
 use Rattle.ledger_model.specs.Rules.{Ring, MayMake, MayMakeOpen, phase_in, has_phase, causes, answer_to}
@@ -132,7 +133,7 @@ low_opened config id front n v e =
     ((nat_lt n (floor_of front), closed.Retired)
     ∷ (is_open (log_of config id n front), closed.AlreadyOpen)
     ∷ (nat_lt (length (commits_of config id front) + max_ahead) n, closed.TooFar)
-    ∷ []) (take max_batch_len (pool_of config id front)) v e in
+    ∷ []) (take (batch_limit config.frames) (pool_of config id front)) v e in
     ltb-false max_height n ((or_parts (nat_eq n 0) (nat_lt max_height n) open_now).1)
 
 module _ (config : Config) (ring : Ring) (id h : ℕ) where
@@ -144,7 +145,7 @@ module _ (config : Config) (ring : Ring) (id h : ℕ) where
       let low = low_opened config id front n w lawful in
       omega arith
   low_note front log (event.Deliver bytes) (reply.Delivered (Ok u)) lawful v is =
-      absurd (none_some _ v (initial_delivered (clock_of log) h (reading bytes)) is)
+      absurd (none_some _ v (initial_delivered (clock_of log) h (reading_in config.frames bytes)) is)
   low_note front log event.RoundEnd (reply.RoundEnded (Ok ended)) lawful v is =
       absurd (none_some _ v (initial_made log (clock_of log + 1) (statements_made config id h log (clock_of log + 1) ended)) is)
   low_note front log (event.Retire g) (reply.Retired (Ok f)) lawful v is = absurd (none_some _ v (initial_retired (nat_lt h f) f) is)
@@ -197,7 +198,7 @@ module _ (config : Config) (ring : Ring) (id h : ℕ) where
   notes_clock front log (event.Query x y) (reply.RoundEnded (Ok ended)) lawful = absurd lawful
   notes_clock front log (event.Retire x) (reply.RoundEnded (Ok ended)) lawful = absurd lawful
   notes_clock front log (event.Propose n) (reply.Proposed (Ok v)) lawful = clock_proposed (nat_eq n h) v
-  notes_clock front log (event.Deliver bytes) (reply.Delivered (Ok u)) lawful = clock_delivered (clock_of log) (reading bytes)
+  notes_clock front log (event.Deliver bytes) (reply.Delivered (Ok u)) lawful = clock_delivered (clock_of log) (reading_in config.frames bytes)
   notes_clock front log (event.Retire g) (reply.Retired (Ok f)) lawful = clock_retired (nat_lt h f) f
   notes_clock front log e r lawful = refl
 

@@ -2,6 +2,7 @@
 use Rattle.std.proofs.Common.{lit≤}
 use Rattle.std.specs.Prelude.{◌≡◌, ℕ, Bool, true, false, List, [], ◌∷◌, ◌++◌, length, replicate, Some, None, Ok, Err}
 use Rattle.ledger_model.specs.declared.config.Config.{Config}
+use Rattle.ledger_model.specs.declared.version.Version.TheVariants.{One, Two}
 use Rattle.ledger_model.specs.declared.config.AppKind.{AppKind}
 use Rattle.ledger_model.specs.declared.config.AppKind.TheVariants.{KvStore, Counter, Purse}
 use Rattle.ledger_model.specs.declared.statement.Report.{Report}
@@ -37,7 +38,7 @@ use Rattle.ledger_model.specs.Worlds.{World, beginning, Runs}
 
 -- a cluster of four replicas, of which one may lie
 abbrev pub four : AppKind → Config
-four kind = record { replicas = 4; faults = 1; kind = kind; enough = lit≤ tt; bounded = lit≤ tt; tolerant = lit≤ tt }
+four kind = record { replicas = 4; faults = 1; kind = kind; frames = One; enough = lit≤ tt; bounded = lit≤ tt; tolerant = lit≤ tt }
 
 -- the value of the one transaction that sets this letter to 1
 abbrev pub one : ℕ → Value
@@ -77,6 +78,7 @@ y = one 0x79
 abbrev pub reads : ℕ → Value → Bool → List Value → Note
 reads signer initial all proper = Read 1 (record {
   statement = statement.Report (record {
+    version = One;
     height = 1;
     phase = 1;
     signer = signer;
@@ -139,7 +141,7 @@ CutToFour =
 
 -- a lock on the value, of this phase and signer, with no proof
 abbrev pub a_lock : ℕ → ℕ → Value → Lock
-a_lock phase signer v = record { height = 1; phase = phase; signer = signer; value = v; proof = [] }
+a_lock phase signer v = record { version = One; height = 1; phase = phase; signer = signer; value = v; proof = [] }
 
 -- the note that such a lock was read in the round
 abbrev pub reads_lock : ℕ → ℕ → ℕ → Value → Note
@@ -148,7 +150,7 @@ reads_lock round phase signer v = Read round (record { statement = statement.Loc
 -- the note that the signer's acknowledgement of a lock on [a=1] was read at place 3 of phase 1
 abbrev pub reads_ack : ℕ → Note
 reads_ack signer = Read 3 (record {
-  statement = statement.Ack (record { height = 1; phase = 1; signer = signer; value = a });
+  statement = statement.Ack (record { version = One; height = 1; phase = 1; signer = signer; value = a });
   signature =
       [];
 })
@@ -184,7 +186,7 @@ TwoLocksHeld = held_values (to_round_3 ++ Round 4 ∷ Round 5 ∷ Round 6 ∷ re
 
 -- the report of replica 0 on a, at height 1 and phase 1
 abbrev pub first_report : Report
-first_report = record { height = 1; phase = 1; signer = 0; all = false; initial = a; proper = a ∷ []; locked = [] }
+first_report = record { version = One; height = 1; phase = 1; signer = 0; all = false; initial = a; proper = a ∷ []; locked = [] }
 
 -- the first report of replica 0, which proposed [a=1], has these 23 bytes
 abbrev pub ReportSpelled : Type 0
@@ -206,7 +208,7 @@ by_signer signer = record { report = record first_report { signer = signer }; si
 abbrev pub signed_lock : List SignedReport → SignedStatement
 signed_lock proof = record {
   statement =
-      statement.Lock (record { height = 1; phase = 1; signer = 1; value = a; proof = proof });
+      statement.Lock (record { version = One; height = 1; phase = 1; signer = 1; value = a; proof = proof });
   signature = [];
 }
 
@@ -219,11 +221,14 @@ FramesReadBack =
     × (reading (frame_bytes signed_report ++ 0 ∷ []) ≡ None)
     × (reading (frame_bytes (signed_lock (by_signer 0 ∷ by_signer 2 ∷ by_signer 1 ∷ []))) ≡ None)
 
--- the longest batch, 16 transactions of 64 bytes, has 1041 bytes, and a batch of 17 transactions is not read
+-- The longest batch of version 1, 16 transactions of 64 bytes, has 1041 bytes, that of version 2, 64 transactions, has 4161. A count of 17 is
+-- not read in version 1, nor one of 65 in version 2.
 abbrev pub BatchLimits : Type 0
 BatchLimits =
     (length (value_bytes (replicate 16 (replicate 64 0x61))) ≡ 1041)
-    × ((bytes : List ℕ) → value_at (17 ∷ bytes) ≡ None)
+    × (length (value_bytes (replicate 64 (replicate 64 0x61))) ≡ 4161)
+    × ((bytes : List ℕ) → value_at One (17 ∷ bytes) ≡ None)
+    × ((bytes : List ℕ) → value_at Two (65 ∷ bytes) ≡ None)
 
 -- ---- digits and checksums (RFC 8554, sections 3.1.3 and 4.4)
 

@@ -2,6 +2,7 @@
 -- there are runs in which nothing is forged. The examples have a cluster of four, of which the replicas 0, 1 and 2 are correct.
 use Rattle.std.specs.Prelude.{◌≡◌, ℕ, ◌+◌, ◌<◌, true, false, List, [], ◌∷◌, ◌++◌, length, replicate, Result, Some, Ok, Err, slice_get}
 use Rattle.ledger_model.specs.declared.config.Config.{Config}
+use Rattle.ledger_model.specs.declared.version.Version.TheVariants.{One}
 use Rattle.ledger_model.specs.declared.config.AppKind.TheVariants.{KvStore}
 use Rattle.ledger_model.specs.declared.statement.SignedStatement.{SignedStatement}
 use Rattle.ledger_model.specs.declared.statement.Statement.TheVariants as statement
@@ -61,6 +62,7 @@ LedgerIsUnique =
 abbrev pub lock_on : Value → SignedStatement
 lock_on v = record {
   statement = statement.Lock (record {
+    version = One;
     height = 1;
     phase = 1;
     signer = 1;
@@ -73,7 +75,7 @@ lock_on v = record {
 
 -- the signer's acknowledgement of that lock
 abbrev pub ack_on : Value → ℕ → SignedStatement
-ack_on v signer = record { statement = statement.Ack (record { height = 1; phase = 1; signer = signer; value = v }); signature = [] }
+ack_on v signer = record { statement = statement.Ack (record { version = One; height = 1; phase = 1; signer = signer; value = v }); signature = [] }
 
 -- the replica opens height 1 with the value
 abbrev pub proposes : Value → Entry

@@ -16,7 +16,7 @@ use Rattle.ledger_model.specs.declared.statement.SignedStatement.{SignedStatemen
 use Rattle.ledger_model.specs.Values.{Value}
 use Rattle.ledger_model.specs.Notes.{Note, Proposed, OwnStatement, Read, Retired, clock_of, retires, is_retired}
 use Rattle.ledger_model.specs.Logs.{height_of, if_some, is_read_at_once, made_notes, statements_made, notes_of, log_after, log_of}
-use Rattle.ledger_model.specs.Reading.{reading}
+use Rattle.ledger_model.specs.Reading.{reading_in}
 use Rattle.ledger_model.specs.Pools.{first_fault}
 use Rattle.ledger_model.specs.Commits.{commits_of, floor_step, floor_after, floor_of, retire_reply}
 use Rattle.ledger_model.specs.Rules.{Ring}
@@ -122,7 +122,7 @@ module _ (config : Config) (ring : Ring) (id h : ℕ) where
   notes_retire front log event.Execute (reply.Retired (Ok g)) lawful = absurd lawful
   notes_retire front log (event.Query x y) (reply.Retired (Ok g)) lawful = absurd lawful
   notes_retire front log (event.Propose n) (reply.Proposed (Ok v)) lawful = proposed_keeps (nat_eq n h) v
-  notes_retire front log (event.Deliver bytes) (reply.Delivered (Ok u)) lawful = delivered_keeps (clock_of log) h (reading bytes)
+  notes_retire front log (event.Deliver bytes) (reply.Delivered (Ok u)) lawful = delivered_keeps (clock_of log) h (reading_in config.frames bytes)
   notes_retire front log event.RoundEnd (reply.RoundEnded (Ok ended)) lawful =
       round_keeps log (clock_of log + 1) (statements_made config id h log (clock_of log + 1) ended)
   notes_retire front log e r lawful = refl

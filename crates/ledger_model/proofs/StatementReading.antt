@@ -21,6 +21,11 @@ use Rattle.ledger_model.proofs.Readers.{bind_some, bind_then, only_if-some, guar
 use Rattle.ledger_model.proofs.Readers.{many_again, IsBytes-tail, byte_takes, bytes_take, bytes_again, wide16, wide32, number_reader}
 use Rattle.ledger_model.proofs.ValueReading.{value_reader, list_reader}
 use Rattle.ledger_model.specs.Limits.{max_signature_len}
+use Rattle.ledger_model.specs.Versions.{reads, first_byte}
+use Rattle.ledger_model.specs.declared.version.Version.{Version}
+use Rattle.ledger_model.specs.declared.version.Version.TheVariants.{One, Two}
+use Rattle.ledger_model.specs.Reading.{report_version, as_report, as_lock, as_ack}
+use Rattle.ledger_model.proofs.VersionLaws.{reads_one}
 
 -- ---- signatures
 
@@ -154,13 +159,18 @@ report_regroup : (h p v l m rest : List ℕ) (s f : ℕ)
     → (h ++ p ++ s ∷ []) ++ ((f ∷ []) ++ (v ++ (l ++ (m ++ rest)))) ≡ (h ++ p ++ (s ∷ f ∷ []) ++ v ++ l ++ m) ++ rest
 report_regroup h p v l m rest s f = simp append_assoc
 
-pub report_takes : (bytes : List ℕ) (r : Report) (rest : List ℕ) → IsBytes bytes → report_at bytes ≡ Some (r, rest)
-    → (bytes ≡ report_tail r ++ rest) × IsReport r × IsBytes rest
+-- a report of this version that can be encoded
+abbrev pub IsReportIn : Version → Report → Type 0
+IsReportIn version r = (r.version ≡ version) × IsReport r
+
+pub report_takes : (version : Version) (bytes : List ℕ) (r : Report) (rest : List ℕ) → IsBytes bytes → report_at version bytes ≡ Some (r, rest)
+    → (bytes ≡ report_tail r ++ rest) × IsReportIn version r × IsBytes rest
 unfolding report_at
-report_takes bytes r rest fits e =
-    bind_then (place_at bytes) (λ place. flag_at place.1 >>= λ all. value_at all.1 >>= λ initial. list_at initial.1 >>= λ proper. guarded
-    (leb 1 (length proper.0)) (list_at proper.1) >>= λ locked. Some (
+report_takes version bytes r rest fits e =
+    bind_then (place_at bytes) (λ place. flag_at place.1 >>= λ all. value_at version all.1 >>= λ initial. list_at version initial.1 >>= λ proper. guarded
+    (leb 1 (length proper.0)) (list_at version proper.1) >>= λ locked. Some (
       record {
+        version = version;
         height = place.0.height;
         phase = place.0.phase;
         signer = place.0.signer;
@@ -172,9 +182,10 @@ report_takes bytes r rest fits e =
       },
       locked.1,
     )) (r, rest) e (λ place place_is after_place.
-    bind_then (flag_at place.1) (λ all. value_at all.1 >>= λ initial. list_at initial.1 >>= λ proper. guarded (leb 1 (length proper.0))
-    (list_at proper.1) >>= λ locked. Some (
+    bind_then (flag_at place.1) (λ all. value_at version all.1 >>= λ initial. list_at version initial.1 >>= λ proper. guarded (leb 1 (length proper.0))
+    (list_at version proper.1) >>= λ locked. Some (
       record {
+        version = version;
         height = place.0.height;
         phase = place.0.phase;
         signer = place.0.signer;
@@ -186,9 +197,10 @@ report_takes bytes r rest fits e =
       },
       locked.1,
     )) (r, rest) after_place (λ all all_is after_all.
-    bind_then (value_at all.1) (λ initial. list_at initial.1 >>= λ proper. guarded (leb 1 (length proper.0)) (list_at proper.1) >>=
+    bind_then (value_at version all.1) (λ initial. list_at version initial.1 >>= λ proper. guarded (leb 1 (length proper.0)) (list_at version proper.1) >>=
     λ locked. Some (
       record {
+        version = version;
         height = place.0.height;
         phase = place.0.phase;
         signer = place.0.signer;
@@ -200,8 +212,9 @@ report_takes bytes r rest fits e =
       },
       locked.1,
     )) (r, rest) after_all (λ initial initial_is after_initial.
-    bind_then (list_at initial.1) (λ proper. guarded (leb 1 (length proper.0)) (list_at proper.1) >>= λ locked. Some (
+    bind_then (list_at version initial.1) (λ proper. guarded (leb 1 (length proper.0)) (list_at version proper.1) >>= λ locked. Some (
       record {
+        version = version;
         height = place.0.height;
         phase = place.0.phase;
         signer = place.0.signer;
@@ -213,9 +226,10 @@ report_takes bytes r rest fits e =
       },
       locked.1,
     )) (r, rest) after_initial (λ proper proper_is after_proper.
-    bind_then (guarded (leb 1 (length proper.0)) (list_at proper.1))
+    bind_then (guarded (leb 1 (length proper.0)) (list_at version proper.1))
     (λ locked. Some (
       record {
+        version = version;
         height = place.0.height;
         phase = place.0.phase;
         signer = place.0.signer;
@@ -227,14 +241,15 @@ report_takes bytes r rest fits e =
       },
       locked.1,
     )) (r, rest) after_proper (λ locked locked_is after_locked.
-    let g = guarded-some (leb 1 (length proper.0)) (list_at proper.1) locked locked_is in
+    let g = guarded-some (leb 1 (length proper.0)) (list_at version proper.1) locked locked_is in
     let a = place_reader.takes bytes place.0 place.1 fits place_is in
     let b = flag_reader.takes place.1 all.0 all.1 a.2 all_is in
-    let c = value_reader.takes all.1 initial.0 initial.1 b.2 initial_is in
-    let d = list_reader.takes initial.1 proper.0 proper.1 c.2 proper_is in
-    let f = list_reader.takes proper.1 locked.0 locked.1 d.2 g.1 in
+    let c = (value_reader version).takes all.1 initial.0 initial.1 b.2 initial_is in
+    let d = (list_reader version).takes initial.1 proper.0 proper.1 c.2 proper_is in
+    let f = (list_reader version).takes proper.1 locked.0 locked.1 d.2 g.1 in
     let made : Report × List ℕ = (
       record {
+        version = version;
         height = place.0.height;
         phase = place.0.phase;
         signer = place.0.signer;
@@ -252,81 +267,106 @@ report_takes bytes r rest fits e =
     (c.0 ∙ ap (λ (t : List ℕ). value_bytes initial.0 ++ t) (d.0 ∙ ap (λ (t : List ℕ). list_bytes proper.0 ++ t) f.0)))
     ∙ report_regroup (to_be_bytes w32 place.0.height) (to_be_bytes w32 place.0.phase) (value_bytes initial.0) (list_bytes proper.0)
     (list_bytes locked.0) locked.1 place.0.signer (cond all.0 1 0) in
-    subst (λ (q : Report × List ℕ). (bytes ≡ report_tail q.0 ++ q.1) × IsReport q.0 × IsBytes q.1) (some_is made (r, rest) after_locked)
-    (parts, record { place = a.1; initial = c.1; proper = d.1; some = leb-true 1 (length proper.0) g.0; locked = f.1 }, f.2))))))
+    subst (λ (q : Report × List ℕ). (bytes ≡ report_tail q.0 ++ q.1) × IsReportIn version q.0 × IsBytes q.1) (some_is made (r, rest) after_locked)
+    (parts, (refl, record { place = a.1; initial = c.1; proper = d.1; some = leb-true 1 (length proper.0) g.0; locked = f.1 }), f.2))))))
 
-pub report_again : (r : Report) (rest : List ℕ) → IsReport r → report_at (report_tail r ++ rest) ≡ Some (r, rest)
+pub report_again : (r : Report) (rest : List ℕ) → IsReport r → report_at r.version (report_tail r ++ rest) ≡ Some (r, rest)
 unfolding report_at
 report_again r rest is =
+    let version = r.version in
     let place : Header = record { height = r.height; phase = r.phase; signer = r.signer } in
     let after_proper = list_bytes r.locked ++ rest in
     let after_initial = list_bytes r.proper ++ after_proper in
     let after_flag = value_bytes r.initial ++ after_initial in
     let after_place = flag_bytes r.all ++ after_flag in
-    ap report_at (sym (report_regroup (to_be_bytes w32 r.height) (to_be_bytes w32 r.phase) (value_bytes r.initial) (list_bytes r.proper)
+    ap (report_at version) (sym (report_regroup (to_be_bytes w32 r.height) (to_be_bytes w32 r.phase) (value_bytes r.initial) (list_bytes r.proper)
     (list_bytes r.locked) rest r.signer (cond r.all 1 0)))
     ∙ rw (
       place_reader.again place after_place is.place,
       flag_reader.again r.all after_flag tt,
-      value_reader.again r.initial after_initial is.initial,
-      list_reader.again r.proper after_proper is.proper,
+      (value_reader version).again r.initial after_initial is.initial,
+      (list_reader version).again r.proper after_proper is.proper,
       le-leb 1 (length r.proper) is.some,
-      list_reader.again r.locked rest is.locked,
+      (list_reader version).again r.locked rest is.locked,
     ) refl
-
-pub report_reader : IsReader report_tail IsReport report_at
-report_reader = record { takes = report_takes; again = report_again }
 
 -- ---- signed reports and proofs
 
-pub signed_takes : (bytes : List ℕ) (s : SignedReport) (rest : List ℕ) → IsBytes bytes → signed_at bytes ≡ Some (s, rest)
-    → (bytes ≡ signed_bytes s ++ rest) × IsSigned s × IsBytes rest
-unfolding signed_at
-signed_takes bytes s rest fits e =
-    let a = bind_some (byte_at bytes)
-    (λ kind. guarded (eqb kind.0 1) (report_at kind.1) >>= λ report. signature_at report.1 >>= λ signature. Some
-    (record { report = report.0; signature = signature.0 }, signature.1)) (s, rest) e in
-    let b = bind_some (guarded (eqb a.0.0 1) (report_at a.0.1))
-    (λ report. signature_at report.1 >>= λ signature. Some (record { report = report.0; signature = signature.0 }, signature.1))
-    (s, rest) a.2 in
-    let c = bind_some (signature_at b.0.1) (λ signature. Some (record { report = b.0.0; signature = signature.0 }, signature.1)) (s, rest)
-    b.2 in
-    let g = guarded-some (eqb a.0.0 1) (report_at a.0.1) b.0 b.1 in
-    let kind = byte_takes bytes a.0.0 a.0.1 fits a.1 in
-    let is_one : a.0.0 ≡ 1 = eqb-true a.0.0 1 g.0 in
-    let report = report_reader.takes a.0.1 b.0.0 b.0.1 kind.2 g.1 in
-    let signature = signature_reader.takes b.0.1 c.0.0 c.0.1 report.2 c.1 in
-    let made : SignedReport × List ℕ = (record { report = b.0.0; signature = c.0.0 }, c.0.1) in
-    let parts : bytes ≡ signed_bytes made.0 ++ made.1 =
-    kind.0 ∙ ap (λ (k : ℕ). k ∷ a.0.1) is_one
-    ∙ ap (λ (t : List ℕ). 1 ∷ t) (report.0 ∙ ap (λ (t : List ℕ). report_tail b.0.0 ++ t) signature.0
-    ∙ sym (append_assoc (report_tail b.0.0) (signature_bytes c.0.0) c.0.1)) in
-    subst (λ (q : SignedReport × List ℕ). (bytes ≡ signed_bytes q.0 ++ q.1) × IsSigned q.0 × IsBytes q.1) (some_is made (s, rest) c.2)
-    (parts, record { report = report.1; signature = signature.1 }, signature.2)
+-- the first byte of a report in a lock tells its version
+report_version-is : (version : Version) (first : ℕ) (own : Version) → report_version version first ≡ Some own
+    → (first ≡ first_byte own 1) × (reads version own ≡ true)
+report_version-is version first own e = of_tests (eqb first 1) (eqb first 17) refl refl e
+  where
+    of_tests : (one two : Bool) → eqb first 1 ≡ one → eqb first 17 ≡ two
+        → cond one (Some One) (cond two (only_if (reads version Two) Two) None) ≡ Some own
+        → (first ≡ first_byte own 1) × (reads version own ≡ true)
+    of_tests true two is_one is_two read =
+        subst (λ (v : Version). (first ≡ first_byte v 1) × (reads version v ≡ true)) (some_is One own read)
+        (eqb-true first 1 is_one, reads_one version)
+    of_tests false true is_one is_two read =
+        let o = only_if-some (reads version Two) Two own read in
+        subst (λ (v : Version). (first ≡ first_byte v 1) × (reads version v ≡ true)) o.1 (eqb-true first 17 is_two, o.0)
+    of_tests false false is_one is_two read = absurd cc
 
-pub signed_again : (s : SignedReport) (rest : List ℕ) → IsSigned s → signed_at (signed_bytes s ++ rest) ≡ Some (s, rest)
+report_version-again : (version own : Version) → reads version own ≡ true → report_version version (first_byte own 1) ≡ Some own
+report_version-again version One read = refl
+report_version-again version Two read = rw read refl
+
+pub signed_takes : (version : Version) (bytes : List ℕ) (s : SignedReport) (rest : List ℕ) → IsBytes bytes
+    → signed_at version bytes ≡ Some (s, rest)
+    → (bytes ≡ signed_bytes s ++ rest) × IsSigned version s × IsBytes rest
 unfolding signed_at
-signed_again s rest is =
-    ap (λ (t : List ℕ). signed_at (1 ∷ t)) (append_assoc (report_tail s.report) (signature_bytes s.signature) rest)
+signed_takes version bytes s rest fits e =
+    bind_then (byte_at bytes)
+    (λ first. report_version version first.0 >>= λ own. report_at own first.1 >>= λ report. signature_at report.1 >>= λ signature. Some
+    (record { report = report.0; signature = signature.0 }, signature.1)) (s, rest) e (λ first first_is after_first.
+    bind_then (report_version version first.0) (λ own. report_at own first.1 >>= λ report. signature_at report.1 >>= λ signature. Some
+    (record { report = report.0; signature = signature.0 }, signature.1)) (s, rest) after_first (λ own own_is after_own.
+    bind_then (report_at own first.1)
+    (λ report. signature_at report.1 >>= λ signature. Some (record { report = report.0; signature = signature.0 }, signature.1))
+    (s, rest) after_own (λ report report_is after_report.
+    bind_then (signature_at report.1) (λ signature. Some (record { report = report.0; signature = signature.0 }, signature.1)) (s, rest)
+    after_report (λ signature signature_is after_signature.
+    let a = byte_takes bytes first.0 first.1 fits first_is in
+    let b = report_version-is version first.0 own own_is in
+    let c = report_takes own first.1 report.0 report.1 a.2 report_is in
+    let d = signature_reader.takes report.1 signature.0 signature.1 c.2 signature_is in
+    let made : SignedReport × List ℕ = (record { report = report.0; signature = signature.0 }, signature.1) in
+    let version_is : own ≡ report.0.version = sym c.1.0 in
+    let parts : bytes ≡ signed_bytes made.0 ++ made.1 =
+    a.0 ∙ ap (λ (k : ℕ). k ∷ first.1) (b.0 ∙ ap (λ (v : Version). first_byte v 1) version_is)
+    ∙ ap (λ (t : List ℕ). first_byte report.0.version 1 ∷ t) (c.0 ∙ ap (λ (t : List ℕ). report_tail report.0 ++ t) d.0
+    ∙ sym (append_assoc (report_tail report.0) (signature_bytes signature.0) signature.1)) in
+    subst (λ (q : SignedReport × List ℕ). (bytes ≡ signed_bytes q.0 ++ q.1) × IsSigned version q.0 × IsBytes q.1)
+    (some_is made (s, rest) after_signature)
+    (parts, record { read = subst (λ (v : Version). reads version v ≡ true) version_is b.1; report = c.1.1; signature = d.1 }, d.2)))))
+
+pub signed_again : (version : Version) (s : SignedReport) (rest : List ℕ) → IsSigned version s
+    → signed_at version (signed_bytes s ++ rest) ≡ Some (s, rest)
+unfolding signed_at
+signed_again version s rest is =
+    ap (λ (t : List ℕ). signed_at version (first_byte s.report.version 1 ∷ t))
+    (append_assoc (report_tail s.report) (signature_bytes s.signature) rest)
     ∙ rw (
-      report_reader.again s.report (signature_bytes s.signature ++ rest) is.report,
+      report_version-again version s.report.version is.read,
+      report_again s.report (signature_bytes s.signature ++ rest) is.report,
       signature_reader.again s.signature rest
           is.signature,
     ) refl
 
-pub signed_reader : IsReader signed_bytes IsSigned signed_at
-signed_reader = record { takes = signed_takes; again = signed_again }
+pub signed_reader : (version : Version) → IsReader signed_bytes (IsSigned version) (signed_at version)
+signed_reader version = record { takes = signed_takes version; again = signed_again version }
 
-pub proof_takes : (n : ℕ) (bytes : List ℕ) (proof : List SignedReport) (rest : List ℕ) → IsBytes bytes
-    → proof_at n bytes ≡ Some (proof, rest)
-    → (bytes ≡ flat_map signed_bytes proof ++ rest) × AllByRecursion IsSigned proof × IsBytes rest × (length proof ≡ n)
+pub proof_takes : (version : Version) (n : ℕ) (bytes : List ℕ) (proof : List SignedReport) (rest : List ℕ) → IsBytes bytes
+    → proof_at version n bytes ≡ Some (proof, rest)
+    → (bytes ≡ flat_map signed_bytes proof ++ rest) × AllByRecursion (IsSigned version) proof × IsBytes rest × (length proof ≡ n)
 unfolding proof_at
-proof_takes = many_takes signed_reader proof_at (λ bytes. refl) (λ n bytes. refl)
+proof_takes version = many_takes (signed_reader version) (proof_at version) (λ bytes. refl) (λ n bytes. refl)
 
-pub proof_again : (proof : List SignedReport) (rest : List ℕ) → AllByRecursion IsSigned proof
-    → proof_at (length proof) (flat_map signed_bytes proof ++ rest) ≡ Some (proof, rest)
+pub proof_again : (version : Version) (proof : List SignedReport) (rest : List ℕ) → AllByRecursion (IsSigned version) proof
+    → proof_at version (length proof) (flat_map signed_bytes proof ++ rest) ≡ Some (proof, rest)
 unfolding proof_at
-proof_again = many_again signed_reader proof_at (λ bytes. refl) (λ n bytes. refl)
+proof_again version = many_again (signed_reader version) (proof_at version) (λ bytes. refl) (λ n bytes. refl)
 
 -- ---- locks
 
@@ -340,13 +380,14 @@ lock_regroup : (h p v f rest : List ℕ) (s n : ℕ)
     → (h ++ p ++ s ∷ []) ++ (v ++ (n ∷ (f ++ rest))) ≡ (h ++ p ++ (s ∷ []) ++ v ++ (n ∷ []) ++ f) ++ rest
 lock_regroup h p v f rest s n = simp append_assoc
 
-pub lock_takes : (bytes : List ℕ) (l : Lock) (rest : List ℕ) → IsBytes bytes → lock_at bytes ≡ Some (l, rest)
-    → (bytes ≡ lock_tail l ++ rest) × IsLock l × IsBytes rest
+pub lock_takes : (version : Version) (bytes : List ℕ) (l : Lock) (rest : List ℕ) → IsBytes bytes → lock_at version bytes ≡ Some (l, rest)
+    → (bytes ≡ lock_tail l ++ rest) × ((l.version ≡ version) × IsLock l) × IsBytes rest
 unfolding lock_at
-lock_takes bytes l rest fits e =
-    bind_then (place_at bytes) (λ place. value_at place.1 >>= λ value. byte_at value.1 >>= λ count. guarded
-    (leb 3 count.0 && leb count.0 12) (proof_at count.0 count.1) >>= λ reports. only_if (ascends_within 0 256 (signers_of reports.0)) (
+lock_takes version bytes l rest fits e =
+    bind_then (place_at bytes) (λ place. value_at version place.1 >>= λ value. byte_at value.1 >>= λ count. guarded
+    (leb 3 count.0 && leb count.0 12) (proof_at version count.0 count.1) >>= λ reports. only_if (ascends_within 0 256 (signers_of reports.0)) (
       record {
+        version = version;
         height = place.0.height;
         phase = place.0.phase;
         signer = place.0.signer;
@@ -356,9 +397,10 @@ lock_takes bytes l rest fits e =
       },
       reports.1,
     )) (l, rest) e (λ place place_is after_place.
-    bind_then (value_at place.1) (λ value. byte_at value.1 >>= λ count. guarded (leb 3 count.0 && leb count.0 12)
-    (proof_at count.0 count.1) >>= λ reports. only_if (ascends_within 0 256 (signers_of reports.0)) (
+    bind_then (value_at version place.1) (λ value. byte_at value.1 >>= λ count. guarded (leb 3 count.0 && leb count.0 12)
+    (proof_at version count.0 count.1) >>= λ reports. only_if (ascends_within 0 256 (signers_of reports.0)) (
       record {
+        version = version;
         height = place.0.height;
         phase = place.0.phase;
         signer = place.0.signer;
@@ -368,9 +410,10 @@ lock_takes bytes l rest fits e =
       },
       reports.1,
     )) (l, rest) after_place (λ value value_is after_value.
-    bind_then (byte_at value.1) (λ count. guarded (leb 3 count.0 && leb count.0 12) (proof_at count.0 count.1) >>= λ reports. only_if
+    bind_then (byte_at value.1) (λ count. guarded (leb 3 count.0 && leb count.0 12) (proof_at version count.0 count.1) >>= λ reports. only_if
     (ascends_within 0 256 (signers_of reports.0)) (
       record {
+        version = version;
         height = place.0.height;
         phase = place.0.phase;
         signer = place.0.signer;
@@ -380,9 +423,10 @@ lock_takes bytes l rest fits e =
       },
       reports.1,
     )) (l, rest) after_value (λ count count_is after_count.
-    bind_then (guarded (leb 3 count.0 && leb count.0 12) (proof_at count.0 count.1))
+    bind_then (guarded (leb 3 count.0 && leb count.0 12) (proof_at version count.0 count.1))
     (λ reports. only_if (ascends_within 0 256 (signers_of reports.0)) (
       record {
+        version = version;
         height = place.0.height;
         phase = place.0.phase;
         signer = place.0.signer;
@@ -392,12 +436,13 @@ lock_takes bytes l rest fits e =
       },
       reports.1,
     )) (l, rest) after_count (λ reports reports_is after_reports.
-    let g = guarded-some (leb 3 count.0 && leb count.0 12) (proof_at count.0 count.1) reports reports_is in
+    let g = guarded-some (leb 3 count.0 && leb count.0 12) (proof_at version count.0 count.1) reports reports_is in
     let ends = and_parts (leb 3 count.0) (leb count.0 12) g.0 in
     let least : 3 ≤ count.0 = leb-true 3 count.0 ends.0 in
     let most : count.0 ≤ 12 = leb-true count.0 12 ends.1 in
     let made : Lock × List ℕ = (
       record {
+        version = version;
         height = place.0.height;
         phase = place.0.phase;
         signer = place.0.signer;
@@ -409,9 +454,9 @@ lock_takes bytes l rest fits e =
     ) in
     let o = only_if-some (ascends_within 0 256 (signers_of reports.0)) made (l, rest) after_reports in
     let a = place_reader.takes bytes place.0 place.1 fits place_is in
-    let b = value_reader.takes place.1 value.0 value.1 a.2 value_is in
+    let b = (value_reader version).takes place.1 value.0 value.1 a.2 value_is in
     let c = byte_takes value.1 count.0 count.1 b.2 count_is in
-    let d = proof_takes count.0 count.1 reports.0 reports.1 c.2 g.1 in
+    let d = proof_takes version count.0 count.1 reports.0 reports.1 c.2 g.1 in
     let len : count.0 ≡ length reports.0 = sym d.3 in
     let spelled : value.1 ≡ length reports.0 ∷ (flat_map signed_bytes reports.0 ++ reports.1) =
     c.0 ∙ ap (λ (t : List ℕ). count.0 ∷ t) d.0 ∙ ap (λ (k : ℕ). k ∷ (flat_map signed_bytes reports.0 ++ reports.1)) len in
@@ -419,41 +464,42 @@ lock_takes bytes l rest fits e =
     a.0 ∙ ap (λ (t : List ℕ). place_bytes place.0 ++ t) (b.0 ∙ ap (λ (t : List ℕ). value_bytes value.0 ++ t) spelled)
     ∙ lock_regroup (to_be_bytes w32 place.0.height) (to_be_bytes w32 place.0.phase) (value_bytes value.0) (flat_map signed_bytes reports.0)
     reports.1 place.0.signer (length reports.0) in
-    subst (λ (q : Lock × List ℕ). (bytes ≡ lock_tail q.0 ++ q.1) × IsLock q.0 × IsBytes q.1) o.1 (
+    subst (λ (q : Lock × List ℕ). (bytes ≡ lock_tail q.0 ++ q.1) × ((q.0.version ≡ version) × IsLock q.0) × IsBytes q.1) o.1 (
       parts,
-      record {
-        place = a.1;
-        value = b.1;
-        count = (subst (λ (k : ℕ). 3 ≤ k) len least, subst (λ (k : ℕ). k ≤ 12) len most);
-        each =
-            d.1;
-        signers = o.0;
-      },
+      (
+        refl,
+        record {
+          place = a.1;
+          value = b.1;
+          count = (subst (λ (k : ℕ). 3 ≤ k) len least, subst (λ (k : ℕ). k ≤ 12) len most);
+          each =
+              d.1;
+          signers = o.0;
+        },
+      ),
       d.2,
     )))))
 
-pub lock_again : (l : Lock) (rest : List ℕ) → IsLock l → lock_at (lock_tail l ++ rest) ≡ Some (l, rest)
+pub lock_again : (l : Lock) (rest : List ℕ) → IsLock l → lock_at l.version (lock_tail l ++ rest) ≡ Some (l, rest)
 unfolding lock_at
 lock_again l rest is =
+    let version = l.version in
     let place : Header = record { height = l.height; phase = l.phase; signer = l.signer } in
     let after_count = flat_map signed_bytes l.proof ++ rest in
     let after_value = length l.proof ∷ after_count in
     let after_place = value_bytes l.value ++ after_value in
     let test : (leb 3 (length l.proof) && leb (length l.proof) 12) ≡ true =
     and_from (leb 3 (length l.proof)) (leb (length l.proof) 12) (le-leb _ _ is.count.0) (le-leb _ _ is.count.1) in
-    ap lock_at (sym (lock_regroup (to_be_bytes w32 l.height) (to_be_bytes w32 l.phase) (value_bytes l.value)
+    ap (lock_at version) (sym (lock_regroup (to_be_bytes w32 l.height) (to_be_bytes w32 l.phase) (value_bytes l.value)
     (flat_map signed_bytes l.proof) rest l.signer (length l.proof)))
     ∙ rw (
       place_reader.again place after_place is.place,
-      value_reader.again l.value after_value is.value,
+      (value_reader version).again l.value after_value is.value,
       test,
-      proof_again l.proof rest
+      proof_again version l.proof rest
           is.each,
       is.signers,
     ) refl
-
-pub lock_reader : IsReader lock_tail IsLock lock_at
-lock_reader = record { takes = lock_takes; again = lock_again }
 
 -- ---- acknowledgements
 
@@ -464,93 +510,127 @@ ack_tail a = to_be_bytes w32 a.height ++ to_be_bytes w32 a.phase ++ (a.signer �
 ack_regroup : (h p v rest : List ℕ) (s : ℕ) → (h ++ p ++ s ∷ []) ++ (v ++ rest) ≡ (h ++ p ++ (s ∷ []) ++ v) ++ rest
 ack_regroup h p v rest s = simp append_assoc
 
-pub ack_takes : (bytes : List ℕ) (a : Ack) (rest : List ℕ) → IsBytes bytes → ack_at bytes ≡ Some (a, rest)
-    → (bytes ≡ ack_tail a ++ rest) × IsAck a × IsBytes rest
+pub ack_takes : (version : Version) (bytes : List ℕ) (a : Ack) (rest : List ℕ) → IsBytes bytes → ack_at version bytes ≡ Some (a, rest)
+    → (bytes ≡ ack_tail a ++ rest) × ((a.version ≡ version) × IsAck a) × IsBytes rest
 unfolding ack_at
-ack_takes bytes x rest fits e =
+ack_takes version bytes x rest fits e =
     let a = bind_some (place_at bytes)
-    (λ place. value_at place.1 >>= λ v. Some
-    (record { height = place.0.height; phase = place.0.phase; signer = place.0.signer; value = v.0 }, v.1)) (x, rest) e in
-    let b = bind_some (value_at a.0.1)
-    (λ v. Some (record { height = a.0.0.height; phase = a.0.0.phase; signer = a.0.0.signer; value = v.0 }, v.1)) (x, rest) a.2 in
+    (λ place. value_at version place.1 >>= λ v. Some
+    (record { version = version; height = place.0.height; phase = place.0.phase; signer = place.0.signer; value = v.0 }, v.1)) (x, rest) e in
+    let b = bind_some (value_at version a.0.1)
+    (λ v. Some (record { version = version; height = a.0.0.height; phase = a.0.0.phase; signer = a.0.0.signer; value = v.0 }, v.1)) (x, rest) a.2 in
     let place = place_reader.takes bytes a.0.0 a.0.1 fits a.1 in
-    let value = value_reader.takes a.0.1 b.0.0 b.0.1 place.2 b.1 in
-    let made : Ack × List ℕ = (record { height = a.0.0.height; phase = a.0.0.phase; signer = a.0.0.signer; value = b.0.0 }, b.0.1) in
+    let value = (value_reader version).takes a.0.1 b.0.0 b.0.1 place.2 b.1 in
+    let made : Ack × List ℕ = (record { version = version; height = a.0.0.height; phase = a.0.0.phase; signer = a.0.0.signer; value = b.0.0 }, b.0.1) in
     let parts : bytes ≡ ack_tail made.0 ++ made.1 =
     place.0 ∙ ap (λ (t : List ℕ). place_bytes a.0.0 ++ t) value.0
     ∙ ack_regroup (to_be_bytes w32 a.0.0.height) (to_be_bytes w32 a.0.0.phase) (value_bytes b.0.0) b.0.1 a.0.0.signer in
-    subst (λ (q : Ack × List ℕ). (bytes ≡ ack_tail q.0 ++ q.1) × IsAck q.0 × IsBytes q.1) (some_is made (x, rest) b.2)
-    (parts, record { place = place.1; value = value.1 }, value.2)
+    subst (λ (q : Ack × List ℕ). (bytes ≡ ack_tail q.0 ++ q.1) × ((q.0.version ≡ version) × IsAck q.0) × IsBytes q.1) (some_is made (x, rest) b.2)
+    (parts, (refl, record { place = place.1; value = value.1 }), value.2)
 
-pub ack_again : (a : Ack) (rest : List ℕ) → IsAck a → ack_at (ack_tail a ++ rest) ≡ Some (a, rest)
+pub ack_again : (a : Ack) (rest : List ℕ) → IsAck a → ack_at a.version (ack_tail a ++ rest) ≡ Some (a, rest)
 unfolding ack_at
 ack_again a rest is =
+    let version = a.version in
     let place : Header = record { height = a.height; phase = a.phase; signer = a.signer } in
-    ap ack_at (sym (ack_regroup (to_be_bytes w32 a.height) (to_be_bytes w32 a.phase) (value_bytes a.value) rest a.signer))
-    ∙ rw (place_reader.again place (value_bytes a.value ++ rest) is.place, value_reader.again a.value rest is.value) refl
-
-pub ack_reader : IsReader ack_tail IsAck ack_at
-ack_reader = record { takes = ack_takes; again = ack_again }
+    ap (ack_at version) (sym (ack_regroup (to_be_bytes w32 a.height) (to_be_bytes w32 a.phase) (value_bytes a.value) rest a.signer))
+    ∙ rw (place_reader.again place (value_bytes a.value ++ rest) is.place, (value_reader version).again a.value rest is.value) refl
 
 -- ---- statements
 
--- what was read, as a statement
-abbrev as_report : Report × List ℕ → Option (Statement × List ℕ)
-as_report r = Some (statement.Report r.0, r.1)
+-- the bytes are the encoding of this statement, which can be encoded, and the rest
+abbrev IsTaken : List ℕ → Statement → List ℕ → Type 0
+IsTaken bytes s rest = (bytes ≡ statement_bytes s ++ rest) × IsStatement s × IsBytes rest
 
-abbrev as_lock : Lock × List ℕ → Option (Statement × List ℕ)
-as_lock l = Some (statement.Lock l.0, l.1)
-
-abbrev as_ack : Ack × List ℕ → Option (Statement × List ℕ)
-as_ack a = Some (statement.Ack a.0, a.1)
-
--- what a statement's first byte says of the rest
-kind_takes : (kind : ℕ) (bytes : List ℕ) (s : Statement) (rest : List ℕ) (one two three : Bool) → eqb kind 1 ≡ one → eqb kind 2 ≡ two
-    → eqb kind 3 ≡ three → IsBytes bytes
-    → cond one (report_at bytes >>= as_report)
-    (cond two (lock_at bytes >>= as_lock)
-    (cond three (ack_at bytes >>= as_ack) None)) ≡ Some (s, rest)
-    → (kind ∷ bytes ≡ statement_bytes s ++ rest) × IsStatement s × IsBytes rest
+report_taken : (version : Version) (first : ℕ) (bytes : List ℕ) (s : Statement) (rest : List ℕ) → first ≡ first_byte version 1 → IsBytes bytes
+    → as_report version bytes ≡ Some (s, rest) → IsTaken (first ∷ bytes) s rest
 unfolding statement_bytes
-kind_takes kind bytes s rest true two three is_one is_two is_three fits e =
-    let a = bind_some (report_at bytes) as_report (s, rest) e in
-    let t = report_takes bytes a.0.0 a.0.1 fits a.1 in
-    let parts : kind ∷ bytes ≡ report_bytes a.0.0 ++ a.0.1 =
-    ap (λ (k : ℕ). k ∷ bytes) (eqb-true kind 1 is_one) ∙ ap (λ (x : List ℕ). 1 ∷ x) t.0 in
-    subst (λ (q : Statement × List ℕ). (kind ∷ bytes ≡ statement_bytes q.0 ++ q.1) × IsStatement q.0 × IsBytes q.1)
-    (some_is (statement.Report a.0.0, a.0.1) (s, rest) a.2) (parts, t.1, t.2)
-kind_takes kind bytes s rest false true three is_one is_two is_three fits e =
-    let a = bind_some (lock_at bytes) as_lock (s, rest) e in
-    let t = lock_takes bytes a.0.0 a.0.1 fits a.1 in
-    let parts : kind ∷ bytes ≡ lock_bytes a.0.0 ++ a.0.1 =
-    ap (λ (k : ℕ). k ∷ bytes) (eqb-true kind 2 is_two) ∙ ap (λ (x : List ℕ). 2 ∷ x) t.0 in
-    subst (λ (q : Statement × List ℕ). (kind ∷ bytes ≡ statement_bytes q.0 ++ q.1) × IsStatement q.0 × IsBytes q.1)
-    (some_is (statement.Lock a.0.0, a.0.1) (s, rest) a.2) (parts, t.1, t.2)
-kind_takes kind bytes s rest false false true is_one is_two is_three fits e =
-    let a = bind_some (ack_at bytes) as_ack (s, rest) e in
-    let t = ack_takes bytes a.0.0 a.0.1 fits a.1 in
-    let parts : kind ∷ bytes ≡ ack_bytes a.0.0 ++ a.0.1 =
-    ap (λ (k : ℕ). k ∷ bytes) (eqb-true kind 3 is_three) ∙ ap (λ (x : List ℕ). 3 ∷ x) t.0 in
-    subst (λ (q : Statement × List ℕ). (kind ∷ bytes ≡ statement_bytes q.0 ++ q.1) × IsStatement q.0 × IsBytes q.1)
-    (some_is (statement.Ack a.0.0, a.0.1) (s, rest) a.2) (parts, t.1, t.2)
-kind_takes kind bytes s rest false false false is_one is_two is_three fits e = absurd cc
+report_taken version first bytes s rest is fits e =
+    let a = bind_some (report_at version bytes) (λ r. Some (statement.Report r.0, r.1)) (s, rest) e in
+    let t = report_takes version bytes a.0.0 a.0.1 fits a.1 in
+    let parts : first ∷ bytes ≡ report_bytes a.0.0 ++ a.0.1 =
+    ap (λ (k : ℕ). k ∷ bytes) (is ∙ ap (λ (v : Version). first_byte v 1) (sym t.1.0))
+    ∙ ap (λ (x : List ℕ). first_byte a.0.0.version 1 ∷ x) t.0 in
+    subst (λ (q : Statement × List ℕ). IsTaken (first ∷ bytes) q.0 q.1) (some_is (statement.Report a.0.0, a.0.1) (s, rest) a.2)
+    (parts, t.1.1, t.2)
+
+lock_taken : (version : Version) (first : ℕ) (bytes : List ℕ) (s : Statement) (rest : List ℕ) → first ≡ first_byte version 2 → IsBytes bytes
+    → as_lock version bytes ≡ Some (s, rest) → IsTaken (first ∷ bytes) s rest
+unfolding statement_bytes
+lock_taken version first bytes s rest is fits e =
+    let a = bind_some (lock_at version bytes) (λ l. Some (statement.Lock l.0, l.1)) (s, rest) e in
+    let t = lock_takes version bytes a.0.0 a.0.1 fits a.1 in
+    let parts : first ∷ bytes ≡ lock_bytes a.0.0 ++ a.0.1 =
+    ap (λ (k : ℕ). k ∷ bytes) (is ∙ ap (λ (v : Version). first_byte v 2) (sym t.1.0))
+    ∙ ap (λ (x : List ℕ). first_byte a.0.0.version 2 ∷ x) t.0 in
+    subst (λ (q : Statement × List ℕ). IsTaken (first ∷ bytes) q.0 q.1) (some_is (statement.Lock a.0.0, a.0.1) (s, rest) a.2)
+    (parts, t.1.1, t.2)
+
+ack_taken : (version : Version) (first : ℕ) (bytes : List ℕ) (s : Statement) (rest : List ℕ) → first ≡ first_byte version 3 → IsBytes bytes
+    → as_ack version bytes ≡ Some (s, rest) → IsTaken (first ∷ bytes) s rest
+unfolding statement_bytes
+ack_taken version first bytes s rest is fits e =
+    let a = bind_some (ack_at version bytes) (λ a. Some (statement.Ack a.0, a.1)) (s, rest) e in
+    let t = ack_takes version bytes a.0.0 a.0.1 fits a.1 in
+    let parts : first ∷ bytes ≡ ack_bytes a.0.0 ++ a.0.1 =
+    ap (λ (k : ℕ). k ∷ bytes) (is ∙ ap (λ (v : Version). first_byte v 3) (sym t.1.0))
+    ∙ ap (λ (x : List ℕ). first_byte a.0.0.version 3 ∷ x) t.0 in
+    subst (λ (q : Statement × List ℕ). IsTaken (first ∷ bytes) q.0 q.1) (some_is (statement.Ack a.0.0, a.0.1) (s, rest) a.2)
+    (parts, t.1.1, t.2)
+
+-- What a statement's first byte says of the rest. The tests ask whether it is 01, 02, 03, 11, 12, 13.
+kind_takes : (first : ℕ) (bytes : List ℕ) (s : Statement) (rest : List ℕ) (a b c d e f : Bool) → eqb first 1 ≡ a → eqb first 2 ≡ b
+    → eqb first 3 ≡ c → eqb first 17 ≡ d → eqb first 18 ≡ e → eqb first 19 ≡ f → IsBytes bytes
+    → cond a (as_report One bytes) (cond b (as_lock One bytes) (cond c (as_ack One bytes)
+    (cond d (as_report Two bytes) (cond e (as_lock Two bytes) (cond f (as_ack Two bytes) None))))) ≡ Some (s, rest)
+    → IsTaken (first ∷ bytes) s rest
+kind_takes first bytes s rest true b c d e f is_a is_b is_c is_d is_e is_f fits read =
+    report_taken One first bytes s rest (eqb-true first 1 is_a) fits read
+kind_takes first bytes s rest false true c d e f is_a is_b is_c is_d is_e is_f fits read =
+    lock_taken One first bytes s rest (eqb-true first 2 is_b) fits read
+kind_takes first bytes s rest false false true d e f is_a is_b is_c is_d is_e is_f fits read =
+    ack_taken One first bytes s rest (eqb-true first 3 is_c) fits read
+kind_takes first bytes s rest false false false true e f is_a is_b is_c is_d is_e is_f fits read =
+    report_taken Two first bytes s rest (eqb-true first 17 is_d) fits read
+kind_takes first bytes s rest false false false false true f is_a is_b is_c is_d is_e is_f fits read =
+    lock_taken Two first bytes s rest (eqb-true first 18 is_e) fits read
+kind_takes first bytes s rest false false false false false true is_a is_b is_c is_d is_e is_f fits read =
+    ack_taken Two first bytes s rest (eqb-true first 19 is_f) fits read
+kind_takes first bytes s rest false false false false false false is_a is_b is_c is_d is_e is_f fits read = absurd cc
 
 pub statement_takes : (bytes : List ℕ) (s : Statement) (rest : List ℕ) → IsBytes bytes → statement_at bytes ≡ Some (s, rest)
     → (bytes ≡ statement_bytes s ++ rest) × IsStatement s × IsBytes rest
 unfolding statement_at
 statement_takes bytes s rest fits e =
-    let a = bind_some (byte_at bytes) (λ kind. cond (eqb kind.0 1) (report_at kind.1 >>= as_report)
-    (cond (eqb kind.0 2) (lock_at kind.1 >>= as_lock)
-    (cond (eqb kind.0 3) (ack_at kind.1 >>= as_ack) None))) (s, rest) e in
+    let a = bind_some (byte_at bytes) (λ first. cond (eqb first.0 1) (as_report One first.1) (cond (eqb first.0 2) (as_lock One first.1)
+    (cond (eqb first.0 3) (as_ack One first.1) (cond (eqb first.0 17) (as_report Two first.1) (cond (eqb first.0 18) (as_lock Two first.1)
+    (cond (eqb first.0 19) (as_ack Two first.1) None)))))) (s, rest) e in
     let first = byte_takes bytes a.0.0 a.0.1 fits a.1 in
-    let t = kind_takes a.0.0 a.0.1 s rest (eqb a.0.0 1) (eqb a.0.0 2) (eqb a.0.0 3) refl refl refl first.2 a.2 in
+    let t = kind_takes a.0.0 a.0.1 s rest (eqb a.0.0 1) (eqb a.0.0 2) (eqb a.0.0 3) (eqb a.0.0 17) (eqb a.0.0 18) (eqb a.0.0 19)
+    refl refl refl refl refl refl first.2 a.2 in
     (first.0 ∙ t.0, t.1, t.2)
 
+-- a first byte is followed by what it tells
+report_first : (version : Version) (bytes : List ℕ) → statement_at (first_byte version 1 ∷ bytes) ≡ as_report version bytes
+unfolding statement_at
+report_first One bytes = refl
+report_first Two bytes = refl
+
+lock_first : (version : Version) (bytes : List ℕ) → statement_at (first_byte version 2 ∷ bytes) ≡ as_lock version bytes
+unfolding statement_at
+lock_first One bytes = refl
+lock_first Two bytes = refl
+
+ack_first : (version : Version) (bytes : List ℕ) → statement_at (first_byte version 3 ∷ bytes) ≡ as_ack version bytes
+unfolding statement_at
+ack_first One bytes = refl
+ack_first Two bytes = refl
+
 pub statement_again : (s : Statement) (rest : List ℕ) → IsStatement s → statement_at (statement_bytes s ++ rest) ≡ Some (s, rest)
-unfolding statement_at statement_bytes
-statement_again (statement.Report r) rest is = rw (report_again r rest is) refl
-statement_again (statement.Lock l) rest is = rw (lock_again l rest is) refl
-statement_again (statement.Ack a) rest is = rw (ack_again a rest is) refl
+unfolding statement_bytes
+statement_again (statement.Report r) rest is = report_first r.version (report_tail r ++ rest) ∙ rw (report_again r rest is) refl
+statement_again (statement.Lock l) rest is = lock_first l.version (lock_tail l ++ rest) ∙ rw (lock_again l rest is) refl
+statement_again (statement.Ack a) rest is = ack_first a.version (ack_tail a ++ rest) ∙ rw (ack_again a rest is) refl
 
 pub statement_reader : IsReader statement_bytes IsStatement statement_at
 statement_reader = record { takes = statement_takes; again = statement_again }

@@ -2,7 +2,9 @@
 use Rattle.std.proofs.Common.{◌≡◌, ℕ, ◌≤◌, true, ◌&&◌, List, ◌∷◌, ◌++◌, length, Some, refl, sym, ap, subst, ◌∙◌, arith, leb}
 use Rattle.std.specs.List.{flat_map, AllByRecursion}
 use Rattle.std.proofs.lemmas.Bool.{and_parts, and_from, leb-true, le-leb}
-use Rattle.ledger_model.specs.Values.{Value, value_bytes, IsTx, IsValue}
+use Rattle.ledger_model.specs.Values.{Value, value_bytes, IsTx, IsValueIn}
+use Rattle.ledger_model.specs.Versions.{batch_limit}
+use Rattle.ledger_model.specs.declared.version.Version.{Version}
 use Rattle.ledger_model.specs.Order.{tx_bytes}
 use Rattle.ledger_model.specs.Spelling.{IsValueList, are_ascending, list_bytes}
 use Rattle.ledger_model.specs.GrammarLaws.{IsBytes}
@@ -49,64 +51,69 @@ txs_again = many_again tx_reader txs_at (λ bytes. refl) (λ n bytes. refl)
 
 -- ---- values
 
-pub value_takes : (bytes : List ℕ) (v : Value) (rest : List ℕ) → IsBytes bytes → value_at bytes ≡ Some (v, rest)
-    → (bytes ≡ value_bytes v ++ rest) × IsValue v × IsBytes rest
+pub value_takes : (version : Version) (bytes : List ℕ) (v : Value) (rest : List ℕ) → IsBytes bytes
+    → value_at version bytes ≡ Some (v, rest)
+    → (bytes ≡ value_bytes v ++ rest) × IsValueIn version v × IsBytes rest
 unfolding value_at
-value_takes bytes v rest fits e =
-    let a = bind_some (byte_at bytes) (λ count. guarded (leb count.0 16) (txs_at count.0 count.1)) (v, rest) e in
-    let g = guarded-some (leb a.0.0 16) (txs_at a.0.0 a.0.1) (v, rest) a.2 in
-    let few : a.0.0 ≤ 16 = leb-true a.0.0 16 g.0 in
+value_takes version bytes v rest fits e =
+    let a = bind_some (byte_at bytes) (λ count. guarded (leb count.0 (batch_limit version)) (txs_at count.0 count.1)) (v, rest) e in
+    let g = guarded-some (leb a.0.0 (batch_limit version)) (txs_at a.0.0 a.0.1) (v, rest) a.2 in
+    let few : a.0.0 ≤ batch_limit version = leb-true a.0.0 (batch_limit version) g.0 in
     let first = byte_takes bytes a.0.0 a.0.1 fits a.1 in
     let txs = txs_take a.0.0 a.0.1 v rest first.2 g.1 in
     let len : length v ≡ a.0.0 = txs.3 in
     let parts : bytes ≡ length v ∷ (flat_map tx_bytes v ++ rest) =
     first.0 ∙ ap (λ (t : List ℕ). a.0.0 ∷ t) txs.0 ∙ ap (λ (k : ℕ). k ∷ (flat_map tx_bytes v ++ rest)) (sym len) in
-    (parts, record { few = omega arith; each = txs.1 }, txs.2)
+    (parts, record { few = subst (λ (k : ℕ). k ≤ batch_limit version) (sym len) few; each = txs.1 }, txs.2)
 
-pub value_again : (v : Value) (rest : List ℕ) → IsValue v → value_at (value_bytes v ++ rest) ≡ Some (v, rest)
+pub value_again : (version : Version) (v : Value) (rest : List ℕ) → IsValueIn version v
+    → value_at version (value_bytes v ++ rest) ≡ Some (v, rest)
 unfolding value_at
-value_again v rest is =
-    let test : leb (length v) 16 ≡ true = le-leb _ _ is.few in
+value_again version v rest is =
+    let test : leb (length v) (batch_limit version) ≡ true = le-leb _ _ is.few in
     rw (test, txs_again v rest is.each) refl
 
-pub value_reader : IsReader value_bytes IsValue value_at
-value_reader = record { takes = value_takes; again = value_again }
+pub value_reader : (version : Version) → IsReader value_bytes (IsValueIn version) (value_at version)
+value_reader version = record { takes = value_takes version; again = value_again version }
 
-pub values_take : (n : ℕ) (bytes : List ℕ) (vs : List Value) (rest : List ℕ) → IsBytes bytes → values_at n bytes ≡ Some (vs, rest)
-    → (bytes ≡ flat_map value_bytes vs ++ rest) × AllByRecursion IsValue vs × IsBytes rest × (length vs ≡ n)
+pub values_take : (version : Version) (n : ℕ) (bytes : List ℕ) (vs : List Value) (rest : List ℕ) → IsBytes bytes
+    → values_at version n bytes ≡ Some (vs, rest)
+    → (bytes ≡ flat_map value_bytes vs ++ rest) × AllByRecursion (IsValueIn version) vs × IsBytes rest × (length vs ≡ n)
 unfolding values_at
-values_take = many_takes value_reader values_at (λ bytes. refl) (λ n bytes. refl)
+values_take version = many_takes (value_reader version) (values_at version) (λ bytes. refl) (λ n bytes. refl)
 
-pub values_again : (vs : List Value) (rest : List ℕ) → AllByRecursion IsValue vs
-    → values_at (length vs) (flat_map value_bytes vs ++ rest) ≡ Some (vs, rest)
+pub values_again : (version : Version) (vs : List Value) (rest : List ℕ) → AllByRecursion (IsValueIn version) vs
+    → values_at version (length vs) (flat_map value_bytes vs ++ rest) ≡ Some (vs, rest)
 unfolding values_at
-values_again = many_again value_reader values_at (λ bytes. refl) (λ n bytes. refl)
+values_again version = many_again (value_reader version) (values_at version) (λ bytes. refl) (λ n bytes. refl)
 
 -- ---- lists of values
 
-pub list_takes : (bytes : List ℕ) (vs : List Value) (rest : List ℕ) → IsBytes bytes → list_at bytes ≡ Some (vs, rest)
-    → (bytes ≡ list_bytes vs ++ rest) × IsValueList vs × IsBytes rest
+pub list_takes : (version : Version) (bytes : List ℕ) (vs : List Value) (rest : List ℕ) → IsBytes bytes
+    → list_at version bytes ≡ Some (vs, rest)
+    → (bytes ≡ list_bytes vs ++ rest) × IsValueList version vs × IsBytes rest
 unfolding list_at
-list_takes bytes vs rest fits e =
+list_takes version bytes vs rest fits e =
     let a = bind_some (byte_at bytes)
-    (λ count. guarded (leb count.0 4) (values_at count.0 count.1) >>= λ read. only_if (are_ascending read.0) read) (vs, rest) e in
-    let b = bind_some (guarded (leb a.0.0 4) (values_at a.0.0 a.0.1)) (λ read. only_if (are_ascending read.0) read) (vs, rest) a.2 in
-    let g = guarded-some (leb a.0.0 4) (values_at a.0.0 a.0.1) b.0 b.1 in
+    (λ count. guarded (leb count.0 4) (values_at version count.0 count.1) >>= λ read. only_if (are_ascending read.0) read) (vs, rest) e in
+    let b = bind_some (guarded (leb a.0.0 4) (values_at version a.0.0 a.0.1)) (λ read. only_if (are_ascending read.0) read) (vs, rest) a.2 in
+    let g = guarded-some (leb a.0.0 4) (values_at version a.0.0 a.0.1) b.0 b.1 in
     let few : a.0.0 ≤ 4 = leb-true a.0.0 4 g.0 in
     let o = only_if-some (are_ascending b.0.0) b.0 (vs, rest) b.2 in
     let first = byte_takes bytes a.0.0 a.0.1 fits a.1 in
-    let values = values_take a.0.0 a.0.1 b.0.0 b.0.1 first.2 g.1 in
+    let values = values_take version a.0.0 a.0.1 b.0.0 b.0.1 first.2 g.1 in
     let len : length b.0.0 ≡ a.0.0 = values.3 in
     let parts : bytes ≡ length b.0.0 ∷ (flat_map value_bytes b.0.0 ++ b.0.1) =
     first.0 ∙ ap (λ (t : List ℕ). a.0.0 ∷ t) values.0 ∙ ap (λ (k : ℕ). k ∷ (flat_map value_bytes b.0.0 ++ b.0.1)) (sym len) in
-    subst (λ (p : List Value × List ℕ). (bytes ≡ list_bytes p.0 ++ p.1) × IsValueList p.0 × IsBytes p.1) o.1
+    subst (λ (p : List Value × List ℕ). (bytes ≡ list_bytes p.0 ++ p.1) × IsValueList version p.0 × IsBytes p.1) o.1
     (parts, record { few = omega arith; each = values.1; ascend = o.0 }, values.2)
 
-pub list_again : (vs : List Value) (rest : List ℕ) → IsValueList vs → list_at (list_bytes vs ++ rest) ≡ Some (vs, rest)
+pub list_again : (version : Version) (vs : List Value) (rest : List ℕ) → IsValueList version vs
+    → list_at version (list_bytes vs ++ rest) ≡ Some (vs, rest)
 unfolding list_at
-list_again vs rest is =
+list_again version vs rest is =
     let test : leb (length vs) 4 ≡ true = le-leb _ _ is.few in
-    rw (test, values_again vs rest is.each, is.ascend) refl
+    rw (test, values_again version vs rest is.each, is.ascend) refl
 
-pub list_reader : IsReader list_bytes IsValueList list_at
-list_reader = record { takes = list_takes; again = list_again }
+pub list_reader : (version : Version) → IsReader list_bytes (IsValueList version) (list_at version)
+list_reader version = record { takes = list_takes version; again = list_again version }

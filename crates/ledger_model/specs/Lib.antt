@@ -1,4 +1,5 @@
 pub mod Limits
+pub mod Versions
 pub mod Values
 pub mod Order
 pub mod OrderLaws

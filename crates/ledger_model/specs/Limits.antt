@@ -9,10 +9,6 @@ max_tx_len = 64
 abbrev pub max_key_len : ℕ
 max_key_len = 64
 
--- the most transactions of a batch
-abbrev pub max_batch_len : ℕ
-max_batch_len = 16
-
 -- the most transactions that wait for a block
 abbrev pub max_pool_len : ℕ
 max_pool_len = 1024
@@ -32,10 +28,6 @@ last_round = 4000000000
 -- the most entries of a history
 abbrev pub max_history_len : ℕ
 max_history_len = 65536
-
--- the most bytes of a frame after its length: a statement and its signature
-abbrev pub max_body_len : ℕ
-max_body_len = 150000
 
 -- the most bytes of a signature
 abbrev pub max_signature_len : ℕ

@@ -1,7 +1,10 @@
 -- What bytes read as, if anything. That reading inverts encoding is a law.
 use Rattle.std.specs.Prelude.{ℕ, zero, suc, ◌==◌, nat_le, Bool, true, false, ◌&&◌, List, [], ◌∷◌, length, take, drop, Option, Some, None}
 use Rattle.std.specs.Prelude.{if◌then◌else◌}
-use Rattle.ledger_model.specs.Limits.{max_tx_len, max_batch_len, max_signature_len, max_body_len}
+use Rattle.ledger_model.specs.Limits.{max_tx_len, max_signature_len}
+use Rattle.ledger_model.specs.Versions.{reads, batch_limit, body_limit}
+use Rattle.ledger_model.specs.declared.version.Version.{Version}
+use Rattle.ledger_model.specs.declared.version.Version.TheVariants.{One, Two}
 use Rattle.std.specs.Int.{Width, w16, w32, byte_len, from_be_bytes}
 use Rattle.ledger_model.specs.declared.statement.Report.{Report}
 use Rattle.ledger_model.specs.declared.statement.Lock.{Lock}
@@ -11,6 +14,7 @@ use Rattle.ledger_model.specs.declared.statement.SignedStatement.{SignedStatemen
 use Rattle.ledger_model.specs.declared.statement.Statement.{Statement}
 use Rattle.ledger_model.specs.declared.statement.Statement.TheVariants as statement
 use Rattle.ledger_model.specs.Values.{Value}
+use Rattle.ledger_model.specs.Notes.{version_of}
 use Rattle.ledger_model.specs.Validity.{ascends_within, signers_of}
 use Rattle.ledger_model.specs.Spelling.{are_ascending}
 
@@ -57,25 +61,25 @@ txs_at (suc n) bytes = do
   rest ← txs_at n tx.1
   Some (tx.0 ∷ rest.0, rest.1)
 
--- a value: the number of its transactions, 0 to 16, and the transactions
-unfoldable pub value_at : List ℕ → Option (Value × List ℕ)
-value_at bytes = do
+-- a value in a statement of this version: the number of its transactions, at most 16 or 64, and the transactions
+unfoldable pub value_at : Version → List ℕ → Option (Value × List ℕ)
+value_at version bytes = do
   count ← byte_at bytes
-  guarded (nat_le count.0 max_batch_len) (txs_at count.0 count.1)
+  guarded (nat_le count.0 (batch_limit version)) (txs_at count.0 count.1)
 
 -- n values
-unfoldable pub values_at : ℕ → List ℕ → Option (List Value × List ℕ)
-values_at zero bytes = Some ([], bytes)
-values_at (suc n) bytes = do
-  first ← value_at bytes
-  rest ← values_at n first.1
+unfoldable pub values_at : Version → ℕ → List ℕ → Option (List Value × List ℕ)
+values_at version zero bytes = Some ([], bytes)
+values_at version (suc n) bytes = do
+  first ← value_at version bytes
+  rest ← values_at version n first.1
   Some (first.0 ∷ rest.0, rest.1)
 
 -- at most four values, ascending
-unfoldable pub list_at : List ℕ → Option (List Value × List ℕ)
-list_at bytes = do
+unfoldable pub list_at : Version → List ℕ → Option (List Value × List ℕ)
+list_at version bytes = do
   count ← byte_at bytes
-  vs ← guarded (nat_le count.0 4) (values_at count.0 count.1)
+  vs ← guarded (nat_le count.0 4) (values_at version count.0 count.1)
   only_if (are_ascending vs.0) vs
 
 -- a signature: its length, at most 2508, and its bytes
@@ -111,16 +115,17 @@ place_at bytes = do
   signer ← byte_at phase.1
   Some (record { height = height.0; phase = phase.0; signer = signer.0 }, signer.1)
 
--- a report, without its first byte
-unfoldable pub report_at : List ℕ → Option (Report × List ℕ)
-report_at bytes = do
+-- a report of this version, without its first byte
+unfoldable pub report_at : Version → List ℕ → Option (Report × List ℕ)
+report_at version bytes = do
   place ← place_at bytes
   all ← flag_at place.1
-  initial ← value_at all.1
-  proper ← list_at initial.1
-  locked ← guarded (nat_le 1 (length proper.0)) (list_at proper.1)
+  initial ← value_at version all.1
+  proper ← list_at version initial.1
+  locked ← guarded (nat_le 1 (length proper.0)) (list_at version proper.1)
   Some (
     record {
+      version = version;
       height = place.0.height;
       phase = place.0.phase;
       signer = place.0.signer;
@@ -133,62 +138,99 @@ report_at bytes = do
     locked.1,
   )
 
--- a signed report, with its first byte
-unfoldable pub signed_at : List ℕ → Option (SignedReport × List ℕ)
-signed_at bytes = do
-  kind ← byte_at bytes
-  report ← guarded (kind.0 == 1) (report_at kind.1)
+-- the version of a report that starts with this byte, in a lock of this version: 01, or in a lock of version 2 also 11
+abbrev pub report_version : Version → ℕ → Option Version
+report_version version first =
+    if first == 0x01 then Some One else if first == 0x11 then only_if (reads version Two) Two else None
+
+-- a signed report in a lock of this version, with its first byte
+unfoldable pub signed_at : Version → List ℕ → Option (SignedReport × List ℕ)
+signed_at version bytes = do
+  first ← byte_at bytes
+  own ← report_version version first.0
+  report ← report_at own first.1
   signature ← signature_at report.1
   Some (record { report = report.0; signature = signature.0 }, signature.1)
 
--- n signed reports
-unfoldable pub proof_at : ℕ → List ℕ → Option (List SignedReport × List ℕ)
-proof_at zero bytes = Some ([], bytes)
-proof_at (suc n) bytes = do
-  first ← signed_at bytes
-  rest ← proof_at n first.1
+-- n signed reports in a lock of this version
+unfoldable pub proof_at : Version → ℕ → List ℕ → Option (List SignedReport × List ℕ)
+proof_at version zero bytes = Some ([], bytes)
+proof_at version (suc n) bytes = do
+  first ← signed_at version bytes
+  rest ← proof_at version n first.1
   Some (first.0 ∷ rest.0, rest.1)
 
--- a lock, without its first byte: 3 to 12 reports, whose signers ascend
-unfoldable pub lock_at : List ℕ → Option (Lock × List ℕ)
-lock_at bytes = do
+-- a lock of this version, without its first byte: 3 to 12 reports, whose signers ascend
+unfoldable pub lock_at : Version → List ℕ → Option (Lock × List ℕ)
+lock_at version bytes = do
   place ← place_at bytes
-  v ← value_at place.1
+  v ← value_at version place.1
   count ← byte_at v.1
-  reports ← guarded (nat_le 3 count.0 && nat_le count.0 12) (proof_at count.0 count.1)
-  only_if (ascends_within 0 256 (signers_of reports.0))
-      (record { height = place.0.height; phase = place.0.phase; signer = place.0.signer; value = v.0; proof = reports.0 }, reports.1)
+  reports ← guarded (nat_le 3 count.0 && nat_le count.0 12) (proof_at version count.0 count.1)
+  only_if (ascends_within 0 256 (signers_of reports.0)) (
+    record {
+      version = version;
+      height = place.0.height;
+      phase = place.0.phase;
+      signer = place.0.signer;
+      value = v.0;
+      proof =
+          reports.0;
+    },
+    reports.1,
+  )
 
--- an acknowledgement, without its first byte
-unfoldable pub ack_at : List ℕ → Option (Ack × List ℕ)
-ack_at bytes = do
+-- an acknowledgement of this version, without its first byte
+unfoldable pub ack_at : Version → List ℕ → Option (Ack × List ℕ)
+ack_at version bytes = do
   place ← place_at bytes
-  v ← value_at place.1
-  Some (record { height = place.0.height; phase = place.0.phase; signer = place.0.signer; value = v.0 }, v.1)
+  v ← value_at version place.1
+  Some (record { version = version; height = place.0.height; phase = place.0.phase; signer = place.0.signer; value = v.0 }, v.1)
 
--- a statement, whose first byte is its kind
+-- a report, a lock or an acknowledgement of this version, as a statement
+abbrev pub as_report : Version → List ℕ → Option (Statement × List ℕ)
+as_report version bytes = report_at version bytes >>= (λ r. Some (statement.Report r.0, r.1))
+
+abbrev pub as_lock : Version → List ℕ → Option (Statement × List ℕ)
+as_lock version bytes = lock_at version bytes >>= (λ l. Some (statement.Lock l.0, l.1))
+
+abbrev pub as_ack : Version → List ℕ → Option (Statement × List ℕ)
+as_ack version bytes = ack_at version bytes >>= (λ a. Some (statement.Ack a.0, a.1))
+
+-- a statement, whose first byte is its kind and version
 unfoldable pub statement_at : List ℕ → Option (Statement × List ℕ)
-statement_at bytes = byte_at bytes >>= (λ kind.
-    if kind.0 == 1 then report_at kind.1 >>= (λ r. Some (statement.Report r.0, r.1))
-    else if kind.0 == 2 then lock_at kind.1 >>= (λ l. Some (statement.Lock l.0, l.1))
-    else if kind.0 == 3 then ack_at kind.1 >>= (λ a. Some (statement.Ack a.0, a.1))
+statement_at bytes = byte_at bytes >>= (λ first.
+    if first.0 == 0x01 then as_report One first.1
+    else if first.0 == 0x02 then as_lock One first.1
+    else if first.0 == 0x03 then as_ack One first.1
+    else if first.0 == 0x11 then as_report Two first.1
+    else if first.0 == 0x12 then as_lock Two first.1
+    else if first.0 == 0x13 then as_ack Two first.1
     else None)
 
--- the statement that all of the bytes are, if they are one
-unfoldable pub statement_reading : List ℕ → Option Statement
-statement_reading bytes = do
+-- the statement that all of the bytes are, if they are one that frames of this version carry
+unfoldable pub statement_reading : Version → List ℕ → Option Statement
+statement_reading version bytes = do
   s ← statement_at bytes
-  only_if (length s.1 == 0) s.0
+  only_if ((length s.1 == 0) && reads version (version_of s.0)) s.0
 
--- the statement and the signature that all of the bytes are, if they are both
-unfoldable pub body_reading : List ℕ → Option SignedStatement
-body_reading bytes = do
+-- a body of this length, with this statement, is one that frames of this version may have
+abbrev pub is_carried : Version → ℕ → Statement → Bool
+is_carried version len s = reads version (version_of s) && nat_le len (body_limit (version_of s))
+
+-- the statement and the signature that all of the bytes are, if they are a body that frames of this version may have
+unfoldable pub body_reading : Version → List ℕ → Option SignedStatement
+body_reading version bytes = do
   s ← statement_at bytes
   signature ← signature_at s.1
-  only_if (length signature.1 == 0) (record { statement = s.0; signature = signature.0 })
+  only_if ((length signature.1 == 0) && is_carried version (length bytes) s.0) (record { statement = s.0; signature = signature.0 })
 
--- the frame that all of the bytes are, if they are one
-unfoldable pub reading : List ℕ → Option SignedStatement
-reading bytes = do
+-- the frame of this version that all of the bytes are, if they are one
+unfoldable pub reading_in : Version → List ℕ → Option SignedStatement
+reading_in version bytes = do
   len ← number_at w32 bytes
-  guarded ((length len.1 == len.0) && nat_le len.0 max_body_len) (body_reading len.1)
+  guarded (length len.1 == len.0) (body_reading version len.1)
+
+-- the frame, whatever its version, that all of the bytes are, if they are one
+abbrev pub reading : List ℕ → Option SignedStatement
+reading bytes = reading_in Two bytes

@@ -1,8 +1,10 @@
 //! Transactions, batches of them, and the keys of queries, with their limits.
 ghost use Rattle.std.specs.Prelude.{◌≡◌, ◌<◌, ◌≤◌, ◌↔◌, length, IfOk, IsErrOf, vec_len};
 ghost use Rattle.std.specs.List.{AllByRecursion};
-ghost use Rattle.ledger_model.specs.Limits.{max_tx_len, max_batch_len, max_key_len};
+ghost use Rattle.ledger_model.specs.Limits.{max_tx_len, max_key_len};
 ghost use Rattle.ledger_model.specs.Values.{IsTx, IsValue};
+ghost use Rattle.ledger_model.specs.Versions.{batch_limit};
+ghost use Rattle.ledger_model.specs.declared.version.Version.TheVariants.{Two};
 
 use std::alloc::{AllocError, Global};
 use std::marker::Model;
@@ -94,7 +96,7 @@ impl Tx {
     }
 }
 
-/// What replicas agree on at a height: 0 to 16 transactions, in order.
+/// What replicas agree on at a height: 0 to 64 transactions, in order. A statement of version 1 has at most 16.
 #[derive(Debug, Drop)]
 pub struct Batch {
     transactions: Vec<Tx>,
@@ -103,7 +105,7 @@ pub struct Batch {
 /// Why transactions are no batch.
 #[derive(Clone, Copy, Debug, PartialEq, Eq, Error)]
 pub enum BatchFault {
-    #[error("a batch has at most 16 transactions")]
+    #[error("a batch has at most 64 transactions")]
     TooMany,
 }
 
@@ -134,13 +136,13 @@ impl PartialEq for Batch {
 
 impl Batch {
     /// The most transactions of a batch.
-    pub const MAX_LEN: usize = 16;
+    pub const MAX_LEN: usize = 64;
 
-    /// A batch of these transactions, in this order. `TooMany` comes exactly if there are more than 16.
+    /// A batch of these transactions, in this order. `TooMany` comes exactly if there are more than 64.
     pub fn new(transactions: Vec<Tx>) -> Result<Self, BatchFault>
         ensures ok { IfOk result (λ batch. batch ≡ transactions.items) }
         ensures spelled { IfOk result (λ batch. IsValue batch) }
-        ensures too_many { IsErrOf result BatchFault.TooMany ↔ (max_batch_len < vec_len transactions) }
+        ensures too_many { IsErrOf result BatchFault.TooMany ↔ (batch_limit Two < vec_len transactions) }
     {
         if transactions.len() > Self::MAX_LEN {
             return Err(BatchFault::TooMany);
@@ -149,10 +151,10 @@ impl Batch {
         Ok(Batch { transactions })
     }
 
-    /// Its transactions, in order, at most 16.
+    /// Its transactions, in order, at most 64.
     pub fn transactions(&self) -> &[Tx]
         ensures transactions { result.now ≡ self.now }
-        ensures few { length self.now ≤ max_batch_len }
+        ensures few { length self.now ≤ batch_limit Two }
         ensures spelled { IsValue self.now }
     {
         self.transactions.as_slice()

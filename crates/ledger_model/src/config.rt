@@ -1,7 +1,10 @@
 //! The configuration of a cluster: N replicas, of which t may lie, with N >= 3t+1.
-ghost use Rattle.std.specs.Prelude.{◌≡◌, ◌*◌, ◌+◌, ◌<◌, ◌≤◌, ◌↔◌, IfOk, IsErrOf};
+ghost use Rattle.std.specs.Prelude.{◌≡◌, ◌*◌, ◌+◌, ◌<◌, ◌≤◌, ◌↔◌, IfOk, IfErr, IsErrOf, Some, None};
 ghost use Rattle.ledger_model.specs.declared.config.ConfigFault.TheVariants.{TooFew, TooMany, NoFault};
+ghost use Rattle.ledger_model.specs.declared.version.Version.TheVariants.{One, Two};
+ghost use Rattle.ledger_model.specs.Versions.{numbered};
 
+use crate::Version;
 use thiserror::Error;
 
 /// Which application every replica runs.
@@ -12,12 +15,13 @@ pub enum AppKind {
     Purse,
 }
 
-/// The size of a cluster, how many of its replicas may lie, and the application that they run.
+/// The size of a cluster, how many of its replicas may lie, the application that they run, and the version of their frames.
 #[derive(Clone, Copy)]
 pub struct Config {
     pub replicas: u8,
     pub faults: u8,
     pub kind: AppKind,
+    pub frames: Version,
     ghost enough: { 3 * faults + 1 ≤ replicas },
     ghost bounded: { replicas ≤ 13 },
     ghost tolerant: { 1 ≤ faults },
@@ -35,6 +39,9 @@ pub enum ConfigFault {
     /// The size lets no replica lie.
     #[error("at least one replica may lie")]
     NoFault,
+    /// Neither version 1 nor version 2.
+    #[error("frames have version 1 or 2")]
+    Version,
 }
 
 impl Config {
@@ -42,12 +49,13 @@ impl Config {
     pub const MAX_REPLICAS: u8 = 13;
 
     /// A cluster of `replicas`, of which `faults` may lie: `3 * faults + 1 <= replicas <= 13` and `1 <= faults` (Dwork, Lynch
-    /// and Stockmeyer 1988, Algorithm 2). If several refusals fit, the first in the order of `ConfigFault` is returned.
+    /// and Stockmeyer 1988, Algorithm 2). Its frames have version 1. If several refusals fit, the first in the order of `ConfigFault` is returned.
     pub fn new(replicas: u8, faults: u8, kind: AppKind) -> Result<Self, ConfigFault>
-        ensures made { IfOk result (λ c. (c.replicas ≡ replicas) × (c.faults ≡ faults) × (c.kind ≡ kind)) }
+        ensures made { IfOk result (λ c. (c.replicas ≡ replicas) × (c.faults ≡ faults) × (c.kind ≡ kind) × (c.frames ≡ One)) }
         ensures too_few { IsErrOf result TooFew ↔ (replicas < 3 * faults + 1) }
         ensures too_many { IsErrOf result TooMany ↔ ((3 * faults + 1 ≤ replicas) × (13 < replicas)) }
         ensures no_fault { IsErrOf result NoFault ↔ ((1 ≤ replicas) × (replicas ≤ 13) × (faults ≡ 0)) }
+        ensures sized { IsErrOf result ConfigFault.Version → ⊥ }
     {
         if u16::from(replicas) < 3 * u16::from(faults) + 1 {
             return Err(ConfigFault::TooFew);
@@ -62,6 +70,24 @@ impl Config {
             replicas,
             faults,
             kind,
+            frames: Version::One,
+        })
+    }
+
+    /// The same cluster with frames of this version, 1 or 2. `Version` comes exactly if it is neither.
+    pub fn with_frames(self, version: u8) -> Result<Self, ConfigFault>
+        ensures made { IfOk result (λ c. (numbered version ≡ Some c.frames) × (c ≡ record self { frames = c.frames })) }
+        ensures version { IsErrOf result ConfigFault.Version ↔ (numbered version ≡ None) }
+        ensures only { IfErr result (λ fault. fault ≡ ConfigFault.Version) }
+    {
+        let Some(frames) = Version::from_number(version) else {
+            return Err(ConfigFault::Version);
+        };
+        Ok(Config {
+            replicas: self.replicas,
+            faults: self.faults,
+            kind: self.kind,
+            frames,
         })
     }
 }

@@ -12,6 +12,7 @@ mod quorums;
 mod reply;
 mod rounds;
 mod statement;
+mod version;
 mod world;
 
 pub use batch::{Batch, BatchFault, Key, KeyFault, Tx, TxFault};
@@ -29,4 +30,5 @@ pub use rounds::{Place, has_phase, has_place, phase_of, place_of};
 pub use statement::{
     Ack, Batches, Lock, LockProof, Report, Signature, SignedReport, SignedStatement, Statement,
 };
+pub use version::Version;
 pub use world::{WorldRefusal, WorldReply, WorldStep};

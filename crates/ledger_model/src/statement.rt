@@ -3,7 +3,7 @@ ghost use Rattle.std.specs.Prelude.{◌≡◌, IfOk};
 ghost use Rattle.std.specs.List.{list_any, list_all};
 ghost use Rattle.ledger_model.specs.Values.{same_value};
 
-use crate::{Batch, Height, Phase, ReplicaId};
+use crate::{Batch, Height, Phase, ReplicaId, Version};
 use std::alloc::{AllocError, Global};
 use std::marker::Model;
 
@@ -122,6 +122,7 @@ impl Signature {
 /// it holds locks on.
 #[derive(Debug)]
 pub struct Report {
+    pub version: Version,
     pub height: Height,
     pub phase: Phase,
     pub signer: ReplicaId,
@@ -136,6 +137,7 @@ pub struct Report {
 impl Drop for Report {
     fn drop(self) {
         let Report {
+            version: _version,
             height: _height,
             phase: _phase,
             signer: _signer,
@@ -182,6 +184,7 @@ impl Report {
         ensures { IfOk result (λ report. report ≡ self.now) }
     {
         Ok(Report {
+            version: self.version,
             height: self.height,
             phase: self.phase,
             signer: self.signer,
@@ -260,6 +263,7 @@ impl LockProof {
 /// A lock: the value that a phase's owner chose, with the reports that allow it.
 #[derive(Debug)]
 pub struct Lock {
+    pub version: Version,
     pub height: Height,
     pub phase: Phase,
     pub signer: ReplicaId,
@@ -271,6 +275,7 @@ pub struct Lock {
 impl Drop for Lock {
     fn drop(self) {
         let Lock {
+            version: _version,
             height: _height,
             phase: _phase,
             signer: _signer,
@@ -283,6 +288,7 @@ impl Drop for Lock {
 /// A replica's acknowledgement that it took the lock of a phase.
 #[derive(Debug, Drop)]
 pub struct Ack {
+    pub version: Version,
     pub height: Height,
     pub phase: Phase,
     pub signer: ReplicaId,
@@ -299,7 +305,7 @@ pub enum Statement {
 
 impl Statement {
     ghost use Rattle.std.specs.Prelude.{◌≡◌};
-    ghost use Rattle.ledger_model.specs.Notes.{signer_of};
+    ghost use Rattle.ledger_model.specs.Notes.{signer_of, version_of};
     ghost use Rattle.ledger_model.specs.Logs.{height_of};
     ghost use Rattle.ledger_model.specs.Rules.{phase_in};
 
@@ -311,6 +317,17 @@ impl Statement {
             Statement::Report(report) => report.signer,
             Statement::Lock(lock) => lock.signer,
             Statement::Ack(ack) => ack.signer,
+        }
+    }
+
+    /// The version that the statement has.
+    pub fn version(&self) -> Version
+        ensures { result ≡ version_of self.now }
+    {
+        match self {
+            Statement::Report(report) => report.version,
+            Statement::Lock(lock) => lock.version,
+            Statement::Ack(ack) => ack.version,
         }
     }
 

@@ -17,7 +17,7 @@ use Rattle.ledger_model.specs.Values.{Value}
 use Rattle.ledger_model.specs.Rounds.{phase_of, place_of, round_at, lock_place, release_place}
 use Rattle.ledger_model.specs.Notes.{Note, Proposed, Round, OwnStatement, Read, Retired, Has, clock_of}
 use Rattle.ledger_model.specs.Logs.{height_of, if_some, made_notes, statements_made, notes_of, log_after, log_of}
-use Rattle.ledger_model.specs.Reading.{reading}
+use Rattle.ledger_model.specs.Reading.{reading_in}
 use Rattle.ledger_model.specs.Rules.{MayMake, Ring, causes, answer_to, has_phase}
 use Rattle.ledger_model.specs.Locks.{held_values}
 use Rattle.ledger_model.specs.Lawful.{held_locks, Lawful, answer, ReplaysFrom, Replay}
@@ -130,7 +130,7 @@ module _ (config : Config) (ring : Ring) (id h : ℕ) where
   unfolding notes_of
   entry_of_phase front (event.Propose n) (reply.Proposed (Ok v)) lawful = proposed_of_phase (nat_eq n h) v
   entry_of_phase front (event.Deliver bytes) (reply.Delivered (Ok u)) lawful =
-      delivered_of_phase (log_of config id h front) (reading bytes) u (λ s is same.
+      delivered_of_phase (log_of config id h front) (reading_in config.frames bytes) u (λ s is same.
       subst (λ x. answer_to config ring (log_of config id x front) s ≡ Ok u) same
       (subst (λ o. answer config ring id front o ≡ Ok u) is (sym lawful)))
   entry_of_phase front event.RoundEnd (reply.RoundEnded (Ok ended)) lawful =

@@ -51,8 +51,7 @@ acknowledged config log k acks h v =
 
 pub decided_is_acked : DecidedIsAcked
 unfolding is_decided_by
-decided_is_acked config log k acks h lock of_phase made =
+decided_is_acked config log k acks h v made =
     let enough : ℕ → Bool = nat_le (2 * config.faults + 1) in
-    let counted = ap (λ p. enough (count_where (λ a. (a.phase == p) && same_value lock.value a.value) acks)) of_phase
-    ∙ ap enough (sym (acknowledged config log k acks h lock.value)) in
+    let counted = ap enough (sym (acknowledged config log k acks h v)) in
     simp made counted

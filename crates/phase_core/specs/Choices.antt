@@ -1,9 +1,8 @@
 -- The value that an owner locks, and the value that a lock decides, given what was read in the phase.
-use Rattle.std.specs.Prelude.{◌+◌, ◌*◌, ◌==◌, nat_le, Bool, ◌&&◌, List, [], ◌∷◌, ◌++◌, filter, Option, Some, None, if◌then◌else◌}
+use Rattle.std.specs.Prelude.{ℕ, ◌+◌, ◌*◌, ◌==◌, nat_le, Bool, ◌&&◌, List, [], ◌∷◌, ◌++◌, filter, Option, Some, None, if◌then◌else◌}
 use Rattle.std.specs.List.{flat_map}
 use Rattle.ledger_model.specs.declared.config.Config.{Config}
 use Rattle.ledger_model.specs.declared.statement.Ack.{Ack}
-use Rattle.ledger_model.specs.declared.statement.Lock.{Lock}
 use Rattle.ledger_model.specs.declared.statement.Report.{Report}
 use Rattle.ledger_model.specs.Values.{Value, same_value, ascending}
 use Rattle.ledger_model.specs.Rounds.{quorum}
@@ -26,7 +25,6 @@ chosen config reports own =
     if is_found_by config reports own then Some own
     else first_value (filter (is_found_by config reports) (ascending (flat_map (λ p. p.proper ++ p.locked) reports)))
 
--- at least 2t+1 acknowledgements are of the lock's phase and value
-unfoldable pub is_decided_by : Config → List Ack → Lock → Bool
-is_decided_by config acks lock =
-    nat_le (2 * config.faults + 1) (count_where (λ a. (a.phase == lock.phase) && same_value lock.value a.value) acks)
+-- at least 2t+1 acknowledgements are of a lock of phase k on the value
+unfoldable pub is_decided_by : Config → List Ack → ℕ → Value → Bool
+is_decided_by config acks k v = nat_le (2 * config.faults + 1) (count_where (λ a. (a.phase == k) && same_value v a.value) acks)

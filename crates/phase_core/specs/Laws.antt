@@ -2,7 +2,6 @@
 use Rattle.std.specs.Prelude.{◌≡◌, ℕ, true, List}
 use Rattle.ledger_model.specs.declared.config.Config.{Config}
 use Rattle.ledger_model.specs.declared.statement.Ack.{Ack}
-use Rattle.ledger_model.specs.declared.statement.Lock.{Lock}
 use Rattle.ledger_model.specs.declared.statement.Report.{Report}
 use Rattle.ledger_model.specs.Values.{Value, same_value}
 use Rattle.ledger_model.specs.Rounds.{round_at, lock_place}
@@ -21,5 +20,5 @@ FoundIsSupported =
 abbrev pub DecidedIsAcked : Type 0
 DecidedIsAcked =
     (config : Config) (log : List Note) (k : ℕ) (acks : List Ack) → AreAcksIn config log k acks
-    → (lock : Lock) → lock.phase ≡ k → was_made log (round_at lock_place k) (is_lock (λ l. same_value lock.value l.value)) ≡ true
-    → is_decided_by config acks lock ≡ is_acked config log k lock.value
+    → (v : Value) → was_made log (round_at lock_place k) (is_lock (λ l. same_value v l.value)) ≡ true
+    → is_decided_by config acks k v ≡ is_acked config log k v

@@ -1,7 +1,6 @@
 //! Whether the acknowledgements of a lock decide its value.
 ghost use Rattle.std.specs.Prelude.{◌≡◌};
 ghost use Rattle.tally.specs.Tallies.{all_read};
-ghost use Rattle.ledger_model.specs.declared.statement.Lock.{Lock};
 ghost use Rattle.phase_core.specs.Choices.{is_decided_by};
 
 use ledger_model::{Ack, Batch, Config, Lock, Phase};
@@ -9,8 +8,7 @@ use tally::Tally;
 
 /// Whether at least 2t+1 replicas acknowledged a lock of this phase on this value. Allocates nothing.
 pub fn is_acknowledged(config: &Config, acks: &Tally<Ack>, phase: Phase, value: &Batch) -> bool
-    // The acknowledgements decide every such lock, or none.
-    ensures { (lock : Lock) → lock.phase ≡ phase → lock.value ≡ value.now → result ≡ is_decided_by config.now (all_read acks.now) lock }
+    ensures { result ≡ is_decided_by config.now (all_read acks.now) phase value.now }
 {
     let count = acks.count_where(|ack| ack.phase == phase && *value == ack.value);
     count >= usize::from(config.deciding())
@@ -19,7 +17,7 @@ pub fn is_acknowledged(config: &Config, acks: &Tally<Ack>, phase: Phase, value: 
 /// Whether the owner of a lock decides its value: whether at least 2t+1 replicas acknowledged a lock of that phase and
 /// value. Allocates nothing.
 pub fn decides(config: &Config, acks: &Tally<Ack>, lock: &Lock) -> bool
-    ensures { result ≡ is_decided_by config.now (all_read acks.now) lock.now }
+    ensures { result ≡ is_decided_by config.now (all_read acks.now) lock.now.phase lock.now.value }
 {
     is_acknowledged(config, acks, lock.phase, &lock.value)
 }

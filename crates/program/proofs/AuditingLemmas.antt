@@ -40,14 +40,14 @@ module _ (s : AuditSettings) (input : List ℕ) (unread left : Option (List ℕ)
 
   -- the input is histories, which were audited
   audits_whole : (histories : List History) (status : ℕ) (before after : Option (List ℕ)) → ReadsWhole unread left input
-      → histories_reading input ≡ Some histories → AuditsWritten s histories status before after → Audits s status unread left before after
+      → histories_reading s.cluster.config.frames input ≡ Some histories → AuditsWritten s histories status before after → Audits s status unread left before after
   audits_whole histories status before after (read, to_end) reads (text, (audited, written)) = (
     to_end,
     record { input = input; text = text; goes_with = inr (histories, reads, audited); read = read; written = written },
   )
 
   audits_part : (histories : List History) (before after : Option (List ℕ)) → ReadsWhole unread left input
-      → histories_reading input ≡ Some histories → AuditsWrittenSome s histories before after → AuditsSome s unread left before after
+      → histories_reading s.cluster.config.frames input ≡ Some histories → AuditsWrittenSome s histories before after → AuditsSome s unread left before after
   audits_part histories before after (read, to_end) reads (text, (inl none, written)) =
       record { input = input; text = text; goes_with = inl none; read = read; written = written }
   audits_part histories before after (read, to_end) reads (text, (inr (status, audited), written)) = record {
@@ -59,7 +59,7 @@ module _ (s : AuditSettings) (input : List ℕ) (unread left : Option (List ℕ)
   }
 
   pub audits_histories : {E : Type 0} (r : Result Conclusion E) (histories : List History) (before after : Option (List ℕ))
-      → ReadsWhole unread left input → histories_reading input ≡ Some histories
+      → ReadsWhole unread left input → histories_reading s.cluster.config.frames input ≡ Some histories
       → MatchResult r (λ ending. AuditsWritten s histories ending.status before after)
       (λ _. AuditsWrittenSome s histories before after)
       → MatchResult r (λ ending. Audits s ending.status unread left before after) (λ _. AuditsSome s unread left before after)
@@ -69,7 +69,7 @@ module _ (s : AuditSettings) (input : List ℕ) (unread left : Option (List ℕ)
 
   -- the input is no histories, which was told
   pub audits_none : {E : Type 0} (r : Result Conclusion E) (before after : Option (List ℕ)) → ReadsWhole unread left input
-      → histories_reading input ≡ None → Writes r before after bad_history
+      → histories_reading s.cluster.config.frames input ≡ None → Writes r before after bad_history
       → IfOk r (λ ending. (ending.explanation ≡ None) × (ending.status ≡ 1))
       → MatchResult r (λ ending. Audits s ending.status unread left before after) (λ _. AuditsSome s unread left before after)
   audits_none (Ok ending) before after (read, to_end) none written is = (

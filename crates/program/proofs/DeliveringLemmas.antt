@@ -17,7 +17,8 @@ use Rattle.program.specs.declared.stream_end.StreamEnd.{StreamEnd}
 use Rattle.program.specs.Lines.{last_line}
 use Rattle.byte_streams.specs.Writing.{AppendsSome}
 use Rattle.program.specs.Answering.{Answers, AnswersSome, deliveries, fresh, starting}
-use Rattle.program.specs.Streams.{Delivers, DeliversSome, DeliversStream, DeliversStreamSome, Ended, FillsHistory, IsMuteOnlySpent, Stopped}
+use Rattle.program.specs.Streams.{Delivers, DeliversSome, DeliversStream, DeliversStreamSome, Ended, FillsHistory, IsMuteOnlySpent, Stands, Stopped}
+use Rattle.ledger_model.specs.Spelling.{Frames}
 use Rattle.byte_streams.proofs.WritingLemmas.{nothing_some, then_some}
 use Rattle.program.proofs.AnsweringLemmas.{answers_both, some_after, some_longer}
 use Rattle.ledger_model.specs.Limits.{max_history_len}
@@ -60,7 +61,7 @@ delivers : (s : DeliverSettings) (b d : StateView) (unread left before after : O
 delivers s b d unread left before after end first ended =
     let all = answers_both (fresh s) b d (starting s) (deliveries ended.frames) [] ended.text first ended.answers in record {
       frames = ended.frames;
-      stands = ended.stands;
+      stands = subst (λ (r : StateView). Stands r.config.frames ended.input ended.frames end) first.grown.same ended.stands;
       entries = all.added;
       events = all.these;
       replay = added_replay s d (starting s ++ deliveries ended.frames) ended.text all;
@@ -109,7 +110,8 @@ some_within s a b d unread left before after is first stopped =
       record {
         frames = stopped.frames;
         rest = stopped.rest;
-        stands = stopped.stands;
+        stands = subst (λ (r : StateView). Frames r.config.frames stopped.input stopped.frames stopped.rest)
+            (subst (λ r. Answers r (starting s) [] b) is first).grown.same stopped.stands;
         entries = some.answers.added;
         later = some.later;
         events = ap (λ l. l ++ some.later) some.answers.these ∙ some.split;

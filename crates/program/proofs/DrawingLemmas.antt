@@ -26,7 +26,7 @@ module _ (s : DrawSettings) (input : List ℕ) (unread left : Option (List ℕ))
 
   -- the input is histories, which were drawn
   pub draws_histories : {E : Type 0} (r : Result Conclusion E) (histories : List History) (before after : Option (List ℕ))
-      → ReadsWhole unread left input → histories_reading input ≡ Some histories
+      → ReadsWhole unread left input → histories_reading s.cluster.config.frames input ≡ Some histories
       → MatchResult r (λ ending. (ending.status ≡ 0) × DrawsWritten s histories before after)
       (λ _. DrawsWrittenSome s histories before after)
       → MatchResult r (λ ending. Draws s ending.status unread left before after) (λ _. DrawsSome s unread left before after)
@@ -46,7 +46,7 @@ module _ (s : DrawSettings) (input : List ℕ) (unread left : Option (List ℕ))
 
   -- the input is no histories, which was told
   pub draws_none : {E : Type 0} (r : Result Conclusion E) (before after : Option (List ℕ)) → ReadsWhole unread left input
-      → histories_reading input ≡ None → Writes r before after bad_history
+      → histories_reading s.cluster.config.frames input ≡ None → Writes r before after bad_history
       → IfOk r (λ ending. (ending.explanation ≡ None) × (ending.status ≡ 1))
       → MatchResult r (λ ending. Draws s ending.status unread left before after) (λ _. DrawsSome s unread left before after)
   draws_none (Ok ending) before after (read, to_end) none written is = (

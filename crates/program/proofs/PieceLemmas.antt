@@ -25,52 +25,53 @@ deliveries-append xs ys = sym (map-append _ xs ys)
 module _ (start state new : StateView) (unread now left before out after : Option (List ℕ)) (reader : FrameReaderView) (piece : List ℕ)
     (so_far : UnderWay start unread now before out state reader) (read : Consumes now left piece) where
   -- the frames that were handed out of the piece join those before
-  given_now : (found : List SignedStatement) (next : FrameReaderView) → HandsOut reader piece found next
-      → Leaves (so_far.input ++ piece) (so_far.frames ++ found) next
+  given_now : (found : List SignedStatement) (next : FrameReaderView) → HandsOut reader.version reader.state piece found next.state
+      → Leaves start.config.frames (so_far.input ++ piece) (so_far.frames ++ found) next.state
   given_now found next handed =
-      more_given so_far.input so_far.kept piece so_far.frames found next so_far.given
-      (subst (λ r. HandsOut r piece found next) so_far.reading handed)
+      more_given start.config.frames so_far.input so_far.kept piece so_far.frames found next.state so_far.given
+      (rw (so_far.reading, so_far.version) at handed)
 
   read_now : Consumes unread left (so_far.input ++ piece)
   read_now = Consumes-trans unread now left so_far.input piece so_far.read read
 
   -- it goes on behind the frames, or a fault stands there
-  pub piece_goes : (found : List SignedStatement) (next last : FrameReaderView) (fault : Option StreamFault)
-      → HandsOut reader piece found next
+  pub piece_goes : (found : List SignedStatement) (next last : FrameReaderView) (fault : Option StreamFault) → next.version ≡ start.config.frames → last.version ≡ start.config.frames
+      → HandsOut reader.version reader.state piece found next.state
       → Printed state (deliveries found) new out after
-      → ((bytes : List ℕ) (frames : List SignedStatement) → Leaves bytes frames next → GoesBehind bytes frames last fault)
+      → ((bytes : List ℕ) (frames : List SignedStatement) → Leaves next.version bytes frames next.state → GoesBehind bytes frames last fault)
       → GoesOn start unread left before after new last fault
-  piece_goes found next last None handed printed behind =
-      let (kept, goes) = behind (so_far.input ++ piece) (so_far.frames ++ found) (given_now found next handed) in record {
+  piece_goes found next last None is_next is_last handed printed behind =
+      let (kept, goes) = behind (so_far.input ++ piece) (so_far.frames ++ found) (rw is_next (given_now found next handed)) in record {
         input = so_far.input ++ piece;
         frames = so_far.frames ++ found;
         text = so_far.text ++ printed.0;
         read = read_now;
         kept = kept;
+        version = is_last;
         reading = goes.0;
-        given = goes.1;
+        given = rw is_last at goes.1;
         answers = subst (λ l. Answers start l (so_far.text ++ printed.0) new) (deliveries-append so_far.frames found)
             (answers_both start state new (deliveries so_far.frames) (deliveries found) so_far.text printed.0 so_far.answers printed.1.0);
         written = Appends-trans before out after so_far.text printed.0 so_far.written printed.1.1;
       }
-  piece_goes found next last (Some fault) handed printed behind = record {
+  piece_goes found next last (Some fault) is_next is_last handed printed behind = record {
     input = so_far.input ++ piece;
     frames = so_far.frames ++ found;
     text = so_far.text ++ printed.0;
     read = read_now;
     found = tt;
-    stands = behind (so_far.input ++ piece) (so_far.frames ++ found) (given_now found next handed);
+    stands = rw is_last at (behind (so_far.input ++ piece) (so_far.frames ++ found) (rw is_next (given_now found next handed)));
     answers = subst (λ l. Answers start l (so_far.text ++ printed.0) new) (deliveries-append so_far.frames found)
         (answers_both start state new (deliveries so_far.frames) (deliveries found) so_far.text printed.0 so_far.answers printed.1.0);
     written = Appends-trans before out after so_far.text printed.0 so_far.written printed.1.1;
   }
 
   -- it stops within the frames, or behind them
-  pub piece_stops : (found : List SignedStatement) (next : FrameReaderView) → HandsOut reader piece found next
+  pub piece_stops : (found : List SignedStatement) (next : FrameReaderView) → HandsOut reader.version reader.state piece found next.state
       → PrintedSome state (deliveries found) new out after
       → Stopped start unread left before after new
   piece_stops found next handed printed =
-      let (rest, frames) = frames_left (so_far.input ++ piece) (so_far.frames ++ found) next (given_now found next handed) in record {
+      let (rest, frames) = frames_left start.config.frames (so_far.input ++ piece) (so_far.frames ++ found) next.state (given_now found next handed) in record {
         input = so_far.input ++ piece;
         frames = so_far.frames ++ found;
         rest = rest;
@@ -84,16 +85,17 @@ module _ (start state new : StateView) (unread now left before out after : Optio
 
   -- either of both
   pub piece_behind : {E : Type 0} → (found : List SignedStatement) (next last : FrameReaderView) (r : Result (Option StreamFault) E)
-      → HandsOut reader piece found next
+      → next.version ≡ start.config.frames → last.version ≡ start.config.frames → HandsOut reader.version reader.state piece found next.state
       → Printed state (deliveries found) new out after
-      → ((bytes : List ℕ) (frames : List SignedStatement) → Leaves bytes frames next → IfOk r (GoesBehind bytes frames last))
+      → ((bytes : List ℕ) (frames : List SignedStatement) → Leaves next.version bytes frames next.state → IfOk r (GoesBehind bytes frames last))
       → MatchResult r (GoesOn start unread left before after new last) (λ _. Stopped start unread left before after new)
-  piece_behind found next last (Ok fault) handed printed behind = piece_goes found next last fault handed printed behind
-  piece_behind found next last (Err e) handed printed behind =
+  piece_behind found next last (Ok fault) is_next is_last handed printed behind =
+      piece_goes found next last fault is_next is_last handed printed behind
+  piece_behind found next last (Err e) is_next is_last handed printed behind =
       piece_stops found next handed (printed_all state new (deliveries found) out after printed)
 
   -- a fault stands there, with no frame before it
-  pub piece_told : (fault : FrameFault) (next : FrameReaderView) (found : StreamFault) → Tells reader piece fault next → IsTold fault found
+  pub piece_told : (fault : FrameFault) (next : FrameReaderView) (found : StreamFault) → Tells reader.version reader.state piece fault next.state → IsTold fault found
       → Ended start unread left before out state (Fault found)
   piece_told fault next found tells is = record {
     input = so_far.input ++ piece;
@@ -101,8 +103,8 @@ module _ (start state new : StateView) (unread now left before out after : Optio
     text = so_far.text;
     read = read_now;
     found = tt;
-    stands = told_after so_far.input so_far.kept piece so_far.frames fault next found so_far.given
-        (subst (λ r. Tells r piece fault next) so_far.reading tells) is;
+    stands = told_after start.config.frames so_far.input so_far.kept piece so_far.frames fault next.state found so_far.given
+        (rw (so_far.reading, so_far.version) at tells) is;
     answers = so_far.answers;
     written = so_far.written;
   }
@@ -115,7 +117,7 @@ module _ (start state new : StateView) (unread now left before out after : Optio
     rest = so_far.kept ++ piece;
     text = so_far.text;
     read = read_now;
-    stands = longer so_far.input so_far.kept piece so_far.frames so_far.given.0;
+    stands = longer start.config.frames so_far.input so_far.kept piece so_far.frames so_far.given.0;
     answers = some_all start state (deliveries so_far.frames) so_far.text so_far.answers;
     written = all_some before out so_far.text so_far.written;
   }

@@ -5,7 +5,8 @@ use Rattle.std.specs.Io.KnownBytes.{Consumes, Keeps}
 use Rattle.std.proofs.KnownBytes.{Appends-nil, Consumes-nil, Consumes-trans, Consumes-kept}
 use Rattle.ledger_model.specs.declared.statement.SignedStatement.{SignedStatement}
 use Rattle.ledger_model.specs.Streams.{SplitsTo}
-use Rattle.signed_frames.specs.Reader.{FrameReaderView, Reading, Found, Failed}
+use Rattle.signed_frames.specs.Reader.{FrameReaderView, ReaderState, Reading, Found, Failed}
+use Rattle.ledger_model.specs.declared.version.Version.{Version}
 use Rattle.locked_replica.specs.States.{StateView}
 use Rattle.program.specs.declared.stream_end.StreamEnd.{StreamEnd}
 use Rattle.program.specs.declared.stream_end.StreamEnd.TheVariants.{Whole, Cut, Fault}
@@ -16,14 +17,15 @@ use Rattle.byte_streams.proofs.WritingLemmas.{all_some}
 use Rattle.program.proofs.AnsweringLemmas.{answers_none, some_all}
 
 -- nothing was read yet
-pub begun : (start : StateView) (unread before : Option (List ℕ)) (reader : FrameReaderView) → reader ≡ Reading []
-    → UnderWay start unread unread before before start reader
-begun start unread before reader reading = record {
+pub begun : (start : StateView) (unread before : Option (List ℕ)) (reader : FrameReaderView) → reader.state ≡ Reading []
+    → reader.version ≡ start.config.frames → UnderWay start unread unread before before start reader
+begun start unread before reader reading version = record {
   input = [];
   frames = [];
   text = [];
   read = Consumes-nil unread;
   kept = [];
+  version = version;
   reading = reading;
   given = ((tt, refl), inl (lit< tt));
   answers = answers_none start;
@@ -34,8 +36,8 @@ begun start unread before reader reading = record {
 pub ended_of : (start state : StateView) (unread now left before out : Option (List ℕ)) (reader : FrameReaderView) (end : StreamEnd)
     (n : ℕ) (piece : List ℕ)
     → UnderWay start unread now before out state reader → Consumes now left (take n piece) → n ≡ 0 → IsReadTo end left
-    → ((input : List ℕ) (given : List SignedStatement) (kept : List ℕ) → reader ≡ Reading kept → SplitsTo input given kept
-    → Stands input given end)
+    → ((input : List ℕ) (given : List SignedStatement) (kept : List ℕ) → reader.state ≡ Reading kept
+    → SplitsTo reader.version input given kept → Stands reader.version input given end)
     → Ended start unread left before out state end
 ended_of start state unread now left before out reader end n piece so_far read none to_end stands =
     let nothing : Consumes now left [] = subst (λ k. Consumes now left (take k piece)) none read in record {
@@ -45,7 +47,8 @@ ended_of start state unread now left before out reader end n piece so_far read n
       read = subst (λ l. Consumes unread left l) (append-nil so_far.input)
           (Consumes-trans unread now left so_far.input [] so_far.read nothing);
       found = to_end;
-      stands = stands so_far.input so_far.frames so_far.kept so_far.reading so_far.given;
+      stands = rw so_far.version at (stands so_far.input so_far.frames so_far.kept so_far.reading
+          (rw so_far.version so_far.given));
       answers = so_far.answers;
       written = so_far.written;
     }
@@ -80,20 +83,20 @@ stopped_of start state unread now left before out reader so_far keeps = record {
 }
 
 -- what a reader keeps
-kept_of : FrameReaderView → List ℕ
+kept_of : ReaderState → List ℕ
 kept_of (Reading kept) = kept
 kept_of (Found found) = []
 kept_of Failed = []
 
 -- a stream of whole frames
-pub whole_stands : (reader : FrameReaderView) (input kept : List ℕ) (given : List SignedStatement) → reader ≡ Reading []
-    → reader ≡ Reading kept → SplitsTo input given kept → Stands input given Whole
+pub whole_stands : (version : Version) (reader : ReaderState) (input kept : List ℕ) (given : List SignedStatement) → reader ≡ Reading []
+    → reader ≡ Reading kept → SplitsTo version input given kept → Stands version input given Whole
 unfolding kept_of
-whole_stands reader input kept given between reading splits =
-    let none : kept ≡ [] = ap kept_of (sym reading ∙ between) in subst (λ k. SplitsTo input given k) none splits
+whole_stands version reader input kept given between reading splits =
+    let none : kept ≡ [] = ap kept_of (sym reading ∙ between) in subst (λ k. SplitsTo version input given k) none splits
 
 -- a stream that breaks off within a frame
-pub cut_stands : (reader : FrameReaderView) (input kept : List ℕ) (given : List SignedStatement) → (reader ≡ Reading [] → ⊥)
-    → reader ≡ Reading kept → SplitsTo input given kept → Stands input given Cut
-cut_stands reader input [] given within reading splits = absurd (within reading)
-cut_stands reader input (b ∷ bs) given within reading splits = (b ∷ bs, (splits, omega arith))
+pub cut_stands : (version : Version) (reader : ReaderState) (input kept : List ℕ) (given : List SignedStatement) → (reader ≡ Reading [] → ⊥)
+    → reader ≡ Reading kept → SplitsTo version input given kept → Stands version input given Cut
+cut_stands version reader input [] given within reading splits = absurd (within reading)
+cut_stands version reader input (b ∷ bs) given within reading splits = (b ∷ bs, (splits, omega arith))

@@ -43,8 +43,8 @@ pub record Audited (s : AuditSettings) (histories : List History) (status : ℕ)
 -- the input has this status, and this is printed for it: it is no histories, or these are audited
 abbrev pub IsAudited : AuditSettings → List ℕ → ℕ → List ℕ → Type 0
 IsAudited s input status text =
-    ((histories_reading input ≡ None) × (status ≡ 1) × (text ≡ bad_history))
-    ⊎ ((histories : List History) × (histories_reading input ≡ Some histories) × Audited s histories status text)
+    ((histories_reading s.cluster.config.frames input ≡ None) × (status ≡ 1) × (text ≡ bad_history))
+    ⊎ ((histories : List History) × (histories_reading s.cluster.config.frames input ≡ Some histories) × Audited s histories status text)
 
 -- the whole input was read, and what is printed for it was written
 abbrev pub Audits : AuditSettings → ℕ → Option (List ℕ) → Option (List ℕ) → Option (List ℕ) → Option (List ℕ) → Type 0

@@ -29,8 +29,8 @@ pub record Drawn (s : DrawSettings) (histories : List History) (text : List ℕ)
 -- the input has this status, and this is written for it: it is no histories, or these are drawn
 abbrev pub IsDrawn : DrawSettings → List ℕ → ℕ → List ℕ → Type 0
 IsDrawn s input status text =
-    ((histories_reading input ≡ None) × (status ≡ 1) × (text ≡ bad_history))
-    ⊎ ((histories : List History) × (histories_reading input ≡ Some histories) × (status ≡ 0) × Drawn s histories text)
+    ((histories_reading s.cluster.config.frames input ≡ None) × (status ≡ 1) × (text ≡ bad_history))
+    ⊎ ((histories : List History) × (histories_reading s.cluster.config.frames input ≡ Some histories) × (status ≡ 0) × Drawn s histories text)
 
 -- the whole input was read, and what is written for it was written
 abbrev pub Draws : DrawSettings → ℕ → Option (List ℕ) → Option (List ℕ) → Option (List ℕ) → Option (List ℕ) → Type 0

@@ -28,6 +28,7 @@ pub record IsConfigOf (p : Plan) (config : Config) : Type 0 where
   pub replicas : config.replicas ≡ p.replicas
   pub faults : config.faults ≡ p.faults
   pub kind : config.kind ≡ p.kind
+  pub frames : config.frames ≡ p.frames
 
 -- the cluster of the plan with this configuration, whose keys come from this seed
 abbrev pub cluster_of : List ℕ → Config → Plan → ClusterSeed

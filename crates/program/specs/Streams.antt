@@ -4,6 +4,7 @@ use Rattle.std.specs.Io.KnownBytes.{Appends, Consumes, IsAtEnd}
 use Rattle.ledger_model.specs.declared.event.Event.{Event}
 use Rattle.ledger_model.specs.declared.history.Entry.{Entry}
 use Rattle.ledger_model.specs.declared.statement.SignedStatement.{SignedStatement}
+use Rattle.ledger_model.specs.declared.version.Version.{Version}
 use Rattle.ledger_model.specs.Spelling.{Frames}
 use Rattle.ledger_model.specs.Lawful.{Replay}
 use Rattle.ledger_model.specs.Streams.{BeginsTooLong, BeginsMalformed, SplitsTo, BreaksOff}
@@ -29,15 +30,15 @@ use Rattle.ledger_model.specs.Limits.{max_history_len}
 use Rattle.program_streams.specs.Faults.{is_asked}
 
 -- after these frames come bytes that no frame starts with
-abbrev pub Breaks : StreamFault → List ℕ → List SignedStatement → Type 0
-Breaks TooLong input frames = BreaksOff BeginsTooLong input frames
-Breaks Malformed input frames = BreaksOff BeginsMalformed input frames
+abbrev pub Breaks : Version → StreamFault → List ℕ → List SignedStatement → Type 0
+Breaks version TooLong input frames = BreaksOff BeginsTooLong version input frames
+Breaks version Malformed input frames = BreaksOff BeginsMalformed version input frames
 
 -- the bytes of the stream are these frames, followed by this end
-abbrev pub Stands : List ℕ → List SignedStatement → StreamEnd → Type 0
-Stands input frames Whole = SplitsTo input frames []
-Stands input frames Cut = (rest : List ℕ) × (SplitsTo input frames rest × (1 ≤ length rest))
-Stands input frames (Fault fault) = Breaks fault input frames
+abbrev pub Stands : Version → List ℕ → List SignedStatement → StreamEnd → Type 0
+Stands version input frames Whole = SplitsTo version input frames []
+Stands version input frames Cut = (rest : List ℕ) × (SplitsTo version input frames rest × (1 ≤ length rest))
+Stands version input frames (Fault fault) = Breaks version fault input frames
 
 -- to find this end the whole stream was read; after a fault, the rest may be unread
 abbrev pub IsReadTo : StreamEnd → Option (List ℕ) → Type 0
@@ -54,16 +55,16 @@ IsTold told.NoMemory fault = ⊥
 
 -- the reader has found no fault, and has the first bytes of the next frame, if any
 abbrev pub IsReading : FrameReaderView → Type 0
-IsReading reader = (kept : List ℕ) × (reader ≡ Reading kept)
+IsReading reader = (kept : List ℕ) × (reader.state ≡ Reading kept)
 
 -- the reader has returned frames, and has not failed
 abbrev pub IsFed : FrameReaderView → Type 0
-IsFed reader = (bytes : List ℕ) × ((frames : List SignedStatement) × Leaves bytes frames reader)
+IsFed reader = (bytes : List ℕ) × ((frames : List SignedStatement) × Leaves reader.version bytes frames reader.state)
 
 -- the bytes are these frames, followed by the bytes that the reader has; or a fault follows the frames
 abbrev pub GoesBehind : List ℕ → List SignedStatement → FrameReaderView → Option StreamFault → Type 0
-GoesBehind bytes frames reader None = (kept : List ℕ) × ((reader ≡ Reading kept) × SplitsTo bytes frames kept)
-GoesBehind bytes frames reader (Some fault) = Breaks fault bytes frames
+GoesBehind bytes frames reader None = (kept : List ℕ) × ((reader.state ≡ Reading kept) × SplitsTo reader.version bytes frames kept)
+GoesBehind bytes frames reader (Some fault) = Breaks reader.version fault bytes frames
 
 -- since the start, these bytes were read from the stream, their frames were delivered, and the lines of the replies were written
 pub record UnderWay (start : StateView) (unread left before after : Option (List ℕ)) (now : StateView) (reader : FrameReaderView) : Type 0
@@ -73,8 +74,9 @@ pub record UnderWay (start : StateView) (unread left before after : Option (List
     pub text : List ℕ
     pub read : Consumes unread left input
     pub kept : List ℕ
-    pub reading : reader ≡ Reading kept
-    pub given : SplitsTo input frames kept
+    pub version : reader.version ≡ start.config.frames
+    pub reading : reader.state ≡ Reading kept
+    pub given : SplitsTo start.config.frames input frames kept
     pub answers : Answers start (deliveries frames) text now
     pub written : Appends before after text
 
@@ -85,7 +87,7 @@ pub record Ended (start : StateView) (unread left before after : Option (List �
   pub text : List ℕ
   pub read : Consumes unread left input
   pub found : IsReadTo end left
-  pub stands : Stands input frames end
+  pub stands : Stands start.config.frames input frames end
   pub answers : Answers start (deliveries frames) text now
   pub written : Appends before after text
 
@@ -96,7 +98,7 @@ pub record Stopped (start : StateView) (unread left before after : Option (List 
   pub rest : List ℕ
   pub text : List ℕ
   pub read : Consumes unread left input
-  pub stands : Frames input frames rest
+  pub stands : Frames start.config.frames input frames rest
   pub answers : AnswersSome start (deliveries frames) text now
   pub written : AppendsSome before after text
 
@@ -115,7 +117,7 @@ IsMuteOnlySpent s entries = IsMuteForWant s.cluster.config s.replica (leaves_of 
 -- events, and its lawful replies have these lines; the last line reports what is wrong with the stream.
 pub record Delivers (s : DeliverSettings) (input : List ℕ) (end : StreamEnd) (text : List ℕ) : Type 0 where
   pub frames : List SignedStatement
-  pub stands : Stands input frames end
+  pub stands : Stands s.cluster.config.frames input frames end
   pub entries : List Entry
   pub events : map (λ e. e.event) entries ≡ starting s ++ deliveries frames
   pub replay : Replay s.cluster.config (ring_of s.cluster) s.replica entries
@@ -126,7 +128,7 @@ pub record Delivers (s : DeliverSettings) (input : List ℕ) (end : StreamEnd) (
 pub record DeliversSome (s : DeliverSettings) (input : List ℕ) (text : List ℕ) : Type 0 where
   pub frames : List SignedStatement
   pub rest : List ℕ
-  pub stands : Frames input frames rest
+  pub stands : Frames s.cluster.config.frames input frames rest
   pub entries : List Entry
   pub later : List Event
   pub events : map (λ e. e.event) entries ++ later ≡ starting s ++ deliveries frames

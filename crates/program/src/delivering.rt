@@ -32,7 +32,7 @@ fn deliver_to<R: Read, W: Write>(
     ensures cause { IfErr result (StopsDelivery settings.now (R.remaining reader.old) (R.remaining reader.new) (W.contents writer.old) (W.contents writer.new)) }
 {
     start(alloc, settings, state)?;
-    let mut frames = FrameReader::new(alloc);
+    let mut frames = FrameReader::new_in(settings.cluster.config.frames, alloc);
     let end = deliver_pieces(alloc, state, &mut frames, reader, writer)?;
     print_end(alloc, writer, end)?;
     Ok(end)

@@ -88,7 +88,11 @@ pub fn draw<S: RandomSource, R: Read, W: Write>(
     ensures fault { IfErr result IsMemoryOrAsked }
 {
     let bytes = read_whole(alloc, reader)?;
-    match read_histories(alloc, Bytes::from_vec(bytes)?) {
+    match read_histories(
+        settings.cluster.config.frames,
+        alloc,
+        Bytes::from_vec(bytes)?,
+    ) {
         Ok(histories) => draw_and_end(source, alloc, settings, &histories, writer),
         Err(HistoryFault::BadHistory) => print_bad_history(writer),
         Err(HistoryFault::NoMemory) => Err(ProgramFault::NoMemory),

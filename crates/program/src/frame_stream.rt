@@ -70,7 +70,8 @@ fn fault_of(fault: FrameFault) -> Result<StreamFault, ProgramFault>
 /// The fault after the frames that the reader has returned, if there is one. The only error is allocation failure.
 fn fault_behind(frames: &mut FrameReader) -> Result<Option<StreamFault>, ProgramFault>
     requires { IsFed frames.old }
-    ensures behind { (bytes : List ℕ) (given : List SignedStatement) → Leaves bytes given frames.old
+    ensures version { frames.new.version ≡ frames.old.version }
+    ensures behind { (bytes : List ℕ) (given : List SignedStatement) → Leaves frames.old.version bytes given frames.old.state
         → IfOk result (λ found. GoesBehind bytes given frames.new found) }
     ensures memory { IfErr result IsMemoryOrAsked }
 {
@@ -89,6 +90,7 @@ fn deliver_piece<W: Write>(
     writer: &mut W,
 ) -> Result<Option<StreamFault>, ProgramFault>
     requires { IsReading frames.old }
+    ensures version { frames.new.version ≡ frames.old.version }
     ensures goes { (start : StateView) (unread now left before : Option (List ℕ))
         → UnderWay start unread now before (W.contents writer.old) state.old frames.old → Consumes now left piece.now
         → MatchResult result
@@ -108,8 +110,8 @@ fn deliver_piece<W: Write>(
 /// How a stream ended that was read to its end without a fault.
 fn end_of(frames: &FrameReader) -> StreamEnd
     requires { IsReading frames.now }
-    ensures stands { (input : List ℕ) (given : List SignedStatement) (kept : List ℕ) → frames.now ≡ Reading kept
-        → SplitsTo input given kept → Stands input given result }
+    ensures stands { (input : List ℕ) (given : List SignedStatement) (kept : List ℕ) → frames.now.state ≡ Reading kept
+        → SplitsTo frames.now.version input given kept → Stands frames.now.version input given result }
     ensures no_fault { (left : Option (List ℕ)) → IsAtEnd left → IsReadTo result left }
 {
     if frames.is_between() {
@@ -127,7 +129,8 @@ pub(crate) fn deliver_pieces<R: Read, W: Write>(
     reader: &mut R,
     writer: &mut W,
 ) -> Result<StreamEnd, ProgramFault>
-    requires { frames.old ≡ Reading [] }
+    requires start { frames.old.state ≡ Reading [] }
+    requires version { frames.old.version ≡ state.old.config.frames }
     ensures ends { MatchResult result
         (λ end. Ended state.old (R.remaining reader.old) (R.remaining reader.new) (W.contents writer.old) (W.contents writer.new) state.new end)
         (λ _. Stopped state.old (R.remaining reader.old) (R.remaining reader.new) (W.contents writer.old) (W.contents writer.new) state.new) }

@@ -3,6 +3,7 @@ ghost use Rattle.std.specs.Prelude.{◌≡◌};
 ghost use Rattle.program_streams.specs.declared.program_fault.ProgramFault.TheVariants.{NoMemory};
 
 use crate::resource::Resource;
+use plain_text::ShownText;
 use std::alloc::{AllocError, AllocFailed};
 use std::io;
 use thiserror::Error;
@@ -29,7 +30,7 @@ pub enum ProgramFault {
     #[error("error: a thread could not be made")]
     NoThread,
     /// The file with this path can't be made or written.
-    #[error("error: can't write the file {0}: {1}")]
+    #[error("error: can't write the file {path}: {1}", path = ShownText(.0.as_str()))]
     NoFile(String, io::Error),
     /// In the place of the replica with this number there is another replica, or one of another cluster.
     #[error("error: replica {0} is not of this cluster")]

@@ -1,7 +1,7 @@
 //! Each kind of command line in a scenario.
-use crate::texts::seen_step;
-use ledger_model::Tx;
-use scenario_texts::{Command, Towards};
+use crate::texts::{seen, seen_step};
+use ledger_model::{Tx, Version};
+use scenario_texts::{Command, Scenario, Towards};
 use std::alloc::Global;
 
 /// The name of a command with bytes, its number, and whether these are the bytes.
@@ -120,4 +120,29 @@ fn lies(rt: HostRuntime) {
     assert!(rt; found == Some(("lock", (1, 1), true)));
     let found = lie_in(alloc, b"lie-ack 1 4 5 [] 0", &[], Towards::One(0));
     assert!(rt; found == Some(("ack", (4, 5), true)));
+}
+
+/// The version of the lie that is the only command.
+fn version_of_lie(scenario: &Scenario) -> Option<Version> {
+    match scenario.commands.as_slice() {
+        [Command::LieAck(lie)] => Some(lie.version),
+        _ => None,
+    }
+}
+
+#[test]
+fn lies_have_the_version_of_the_frames(rt: HostRuntime) {
+    for (text, wanted) in [
+        (
+            b"config 4 1 1\nliar 1\nlie-ack 1 1 1 [x] all\n".as_slice(),
+            Version::One,
+        ),
+        (
+            b"config 4 1 1\nframes 2\nliar 1\nlie-ack 1 1 1 [x] all\n",
+            Version::Two,
+        ),
+    ] {
+        let found = seen(rt.alloc(), text, version_of_lie);
+        assert!(rt; found == Some(Some(wanted)), "{wanted:?}");
+    }
 }

@@ -1,6 +1,6 @@
 //! The lines before the commands, and how a fault is shown.
 use crate::texts::seen;
-use ledger_model::AppKind;
+use ledger_model::{AppKind, Version};
 use lm_ots::{TreeHeight, Width};
 use scenario_texts::{Scenario, TextFault};
 use std::alloc::Global;
@@ -59,6 +59,28 @@ fn clusters_and_keys(rt: HostRuntime) {
     let text = b"config 13 4 3\nliar 12\nliar 0\nliar 3\nliar 7\nsilent\n";
     assert!(rt; has_liars(alloc, text, &[12, 0, 3, 7]) == Some(true));
     assert!(rt; Width::W8.bits() == 8);
+}
+
+/// The version of the frames of the text's cluster.
+fn version_of(alloc: Global, text: &[u8]) -> Option<Version> {
+    seen(alloc, text, |scenario| scenario.setup.config.frames)
+}
+
+#[test]
+fn versions(rt: HostRuntime) {
+    let alloc = rt.alloc();
+    for (text, wanted) in [
+        (b"config 4 1 1\nkeys 4 5\nliar 1\n".as_slice(), Version::One),
+        (b"config 4 1 1\nframes 2\n", Version::Two),
+        (
+            b"config 4 1 1\nkeys 4 5\nframes 2\nliar 1\nsilent\n",
+            Version::Two,
+        ),
+    ] {
+        assert!(rt; version_of(alloc, text) == Some(wanted), "{wanted:?}");
+    }
+    assert!(rt; version_of(alloc, b"config 4 1 1\nframes 1\n").is_none());
+    assert!(rt; version_of(alloc, b"config 4 1 1\nframes 2\nkeys 4 5\n").is_none());
 }
 
 #[test]

@@ -54,7 +54,6 @@ impl Proper {
     pub fn new(alloc: Global, config: &Config, initial: &Batch) -> Result<Self, AllocError>
         ensures config { IfOk result (λ proper. proper.config ≡ config.now) }
         ensures set { IfOk result (λ proper. proper.set ≡ only_own initial.now) }
-        ensures spelled { IfOk result (λ proper. IsValue initial.now) }
     {
         let mut explicit = Ascending::new(alloc);
         explicit.put(initial)?;

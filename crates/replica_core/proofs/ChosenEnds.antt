@@ -79,8 +79,14 @@ module _ (ring : Ring) (id : ℕ) (key : List ℕ) (in_ring : slice_get ring id 
   )
   chosen_made leaf (row ∷ rows) (made.Sent f ∷ ms) choices signs verified =
       let may = subst (MaySend row c) signs.0 choices.0.1 in
-      let own = (own_if_sent row c (Some f.statement) may).signer in (
-        record { silent = refl; may = may; own = own; signed = signed_by_ring f (own ∙ choices.0.0) verified.0.1; frame = verified.0.0 },
+      let own = own_if_sent row c (Some f.statement) may in (
+        record {
+          silent = refl;
+          may = may;
+          own = (own.signer, own.version);
+          signed = signed_by_ring f (own.signer ∙ choices.0.0) verified.0.1;
+          frame = verified.0.0;
+        },
         chosen_made (leaf + 1) rows ms choices.1 signs.2 verified.1,
       )
 

@@ -10,7 +10,7 @@ use Rattle.ledger_model.specs.declared.reply.Reply.TheVariants as reply
 use Rattle.ledger_model.specs.declared.statement.SignedStatement.{SignedStatement}
 use Rattle.ledger_model.specs.Notes.{Note, Read, clock_of, is_open, signer_of}
 use Rattle.ledger_model.specs.Logs.{log_of, height_of, if_some, notes_of}
-use Rattle.ledger_model.specs.Reading.{reading}
+use Rattle.ledger_model.specs.Reading.{reading_in}
 use Rattle.ledger_model.specs.Rules.{causes, answer_to}
 use Rattle.ledger_model.specs.Lawful.{answer}
 use Rattle.ledger_model.proofs.Goodness.{clock_of-append}
@@ -43,14 +43,14 @@ module _ (held : ReplicaStateView) (bytes : List ℕ) where
       refl refl (λ floor. refl) held.pool refl (λ h. refl)
 
   -- bytes that are no frame
-  pub malformed : reading bytes ≡ None → IsStep held (event.Deliver bytes) (reply.Delivered (Err cause.Malformed)) held
+  pub malformed : reading_in held.config.frames bytes ≡ None → IsStep held (event.Deliver bytes) (reply.Delivered (Err cause.Malformed)) held
   malformed is entries matches = (
     ap (answer held.config held.ring held.id entries) (sym is),
     refl,
     ignored cause.Malformed entries matches,
   )
 
-  module _ (s : SignedStatement) (is : reading bytes ≡ Some s) where
+  module _ (s : SignedStatement) (is : reading_in held.config.frames bytes ≡ Some s) where
     -- a frame whose signer is no replica
     pub stranger : held.config.replicas ≤ signer_of s.statement
         → IsStep held (event.Deliver bytes) (reply.Delivered (Err cause.Signer)) held
@@ -178,7 +178,7 @@ pub judged_there : (held : ReplicaStateView) (s : SignedStatement) (old new : He
     → IfOk result (λ r. OnErr r (new ≡ old))
     → is_some (row_at new.rows (height_of s.statement)) ≡ true
     → AreApart (height_of s.statement) old.rows new.rows
-    → IfOk result (λ r. (bytes : List ℕ) → reading bytes ≡ Some s
+    → IfOk result (λ r. (bytes : List ℕ) → reading_in held.config.frames bytes ≡ Some s
     → IsStep held (event.Deliver bytes) (reply.Delivered r) (record held { rows = new.rows }))
 judged_there held s old new (Err e) same there config answers reads leaves stays apart = tt
 judged_there held s old new (Ok shown) same there config answers reads leaves stays apart =
@@ -188,7 +188,7 @@ judged_there held s old new (Ok shown) same there config answers reads leaves st
     kept (Ok u) e = tt
     kept (Err f) e = ap (λ (x : HeightRowView). x.rows) e ∙ same
 
-    by : (bytes : List ℕ) → reading bytes ≡ Some s → (o : Option InstanceView) → row_at held.rows (height_of s.statement) ≡ o
+    by : (bytes : List ℕ) → reading_in held.config.frames bytes ≡ Some s → (o : Option InstanceView) → row_at held.rows (height_of s.statement) ≡ o
         → IsStep held (event.Deliver bytes) (reply.Delivered shown) (record held { rows = new.rows })
     by bytes is None none = absurd (false≢true (sym (ap is_some none) ∙ there))
     by bytes is (Some row) at = judged held bytes s is row new.rows shown at (record {

@@ -12,7 +12,8 @@ use Rattle.key_ring.specs.Signers.{SignerView, key_of}
 use Rattle.std.specs.List.{AllByRecursion}
 use Rattle.std.specs.Option.{IfSome}
 use Rattle.ledger_model.specs.declared.statement.Statement.{Statement}
-use Rattle.ledger_model.specs.Notes.{signer_of}
+use Rattle.ledger_model.specs.Notes.{signer_of, version_of}
+use Rattle.ledger_model.specs.declared.config.Config.{Config}
 use Rattle.lms_tree.specs.Trees.{Secret}
 use Rattle.instance.specs.declared.round_statement.RoundStatement.{RoundStatement}
 use Rattle.instance.specs.declared.round_statement.RoundStatement.TheVariants as made
@@ -70,38 +71,45 @@ mades_mute c (row ∷ rows) (x ∷ closings) endings mute =
     rw mute.0 (ap (λ ms. made.Mute ∷ ms) (mades_mute c rows closings rest mute.1))
 
 -- nothing is the replica's own
-pub mute_own : (id : ℕ) (closings : List RoundClosing) → AllByRecursion (λ x. x.made ≡ made.Mute) closings
-    → AllByRecursion (λ x. IsOwnMade id x.made) closings
-mute_own id [] mute = tt
-mute_own id (x ∷ closings) mute = (rw mute.0 tt, mute_own id closings mute.1)
+pub mute_own : (config : Config) (id : ℕ) (closings : List RoundClosing) → AllByRecursion (λ x. x.made ≡ made.Mute) closings
+    → AllByRecursion (λ x. IsOwnMade config id x.made) closings
+mute_own config id [] mute = tt
+mute_own config id (x ∷ closings) mute = (rw mute.0 tt, mute_own config id closings mute.1)
 
 -- ---- one that signs
 
 -- what is chosen is the replica's own
-chosen_own : (row : InstanceView) (c id : ℕ) (s : Statement) → row.id ≡ id → chosen_statement row c ≡ Some s → signer_of s ≡ id
-chosen_own row c id s same is = (subst (λ o. IfSome o (IsOwnStatement row)) is (chosen_own_statement row c)).signer ∙ same
+chosen_own : (config : Config) (row : InstanceView) (c id : ℕ) (s : Statement) → (row.config ≡ config) × (row.id ≡ id)
+    → chosen_statement row c ≡ Some s
+    → (signer_of s ≡ id) × (version_of s ≡ config.frames)
+chosen_own config row c id s same is =
+    let own = subst (λ o. IfSome o (IsOwnStatement row)) is (chosen_own_statement row c) in
+    (own.signer ∙ same.1, own.version ∙ ap (λ (x : Config). x.frames) same.0)
 
 -- each statement that is signed is its own
-pub signs_own : (secret : Secret) (leaf c id : ℕ) (rows : List InstanceView) (ms : List RoundStatement)
-    → AllByRecursion (λ row. row.id ≡ id) rows → SignsFrom secret leaf c rows ms → AllByRecursion (IsOwnMade id) ms
-signs_own secret leaf c id [] [] ids signs = tt
-signs_own secret leaf c id [] (m ∷ ms) ids signs = absurd signs
-signs_own secret leaf c id (row ∷ rows) [] ids signs = absurd signs
-signs_own secret leaf c id (row ∷ rows) (made.Mute ∷ ms) ids signs = absurd signs
-signs_own secret leaf c id (row ∷ rows) (made.Unsent ∷ ms) ids signs = (tt, signs_own secret leaf c id rows ms ids.1 signs.1)
-signs_own secret leaf c id (row ∷ rows) (made.Sent f ∷ ms) ids signs =
-    (chosen_own row c id f.statement ids.0 signs.0, signs_own secret (leaf + 1) c id rows ms ids.1 signs.2)
+pub signs_own : (config : Config) (secret : Secret) (leaf c id : ℕ) (rows : List InstanceView) (ms : List RoundStatement)
+    → AllByRecursion (λ row. (row.config ≡ config) × (row.id ≡ id)) rows → SignsFrom secret leaf c rows ms
+    → AllByRecursion (IsOwnMade config id) ms
+signs_own config secret leaf c id [] [] ids signs = tt
+signs_own config secret leaf c id [] (m ∷ ms) ids signs = absurd signs
+signs_own config secret leaf c id (row ∷ rows) [] ids signs = absurd signs
+signs_own config secret leaf c id (row ∷ rows) (made.Mute ∷ ms) ids signs = absurd signs
+signs_own config secret leaf c id (row ∷ rows) (made.Unsent ∷ ms) ids signs = (tt, signs_own config secret leaf c id rows ms ids.1 signs.1)
+signs_own config secret leaf c id (row ∷ rows) (made.Sent f ∷ ms) ids signs =
+    (chosen_own config row c id f.statement ids.0 signs.0, signs_own config secret (leaf + 1) c id rows ms ids.1 signs.2)
 
 -- each open height is the replica's
-pub each_own : (held : ReplicaStateView) → IsWithinLimits held → AllByRecursion (λ row. row.id ≡ held.id) held.rows
-each_own held is_held = each_found (λ row. row.id ≡ held.id) held.rows is_held.ascend (λ h row at. (is_held.own h row at).id)
+pub each_own : (held : ReplicaStateView) → IsWithinLimits held
+    → AllByRecursion (λ row. (row.config ≡ held.config) × (row.id ≡ held.id)) held.rows
+each_own held is_held = each_found (λ row. (row.config ≡ held.config) × (row.id ≡ held.id)) held.rows is_held.ascend
+    (λ h row at. let own = is_held.own h row at in (own.config, own.id))
 
 -- ---- what is prepared
 
 -- it is ready if another round follows, and the heights end so
 pub ready_of : (held : ReplicaStateView) (mute : Bool) (closings : List RoundClosing) → held.clock < last_round
     → map (λ x. x.ending) closings ≡ map (λ row. ended row (held.clock + 1)) held.rows
-    → AllByRecursion (λ x. IsOwnMade held.id x.made) closings → IsPreparedFor held (prepared_of held mute closings)
+    → AllByRecursion (λ x. IsOwnMade held.config held.id x.made) closings → IsPreparedFor held (prepared_of held mute closings)
 ready_of held mute closings early endings own = record { clock = early; endings = endings; own = own; reply = refl }
 
 -- the prepared end is a step, and its leaves are used
@@ -156,9 +164,9 @@ module _ (old : CoreView) (held : ReplicaStateView) (keys : SignerView) (plans :
       (planned_by old held keys plans is planned) signs)
 
   -- each statement is the replica's own
-  pub signed_own : AllByRecursion (λ (x : RoundClosing). IsOwnMade held.id x.made) closings
-  signed_own = of_images (IsOwnMade held.id) (λ (x : RoundClosing). x.made) closings
-      (signs_own keys.secret keys.used (held.clock + 1) held.id held.rows (map (λ (x : RoundClosing). x.made) closings)
+  pub signed_own : AllByRecursion (λ (x : RoundClosing). IsOwnMade held.config held.id x.made) closings
+  signed_own = of_images (IsOwnMade held.config held.id) (λ (x : RoundClosing). x.made) closings
+      (signs_own held.config keys.secret keys.used (held.clock + 1) held.id held.rows (map (λ (x : RoundClosing). x.made) closings)
       (each_own held kept) from)
 
   -- the end is a step, and uses a leaf for each

@@ -13,7 +13,7 @@ use Rattle.ledger_model.specs.declared.reply.RetireRefusal.{RetireRefusal}
 use Rattle.ledger_model.specs.declared.reply.SubmitRefusal.{SubmitRefusal}
 use Rattle.ledger_model.specs.Values.{Value}
 use Rattle.ledger_model.specs.Notes.{Note, Proposed}
-use Rattle.ledger_model.specs.Reading.{reading}
+use Rattle.ledger_model.specs.Reading.{reading_in}
 use Rattle.ledger_model.specs.Rules.{Ring}
 use Rattle.ledger_model.specs.Commits.{commits_of, submit_reply, propose_reply, execute_reply, retire_reply}
 use Rattle.ledger_model.specs.Replies.{query_reply}
@@ -59,7 +59,7 @@ pub deliver_followed : (held new : ReplicaStateView) (bytes : List ℕ) (due sho
     → IsStep held (event.Deliver bytes) (reply.Delivered due) new → IsFollowed held (event.Deliver bytes) (reply.Delivered shown) kept new
 deliver_followed held new bytes due shown kept same step =
     compared held new (event.Deliver bytes) (λ r. reply.Delivered r)
-    (λ entries. answer held.config held.ring held.id entries (reading bytes)) due shown kept same
+    (λ entries. answer held.config held.ring held.id entries (reading_in held.config.frames bytes)) due shown kept same
     (λ entries r lawful. lawful) (λ r. refl) step
 
 -- the next block is run

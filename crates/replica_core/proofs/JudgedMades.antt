@@ -33,10 +33,11 @@ module _ (ring : Ring) (row : InstanceView) (log : List Note) (clock : ℕ) (old
       → IsMadeAt ring false (clock + 1) row (made.Sent f)
   sent_made f may signed frame =
       let sends = allowed_at ring row log clock old now (Some f.statement) may in
+      let own = own_if_sent row (clock + 1) (Some f.statement) sends in
       record {
         silent = refl;
         may = sends;
-        own = (own_if_sent row (clock + 1) (Some f.statement) sends).signer;
+        own = (own.signer, own.version);
         signed = signed;
         frame =
             frame;
@@ -54,7 +55,7 @@ pub record IsJudging (held : ReplicaStateView) (xs : List RoundClosing) (rows_le
     pub count : length left ≡ length rows_left
     -- each of these heights is open
     pub found : AllByRecursion (λ row. row_at held.rows row.height ≡ Some row) rows_left
-    pub own : AllByRecursion (λ x. IsOwnMade held.id x.made) left → AllByRecursion (λ x. IsOwnMade held.id x.made) xs
+    pub own : AllByRecursion (λ x. IsOwnMade held.config held.id x.made) left → AllByRecursion (λ x. IsOwnMade held.config held.id x.made) xs
     pub may : (entries : List Entry) → MatchesHistory held entries
         → AreMade held.ring false (held.clock + 1) rows_left (map (λ x. x.made) left)
         → AreMade held.ring false (held.clock + 1) held.rows (map (λ x. x.made) xs)
@@ -79,7 +80,7 @@ module _ (held : ReplicaStateView) (xs : List RoundClosing) where
   -- the next height may make what it does
   pub judging_next : {rows_left : List InstanceView} {left : List RoundClosing} (row : InstanceView) (rows : List InstanceView)
       (x : RoundClosing) (later : List RoundClosing) → IsJudging held xs rows_left left → rows_left ≡ row ∷ rows → left ≡ x ∷ later
-      → IsOwnMade held.id x.made
+      → IsOwnMade held.config held.id x.made
       → ((entries : List Entry) → MatchesHistory held entries → IsMadeAt held.ring false (held.clock + 1) row x.made)
       → IsJudging held xs rows later
   judging_next row rows x later judging first next own made =
@@ -116,5 +117,5 @@ module _ (held : ReplicaStateView) (xs : List RoundClosing) where
   judged_may judging end entries matches = (both_end judging end).may entries matches tt
 
   pub judged_own : {rows_left : List InstanceView} {left : List RoundClosing} → IsJudging held xs rows_left left
-      → (rows_left ≡ []) ⊎ (length left ≡ 0) → AllByRecursion (λ x. IsOwnMade held.id x.made) xs
+      → (rows_left ≡ []) ⊎ (length left ≡ 0) → AllByRecursion (λ x. IsOwnMade held.config held.id x.made) xs
   judged_own judging end = (both_end judging end).own tt

@@ -4,6 +4,7 @@ use Rattle.std.specs.Prelude.{nat_eq, map, Some, None}
 use Rattle.std.specs.List.{cons_option}
 use Rattle.std.proofs.lemmas.Bool.{cases_Bool, eqb-true, eqb-false, ne_eqb}
 use Rattle.std.proofs.lemmas.List.Elements.{filter_map-append}
+use Rattle.ledger_model.specs.declared.version.Version.TheVariants.{Two}
 use Rattle.ledger_model.specs.declared.config.Config.{Config}
 use Rattle.ledger_model.specs.declared.reply.RoundEnded.{RoundEnded}
 use Rattle.ledger_model.specs.declared.reply.Sent.{Sent}
@@ -16,7 +17,7 @@ use Rattle.ledger_model.specs.Rules.{Ring, MayMake}
 use Rattle.ledger_model.specs.Lawful.{held_locks}
 use Rattle.lock_proofs.specs.LockTables.{as_statement}
 use Rattle.ledger_model.specs.Spelling.{IsFrame, frame_bytes}
-use Rattle.ledger_model.proofs.FrameReading.{reading-again}
+use Rattle.ledger_model.proofs.FrameReading.{reading-again, any_frame}
 use Rattle.ledger_model.proofs.Lists.{has_map}
 use Rattle.instance.specs.declared.round_statement.RoundStatement.{RoundStatement}
 use Rattle.instance.specs.declared.round_statement.RoundStatement.TheVariants as made
@@ -34,14 +35,14 @@ use Rattle.replica_core.proofs.SentFrames.{MayMakeOf, statements_in, may_make}
 pub own_read : (config : Config) (m : RoundStatement) → IsFrameMade m → statements_in (map (sent_own config) (sent_in m)) ≡ sent_in m
 own_read config made.Mute frame = refl
 own_read config made.Unsent frame = refl
-own_read config (made.Sent f) frame = ap (λ o. cons_option o []) (reading-again f frame)
+own_read config (made.Sent f) frame = ap (λ o. cons_option o []) (reading-again Two f frame)
 
 -- those that are sent on
 read_again : (ss : List SignedStatement) → ((s : SignedStatement) → Has ss s → IsFrame s)
     → statements_in (map sent_on (map frame_bytes ss)) ≡ ss
 read_again [] frames = refl
 read_again (s ∷ ss) frames =
-    ap (λ o. cons_option o (statements_in (map sent_on (map frame_bytes ss)))) (reading-again s (frames s (inl refl)))
+    ap (λ o. cons_option o (statements_in (map sent_on (map frame_bytes ss)))) (reading-again Two s (frames s (inl refl)))
     ∙ ap (λ ts. s ∷ ts) (read_again ss (λ t has. frames t (inr has)))
 
 -- no lock is sent on but at place 4
@@ -107,7 +108,7 @@ module _ (config : Config) (ring : Ring) (row : InstanceView) (log : List Note) 
   held_frame : (s : SignedStatement) → Has (held_locks log) s → IsFrame s
   held_frame s has =
       let lock = has_map as_statement row.table s (subst (λ ss. Has ss s) (sym old.locks) has) in
-      subst IsFrame lock.1.1 (old.sound.held lock.0 lock.1.0).frame
+      subst IsFrame lock.1.1 (any_frame row.config.frames (as_statement lock.0) (old.sound.held lock.0 lock.1.0).frame)
 
   -- the held locks alone at place 4
   pub locks_alone : nat_eq (place_of c) release_place ≡ true → statements_in (frames_at config c row m) ≡ held_locks log

@@ -3,7 +3,8 @@ use Rattle.std.proofs.Common.{◌≡◌, ℕ, ◌+◌, ◌<◌, ◌≤◌, Bool,
 use Rattle.std.proofs.Common.{◌∙◌, arith}
 use Rattle.std.specs.Prelude.{◌==◌, ◌||◌, nat_lt, take, Option, Some, None, is_some, Result, Ok, Err, OnErr, IfOk, OnOk}
 use Rattle.std.proofs.lemmas.Bool.{cases_eq, eq-eqb, ne_eqb, ltb-false, false≢true}
-use Rattle.ledger_model.specs.Limits.{max_height, max_ahead, max_batch_len}
+use Rattle.ledger_model.specs.Limits.{max_height, max_ahead}
+use Rattle.ledger_model.specs.Versions.{batch_limit}
 use Rattle.ledger_model.specs.declared.event.Event.TheVariants as event
 use Rattle.ledger_model.specs.declared.history.Entry.{Entry}
 use Rattle.ledger_model.specs.declared.reply.ProposeRefusal.{ProposeRefusal}
@@ -49,17 +50,17 @@ module _ (held : ReplicaStateView) (h : ℕ) (entries : List Entry) (matches : M
   unfolding propose_reply
   answered =
       valued ((h == 0) || nat_lt max_height h) (nat_lt h held.floor) (is_some (row_at held.rows h))
-      (nat_lt (length held.commits + max_ahead) h) (take max_batch_len held.pool)
+      (nat_lt (length held.commits + max_ahead) h) (take (batch_limit held.config.frames) held.pool)
       ∙ ap (λ n. first_fault (faults ((h == 0) || nat_lt max_height h) (nat_lt h n) (is_some (row_at held.rows h))
-      (nat_lt (length held.commits + max_ahead) h)) (take max_batch_len held.pool)) (sym matches.floor)
+      (nat_lt (length held.commits + max_ahead) h)) (take (batch_limit held.config.frames) held.pool)) (sym matches.floor)
       ∙ ap (λ b. first_fault (faults ((h == 0) || nat_lt max_height h) (nat_lt h (floor_of entries)) b
-      (nat_lt (length held.commits + max_ahead) h)) (take max_batch_len held.pool)) (opened_there held entries matches h)
+      (nat_lt (length held.commits + max_ahead) h)) (take (batch_limit held.config.frames) held.pool)) (opened_there held entries matches h)
       ∙ ap (λ vs. first_fault (faults ((h == 0) || nat_lt max_height h) (nat_lt h (floor_of entries))
-      (is_open (log_of held.config held.id h entries)) (nat_lt (length vs + max_ahead) h)) (take max_batch_len held.pool))
+      (is_open (log_of held.config held.id h entries)) (nat_lt (length vs + max_ahead) h)) (take (batch_limit held.config.frames) held.pool))
       (sym matches.commits)
       ∙ ap (λ p. first_fault (faults ((h == 0) || nat_lt max_height h) (nat_lt h (floor_of entries))
       (is_open (log_of held.config held.id h entries)) (nat_lt (length (commits_of held.config held.id entries) + max_ahead) h))
-      (take max_batch_len p)) (sym matches.pool)
+      (take (batch_limit held.config.frames) p)) (sym matches.pool)
 
   -- a height that is refused
   refused : (f : ProposeRefusal) → MatchesHistory held (entries ++ record { event = event.Propose h; reply = reply.Proposed (Err f) } ∷ [])
@@ -142,7 +143,7 @@ proposes held new h (Ok v) is rest err there apart fresh entries matches = (
   where
     may : (nat_lt h held.floor ≡ false) × (is_some (row_at held.rows h) ≡ false)
     may = fits ((h == 0) || nat_lt max_height h) (nat_lt h held.floor) (is_some (row_at held.rows h))
-        (nat_lt (length held.commits + max_ahead) h) v (take max_batch_len held.pool) is
+        (nat_lt (length held.commits + max_ahead) h) v (take (batch_limit held.config.frames) held.pool) is
 proposes held new h (Err f) is rest err there apart fresh entries matches = (
   is ∙ answered held h entries matches,
   refl,

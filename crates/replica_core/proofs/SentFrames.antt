@@ -5,6 +5,7 @@ use Rattle.std.specs.List.{filter_map, cons_option, list_all, AllByRecursion}
 use Rattle.std.proofs.lemmas.Bool.{and_from}
 use Rattle.std.proofs.lemmas.List.Elements.{filter_map-append}
 use Rattle.std.proofs.lemmas.List.Folds.{list_all-append}
+use Rattle.ledger_model.specs.declared.version.Version.TheVariants.{Two}
 use Rattle.ledger_model.specs.declared.config.Config.{Config}
 use Rattle.ledger_model.specs.declared.reply.Sent.{Sent}
 use Rattle.ledger_model.specs.declared.statement.SignedStatement.{SignedStatement}
@@ -106,7 +107,7 @@ module _ (config : Config) (ring : Ring) (row : InstanceView) (log : List Note) 
   own_sent made.Mute may signed frame = none_sent config ring row.height
   own_sent made.Unsent may signed frame = none_sent config ring row.height
   own_sent (made.Sent f) may signed frame =
-      one_sent config ring row.height (sent_own config f) f (reading-again f frame) refl
+      one_sent config ring row.height (sent_own config f) f (reading-again Two f frame) refl
       (own_if_sent row (clock + 1) (Some f.statement) may).height
       (and_from (is_signed ring f) (are_signed_reports ring f.statement) signed
       (signed_at ring row log clock old now (Some f.statement) may))

@@ -29,9 +29,9 @@ use Rattle.replica_core.proofs.OpenEnds.{own_alone, locks_alone}
 -- ---- one statement a height
 
 -- an acknowledgement at most
-one_ack : (id h k : ℕ) (taken : Option Value) → length (acks_of id h k taken) ≤ 1
-one_ack id h k None = omega arith
-one_ack id h k (Some v) = omega arith
+one_ack : (config : Config) (id h k : ℕ) (taken : Option Value) → length (acks_of config id h k taken) ≤ 1
+one_ack config id h k None = omega arith
+one_ack config id h k (Some v) = omega arith
 
 -- what may be made where a height is open is one statement at most
 at_most_one : (config : Config) (id h : ℕ) (log : List Note) (c : ℕ) (own : Value) (made : List Statement)
@@ -45,7 +45,7 @@ at_most_one config id h log c own made may = elim (cases_Bool (nat_eq (place_of 
     ]
     | inr not_second ↦ elim (cases_Bool (nat_eq (place_of c) ack_place)) [
       | inl third ↦ (let is = rw (not_first, not_second, third) at may
-          in subst (λ xs. length xs ≤ 1) (sym is) (one_ack id h (phase_of c) (value_taken log (phase_of c))))
+          in subst (λ xs. length xs ≤ 1) (sym is) (one_ack config id h (phase_of c) (value_taken log (phase_of c))))
       | inr not_third ↦ (let is = rw (not_first, not_second, not_third) at may in subst (λ xs. length xs ≤ 1) (sym is) (omega arith))
     ]
   ]
@@ -144,10 +144,11 @@ module _ (ring : Ring) (row : InstanceView) (log : List Note) (clock : ℕ) (old
         by (s ∷ []) is few sends signed frames =
             let verified = (and_parts (is_signed ring s) (are_signed_reports ring s.statement)
             ((and_parts (is_all_signed ring s) true (rw is at signed)).0)).0 in
+            let own = own_if_sent row c (Some s.statement) sends in
             let is_made : IsMadeAt ring false c row (made.Sent s) = record {
               silent = refl;
               may = sends;
-              own = (own_if_sent row c (Some s.statement) sends).signer;
+              own = (own.signer, own.version);
               signed = verified;
               frame = (subst (AllByRecursion IsFrame) is frames).0;
             } in

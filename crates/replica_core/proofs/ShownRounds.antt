@@ -4,6 +4,7 @@ use Rattle.std.specs.Prelude.{nat_eq, map, None, Ok, Err, is_some}
 use Rattle.std.specs.List.{list_any, AllByRecursion}
 use Rattle.std.proofs.lemmas.Bool.{cases_Bool, eqb-true, ne_eqb}
 use Rattle.std.proofs.lemmas.List.{length-map}
+use Rattle.ledger_model.specs.declared.config.Config.{Config}
 use Rattle.ledger_model.specs.Limits.{last_round}
 use Rattle.ledger_model.specs.declared.event.Event.TheVariants as event
 use Rattle.ledger_model.specs.declared.history.Entry.{Entry}
@@ -79,13 +80,13 @@ release_last c rows some = elim (cases_Bool (nat_eq (place_of c) release_place))
   | inr early ↦ (let none = none_before c rows early in absurd (cc (sym some ∙ none)))
 ]
 
-mute_own : (id : ℕ) (rows : List InstanceView) → AllByRecursion (IsOwnMade id) (all_mute rows)
-mute_own id [] = tt
-mute_own id (row ∷ rows) = (tt, mute_own id rows)
+mute_own : (config : Config) (id : ℕ) (rows : List InstanceView) → AllByRecursion (IsOwnMade config id) (all_mute rows)
+mute_own config id [] = tt
+mute_own config id (row ∷ rows) = (tt, mute_own config id rows)
 
-unsent_own : (id : ℕ) (rows : List InstanceView) → AllByRecursion (IsOwnMade id) (all_unsent rows)
-unsent_own id [] = tt
-unsent_own id (row ∷ rows) = (tt, unsent_own id rows)
+unsent_own : (config : Config) (id : ℕ) (rows : List InstanceView) → AllByRecursion (IsOwnMade config id) (all_unsent rows)
+unsent_own config id [] = tt
+unsent_own config id (row ∷ rows) = (tt, unsent_own config id rows)
 
 -- it makes this at each height
 pub all_of_it : (m : RoundStatement) (c : ℕ) (rows : List InstanceView) (xs : List RoundClosing)
@@ -117,7 +118,7 @@ module _ (held : ReplicaStateView) (end : RoundEnded) (is_held : IsWithinLimits 
     frames = λ entries matches keeps.
         let shows = ends_show held entries end is_held early matches keeps (λ loud. absurd (cc (sym says ∙ loud))) in
         subst (λ b. ShowsFrames held end (made_shown b c held.rows ss)) says shows.1;
-    own = mute_own held.id held.rows;
+    own = mute_own held.config held.id held.rows;
     count = length-map held.rows (λ row. made.Mute);
   })
 
@@ -131,7 +132,7 @@ module _ (held : ReplicaStateView) (end : RoundEnded) (is_held : IsWithinLimits 
       frames = λ entries matches keeps.
           let shows = ends_show held entries end is_held early matches keeps (λ same none. absurd (cc (sym some ∙ none))) in
           rw some at (subst (λ b. ShowsFrames held end (made_shown b c held.rows ss)) loud shows.1);
-      own = unsent_own held.id held.rows;
+      own = unsent_own held.config held.id held.rows;
       count = length-map held.rows (λ row. made.Unsent);
     })
 
@@ -148,7 +149,7 @@ module _ (held : ReplicaStateView) (end : RoundEnded) (is_held : IsWithinLimits 
 
       -- it may be made
       pub shown_each : (ms : List RoundStatement) → ms ≡ made_each (map (λ row. row.height) held.rows) ss → length ms ≡ length held.rows
-          → AllByRecursion (IsOwnMade held.id) ms
+          → AllByRecursion (IsOwnMade held.config held.id) ms
           → ((entries : List Entry) → MatchesHistory held entries → AreMade held.ring false c held.rows ms) → IsShown held end ms
       shown_each ms is count own may = record {
         made = λ entries matches. subst (λ b. AreMade held.ring b c held.rows ms) (sym loud) (may entries matches);

@@ -3,6 +3,7 @@ use Rattle.std.proofs.Common.{◌≡◌, ℕ, ◌+◌, inl, inr, true, false, Li
 use Rattle.std.specs.Prelude.{nat_eq, map, None, is_some, if◌then◌else◌}
 use Rattle.std.specs.List.{cons_option, AllByRecursion}
 use Rattle.std.proofs.lemmas.Bool.{cases_Bool, eqb-true, ne_eqb}
+use Rattle.ledger_model.specs.declared.version.Version.TheVariants.{Two}
 use Rattle.ledger_model.specs.declared.config.Config.{Config}
 use Rattle.ledger_model.specs.declared.statement.SignedStatement.{SignedStatement}
 use Rattle.ledger_model.specs.Rounds.{place_of, ack_place, lock_place, release_place, report_place}
@@ -65,7 +66,7 @@ module _ (config : Config) (c : ℕ) (early : nat_eq (place_of c) release_place 
     each_next leaf (row ∷ rows) (made.Sent f ∷ ms) signs frames =
         let rest : List SignedStatement = statements_in (frames_of config c rows ms) in
         subst (λ first. AreSignedFrom keys leaf (statements_in (first ++ frames_of config c rows ms))) (sym (own_frame row (made.Sent f)))
-        (subst (λ o. AreSignedFrom keys leaf (cons_option o rest)) (sym (reading-again f frames.0))
+        (subst (λ o. AreSignedFrom keys leaf (cons_option o rest)) (sym (reading-again Two f frames.0))
         (signs.1, each_next (leaf + 1) rows ms signs.2 frames.1))
 
 -- ---- at place 4

@@ -37,7 +37,7 @@ after_prepared held prepared = after_end held prepared.ended.mute (made_in prepa
 pub record IsPreparedFor (held : ReplicaStateView) (prepared : PreparedView) : Type 0 where
   pub clock : held.clock < last_round
   pub endings : map (λ c. c.ending) prepared.closings ≡ map (λ row. ended row (held.clock + 1)) held.rows
-  pub own : AllByRecursion (λ c. IsOwnMade held.id c.made) prepared.closings
+  pub own : AllByRecursion (λ c. IsOwnMade held.config held.id c.made) prepared.closings
   pub reply : prepared.ended ≡ round_ended held prepared.ended.mute (made_in prepared.closings)
 
 -- the end was prepared for the core's state, is a step, and uses the leaves that are used now

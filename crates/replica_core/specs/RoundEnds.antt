@@ -36,7 +36,7 @@ statement_in (made.Sent f) = Some f.statement
 pub record IsMadeAt (ring : Ring) (mute : Bool) (c : ℕ) (row : InstanceView) (m : RoundStatement) : Type 0 where
   pub silent : is_mute_made m ≡ mute
   pub may : MatchBool mute (Unit {0}) (MaySend row c (statement_in m))
-  pub own : IsOwnMade row.id m
+  pub own : IsOwnMade row.config row.id m
   pub signed : IsSignedMade ring m
   pub frame : IsFrameMade m
 

@@ -109,7 +109,7 @@ AreSpelled frames = AllByRecursion (λ f. is_some (reading f.frame) ≡ true) fr
 pub record IsShown (held : ReplicaStateView) (end : RoundEnded) (ms : List RoundStatement) : Type 0 where
   pub made : (entries : List Entry) → MatchesHistory held entries → AreMade held.ring end.mute (held.clock + 1) held.rows ms
   pub frames : (entries : List Entry) → MatchesHistory held entries → KeepsEnd held entries end → ShowsFrames held end ms
-  pub own : AllByRecursion (IsOwnMade held.id) ms
+  pub own : AllByRecursion (IsOwnMade held.config held.id) ms
   pub count : length ms ≡ length held.rows
 
 -- the round end continues no replay that the state matches

@@ -2,7 +2,7 @@
 use Rattle.std.specs.Prelude.{◌≡◌, ℕ, ◌+◌, ◌==◌, IsTrue, MatchBool, List, [], ◌∷◌, ◌++◌, length, take, Option, Some, None, Result, Ok, Err}
 use Rattle.std.specs.Prelude.{nat_lt, nat_le, Bool, true, false, is_ok, if◌then◌else◌}
 use Rattle.std.specs.List.{filter_map}
-use Rattle.ledger_model.specs.Limits.{max_batch_len}
+use Rattle.ledger_model.specs.Versions.{batch_limit}
 use Rattle.ledger_model.specs.declared.event.Event.{Event}
 use Rattle.ledger_model.specs.declared.event.Event.TheVariants as event
 use Rattle.ledger_model.specs.declared.history.Entry.{Entry}
@@ -53,7 +53,7 @@ with_value (Err f) x = Err f
 
 -- the reply to opening a height
 abbrev pub propose_held : ReplicaStateView → ℕ → Result Value ProposeRefusal
-propose_held held h = with_value (open_answer held.floor held.rows (length held.commits) h) (take max_batch_len held.pool)
+propose_held held h = with_value (open_answer held.floor held.rows (length held.commits) h) (take (batch_limit held.config.frames) held.pool)
 
 -- the batch that is decided for the height after the committed ones, if one is
 abbrev pub next_decided : ReplicaStateView → Option Value

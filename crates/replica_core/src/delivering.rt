@@ -9,12 +9,13 @@ use statements::DecodeFault;
 use std::alloc::{AllocError, Global};
 
 impl<A: Application> ReplicaState<A> {
-    ghost use Rattle.std.specs.Prelude.{◌≡◌, ◌<◌, ℕ, List, Some, is_some, true, Ok, Err, IfOk, IfErr, OnOk, OnErr};
+    ghost use Rattle.std.specs.Prelude.{◌≡◌, ◌<◌, ℕ, List, Some, is_some, true, IsTrue, Ok, Err, IfOk, IfErr, OnOk, OnErr};
     ghost use Rattle.ledger_model.specs.declared.event.Event.TheVariants as event;
     ghost use Rattle.ledger_model.specs.declared.reply.Reply.TheVariants as reply;
-    ghost use Rattle.ledger_model.specs.Notes.{signer_of};
+    ghost use Rattle.ledger_model.specs.Notes.{signer_of, version_of};
     ghost use Rattle.ledger_model.specs.Logs.{height_of};
-    ghost use Rattle.ledger_model.specs.Reading.{reading};
+    ghost use Rattle.ledger_model.specs.Reading.{reading_in};
+    ghost use Rattle.ledger_model.specs.Versions.{reads};
     ghost use Rattle.instance.specs.Instances.{InstanceView};
     ghost use Rattle.height_row.specs.Heights.{row_at};
     ghost use Rattle.ledger_model.specs.declared.history.Entry.{Entry};
@@ -28,7 +29,7 @@ impl<A: Application> ReplicaState<A> {
         ensures row { IfOk result (λ instance. row_at self.now.rows (height_of frame.now.statement) ≡ Some instance.now) }
         ensures own { OnOk result ((row : InstanceView) → row_at self.now.rows (height_of frame.now.statement) ≡ Some row
             → row.config ≡ self.now.config) }
-        ensures step { IfErr result (λ cause. (bytes : List ℕ) → reading bytes ≡ Some frame.now
+        ensures step { IfErr result (λ cause. (bytes : List ℕ) → reading_in self.now.config.frames bytes ≡ Some frame.now
             → IsStep self.now (event.Deliver bytes) (reply.Delivered (Err cause)) self.now) }
         ensures cause { IfErr result (λ cause. (entries : List Entry) → MatchesHistory self.now entries
             → answer_before_signature self.now.config self.now.id entries frame.now.statement ≡ Err cause) }
@@ -54,10 +55,11 @@ impl<A: Application> ReplicaState<A> {
 
     /// Reads or ignores a frame of an open height, whose signer is in the cluster. A frame that is ignored changes nothing.
     fn read(&mut self, alloc: Global, frame: Frame) -> Result<Result<(), Ignored>, AllocError>
+        requires version { IsTrue (reads self.old.config.frames (version_of frame.statement)) }
         requires signer { signer_of frame.statement < self.old.config.replicas }
         requires there { is_some (row_at self.old.rows (height_of frame.statement)) ≡ true }
         requires own { (row : InstanceView) → row_at self.old.rows (height_of frame.statement) ≡ Some row → row.config ≡ self.old.config }
-        ensures step { IfOk result (λ r. (bytes : List ℕ) → reading bytes ≡ Some frame
+        ensures step { IfOk result (λ r. (bytes : List ℕ) → reading_in self.old.config.frames bytes ≡ Some frame
             → IsStep self.old (event.Deliver bytes) (reply.Delivered r) self.new) }
         ensures rest { self.new ≡ record self.old { rows = self.new.rows } }
         ensures ignored { IfOk result (λ r. OnErr r (self.new ≡ self.old)) }
@@ -69,7 +71,8 @@ impl<A: Application> ReplicaState<A> {
 
     /// Reads or ignores a frame; it is ignored with the first cause that applies, and then changes nothing.
     fn take(&mut self, alloc: Global, frame: Frame) -> Result<Result<(), Ignored>, AllocError>
-        ensures step { IfOk result (λ r. (bytes : List ℕ) → reading bytes ≡ Some frame
+        requires version { IsTrue (reads self.old.config.frames (version_of frame.statement)) }
+        ensures step { IfOk result (λ r. (bytes : List ℕ) → reading_in self.old.config.frames bytes ≡ Some frame
             → IsStep self.old (event.Deliver bytes) (reply.Delivered r) self.new) }
         ensures rest { self.new ≡ record self.old { rows = self.new.rows } }
         ensures ignored { IfOk result (λ r. OnErr r (self.new ≡ self.old)) }
@@ -93,7 +96,7 @@ impl<A: Application> ReplicaState<A> {
         ensures ignored { IfOk result (λ r. OnErr r (self.new ≡ self.old)) }
         ensures err { OnErr result (self.new ≡ self.old) }
     {
-        match Frame::parse(alloc, bytes.clone()?) {
+        match Frame::parse_in(self.config.frames, alloc, bytes.clone()?) {
             Ok(frame) => self.take(alloc, frame),
             Err(DecodeFault::Malformed) => Ok(Err(Ignored::Malformed)),
             Err(DecodeFault::NoMemory) => Err(AllocError),

@@ -67,7 +67,7 @@ impl<A: Application> ReplicaState<A> {
     ) -> Result<Prepared, AllocError>
         requires clock { self.now.clock < last_round }
         requires endings { map (λ c. c.ending) closings.items ≡ map (λ row. ended row (self.now.clock + 1)) self.now.rows }
-        requires own { AllByRecursion (λ c. IsOwnMade self.now.id c.made) closings.items }
+        requires own { AllByRecursion (λ c. IsOwnMade self.now.config self.now.id c.made) closings.items }
         ensures prepared { IfOk result (λ p. p ≡ prepared_of self.now mute closings.items) }
         ensures ready { IfOk result (IsPreparedFor self.now) }
     {

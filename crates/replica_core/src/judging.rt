@@ -35,7 +35,7 @@ impl<A: Application> ReplicaState<A> {
             → IsMadeAt self.now.ring false (self.now.clock + 1) instance.now made.now }
         ensures only { (log : List Note) → MatchesLog self.now.ring instance.now log → clock_of log ≡ self.now.clock
             → IsMadeAt self.now.ring false (self.now.clock + 1) instance.now made.now → result ≡ true }
-        ensures own { result ≡ true → IsOwnMade instance.now.id made.now }
+        ensures own { result ≡ true → IsOwnMade instance.now.config instance.now.id made.now }
     {
         match made {
             RoundStatement::Mute => false,
@@ -56,7 +56,7 @@ impl<A: Application> ReplicaState<A> {
             → AreMade self.now.ring false (self.now.clock + 1) self.now.rows (map (λ c. c.made) closings.now) }
         ensures only { (entries : List Entry) → MatchesHistory self.now entries
             → AreMade self.now.ring false (self.now.clock + 1) self.now.rows (map (λ c. c.made) closings.now) → result ≡ true }
-        ensures own { result ≡ true → AllByRecursion (λ c. IsOwnMade self.now.id c.made) closings.now }
+        ensures own { result ≡ true → AllByRecursion (λ c. IsOwnMade self.now.config self.now.id c.made) closings.now }
     {
         for (instance, closing) in self.rows.instances().zip(closings) {
             if !self.may_make(instance, &closing.made) {

@@ -13,7 +13,7 @@ impl<A: Application> ReplicaState<A> {
     ghost use Rattle.height_row.specs.Heights.{row_at, AreApart};
     ghost use Rattle.replica_core.specs.Steps.{propose_held};
 
-    /// Opens a height with the first transactions of the pool, at most 16, which stay in the pool.
+    /// Opens a height with the first transactions of the pool, at most 16 or 64, which stay in the pool.
     pub(crate) fn propose(
         &mut self,
         alloc: Global,
@@ -33,7 +33,7 @@ impl<A: Application> ReplicaState<A> {
         if let Err(refusal) = self.rows.may_open(height, committed) {
             return Ok(Err(refusal));
         }
-        let initial = self.pool.reap()?;
+        let initial = self.pool.reap(self.config.frames)?;
         match self.rows.open(alloc, height, &initial, committed)? {
             Ok(()) => Ok(Ok(initial)),
             Err(refusal) => Ok(Err(refusal)),

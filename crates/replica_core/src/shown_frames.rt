@@ -7,7 +7,7 @@ ghost use Rattle.replica_core.specs.ShownEnds.{statements_shown, next_shown, lef
 
 use height_row::{OpenInstances, RoundClosing};
 use instance::{OwnFrame, RoundEffects, RoundStatement};
-use ledger_model::{Height, Sent};
+use ledger_model::{Height, Sent, Version};
 use signed_frames::Frame;
 use statements::DecodeFault;
 use std::alloc::{AllocError, Global};
@@ -31,7 +31,7 @@ pub(crate) fn read_frames(
 {
     let mut frames = VecDeque::new(alloc);
     for sent in sent {
-        match Frame::parse(alloc, sent.frame.clone()?) {
+        match Frame::parse_in(Version::Two, alloc, sent.frame.clone()?) {
             Ok(frame) => frames.push_back(frame)?,
             Err(DecodeFault::Malformed) => return Ok(None),
             Err(DecodeFault::NoMemory) => return Err(AllocError),

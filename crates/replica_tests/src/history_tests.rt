@@ -6,7 +6,7 @@ use app_kinds::AnyKind;
 use bytes::Bytes;
 use history_bytes::history_bytes;
 use history_reading::{HistoryFault, read_histories};
-use ledger_model::History;
+use ledger_model::{History, Version};
 use simulation::Simulation;
 use std::alloc::{AllocError, Global};
 use std::hash::RandomState;
@@ -137,7 +137,7 @@ fn joined(alloc: Global, pieces: &[&[u8]]) -> Result<Vec<u8>, AllocError> {
 /// The histories that the bytes are.
 fn read(alloc: Global, bytes: &[u8]) -> Result<Vec<History>, Fault> {
     let shared = Bytes::copy_from_slice(alloc, bytes)?;
-    Ok(read_histories(alloc, shared)?)
+    Ok(read_histories(Version::One, alloc, shared)?)
 }
 
 /// The bytes of histories, one after another.

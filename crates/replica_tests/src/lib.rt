@@ -37,4 +37,6 @@ mod step_tests;
 #[cfg(test)]
 mod string_tests;
 #[cfg(test)]
+mod version_tests;
+#[cfg(test)]
 mod world_tests;

@@ -190,6 +190,21 @@ pub(crate) const LOCKS_DUE: Script = &[(
     1,
 )];
 
+/// Replica 0 has 17 transactions, proposes and reports.
+const SEVENTEEN_PROPOSED: (&[u8], usize) = (
+    b"submit 0 t01\nsubmit 0 t02\nsubmit 0 t03\nsubmit 0 t04\nsubmit 0 t05\nsubmit 0 t06\nsubmit 0 t07\nsubmit 0 t08\nsubmit 0 t09\nsubmit 0 t10\nsubmit 0 t11\nsubmit 0 t12\nsubmit 0 t13\nsubmit 0 t14\nsubmit 0 t15\nsubmit 0 t16\nsubmit 0 t17\npropose 0 1\nend 0\n",
+    1,
+);
+
+/// Replica 0 proposes the first 16 of 17 transactions, and reports them.
+pub(crate) const SEVENTEEN: Script = &[(b"config 4 1 1\n", 1), SEVENTEEN_PROPOSED];
+
+/// With frames of version 2 it proposes and reports all of them.
+pub(crate) const SEVENTEEN_IN_VERSION_2: Script = &[
+    (b"config 4 1 1\nframes 2\n", 1),
+    SEVENTEEN_PROPOSED,
+];
+
 /// Appends the line `count` times.
 fn add_line(text: &mut Vec<u8>, line: &[u8], count: usize) -> Result<(), AllocError> {
     for _ in 0..count {

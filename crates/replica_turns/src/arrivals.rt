@@ -9,7 +9,7 @@ ghost use Rattle.replica_turns.specs.Arrivals.{distinct, with_bytes, with_part, 
 
 use abci::Application;
 use bytes::Bytes;
-use ledger_model::{Config, Statement};
+use ledger_model::{Config, Statement, Version};
 use lock_proofs::is_quorate;
 use locked_replica::State;
 use signed_frames::{Frame, LentReports, SignedPart};
@@ -46,7 +46,7 @@ pub fn arrived_frames(alloc: Global, arrived: &[Bytes]) -> Result<Vec<Frame>, Al
     let once = each_once(alloc, arrived)?;
     let mut frames = Vec::with_capacity(alloc, once.len())?;
     for bytes in once {
-        match Frame::parse(alloc, bytes) {
+        match Frame::parse_in(Version::Two, alloc, bytes) {
             Ok(frame) => frames.push(frame)?,
             Err(DecodeFault::Malformed) => (),
             Err(DecodeFault::NoMemory) => return Err(AllocError),

@@ -4,7 +4,7 @@ ghost use Rattle.ledger_model.specs.Reading.{reading};
 ghost use Rattle.replica_turns.specs.Rounds.{is_early, is_of_round};
 
 use bytes::Bytes;
-use ledger_model::{Statement, has_phase, has_place, place_of};
+use ledger_model::{Statement, Version, has_phase, has_place, place_of};
 use signed_frames::Frame;
 use statements::DecodeFault;
 use std::alloc::{AllocError, Global};
@@ -21,7 +21,7 @@ fn is_of_round(round: u64, statement: &Statement) -> bool
 fn is_early(alloc: Global, clock: u32, bytes: &Bytes) -> Result<bool, AllocError>
     ensures { IfOk result (λ early. early ≡ is_early clock (reading bytes.now)) }
 {
-    match Frame::parse(alloc, bytes.clone()?) {
+    match Frame::parse_in(Version::Two, alloc, bytes.clone()?) {
         Ok(frame) => Ok(is_of_round(u64::from(clock) + 1, frame.statement())),
         Err(DecodeFault::Malformed) => Ok(false),
         Err(DecodeFault::NoMemory) => Err(AllocError),

@@ -21,9 +21,11 @@ use Rattle.ledger_model.specs.Lawful.{Lawful, LawfulRoundEnd, is_opened}
 use Rattle.ledger_model.specs.Locks.{took, value_read, value_taken}
 use Rattle.ledger_model.specs.Logs.{height_of, if_some, made_notes, notes_of, log_of, own_ack, statements_made, statements_sent}
 use Rattle.ledger_model.specs.Notes.{Note, Proposed, Round, OwnStatement, Read, Retired, Has, clock_of, initial_of, is_open, open_of}
-use Rattle.ledger_model.specs.Reading.{reading}
+use Rattle.ledger_model.specs.Reading.{reading, reading_in}
 use Rattle.ledger_model.specs.Rounds.{ack_place, lock_place, release_place, rounds_in_phase, owner_of, phase_of, place_of, round_at}
 use Rattle.ledger_model.specs.Rules.{MayMake, MayMakeOpen, Ring, acks_of}
+use Rattle.ledger_model.specs.Rules as rules
+use Rattle.ledger_model.proofs.FrameReading.{reading-reads}
 use Rattle.ledger_model.specs.Values.{Value}
 use Rattle.ledger_model.proofs.Goodness.{Good, Made_by, Of_nothing, Of_ack, Of_report, Of_lock, ack_is, ack_made, has_none}
 use Rattle.ledger_model.proofs.Goodness.{initial_of-append, is_only, made_cases, may_cases, open_value}
@@ -121,17 +123,17 @@ module _ (config : Config) (id : ℕ) (logs next : ℕ → List Note) (p : Phase
 -- ---- a round end
 
 -- an own acknowledgement is signed by the replica, is not made by a mute one, and of the value that was taken
-acks_signer : (id h k : ℕ) (o : Option Value) (made : List Statement) (a : Ack) → made ≡ acks_of id h k o → Has made (statement.Ack a)
-    → a.signer ≡ id
-acks_signer id h k None made a is has = absurd (has_none made (statement.Ack a) is has)
-acks_signer id h k (Some v) made a is has =
-    ap (λ (x : Ack). x.signer) (sym (ack_is (record { height = h; phase = k; signer = id; value = v }) a
-    (is_only made (statement.Ack (record { height = h; phase = k; signer = id; value = v })) (statement.Ack a) is has)))
+acks_signer : (config : Config) (id h k : ℕ) (o : Option Value) (made : List Statement) (a : Ack) → made ≡ acks_of config id h k o
+    → Has made (statement.Ack a) → a.signer ≡ id
+acks_signer config id h k None made a is has = absurd (has_none made (statement.Ack a) is has)
+acks_signer config id h k (Some v) made a is has =
+    ap (λ (x : Ack). x.signer) (sym (ack_is (rules.ack_of config id h k v) a
+    (is_only made (statement.Ack (rules.ack_of config id h k v)) (statement.Ack a) is has)))
 
 ack_signer : (config : Config) (id h : ℕ) (log : List Note) (c : ℕ) (made : List Statement) (a : Ack) → Made_by config id h log c made
     → Has made (statement.Ack a) → a.signer ≡ id
 ack_signer config id h log c made a (Of_nothing e) has = absurd (has_none made (statement.Ack a) e has)
-ack_signer config id h log c made a (Of_ack place e) has = acks_signer id h (phase_of c) (value_taken log (phase_of c)) made a e has
+ack_signer config id h log c made a (Of_ack place e) has = acks_signer config id h (phase_of c) (value_taken log (phase_of c)) made a e has
 ack_signer config id h log c made a (Of_report own began place e) has = let f = is_only made _ (statement.Ack a) e has in absurd (cc)
 ack_signer config id h log c made a (Of_lock lock place owner e own) has = let f =
     is_only made (statement.Lock lock) (statement.Ack a) e has in absurd (cc)
@@ -338,7 +340,7 @@ closed_makes config id h log (event.Propose n) (reply.Proposed (Ok v)) d u is ha
     by true (inl e) = absurd (cc)
     by true (inr none) = none
     by false none = none
-closed_makes config id h log (event.Deliver bytes) (reply.Delivered (Ok t)) d u is has = by (reading bytes) has
+closed_makes config id h log (event.Deliver bytes) (reply.Delivered (Ok t)) d u is has = by (reading_in config.frames bytes) has
   where
     one : (s : SignedStatement) (b : Bool) → Has (cond b (Read (clock_of log) s ∷ []) []) (OwnStatement d u) → ⊥
     one s true (inl e) = absurd (cc)
@@ -361,7 +363,7 @@ closed_makes config id h log e r d u is has = absurd has
 delivered_reads : (config : Config) (id h : ℕ) (log : List Note) (bytes : List ℕ) (t : Unit {0}) (d : ℕ) (s : SignedStatement)
     → Has (notes_of config id h log (event.Deliver bytes) (reply.Delivered (Ok t))) (Read d s) → reading bytes ≡ Some s
 unfolding notes_of
-delivered_reads config id h log bytes t d s has = by (reading bytes) has
+delivered_reads config id h log bytes t d s has = (reading-reads config.frames bytes s (by (reading_in config.frames bytes) has)).0
   where
     one : (u : SignedStatement) (b : Bool) → Has (cond b (Read (clock_of log) u ∷ []) []) (Read d s) → u ≡ s
     one u true (inl e) = cc

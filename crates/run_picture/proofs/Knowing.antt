@@ -17,14 +17,16 @@ use Rattle.ledger_model.specs.declared.statement.Lock.{Lock}
 use Rattle.ledger_model.specs.declared.statement.SignedStatement.{SignedStatement}
 use Rattle.ledger_model.specs.declared.statement.Statement.{Statement}
 use Rattle.ledger_model.specs.declared.statement.Statement.TheVariants as statement
-use Rattle.ledger_model.specs.Lawful.{Lawful, is_opened}
+use Rattle.ledger_model.specs.Lawful.{Lawful, answer, is_opened}
 use Rattle.ledger_model.specs.Locks.{took, value_read, lock_value, value_taken}
 use Rattle.ledger_model.specs.Logs.{height_of, if_some, made_notes, notes_of, log_of, own_ack, statements_made, statements_sent}
 use Rattle.ledger_model.specs.Notes.{Note, Proposed, Round, OwnStatement, Read, Retired, Has, clock_of, initial_of, is_lock, is_open}
 use Rattle.ledger_model.specs.Notes.{is_retired, open_of, retires, was_read}
-use Rattle.ledger_model.specs.Reading.{reading}
+use Rattle.ledger_model.specs.Reading.{reading, reading_in}
 use Rattle.ledger_model.specs.Rounds.{ack_place, lock_place, release_place, owner_of, phase_of, place_of, round_at}
 use Rattle.ledger_model.specs.Rules.{MayMake, MayMakeOpen, Ring}
+use Rattle.ledger_model.specs.Rules as rules
+use Rattle.ledger_model.proofs.FrameReading.{reading-reads}
 use Rattle.ledger_model.specs.Values.{Value, same_value}
 use Rattle.ledger_model.proofs.Goodness.{Good, clock_of-append, has_none, may_cases, open_value}
 use Rattle.ledger_model.proofs.Lists.{filter_map_has, has_cases, has_filter, has_filter_map, has_flat_map, has_left, has_right, same_some}
@@ -37,8 +39,8 @@ use Rattle.run_picture.specs.Decisions.{with_ack}
 use Rattle.run_picture.proofs.LockReads.{LockReads}
 
 -- the acknowledgement of its own lock that a replica makes as round c opens
-abbrev pub own_ack_of : ℕ → ℕ → Lock → Statement
-own_ack_of id c l = statement.Ack (record { height = l.height; phase = phase_of c; signer = id; value = l.value })
+abbrev pub own_ack_of : Config → ℕ → ℕ → Lock → Statement
+own_ack_of config id c l = statement.Ack (rules.ack_of config id l.height (phase_of c) l.value)
 
 -- the logs of replica id at all heights know what was collected for its decisions
 pub record Knows (config : Config) (id : ℕ) (logs : ℕ → List Note) (p : PhaseView) : Type 0 where
@@ -48,7 +50,7 @@ pub record Knows (config : Config) (id : ℕ) (logs : ℕ → List Note) (p : Ph
       → Has (logs l.height) (OwnStatement (round_at lock_place (phase_of p.clock)) (statement.Lock l))
   pub own : (l : Lock) → place_of p.clock ≡ ack_place → p.mute ≡ false → owner_of config (phase_of p.clock) ≡ id → Has p.made l
       → is_retired (logs l.height) ≡ false → took (logs l.height) l.value (phase_of p.clock) ≡ true
-      → (s : SignedStatement) × (Has (logs l.height) (Read p.clock s) × (s.statement ≡ own_ack_of id p.clock l))
+      → (s : SignedStatement) × (Has (logs l.height) (Read p.clock s) × (s.statement ≡ own_ack_of config id p.clock l))
 
 -- ---- numbers of rounds
 
@@ -310,7 +312,7 @@ module _ (config : Config) (id : ℕ) (logs next : ℕ → List Note) (p : Phase
   own_there : (h c : ℕ) (v : Value) → is_open (logs h) ≡ true → place_of c ≡ ack_place → owner_of config (phase_of c) ≡ id
       → value_taken (logs h) (phase_of c) ≡ Some v
       → Has (own_ack config id h (logs h) c false)
-      (record { statement = statement.Ack (record { height = h; phase = phase_of c; signer = id; value = v }); signature = [] })
+      (record { statement = statement.Ack (rules.ack_of config id h (phase_of c) v); signature = [] })
   unfolding own_ack
   own_there h c v is_now place owner taken =
       rw (is_now, ap (λ k. nat_eq k ack_place) place, eq-eqb (owner_of config (phase_of c)) id owner, taken) (inl refl)
@@ -318,7 +320,7 @@ module _ (config : Config) (id : ℕ) (logs next : ℕ → List Note) (p : Phase
   new_own : (l : Lock) → place_of (p.clock + 1) ≡ ack_place → ended.mute ≡ false → owner_of config (phase_of (p.clock + 1)) ≡ id
       → Has p.made l
       → is_retired (next l.height) ≡ false → took (next l.height) l.value (phase_of (p.clock + 1)) ≡ true
-      → (s : SignedStatement) × (Has (next l.height) (Read (p.clock + 1) s) × (s.statement ≡ own_ack_of id (p.clock + 1) l))
+      → (s : SignedStatement) × (Has (next l.height) (Read (p.clock + 1) s) × (s.statement ≡ own_ack_of config id (p.clock + 1) l))
   new_own l place loud owner has kept h_took =
       let h = l.height in
       let c : ℕ = clock_of (logs h) + 1 in
@@ -330,7 +332,7 @@ module _ (config : Config) (id : ℕ) (logs next : ℕ → List Note) (p : Phase
       (round_notes (logs h) (clock_of (logs h) + 1) (statements_made config id h (logs h) (clock_of (logs h) + 1) ended))
       (lock_past (clock_of (logs h)) clock place) h_took in
       let taken = taken_value h (phase_of (p.clock + 1)) l.value (some_phase place) early in
-      let s : SignedStatement = record { statement = own_ack_of id (clock_of (logs h) + 1) l; signature = [] } in
+      let s : SignedStatement = record { statement = own_ack_of config id (clock_of (logs h) + 1) l; signature = [] } in
       let own = own_there h (clock_of (logs h) + 1) l.value is_now (place_now h ack_place place)
       (ap (λ n. owner_of config (phase_of (n + 1))) clock ∙ owner)
       (ap (λ n. value_taken (logs h) (phase_of (n + 1))) clock ∙ taken) in
@@ -346,7 +348,7 @@ module _ (config : Config) (id : ℕ) (logs next : ℕ → List Note) (p : Phase
         s,
         (
           subst (λ n. Has (next h) (Read (n + 1) s)) clock read,
-          ap (λ n. own_ack_of id (n + 1) l) clock,
+          ap (λ n. own_ack_of config id (n + 1) l) clock,
         ),
       )
     where
@@ -373,6 +375,16 @@ module _ (config : Config) (id : ℕ) (logs next : ℕ → List Note) (p : Phase
 
 -- ---- any lawful entry
 
+-- a frame that is accepted is one that the cluster's frames carry
+accepted_read : (config : Config) (ring : Ring) (id : ℕ) (front : List Entry) (bytes : List ℕ) (u : Unit {0}) (s : SignedStatement)
+    → Ok u ≡ answer config ring id front (reading_in config.frames bytes) → reading bytes ≡ Some s → reading_in config.frames bytes ≡ Some s
+accepted_read config ring id front bytes u s lawful read = by (reading_in config.frames bytes) refl lawful
+  where
+    by : (o : Option SignedStatement) → reading_in config.frames bytes ≡ o → Ok u ≡ answer config ring id front o
+        → reading_in config.frames bytes ≡ Some s
+    by None is ok = absurd cc
+    by (Some t) is ok = is ∙ sym (reading-reads config.frames bytes t is).0 ∙ read
+
 -- a delivered statement of the height is noted
 note_in : (o : Option SignedStatement) (s : SignedStatement) (h c : ℕ) → o ≡ Some s → height_of s.statement ≡ h
     → Has (if_some o (λ (x : SignedStatement). cond (nat_eq (height_of x.statement) h) (Read c x ∷ []) [])) (Read c s)
@@ -384,18 +396,19 @@ module _ (config : Config) (ring : Ring) (id : ℕ) (front : List Entry) (next :
     (good : (h : ℕ) → Good config id h (log_of config id h front)) (reads : (h : ℕ) → LockReads (log_of config id h front))
     (before : Knows config id (λ h. log_of config id h front) p) where
   -- a delivered acknowledgement is noted at its height
-  delivered : (bytes : List ℕ) (u : Unit {0})
+  delivered : (bytes : List ℕ) (u : Unit {0}) → Ok u ≡ answer config ring id front (reading_in config.frames bytes)
       → ((h : ℕ) → next h ≡ log_of config id h front ++ notes_of config id h (log_of config id h front) (event.Deliver bytes)
       (reply.Delivered (Ok u)))
       → (o : Option Ack) → ack_of bytes ≡ o → Knows config id next p → Knows config id next (with_ack p o)
   unfolding notes_of
-  delivered bytes u grows None is knows = knows
-  delivered bytes u grows (Some a) is knows =
+  delivered bytes u lawful grows None is knows = knows
+  delivered bytes u lawful grows (Some a) is knows =
       let read = read_ack (reading bytes) a is in
       let height : height_of read.0.statement ≡ a.height = ap height_of read.1.1 in
       let noted : Has (notes_of config id a.height (log_of config id a.height front) (event.Deliver bytes) (reply.Delivered (Ok u)))
       (Read (clock_of (log_of config id a.height front)) read.0) =
-      note_in (reading bytes) read.0 a.height (clock_of (log_of config id a.height front)) read.1.0 height in
+      note_in (reading_in config.frames bytes) read.0 a.height (clock_of (log_of config id a.height front))
+      (accepted_read config ring id front bytes u read.0 lawful read.1.0) height in
       adds_ack config id (λ h. log_of config id h front) next p
       (λ h. notes_of config id h (log_of config id h front) (event.Deliver bytes) (reply.Delivered (Ok u))) grows a read.0
       (subst (λ log. Has log (Read p.clock read.0)) (sym (grows a.height))
@@ -414,7 +427,7 @@ module _ (config : Config) (ring : Ring) (id : ℕ) (front : List Entry) (next :
       by : (b : Bool) → clock_of (cond b (Proposed v ∷ []) []) ≡ 0
       by true = refl
       by false = refl
-  still h (event.Deliver bytes) (reply.Delivered (Ok u)) closed = by (reading bytes)
+  still h (event.Deliver bytes) (reply.Delivered (Ok u)) closed = by (reading_in config.frames bytes)
     where
       one : (s : SignedStatement) (b : Bool) → clock_of (cond b (Read (clock_of (log_of config id h front)) s ∷ []) []) ≡ 0
       one s true = refl
@@ -448,7 +461,7 @@ module _ (config : Config) (ring : Ring) (id : ℕ) (front : List Entry) (next :
       knows_next config id (λ h. log_of config id h front) next p ended agreed before good reads grows
   one_more (event.Deliver bytes) (reply.Delivered (Ok u)) agreed lawful grows =
       let knows = keeps_closed (event.Deliver bytes) (reply.Delivered (Ok u)) refl grows in
-      by (is_deciding_round config id p.clock) knows (delivered bytes u grows (ack_of bytes) refl knows)
+      by (is_deciding_round config id p.clock) knows (delivered bytes u lawful grows (ack_of bytes) refl knows)
     where
       by : (b : Bool) → Knows config id next p → Knows config id next (with_ack p (ack_of bytes))
           → Knows config id next (cond b (with_ack p (ack_of bytes)) p)

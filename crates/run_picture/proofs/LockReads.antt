@@ -17,7 +17,7 @@ use Rattle.ledger_model.specs.declared.statement.Statement.TheVariants as statem
 use Rattle.ledger_model.specs.Lawful.{Lawful, Follows, answer}
 use Rattle.ledger_model.specs.Logs.{height_of, if_some, made_notes, notes_of, log_after, log_of, statements_made}
 use Rattle.ledger_model.specs.Notes.{Note, Proposed, Round, Read, Retired, Has, clock_of, is_lock, was_read}
-use Rattle.ledger_model.specs.Reading.{reading}
+use Rattle.ledger_model.specs.Reading.{reading_in}
 use Rattle.ledger_model.specs.Rounds.{lock_place, release_place, phase_of, place_of, round_at}
 use Rattle.ledger_model.specs.Rules.{MayMake, Ring, answer_to, causes, has_phase, is_repeated}
 use Rattle.ledger_model.specs.Values.{Value}
@@ -183,7 +183,7 @@ module _ (config : Config) (ring : Ring) (id h : ℕ) where
   unfolding notes_of
   step front (event.Propose n) (reply.Proposed (Ok v)) good before lawful = with_proposed (log_of config id h front) (nat_eq n h) v before
   step front (event.Deliver bytes) (reply.Delivered (Ok u)) good before lawful =
-      with_delivered (log_of config id h front) (reading bytes) u before (λ s is same.
+      with_delivered (log_of config id h front) (reading_in config.frames bytes) u before (λ s is same.
       subst (λ x. answer_to config ring (log_of config id x front) s ≡ Ok u) same
       (subst (λ o. answer config ring id front o ≡ Ok u) is (sym lawful)))
   step front event.RoundEnd (reply.RoundEnded (Ok ended)) good before lawful =

@@ -21,6 +21,7 @@ use Rattle.ledger_model.specs.Values.{Value, ascending, same_value}
 use Rattle.ledger_model.proofs.Goodness.{Good, lock_made, made_cases}
 use Rattle.ledger_model.proofs.Lists.{any_has, filter_has, filter_map_has, same_some, same_value-refl}
 use Rattle.ledger_model.proofs.LockSafety.{has_read}
+use Rattle.ledger_model.specs.Rules as rules
 use Rattle.run_picture.specs.Decisions.{PhaseView, is_ack_of, is_acked_by, is_acked_by_itself, is_same_lock, locks_in}
 use Rattle.run_picture.proofs.Knowing.{Knows, lock_sent, own_ack_of}
 use Rattle.run_picture.proofs.LockReads.{LockReads}
@@ -109,7 +110,7 @@ module _ (config : Config) (id : ℕ) (front : List Entry) (p : PhaseView) (ende
 
   -- the owner's acknowledgement of its own lock is in its log
   own_read : (l : Lock) → Has p.made l → is_acked_by_itself p (locks_in ended.frames) l ≡ true
-      → (s : SignedStatement) × (Has (log_of config id l.height front) (Read p.clock s) × (s.statement ≡ own_ack_of id p.clock l))
+      → (s : SignedStatement) × (Has (log_of config id l.height front) (Read p.clock s) × (s.statement ≡ own_ack_of config id p.clock l))
   own_read l has acked =
       let log : List Note = log_of config id l.height front in
       let parts = and_parts (not p.mute) (list_any (is_same_lock l) (locks_in ended.frames)) acked in
@@ -172,7 +173,7 @@ module _ (config : Config) (id : ℕ) (front : List Entry) (p : PhaseView) (ende
         | inr own ↦
             let parts = and_parts (q == id) (is_acked_by_itself p (locks_in ended.frames) l) own in
             let known = own_read l has parts.1 in
-            read l q known.0 (record { height = l.height; phase = phase_of p.clock; signer = id; value = l.value }) known.1.0 known.1.1
+            read l q known.0 (rules.ack_of config id l.height (phase_of p.clock) l.value) known.1.0 known.1.1
             (sym (eqb-true q id parts.0)) refl (same_value-refl l.value)
       ]
     where

@@ -14,7 +14,7 @@ use Rattle.ledger_model.specs.Commits.{decided_at, executed, floor_of, propose_r
 use Rattle.ledger_model.specs.Lawful.{Lawful, Follows}
 use Rattle.ledger_model.specs.Logs.{height_of, if_some, is_read_at_once, log_after, log_of, made_notes, notes_of, statements_made}
 use Rattle.ledger_model.specs.Notes.{Note, Proposed, Round, OwnStatement, Read, Retired, clock_of, initial_of, is_retired}
-use Rattle.ledger_model.specs.Reading.{reading}
+use Rattle.ledger_model.specs.Reading.{reading_in}
 use Rattle.ledger_model.specs.Rules.{Ring}
 use Rattle.ledger_model.specs.Values.{Value}
 use Rattle.ledger_model.proofs.Floors.{each_entry, retired_below}
@@ -86,7 +86,7 @@ module _ (config : Config) (ring : Ring) (id : ℕ) where
   unfolding notes_of
   none_of front log (event.Propose n) (reply.Proposed (Ok v)) lawful =
       ap (λ b. initial_of (cond b (Proposed v ∷ []) [])) (no_proposal config id front n v lawful)
-  none_of front log (event.Deliver bytes) (reply.Delivered (Ok u)) lawful = by (reading bytes)
+  none_of front log (event.Deliver bytes) (reply.Delivered (Ok u)) lawful = by (reading_in config.frames bytes)
     where
       one : (s : SignedStatement) (b : Bool) → initial_of (cond b (Read (clock_of log) s ∷ []) []) ≡ None
       one s true = refl

@@ -6,8 +6,10 @@ use Rattle.std.proofs.lemmas.Bool.{and_parts, leb-true, eqb-true}
 use Rattle.std.proofs.lemmas.Bool.Decides.{nat_tests}
 use Rattle.std.proofs.lemmas.List.Elements.{All-nil, All-cons, All-append}
 use Rattle.std.proofs.lemmas.List.Splits.{join_with_byte-slice_split}
-use Rattle.ledger_model.specs.Limits.{max_tx_len, max_batch_len}
-use Rattle.ledger_model.specs.Values.{Value, IsTx, IsValue}
+use Rattle.ledger_model.specs.Limits.{max_tx_len}
+use Rattle.ledger_model.specs.Versions.{batch_limit}
+use Rattle.ledger_model.specs.declared.version.Version.{Version}
+use Rattle.ledger_model.specs.Values.{Value, IsTx, IsValueIn}
 use Rattle.plain_text.specs.Transactions.{bytes_text}
 use Rattle.scenario_texts.specs.Reading.{bytes_of, tx_of, txs_of, without_first, without_last, bracketed, elements, batch_of}
 use Rattle.scenario_texts.specs.Texts.{batch_text}
@@ -130,25 +132,27 @@ elements-join (tx ∷ v) (first, all) =
     ∙ slice_split-join 44 (bytes_text tx) (map bytes_text v) (Lacks-bytes_text tx first.bytes) (lack_commas v all)
 
 -- a batch
-pub batch_of-sound : (word : List ℕ) (v : Value) → batch_of word ≡ Some v → (word ≡ batch_text v) × IsValue v
+pub batch_of-sound : (version : Version) (word : List ℕ) (v : Value) → batch_of version word ≡ Some v
+    → (word ≡ batch_text v) × IsValueIn version v
 unfolding batch_of batch_text
-batch_of-sound word v e =
+batch_of-sound version word v e =
     let (inner, (opened, more)) = bind_some
-    (λ inner. option_and_then (λ txs. cond (nat_le (length txs) max_batch_len) (Some txs) None) (txs_of (elements inner)))
+    (λ inner. option_and_then (λ txs. cond (nat_le (length txs) (batch_limit version)) (Some txs) None) (txs_of (elements inner)))
     (bracketed word) v e in
-    let (txs, (read, fits)) = bind_some (λ txs. cond (nat_le (length txs) max_batch_len) (Some txs) None) (txs_of (elements inner)) v more
+    let (txs, (read, fits)) = bind_some (λ txs. cond (nat_le (length txs) (batch_limit version)) (Some txs) None)
+    (txs_of (elements inner)) v more
     in
-    let (test, same) = if_some (nat_le (length txs) max_batch_len) txs v fits in
+    let (test, same) = if_some (nat_le (length txs) (batch_limit version)) txs v fits in
     let spelled = txs_of-sound (elements inner) txs read in
     let whole : inner ≡ join_with_byte 44 (map bytes_text txs) = sym (join-elements inner) ∙ ap (join_with_byte 44) spelled.0 in
-    let is : IsValue txs = record { few = leb-true (length txs) max_batch_len test; each = spelled.1 } in
-    subst (λ (x : Value). (word ≡ codes "[" ++ join_with_byte 44 (map bytes_text x) ++ codes "]") × IsValue x) same
+    let is : IsValueIn version txs = record { few = leb-true (length txs) (batch_limit version) test; each = spelled.1 } in
+    subst (λ (x : Value). (word ≡ codes "[" ++ join_with_byte 44 (map bytes_text x) ++ codes "]") × IsValueIn version x) same
     (bracketed-sound word inner opened ∙ ap (λ i. codes "[" ++ i ++ codes "]") whole, is)
 
-pub batch_of-again : (v : Value) → IsValue v → batch_of (batch_text v) ≡ Some v
+pub batch_of-again : (version : Version) (v : Value) → IsValueIn version v → batch_of version (batch_text v) ≡ Some v
 unfolding batch_of batch_text
-batch_of-again v is =
-    let few : nat_le (length v) max_batch_len ≡ true = grind (arith, nat_tests, is.few) in
+batch_of-again version v is =
+    let few : nat_le (length v) (batch_limit version) ≡ true = grind (arith, nat_tests, is.few) in
     rw (bracketed-again (join_with_byte 44 (map bytes_text v)), elements-join v is.each, txs_of-again v is.each, few) refl
 
 -- visible pieces joined by a visible byte
@@ -164,9 +168,9 @@ visible_txs [] all = tt
 visible_txs (tx ∷ v) (first, all) = (IsWord-bytes_text tx first.bytes, visible_txs v all)
 
 -- the text of a batch is a word
-pub IsWord-batch_text : (v : Value) → IsValue v → IsWord (batch_text v)
+pub IsWord-batch_text : (version : Version) (v : Value) → IsValueIn version v → IsWord (batch_text v)
 unfolding batch_text
-IsWord-batch_text v is =
+IsWord-batch_text version v is =
     All-cons IsVisible 91 (join_with_byte 44 (map bytes_text v) ++ codes "]") (omega arith, omega arith)
     (All-append IsVisible (join_with_byte 44 (map bytes_text v)) (codes "]") (visible_join (map bytes_text v) (visible_txs v is.each))
     (All-cons IsVisible 93 [] (omega arith, omega arith) (All-nil IsVisible)))

@@ -10,8 +10,9 @@ use Rattle.std.proofs.lemmas.List.Elements.{All-head, All-tail, filter-append}
 use Rattle.scenario_texts.specs.Plans.{Plan}
 use Rattle.scenario_texts.specs.Lawful.{IsPlan}
 use Rattle.scenario_texts.specs.Texts.{plan_lines}
-use Rattle.scenario_texts.specs.Lines.{max_lines, max_line_len, ended, IsUnbroken, counts, counted, IsShort, Spells, GoesOn, IsBadAt}
-use Rattle.scenario_texts.specs.Reading.{next_of}
+use Rattle.scenario_texts.specs.Lines.{max_lines, ended, IsUnbroken, counts, counted, line_limit, AreShort, Spells, GoesOn, IsBadAt}
+use Rattle.scenario_texts.specs.Reading.{next_of, limit_after}
+use Rattle.scenario_texts.proofs.LineLimits.{short_more, no_line, limit_is}
 use Rattle.scenario_texts.proofs.LineReading.{Shows, line_shows, line_of_words}
 use Rattle.scenario_texts.proofs.Runs.{run, run-append, run-cons, run-bad, plan_again}
 
@@ -22,7 +23,7 @@ pub record Going (text left : List ℕ) (number : ℕ) (s : Option Plan) : Type 
   pub unbroken : AllByRecursion IsUnbroken lines
   pub numbered : number ≡ length lines + 1
   pub few : length lines ≤ max_lines
-  pub short : AllByRecursion IsShort lines
+  pub short : AreShort lines
   pub read : run None (counted lines) ≡ Some s
   pub shows : Shows s (counted lines)
 
@@ -35,11 +36,16 @@ started text = record {
   unbroken = tt;
   numbered = omega arith;
   few = omega arith;
-  short = tt;
-  read =
-      refl;
+  short = λ before after line e. absurd (no_line before after line e);
+  read = refl;
   shows = refl;
 }
+
+-- the limit of the next line is that of the plan so far
+at_limit : (text left : List ℕ) (number : ℕ) (s : Option Plan) (going : Going text left number s) (line : List ℕ)
+    → length line ≤ limit_after s → length line ≤ line_limit going.lines
+at_limit text left number s going line short =
+    subst (λ (limit : ℕ). length line ≤ limit) (sym (limit_is s going.lines going.shows)) short
 
 -- one of which each holds more
 pub each_more : (P : List ℕ → Type 0) (xs : List (List ℕ)) (x : List ℕ) → AllByRecursion P xs → P x → AllByRecursion P (xs ++ x ∷ [])
@@ -65,7 +71,7 @@ passed_more lines line over = filter-append counts lines (line ∷ []) ∙ ap (�
 
 -- a line that is passed over
 pub goes_over : (text left : List ℕ) (number : ℕ) (s : Option Plan) (line rest : List ℕ) → Going text left number s
-    → left ≡ line ++ 10 ∷ rest → IsUnbroken line → number ≤ max_lines → length line ≤ max_line_len
+    → left ≡ line ++ 10 ∷ rest → IsUnbroken line → number ≤ max_lines → length line ≤ limit_after s
     → counts line ≡ false → Going text rest (number + 1) s
 goes_over text left number s line rest going cut unbroken few short over = record {
   lines = going.lines ++ line ∷ [];
@@ -73,14 +79,14 @@ goes_over text left number s line rest going cut unbroken few short over = recor
   unbroken = each_more IsUnbroken going.lines line going.unbroken unbroken;
   numbered = omega (arith, going.numbered, length-append going.lines (line ∷ []));
   few = omega (arith, going.numbered, length-append going.lines (line ∷ []));
-  short = each_more IsShort going.lines line going.short short;
+  short = short_more going.lines line going.short (at_limit text left number s going line short);
   read = ap (run None) (passed_more going.lines line over) ∙ going.read;
   shows = subst (Shows s) (sym (passed_more going.lines line over)) going.shows;
 }
 
 -- a line that counts
 pub goes_further : (text left : List ℕ) (number : ℕ) (s : Option Plan) (line rest : List ℕ) (p : Plan) → Going text left number s
-    → left ≡ line ++ 10 ∷ rest → IsUnbroken line → number ≤ max_lines → length line ≤ max_line_len
+    → left ≡ line ++ 10 ∷ rest → IsUnbroken line → number ≤ max_lines → length line ≤ limit_after s
     → counts line ≡ true → next_of s line ≡ Some p → Going text rest (number + 1) (Some p)
 unfolding run
 goes_further text left number s line rest p going cut unbroken few short is next =
@@ -92,7 +98,7 @@ goes_further text left number s line rest p going cut unbroken few short is next
       unbroken = each_more IsUnbroken going.lines line going.unbroken unbroken;
       numbered = omega (arith, going.numbered, length-append going.lines (line ∷ []));
       few = omega (arith, going.numbered, length-append going.lines (line ∷ []));
-      short = each_more IsShort going.lines line going.short short;
+      short = short_more going.lines line going.short (at_limit text left number s going line short);
       read = ap (run None) same ∙ run-append None s (counted going.lines) (line ∷ []) going.read ∙ run-cons s line [] p next;
       shows = (same ∙ ap (λ l. counted going.lines ++ l ∷ []) (sym (line_of_words line)) ∙ more.spelled, more.lawful);
     }
@@ -147,7 +153,7 @@ record Rest (left : List ℕ) (number : ℕ) (s : Option Plan) (q : Plan) : Type
   whole : left ≡ flat_map ended more
   unbroken : AllByRecursion IsUnbroken more
   few : number + length more ≤ max_lines + 1
-  short : AllByRecursion IsShort more
+  short : (line : List ℕ) (after : List (List ℕ)) → more ≡ line ∷ after → length line ≤ limit_after s
   read : run s (counted more) ≡ Some (Some q)
 
 rest_of : (text left : List ℕ) (number : ℕ) (s : Option Plan) (q : Plan) → Going text left number s → Spells text q → Rest left number s q
@@ -161,7 +167,8 @@ rest_of text left number s q going spells =
       whole = ends;
       unbroken = each_second IsUnbroken going.lines more (subst (AllByRecursion IsUnbroken) others spells.unbroken);
       few = omega (arith, going.numbered, spells.few, count);
-      short = each_second IsShort going.lines more (subst (AllByRecursion IsShort) others spells.short);
+      short = λ line after first. subst (λ (limit : ℕ). length line ≤ limit) (limit_is s going.lines going.shows)
+          (spells.short going.lines after line (others ∙ ap (λ (m : List (List ℕ)). going.lines ++ m) first));
       read = sym (run-append None s (counted going.lines) (counted more) going.read) ∙ ap (run None) (sym those ∙ spells.those)
           ∙ plan_again q spells.lawful;
     }
@@ -169,7 +176,7 @@ rest_of text left number s q going spells =
 -- why the line is bad
 pub data IsBad (number : ℕ) (s : Option Plan) (line : List ℕ) : Type 0 where
   too_many : max_lines < number → IsBad number s line
-  too_long : max_line_len < length line → IsBad number s line
+  too_long : limit_after s < length line → IsBad number s line
   refused : counts line ≡ true → next_of s line ≡ None → IsBad number s line
 
 -- no text that has it there spells a plan
@@ -177,7 +184,7 @@ bad_rest : (number : ℕ) (s : Option Plan) (line rest : List ℕ) (q : Plan) �
     → Rest (line ++ 10 ∷ rest) number s q → ⊥
 bad_rest number s line rest q unbroken bad left = by_more left.more left.whole left.unbroken left.few left.short left.read
   where
-    by_reason : (more : List (List ℕ)) → IsBad number s line → number + length (line ∷ more) ≤ max_lines + 1 → IsShort line
+    by_reason : (more : List (List ℕ)) → IsBad number s line → number + length (line ∷ more) ≤ max_lines + 1 → length line ≤ limit_after s
         → run s (counted (line ∷ more)) ≡ Some (Some q) → ⊥
     by_reason more (too_many many) few short read = omega (arith, many, few)
     by_reason more (too_long long) few short read = omega (arith, long, short)
@@ -187,12 +194,14 @@ bad_rest number s line rest q unbroken bad left = by_more left.more left.whole l
         cc
 
     by_more : (more : List (List ℕ)) → line ++ 10 ∷ rest ≡ flat_map ended more → AllByRecursion IsUnbroken more
-        → number + length more ≤ max_lines + 1 → AllByRecursion IsShort more → run s (counted more) ≡ Some (Some q) → ⊥
+        → number + length more ≤ max_lines + 1
+        → ((first : List ℕ) (after : List (List ℕ)) → more ≡ first ∷ after → length first ≤ limit_after s)
+        → run s (counted more) ≡ Some (Some q) → ⊥
     by_more [] whole u few short read = some_feed line rest whole
-    by_more (o ∷ more) whole (v, u) few (first, short) read =
+    by_more (o ∷ more) whole (v, u) few short read =
         let same : line ≡ o = (first_same line o rest (flat_map ended more) unbroken v
         (whole ∙ append_assoc o (10 ∷ []) (flat_map ended more))).0 in
-        by_reason more bad few (subst IsShort (sym same) first)
+        by_reason more bad few (subst (λ (l : List ℕ). length l ≤ limit_after s) (sym same) (short o more refl))
         (subst (λ (l : List ℕ). run s (counted (l ∷ more)) ≡ Some (Some q)) (sym same) read)
 
 -- with it the lines don't go on
@@ -200,7 +209,9 @@ not_on : (text left : List ℕ) (number : ℕ) (s : Option Plan) (line : List �
     → (max_lines ≤ length going.lines) ⊎ (GoesOn (going.lines ++ line ∷ []) → ⊥)
 not_on text left number s line going (too_many many) = inl (omega (arith, many, going.numbered))
 not_on text left number s line going (too_long long) =
-    inr (λ on. let last = each_second IsShort going.lines (line ∷ []) on.short in omega (arith, long, last.0))
+    inr (λ on. let short : length line ≤ limit_after s =
+    subst (λ (limit : ℕ). length line ≤ limit) (limit_is s going.lines going.shows) (on.short going.lines [] line refl) in
+    omega (arith, long, short))
 not_on text left number s line going (refused is none) = inr (λ on. by_begun on.begun)
   where
     there : counted (going.lines ++ line ∷ []) ≡ counted going.lines ++ line ∷ []

@@ -11,6 +11,7 @@ mod BatchLaws
 mod CommandReading
 mod CommandAgain
 mod LineReading
+mod LineLimits
 mod Runs
 mod Endings
 pub mod Sizes

@@ -16,14 +16,18 @@ use Rattle.std.proofs.lemmas.Map.Keys.{IsDistinct-push}
 use Rattle.std.proofs.lemmas.List.Elements.{All-from_recursion, All-contains, All-weaker}
 use Rattle.std.proofs.lemmas.List.Splits.{join_with_byte-slice_split}
 use Rattle.ledger_model.specs.declared.config.AppKind.{AppKind}
+use Rattle.ledger_model.specs.declared.version.Version.{Version}
+use Rattle.ledger_model.specs.declared.version.Version.TheVariants as version
 use Rattle.lm_ots.specs.Parameters.{bits_of, levels_of}
 use Rattle.lm_ots.specs.declared.params.Params.{Params}
 use Rattle.scenario_texts.specs.Plans.{Plan}
 use Rattle.scenario_texts.specs.Words.{keyword_text}
 use Rattle.scenario_texts.specs.Lawful.{IsNumber, IsSetup, IsPlan, IsCommand}
-use Rattle.scenario_texts.specs.Texts.{words_text, command_text, kind_number, config_words, params_words, keys_lines, liar_text}
+use Rattle.scenario_texts.specs.Texts.{words_text, command_text, kind_number, config_words, params_words, keys_lines, frames_lines}
+use Rattle.scenario_texts.specs.Texts.{frames_words, liar_text}
 use Rattle.scenario_texts.specs.Texts.{setup_lines, plan_lines}
-use Rattle.scenario_texts.specs.Reading.{ascii_of, keyword_of, command_of, with_keys, with_liar, with_command, going_on, beginning}
+use Rattle.scenario_texts.specs.Reading.{ascii_of, keyword_of, command_of, with_keys, with_frames, with_liar, with_command, going_on}
+use Rattle.scenario_texts.specs.Reading.{beginning}
 use Rattle.scenario_texts.specs.Reading.{next_by_keyword, next_by_words, next_of}
 use Rattle.scenario_texts.specs.declared.keyword.Keyword.{Keyword}
 use Rattle.scenario_texts.specs.declared.keyword.Keyword.TheVariants as keyword
@@ -33,7 +37,8 @@ use Rattle.scenario_texts.proofs.Splits.{slice_split-join}
 use Rattle.scenario_texts.proofs.Visible.{IsWords, IsWord-number_text, Lacks-word, Lacks-words, small_words}
 use Rattle.scenario_texts.proofs.CommandReading.{keyword_of-sound, keyword_of-again, command_of-sound}
 use Rattle.scenario_texts.proofs.CommandAgain.{seen_word, words_of_command}
-use Rattle.scenario_texts.proofs.PlanReading.{cluster, kind_number-small, begun_of-sound, params_small, with_keys-sound, with_liar-sound}
+use Rattle.scenario_texts.proofs.PlanReading.{cluster, kind_number-small, begun_of-sound, params_small, with_keys-sound, with_frames-sound}
+use Rattle.scenario_texts.proofs.PlanReading.{with_liar-sound, IsEarly}
 use Rattle.scenario_texts.proofs.PlanReading.{MayLie}
 
 -- these are the lines that count of what was read
@@ -71,10 +76,10 @@ with_command_shows : (p : Plan) (k : Keyword) (fields : List (List ℕ)) (q : Pl
 unfolding with_command command_text
 with_command_shows p k fields q lines e (spelled, is) =
     let make : Command → Option Plan = λ c. Some (record p { commands = p.commands ++ c ∷ [] }) in
-    let (c, (read, some)) = bind_some make (command_of p.liars k fields) q e in
+    let (c, (read, some)) = bind_some make (command_of p.frames p.liars k fields) q e in
     let next : Plan = record p { commands = p.commands ++ c ∷ [] } in
     let same : next ≡ q = cc in
-    let said = command_of-sound p.liars k fields c read in
+    let said = command_of-sound p.frames p.liars k fields c read in
     let lawful : IsPlan next = record {
       setup =
           record {
@@ -86,13 +91,13 @@ with_command_shows p k fields q lines e (spelled, is) =
                 is.setup.replicas;
             different = is.setup.different;
           };
-      commands = each_more (IsCommand p.liars) p.commands c is.commands said.1;
+      commands = each_more (IsCommand p.frames p.liars) p.commands c is.commands said.1;
     } in
     subst (λ (x : Plan). ShowsMore lines (keyword_text k ∷ fields) x) same (record {
       spelled = ap (λ ls. ls ++ words_text (keyword_text k ∷ fields) ∷ []) spelled ∙ ap (λ ws. plan_lines p ++ words_text ws ∷ []) said.0
           ∙ sym (plan_lines-command p c);
       lawful = lawful;
-      visible = subst IsWords (sym said.0) (words_of_command p.liars (liar_small p is) c said.1);
+      visible = subst IsWords (sym said.0) (words_of_command p.frames p.liars (liar_small p is) c said.1);
     })
 
 -- a liar's line more, where no step stands
@@ -110,7 +115,8 @@ lines_liar head liars n (c ∷ steps) e = absurd cc
 plan_lines-liar : (p : Plan) (n : ℕ) → p.commands ≡ []
     → plan_lines (record p { liars = p.liars ++ n ∷ [] }) ≡ plan_lines p ++ liar_text n ∷ []
 unfolding plan_lines
-plan_lines-liar p n none = lines_liar (words_text (config_words p.replicas p.faults p.kind) ∷ keys_lines p.keys) p.liars n p.commands none
+plan_lines-liar p n none = lines_liar (words_text (config_words p.replicas p.faults p.kind) ∷ keys_lines p.keys ++ frames_lines p.frames)
+    p.liars n p.commands none
 
 -- none of them is the number
 turned : (n : ℕ) (liars : List ℕ) → list_any (λ liar. liar == n) liars ≡ false → list_any (nat_eq n) liars ≡ false
@@ -134,7 +140,7 @@ liar_lawful p n is may = record {
     replicas = each_more (λ liar. liar < p.replicas) p.liars n is.setup.replicas may.within;
     different = IsDistinct-push nat_eq_equiv p.liars n is.setup.different (turned n p.liars may.fresh);
   };
-  commands = subst (λ (cs : List Command). AllByRecursion (IsCommand (p.liars ++ n ∷ [])) cs) (sym may.no_steps) tt;
+  commands = subst (λ (cs : List Command). AllByRecursion (IsCommand p.frames (p.liars ++ n ∷ [])) cs) (sym may.no_steps) tt;
 }
 
 with_liar_shows : (p : Plan) (fields : List (List ℕ)) (q : Plan) (lines : List (List ℕ)) → with_liar p fields ≡ Some q
@@ -150,22 +156,31 @@ with_liar_shows p fields q lines e (spelled, is) =
           (seen_word (codes "liar") refl, (IsWord-number_text takes.liar takes.small, tt));
     })
 
--- the line of a parameter set, where nothing else stands
-lines_keys : (config : List ℕ) (o : Option Params) (keys : Params) (liars : List ℕ) (steps : List Command) → o ≡ None → liars ≡ []
-    → steps ≡ []
-    → ((config ∷ keys_lines (Some keys)) ++ map liar_text liars) ++ map command_text steps
-    ≡ (((config ∷ keys_lines o) ++ map liar_text liars) ++ map command_text steps) ++ words_text (params_words keys) ∷ []
-lines_keys config None keys [] [] e f g = refl
-lines_keys config (Some x) keys liars steps e f g = absurd cc
-lines_keys config None keys (x ∷ liars) steps e f g = absurd cc
-lines_keys config None keys [] (x ∷ steps) e f g = absurd cc
+-- the lines of an early plan
+early_lines : (p : Plan) → IsEarly p → plan_lines p ≡ words_text (config_words p.replicas p.faults p.kind) ∷ keys_lines p.keys
+unfolding plan_lines
+early_lines p early =
+    rw (early.first, early.no_liars, early.no_steps) (append-nil _ ∙ append-nil _ ∙ append-nil _)
 
 -- a parameter set
-plan_lines-keys : (p : Plan) (keys : Params) → p.keys ≡ None → p.liars ≡ [] → p.commands ≡ []
+plan_lines-keys : (p : Plan) (keys : Params) → p.keys ≡ None → IsEarly p
     → plan_lines (record p { keys = Some keys }) ≡ plan_lines p ++ words_text (params_words keys) ∷ []
+plan_lines-keys p keys unset early =
+    let config = words_text (config_words p.replicas p.faults p.kind) in
+    early_lines (record p { keys = Some keys }) (record { first = early.first; no_liars = early.no_liars; no_steps = early.no_steps })
+    ∙ ap (λ (o : Option Params). config ∷ keys_lines o ++ words_text (params_words keys) ∷ []) (sym unset)
+    ∙ ap (λ (ls : List (List ℕ)). ls ++ words_text (params_words keys) ∷ []) (sym (early_lines p early))
+
+-- a version
+plan_lines-frames : (p : Plan) → IsEarly p
+    → plan_lines (record p { frames = version.Two }) ≡ plan_lines p ++ words_text frames_words ∷ []
 unfolding plan_lines
-plan_lines-keys p keys unset alone none =
-    lines_keys (words_text (config_words p.replicas p.faults p.kind)) p.keys keys p.liars p.commands unset alone none
+plan_lines-frames p early =
+    let line : List ℕ = words_text frames_words in
+    let config : List ℕ = words_text (config_words p.replicas p.faults p.kind) in
+    let last : plan_lines (record p { frames = version.Two }) ≡ (config ∷ keys_lines p.keys) ++ line ∷ [] =
+    rw (early.no_liars, early.no_steps) (append-nil _ ∙ append-nil _) in
+    last ∙ ap (λ (ls : List (List ℕ)). ls ++ line ∷ []) (sym (early_lines p early))
 
 with_keys_shows : (p : Plan) (fields : List (List ℕ)) (q : Plan) (lines : List (List ℕ)) → with_keys p fields ≡ Some q
     → Shows (Some p) lines → ShowsMore lines (codes "keys" ∷ fields) q
@@ -175,7 +190,7 @@ with_keys_shows p fields q lines e (spelled, is) =
     subst (λ (x : Plan). ShowsMore lines (codes "keys" ∷ fields) x) (sym takes.taken) (record {
       spelled = ap (λ ls. ls ++ words_text (codes "keys" ∷ fields) ∷ []) spelled
           ∙ ap (λ ws. plan_lines p ++ words_text ws ∷ []) takes.spelled
-          ∙ sym (plan_lines-keys p takes.keys takes.none takes.no_liars takes.no_steps);
+          ∙ sym (plan_lines-keys p takes.keys takes.none takes.early);
       lawful = record {
         setup = record {
           enough = is.setup.enough;
@@ -192,6 +207,30 @@ with_keys_shows p fields q lines e (spelled, is) =
         seen_word (codes "keys") refl,
         (IsWord-number_text (bits_of takes.keys.width) small.0, (IsWord-number_text (levels_of takes.keys.height) small.1, tt)),
       );
+    })
+
+-- a version
+with_frames_shows : (p : Plan) (fields : List (List ℕ)) (q : Plan) (lines : List (List ℕ)) → with_frames p fields ≡ Some q
+    → Shows (Some p) lines → ShowsMore lines (codes "frames" ∷ fields) q
+with_frames_shows p fields q lines e (spelled, is) =
+    let takes = with_frames-sound p fields q e in
+    subst (λ (x : Plan). ShowsMore lines (codes "frames" ∷ fields) x) (sym takes.taken) (record {
+      spelled = ap (λ ls. ls ++ words_text (codes "frames" ∷ fields) ∷ []) spelled
+          ∙ ap (λ fs. plan_lines p ++ words_text (codes "frames" ∷ fs) ∷ []) takes.spelled
+          ∙ sym (plan_lines-frames p takes.early);
+      lawful = record {
+        setup = record {
+          enough = is.setup.enough;
+          bounded = is.setup.bounded;
+          tolerant = is.setup.tolerant;
+          few = is.setup.few;
+          replicas = is.setup.replicas;
+          different = is.setup.different;
+        };
+        commands = subst (λ (cs : List Command). AllByRecursion (IsCommand version.Two p.liars) cs) (sym takes.early.no_steps) tt;
+      };
+      visible = subst (λ fs. IsWords (codes "frames" ∷ fs)) (sym takes.spelled)
+          (seen_word (codes "frames") refl, (seen_word (codes "2") refl, tt));
     })
 
 -- the words of a cluster
@@ -227,6 +266,7 @@ keyword_shows : (s : Option Plan) (k : Keyword) (fields : List (List ℕ)) (q : 
 unfolding next_by_keyword going_on beginning
 keyword_shows None keyword.Config fields q lines e shows = config_shows fields q lines e shows
 keyword_shows None keyword.Keys fields q lines e shows = absurd cc
+keyword_shows None keyword.Frames fields q lines e shows = absurd cc
 keyword_shows None keyword.Liar fields q lines e shows = absurd cc
 keyword_shows None keyword.Submit fields q lines e shows = absurd cc
 keyword_shows None keyword.Propose fields q lines e shows = absurd cc
@@ -245,6 +285,7 @@ keyword_shows None keyword.LieStale fields q lines e shows = absurd cc
 keyword_shows None keyword.LieAck fields q lines e shows = absurd cc
 keyword_shows (Some p) keyword.Config fields q lines e shows = absurd cc
 keyword_shows (Some p) keyword.Keys fields q lines e shows = with_keys_shows p fields q lines e shows
+keyword_shows (Some p) keyword.Frames fields q lines e shows = with_frames_shows p fields q lines e shows
 keyword_shows (Some p) keyword.Liar fields q lines e shows = with_liar_shows p fields q lines e shows
 keyword_shows (Some p) keyword.Submit fields q lines e shows = with_command_shows p keyword.Submit fields q lines e shows
 keyword_shows (Some p) keyword.Propose fields q lines e shows = with_command_shows p keyword.Propose fields q lines e shows

@@ -4,8 +4,12 @@ use Rattle.std.specs.Prelude.{◌==◌, nat_lt, nat_le, not, ◌&&◌, codes, Op
 use Rattle.std.specs.List.{list_any, IsDistinct}
 use Rattle.std.proofs.lemmas.Bool.{and_parts, leb-true, ltb-true, eqb-true}
 use Rattle.std.proofs.lemmas.Bool.Decides.{nat_tests}
+use Rattle.std.proofs.lemmas.Slice.Eq.{bytes_eq-Decides}
+use Rattle.std.specs.Str.{bytes_eq}
 use Rattle.ledger_model.specs.declared.config.AppKind.{AppKind}
 use Rattle.ledger_model.specs.declared.config.AppKind.TheVariants.{KvStore, Counter, Purse}
+use Rattle.ledger_model.specs.declared.version.Version.{Version}
+use Rattle.ledger_model.specs.declared.version.Version.TheVariants as version
 use Rattle.lm_ots.specs.Parameters.{bits_of, levels_of}
 use Rattle.lm_ots.specs.declared.params.Width.{Width}
 use Rattle.lm_ots.specs.declared.params.Width.TheVariants.{W4, W8}
@@ -16,7 +20,8 @@ use Rattle.plain_text.specs.Numbers.{number_text}
 use Rattle.scenario_texts.specs.Plans.{Plan}
 use Rattle.scenario_texts.specs.Lawful.{IsNumber, IsSetup}
 use Rattle.scenario_texts.specs.Texts.{kind_number, config_words, params_words}
-use Rattle.scenario_texts.specs.Reading.{is_size, kind_of, config_of, begun_of, params_from, with_keys, is_new_liar, with_liar, one_number}
+use Rattle.scenario_texts.specs.Reading.{is_size, kind_of, config_of, begun_of, params_from, is_first, is_early, with_keys, with_frames}
+use Rattle.scenario_texts.specs.Reading.{is_new_liar, with_liar, one_number}
 use Rattle.scenario_texts.specs.Reading.{two_numbers, three_numbers}
 use Rattle.scenario_texts.proofs.Options.{bind_some, map_some, if_some}
 use Rattle.scenario_texts.proofs.FieldReading.{one_number-sound, one_number-again, two_numbers-sound, two_numbers-again}
@@ -92,7 +97,15 @@ kind_number-small Purse = omega arith
 
 -- the plan of a cluster alone
 unfoldable pub cluster : ℕ → ℕ → AppKind → Plan
-cluster replicas faults kind = record { replicas = replicas; faults = faults; kind = kind; keys = None; liars = []; commands = [] }
+cluster replicas faults kind = record {
+  replicas = replicas;
+  faults = faults;
+  kind = kind;
+  keys = None;
+  frames = version.One;
+  liars = [];
+  commands = [];
+}
 
 -- a cluster of such a size
 is_size-sound : (replicas faults : ℕ) (kind : AppKind) → is_size replicas faults ≡ true → IsSetup (cluster replicas faults kind)
@@ -205,13 +218,37 @@ levels_small H10 = omega arith
 pub params_small : (keys : Params) → IsNumber (bits_of keys.width) × IsNumber (levels_of keys.height)
 params_small keys = (bits_small keys.width, levels_small keys.height)
 
+-- no line but those of the cluster and of the parameter set was read
+pub record IsEarly (p : Plan) : Type 0 where
+  pub first : p.frames ≡ version.One
+  pub no_liars : p.liars ≡ []
+  pub no_steps : p.commands ≡ []
+
+first_version : (own : Version) → is_first own ≡ true → own ≡ version.One
+first_version version.One e = refl
+first_version version.Two e = absurd cc
+
+is_early-sound : (p : Plan) → is_early p ≡ true → IsEarly p
+unfolding is_early
+is_early-sound p e =
+    let a = and_parts (is_first p.frames && length p.liars == 0) (length p.commands == 0) e in
+    let b = and_parts (is_first p.frames) (length p.liars == 0) a.0 in
+    record { first = first_version p.frames b.0; no_liars = none_left p.liars b.1; no_steps = none_left p.commands a.1 }
+
+is_early-true : (p : Plan) → IsEarly p → is_early p ≡ true
+unfolding is_early
+is_early-true p early =
+    let first : is_first p.frames ≡ true = ap is_first early.first in
+    let alone : (length p.liars == 0) ≡ true = ap (λ (xs : List ℕ). length xs == 0) early.no_liars in
+    let none : (length p.commands == 0) ≡ true = ap (λ xs. length xs == 0) early.no_steps in
+    rw (first, alone, none) refl
+
 -- the plan with a parameter set
 pub record TakesKeys (p : Plan) (fields : List (List ℕ)) (q : Plan) : Type 0 where
   pub keys : Params
   pub spelled : codes "keys" ∷ fields ≡ params_words keys
   pub none : p.keys ≡ None
-  pub no_liars : p.liars ≡ []
-  pub no_steps : p.commands ≡ []
+  pub early : IsEarly p
   pub taken : q ≡ record p { keys = Some keys }
 
 no_option : {A : Type 0} (o : Option A) → not (is_some o) ≡ true → o ≡ None
@@ -221,35 +258,59 @@ no_option (Some x) e = absurd cc
 pub with_keys-sound : (p : Plan) (fields : List (List ℕ)) (q : Plan) → with_keys p fields ≡ Some q → TakesKeys p fields q
 unfolding with_keys
 with_keys-sound p fields q e =
-    let may : Bool = not (is_some p.keys) && length p.liars == 0 && length p.commands == 0 in
     let make : Params → Option Plan =
-    λ keys. cond (not (is_some p.keys) && length p.liars == 0 && length p.commands == 0) (Some (record p { keys = Some keys })) None in
+    λ keys. cond (not (is_some p.keys) && is_early p) (Some (record p { keys = Some keys })) None in
     let (n, (read, more)) = bind_some (λ (n : ℕ × ℕ). option_and_then make (params_from n)) (two_numbers fields) q e in
     let (keys, (set, fits)) = bind_some make (params_from n) q more in
     let next : Plan = record p { keys = Some keys } in
-    let (test, same) = if_some (not (is_some p.keys) && length p.liars == 0 && length p.commands == 0) next q fits in
-    let a = and_parts (not (is_some p.keys) && length p.liars == 0) (length p.commands == 0) test in
-    let b = and_parts (not (is_some p.keys)) (length p.liars == 0) a.0 in
+    let (test, same) = if_some (not (is_some p.keys) && is_early p) next q fits in
+    let tests = and_parts (not (is_some p.keys)) (is_early p) test in
     let numbers = params_from-sound n keys set in
     let spelled = two_numbers-sound fields n.0 n.1 read in
     record {
       keys = keys;
       spelled = cc (spelled.0, numbers.0, numbers.1);
-      none = no_option p.keys b.0;
-      no_liars = none_left p.liars b.1;
-      no_steps = none_left p.commands a.1;
+      none = no_option p.keys tests.0;
+      early = is_early-sound p tests.1;
       taken = sym same;
     }
 
-pub with_keys-again : (p : Plan) (keys : Params) → p.keys ≡ None → p.liars ≡ [] → p.commands ≡ []
+pub with_keys-again : (p : Plan) (keys : Params) → p.keys ≡ None → IsEarly p
     → with_keys p (number_text (bits_of keys.width) ∷ number_text (levels_of keys.height) ∷ []) ≡ Some (record p { keys = Some keys })
 unfolding with_keys
-with_keys-again p keys none no_liars no_steps =
+with_keys-again p keys none early =
     let small = params_small keys in
     let unset : is_some p.keys ≡ false = ap is_some none in
-    let alone : (length p.liars == 0) ≡ true = ap (λ (xs : List ℕ). length xs == 0) no_liars in
-    let first : (length p.commands == 0) ≡ true = ap (λ xs. length xs == 0) no_steps in
-    rw (two_numbers-again (bits_of keys.width) (levels_of keys.height) small.0 small.1, params_from-again keys, unset, alone, first) refl
+    rw (
+      two_numbers-again (bits_of keys.width) (levels_of keys.height) small.0 small.1,
+      params_from-again keys,
+      unset,
+      is_early-true p early,
+    ) refl
+
+-- the plan with version 2
+pub record TakesFrames (p : Plan) (fields : List (List ℕ)) (q : Plan) : Type 0 where
+  pub spelled : fields ≡ codes "2" ∷ []
+  pub early : IsEarly p
+  pub taken : q ≡ record p { frames = version.Two }
+
+pub with_frames-sound : (p : Plan) (fields : List (List ℕ)) (q : Plan) → with_frames p fields ≡ Some q → TakesFrames p fields q
+unfolding with_frames
+with_frames-sound p [] q e = absurd cc
+with_frames-sound p (word ∷ []) q e =
+    let next : Plan = record p { frames = version.Two } in
+    let (test, same) = if_some (bytes_eq word (codes "2") && is_early p) next q e in
+    let tests = and_parts (bytes_eq word (codes "2")) (is_early p) test in
+    record {
+      spelled = ap (λ (w : List ℕ). w ∷ []) ((bytes_eq-Decides word (codes "2")).0 tests.0);
+      early = is_early-sound p tests.1;
+      taken = sym same;
+    }
+with_frames-sound p (word ∷ more ∷ fields) q e = absurd cc
+
+pub with_frames-again : (p : Plan) → IsEarly p → with_frames p (codes "2" ∷ []) ≡ Some (record p { frames = version.Two })
+unfolding with_frames
+with_frames-again p early = rw (is_early-true p early) refl
 
 -- the plan with a liar
 pub record TakesLiar (p : Plan) (fields : List (List ℕ)) (q : Plan) : Type 0 where

@@ -5,19 +5,23 @@ use Rattle.std.specs.List.{list_any, AllByRecursion, IsDistinct}
 use Rattle.std.proofs.lemmas.List.{append-nil, length-append}
 use Rattle.std.proofs.lemmas.Map.Keys.{IsDistinct-head, IsDistinct-tail}
 use Rattle.ledger_model.specs.declared.config.AppKind.{AppKind}
+use Rattle.ledger_model.specs.declared.version.Version.{Version}
+use Rattle.ledger_model.specs.declared.version.Version.TheVariants as version
 use Rattle.lm_ots.specs.Parameters.{bits_of, levels_of}
 use Rattle.lm_ots.specs.declared.params.Params.{Params}
 use Rattle.plain_text.specs.Numbers.{number_text}
 use Rattle.scenario_texts.specs.Plans.{Plan}
 use Rattle.scenario_texts.specs.Words.{keyword_text}
 use Rattle.scenario_texts.specs.Lawful.{IsNumber, IsSetup, IsPlan, IsCommand}
-use Rattle.scenario_texts.specs.Texts.{words_text, command_text, kind_number, config_words, params_words, keys_lines, liar_text, plan_lines}
+use Rattle.scenario_texts.specs.Texts.{words_text, command_text, kind_number, config_words, params_words, keys_lines, frames_lines}
+use Rattle.scenario_texts.specs.Texts.{frames_words, liar_text, plan_lines}
 use Rattle.scenario_texts.specs.Reading.{with_command, going_on, beginning, next_by_keyword, next_of}
 use Rattle.scenario_texts.specs.declared.keyword.Keyword.TheVariants as keyword
 use Rattle.scenario_texts.specs.declared.command.Command.{Command}
 use Rattle.scenario_texts.proofs.Visible.{IsWords, IsWord-number_text}
 use Rattle.scenario_texts.proofs.CommandAgain.{seen_word, command_again, words_of_command}
-use Rattle.scenario_texts.proofs.PlanReading.{cluster, begun_of-again, params_small, with_keys-again, with_liar-again, MayLie}
+use Rattle.scenario_texts.proofs.PlanReading.{cluster, begun_of-again, params_small, with_keys-again, with_frames-again}
+use Rattle.scenario_texts.proofs.PlanReading.{with_liar-again, MayLie, IsEarly}
 use Rattle.scenario_texts.proofs.LineReading.{config_visible, liar_small, next_of-words}
 
 -- what is read of lines that count, after what was read before
@@ -57,16 +61,24 @@ config_again p is alone =
     (config_visible p.replicas p.faults p.kind alone) ∙ begun_of-again p is
 
 -- the line of a parameter set
-keys_again : (p : Plan) (keys : Params) → p.keys ≡ None → p.liars ≡ [] → p.commands ≡ []
+keys_again : (p : Plan) (keys : Params) → p.keys ≡ None → IsEarly p
     → next_of (Some p) (words_text (params_words keys)) ≡ Some (record p { keys = Some keys })
 unfolding next_by_keyword going_on
-keys_again p keys none alone first =
+keys_again p keys none early =
     let small = params_small keys in
     next_of-words (Some p) keyword.Keys (number_text (bits_of keys.width) ∷ number_text (levels_of keys.height) ∷ []) (
       seen_word (codes "keys") refl,
       (IsWord-number_text (bits_of keys.width) small.0, (IsWord-number_text (levels_of keys.height) small.1, tt)),
     )
-    ∙ with_keys-again p keys none alone first
+    ∙ with_keys-again p keys none early
+
+-- the line of a version
+frames_again : (p : Plan) → IsEarly p
+    → next_of (Some p) (words_text frames_words) ≡ Some (record p { frames = version.Two })
+unfolding next_by_keyword going_on
+frames_again p early =
+    next_of-words (Some p) keyword.Frames (codes "2" ∷ []) (seen_word (codes "frames") refl, (seen_word (codes "2") refl, tt))
+    ∙ with_frames-again p early
 
 -- the line of a liar
 liar_again : (p : Plan) (n : ℕ) → IsNumber n → MayLie p n → next_of (Some p) (liar_text n) ≡ Some (record p { liars = p.liars ++ n ∷ [] })
@@ -76,19 +88,21 @@ liar_again p n small may =
     ∙ with_liar-again p n small may
 
 -- the line of a step
-step_again : (p : Plan) (c : Command) → ((r : ℕ) → Contains p.liars r → IsNumber r) → IsCommand p.liars c
+step_again : (p : Plan) (c : Command) → ((r : ℕ) → Contains p.liars r → IsNumber r) → IsCommand p.frames p.liars c
     → next_of (Some p) (command_text c) ≡ Some (record p { commands = p.commands ++ c ∷ [] })
 unfolding next_by_keyword with_command command_text
 step_again p c small is =
-    let again = command_again p.liars small c is in
-    let visible : IsWords (keyword_text again.keyword ∷ again.fields) = subst IsWords again.spelled (words_of_command p.liars small c is) in
+    let again = command_again p.frames p.liars small c is in
+    let visible : IsWords (keyword_text again.keyword ∷ again.fields) = subst IsWords again.spelled
+    (words_of_command p.frames p.liars small c is) in
     ap (λ ws. next_of (Some p) (words_text ws)) again.spelled
     ∙ next_of-words (Some p) again.keyword again.fields visible
     ∙ again.is_step p
     ∙ ap (option_and_then (λ x. Some (record p { commands = p.commands ++ x ∷ [] }))) again.reads
 
 -- the lines of steps
-steps_again : (p : Plan) (steps : List Command) → ((r : ℕ) → Contains p.liars r → IsNumber r) → AllByRecursion (IsCommand p.liars) steps
+steps_again : (p : Plan) (steps : List Command) → ((r : ℕ) → Contains p.liars r → IsNumber r)
+    → AllByRecursion (IsCommand p.frames p.liars) steps
     → run (Some p) (map command_text steps) ≡ Some (Some (record p { commands = p.commands ++ steps }))
 unfolding run
 steps_again p [] small all = ap (λ cs. Some (Some (record p { commands = cs }))) (sym (append-nil p.commands))
@@ -130,16 +144,34 @@ liars_again p (n ∷ more) first bounded few (within, below) apart =
     (subst (IsDistinct nat_eq) (sym whole) apart)
     ∙ ap (λ ls. Some (Some (record p { liars = ls }))) whole
 
+-- the plan of a cluster and a parameter set
+abbrev keyed : ℕ → ℕ → AppKind → Option Params → Plan
+keyed replicas faults kind keys = record {
+  replicas = replicas;
+  faults = faults;
+  kind = kind;
+  keys = keys;
+  frames = version.One;
+  liars = [];
+  commands = [];
+}
+
 -- the line of a parameter set, if there is one
 keys_run : (replicas faults : ℕ) (kind : AppKind) (keys : Option Params)
     → run (Some (cluster replicas faults kind)) (keys_lines keys)
-    ≡ Some (Some (record { replicas = replicas; faults = faults; kind = kind; keys = keys; liars = []; commands = [] }))
+    ≡ Some (Some (keyed replicas faults kind keys))
 unfolding run cluster
 keys_run replicas faults kind None = refl
 keys_run replicas faults kind (Some keys) =
-    let next : Plan = record { replicas = replicas; faults = faults; kind = kind; keys = Some keys; liars = []; commands = [] } in
-    run-cons (Some (cluster replicas faults kind)) (words_text (params_words keys)) [] next
-    (keys_again (cluster replicas faults kind) keys refl refl refl)
+    run-cons (Some (cluster replicas faults kind)) (words_text (params_words keys)) [] (keyed replicas faults kind (Some keys))
+    (keys_again (cluster replicas faults kind) keys refl (record { first = refl; no_liars = refl; no_steps = refl }))
+
+-- the line of a version, if there is one
+frames_run : (p : Plan) (frames : Version) → IsEarly p → run (Some p) (frames_lines frames) ≡ Some (Some (record p { frames = frames }))
+unfolding run
+frames_run p version.One early = ap (λ (own : Version). Some (Some (record p { frames = own }))) early.first
+frames_run p version.Two early =
+    run-cons (Some p) (words_text frames_words) [] (record p { frames = version.Two }) (frames_again p early)
 
 -- the cluster alone is lawful
 alone_lawful : (p : Plan) → IsSetup p → IsSetup (cluster p.replicas p.faults p.kind)
@@ -159,12 +191,17 @@ pub plan_again : (p : Plan) → IsPlan p → run None (plan_lines p) ≡ Some (S
 unfolding plan_lines
 plan_again p is =
     let start : Plan = cluster p.replicas p.faults p.kind in
-    let keyed : Plan = record { replicas = p.replicas; faults = p.faults; kind = p.kind; keys = p.keys; liars = []; commands = [] } in
-    let set : Plan = record { replicas = p.replicas; faults = p.faults; kind = p.kind; keys = p.keys; liars = p.liars; commands = [] } in
-    let lines : List (List ℕ) = keys_lines p.keys ++ map liar_text p.liars in
+    let with_keys : Plan = keyed p.replicas p.faults p.kind p.keys in
+    let with_version : Plan = record with_keys { frames = p.frames } in
+    let set : Plan = record p { commands = [] } in
+    let front : List (List ℕ) = keys_lines p.keys ++ frames_lines p.frames in
+    let lines : List (List ℕ) = front ++ map liar_text p.liars in
+    let versions : run (Some start) front ≡ Some (Some with_version) =
+    run-append (Some start) (Some with_keys) (keys_lines p.keys) (frames_lines p.frames) (keys_run p.replicas p.faults p.kind p.keys)
+    ∙ frames_run with_keys p.frames (record { first = refl; no_liars = refl; no_steps = refl }) in
     let setup : run (Some start) lines ≡ Some (Some set) =
-    run-append (Some start) (Some keyed) (keys_lines p.keys) (map liar_text p.liars) (keys_run p.replicas p.faults p.kind p.keys)
-    ∙ liars_again keyed p.liars refl is.setup.bounded is.setup.few is.setup.replicas is.setup.different in
+    run-append (Some start) (Some with_version) front (map liar_text p.liars) versions
+    ∙ liars_again with_version p.liars refl is.setup.bounded is.setup.few is.setup.replicas is.setup.different in
     run-cons None (words_text (config_words p.replicas p.faults p.kind)) (lines ++ map command_text p.commands) start
     (config_again p is.setup (alone_lawful p is.setup))
     ∙ run-append (Some start) (Some set) lines (map command_text p.commands) setup

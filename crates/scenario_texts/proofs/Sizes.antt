@@ -9,14 +9,29 @@ use Rattle.std.proofs.lemmas.List.{length-append, take-append-drop}
 use Rattle.std.proofs.lemmas.List.Concat.{flat_map-append}
 use Rattle.std.proofs.lemmas.List.Elements.{All-append, All-cons, All-head, All-nil, All-push, All-tail}
 use Rattle.scenario_texts.specs.declared.line_count.LineCount.{LineCount}
-use Rattle.scenario_texts.specs.Lines.{max_lines, max_line_len, ended, IsUnbroken, IsShort, Spells, GoesOn, FollowsBad, EndsBadly, IsBadAt}
+use Rattle.scenario_texts.specs.Lines.{max_lines, max_line_len, line_limit, ended, IsUnbroken, AreShort, Spells, GoesOn, FollowsBad}
+use Rattle.scenario_texts.specs.Lines.{EndsBadly, IsBadAt}
 use Rattle.scenario_texts.specs.Lines.{HasLines, IsTooLarge, IsCounted}
 use Rattle.scenario_texts.specs.Plans.{Plan}
-use Rattle.scenario_texts.proofs.Endings.{each_more, each_second, first_same, not_ended, whole_more}
+use Rattle.scenario_texts.proofs.LineLimits.{limit_most}
+use Rattle.scenario_texts.proofs.Endings.{each_more, first_same, not_ended, whole_more}
 
 -- no byte is a line feed
 none_unbroken : IsUnbroken []
 none_unbroken = All-nil (λ b. b ≢ 10)
+
+-- the line has at most as many bytes as any line may have
+abbrev IsShort : List ℕ → Type 0
+IsShort line = length line ≤ max_line_len
+
+-- lines that are short by the lines before them
+each_at_most : (front lines : List (List ℕ)) → AreShort (front ++ lines) → AllByRecursion IsShort lines
+each_at_most front [] short = tt
+each_at_most front (line ∷ lines) short =
+    let within : length line ≤ line_limit front = short front lines line refl in (
+      omega (arith, within, limit_most front),
+      each_at_most (front ++ line ∷ []) lines (subst AreShort (sym (append_assoc front (line ∷ []) lines)) short),
+    )
 
 -- ---- counting
 
@@ -204,7 +219,7 @@ large_under_way text before rest large whole u w few short =
 pub large_spells_none : (text : List ℕ) (p : Plan) → IsTooLarge text → Spells text p → ⊥
 large_spells_none text p large spells =
     none (large_under_way text spells.lines [] large (spells.whole ∙ sym (append-nil (flat_map ended spells.lines))) spells.unbroken
-    none_unbroken spells.few spells.short)
+    none_unbroken spells.few (each_at_most [] spells.lines spells.short))
   where
     none : (max_line_len < 0) ⊎ ((max_lines ≤ length spells.lines) × (1 ≤ 0)) → ⊥
     none (inl long) = omega (arith, long)
@@ -246,8 +261,9 @@ bad_anyway text more n large at = record {
 }
   where
     not_short : max_line_len < length at.rest → (line : List ℕ) → GoesOn (at.before ++ (at.rest ++ line) ∷ []) → ⊥
-    not_short long line on = let last =
-        each_second IsShort at.before ((at.rest ++ line) ∷ []) on.short in omega (arith, long, last.0, length-append at.rest line)
+    not_short long line on =
+        let within : length (at.rest ++ line) ≤ line_limit at.before = on.short at.before [] (at.rest ++ line) refl in
+        omega (arith, long, within, limit_most at.before, length-append at.rest line)
 
     by_split : IsUnbroken at.rest → (max_line_len < length at.rest) ⊎ ((max_lines ≤ length at.before) × (1 ≤ length at.rest))
         → IsSplit more → FollowsBad at.before (at.rest ++ more) ⊎ EndsBadly at.before (at.rest ++ more)
@@ -279,7 +295,8 @@ bad_anyway text more n large at = record {
       bad = bad.bad;
     })
     goes (inr bad) = by_split bad.unended
-        (large_under_way text at.before at.rest large at.whole at.unbroken bad.unended at.few at.goes_on.short) (split more)
+        (large_under_way text at.before at.rest large at.whole at.unbroken bad.unended at.few
+        (each_at_most [] at.before at.goes_on.short)) (split more)
 
 -- ---- texts that are not too large
 

@@ -1,8 +1,9 @@
 -- Which plans have a text.
-use Rattle.std.specs.Prelude.{ℕ, ◌+◌, ◌*◌, ◌^◌, ◌<◌, ◌≤◌, nat_eq, List, length, Contains}
+use Rattle.std.specs.Prelude.{ℕ, ◌+◌, ◌*◌, ◌^◌, ◌<◌, ◌≤◌, ◌≡◌, nat_eq, List, length, Contains}
 use Rattle.std.specs.List.{AllByRecursion, IsDistinct}
 use Rattle.ledger_model.specs.Limits.{max_key_len}
-use Rattle.ledger_model.specs.Values.{IsByte, IsValue}
+use Rattle.ledger_model.specs.Values.{IsByte, IsValueIn}
+use Rattle.ledger_model.specs.declared.version.Version.{Version}
 use Rattle.scenario_texts.specs.Plans.{Plan}
 use Rattle.scenario_texts.specs.declared.command.Towards.{Towards}
 use Rattle.scenario_texts.specs.declared.command.Towards.TheVariants.{One, All}
@@ -23,31 +24,32 @@ abbrev pub IsTowards : Towards → Type 0
 IsTowards (One replica) = IsNumber replica
 IsTowards All = Unit {0}
 
--- the lie is of one of these liars, at a height and in a phase of at least 1
-pub record IsLie (liars : List ℕ) (lie : Lie) : Type 0 where
+-- the lie has this version and is of one of these liars, at a height and in a phase of at least 1
+pub record IsLie (version : Version) (liars : List ℕ) (lie : Lie) : Type 0 where
+  pub versions : lie.version ≡ version
   pub by_liar : Contains liars lie.liar
   pub height : (1 ≤ lie.height) × IsNumber lie.height
   pub phase : (1 ≤ lie.phase) × IsNumber lie.phase
-  pub batch : IsValue lie.batch
+  pub batch : IsValueIn lie.version lie.batch
   pub to : IsTowards lie.to
 
--- the command can be written, in a cluster with these liars
-abbrev pub IsCommand : List ℕ → Command → Type 0
-IsCommand liars (command.Submit replica bytes) = IsNumber replica × IsBytes bytes
-IsCommand liars (command.Propose replica height) = IsNumber replica × IsNumber height
-IsCommand liars (command.End replica) = IsNumber replica
-IsCommand liars (command.Pass from index to) = IsNumber from × IsNumber index × IsNumber to
-IsCommand liars (command.Inject to bytes) = IsNumber to × IsBytes bytes
-IsCommand liars (command.Execute replica) = IsNumber replica
-IsCommand liars (command.Query replica key) = IsNumber replica × IsBytes key × (length key ≤ max_key_len)
-IsCommand liars (command.Retire replica floor) = IsNumber replica × IsNumber floor
-IsCommand liars (command.Info replica) = IsNumber replica
-IsCommand liars command.Silent = Unit {0}
-IsCommand liars command.Round = Unit {0}
-IsCommand liars (command.LieReport lie) = IsLie liars lie
-IsCommand liars (command.LieLock lie) = IsLie liars lie
-IsCommand liars (command.LieStale lie source) = IsLie liars lie × (1 ≤ source) × IsNumber source
-IsCommand liars (command.LieAck lie) = IsLie liars lie
+-- the command can be written, in a cluster with frames of this version and these liars
+abbrev pub IsCommand : Version → List ℕ → Command → Type 0
+IsCommand version liars (command.Submit replica bytes) = IsNumber replica × IsBytes bytes
+IsCommand version liars (command.Propose replica height) = IsNumber replica × IsNumber height
+IsCommand version liars (command.End replica) = IsNumber replica
+IsCommand version liars (command.Pass from index to) = IsNumber from × IsNumber index × IsNumber to
+IsCommand version liars (command.Inject to bytes) = IsNumber to × IsBytes bytes
+IsCommand version liars (command.Execute replica) = IsNumber replica
+IsCommand version liars (command.Query replica key) = IsNumber replica × IsBytes key × (length key ≤ max_key_len)
+IsCommand version liars (command.Retire replica floor) = IsNumber replica × IsNumber floor
+IsCommand version liars (command.Info replica) = IsNumber replica
+IsCommand version liars command.Silent = Unit {0}
+IsCommand version liars command.Round = Unit {0}
+IsCommand version liars (command.LieReport lie) = IsLie version liars lie
+IsCommand version liars (command.LieLock lie) = IsLie version liars lie
+IsCommand version liars (command.LieStale lie source) = IsLie version liars lie × (1 ≤ source) × IsNumber source
+IsCommand version liars (command.LieAck lie) = IsLie version liars lie
 
 -- the size of the cluster is allowed, and at most as many replicas lie as may, each named once
 pub record IsSetup (p : Plan) : Type 0 where
@@ -61,4 +63,4 @@ pub record IsSetup (p : Plan) : Type 0 where
 -- a plan that can be written
 pub record IsPlan (p : Plan) : Type 0 where
   pub setup : IsSetup p
-  pub commands : AllByRecursion (IsCommand p.liars) p.commands
+  pub commands : AllByRecursion (IsCommand p.frames p.liars) p.commands

@@ -1,6 +1,8 @@
 -- The lines of a text, and which text encodes a plan.
-use Rattle.std.specs.Prelude.{◌≡◌, ◌≢◌, ◌⊎◌, ℕ, ◌+◌, ◌<◌, ◌≤◌, ◌==◌, not, Bool, true, false, List, [], ◌∷◌, ◌++◌, length, filter}
-use Rattle.std.specs.List.{flat_map, All, AllByRecursion}
+use Rattle.std.specs.Prelude.{◌≡◌, ◌≢◌, ◌⊎◌, ℕ, ◌+◌, ◌<◌, ◌≤◌, ◌==◌, not, Bool, true, false, List, [], ◌∷◌, ◌++◌, length, filter, codes}
+use Rattle.std.specs.Prelude.{if◌then◌else◌}
+use Rattle.std.specs.List.{flat_map, list_any, All, AllByRecursion}
+use Rattle.std.specs.Str.{bytes_eq}
 use Rattle.scenario_texts.specs.declared.line_count.LineCount.{LineCount}
 use Rattle.scenario_texts.specs.Plans.{Plan}
 use Rattle.scenario_texts.specs.Texts.{plan_lines}
@@ -10,9 +12,21 @@ use Rattle.scenario_texts.specs.Lawful.{IsPlan}
 abbrev pub max_lines : ℕ
 max_lines = 10000
 
--- the most bytes of a line, without its line feed
+-- the most bytes of a line after a line `frames 2`, and so of any line, without its line feed
 abbrev pub max_line_len : ℕ
-max_line_len = 400000
+max_line_len = 1300000
+
+-- the most bytes of a line, without its line feed, if no line `frames 2` precedes it
+abbrev pub short_line_len : ℕ
+short_line_len = 400000
+
+-- the line sets version 2 for the frames
+abbrev pub sets_frames : List ℕ → Bool
+sets_frames line = bytes_eq line (codes "frames 2")
+
+-- the most bytes of a line after these lines, without its line feed
+abbrev pub line_limit : List (List ℕ) → ℕ
+line_limit before = if list_any sets_frames before then max_line_len else short_line_len
 
 -- a line with its line feed
 abbrev pub ended : List ℕ → List ℕ
@@ -31,9 +45,9 @@ counts (b ∷ line) = not (b == 0x23)
 abbrev pub counted : List (List ℕ) → List (List ℕ)
 counted lines = filter counts lines
 
--- the line is short enough
-abbrev pub IsShort : List ℕ → Type 0
-IsShort line = length line ≤ max_line_len
+-- each line has at most as many bytes as the lines before it allow
+abbrev pub AreShort : List (List ℕ) → Type 0
+AreShort lines = (before after : List (List ℕ)) (line : List ℕ) → lines ≡ before ++ line ∷ after → length line ≤ line_limit before
 
 -- the text encodes the plan
 pub record Spells (text : List ℕ) (p : Plan) : Type 0 where
@@ -41,7 +55,7 @@ pub record Spells (text : List ℕ) (p : Plan) : Type 0 where
   pub whole : text ≡ flat_map ended lines
   pub unbroken : AllByRecursion IsUnbroken lines
   pub few : length lines ≤ max_lines
-  pub short : AllByRecursion IsShort lines
+  pub short : AreShort lines
   pub those : counted lines ≡ plan_lines p
   pub lawful : IsPlan p
 
@@ -55,11 +69,11 @@ pub record HasLines (text : List ℕ) (count : LineCount) : Type 0 where
   pub ended : length lines ≡ count.ended
   pub long : length rest ≡ count.under_way
 
--- the text has at most as many lines as it may have, and at most as many bytes after the last line feed as a line may have
+-- the text has at most as many lines as it may have, and at most as many bytes after the last line feed as any line may have
 abbrev pub IsWithinLimits : LineCount → Type 0
 IsWithinLimits count = (count.ended ≤ max_lines) × (count.under_way ≤ max_line_len)
 
--- a line of the text has too many bytes, or bytes follow the last line that a text may have
+-- a line of the text has more bytes than any line may have, or bytes follow the last line that a text may have
 pub record IsTooLarge (text : List ℕ) : Type 0 where
   pub lines : List (List ℕ)
   pub line : List ℕ
@@ -76,7 +90,7 @@ IsCounted false text count = IsTooLarge text
 
 -- nothing is wrong so far: none of these lines counts, or those that count are the lines of a plan
 pub record GoesOn (lines : List (List ℕ)) : Type 0 where
-  pub short : AllByRecursion IsShort lines
+  pub short : AreShort lines
   pub begun : (counted lines ≡ []) ⊎ ((p : Plan) × ((counted lines ≡ plan_lines p) × IsPlan p))
 
 -- a bad line follows these: it is one too many, or a plan can't continue with it

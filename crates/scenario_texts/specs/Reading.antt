@@ -1,6 +1,7 @@
 -- What words and lines read as, by the functions of this crate. That reading inverts writing is proved in `proofs/`; no
 -- public clause cites this file.
-use Rattle.std.specs.Prelude.{ℕ, zero, suc, ◌+◌, ◌*◌, ◌^◌, ◌==◌, nat_lt, nat_le, Bool, not, ◌&&◌, List, [], ◌∷◌, ◌++◌, length, codes}
+use Rattle.std.specs.Prelude.{ℕ, zero, suc, ◌+◌, ◌*◌, ◌^◌, ◌≤◌, ◌==◌, nat_lt, nat_le, Bool, true, false, not, ◌&&◌, List, [], ◌∷◌}
+use Rattle.std.specs.Prelude.{◌++◌, length, codes}
 use Rattle.std.specs.Prelude.{Option, Some, None, is_some, option_and_then, if◌then◌else◌}
 use Rattle.std.specs.List.{find, list_all, list_any, slice_split}
 use Rattle.std.specs.Char.{is_ascii, is_ascii_uppercase}
@@ -10,7 +11,10 @@ use Rattle.std.specs.Str.{bytes_eq}
 use Rattle.std.specs.Str.Parse.{digits_value}
 use Rattle.std.proofs.Common.{suc-le-suc, zero-le}
 use Rattle.hex.specs.Hex.{decode_of}
-use Rattle.ledger_model.specs.Limits.{max_tx_len, max_batch_len, max_key_len}
+use Rattle.ledger_model.specs.Limits.{max_tx_len, max_key_len}
+use Rattle.ledger_model.specs.Versions.{batch_limit}
+use Rattle.ledger_model.specs.declared.version.Version.{Version}
+use Rattle.ledger_model.specs.declared.version.Version.TheVariants as version
 use Rattle.ledger_model.specs.Values.{Value}
 use Rattle.ledger_model.specs.declared.config.AppKind.{AppKind}
 use Rattle.ledger_model.specs.declared.config.AppKind.TheVariants.{KvStore, Counter, Purse}
@@ -20,6 +24,7 @@ use Rattle.lm_ots.specs.declared.params.Params.{Params}
 use Rattle.plain_text.specs.Numbers.{is_decimal, has_needless_zero}
 use Rattle.plain_text.specs.Transactions.{is_plain, nibble, byte_of}
 use Rattle.scenario_texts.specs.Plans.{Plan}
+use Rattle.scenario_texts.specs.Lines.{short_line_len, max_line_len}
 use Rattle.scenario_texts.specs.Words.{keyword_text}
 use Rattle.scenario_texts.specs.declared.keyword.Keyword.{Keyword}
 use Rattle.scenario_texts.specs.declared.keyword.Keyword.TheVariants as keyword
@@ -40,8 +45,8 @@ keyword_among (k ∷ ks) word = if bytes_eq word (keyword_text k) then Some k el
 
 abbrev pub all_keywords : List Keyword
 all_keywords =
-    keyword.Config ∷ keyword.Keys ∷ keyword.Liar ∷ keyword.Submit ∷ keyword.Propose ∷ keyword.End ∷ keyword.Pass ∷ keyword.Inject
-    ∷ keyword.Execute ∷ keyword.Query ∷ keyword.Retire ∷ keyword.Info ∷ keyword.Silent ∷ keyword.Round ∷ keyword.LieReport
+    keyword.Config ∷ keyword.Keys ∷ keyword.Frames ∷ keyword.Liar ∷ keyword.Submit ∷ keyword.Propose ∷ keyword.End ∷ keyword.Pass
+    ∷ keyword.Inject ∷ keyword.Execute ∷ keyword.Query ∷ keyword.Retire ∷ keyword.Info ∷ keyword.Silent ∷ keyword.Round ∷ keyword.LieReport
     ∷ keyword.LieLock ∷ keyword.LieStale ∷ keyword.LieAck ∷ []
 
 -- the keyword that the word is
@@ -153,12 +158,12 @@ unfoldable pub elements : List ℕ → List (List ℕ)
 elements [] = []
 elements (b ∷ rest) = slice_split (λ c. c == 44) (b ∷ rest)
 
--- the batch that the word encodes
-unfoldable pub batch_of : List ℕ → Option Value
-batch_of word = do
+-- the batch that the word encodes, with at most as many transactions as frames of this version carry
+unfoldable pub batch_of : Version → List ℕ → Option Value
+batch_of version word = do
   inner ← bracketed word
   txs ← txs_of (elements inner)
-  if nat_le (length txs) max_batch_len then Some txs else None
+  if nat_le (length txs) (batch_limit version) then Some txs else None
 
 -- where a lie goes
 unfoldable pub towards_of : List ℕ → Option Towards
@@ -170,32 +175,38 @@ liar_of liars word = do
   n ← number_of word
   find (λ liar. liar == n) liars
 
--- the lie at this height and in this phase, which are both at least 1
-unfoldable pub lie_at : ℕ → ℕ → ℕ → Value → Towards → Option Lie
-lie_at liar zero phase batch to = None
-lie_at liar (suc h) zero batch to = None
-lie_at liar (suc h) (suc k) batch to =
-    Some (record {
-      liar = liar;
-      height = suc h;
-      phase = suc k;
-      batch = batch;
-      to = to;
-      some_height = suc-le-suc zero-le;
-      some_phase =
-          suc-le-suc zero-le;
-    })
+-- n is at most the limit, if it is
+abbrev pub at_most : (n limit : ℕ) → Option (n ≤ limit)
+at_most zero limit = Some zero-le
+at_most (suc n) zero = None
+at_most (suc n) (suc limit) = option_map suc-le-suc (at_most n limit)
+
+-- the lie at this height and in this phase, which are both at least 1, with a batch that fits into frames of this version
+unfoldable pub lie_at : Version → ℕ → ℕ → ℕ → Value → Towards → Option Lie
+lie_at version liar zero phase batch to = None
+lie_at version liar (suc h) zero batch to = None
+lie_at version liar (suc h) (suc k) batch to = option_map (λ fits. record {
+  version = version;
+  liar = liar;
+  height = suc h;
+  phase = suc k;
+  batch = batch;
+  to = to;
+  some_height = suc-le-suc zero-le;
+  some_phase = suc-le-suc zero-le;
+  fits = fits;
+}) (at_most (length batch) (batch_limit version))
 
 -- the lie that the fields encode
-unfoldable pub lie_of : List ℕ → List (List ℕ) → Option Lie
-lie_of liars (l ∷ h ∷ k ∷ b ∷ t ∷ []) = do
+unfoldable pub lie_of : Version → List ℕ → List (List ℕ) → Option Lie
+lie_of version liars (l ∷ h ∷ k ∷ b ∷ t ∷ []) = do
   liar ← liar_of liars l
   height ← positive_of h
   phase ← positive_of k
-  batch ← batch_of b
+  batch ← batch_of version b
   to ← towards_of t
-  lie_at liar height phase batch to
-lie_of liars _ = None
+  lie_at version liar height phase batch to
+lie_of version liars _ = None
 
 -- `submit`
 unfoldable pub submit_of : List (List ℕ) → Option Command
@@ -243,33 +254,33 @@ simple_of keyword.Round [] = Some command.Round
 simple_of _ _ = None
 
 -- a lie whose proof has the reports of another phase
-unfoldable pub stale_of : List ℕ → List (List ℕ) → Option Command
-stale_of liars (l ∷ h ∷ k ∷ j ∷ b ∷ t ∷ []) = do
+unfoldable pub stale_of : Version → List ℕ → List (List ℕ) → Option Command
+stale_of version liars (l ∷ h ∷ k ∷ j ∷ b ∷ t ∷ []) = do
   source ← positive_of j
-  lie ← lie_of liars (l ∷ h ∷ k ∷ b ∷ t ∷ [])
+  lie ← lie_of version liars (l ∷ h ∷ k ∷ b ∷ t ∷ [])
   Some (command.LieStale lie source)
-stale_of liars _ = None
+stale_of version liars _ = None
 
 -- a lie
-unfoldable pub lying_of : List ℕ → Keyword → List (List ℕ) → Option Command
-lying_of liars keyword.LieReport fields = option_map command.LieReport (lie_of liars fields)
-lying_of liars keyword.LieLock fields = option_map command.LieLock (lie_of liars fields)
-lying_of liars keyword.LieAck fields = option_map command.LieAck (lie_of liars fields)
-lying_of liars _ fields = None
+unfoldable pub lying_of : Version → List ℕ → Keyword → List (List ℕ) → Option Command
+lying_of version liars keyword.LieReport fields = option_map command.LieReport (lie_of version liars fields)
+lying_of version liars keyword.LieLock fields = option_map command.LieLock (lie_of version liars fields)
+lying_of version liars keyword.LieAck fields = option_map command.LieAck (lie_of version liars fields)
+lying_of version liars _ fields = None
 
--- the command of a line
-unfoldable pub command_of : List ℕ → Keyword → List (List ℕ) → Option Command
-command_of liars keyword.Submit fields = submit_of fields
-command_of liars keyword.Propose fields = propose_of fields
-command_of liars keyword.Pass fields = pass_of fields
-command_of liars keyword.Inject fields = inject_of fields
-command_of liars keyword.Query fields = query_of fields
-command_of liars keyword.Retire fields = retire_of fields
-command_of liars keyword.LieReport fields = lying_of liars keyword.LieReport fields
-command_of liars keyword.LieLock fields = lying_of liars keyword.LieLock fields
-command_of liars keyword.LieStale fields = stale_of liars fields
-command_of liars keyword.LieAck fields = lying_of liars keyword.LieAck fields
-command_of liars k fields = simple_of k fields
+-- the command of a line, in a cluster with frames of this version and these liars
+unfoldable pub command_of : Version → List ℕ → Keyword → List (List ℕ) → Option Command
+command_of version liars keyword.Submit fields = submit_of fields
+command_of version liars keyword.Propose fields = propose_of fields
+command_of version liars keyword.Pass fields = pass_of fields
+command_of version liars keyword.Inject fields = inject_of fields
+command_of version liars keyword.Query fields = query_of fields
+command_of version liars keyword.Retire fields = retire_of fields
+command_of version liars keyword.LieReport fields = lying_of version liars keyword.LieReport fields
+command_of version liars keyword.LieLock fields = lying_of version liars keyword.LieLock fields
+command_of version liars keyword.LieStale fields = stale_of version liars fields
+command_of version liars keyword.LieAck fields = lying_of version liars keyword.LieAck fields
+command_of version liars k fields = simple_of k fields
 
 -- the application of a number
 unfoldable pub kind_of : ℕ → Option AppKind
@@ -288,8 +299,15 @@ config_of fields = do
 
 -- the plan that consists of the cluster
 unfoldable pub begun_of : List (List ℕ) → Option Plan
-begun_of fields = option_map (λ c. record { replicas = c.0; faults = c.1; kind = c.2; keys = None; liars = []; commands = [] })
-    (config_of fields)
+begun_of fields = option_map (λ c. record {
+  replicas = c.0;
+  faults = c.1;
+  kind = c.2;
+  keys = None;
+  frames = version.One;
+  liars = [];
+  commands = [];
+}) (config_of fields)
 
 -- the parameter set of a width and a height of the tree
 unfoldable pub params_from : ℕ × ℕ → Option Params
@@ -298,12 +316,26 @@ params_from n = do
   height ← if n.1 == 5 then Some H5 else if n.1 == 10 then Some H10 else None
   Some (record { width = width; height = height })
 
+-- no line sets version 2
+abbrev pub is_first : Version → Bool
+is_first version.One = true
+is_first version.Two = false
+
+-- no version, no liar and no command was read
+unfoldable pub is_early : Plan → Bool
+is_early p = is_first p.frames && length p.liars == 0 && length p.commands == 0
+
 -- the plan with the parameter set of a line
 unfoldable pub with_keys : Plan → List (List ℕ) → Option Plan
 with_keys p fields = do
   n ← two_numbers fields
   keys ← params_from n
-  if not (is_some p.keys) && length p.liars == 0 && length p.commands == 0 then Some (record p { keys = Some keys }) else None
+  if not (is_some p.keys) && is_early p then Some (record p { keys = Some keys }) else None
+
+-- the plan with version 2 for its frames
+unfoldable pub with_frames : Plan → List (List ℕ) → Option Plan
+with_frames p (word ∷ []) = if bytes_eq word (codes "2") && is_early p then Some (record p { frames = version.Two }) else None
+with_frames p _ = None
 
 -- the replica may be named as another liar
 unfoldable pub is_new_liar : Plan → ℕ → Bool
@@ -319,13 +351,14 @@ with_liar p fields = do
 -- the plan with the command of a line
 unfoldable pub with_command : Plan → Keyword → List (List ℕ) → Option Plan
 with_command p k fields = do
-  c ← command_of p.liars k fields
+  c ← command_of p.frames p.liars k fields
   Some (record p { commands = p.commands ++ c ∷ [] })
 
 -- the plan after one more line
 unfoldable pub going_on : Plan → Keyword → List (List ℕ) → Option Plan
 going_on p keyword.Config fields = None
 going_on p keyword.Keys fields = with_keys p fields
+going_on p keyword.Frames fields = with_frames p fields
 going_on p keyword.Liar fields = with_liar p fields
 going_on p k fields = with_command p k fields
 
@@ -355,3 +388,8 @@ unfoldable pub next_of : Option Plan → List ℕ → Option Plan
 next_of so_far line = do
   text ← ascii_of line
   next_by_words so_far (slice_split (λ b. b == 32) text)
+
+-- the most bytes of the next line after the lines that gave this plan
+abbrev pub limit_after : Option Plan → ℕ
+limit_after None = short_line_len
+limit_after (Some p) = if is_first p.frames then short_line_len else max_line_len

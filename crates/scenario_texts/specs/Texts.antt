@@ -5,6 +5,8 @@ use Rattle.hex.specs.Hex.{encode_lower}
 use Rattle.ledger_model.specs.Values.{Value}
 use Rattle.ledger_model.specs.declared.config.AppKind.{AppKind}
 use Rattle.ledger_model.specs.declared.config.AppKind.TheVariants.{KvStore, Counter, Purse}
+use Rattle.ledger_model.specs.declared.version.Version.{Version}
+use Rattle.ledger_model.specs.declared.version.Version.TheVariants as version
 use Rattle.lm_ots.specs.Parameters.{bits_of, levels_of}
 use Rattle.lm_ots.specs.declared.params.Params.{Params}
 use Rattle.plain_text.specs.Numbers.{number_text}
@@ -90,13 +92,22 @@ abbrev pub keys_lines : Option Params → List (List ℕ)
 keys_lines None = []
 keys_lines (Some keys) = words_text (params_words keys) ∷ []
 
+-- the words that set version 2 for the frames
+abbrev pub frames_words : List (List ℕ)
+frames_words = codes "frames" ∷ codes "2" ∷ []
+
+-- the line of the version of the frames; there is none for version 1
+abbrev pub frames_lines : Version → List (List ℕ)
+frames_lines version.One = []
+frames_lines version.Two = words_text frames_words ∷ []
+
 -- the line of a liar
 abbrev pub liar_text : ℕ → List ℕ
 liar_text replica = words_text (codes "liar" ∷ number_text replica ∷ [])
 
 -- the lines before the commands
 abbrev pub setup_lines : Plan → List (List ℕ)
-setup_lines p = words_text (config_words p.replicas p.faults p.kind) ∷ keys_lines p.keys ++ map liar_text p.liars
+setup_lines p = words_text (config_words p.replicas p.faults p.kind) ∷ keys_lines p.keys ++ frames_lines p.frames ++ map liar_text p.liars
 
 -- the lines of a plan, without comments and empty lines
 unfoldable pub plan_lines : Plan → List (List ℕ)

@@ -7,6 +7,7 @@ use Rattle.scenario_texts.specs.declared.keyword.Keyword.TheVariants as keyword
 abbrev pub keyword_text : Keyword → List ℕ
 keyword_text keyword.Config = codes "config"
 keyword_text keyword.Keys = codes "keys"
+keyword_text keyword.Frames = codes "frames"
 keyword_text keyword.Liar = codes "liar"
 keyword_text keyword.Submit = codes "submit"
 keyword_text keyword.Propose = codes "propose"

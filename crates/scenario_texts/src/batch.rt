@@ -1,10 +1,11 @@
 //! Reads batches: transactions in brackets, separated by commas.
-ghost use Rattle.std.specs.Prelude.{◌≡◌, ◌==◌, ◌<◌, map, option_map, IfOk};
+ghost use Rattle.std.specs.Prelude.{◌≡◌, ◌==◌, ◌<◌, ◌≤◌, map, option_map, IfOk, IfSome, length};
 ghost use Rattle.std.specs.List.{slice_split};
+ghost use Rattle.ledger_model.specs.Versions.{batch_limit};
 ghost use Rattle.scenario_texts.specs.Reading.{bracketed, elements, tx_of, txs_of, batch_of};
 
 use crate::fields::bytes;
-use ledger_model::{Batch, Tx};
+use ledger_model::{Batch, Tx, Version};
 use std::alloc::{AllocError, Global};
 
 /// The words of the text, which this separator separates.
@@ -62,17 +63,25 @@ fn transactions(alloc: Global, words: &[&str]) -> Result<Option<Vec<Tx>>, AllocE
     Ok(Some(transactions))
 }
 
-/// The batch that the word encodes, if it encodes one.
+/// The batch that the word encodes, if it encodes one that frames of this version carry.
 #[tactic(auto, unfolding(crate::specs::Reading::batch_of))]
-pub(crate) fn batch(alloc: Global, word: &str) -> Result<Option<Batch>, AllocError>
-    ensures { IfOk result (λ found. found ≡ batch_of word.now) }
+pub(crate) fn batch(
+    version: Version,
+    alloc: Global,
+    word: &str,
+) -> Result<Option<Batch>, AllocError>
+    ensures read { IfOk result (λ found. found ≡ batch_of version word.now) }
+    ensures fits { IfOk result (λ found. IfSome found (λ batch. length batch ≤ batch_limit version)) }
 {
     let Some(inner) = bracketed(word) else {
         return Ok(None);
     };
     let words = elements(alloc, inner)?;
-    match transactions(alloc, words.as_slice())? {
-        Some(transactions) => Ok(Batch::new(transactions).ok()),
-        None => Ok(None),
+    let Some(transactions) = transactions(alloc, words.as_slice())? else {
+        return Ok(None);
+    };
+    if transactions.len() > version.batch_limit() {
+        return Ok(None);
     }
+    Ok(Batch::new(transactions).ok())
 }

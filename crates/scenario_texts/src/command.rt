@@ -1,8 +1,9 @@
 //! The commands of a scenario.
-ghost use Rattle.std.specs.Prelude.{◌≤◌};
+ghost use Rattle.std.specs.Prelude.{◌≤◌, length};
+ghost use Rattle.ledger_model.specs.Versions.{batch_limit};
 
 use bytes::Bytes;
-use ledger_model::{Batch, Height, Key, Phase, ReplicaId};
+use ledger_model::{Batch, Height, Key, Phase, ReplicaId, Version};
 
 /// Where a lie goes.
 #[derive(Clone, Copy, Debug, PartialEq, Eq)]
@@ -16,15 +17,19 @@ pub enum Towards {
 /// A statement that a liar makes.
 #[derive(Drop)]
 pub struct Lie {
+    /// The version of the statement, which is that of the cluster's frames.
+    pub version: Version,
     pub liar: ReplicaId,
     /// At least 1.
     pub height: Height,
     /// At least 1.
     pub phase: Phase,
+    /// At most 16 or 64 transactions, by the version.
     pub batch: Batch,
     pub to: Towards,
     ghost some_height: { 1 ≤ height },
     ghost some_phase: { 1 ≤ phase },
+    ghost fits: { length batch ≤ batch_limit version },
 }
 
 /// A command of a scenario. A replica's number may be one that no replica has.

@@ -9,7 +9,7 @@ use crate::fields::{
 };
 use crate::keyword::Keyword;
 use bytes::Bytes;
-use ledger_model::{Height, Key, Phase, ReplicaId};
+use ledger_model::{Height, Key, Phase, ReplicaId, Version};
 use std::alloc::{AllocError, Global};
 
 /// The liar that the word names, if it names one.
@@ -26,8 +26,13 @@ fn liar(liars: &[ReplicaId], word: &str) -> Option<ReplicaId>
 
 /// The lie that the fields encode.
 #[tactic(auto, unfolding(crate::specs::Reading::lie_of))]
-fn lie(alloc: Global, liars: &[ReplicaId], fields: &[&str]) -> Result<Option<Lie>, AllocError>
-    ensures { IfOk result (λ found. found ≡ lie_of liars.now (map (λ field. field.now) fields.now)) }
+fn lie(
+    version: Version,
+    alloc: Global,
+    liars: &[ReplicaId],
+    fields: &[&str],
+) -> Result<Option<Lie>, AllocError>
+    ensures { IfOk result (λ found. found ≡ lie_of version liars.now (map (λ field. field.now) fields.now)) }
 {
     let [who, height, phase, what, to] = fields else {
         return Ok(None);
@@ -41,13 +46,14 @@ fn lie(alloc: Global, liars: &[ReplicaId], fields: &[&str]) -> Result<Option<Lie
     let Some(phase) = positive(phase) else {
         return Ok(None);
     };
-    let Some(batch) = batch(alloc, what)? else {
+    let Some(batch) = batch(version, alloc, what)? else {
         return Ok(None);
     };
     let Some(to) = towards(to) else {
         return Ok(None);
     };
     Ok(Some(Lie {
+        version,
         liar,
         height: Height::new(height),
         phase: Phase::new(phase),
@@ -58,8 +64,13 @@ fn lie(alloc: Global, liars: &[ReplicaId], fields: &[&str]) -> Result<Option<Lie
 
 /// `lie-stale L H K J BATCH TO`
 #[tactic(auto, unfolding(crate::specs::Reading::stale_of))]
-fn stale(alloc: Global, liars: &[ReplicaId], fields: &[&str]) -> Result<Option<Command>, AllocError>
-    ensures { IfOk result (λ found. found ≡ stale_of liars.now (map (λ field. field.now) fields.now)) }
+fn stale(
+    version: Version,
+    alloc: Global,
+    liars: &[ReplicaId],
+    fields: &[&str],
+) -> Result<Option<Command>, AllocError>
+    ensures { IfOk result (λ found. found ≡ stale_of version liars.now (map (λ field. field.now) fields.now)) }
 {
     let [who, height, phase, source, what, to] = fields else {
         return Ok(None);
@@ -67,7 +78,7 @@ fn stale(alloc: Global, liars: &[ReplicaId], fields: &[&str]) -> Result<Option<C
     let Some(source) = positive(source) else {
         return Ok(None);
     };
-    let Some(lie) = lie(alloc, liars, &[*who, *height, *phase, *what, *to])? else {
+    let Some(lie) = lie(version, alloc, liars, &[*who, *height, *phase, *what, *to])? else {
         return Ok(None);
     };
     Ok(Some(Command::LieStale {
@@ -189,14 +200,15 @@ fn simple(keyword: Keyword, fields: &[&str]) -> Option<Command>
 /// `lie-report`, `lie-lock` and `lie-ack`, each with `L H K BATCH TO`
 #[tactic(auto, unfolding(crate::specs::Reading::lying_of))]
 fn lying(
+    version: Version,
     alloc: Global,
     liars: &[ReplicaId],
     keyword: Keyword,
     fields: &[&str],
 ) -> Result<Option<Command>, AllocError>
-    ensures { IfOk result (λ found. found ≡ lying_of liars.now keyword (map (λ field. field.now) fields.now)) }
+    ensures { IfOk result (λ found. found ≡ lying_of version liars.now keyword (map (λ field. field.now) fields.now)) }
 {
-    let Some(lie) = lie(alloc, liars, fields)? else {
+    let Some(lie) = lie(version, alloc, liars, fields)? else {
         return Ok(None);
     };
     match keyword {
@@ -207,15 +219,16 @@ fn lying(
     }
 }
 
-/// The command of a line, in a cluster with these liars.
+/// The command of a line, in a cluster with frames of this version and these liars.
 #[tactic(auto, unfolding(crate::specs::Reading::command_of))]
 pub(crate) fn command(
+    version: Version,
     alloc: Global,
     liars: &[ReplicaId],
     keyword: Keyword,
     fields: &[&str],
 ) -> Result<Option<Command>, AllocError>
-    ensures { IfOk result (λ found. found ≡ command_of liars.now keyword (map (λ field. field.now) fields.now)) }
+    ensures { IfOk result (λ found. found ≡ command_of version liars.now keyword (map (λ field. field.now) fields.now)) }
 {
     match keyword {
         Keyword::Submit => submit(alloc, fields),
@@ -225,9 +238,9 @@ pub(crate) fn command(
         Keyword::Retire => Ok(retire(fields)),
         Keyword::Pass => Ok(pass(fields)),
         Keyword::LieReport | Keyword::LieLock | Keyword::LieAck => {
-            lying(alloc, liars, keyword, fields)
+            lying(version, alloc, liars, keyword, fields)
         }
-        Keyword::LieStale => stale(alloc, liars, fields),
+        Keyword::LieStale => stale(version, alloc, liars, fields),
         _ => Ok(simple(keyword, fields)),
     }
 }

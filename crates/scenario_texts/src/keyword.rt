@@ -8,6 +8,7 @@ ghost use Rattle.scenario_texts.specs.Reading.{keyword_of};
 pub(crate) enum Keyword {
     Config,
     Keys,
+    Frames,
     Liar,
     Submit,
     Propose,
@@ -34,6 +35,7 @@ pub(crate) fn keyword_of(word: &str) -> Option<Keyword>
     match word {
         "config" => Some(Keyword::Config),
         "keys" => Some(Keyword::Keys),
+        "frames" => Some(Keyword::Frames),
         "liar" => Some(Keyword::Liar),
         "submit" => Some(Keyword::Submit),
         "propose" => Some(Keyword::Propose),

@@ -3,7 +3,7 @@ ghost use Rattle.std.specs.Prelude.{◌≡◌, ◌==◌, map, option_map, IfOk, 
 ghost use Rattle.std.specs.Char.{is_ascii};
 ghost use Rattle.std.specs.List.{list_all, list_any};
 ghost use Rattle.scenario_texts.specs.Plans.{plan_of};
-ghost use Rattle.scenario_texts.specs.Reading.{ascii_of, begun_of, with_keys, is_new_liar, with_liar, with_command, going_on, beginning, next_by_keyword, next_by_words, next_of};
+ghost use Rattle.scenario_texts.specs.Reading.{ascii_of, begun_of, with_keys, is_new_liar, with_liar, is_early, with_frames, with_command, going_on, beginning, next_by_keyword, next_by_words, next_of};
 
 use crate::batch::words;
 use crate::command_reading::command;
@@ -11,7 +11,7 @@ use crate::fields::{one_number, two_numbers};
 use crate::keyword::{Keyword, keyword_of};
 use crate::scenario::{Scenario, Setup};
 use crate::setup_reading::{config, params};
-use ledger_model::ReplicaId;
+use ledger_model::{ReplicaId, Version};
 use std::alloc::{AllocError, Global};
 
 /// The scenario that consists of the cluster.
@@ -30,17 +30,42 @@ fn begun(alloc: Global, fields: &[&str]) -> Option<Scenario>
     })
 }
 
-/// Sets the parameter set of a line. No parameter set, no liar and no command may have come before it.
+/// Whether no version, no liar and no command was read.
+#[tactic(auto, unfolding(crate::specs::Reading::is_early))]
+fn is_early(scenario: &Scenario) -> bool
+    ensures { result ≡ is_early (plan_of scenario.now) }
+{
+    let setup = &scenario.setup;
+    matches!(setup.config.frames, Version::One)
+        && setup.liars.is_empty()
+        && scenario.commands.is_empty()
+}
+
+/// Sets the parameter set of a line. No parameter set, no version, no liar and no command may have come before it.
 #[tactic(auto, unfolding(crate::specs::Reading::with_keys))]
 fn with_keys(mut scenario: Scenario, fields: &[&str]) -> Option<Scenario>
     ensures { option_map plan_of result ≡ with_keys (plan_of scenario) (map (λ field. field.now) fields.now) }
 {
     let keys = params(two_numbers(fields)?)?;
-    let setup = &scenario.setup;
-    if setup.keys.is_some() || !setup.liars.is_empty() || !scenario.commands.is_empty() {
+    if scenario.setup.keys.is_some() || !is_early(&scenario) {
         return None;
     }
     scenario.setup.keys = Some(keys);
+    Some(scenario)
+}
+
+/// Sets version 2 for the frames, if that is the line's version. No version, no liar and no command may have come before it.
+#[tactic(auto, unfolding(crate::specs::Reading::with_frames))]
+fn with_frames(mut scenario: Scenario, fields: &[&str]) -> Option<Scenario>
+    ensures { option_map plan_of result ≡ with_frames (plan_of scenario) (map (λ field. field.now) fields.now) }
+{
+    let [version] = fields else {
+        return None;
+    };
+    if *version != "2" || !is_early(&scenario) {
+        return None;
+    }
+    scenario.setup.config.frames = Version::Two;
     Some(scenario)
 }
 
@@ -94,7 +119,9 @@ fn with_command(
 ) -> Result<Option<Scenario>, AllocError>
     ensures { IfOk result (λ found. option_map plan_of found ≡ with_command (plan_of scenario) keyword (map (λ field. field.now) fields.now)) }
 {
-    let Some(command) = command(alloc, scenario.setup.liars.as_slice(), keyword, fields)? else {
+    let setup = &scenario.setup;
+    let version = setup.config.frames;
+    let Some(command) = command(version, alloc, setup.liars.as_slice(), keyword, fields)? else {
         return Ok(None);
     };
     scenario.commands.push(command)?;
@@ -114,6 +141,7 @@ fn going_on(
     match keyword {
         Keyword::Config => Ok(None),
         Keyword::Keys => Ok(with_keys(scenario, fields)),
+        Keyword::Frames => Ok(with_frames(scenario, fields)),
         Keyword::Liar => with_liar(scenario, fields),
         _ => with_command(alloc, scenario, keyword, fields),
     }

@@ -1,20 +1,25 @@
 //! Reads a text as a scenario, line by line.
-ghost use Rattle.std.specs.Prelude.{◌≡◌, ◌≢◌, ◌⊎◌, ◌∷◌, ◌++◌, ℕ, IfOk, IfErr, MatchOption, MatchResult, Ok, Err};
+ghost use Rattle.std.specs.Prelude.{◌≡◌, ◌≢◌, ◌⊎◌, ◌∷◌, ◌++◌, ℕ, IfOk, IfErr, MatchOption, MatchResult, Ok, Err, option_map};
 ghost use Rattle.scenario_texts.specs.Lawful.{IsPlan};
 ghost use Rattle.scenario_texts.specs.Lines.{IsBadAt, IsUnbroken, Spells, counts};
 ghost use Rattle.scenario_texts.specs.Plans.{Plan, plan_of};
+ghost use Rattle.scenario_texts.specs.Reading.{limit_after};
 ghost use Rattle.scenario_texts.specs.declared.fault.TextFault.TheVariants as fault;
 
 use crate::fault::TextFault;
 use crate::line_reading::next;
 use crate::scenario::Scenario;
+use ledger_model::Version;
 use std::alloc::Global;
 
 /// The most lines of a text.
 pub(crate) const MAX_LINES: u32 = 10_000;
 
-/// The most bytes of a line, without its line feed.
-pub(crate) const MAX_LINE_LEN: usize = 400_000;
+/// The most bytes of a line after a line `frames 2`, and so of any line, without its line feed.
+pub(crate) const MAX_LINE_LEN: usize = 1_300_000;
+
+/// The most bytes of a line, without its line feed, if no line `frames 2` precedes it.
+const SHORT_LINE_LEN: usize = 400_000;
 
 /// The first line, without its line feed, and the text after it; `None` if there is no line feed.
 fn first_line(text: &[u8]) -> Option<(&[u8], &[u8])>
@@ -31,6 +36,16 @@ fn counts(line: &[u8]) -> bool
     !matches!(line, [] | [b'#', ..])
 }
 
+/// The most bytes of the next line, without its line feed, after the lines that were read.
+fn line_limit(so_far: &Option<Scenario>) -> usize
+    ensures { result ≡ limit_after (option_map plan_of so_far.now) }
+{
+    match so_far {
+        Some(scenario) if matches!(scenario.setup.config.frames, Version::Two) => MAX_LINE_LEN,
+        _ => SHORT_LINE_LEN,
+    }
+}
+
 /// The scenario that the text encodes (`docs/FORMATS.md`). If several lines are bad, the fault has the first.
 pub fn read(alloc: Global, text: &[u8]) -> Result<Scenario, TextFault>
     ensures spelled { IfOk result (λ scenario. Spells text.now (plan_of scenario)) }
@@ -43,7 +58,8 @@ pub fn read(alloc: Global, text: &[u8]) -> Result<Scenario, TextFault>
     let mut left = text;
     let mut number = 1;
     while let Some((line, rest)) = first_line(left) {
-        if number > MAX_LINES || line.len() > MAX_LINE_LEN {
+        let limit = line_limit(&so_far);
+        if number > MAX_LINES || line.len() > limit {
             return Err(TextFault::BadLine(number));
         }
         if counts(line) {

@@ -6,7 +6,7 @@ use lm_ots::{Params, TreeHeight, Width};
 /// A cluster, the parameter set of its keys, and which of its replicas lie.
 #[derive(Drop)]
 pub struct Setup {
-    /// The cluster.
+    /// The cluster, with the version of its frames.
     pub config: Config,
     /// The parameter set of every key, if a line sets it.
     pub keys: Option<Params>,

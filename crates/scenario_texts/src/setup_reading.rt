@@ -1,5 +1,6 @@
 //! Reads the lines before the commands: the cluster, the parameter set of its keys, and its liars.
-ghost use Rattle.std.specs.Prelude.{◌≡◌, map, option_map};
+ghost use Rattle.std.specs.Prelude.{◌≡◌, map, option_map, IfSome};
+ghost use Rattle.ledger_model.specs.declared.version.Version.TheVariants.{One};
 ghost use Rattle.scenario_texts.specs.Reading.{kind_of, config_of, params_from};
 
 use crate::fields::three_numbers;
@@ -22,7 +23,8 @@ fn kind(number: u32) -> Option<AppKind>
 /// `config N T KIND`
 #[tactic(auto, unfolding(crate::specs::Reading::config_of))]
 pub(crate) fn config(fields: &[&str]) -> Option<Config>
-    ensures { option_map (λ c. (c.replicas, c.faults, c.kind)) result ≡ config_of (map (λ field. field.now) fields.now) }
+    ensures read { option_map (λ c. (c.replicas, c.faults, c.kind)) result ≡ config_of (map (λ field. field.now) fields.now) }
+    ensures first { IfSome result (λ config. config.frames ≡ One) }
 {
     let (replicas, faults, number) = three_numbers(fields)?;
     let kind = kind(number)?;

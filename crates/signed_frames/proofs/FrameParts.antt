@@ -6,7 +6,11 @@ use Rattle.ledger_model.specs.declared.statement.SignedStatement.{SignedStatemen
 use Rattle.ledger_model.specs.declared.statement.Statement.{Statement}
 use Rattle.ledger_model.specs.Spelling.{IsStatement, IsSignature, SpellsFrame, statement_bytes, signature_bytes, body_bytes, frame_bytes}
 use Rattle.signed_frames.specs.Parts.{signed_by_last, HoldsFrame}
-use Rattle.ledger_model.specs.Limits.{max_body_len}
+use Rattle.ledger_model.specs.Versions.{body_limit}
+use Rattle.ledger_model.specs.Notes.{version_of}
+use Rattle.ledger_model.specs.declared.version.Version.{Version}
+use Rattle.ledger_model.specs.declared.version.Version.TheVariants.{Two}
+use Rattle.ledger_model.proofs.FrameReading.{any_frame}
 
 -- a frame with its signature apart
 pub frame_parts : (s : SignedStatement)
@@ -39,12 +43,18 @@ last_is bytes s e =
     let signed : List ℕ → SignedStatement = λ x. record { statement = s.statement; signature = x } in
     ap signed last
 
--- so they hold the frame
-pub holds : (bytes : List ℕ) (s : SignedStatement) → SpellsFrame bytes s → HoldsFrame bytes s.statement (length s.signature)
-holds bytes s spells =
+-- so the bytes spell the frame with that signature
+pub spelled_by_last : (version : Version) (bytes : List ℕ) (s : SignedStatement) → SpellsFrame version bytes s
+    → SpellsFrame version bytes (signed_by_last bytes s.statement (length s.signature))
+spelled_by_last version bytes s spells = subst (SpellsFrame version bytes) (sym (last_is bytes s spells.1)) spells
+
+-- and hold it
+pub holds : (version : Version) (bytes : List ℕ) (s : SignedStatement) → SpellsFrame version bytes s
+    → HoldsFrame bytes s.statement (length s.signature)
+holds version bytes s spells =
     let is = last_is bytes s spells.1 in
     record {
-      spelled = subst (SpellsFrame bytes) (sym is) spells;
+      spelled = spelled_by_last Two bytes s (any_frame version s spells.0, spells.1);
       signed = ap (λ (x : SignedStatement). length x.signature) is;
     }
 
@@ -70,10 +80,10 @@ statement_part bytes statement len h =
 
 -- what is written field by field is spelled
 pub written : (statement : Statement) (signature message bytes : List ℕ) (len : ℕ) → IsStatement statement → IsSignature signature
-    → length (body_bytes (record { statement = statement; signature = signature })) ≤ max_body_len → message ≡ statement_bytes statement
+    → length (body_bytes (record { statement = statement; signature = signature })) ≤ body_limit (version_of statement) → message ≡ statement_bytes statement
     → len ≡ length message + 2 + length signature
     → bytes ≡ ((to_be_bytes w32 len ++ message) ++ to_be_bytes w16 (length signature)) ++ signature
-    → SpellsFrame bytes (record { statement = statement; signature = signature })
+    → SpellsFrame Two bytes (record { statement = statement; signature = signature })
 written statement signature message bytes len is signed short says counts e =
     let s : SignedStatement = record { statement = statement; signature = signature } in
     let total : len ≡ length (body_bytes s) = omega (arith, counts, body_length s, ap length says) in
@@ -81,4 +91,4 @@ written statement signature message bytes len is signed short says counts e =
     ++ signature = subst (λ (n : ℕ). bytes ≡ ((to_be_bytes w32 n ++ statement_bytes statement) ++ to_be_bytes w16 (length signature))
     ++ signature) total (subst (λ (m : List ℕ). bytes ≡ ((to_be_bytes w32 len ++ m) ++ to_be_bytes w16 (length signature))
     ++ signature) says e) in
-    (record { statement = is; signature = signed; short = short }, text ∙ sym (frame_parts s))
+    (record { read = refl; statement = is; signature = signed; short = short }, text ∙ sym (frame_parts s))

@@ -2,7 +2,8 @@
 use Rattle.std.proofs.Common.{ℕ, List, Some, Result, Ok, Err, ap, subst, ◌∙◌}
 use Rattle.ledger_model.specs.declared.statement.SignedStatement.{SignedStatement}
 use Rattle.ledger_model.specs.Spelling.{SpellsFrame}
-use Rattle.ledger_model.specs.Reading.{reading}
+use Rattle.ledger_model.specs.Reading.{reading_in}
+use Rattle.ledger_model.specs.declared.version.Version.{Version}
 use Rattle.std.specs.Prelude.{IfOk}
 use Rattle.std.specs.Borrow.{Bor}
 use Rattle.ledger_model.specs.declared.statement.Statement.{Statement}
@@ -13,13 +14,13 @@ use Rattle.statements.specs.declared.fault.DecodeFault.{DecodeFault}
 use Rattle.statements.specs.Reads.{Gives}
 
 -- what is spelled is parsed
-pub is_read : (bytes : List ℕ) (result : Result SignedStatement DecodeFault) → Gives result (reading bytes) → (s : SignedStatement)
-    → SpellsFrame bytes s → Gives result (Some s)
-is_read bytes result e s spells = subst (λ read. Gives result read) (ap reading spells.1 ∙ reading-again s spells.0) e
+pub is_read : (version : Version) (bytes : List ℕ) (result : Result SignedStatement DecodeFault) → Gives result (reading_in version bytes) → (s : SignedStatement)
+    → SpellsFrame version bytes s → Gives result (Some s)
+is_read version bytes result e s spells = subst (λ read. Gives result read) (ap (reading_in version) spells.1 ∙ reading-again version s spells.0) e
 
 -- the parts that were read are spelled
-pub parts_spelled : (bytes : List ℕ) (result : Result (Statement × Bor (List ℕ)) DecodeFault) → IsBytes bytes
-    → GivesParts result (reading bytes)
-    → IfOk result (λ x. SpellsFrame bytes (record { statement = x.0; signature = x.1.now }))
-parts_spelled bytes (Ok x) fits e = reading-spells bytes (record { statement = x.0; signature = x.1.now }) fits e
-parts_spelled bytes (Err fault) fits e = tt
+pub parts_spelled : (version : Version) (bytes : List ℕ) (result : Result (Statement × Bor (List ℕ)) DecodeFault) → IsBytes bytes
+    → GivesParts result (reading_in version bytes)
+    → IfOk result (λ x. SpellsFrame version bytes (record { statement = x.0; signature = x.1.now }))
+parts_spelled version bytes (Ok x) fits e = reading-spells version bytes (record { statement = x.0; signature = x.1.now }) fits e
+parts_spelled version bytes (Err fault) fits e = tt

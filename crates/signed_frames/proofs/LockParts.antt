@@ -8,6 +8,7 @@ use Rattle.ledger_model.specs.declared.statement.Lock.{Lock}
 use Rattle.ledger_model.specs.declared.statement.SignedReport.{SignedReport}
 use Rattle.ledger_model.specs.declared.statement.Statement.TheVariants as statement
 use Rattle.ledger_model.specs.Values.{value_bytes}
+use Rattle.ledger_model.specs.Versions.{first_byte}
 use Rattle.ledger_model.specs.Spelling.{signed_bytes, signature_bytes, lock_bytes, statement_bytes, frame_bytes, body_bytes}
 use Rattle.signed_frames.specs.Lending.{SignedPartView}
 use Rattle.signed_frames.specs.Parts.{signed_by_last, HoldsFrame}
@@ -54,8 +55,11 @@ same_part r m n s t e f = ap (λ (x : List ℕ). part_of r x s) e ∙ ap (λ (x 
 
 -- the reports are the last bytes of a lock
 reports_last : (l : Lock) → (front : List ℕ) × (lock_bytes l ≡ front ++ flat_map signed_bytes l.proof)
-reports_last l =
-    (2 ∷ to_be_bytes w32 l.height ++ to_be_bytes w32 l.phase ++ (l.signer ∷ []) ++ value_bytes l.value ++ (length l.proof ∷ []), refl)
+reports_last l = (
+  first_byte l.version 2 ∷ to_be_bytes w32 l.height ++ to_be_bytes w32 l.phase ++ (l.signer ∷ []) ++ value_bytes l.value
+      ++ (length l.proof ∷ []),
+  refl,
+)
 
 -- so they begin there in the lock's frame, and fit
 module _ (bytes : List ℕ) (l : Lock) (len : ℕ) (h : HoldsFrame bytes (statement.Lock l) len) where

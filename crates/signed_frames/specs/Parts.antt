@@ -3,6 +3,7 @@ use Rattle.std.specs.Prelude.{◌≡◌, ℕ, ◌-◌, ◌≤◌, List, length, 
 use Rattle.std.specs.Borrow.{Bor}
 use Rattle.ledger_model.specs.declared.statement.SignedStatement.{SignedStatement}
 use Rattle.ledger_model.specs.declared.statement.Statement.{Statement}
+use Rattle.ledger_model.specs.declared.version.Version.TheVariants.{Two}
 use Rattle.ledger_model.specs.Spelling.{statement_bytes, IsStatement, SpellsFrame}
 use Rattle.statements.specs.declared.fault.DecodeFault.{DecodeFault}
 use Rattle.statements.specs.Reads.{Faults}
@@ -24,5 +25,5 @@ pub record HoldsStatement (bytes : List ℕ) (statement : Statement) : Type 0 wh
 
 -- the bytes are a frame of the statement, and the signature is the last `len` bytes
 pub record HoldsFrame (bytes : List ℕ) (statement : Statement) (len : ℕ) : Type 0 where
-  pub spelled : SpellsFrame bytes (signed_by_last bytes statement len)
+  pub spelled : SpellsFrame Two bytes (signed_by_last bytes statement len)
   pub signed : length (signed_by_last bytes statement len).signature ≡ len

@@ -1,7 +1,8 @@
 -- A reader of frames: what it has between pieces, and its answer to each.
 use Rattle.std.specs.Prelude.{◌≡◌, ◌⊎◌, ℕ, ◌≤◌, List, [], ◌++◌, length, drop}
 use Rattle.ledger_model.specs.declared.statement.SignedStatement.{SignedStatement}
-use Rattle.ledger_model.specs.Spelling.{IsFrame, Frames, frame_bytes}
+use Rattle.ledger_model.specs.Spelling.{IsFrameIn, Frames, frame_bytes}
+use Rattle.ledger_model.specs.declared.version.Version.{Version}
 use Rattle.ledger_model.specs.Streams.{IsPartial, BeginsTooLong, BeginsMalformed, SplitsTo, BreaksOff}
 use Rattle.signed_frames.specs.declared.fault.FrameFault.{FrameFault}
 use Rattle.signed_frames.specs.declared.fault.FrameFault.TheVariants as fault
@@ -13,46 +14,51 @@ use Rattle.signed_frames.specs.declared.splitting.Split.{Split}
 use Rattle.signed_frames.specs.declared.reader.Stage.{Stage}
 use Rattle.signed_frames.specs.declared.reader.Stage.TheVariants as stage
 
--- a reader between two pieces: it has less than a whole frame, or found a fault that it returns next, or has returned a fault
-pub data FrameReaderView : Type 0 where
-  Reading : (kept : List ℕ) → FrameReaderView
-  Found : (found : FrameFault) → FrameReaderView
-  Failed : FrameReaderView
+-- what a reader has between two pieces: it has less than a whole frame, or found a fault that it returns next, or has returned a fault
+pub data ReaderState : Type 0 where
+  Reading : (kept : List ℕ) → ReaderState
+  Found : (found : FrameFault) → ReaderState
+  Failed : ReaderState
 
--- the reader in this stage, with these bytes
-abbrev pub reader_at : Stage → List ℕ → FrameReaderView
+-- a reader: the version of the frames that it takes, and its state
+pub record FrameReaderView : Type 0 where
+  pub version : Version
+  pub state : ReaderState
+
+-- a reader's state in this stage, with these bytes
+abbrev pub reader_at : Stage → List ℕ → ReaderState
 reader_at stage.Reading kept = Reading kept
 reader_at (stage.Found found) kept = Found found
 reader_at stage.Failed kept = Failed
 
 -- The bytes are these frames, followed by less than a whole frame, which the reader has; or after at least one frame by a
 -- fault, which it has found.
-abbrev pub Leaves : List ℕ → List SignedStatement → FrameReaderView → Type 0
-Leaves bytes frames (Reading rest) = SplitsTo bytes frames rest
-Leaves bytes frames (Found fault.TooLong) = (1 ≤ length frames) × BreaksOff BeginsTooLong bytes frames
-Leaves bytes frames (Found fault.Malformed) = (1 ≤ length frames) × BreaksOff BeginsMalformed bytes frames
-Leaves bytes frames (Found fault.Failed) = ⊥
-Leaves bytes frames (Found fault.NoMemory) = ⊥
-Leaves bytes frames Failed = ⊥
+abbrev pub Leaves : Version → List ℕ → List SignedStatement → ReaderState → Type 0
+Leaves version bytes frames (Reading rest) = SplitsTo version bytes frames rest
+Leaves version bytes frames (Found fault.TooLong) = (1 ≤ length frames) × BreaksOff BeginsTooLong version bytes frames
+Leaves version bytes frames (Found fault.Malformed) = (1 ≤ length frames) × BreaksOff BeginsMalformed version bytes frames
+Leaves version bytes frames (Found fault.Failed) = ⊥
+Leaves version bytes frames (Found fault.NoMemory) = ⊥
+Leaves version bytes frames Failed = ⊥
 
 -- a reader that has found no fault returns the frames in its bytes and the piece
-abbrev pub HandsOut : FrameReaderView → List ℕ → List SignedStatement → FrameReaderView → Type 0
-HandsOut (Reading kept) piece frames new = Leaves (kept ++ piece) frames new
-HandsOut (Found found) piece frames new = ⊥
-HandsOut Failed piece frames new = ⊥
+abbrev pub HandsOut : Version → ReaderState → List ℕ → List SignedStatement → ReaderState → Type 0
+HandsOut version (Reading kept) piece frames new = Leaves version (kept ++ piece) frames new
+HandsOut version (Found found) piece frames new = ⊥
+HandsOut version Failed piece frames new = ⊥
 
 -- the fault that the bytes start with, after which the reader has failed; or memory ran out, which changes nothing
-abbrev pub Faults : List ℕ → List ℕ → FrameFault → FrameReaderView → Type 0
-Faults kept piece fault.TooLong new = BreaksOff BeginsTooLong (kept ++ piece) [] × (new ≡ Failed)
-Faults kept piece fault.Malformed new = BreaksOff BeginsMalformed (kept ++ piece) [] × (new ≡ Failed)
-Faults kept piece fault.Failed new = ⊥
-Faults kept piece fault.NoMemory new = new ≡ Reading kept
+abbrev pub Faults : Version → List ℕ → List ℕ → FrameFault → ReaderState → Type 0
+Faults version kept piece fault.TooLong new = BreaksOff BeginsTooLong version (kept ++ piece) [] × (new ≡ Failed)
+Faults version kept piece fault.Malformed new = BreaksOff BeginsMalformed version (kept ++ piece) [] × (new ≡ Failed)
+Faults version kept piece fault.Failed new = ⊥
+Faults version kept piece fault.NoMemory new = new ≡ Reading kept
 
 -- a fault that was found is returned once, and Failed from then on
-abbrev pub Tells : FrameReaderView → List ℕ → FrameFault → FrameReaderView → Type 0
-Tells (Reading kept) piece told new = Faults kept piece told new
-Tells (Found found) piece told new = (told ≡ found) × (new ≡ Failed)
-Tells Failed piece told new = (told ≡ fault.Failed) × (new ≡ Failed)
+abbrev pub Tells : Version → ReaderState → List ℕ → FrameFault → ReaderState → Type 0
+Tells version (Reading kept) piece told new = Faults version kept piece told new
+Tells version (Found found) piece told new = (told ≡ found) × (new ≡ Failed)
+Tells version Failed piece told new = (told ≡ fault.Failed) × (new ≡ Failed)
 
 -- the fault that was found, if no frame comes before it; or memory ran out
 abbrev pub FaultAt : List SignedStatement → FrameFault → FrameFault → Type 0
@@ -61,20 +67,20 @@ FaultAt frames found told = ((told ≡ found) × (frames ≡ [])) ⊎ (told ≡ 
 -- ---- how the frames are split off
 
 -- what follows the frames
-abbrev pub Ends : End → List ℕ → Type 0
-Ends ending.Partial rest = IsPartial rest
-Ends ending.TooLong rest = BeginsTooLong rest
-Ends ending.Malformed rest = BeginsMalformed rest
+abbrev pub Ends : Version → End → List ℕ → Type 0
+Ends version ending.Partial rest = IsPartial version rest
+Ends version ending.TooLong rest = BeginsTooLong version rest
+Ends version ending.Malformed rest = BeginsMalformed version rest
 
 -- what the bytes start with
-abbrev pub Begins : List ℕ → Front → Type 0
-Begins bytes (front.Whole frame) = IsFrame frame × (bytes ≡ frame_bytes frame ++ drop (length (frame_bytes frame)) bytes)
-Begins bytes (front.Ends end) = Ends end bytes
+abbrev pub Begins : Version → List ℕ → Front → Type 0
+Begins version bytes (front.Whole frame) = IsFrameIn version frame × (bytes ≡ frame_bytes frame ++ drop (length (frame_bytes frame)) bytes)
+Begins version bytes (front.Ends end) = Ends version end bytes
 
 -- the bytes are these frames, followed by the rest, which starts as the end says
-abbrev pub ReadsOn : List ℕ → List SignedStatement → End → List ℕ → Type 0
-ReadsOn bytes frames end rest = Frames bytes frames rest × Ends end rest
+abbrev pub ReadsOn : Version → List ℕ → List SignedStatement → End → List ℕ → Type 0
+ReadsOn version bytes frames end rest = Frames version bytes frames rest × Ends version end rest
 
 -- the bytes that the split used are its frames, and the bytes after them start as its end says
-abbrev pub Splits : List ℕ → Split → Type 0
-Splits bytes split = (split.used ≤ length bytes) × ReadsOn bytes split.frames.items split.end (drop split.used bytes)
+abbrev pub Splits : Version → List ℕ → Split → Type 0
+Splits version bytes split = (split.used ≤ length bytes) × ReadsOn version bytes split.frames.items split.end (drop split.used bytes)

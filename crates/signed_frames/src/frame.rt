@@ -4,7 +4,7 @@ use crate::lending::{LentReports, reports_in};
 use crate::parsing::{LENGTH_LEN, message_in, parts_of};
 use crate::signed_part::SignedPart;
 use bytes::Bytes;
-use ledger_model::Statement;
+use ledger_model::{Statement, Version};
 use statements::DecodeFault;
 use std::alloc::{AllocError, Global};
 use std::marker::Model;
@@ -44,21 +44,32 @@ impl Frame {
     ghost use Rattle.std.specs.Prelude.{◌≡◌, IfOk, map};
     ghost use Rattle.ledger_model.specs.declared.statement.SignedStatement.{SignedStatement};
     ghost use Rattle.ledger_model.specs.Spelling.{statement_bytes, frame_bytes, IsFrame, SpellsFrame};
-    ghost use Rattle.ledger_model.specs.Reading.{reading};
+    ghost use Rattle.ledger_model.specs.Reading.{reading_in};
+    ghost use Rattle.ledger_model.specs.declared.version.Version.TheVariants.{One, Two};
     ghost use Rattle.statements.specs.Reads.{Gives};
     ghost use Rattle.signed_frames.specs.Lending.{lent_of, own_part, proof_of};
     ghost use Rattle.signed_frames.specs.Parts.{signed_by_last, HoldsFrame};
 
-    /// The frame that all of the bytes are. `Malformed` comes if they are no frame, `NoMemory` if memory ran out.
+    /// The frame of version 1 that all of the bytes are: [`Frame::parse_in`] with version 1.
     pub fn parse(alloc: Global, bytes: Bytes) -> Result<Self, DecodeFault>
-        // The bytes encode the frame that is returned.
-        ensures found { IfOk result (λ frame. SpellsFrame bytes frame) }
-        // If the bytes encode a frame, it is returned, unless memory runs out.
-        ensures only { (frame : SignedStatement) → SpellsFrame bytes frame → Gives result (Some frame) }
-        // The result is the reading of the definitions, and Malformed comes exactly if there is none.
-        ensures exact { Gives result (reading bytes) }
+        ensures found { IfOk result (λ frame. SpellsFrame One bytes frame) }
+        ensures only { (frame : SignedStatement) → SpellsFrame One bytes frame → Gives result (Some frame) }
+        ensures exact { Gives result (reading_in One bytes) }
     {
-        let (statement, signature) = parts_of(alloc, bytes.as_slice())?;
+        Frame::parse_in(Version::One, alloc, bytes)
+    }
+
+    /// The frame of this version that all of the bytes are. Frames of version 2 carry statements of both versions.
+    /// `Malformed` comes if the bytes are no such frame, `NoMemory` if memory ran out.
+    pub fn parse_in(version: Version, alloc: Global, bytes: Bytes) -> Result<Self, DecodeFault>
+        // The bytes encode the frame that is returned.
+        ensures found { IfOk result (λ frame. SpellsFrame version bytes frame) }
+        // If the bytes encode a frame, it is returned, unless memory runs out.
+        ensures only { (frame : SignedStatement) → SpellsFrame version bytes frame → Gives result (Some frame) }
+        // The result is the reading of the definitions, and Malformed comes exactly if there is none.
+        ensures exact { Gives result (reading_in version bytes) }
+    {
+        let (statement, signature) = parts_of(version, alloc, bytes.as_slice())?;
         let signature_len = signature.len();
         Ok(Frame {
             bytes,
@@ -141,7 +152,7 @@ impl Frame {
 
     /// The bytes of the whole frame.
     pub fn into_bytes(self) -> Bytes
-        ensures { SpellsFrame result self }
+        ensures { SpellsFrame Two result self }
     {
         let Frame {
             bytes,

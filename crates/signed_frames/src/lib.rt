@@ -18,8 +18,5 @@ pub use reader::FrameReader;
 pub use signed_part::SignedPart;
 pub use unsigned::UnsignedFrame;
 
-/// The most bytes of a frame's body.
-pub const MAX_BODY_LEN: usize = 150_000;
-
 /// The number of bytes of a body's length, which precedes the body.
 const HEADER_LEN: usize = 4;

@@ -3,12 +3,13 @@
 ghost use Rattle.std.specs.Prelude.{◌≡◌, ◌+◌, ◌-◌, ◌≤◌, length, take, drop, IfOk, MatchResult};
 ghost use Rattle.ledger_model.specs.declared.statement.SignedStatement.{SignedStatement};
 ghost use Rattle.ledger_model.specs.Spelling.{SpellsFrame};
-ghost use Rattle.ledger_model.specs.Reading.{reading, body_reading};
+ghost use Rattle.ledger_model.specs.Reading.{reading_in, body_reading};
+ghost use Rattle.ledger_model.specs.declared.version.Version.{Version};
 ghost use Rattle.statements.specs.Reads.{Faults};
 ghost use Rattle.signed_frames.specs.Parts.{GivesParts};
 
-use crate::{HEADER_LEN, MAX_BODY_LEN};
-use ledger_model::Statement;
+use crate::HEADER_LEN;
+use ledger_model::{Statement, Version};
 use octets::Cursor;
 use statements::{DecodeFault, take_signature_bytes, take_statement};
 use std::alloc::Global;
@@ -27,37 +28,47 @@ pub fn message_in(frame: &[u8], signature_len: usize) -> &[u8]
 }
 
 /// The body of the frame that the bytes are: the bytes after its length, if they are exactly that many.
-#[tactic(auto, unfolding(ledger_model::specs::Reading::reading))]
+#[tactic(auto, unfolding(ledger_model::specs::Reading::reading_in))]
 fn body_at(bytes: &[u8]) -> Result<&[u8], DecodeFault>
-    ensures { MatchResult result (λ body. reading bytes.now ≡ body_reading body.now)
-        (λ fault. Faults fault (reading bytes.now)) }
+    ensures { MatchResult result (λ body. (version : Version) → reading_in version bytes.now ≡ body_reading version body.now)
+        (λ fault. (version : Version) → Faults fault (reading_in version bytes.now)) }
 {
     let mut cursor = Cursor::new(bytes);
     let len = cursor.take_u32()? as usize;
-    if cursor.len() != len || len > MAX_BODY_LEN {
+    if cursor.len() != len {
         return Err(DecodeFault::Malformed);
     }
     Ok(cursor.rest())
 }
 
 #[tactic(auto, unfolding(ledger_model::specs::Reading::body_reading))]
-fn parts_at(alloc: Global, bytes: &[u8]) -> Result<(Statement, &[u8]), DecodeFault>
-    ensures { GivesParts result (reading bytes.now) }
+fn parts_at(
+    version: Version,
+    alloc: Global,
+    bytes: &[u8],
+) -> Result<(Statement, &[u8]), DecodeFault>
+    ensures { GivesParts result (reading_in version bytes.now) }
 {
-    let mut cursor = Cursor::new(body_at(bytes)?);
+    let body = body_at(bytes)?;
+    let mut cursor = Cursor::new(body);
     let statement = take_statement(alloc, &mut cursor)?;
     let signature = take_signature_bytes(&mut cursor)?;
-    if !cursor.is_empty() {
+    let own = statement.version();
+    if !cursor.is_empty() || !version.reads(own) || body.len() > own.body_limit() {
         return Err(DecodeFault::Malformed);
     }
     Ok((statement, signature))
 }
 
-/// The statement and the signature of the frame that all of the bytes are.
-pub fn parts_of(alloc: Global, bytes: &[u8]) -> Result<(Statement, &[u8]), DecodeFault>
-    ensures exact { GivesParts result (reading bytes.now) }
+/// The statement and the signature of the frame of this version that all of the bytes are.
+pub fn parts_of(
+    version: Version,
+    alloc: Global,
+    bytes: &[u8],
+) -> Result<(Statement, &[u8]), DecodeFault>
+    ensures exact { GivesParts result (reading_in version bytes.now) }
     ensures spelled { IfOk result
-        (λ x. SpellsFrame bytes.now (record { statement = x.0; signature = x.1.now })) }
+        (λ x. SpellsFrame version bytes.now (record { statement = x.0; signature = x.1.now })) }
 {
-    parts_at(alloc, bytes)
+    parts_at(version, alloc, bytes)
 }

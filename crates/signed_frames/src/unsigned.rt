@@ -4,6 +4,7 @@ ghost use Rattle.std.specs.Int.{w32, to_be_bytes};
 ghost use Rattle.ledger_model.specs.declared.statement.Statement.{Statement};
 ghost use Rattle.ledger_model.specs.Limits.{max_signature_len};
 ghost use Rattle.ledger_model.specs.Spelling.{IsStatement, SpellsFrame};
+ghost use Rattle.ledger_model.specs.declared.version.Version.TheVariants.{Two};
 ghost use Rattle.signed_frames.specs.Parts.{HoldsStatement};
 
 use crate::parsing::LENGTH_LEN;
@@ -90,7 +91,7 @@ fn signed(mut bytes: Vec<u8>, signature: &[u8]) -> Result<Bytes, AllocError>
     requires short { length signature.now ≤ max_signature_len }
     requires stands { (statement : Statement) × HoldsStatement bytes.items statement }
     ensures { IfOk result (λ frame. (statement : Statement) → HoldsStatement bytes.items statement
-        → SpellsFrame frame (record { statement = statement; signature = signature.now })) }
+        → SpellsFrame Two frame (record { statement = statement; signature = signature.now })) }
 {
     let body_len = bytes.len() - HEADER_LEN + LENGTH_LEN + signature.len();
     put_length(&mut bytes, body_len as u32);

@@ -17,6 +17,7 @@ use Rattle.ledger_model.specs.declared.statement.Statement.TheVariants as statem
 use Rattle.ledger_model.specs.Reading.{reading}
 use Rattle.ledger_model.specs.declared.statement.SignedReport.{SignedReport}
 use Rattle.ledger_model.specs.Locks.{finds}
+use Rattle.ledger_model.specs.Versions.{reads}
 use Rattle.ledger_model.specs.Worlds.{entries_in, frames_sent}
 use Rattle.adversary_net.specs.WorldViews.{WorldView, world_of}
 use Rattle.scenario_texts.specs.declared.command.Lie.{Lie}
@@ -137,7 +138,7 @@ same_serving l k r (f ∷ fs) = by (report_in f) refl (same_serving l k r fs)
         ≡ cond (serves l k r s) (s ∷ all) all
     kept s true at_it is rest = rw is (ap (λ ys. cond (serves l k r s) (s ∷ ys) ys) rest)
     kept s false other is rest =
-        let no : serves l k r s ≡ false = ap (λ b. b && finds s.report l.batch) other in
+        let no : serves l k r s ≡ false = ap (λ b. b && reads l.version s.report.version && finds s.report l.batch) other in
         subst (λ b. looked ≡ cond b (s ∷ all) all) (sym no) rest
 
     by : (o : Option SignedReport) → report_in f ≡ o → looked ≡ all

@@ -26,7 +26,8 @@ first_passes p (y ∷ ys) x is = by (p y) refl is (first_passes p ys x)
 pub serving_signer : (p : SimulationView) (l : Lie) (k r : ℕ) (s : SignedReport) → serving p l k r ≡ Some s → s.report.signer ≡ r
 unfolding first_serving
 serving_signer p l k r s is = eqb-true _ _
-    (and_parts _ _ (and_parts _ _ (and_parts _ _ (first_passes (serves l k r) (filter_map report_in (frames_of p r)) s is)).0).0).0
+    (and_parts _ _ (and_parts _ _ (and_parts _ _ (and_parts _ _
+    (first_passes (serves l k r) (filter_map report_in (frames_of p r)) s is)).0).0).0).0
 
 -- what is found at ascending numbers, and has them as its keys, ascends
 pub found-within : {X : Type 0} (key : X → ℕ) (f : ℕ → Option X) → ((r : ℕ) (x : X) → f r ≡ Some x → key x ≡ r) → (low n high : ℕ)

@@ -12,6 +12,7 @@ use Rattle.ledger_model.specs.declared.statement.SignedReport.{SignedReport}
 use Rattle.ledger_model.specs.declared.statement.SignedStatement.{SignedStatement}
 use Rattle.ledger_model.specs.declared.history.Entry.{Entry}
 use Rattle.ledger_model.specs.Locks.{finds}
+use Rattle.ledger_model.specs.Versions.{reads}
 use Rattle.ledger_model.specs.Reading.{reading}
 use Rattle.ledger_model.specs.Worlds.{frames_in}
 use Rattle.scenario_texts.specs.declared.command.Lie.{Lie}
@@ -19,6 +20,7 @@ use Rattle.scenario_texts.specs.declared.command.Lie.{Lie}
 -- the report of a liar: the batch is its initial value and its only proper value, and it lists no lock
 abbrev pub lying_report : Lie → Report
 lying_report l = record {
+  version = l.version;
   height = l.height;
   phase = l.phase;
   signer = l.liar;
@@ -28,9 +30,11 @@ lying_report l = record {
   locked = [];
 }
 
--- the report is replica r's, at the lie's height and in phase k, and finds its batch: it serves in a proof from phase k
+-- the report is replica r's, at the lie's height and in phase k, of a version that a lock of the lie's version carries, and finds its
+-- batch: it serves in a proof from phase k
 abbrev pub serves_report : Lie → ℕ → ℕ → Report → Bool
-serves_report l k r report = (report.signer == r) && (report.height == l.height) && (report.phase == k) && finds report l.batch
+serves_report l k r report =
+    (report.signer == r) && (report.height == l.height) && (report.phase == k) && reads l.version report.version && finds report l.batch
 
 -- the signed report is replica r's, and serves in a proof from phase k
 abbrev pub serves : Lie → ℕ → ℕ → SignedReport → Bool
@@ -64,8 +68,15 @@ first_serving l k r frames = slice_get (filter (serves l k r) (filter_map report
 
 -- the lock of a liar
 abbrev pub lying_lock : Lie → List SignedReport → Lock
-lying_lock l proof = record { height = l.height; phase = l.phase; signer = l.liar; value = l.batch; proof = proof }
+lying_lock l proof = record {
+  version = l.version;
+  height = l.height;
+  phase = l.phase;
+  signer = l.liar;
+  value = l.batch;
+  proof = proof;
+}
 
 -- the acknowledgement of a liar
 abbrev pub lying_ack : Lie → Ack
-lying_ack l = record { height = l.height; phase = l.phase; signer = l.liar; value = l.batch }
+lying_ack l = record { version = l.version; height = l.height; phase = l.phase; signer = l.liar; value = l.batch }

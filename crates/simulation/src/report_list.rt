@@ -8,7 +8,7 @@ ghost use Rattle.simulation.specs.Indexes.{report_frames};
 use crate::serving_reports::serving_bytes;
 use abci::Application;
 use bytes::Bytes;
-use ledger_model::{Height, Phase, ReplicaId, SignedReport, Statement};
+use ledger_model::{Height, Phase, ReplicaId, SignedReport, Statement, Version};
 use locked_replica::{ReplyView, RoundEndView, State};
 use scenario_texts::Lie;
 use signed_frames::Frame;
@@ -58,7 +58,7 @@ impl ReportFrame {
 fn add_frame(alloc: Global, reports: &mut Vec<ReportFrame>, bytes: &Bytes) -> Result<(), AllocError>
     ensures { OnOk result (reports.new.items ≡ reports.old.items ++ report_frames (bytes.now ∷ [])) }
 {
-    match Frame::parse(alloc, bytes.clone()?) {
+    match Frame::parse_in(Version::Two, alloc, bytes.clone()?) {
         Ok(frame) => match frame.statement() {
             Statement::Report(report) => {
                 reports.push(ReportFrame {
@@ -225,7 +225,7 @@ impl ReportList {
         replica: ReplicaId,
     ) -> Result<Option<SignedReport>, AllocError>
         ensures found { IfOk result (λ found. found ≡ first_serving lie.now source replica (frames_at lie.now source replica self.now.reports.items)) }
-        ensures spelled { IfOk result (λ found. IfSome found (λ signed. IsSigned signed)) }
+        ensures spelled { IfOk result (λ found. IfSome found (λ signed. IsSigned lie.now.version signed)) }
     {
         for report in &self.reports {
             if report.is_at(lie, source, replica) {

@@ -5,6 +5,7 @@ use Rattle.std.proofs.lemmas.List.{append-nil}
 use Rattle.ledger_model.specs.Reading.{◌>>=◌, tx_at, txs_at, value_at, values_at, signed_at, proof_at}
 use Rattle.statements.specs.declared.fault.DecodeFault.{DecodeFault}
 use Rattle.statements.specs.declared.fault.DecodeFault.TheVariants.{Malformed, NoMemory}
+use Rattle.ledger_model.specs.declared.version.Version.{Version}
 use Rattle.statements.specs.Reads.{Faults}
 
 -- many reads a given number of what one reads
@@ -56,10 +57,10 @@ pub txs_reads : ReadsMany tx_at txs_at
 unfolding txs_at
 txs_reads = record { none = λ bytes. refl; more = λ n bytes. refl }
 
-pub values_reads : ReadsMany value_at values_at
+pub values_reads : (version : Version) → ReadsMany (value_at version) (values_at version)
 unfolding values_at
-values_reads = record { none = λ bytes. refl; more = λ n bytes. refl }
+values_reads version = record { none = λ bytes. refl; more = λ n bytes. refl }
 
-pub proof_reads : ReadsMany signed_at proof_at
+pub proof_reads : (version : Version) → ReadsMany (signed_at version) (proof_at version)
 unfolding proof_at
-proof_reads = record { none = λ bytes. refl; more = λ n bytes. refl }
+proof_reads version = record { none = λ bytes. refl; more = λ n bytes. refl }

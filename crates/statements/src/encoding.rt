@@ -1,17 +1,17 @@
 //! Encodes statements, appended to a vector.
 
-ghost use Rattle.std.specs.Prelude.{◌≡◌, ◌∷◌, ◌++◌, [], length, IfOk, OnOk, if◌then◌else◌};
+ghost use Rattle.std.specs.Prelude.{◌≡◌, ◌≤◌, ◌∷◌, ◌++◌, [], length, IfOk, OnOk, if◌then◌else◌};
 ghost use Rattle.std.specs.List.{flat_map, AllByRecursion};
 ghost use Rattle.std.specs.Int.{w32, to_be_bytes};
-ghost use Rattle.ledger_model.specs.Values.{value_bytes, IsTx, IsValue};
-ghost use Rattle.ledger_model.specs.Spelling.{list_bytes, report_bytes, signature_bytes, signed_bytes, lock_bytes, ack_bytes, statement_bytes, IsValueList, IsReport, IsSignature, IsSigned, IsLock, IsAck, IsStatement};
+ghost use Rattle.ledger_model.specs.Values.{value_bytes};
+ghost use Rattle.ledger_model.specs.Versions.{first_byte};
+ghost use Rattle.ledger_model.specs.declared.version.Version.{Version};
+ghost use Rattle.ledger_model.specs.Spelling.{list_bytes, report_bytes, signature_bytes, signed_bytes, lock_bytes, ack_bytes, statement_bytes, IsReport, IsSignature, IsSigned, IsLock, IsAck, IsStatement};
 
-use crate::decoding::{ACK, LOCK};
 use crate::lengths::encoded_len;
-use crate::locks::REPORT;
 use ledger_model::{
     Ack, Batch, Batches, Height, Lock, Phase, ReplicaId, Report, Signature, SignedReport,
-    Statement, Tx,
+    Statement, Tx, Version,
 };
 use octets::{put_bytes, put_u8, put_u16, put_u32};
 use std::alloc::{AllocError, Global};
@@ -37,7 +37,7 @@ pub fn put_batch(out: &mut Vec<u8>, batch: &Batch) -> Result<(), AllocError>
 }
 
 fn put_list(out: &mut Vec<u8>, list: &Batches) -> Result<(), AllocError>
-    requires { IsValueList list.now }
+    requires { length list.now ≤ 4 }
     ensures { OnOk result (out.new.items ≡ out.old.items ++ list_bytes list.now) }
 {
     let batches = list.as_slice();
@@ -57,17 +57,37 @@ fn put_signature(out: &mut Vec<u8>, signature: &Signature) -> Result<(), AllocEr
     put_bytes(out, bytes)
 }
 
+/// The kinds of statements, as their first bytes tell them.
+const REPORT: u8 = 1;
+
+const LOCK: u8 = 2;
+
+const ACK: u8 = 3;
+
+/// The first byte of a statement of this version and kind.
+fn first_byte(version: Version, kind: u8) -> u8
+    requires { kind ≤ 3 }
+    ensures { result ≡ first_byte version kind }
+{
+    match version {
+        Version::One => kind,
+        Version::Two => kind + 16,
+    }
+}
+
 fn put_place(
     out: &mut Vec<u8>,
+    version: Version,
     kind: u8,
     height: Height,
     phase: Phase,
     signer: ReplicaId,
 ) -> Result<(), AllocError>
+    requires { kind ≤ 3 }
     ensures { OnOk result (out.new.items ≡ out.old.items
-        ++ (kind ∷ to_be_bytes w32 height ++ to_be_bytes w32 phase ++ signer ∷ [])) }
+        ++ (first_byte version kind ∷ to_be_bytes w32 height ++ to_be_bytes w32 phase ++ signer ∷ [])) }
 {
-    put_u8(out, kind)?;
+    put_u8(out, first_byte(version, kind))?;
     put_u32(out, height.number())?;
     put_u32(out, phase.number())?;
     put_u8(out, signer.number())
@@ -83,7 +103,14 @@ fn put_report(out: &mut Vec<u8>, report: &Report) -> Result<(), AllocError>
     requires { IsReport report.now }
     ensures { OnOk result (out.new.items ≡ out.old.items ++ report_bytes report.now) }
 {
-    put_place(out, REPORT, report.height, report.phase, report.signer)?;
+    put_place(
+        out,
+        report.version,
+        REPORT,
+        report.height,
+        report.phase,
+        report.signer,
+    )?;
     put_flag(out, report.all)?;
     put_batch(out, &report.initial)?;
     put_list(out, &report.proper)?;
@@ -91,7 +118,7 @@ fn put_report(out: &mut Vec<u8>, report: &Report) -> Result<(), AllocError>
 }
 
 fn put_signed(out: &mut Vec<u8>, signed: &SignedReport) -> Result<(), AllocError>
-    requires { IsSigned signed.now }
+    requires { IsReport signed.now.report × IsSignature signed.now.signature }
     ensures { OnOk result (out.new.items ≡ out.old.items ++ signed_bytes signed.now) }
 {
     put_report(out, &signed.report)?;
@@ -99,7 +126,7 @@ fn put_signed(out: &mut Vec<u8>, signed: &SignedReport) -> Result<(), AllocError
 }
 
 fn put_reports(out: &mut Vec<u8>, reports: &[SignedReport]) -> Result<(), AllocError>
-    requires { AllByRecursion IsSigned reports.now }
+    requires { (version : Version) × AllByRecursion (IsSigned version) reports.now }
     ensures { OnOk result (out.new.items ≡ out.old.items ++ flat_map signed_bytes reports.now) }
 {
     for signed in reports {
@@ -113,7 +140,14 @@ fn put_lock(out: &mut Vec<u8>, lock: &Lock) -> Result<(), AllocError>
     ensures { OnOk result (out.new.items ≡ out.old.items ++ lock_bytes lock.now) }
 {
     let reports = lock.proof.as_slice();
-    put_place(out, LOCK, lock.height, lock.phase, lock.signer)?;
+    put_place(
+        out,
+        lock.version,
+        LOCK,
+        lock.height,
+        lock.phase,
+        lock.signer,
+    )?;
     put_batch(out, &lock.value)?;
     put_u8(out, reports.len() as u8)?;
     put_reports(out, reports)
@@ -123,7 +157,7 @@ fn put_ack(out: &mut Vec<u8>, ack: &Ack) -> Result<(), AllocError>
     requires { IsAck ack.now }
     ensures { OnOk result (out.new.items ≡ out.old.items ++ ack_bytes ack.now) }
 {
-    put_place(out, ACK, ack.height, ack.phase, ack.signer)?;
+    put_place(out, ack.version, ACK, ack.height, ack.phase, ack.signer)?;
     put_batch(out, &ack.value)
 }
 

@@ -8,7 +8,7 @@ ghost use Rattle.statements.specs.Headers.{header_of};
 use crate::DecodeFault;
 use crate::fields::{take_byte, take_flag, take_positive};
 use crate::values::{take_batch, take_list};
-use ledger_model::{Ack, Height, Phase, ReplicaId, Report};
+use ledger_model::{Ack, Height, Phase, ReplicaId, Report, Version};
 use octets::Cursor;
 use std::alloc::Global;
 
@@ -35,20 +35,25 @@ pub fn take_place(cursor: &mut Cursor) -> Result<Header, DecodeFault>
     })
 }
 
-/// Takes a report, without its first byte.
+/// Takes a report of this version, without its first byte.
 #[tactic(auto, unfolding(ledger_model::specs::Reading::report_at))]
-pub fn take_report(alloc: Global, cursor: &mut Cursor) -> Result<Report, DecodeFault>
-    ensures { Reads result cursor.new (report_at cursor.old) }
+pub fn take_report(
+    alloc: Global,
+    cursor: &mut Cursor,
+    version: Version,
+) -> Result<Report, DecodeFault>
+    ensures { Reads result cursor.new (report_at version cursor.old) }
 {
     let place = take_place(cursor)?;
     let all = take_flag(cursor)?;
-    let initial = take_batch(alloc, cursor)?;
-    let proper = take_list(alloc, cursor)?;
+    let initial = take_batch(alloc, cursor, version)?;
+    let proper = take_list(alloc, cursor, version)?;
     if proper.as_slice().is_empty() {
         return Err(DecodeFault::Malformed);
     }
-    let locked = take_list(alloc, cursor)?;
+    let locked = take_list(alloc, cursor, version)?;
     Ok(Report {
+        version,
         height: place.height,
         phase: place.phase,
         signer: place.signer,
@@ -59,14 +64,15 @@ pub fn take_report(alloc: Global, cursor: &mut Cursor) -> Result<Report, DecodeF
     })
 }
 
-/// Takes an acknowledgement, without its first byte.
+/// Takes an acknowledgement of this version, without its first byte.
 #[tactic(auto, unfolding(ledger_model::specs::Reading::ack_at))]
-pub fn take_ack(alloc: Global, cursor: &mut Cursor) -> Result<Ack, DecodeFault>
-    ensures { Reads result cursor.new (ack_at cursor.old) }
+pub fn take_ack(alloc: Global, cursor: &mut Cursor, version: Version) -> Result<Ack, DecodeFault>
+    ensures { Reads result cursor.new (ack_at version cursor.old) }
 {
     let place = take_place(cursor)?;
-    let value = take_batch(alloc, cursor)?;
+    let value = take_batch(alloc, cursor, version)?;
     Ok(Ack {
+        version,
         height: place.height,
         phase: place.phase,
         signer: place.signer,

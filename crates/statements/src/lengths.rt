@@ -2,16 +2,16 @@
 
 ghost use Rattle.std.specs.Prelude.{◌≡◌, ◌≤◌, ◌*◌, ◌∷◌, length};
 ghost use Rattle.std.specs.List.{flat_map, AllByRecursion};
-ghost use Rattle.ledger_model.specs.Values.{value_bytes, IsTx, IsValue};
-ghost use Rattle.ledger_model.specs.Spelling.{list_bytes, report_bytes, signed_bytes, lock_bytes, ack_bytes, statement_bytes, IsValueList, IsReport, IsSigned, IsLock, IsAck, IsStatement};
+ghost use Rattle.ledger_model.specs.Values.{value_bytes};
+ghost use Rattle.ledger_model.specs.declared.version.Version.{Version};
+ghost use Rattle.ledger_model.specs.Spelling.{list_bytes, report_bytes, signed_bytes, lock_bytes, ack_bytes, statement_bytes, IsReport, IsSignature, IsSigned, IsLock, IsAck, IsStatement};
 
 use ledger_model::{Ack, Batch, Batches, Lock, Report, SignedReport, Statement, Tx};
 
-/// The number of bytes of kind, height, phase and signer.
+/// The number of bytes of first byte, height, phase and signer.
 const PLACE_LEN: usize = 10;
 
 fn tx_len(tx: &Tx) -> usize
-    requires { IsTx tx.now }
     ensures len { result ≡ length (length tx.now ∷ tx.now) }
     ensures bound { result ≤ 65 }
 {
@@ -19,9 +19,8 @@ fn tx_len(tx: &Tx) -> usize
 }
 
 fn batch_len(batch: &Batch) -> usize
-    requires { IsValue batch.now }
     ensures len { result ≡ length (value_bytes batch.now) }
-    ensures bound { result ≤ 1041 }
+    ensures bound { result ≤ 4161 }
 {
     let transactions = batch.transactions();
     let mut len = 1;
@@ -32,9 +31,9 @@ fn batch_len(batch: &Batch) -> usize
 }
 
 fn list_len(list: &Batches) -> usize
-    requires { IsValueList list.now }
+    requires { length list.now ≤ 4 }
     ensures len { result ≡ length (list_bytes list.now) }
-    ensures bound { result ≤ 4165 }
+    ensures bound { result ≤ 16645 }
 {
     let batches = list.as_slice();
     let mut len = 1;
@@ -48,15 +47,15 @@ fn list_len(list: &Batches) -> usize
 pub fn report_len(report: &Report) -> usize
     requires { IsReport report.now }
     ensures len { result ≡ length (report_bytes report.now) }
-    ensures bound { result ≤ 9382 }
+    ensures bound { result ≤ 37462 }
 {
     PLACE_LEN + 1 + batch_len(&report.initial) + list_len(&report.proper) + list_len(&report.locked)
 }
 
 fn signed_len(signed: &SignedReport) -> usize
-    requires { IsSigned signed.now }
+    requires { IsReport signed.now.report × IsSignature signed.now.signature }
     ensures len { result ≡ length (signed_bytes signed.now) }
-    ensures bound { result ≤ 11892 }
+    ensures bound { result ≤ 39972 }
 {
     report_len(&signed.report) + 2 + signed.signature.as_bytes().len()
 }
@@ -64,9 +63,9 @@ fn signed_len(signed: &SignedReport) -> usize
 /// The number of bytes of at most 12 encoded signed reports together.
 pub fn reports_len(reports: &[SignedReport]) -> usize
     requires count { length reports.now ≤ 12 }
-    requires each { AllByRecursion IsSigned reports.now }
+    requires each { (version : Version) × AllByRecursion (IsSigned version) reports.now }
     ensures len { result ≡ length (flat_map signed_bytes reports.now) }
-    ensures bound { result ≤ 11892 * length reports.now }
+    ensures bound { result ≤ 39972 * length reports.now }
 {
     let mut len = 0;
     for signed in reports {

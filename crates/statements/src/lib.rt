@@ -10,7 +10,7 @@ mod lengths;
 mod locks;
 mod values;
 
-pub use decoding::{decode, take_statement};
+pub use decoding::{decode, decode_in, take_statement};
 pub use encoding::{encode, put_batch, put_statement};
 pub use fault::DecodeFault;
 pub use fields::take_signature_bytes;

@@ -6,7 +6,7 @@ ghost use Rattle.statements.specs.Reads.{Reads, ReadsAs};
 
 use crate::DecodeFault;
 use crate::fields::{take_byte, take_slice};
-use ledger_model::{Batch, Batches, Tx, are_ascending};
+use ledger_model::{Batch, Batches, Tx, Version, are_ascending};
 use octets::Cursor;
 use std::alloc::Global;
 
@@ -34,40 +34,53 @@ fn take_txs(alloc: Global, cursor: &mut Cursor, count: u8) -> Result<Vec<Tx>, De
     Ok(txs)
 }
 
-/// A batch: its number of transactions, at most 16, and the transactions.
+/// A batch in a statement of this version: its number of transactions, at most 16 or 64, and the transactions.
 #[tactic(auto, unfolding(ledger_model::specs::Reading::value_at))]
-pub fn take_batch(alloc: Global, cursor: &mut Cursor) -> Result<Batch, DecodeFault>
-    ensures { Reads result cursor.new (value_at cursor.old) }
+pub fn take_batch(
+    alloc: Global,
+    cursor: &mut Cursor,
+    version: Version,
+) -> Result<Batch, DecodeFault>
+    ensures { Reads result cursor.new (value_at version cursor.old) }
 {
     let count = take_byte(cursor)?;
-    if usize::from(count) > Batch::MAX_LEN {
+    if usize::from(count) > version.batch_limit() {
         return Err(DecodeFault::Malformed);
     }
     let txs = take_txs(alloc, cursor, count)?;
     Ok(Batch::new(txs)?)
 }
 
-fn take_batches(alloc: Global, cursor: &mut Cursor, count: u8) -> Result<Vec<Batch>, DecodeFault>
-    ensures { ReadsAs (λ batches. batches.items) result cursor.new (values_at count cursor.old) }
+fn take_batches(
+    alloc: Global,
+    cursor: &mut Cursor,
+    version: Version,
+    count: u8,
+) -> Result<Vec<Batch>, DecodeFault>
+    ensures { ReadsAs (λ batches. batches.items) result cursor.new (values_at version count cursor.old) }
 {
     let mut batches = Vec::with_capacity(alloc, usize::from(count))?;
     for _ in 0..count {
-        let batch = take_batch(alloc, cursor)?;
+        let batch = take_batch(alloc, cursor, version)?;
         batches.push(batch)?;
     }
     Ok(batches)
 }
 
-/// A list of batches: their number, at most 4, and the batches, which ascend.
+/// A list of batches in a statement of this version: their number, at most 4, and the batches, which ascend.
 #[tactic(auto, unfolding(ledger_model::specs::Reading::list_at))]
-pub fn take_list(alloc: Global, cursor: &mut Cursor) -> Result<Batches, DecodeFault>
-    ensures { Reads result cursor.new (list_at cursor.old) }
+pub fn take_list(
+    alloc: Global,
+    cursor: &mut Cursor,
+    version: Version,
+) -> Result<Batches, DecodeFault>
+    ensures { Reads result cursor.new (list_at version cursor.old) }
 {
     let count = take_byte(cursor)?;
     if count > MAX_LISTED {
         return Err(DecodeFault::Malformed);
     }
-    let batches = take_batches(alloc, cursor, count)?;
+    let batches = take_batches(alloc, cursor, version, count)?;
     if !are_ascending(&batches) {
         return Err(DecodeFault::Malformed);
     }

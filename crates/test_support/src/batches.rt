@@ -24,7 +24,7 @@ pub fn value(alloc: Global, bytes: &[u8]) -> Result<Batch, BuildFault> {
     }
 }
 
-/// The batch of some transactions, at most 16.
+/// The batch of some transactions, at most 64.
 pub fn batch(alloc: Global, transactions: &[&[u8]]) -> Result<Batch, BuildFault> {
     let mut made = Vec::new(alloc);
     for bytes in transactions {

@@ -1,7 +1,7 @@
 //! Builds reports.
 
 use crate::{BuildFault, value, values};
-use ledger_model::{Batches, Height, Phase, ReplicaId, Report, Signature, SignedReport};
+use ledger_model::{Batches, Height, Phase, ReplicaId, Report, Signature, SignedReport, Version};
 use std::alloc::Global;
 
 /// The fields of a report of height 1 and phase 1. Each value is the batch of one transaction.
@@ -28,6 +28,7 @@ pub fn naming<'a>(signer: u8, initial: &'a [u8], proper: &'a [&'a [u8]]) -> Repo
 /// The report with these fields.
 pub fn report(alloc: Global, told: &ReportFields<'_>) -> Result<Report, BuildFault> {
     Ok(Report {
+        version: Version::One,
         height: Height::new(1),
         phase: Phase::new(1),
         signer: ReplicaId::new(told.signer),

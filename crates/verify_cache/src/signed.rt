@@ -27,19 +27,20 @@ impl Drop for SignedMessage {
     }
 }
 
-/// The hash is of the signature alone, which differs from one message to the next: to look a lock up costs no walk over
-/// its reports. If a liar forges many messages with one signature, a lookup compares with all of them that are known.
+/// The hash is of the signature and the message in whole. A liar can put one signature under many messages, and many under
+/// one: under random keys their hashes differ, so a lookup compares with one key that is known, and rarely with another.
 impl Hash for SignedMessage {
     ghost use Rattle.std.specs.Prelude.{◌∷◌, []};
     ghost use Rattle.std.proofs.Common.{rules};
     ghost use Rattle.std.specs.Cmp.Rules.{hashing};
 
-    ghost hash_input = { λ m. m.signature ∷ [] };
+    ghost hash_input = { λ m. m.signature ∷ m.message ∷ [] };
 
     ghost respects_eq = { Prim.search (hashing, rules) };
 
     fn hash<H: Hasher>(&self, state: &mut H) {
         state.write(self.signature.as_slice());
+        state.write(self.message.as_slice());
     }
 }
 

@@ -1,7 +1,7 @@
 -- the lines of the first replicas
 use Rattle.std.proofs.Common.{◌≡◌, take}
 use Rattle.std.specs.Prelude.{string_bytes}
-use Rattle.cluster_service.specs.Reporting.{commit_lines}
+use Rattle.cluster_service.specs.Lines.{commit_lines}
 use Rattle.cluster_service.proofs.lines.commit_lines.Given as goal
 
 abbrev pub invariant-loop-replica : goal.invariant-loop-replica

@@ -11,12 +11,12 @@ returns-in_err-bytes g c =
     on_error _ _ c.from_residual.ensures.0
     (first_some history_bytes c.args.histories.now c.loop-history.history-index _ _ c.loop-history.invariant)
 
-pub returns-in_err-write_bytes : goal.returns-in_err-write_bytes
-returns-in_err-write_bytes g c =
-    on_error _ _ c.from_residual-in_err-write_bytes.ensures.0
+pub returns-in_err-write_whole : goal.returns-in_err-write_whole
+returns-in_err-write_whole g c =
+    on_error _ _ c.from_residual-in_err-write_whole.ensures.0
     (next_some history_bytes c.args.histories.now c.loop-history.history-index _ _ c.loop-history.invariant _ c.history-item.result
     c.loop-history-test.true c.history-item.is
-    (subst (AppendsSome _ _) (c.deref.ensures.value ∙ c.in_ok-bytes.ensures) c.in_err-write_bytes.ensures))
+    (subst (AppendsSome _ _) (c.deref.ensures.value ∙ c.in_ok-bytes.ensures) c.in_err-write_whole.ensures))
 
 pub loop-history-preserved : goal.loop-history-preserved
 loop-history-preserved g c = grind (arith, common_steps)

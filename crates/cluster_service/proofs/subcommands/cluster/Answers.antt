@@ -1,14 +1,14 @@
 use Rattle.std.proofs.Common.{inl, inr, refl}
 use Rattle.std.proofs.KnownBytes.{Keeps-refl}
-use Rattle.byte_streams.proofs.Faults.{of_each, on_error, passed}
-use Rattle.cluster_service.specs.Reporting.{bytes_in}
+use Rattle.byte_streams.proofs.Faults.{of_each, passed}
+use Rattle.cluster_service.specs.HistoriesFiles.{bytes_in}
 use Rattle.cluster_service.specs.RunFaults.{EndsCluster, IsReportFault}
-use Rattle.cluster_service.proofs.ReportingLemmas.{nothing_ran}
+use Rattle.cluster_service.proofs.ReportingLemmas.{failed_with, nothing_ran, ran}
 use Rattle.cluster_service.proofs.subcommands.cluster.Goals as goal
 
 pub returns-in_err-stop-clause-reports : goal.returns-in_err-stop-clause-reports
-returns-in_err-stop-clause-reports g c = on_error _ _ c.from_residual.ensures.0
-    (nothing_ran c.args.settings.now (g.W.Write.contents c.args.writer.now) (bytes_in c.args.file.now))
+returns-in_err-stop-clause-reports g c = failed_with _ _ _ _ c.from_residual.ensures.1
+    (nothing_ran c.args.settings.now _ (g.W.Write.contents c.args.writer.now) (bytes_in c.args.file.now) c.in_err-stop.ensures)
 
 pub returns-in_err-stop-clause-fault : goal.returns-in_err-stop-clause-fault
 returns-in_err-stop-clause-fault g c =
@@ -18,8 +18,8 @@ returns-in_err-stop-clause-fault g c =
     (inr (c.in_err-stop.ensures, (Keeps-refl a, refl)))
 
 pub returns-in_err-left-clause-reports : goal.returns-in_err-left-clause-reports
-returns-in_err-left-clause-reports g c = on_error _ _ c.from_residual-in_err-left.ensures.0
-    (nothing_ran c.args.settings.now (g.W.Write.contents c.args.writer.now) (bytes_in c.args.file.now))
+returns-in_err-left-clause-reports g c = failed_with _ _ _ _ c.from_residual-in_err-left.ensures.1
+    (nothing_ran c.args.settings.now _ (g.W.Write.contents c.args.writer.now) (bytes_in c.args.file.now) c.in_err-left.ensures.fault)
 
 pub returns-in_err-left-clause-fault : goal.returns-in_err-left-clause-fault
 returns-in_err-left-clause-fault g c =
@@ -29,7 +29,7 @@ returns-in_err-left-clause-fault g c =
     (inr (c.in_err-left.ensures.fault, (Keeps-refl a, refl)))
 
 pub returns-clause-reports : goal.returns-clause-reports
-returns-clause-reports g c = c.report.ensures.reports
+returns-clause-reports g c = ran c.args.settings.now c.report.result _ _ _ _ c.report.ensures.reports
 
 pub returns-clause-fault : goal.returns-clause-fault
 returns-clause-fault g c =

@@ -2,7 +2,7 @@ use Rattle.std.proofs.Common.{subst, ◌∙◌}
 use Rattle.std.specs.Io.KnownBytes.{Appends}
 use Rattle.byte_streams.proofs.Faults.{on_error}
 use Rattle.byte_streams.proofs.WritingLemmas.{kept_some}
-use Rattle.cluster_service.specs.Reporting.{port_line}
+use Rattle.cluster_service.specs.Lines.{port_line}
 use Rattle.cluster_service.proofs.writing.write_port.Goals as goal
 
 pub returns-in_err-flush_output-clause-written : goal.returns-in_err-flush_output-clause-written

@@ -4,6 +4,7 @@ use Rattle.command_line.specs.Faults.{IsRightOf}
 use Rattle.clap.specs.Words.{found_of, rows_of}
 use Rattle.clap.proofs.TakesLemmas.{passed_up}
 use Rattle.settings.specs.declared.audit.AuditSettings.{AuditSettings}
+use Rattle.command_line.proofs.Tables.{has_cluster}
 use Rattle.command_line.proofs.settings_of_words.audit_settings.Goals as goal
 
 pub returns-in_err-receipt-clause-none : goal.returns-in_err-receipt-clause-none
@@ -15,8 +16,7 @@ returns-in_err-receipt-clause-none c =
 pub returns-in_err-cluster-clause-right : goal.returns-in_err-cluster-clause-right
 returns-in_err-cluster-clause-right c =
     passed_up _ c.in_err-cluster.field-0.0 (IsRightOf audit_options (rows_of (found_of c.args.matches.now))) c.from_residual.ensures.1
-    (c.in_err-cluster.ensures.right audit_options
-    (record { n = refl; n_limits = refl; t = refl; t_limits = refl; kind = refl; kind_limits = refl; w = refl; tree = refl; seed = refl }))
+    (c.in_err-cluster.ensures.right audit_options (has_cluster _ _ _))
 
 pub returns-in_err-receipt-clause-right : goal.returns-in_err-receipt-clause-right
 returns-in_err-receipt-clause-right c =

@@ -3,19 +3,18 @@ use Rattle.command_line.specs.Faults.{IsRightOf}
 use Rattle.clap.specs.Words.{found_of, rows_of}
 use Rattle.command_line.specs.Options.{IsAccepted, SetsRunning, WantsMemory}
 use Rattle.settings.specs.declared.cluster.ClusterSettings.{ClusterSettings}
-use Rattle.command_line.proofs.NumberLemmas.{if_err, same_kind}
+use Rattle.command_line.proofs.NumberLemmas.{same_kind}
+use Rattle.command_line.proofs.MatchesLemmas.{none_set}
 use Rattle.clap.proofs.TakesLemmas.{passed_up}
 use Rattle.command_line.proofs.settings_of_words.cluster_settings.Goals as goal
 
 pub returns-in_err-rounds-clause-none : goal.returns-in_err-rounds-clause-none
 returns-in_err-rounds-clause-none c =
-    if_err {P = λ e. (s : ClusterSettings) → SetsRunning (rows_of (found_of c.args.matches.now)) s → WantsMemory e} _
-    (λ e s i. absurd (c.in_err-rounds.ensures.none s.rounds i.rounds))
+    none_set (SetsRunning (rows_of (found_of c.args.matches.now))) WantsMemory _ (λ s i. c.in_err-rounds.ensures.none s.rounds i.rounds)
 
 pub returns-in_err-base_ms-clause-none : goal.returns-in_err-base_ms-clause-none
 returns-in_err-base_ms-clause-none c =
-    if_err {P = λ e. (s : ClusterSettings) → SetsRunning (rows_of (found_of c.args.matches.now)) s → WantsMemory e} _
-    (λ e s i. absurd (c.in_err-base_ms.ensures.none s.base_ms i.base))
+    none_set (SetsRunning (rows_of (found_of c.args.matches.now))) WantsMemory _ (λ s i. c.in_err-base_ms.ensures.none s.base_ms i.base)
 
 pub returns-in_err-tx-clause-none : goal.returns-in_err-tx-clause-none
 returns-in_err-tx-clause-none c =

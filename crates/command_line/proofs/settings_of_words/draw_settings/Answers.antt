@@ -2,21 +2,19 @@ use Rattle.command_line.specs.Options.{draw_options, SetsDraw, WantsMemory}
 use Rattle.std.proofs.Common.{refl, inl}
 use Rattle.command_line.specs.Faults.{IsRightOf}
 use Rattle.clap.specs.Words.{found_of, rows_of}
-use Rattle.settings.specs.declared.draw.DrawSettings.{DrawSettings}
-use Rattle.command_line.proofs.NumberLemmas.{if_err}
+use Rattle.command_line.proofs.MatchesLemmas.{none_set}
 use Rattle.clap.proofs.TakesLemmas.{passed_up}
+use Rattle.command_line.proofs.Tables.{has_cluster}
 use Rattle.command_line.proofs.settings_of_words.draw_settings.Goals as goal
 
 pub returns-in_err-cluster-clause-right : goal.returns-in_err-cluster-clause-right
 returns-in_err-cluster-clause-right c =
     passed_up _ c.in_err-cluster.field-0.0 (IsRightOf draw_options (rows_of (found_of c.args.matches.now))) c.from_residual.ensures.1
-    (c.in_err-cluster.ensures.right draw_options
-    (record { n = refl; n_limits = refl; t = refl; t_limits = refl; kind = refl; kind_limits = refl; w = refl; tree = refl; seed = refl }))
+    (c.in_err-cluster.ensures.right draw_options (has_cluster _ _ _))
 
 pub returns-in_err-height-clause-none : goal.returns-in_err-height-clause-none
 returns-in_err-height-clause-none c =
-    if_err {P = λ e. (s : DrawSettings) → SetsDraw (rows_of (found_of c.args.matches.now)) s → WantsMemory e} _
-    (λ e s i. absurd (c.in_err-height.ensures.none s.height i.height))
+    none_set (SetsDraw (rows_of (found_of c.args.matches.now))) WantsMemory _ (λ s i. c.in_err-height.ensures.none s.height i.height)
 
 pub returns-in_err-height-clause-right : goal.returns-in_err-height-clause-right
 returns-in_err-height-clause-right c =
@@ -25,8 +23,7 @@ returns-in_err-height-clause-right c =
 
 pub returns-in_err-first-clause-none : goal.returns-in_err-first-clause-none
 returns-in_err-first-clause-none c =
-    if_err {P = λ e. (s : DrawSettings) → SetsDraw (rows_of (found_of c.args.matches.now)) s → WantsMemory e} _
-    (λ e s i. absurd (c.in_err-first.ensures.none s.first i.first))
+    none_set (SetsDraw (rows_of (found_of c.args.matches.now))) WantsMemory _ (λ s i. c.in_err-first.ensures.none s.first i.first)
 
 pub returns-in_err-first-clause-right : goal.returns-in_err-first-clause-right
 returns-in_err-first-clause-right c =
@@ -35,8 +32,7 @@ returns-in_err-first-clause-right c =
 
 pub returns-in_err-last-clause-none : goal.returns-in_err-last-clause-none
 returns-in_err-last-clause-none c =
-    if_err {P = λ e. (s : DrawSettings) → SetsDraw (rows_of (found_of c.args.matches.now)) s → WantsMemory e} _
-    (λ e s i. absurd (c.in_err-last.ensures.none s.last i.last))
+    none_set (SetsDraw (rows_of (found_of c.args.matches.now))) WantsMemory _ (λ s i. c.in_err-last.ensures.none s.last i.last)
 
 pub returns-in_err-last-clause-right : goal.returns-in_err-last-clause-right
 returns-in_err-last-clause-right c =

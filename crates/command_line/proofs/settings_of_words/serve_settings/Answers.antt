@@ -3,8 +3,9 @@ use Rattle.std.proofs.Common.{refl, inl}
 use Rattle.command_line.specs.Faults.{IsRightOf}
 use Rattle.clap.specs.Words.{found_of, rows_of}
 use Rattle.settings.specs.declared.cluster.ServeSettings.{ServeSettings}
-use Rattle.command_line.proofs.NumberLemmas.{if_err}
+use Rattle.command_line.proofs.MatchesLemmas.{none_set}
 use Rattle.clap.proofs.TakesLemmas.{passed_up}
+use Rattle.command_line.proofs.Tables.{has_running}
 use Rattle.command_line.proofs.settings_of_words.serve_settings.Goals as goal
 
 pub returns-in_err-cluster-clause-none : goal.returns-in_err-cluster-clause-none
@@ -14,42 +15,21 @@ returns-in_err-cluster-clause-none c =
 
 pub returns-in_err-port-clause-none : goal.returns-in_err-port-clause-none
 returns-in_err-port-clause-none c =
-    if_err {P = λ e. (s : ServeSettings) → SetsServe (rows_of (found_of c.args.matches.now)) s → WantsMemory e} _
-    (λ e s i. absurd (c.in_err-port.ensures.none s.port i.port))
+    none_set (SetsServe (rows_of (found_of c.args.matches.now))) WantsMemory _ (λ s i. c.in_err-port.ensures.none s.port i.port)
 
 pub returns-in_err-sessions-clause-none : goal.returns-in_err-sessions-clause-none
 returns-in_err-sessions-clause-none c =
-    if_err {P = λ e. (s : ServeSettings) → SetsServe (rows_of (found_of c.args.matches.now)) s → WantsMemory e} _
-    (λ e s i. absurd (c.in_err-sessions.ensures.none s.sessions i.sessions))
+    none_set (SetsServe (rows_of (found_of c.args.matches.now))) WantsMemory _ (λ s i. c.in_err-sessions.ensures.none s.sessions i.sessions)
 
 pub returns-in_err-client_entries-clause-none : goal.returns-in_err-client_entries-clause-none
 returns-in_err-client_entries-clause-none c =
-    if_err {P = λ e. (s : ServeSettings) → SetsServe (rows_of (found_of c.args.matches.now)) s → WantsMemory e} _
-    (λ e s i. absurd (c.in_err-client_entries.ensures.none s.client_entries i.entries))
+    none_set (SetsServe (rows_of (found_of c.args.matches.now))) WantsMemory _
+    (λ s i. c.in_err-client_entries.ensures.none s.client_entries i.entries)
 
 pub returns-in_err-cluster-clause-right : goal.returns-in_err-cluster-clause-right
 returns-in_err-cluster-clause-right c =
     passed_up _ c.in_err-cluster.field-0.0 (IsRightOf serve_options (rows_of (found_of c.args.matches.now))) c.from_residual.ensures.1
-    (c.in_err-cluster.ensures.right serve_options
-    (record {
-      cluster = record {
-        n = refl;
-        n_limits = refl;
-        t = refl;
-        t_limits = refl;
-        kind = refl;
-        kind_limits = refl;
-        w = refl;
-        tree =
-            refl;
-        seed = refl;
-      };
-      tx = (refl, refl);
-      rounds = refl;
-      rounds_limits = refl;
-      base = refl;
-      base_limits = refl;
-    }))
+    (c.in_err-cluster.ensures.right serve_options (has_running _ _ _))
 
 pub returns-in_err-port-clause-right : goal.returns-in_err-port-clause-right
 returns-in_err-port-clause-right c =

@@ -8,6 +8,7 @@ use Rattle.command_line.specs.Faults.{IsNoSubcommand}
 use Rattle.command_line.proofs.FaultLemmas.{right_alike}
 use Rattle.command_line.proofs.MatchesLemmas.{found_is, names_one, refused_alike, set_alike, refused_anyway, sets_sign, sets_deliver}
 use Rattle.command_line.proofs.MatchesLemmas.{sets_simulate, sets_cluster, sets_serve, sets_audit, sets_draw}
+use Rattle.command_line.proofs.Tables.{has_running}
 use Rattle.command_line.proofs.settings_of_words.settings_of.Goals as goal
 
 pub returns-in-sign-clause-set : goal.returns-in-sign-clause-set
@@ -173,26 +174,8 @@ returns-in-cluster-clause-right c =
     let rows : List Row = rows_of (found_of c.in-Some.options.now) in
     let found = found_is c.args.matches.now (codes "cluster") rows (search (rules, c.in-cluster.is, c.in-Some.ensures.name))
     c.in-Some.ensures.rows in
-    right_alike _ _ _ c.cluster_settings.result c.map-in-cluster.result found (c.cluster_settings.ensures.right running_options
-    (record {
-      cluster = record {
-        n = refl;
-        n_limits = refl;
-        t = refl;
-        t_limits = refl;
-        kind = refl;
-        kind_limits = refl;
-        w = refl;
-        tree =
-            refl;
-        seed = refl;
-      };
-      tx = (refl, refl);
-      rounds = refl;
-      rounds_limits = refl;
-      base = refl;
-      base_limits = refl;
-    }))
+    right_alike _ _ _ c.cluster_settings.result c.map-in-cluster.result found
+    (c.cluster_settings.ensures.right running_options (has_running _ _ _))
     c.map-in-cluster.ensures.cases
 
 pub returns-in-serve-clause-right : goal.returns-in-serve-clause-right

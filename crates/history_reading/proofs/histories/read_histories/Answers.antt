@@ -6,23 +6,23 @@ use Rattle.history_reading.proofs.histories.read_histories.Goals as goal
 
 pub returns-in-Ok-clause-found : goal.returns-in-Ok-clause-found
 returns-in-Ok-clause-found c =
-    let read : histories_reading c.args.bytes ≡ Some c.in-Ok.histories.items =
-    ap histories_reading (sym c.new.ensures.all) ∙ c.in-Ok.ensures in
-    read_are_spelled c.args.bytes c.in-Ok.histories.items c.new.ensures.bytes read
+    let read : histories_reading c.args.version c.args.bytes ≡ Some c.in-Ok.histories.items =
+    ap (histories_reading c.args.version) (sym c.new.ensures.all) ∙ c.in-Ok.ensures in
+    read_are_spelled c.args.version c.args.bytes c.in-Ok.histories.items c.new.ensures.bytes read
 
 pub returns-in-Ok-clause-only : goal.returns-in-Ok-clause-only
 returns-in-Ok-clause-only c =
-    let read : histories_reading c.args.bytes ≡ Some c.in-Ok.histories.items =
-    ap histories_reading (sym c.new.ensures.all) ∙ c.in-Ok.ensures in
-    λ histories spells. spelled_are_found c.args.bytes c.in-Ok.histories.items histories read spells
+    let read : histories_reading c.args.version c.args.bytes ≡ Some c.in-Ok.histories.items =
+    ap (histories_reading c.args.version) (sym c.new.ensures.all) ∙ c.in-Ok.ensures in
+    λ histories spells. spelled_are_found c.args.version c.args.bytes c.in-Ok.histories.items histories read spells
 
 pub returns-in-Err-Malformed-clause-only : goal.returns-in-Err-Malformed-clause-only
 returns-in-Err-Malformed-clause-only c =
-    let fault : Faults c.in-Err-Malformed.field-0 (histories_reading c.new.result) = c.in-Err-Malformed.ensures in
-    let none : histories_reading c.args.bytes ≡ None =
-    ap histories_reading (sym c.new.ensures.all)
-    ∙ subst (λ f. Faults f (histories_reading c.new.result)) c.in-Err-Malformed.field-0-is fault in
-    λ histories spells. absurd (spelled_not_none c.args.bytes histories none spells)
+    let fault : Faults c.in-Err-Malformed.field-0 (histories_reading c.args.version c.new.result) = c.in-Err-Malformed.ensures in
+    let none : histories_reading c.args.version c.args.bytes ≡ None =
+    ap (histories_reading c.args.version) (sym c.new.ensures.all)
+    ∙ subst (λ f. Faults f (histories_reading c.args.version c.new.result)) c.in-Err-Malformed.field-0-is fault in
+    λ histories spells. absurd (spelled_not_none c.args.version c.args.bytes histories none spells)
 
 pub returns-in-Ok-clause-again : goal.returns-in-Ok-clause-again
 returns-in-Ok-clause-again c = spelled_are_read

@@ -7,7 +7,7 @@ use Rattle.phase_core.proofs.decision.is_acknowledged.Goals as goal
 
 pub returns : goal.returns
 unfolding is_decided_by
-returns c = λ lock phase value.
+returns c =
     let count = c.count_where-count.ensures.counted (λ a. (a.phase == c.args.phase) && same_value c.args.value.now a.value)
     (always_returns_same _ _ _ (λ a r f' k. search rules)) in
-    rw (phase, value) (search rules)
+    search rules

@@ -17,14 +17,14 @@ returns-in_err-from_vec-clause-audits g c =
 
 pub returns-in-Ok-clause-audits : goal.returns-in-Ok-clause-audits
 returns-in-Ok-clause-audits g c =
-    let reads = subst (λ b. histories_reading b ≡ Some c.deref.result.now) c.in_ok-from_vec.ensures.ok
+    let reads = subst (λ b. histories_reading c.args.settings.now.cluster.config.frames b ≡ Some c.deref.result.now) c.in_ok-from_vec.ensures.ok
     (c.in-Ok.ensures.read ∙ ap Some (sym c.deref.ensures.value)) in
     audits_histories c.args.settings.now c.in_ok-bytes.bytes.items _ _ c.audit_histories.result c.deref.result.now _ _
     c.in_ok-bytes.ensures.read reads c.audit_histories.ensures.audits
 
 pub returns-in-Err-BadHistory-clause-audits : goal.returns-in-Err-BadHistory-clause-audits
 returns-in-Err-BadHistory-clause-audits g c =
-    let none = subst (λ b. histories_reading b ≡ None) c.in_ok-from_vec.ensures.ok
+    let none = subst (λ b. histories_reading c.args.settings.now.cluster.config.frames b ≡ None) c.in_ok-from_vec.ensures.ok
     (c.in-Err-BadHistory.ensures.bad (ap Err c.in-Err-BadHistory.field-0-is)) in
     audits_none c.args.settings.now c.in_ok-bytes.bytes.items _ _ c.print_bad_history.result _ _ c.in_ok-bytes.ensures.read none
     c.print_bad_history.ensures.written c.print_bad_history.ensures.ending

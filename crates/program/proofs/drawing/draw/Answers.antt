@@ -17,14 +17,14 @@ returns-in_err-from_vec-clause-draws g c =
 
 pub returns-in-Ok-clause-draws : goal.returns-in-Ok-clause-draws
 returns-in-Ok-clause-draws g c =
-    let reads = subst (λ b. histories_reading b ≡ Some c.deref.result.now) c.in_ok-from_vec.ensures.ok
+    let reads = subst (λ b. histories_reading c.args.settings.now.cluster.config.frames b ≡ Some c.deref.result.now) c.in_ok-from_vec.ensures.ok
     (c.in-Ok.ensures.read ∙ ap Some (sym c.deref.ensures.value)) in
     draws_histories c.args.settings.now c.in_ok-bytes.bytes.items _ _ c.draw_and_end.result c.deref.result.now _ _
     c.in_ok-bytes.ensures.read reads c.draw_and_end.ensures.draws
 
 pub returns-in-Err-BadHistory-clause-draws : goal.returns-in-Err-BadHistory-clause-draws
 returns-in-Err-BadHistory-clause-draws g c =
-    let none = subst (λ b. histories_reading b ≡ None) c.in_ok-from_vec.ensures.ok
+    let none = subst (λ b. histories_reading c.args.settings.now.cluster.config.frames b ≡ None) c.in_ok-from_vec.ensures.ok
     (c.in-Err-BadHistory.ensures.bad (ap Err c.in-Err-BadHistory.field-0-is)) in
     draws_none c.args.settings.now c.in_ok-bytes.bytes.items _ _ c.print_bad_history.result _ _ c.in_ok-bytes.ensures.read none
     c.print_bad_history.ensures.written c.print_bad_history.ensures.ending

@@ -1,4 +1,4 @@
-use Rattle.std.proofs.Common.{◌++◌, subst}
+use Rattle.std.proofs.Common.{◌++◌, ◌∙◌, subst}
 use Rattle.signed_frames.specs.Reader.{HandsOut}
 use Rattle.byte_streams.proofs.Faults.{on_error, passed}
 use Rattle.program.specs.Faults.{StopsAt}
@@ -10,7 +10,7 @@ use Rattle.program.proofs.frame_stream.deliver_piece.Goals as goal
 pub fault_of-requires : goal.fault_of-requires
 fault_of-requires g c =
     let (kept, reading) = c.requires in
-    reading_unfailed c.args.frames.now kept c.args.piece.now c.in-Err.fault c.feed.new.self reading c.in-Err.ensures.fault
+    reading_unfailed c.args.frames.now.version c.args.frames.now.state kept c.args.piece.now c.in-Err.fault c.feed.new.self.state reading c.in-Err.ensures.fault
 
 pub fault_behind-requires : goal.fault_behind-requires
 fault_behind-requires g c =
@@ -18,25 +18,25 @@ fault_behind-requires g c =
       kept ++ c.args.piece.now,
       (
         c.in-Ok.found.items,
-        subst (λ r. HandsOut r c.args.piece.now c.in-Ok.found.items c.feed.new.self) reading
-            c.in-Ok.ensures.frames,
+        rw c.feed.ensures.version (rw reading at c.in-Ok.ensures.frames),
       ),
     )
 
 pub returns-in_ok-deliver_all-in-Ok-clause-goes : goal.returns-in_ok-deliver_all-in-Ok-clause-goes
 returns-in_ok-deliver_all-in-Ok-clause-goes g c = λ start unread now left before so_far read.
-    piece_behind start _ _ unread now left before _ _ _ c.args.piece.now so_far read _ _ _ _ c.in-Ok.ensures.frames
+    piece_behind start _ _ unread now left before _ _ _ c.args.piece.now so_far read _ c.feed.new.self _ _
+    (c.feed.ensures.version ∙ so_far.version) (c.fault_behind.ensures.version ∙ c.feed.ensures.version ∙ so_far.version) c.in-Ok.ensures.frames
     c.in_ok-deliver_all-in-Ok.ensures.prints c.fault_behind.ensures.behind
 
 pub returns-in_err-deliver_all-in-Ok-clause-goes : goal.returns-in_err-deliver_all-in-Ok-clause-goes
 returns-in_err-deliver_all-in-Ok-clause-goes g c = λ start unread now left before so_far read.
     on_error _ _ c.from_residual.ensures.0
-    (piece_stops start _ _ unread now left before _ _ _ c.args.piece.now so_far read _ _ c.in-Ok.ensures.frames
+    (piece_stops start _ _ unread now left before _ _ _ c.args.piece.now so_far read _ c.feed.new.self c.in-Ok.ensures.frames
     c.in_err-deliver_all-in-Ok.ensures.prints)
 
 pub returns-in_ok-fault_of-in-Err-clause-goes : goal.returns-in_ok-fault_of-in-Err-clause-goes
 returns-in_ok-fault_of-in-Err-clause-goes g c = λ start unread now left before so_far read.
-    piece_told start _ start unread now left before _ before _ c.args.piece.now so_far read _ _ _ c.in-Err.ensures.fault
+    piece_told start _ start unread now left before _ before _ c.args.piece.now so_far read _ c.feed.new.self _ c.in-Err.ensures.fault
     c.in_ok-fault_of-in-Err.ensures.told
 
 pub returns-in_err-fault_of-in-Err-clause-goes : goal.returns-in_err-fault_of-in-Err-clause-goes

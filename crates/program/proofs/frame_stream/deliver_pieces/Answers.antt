@@ -7,7 +7,7 @@ use Rattle.program.proofs.StreamEnds.{begun, ended_of, ends_at, goes_on, stopped
 use Rattle.program.proofs.frame_stream.deliver_pieces.Goals as goal
 
 pub loop-init : goal.loop-init
-loop-init g c = begun _ _ _ _ c.requires
+loop-init g c = begun _ _ _ _ c.requires.start c.requires.version
 
 pub returns-in_err-count-clause-ends : goal.returns-in_err-count-clause-ends
 returns-in_err-count-clause-ends g c =

@@ -10,6 +10,10 @@ pub returns-in-keys : goal.returns-in-keys
 unfolding keyword_of
 returns-in-keys c = ap keyword_of (sym c.in-keys.is)
 
+pub returns-in-frames : goal.returns-in-frames
+unfolding keyword_of
+returns-in-frames c = ap keyword_of (sym c.in-frames.is)
+
 pub returns-in-liar : goal.returns-in-liar
 unfolding keyword_of
 returns-in-liar c = ap keyword_of (sym c.in-liar.is)

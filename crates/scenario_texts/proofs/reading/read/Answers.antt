@@ -2,14 +2,14 @@ use Rattle.scenario_texts.proofs.Endings.{Going, IsBad, too_many, too_long, refu
 use Rattle.scenario_texts.proofs.Endings.{ends_badly}
 use Rattle.scenario_texts.proofs.reading.read.Goals as goal
 use Rattle.scenario_texts.proofs.reading.read.Goals.{then-number-gt-MAX_LINES-via-then-number-gt-MAX_LINES}
-use Rattle.scenario_texts.proofs.reading.read.Goals.{then-number-gt-MAX_LINES-via-else-number-gt-MAX_LINES+then-line-gt-MAX_LINE_LEN}
+use Rattle.scenario_texts.proofs.reading.read.Goals.{then-number-gt-MAX_LINES-via-else-number-gt-MAX_LINES+then-line-limit}
 use Rattle.scenario_texts.proofs.reading.read.Goals.{then-counts+in_ok-scenario+in-Some-2, else-counts}
 use Rattle.scenario_texts.proofs.reading.read.Goals.{in_default-so_far-via-in-Some-so_far+else-is_empty}
 use Rattle.scenario_texts.proofs.reading.read.Goals.{in_default-so_far-via-in_default-so_far}
 use Rattle.scenario_texts.specs.Lines.{counts}
 use Rattle.scenario_texts.specs.Plans.{plan_of}
 use Rattle.scenario_texts.specs.Reading.{next_of}
-use Rattle.std.proofs.Common.{arith, ◌≡◌, ◌∙◌, ◌+◌, true, false, length, sym, ap, subst, inl, inr, refl, rules}
+use Rattle.std.proofs.Common.{arith, ◌≡◌, ◌∙◌, ◌+◌, ◌<◌, ◌≤◌, ℕ, true, false, length, sym, ap, subst, inl, inr, refl, rules}
 use Rattle.std.proofs.lemmas.Grind.{common_steps}
 use Rattle.std.specs.Option.{option_map}
 use Rattle.std.specs.Prelude.{◌⊎◌, ◌==◌, Some, None}
@@ -22,7 +22,8 @@ returns-then-number-gt-MAX_LINES-clause-only c = λ plan spells.
     let bad : IsBad c.loop-line.number (option_map plan_of c.loop-line.so_far) c.in-Some.line.now =
     elim c.then-number-gt-MAX_LINES.branch [
       | then-number-gt-MAX_LINES-via-then-number-gt-MAX_LINES w ↦ too_many w.if-number-gt-MAX_LINES.true
-      | then-number-gt-MAX_LINES-via-else-number-gt-MAX_LINES+then-line-gt-MAX_LINE_LEN w ↦ too_long w.if-line-gt-MAX_LINE_LEN.true
+      | then-number-gt-MAX_LINES-via-else-number-gt-MAX_LINES+then-line-limit w ↦ too_long
+          (subst (λ (limit : ℕ). limit < length c.in-Some.line.now) c.line_limit-limit.ensures w.if-line-limit.true)
     ] in
     absurd ((bad_line c.args.text.now c.loop-line.left.now c.loop-line.number (option_map plan_of c.loop-line.so_far) c.in-Some.line.now
     c.in-Some.rest.now c.loop-line.invariant c.in-Some.ensures.0 c.in-Some.ensures.1 bad).1 plan spells)
@@ -32,7 +33,8 @@ returns-then-number-gt-MAX_LINES-clause-bad c =
     let bad : IsBad c.loop-line.number (option_map plan_of c.loop-line.so_far) c.in-Some.line.now =
     elim c.then-number-gt-MAX_LINES.branch [
       | then-number-gt-MAX_LINES-via-then-number-gt-MAX_LINES w ↦ too_many w.if-number-gt-MAX_LINES.true
-      | then-number-gt-MAX_LINES-via-else-number-gt-MAX_LINES+then-line-gt-MAX_LINE_LEN w ↦ too_long w.if-line-gt-MAX_LINE_LEN.true
+      | then-number-gt-MAX_LINES-via-else-number-gt-MAX_LINES+then-line-limit w ↦ too_long
+          (subst (λ (limit : ℕ). limit < length c.in-Some.line.now) c.line_limit-limit.ensures w.if-line-limit.true)
     ] in
     inr (
       c.loop-line.number,
@@ -74,13 +76,15 @@ loop-line-preserved c = elim c.if-counts.branch [
       subst (Going c.args.text.now c.in-Some.rest.now (c.loop-line.number + 1)) (sym (ap (option_map plan_of) w.so_far-is))
       (goes_further c.args.text.now c.loop-line.left.now c.loop-line.number (option_map plan_of c.loop-line.so_far) c.in-Some.line.now
       c.in-Some.rest.now (plan_of w.in-Some-2.scenario)
-      c.loop-line.invariant c.in-Some.ensures.0 c.in-Some.ensures.1 c.if-number-gt-MAX_LINES.false c.if-line-gt-MAX_LINE_LEN.false is next)
+      c.loop-line.invariant c.in-Some.ensures.0 c.in-Some.ensures.1 c.if-number-gt-MAX_LINES.false
+      (subst (λ (limit : ℕ). length c.in-Some.line.now ≤ limit) c.line_limit-limit.ensures c.if-line-limit.false) is next)
   | else-counts w ↦
       let over : counts c.in-Some.line.now ≡ false = sym c.counts.ensures ∙ w.if-counts.false in
       subst (Going c.args.text.now c.in-Some.rest.now (c.loop-line.number + 1)) (sym (ap (option_map plan_of) w.so_far-is))
       (goes_over c.args.text.now c.loop-line.left.now c.loop-line.number (option_map plan_of c.loop-line.so_far) c.in-Some.line.now
       c.in-Some.rest.now
-      c.loop-line.invariant c.in-Some.ensures.0 c.in-Some.ensures.1 c.if-number-gt-MAX_LINES.false c.if-line-gt-MAX_LINE_LEN.false over)
+      c.loop-line.invariant c.in-Some.ensures.0 c.in-Some.ensures.1 c.if-number-gt-MAX_LINES.false
+      (subst (λ (limit : ℕ). length c.in-Some.line.now ≤ limit) c.line_limit-limit.ensures c.if-line-limit.false) over)
 ]
 
 pub returns-in-Some-so_far-clause-spelled : goal.returns-in-Some-so_far-clause-spelled

@@ -24,7 +24,10 @@ pub invariant_of-result : goal.invariant_of-result
 invariant_of-result c =
     let l = c.args.lock.now in
     record {
-      each = subst (AllByRecursion IsSigned) (sym c.as_slice-reports.ensures) c.requires.spelled.0.statement.each;
+      each = (
+        l.version,
+        subst (AllByRecursion (IsSigned l.version)) (sym c.as_slice-reports.ensures) c.requires.spelled.0.statement.each,
+      );
       spelled = (
         signature_bytes (signed_by_last c.args.frame.now (statement.Lock l) c.args.signature_len).signature,
         rw (c.reports_len.ensures.len, c.as_slice-reports.ensures, c.len.ensures.value)

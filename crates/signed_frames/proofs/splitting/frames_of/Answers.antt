@@ -10,15 +10,15 @@ pub loop-frames-preserved : goal.loop-frames-preserved
 loop-frames-preserved c =
     let bytes = c.args.bytes.now in
     let s = c.in-Whole.frame in
-    let begins = subst (λ (rest : List ℕ). Begins rest (Whole s)) c.split_at.ensures.back
-    (subst (λ front. Begins c.split_at.result.1.now front) c.in-Whole.is c.in_ok-frame.ensures) in
-    let more : Used bytes (c.loop-frames.frames.items ++ s ∷ []) (c.loop-frames.used + length (frame_bytes s)) =
-    one_more bytes c.loop-frames.frames.items c.loop-frames.used s c.loop-frames.invariant begins.0 begins.1 in
-    let counted = subst (λ (n : ℕ). Used bytes (c.loop-frames.frames.items ++ s ∷ []) (c.loop-frames.used + n))
+    let begins = subst (λ (rest : List ℕ). Begins c.args.version rest (Whole s)) c.split_at.ensures.back
+    (subst (λ front. Begins c.args.version c.split_at.result.1.now front) c.in-Whole.is c.in_ok-frame.ensures) in
+    let more : Used c.args.version bytes (c.loop-frames.frames.items ++ s ∷ []) (c.loop-frames.used + length (frame_bytes s)) =
+    one_more c.args.version bytes c.loop-frames.frames.items c.loop-frames.used s c.loop-frames.invariant begins.0 begins.1 in
+    let counted = subst (λ (n : ℕ). Used c.args.version bytes (c.loop-frames.frames.items ++ s ∷ []) (c.loop-frames.used + n))
     (ap length (sym c.as_bytes.ensures)) more in
-    subst (λ (frames : List SignedStatement). Used bytes frames (c.loop-frames.used + length c.as_bytes.result.now))
+    subst (λ (frames : List SignedStatement). Used c.args.version bytes frames (c.loop-frames.used + length c.as_bytes.result.now))
     (sym c.in_ok-push-in-Whole.ensures.items) counted
 
 pub loop-frames-smaller : goal.loop-frames-smaller
-loop-frames-smaller c = less_left c.args.bytes.now c.push.new.self.items c.loop-frames.used (length c.as_bytes.result.now) c.in-Whole.frame
+loop-frames-smaller c = less_left c.args.version c.args.bytes.now c.push.new.self.items c.loop-frames.used (length c.as_bytes.result.now) c.in-Whole.frame
     (loop-frames-preserved c) (ap length c.as_bytes.ensures)

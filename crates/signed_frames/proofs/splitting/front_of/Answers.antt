@@ -1,5 +1,5 @@
 use Rattle.std.proofs.Common.{◌≡◌, ◌+◌, None, ap, sym, ◌∙◌, subst, take, arith}
-use Rattle.ledger_model.specs.Reading.{reading}
+use Rattle.ledger_model.specs.Reading.{reading_in}
 use Rattle.ledger_model.specs.Streams.{announced}
 use Rattle.statements.specs.Reads.{Faults}
 use Rattle.signed_frames.proofs.Fronts.{is_malformed}
@@ -9,9 +9,9 @@ pub returns-in-Err-Malformed : goal.returns-in-Err-Malformed
 returns-in-Err-Malformed c =
     let whole : c.in_ok-copy_from_slice.field-0 ≡ take (4 + c.in-Ok.len) c.args.bytes.now =
     c.in_ok-copy_from_slice.ensures ∙ c.split_at.ensures.front in
-    let none : reading c.in_ok-copy_from_slice.field-0 ≡ None =
-    subst (λ fault. Faults fault (reading c.in_ok-copy_from_slice.field-0)) c.in-Err-Malformed.field-0-is
+    let none : reading_in c.args.version c.in_ok-copy_from_slice.field-0 ≡ None =
+    subst (λ fault. Faults fault (reading_in c.args.version c.in_ok-copy_from_slice.field-0)) c.in-Err-Malformed.field-0-is
     c.in-Err-Malformed.ensures.exact in
     let says : announced c.args.bytes.now ≡ c.in-Ok.len = sym (c.in-Ok.ensures.ok ∙ ap announced c.new.ensures) in
-    is_malformed c.args.bytes.now c.in-Ok.len (omega (arith, c.split_at.ensures.back_len)) says (omega arith)
-    (ap reading (sym whole) ∙ none)
+    is_malformed c.args.version c.args.bytes.now c.in-Ok.len (omega (arith, c.split_at.ensures.back_len)) says (omega arith)
+    (ap (reading_in c.args.version) (sym whole) ∙ none)

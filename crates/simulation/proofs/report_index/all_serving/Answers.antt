@@ -18,8 +18,8 @@ loop-replica-preserved g c =
           let more = ap (λ v. v.items) w.reports-is ∙ w.in_ok-push.ensures.items in
           let at : serves c.loop-replica.replica ≡ Some w.in-Some.report = here ∙ w.in-Some.is in (
             more ∙ found_kept serves c.loop-replica.replica c.loop-replica.reports.items w.in-Some.report found at,
-            subst (AllByRecursion IsSigned) (sym more)
-                (each_append IsSigned _ (w.in-Some.report ∷ []) spelled (rw w.in-Some.is at c.in_ok-report.ensures.spelled, tt)),
+            subst (AllByRecursion (IsSigned c.args.lie.now.version)) (sym more)
+                (each_append (IsSigned c.args.lie.now.version) _ (w.in-Some.report ∷ []) spelled (rw w.in-Some.is at c.in_ok-report.ensures.spelled, tt)),
             c.in_ok-report.ensures.index,
             c.in_ok-report.ensures.made,
           )
@@ -27,7 +27,7 @@ loop-replica-preserved g c =
           let same = ap (λ v. v.items) w.reports-is in
           let at : serves c.loop-replica.replica ≡ None = here ∙ w.in_default.is in (
             same ∙ found_left serves c.loop-replica.replica c.loop-replica.reports.items found at,
-            subst (AllByRecursion IsSigned) (sym same) spelled,
+            subst (AllByRecursion (IsSigned c.args.lie.now.version)) (sym same) spelled,
             c.in_ok-report.ensures.index,
             c.in_ok-report.ensures.made,
           )

@@ -9,4 +9,4 @@ use Rattle.simulation.proofs.report_index.all_serving.Given as goal
 abbrev pub invariant-loop-replica : goal.invariant-loop-replica
 invariant-loop-replica g l =
     (l.reports.items ≡ filter_map (serving (simulation_of l.world l.lies) l.lie l.source) (range_with_len 0 l.replica))
-    × AllByRecursion IsSigned l.reports.items × IsIndexOf l.index l.world l.lies × (l.replica ≤ length l.index.sent.items)
+    × AllByRecursion (IsSigned l.lie.version) l.reports.items × IsIndexOf l.index l.world l.lies × (l.replica ≤ length l.index.sent.items)

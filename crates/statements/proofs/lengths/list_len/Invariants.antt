@@ -6,5 +6,5 @@ use Rattle.statements.proofs.lengths.list_len.Given as goal
 abbrev pub invariant-loop-batch : goal.invariant-loop-batch
 invariant-loop-batch l = record {
   len : l.len ≡ 1 + length (flat_map value_bytes (take l.batch-index l.batches));
-  bound : l.len ≤ 1 + 1041 * l.batch-index;
+  bound : l.len ≤ 1 + 4161 * l.batch-index;
 }

@@ -6,5 +6,5 @@ use Rattle.statements.proofs.lengths.reports_len.Given as goal
 abbrev pub invariant-loop-signed : goal.invariant-loop-signed
 invariant-loop-signed l = record {
   len : l.len ≡ length (flat_map signed_bytes (take l.signed-index l.reports));
-  bound : l.len ≤ 11892 * l.signed-index;
+  bound : l.len ≤ 39972 * l.signed-index;
 }

@@ -1,9 +1,9 @@
-use Rattle.ledger_model.specs.Limits.{max_batch_len}
+use Rattle.ledger_model.specs.Versions.{batch_limit}
 use Rattle.ledger_model.specs.Reading.{value_at}
 use Rattle.statements.proofs.values.take_batch.Goals as goal
 use Rattle.std.proofs.Common.{◌≡◌, nat_le, true, refl, rules}
 
-few : (c : goal.In_ok-new) → nat_le c.in_ok-count.count max_batch_len ≡ true
+few : (c : goal.In_ok-new) → nat_le c.in_ok-count.count (batch_limit c.args.version) ≡ true
 few c = search rules
 
 pub returns : goal.returns

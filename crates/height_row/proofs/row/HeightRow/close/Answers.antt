@@ -39,7 +39,7 @@ pub close-requires-clause-ending : goal.close-requires-clause-ending
 close-requires-clause-ending c = (rw (sym c.self.view_is) at c.requires.ending) c.unwrap.result.now (held c).was
 
 pub close-requires-clause-own : goal.close-requires-clause-own
-close-requires-clause-own c = subst (λ id. IsOwnMade id c.args.made) (sym (held c).own.1) (rw (sym c.self.view_is) at c.requires.own)
+close-requires-clause-own c = rw ((held c).own.0, (held c).own.1) (rw (sym c.self.view_is) at c.requires.own)
 
 -- and another of the same height, once it has done this
 put : (c : goal.After-self-1)

@@ -9,7 +9,7 @@ use Rattle.height_row.proofs.row.HeightRow.close_all.Goals as goal
 pub close_each-requires-clause-closings : goal.close_each-requires-clause-closings
 close_each-requires-clause-closings c =
     rw c.deref_mut.ensures.value
-    (are_closings (c.args.clock + 1) c.self.inside.id (all_read c.self.inside.slots.items) c.args.closings.items
+    (are_closings c.self.inside.config (c.args.clock + 1) c.self.inside.id (all_read c.self.inside.slots.items) c.args.closings.items
     (rw (sym c.self.view_is) at c.requires.endings) (slots_own _ _ _ c.self.inside.slots.items c.self.invariant.1)
     (rw (sym c.self.view_is) at c.requires.own))
 

@@ -47,6 +47,9 @@ held g c =
 pub read_with-requires-clause-signer : goal.read_with-requires-clause-signer
 read_with-requires-clause-signer g c = rw (held g c).own.0 (rw (sym c.self.view_is) at c.requires.signer)
 
+pub read_with-requires-clause-version : goal.read_with-requires-clause-version
+read_with-requires-clause-version g c = rw (held g c).own.0 (rw (sym c.self.view_is) at c.requires.version)
+
 pub read_with-requires-clause-height : goal.read_with-requires-clause-height
 read_with-requires-clause-height g c = sym (held g c).own.2
 

@@ -16,14 +16,14 @@ returns-clause-matches c = λ ring log rounds.
     let own = c.args.initial.now in
     subst (λ row. MatchesLog ring row (log ++ Proposed own ∷ [])) (sym (returns-clause-row c))
     (opens config c.args.id c.args.height own ring log c.requires.member (c.requires.height.0, omega (arith, c.requires.height.1))
-    c.in_ok-proper.ensures.spelled rounds)
+    c.requires.initial rounds)
 
 pub invariant_of-result : goal.invariant_of-result
 invariant_of-result c =
     let config = c.args.config.now in
     let row = opened_row config c.args.id c.args.height c.args.initial.now in
     let spelled : IsSpelled row = (opens config c.args.id c.args.height c.args.initial.now [] [] c.requires.member
-    (c.requires.height.0, omega (arith, c.requires.height.1)) c.in_ok-proper.ensures.spelled refl).sound.spelled in
+    (c.requires.height.0, omega (arith, c.requires.height.1)) c.requires.initial refl).sound.spelled in
     rw (
       c.in_ok-proper.ensures.config,
       c.in_ok-proper.ensures.set,

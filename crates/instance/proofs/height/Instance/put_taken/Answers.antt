@@ -10,6 +10,6 @@ invariant_of-self c =
       i.1,
       i.2,
       i.3,
-      keeps_lock i.4 _ _ _ _ c.requires.lock.value (sym c.in-Ok.ensures.full) c.in-Ok.ensures.taken
+      keeps_lock i.4 _ _ _ _ (rw (sym c.self.view_is) at c.requires.fits) (sym c.in-Ok.ensures.full) c.in-Ok.ensures.taken
           (ap Some c.requires.value),
     )

@@ -2,7 +2,8 @@ use Rattle.std.proofs.Common.{◌≡◌, rules, sym, subst, ap, ◌∙◌}
 use Rattle.std.specs.Prelude.{Ok, Err}
 use Rattle.ledger_model.specs.declared.statement.SignedStatement.{SignedStatement}
 use Rattle.ledger_model.specs.Rules.{first_of}
-use Rattle.ledger_model.specs.Spelling.{IsStatement}
+use Rattle.ledger_model.specs.Spelling.{IsFrameIn}
+use Rattle.ledger_model.proofs.VersionLaws.{value_within}
 use Rattle.lock_proofs.specs.Faults.{faults}
 use Rattle.lock_proofs.specs.LockFrames.{lock_in}
 use Rattle.instance.specs.Instances.{InstanceView}
@@ -17,9 +18,10 @@ returns-in-Err-clause-answer g c =
     c.in-Err.fault c.requires.kind
     c.requires.owner (search rules)
 
-pub read_valid-requires-clause-lock : goal.read_valid-requires-clause-lock
-read_valid-requires-clause-lock g c =
-    subst (λ (s : SignedStatement). IsStatement s.statement) (sym c.in-Ok.ensures.lock) c.requires.frame.statement
+pub read_valid-requires-clause-fits : goal.read_valid-requires-clause-fits
+read_valid-requires-clause-fits g c =
+    let frame = subst (IsFrameIn c.args.self.now.config.frames) (sym c.in-Ok.ensures.lock) c.requires.frame in
+    value_within c.args.self.now.config.frames c.in-Ok.lock.lock.version c.in-Ok.lock.lock.value frame.read frame.statement.value
 
 pub returns-in-Ok-clause-answer : goal.returns-in-Ok-clause-answer
 returns-in-Ok-clause-answer g c =

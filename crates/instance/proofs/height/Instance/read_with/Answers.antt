@@ -1,5 +1,6 @@
 use Rattle.std.proofs.Common.{rules, ◌∙◌}
 use Rattle.std.specs.Prelude.{Ok}
+use Rattle.ledger_model.proofs.FrameReading.{carried_frame}
 use Rattle.instance.proofs.KindCauses.{early, report_answer, lock_answer, ack_answer}
 use Rattle.instance.proofs.AtClock.{answers_at, by_row, Outcome, outcome}
 use Rattle.instance.proofs.height.Instance.read_with.Given.{Over}
@@ -16,7 +17,7 @@ of_report : (g : Over) (c : goal.After-read_report g)
 of_report g c =
     outcome (g.C.CheckSignatures.ring c.args.checks.now) c.args.self.now c.read_report.new.self c.args.clock c.args.frame
     c.read_report.result c.requires.signer
-    c.requires.height c.statement.ensures.frame
+    c.requires.height (carried_frame _ _ c.statement.ensures.frame c.requires.version)
     (by_row c.read_report.result _ _ c.read_report.ensures.answer
     (report_answer c.args.self.now (g.C.CheckSignatures.ring c.args.checks.now) c.args.clock c.args.frame.signature tt
     c.args.frame.statement (search rules)
@@ -39,7 +40,7 @@ of_lock : (g : Over) (c : goal.After-read_lock g)
 of_lock g c =
     outcome (g.C.CheckSignatures.ring c.args.checks.now) c.args.self.now c.read_lock.new.self c.args.clock c.args.frame c.read_lock.result
     c.requires.signer
-    c.requires.height c.statement.ensures.frame
+    c.requires.height (carried_frame _ _ c.statement.ensures.frame c.requires.version)
     (by_row c.read_lock.result _ _ c.read_lock.ensures.answer
     (lock_answer c.args.self.now (g.C.CheckSignatures.ring c.args.checks.now) c.args.clock c.args.frame.signature tt
     c.args.frame.statement (search rules)
@@ -63,7 +64,7 @@ of_ack : (g : Over) (c : goal.After-read_ack g)
 of_ack g c =
     outcome (g.C.CheckSignatures.ring c.args.checks.now) c.args.self.now c.read_ack.new.self c.args.clock c.args.frame
     (Ok c.read_ack.result) c.requires.signer
-    c.requires.height c.statement.ensures.frame
+    c.requires.height (carried_frame _ _ c.statement.ensures.frame c.requires.version)
     (c.read_ack.ensures.answer ∙ ack_answer c.args.self.now (g.C.CheckSignatures.ring c.args.checks.now) c.args.clock
     c.args.frame.signature tt c.args.frame.statement
     (search rules) (search rules))
@@ -78,3 +79,9 @@ returns-in-Ack g c = let o = of_ack g c in record {
   err = tt;
   same = o.same;
 }
+
+pub read_report-requires-clause-frame : goal.read_report-requires-clause-frame
+read_report-requires-clause-frame g c = carried_frame _ _ c.statement.ensures.frame c.requires.version
+
+pub read_lock-requires-clause-frame : goal.read_lock-requires-clause-frame
+read_lock-requires-clause-frame g c = carried_frame _ _ c.statement.ensures.frame c.requires.version

@@ -31,7 +31,7 @@ prepare_round-requires-clause-endings g c = rw c.in-Some.is at c.in_ok-closings.
 pub prepare_round-requires-clause-own : goal.prepare_round-requires-clause-own
 prepare_round-requires-clause-own g c =
     let shown = rw c.in-Some.is at c.in_ok-closings.ensures.shown in
-    of_images (IsOwnMade c.args.self.now.id) (λ (x : RoundClosing). x.made) c.in-Some.closings.items shown.own
+    of_images (IsOwnMade c.args.self.now.config c.args.self.now.id) (λ (x : RoundClosing). x.made) c.in-Some.closings.items shown.own
 
 -- its frames are compared
 pub returns-clause-followed : goal.returns-clause-followed

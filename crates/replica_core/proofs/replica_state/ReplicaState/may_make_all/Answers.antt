@@ -25,10 +25,12 @@ loop-instance-preserved g c =
     let steps = c.in-Some.ensures.steps in
     let here = judged_row held c.args.closings.now row _ c.loop-instance.invariant steps.0 in
     let inside = subst (λ rows. row_at rows row.height ≡ Some row) (sym (ap (λ (x : ReplicaStateView). x.rows) c.self.view_is)) here in
+    let config : row.config ≡ held.config = (c.instances.ensures.own row.height row inside).0 ∙ c.self.invariant.1
+    ∙ ap (λ (x : ReplicaStateView). x.config) c.self.view_is in
     let id : row.id ≡ held.id = (c.instances.ensures.own row.height row inside).1 ∙ c.self.invariant.2
     ∙ ap (λ (x : ReplicaStateView). x.id) c.self.view_is in
     judging_next held c.args.closings.now row _ c.in-Some.closing.now _ c.loop-instance.invariant steps.0 steps.1
-    (subst (λ n. IsOwnMade n c.in-Some.closing.now.made) id (c.may_make.ensures.own c.if-not-may_make.false))
+    (rw (sym config, sym id) (c.may_make.ensures.own c.if-not-may_make.false))
     (λ entries matches. c.may_make.ensures.may (log_of held.config held.id row.height entries) (matches.opened row.height row here)
     (matches.clocks row.height) c.if-not-may_make.false)
 

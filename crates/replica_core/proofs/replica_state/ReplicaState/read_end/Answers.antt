@@ -48,8 +48,8 @@ returns-then-may_make_all-clause-shown g c =
     ∙ ap (made_each (map (λ (row : InstanceView). row.height) held.rows)) (sym shown) in
     shown_each held c.args.end.now c.requires.held c.requires.clock c.requires.loud c.requires.none_on frames (mades xs) is
     (shown_count (held.clock + 1) held.rows xs ends)
-    (all_images (IsOwnMade held.id) (λ (x : RoundClosing). x.made) xs
-    (subst (AllByRecursion (λ (x : RoundClosing). IsOwnMade held.id x.made)) c.deref.ensures.value
+    (all_images (IsOwnMade held.config held.id) (λ (x : RoundClosing). x.made) xs
+    (subst (AllByRecursion (λ (x : RoundClosing). IsOwnMade held.config held.id x.made)) c.deref.ensures.value
     (c.may_make_all.ensures.own c.if-may_make_all.true)))
     (λ entries matches. subst (λ (ys : List RoundClosing). AreMade held.ring false (held.clock + 1) held.rows (mades ys))
     c.deref.ensures.value (c.may_make_all.ensures.may entries matches c.if-may_make_all.true))

@@ -29,7 +29,10 @@ invariant_of-self c =
     ∙ ap (λ (x : List ℕ). x ++ rest) (flat_map-cons signed_bytes first others)
     ∙ append_assoc (signed_bytes first) (flat_map signed_bytes others) rest in
     record {
-      each = (subst (AllByRecursion IsSigned) is c.self.invariant.each).1;
+      each = (
+        c.self.invariant.each.0,
+        (subst (AllByRecursion (IsSigned c.self.invariant.each.0)) is c.self.invariant.each.1).1,
+      );
       spelled = (
         rest,
         (cut c.self.inside.frame.now (signed_bytes first) (flat_map signed_bytes others ++ rest) c.self.inside.at

@@ -1,3 +1,4 @@
+use Rattle.ledger_model.specs.declared.version.Version.TheVariants.{Two}
 use Rattle.std.proofs.Common.{ap, ◌∙◌}
 use Rattle.ledger_model.specs.declared.statement.SignedStatement.{SignedStatement}
 use Rattle.ledger_model.specs.declared.statement.Statement.{Statement}
@@ -10,7 +11,7 @@ signed-requires-clause-stands c = (c.self.inside.statement, c.self.invariant)
 pub holding-requires : goal.holding-requires
 holding-requires c =
     let u = c.self.inside in
-    holds c.in_ok-bytes.bytes (record { statement = u.statement; signature = c.args.signature.now })
+    holds Two c.in_ok-bytes.bytes (record { statement = u.statement; signature = c.args.signature.now })
     (c.in_ok-bytes.ensures u.statement c.self.invariant)
 
 pub returns : goal.returns

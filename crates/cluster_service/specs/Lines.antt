@@ -1,0 +1,15 @@
+-- The lines of `abft cluster` and `abft serve`.
+use Rattle.std.specs.Prelude.{ℕ, ◌+◌, List, [], ◌∷◌, ◌++◌, codes, decimal}
+
+-- the line of a replica: the number of blocks that it committed
+abbrev pub commit_line : ℕ → ℕ → List ℕ
+commit_line replica height = codes "commits " ++ (decimal replica ++ 32 ∷ (decimal height ++ 10 ∷ []))
+
+-- the lines of replicas, from this number on
+unfoldable pub commit_lines : ℕ → List ℕ → List ℕ
+commit_lines replica [] = []
+commit_lines replica (height ∷ heights) = commit_line replica height ++ commit_lines (replica + 1) heights
+
+-- the line with the port of the listener
+abbrev pub port_line : ℕ → List ℕ
+port_line port = codes "listening " ++ decimal port ++ 10 ∷ []
