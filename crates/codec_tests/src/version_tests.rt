@@ -24,7 +24,7 @@ fn clusters_have_frames_1_or_2(rt: HostRuntime) {
     }
 }
 
-// An acknowledgement with this first byte, of a batch of so many transactions [a].
+// An acknowledgement with this first byte, of a batch of `count` transactions [a].
 fn ack_of(alloc: Global, first: u8, count: u8) -> Result<Vec<u8>, AllocError> {
     let mut bytes = joined(alloc, &[&[first], &ACK[1..10], &[count]])?;
     for _ in 0..count {

@@ -23,7 +23,7 @@ use Rattle.ledger_model.specs.Notes.{version_of}
 use Rattle.ledger_model.specs.declared.version.Version.{Version}
 use Rattle.ledger_model.specs.declared.version.Version.TheVariants.{One, Two}
 
--- pieces of at most so many bytes, one after the other
+-- pieces of at most `most` bytes each, one after the other
 flat_bound : {X : Type 0} (P : X → Type 0) (f : X → List ℕ) (most : ℕ) → ((x : X) → P x → length (f x) ≤ most) → (xs : List X)
     → AllByRecursion P xs → length (flat_map f xs) ≤ most * length xs
 flat_bound P f most each [] all = omega arith
@@ -68,7 +68,7 @@ report_parts r =
       length-append start (value_bytes r.initial),
     )
 
--- with its signature, in a lock of this version, at most so many
+-- a signed report has at most `signed_most` bytes in a lock of this version
 signed_bound : (version : Version) (s : SignedReport) → IsSigned version s → length (signed_bytes s) ≤ signed_most version
 signed_bound version s is = of_versions version s.report.version is.read
     (value_bound s.report.version s.report.initial is.report.initial)
