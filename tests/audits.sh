@@ -51,6 +51,12 @@ blames 'a smaller cluster than theirs' 'fault 1 Count' 'An audit needs the histo
 blames 'another application' 'fault 2 NotReplay 0 0' "$(broken 0 0)" "'$abft' audit --kind 3 <'$room/plain'"
 blames 'another seed' 'fault 2 NotReplay 0 2' "$(broken 0 2)" "'$abft' audit --seed $(printf '1%.0s' {1..64}) <'$room/plain'"
 
+# Frames of version 2.
+awk '{ print } /^config / { print "frames 2" }' examples/plain-run.txt | "$abft" simulate --histories >"$room/second" || exit 1
+finds 'frames of version 2' "$ledger" "'$abft' audit --frames 2 <'$room/second'"
+runs 'frames of version 2 to an audit of version 1' 1 $'bad history\n' "'$abft' audit <'$room/second'"
+blames 'frames of version 1 to an audit of version 2' 'fault 2 NotReplay 0 2' "$(broken 0 2)" "'$abft' audit --frames 2 <'$room/plain'"
+
 # Receipts.
 finds 'a receipt' "${ledger}receipt ok"$'\n' "'$abft' audit --receipt 0:0:a=1 <'$room/plain'"
 for wrong in 0:1:a=1 0:0:a=2 1:1:a=1 4:0:a=1 255:0:a=1 0:4294967295:a=1; do
@@ -80,6 +86,9 @@ blames 'a signature of another statement' 'fault 2 NotReplay 0 3' "$(broken 0 3)
 # Live clusters: what they print is an audit of the histories that they write.
 "$abft" cluster --quiet --rounds 16 --base-ms 100 --histories "$room/live" >"$room/told"
 runs 'the histories of a live cluster' 0 '' "'$abft' audit <'$room/live' | cmp - <(grep -v ^commits '$room/told')"
+"$abft" cluster --quiet --frames 2 --rounds 16 --base-ms 100 --histories "$room/live" >"$room/told"
+runs 'those of one with frames of version 2' 0 '' "'$abft' audit --frames 2 <'$room/live' | cmp - <(grep -v ^commits '$room/told')"
+runs 'it has a ledger' 0 '' "grep -q '^ledger [1-9]' '$room/told'"
 faults 'a file that can not be made' 3 $'error: can\'t write the file /: Is a directory (os error 21)\n' \
     "'$abft' cluster --quiet --rounds 0 --histories / >/dev/null"
 runs 'no line is there then' 3 '' "'$abft' cluster --quiet --rounds 0 --histories / 2>/dev/null"

@@ -7,7 +7,8 @@ from machines import machine
 from records import Ack, Lock, Report, read_frame
 
 REPORT_PLACE, LOCK_PLACE, ACK_PLACE, RELEASE_PLACE = 1, 2, 3, 4
-MAX_LOCKS, MAX_POOL, MAX_TX, MAX_BATCH = 4, 1024, 64, 16
+MAX_LOCKS, MAX_POOL, MAX_TX = 4, 1024, 64
+MAX_BATCH = {1: 16, 2: 64}  # by the version of the frames
 
 
 def phase_of(clock):
@@ -50,8 +51,8 @@ class Height:
 class Replica:
     """A correct replica, followed entry by entry."""
 
-    def __init__(self, number, replicas, faults, kind):
-        self.number, self.replicas, self.faults = number, replicas, faults
+    def __init__(self, number, replicas, faults, kind, frames=1):
+        self.number, self.replicas, self.faults, self.frames = number, replicas, faults, frames
         self.clock, self.floor, self.is_mute = 0, 1, False
         self.heights, self.decided, self.commits, self.proposed = {}, {}, [], {}
         self.machine, self.pool = machine(kind), []
@@ -80,7 +81,7 @@ class Replica:
                   else 1 if height > committed + 4 else 0)
         require(entry.why == wanted, "answers", entry.why, "and not", wanted)
         if entry.why == 0:
-            require(entry.reply == tuple(self.pool[:MAX_BATCH]), "isn't what the pool holds")
+            require(entry.reply == tuple(self.pool[:MAX_BATCH[self.frames]]), "isn't what the pool holds")
             self.heights[height] = Height(entry.reply)
             self.proposed[height] = entry.reply
 
@@ -154,6 +155,7 @@ class Replica:
         if place == RELEASE_PLACE:
             require(kind is Lock and height.locks.get(statement.value) == statement.phase, "sends on a lock that it doesn't hold")
             return statement
+        require(frame[4] // 16 + 1 == self.frames, "makes a statement of another version than its frames")
         require(kind is (Report, Lock, Ack)[place - 1] and statement.phase == phase, "makes a statement out of its place")
         require(statement.signer == self.number and not self.is_mute, "makes a statement of another, or is mute")
         require(addressee == (phase % self.replicas if kind is Ack else 255), "sends it to the wrong replica")
@@ -245,11 +247,11 @@ def check_one_list(replicas):
     return ledger
 
 
-def follow(histories, replicas, faults, kind):
+def follow(histories, replicas, faults, kind, frames=1):
     """The correct replicas after their histories, and the ledger. Raises Untrue if a conclusion doesn't hold."""
     found = {}
     for number, entries in histories.items():
-        found[number] = Replica(number, replicas, faults, kind)
+        found[number] = Replica(number, replicas, faults, kind, frames)
         found[number].follow(entries)
     check_nothing_forged(found)
     return found, check_one_list(found)

@@ -44,6 +44,16 @@ runs 'a wide key' 0 $'accepted\n' "$report --w 8 | $deliver --w 8"
 runs 'a tall tree' 0 $'accepted\n' "$report --tree 10 | $deliver --tree 10"
 runs 'a wide key and a tall tree' 0 $'accepted\n' "$report --w 8 --tree 10 | $deliver --w 8 --tree 10"
 runs 'a larger cluster' 0 $'accepted\n' "$report --n 5 --replica 4 | $deliver --n 5"
+runs 'a report of version 2' 0 $'accepted\n' "$report --frames 2 | $deliver --frames 2"
+runs 'then that of version 2 is repeated' 0 $'accepted\nignored 7 Repeated\n' "($report; $report --frames 2) | $deliver --frames 2"
+runs 'in the other order' 0 $'accepted\nignored 7 Repeated\n' "($report --frames 2; $report) | $deliver --frames 2"
+runs 'a report of version 1 to frames of version 2' 0 $'accepted\n' "$report | $deliver --frames 2"
+runs 'version 2 is malformed to version 1' 1 $'fault 2 Malformed\n' "$report --frames 2 | $deliver"
+runs 'an acknowledgement of version 2' 0 $'ignored 4 WrongRound\n' "$ack --frames 2 | $deliver --frames 2"
+runs 'the first bytes of version 2' 0 '00000945''11 0000093d''13 ' \
+    "for what in report ack; do '$abft' sign \$what --frames 2 | head -c 5 | od -An -v -tx1 | tr -d ' \\n'; echo -n ' '; done"
+runs 'too long for version 2' 1 $'fault 1 TooLong\n' "printf '\\000\\011\\047\\301' | $deliver --frames 2"
+runs 'as long as version 2 may be' 1 $'cut\n' "printf '\\000\\011\\047\\300' | $deliver --frames 2"
 runs 'another seed, in digits of either case' 0 $'accepted\n' "$report --seed ${ones%??}Ff | $deliver --seed ${ones%??}fF"
 runs 'an acknowledgement is early' 0 $'ignored 4 WrongRound\n' "$ack | $deliver"
 runs 'no round is open' 0 $'ignored 4 WrongRound\n' "$report | $deliver --rounds 0"
@@ -86,6 +96,7 @@ refuses "error: --kind is a number from 1 to 3, not '4'" sign report --kind 4
 refuses "error: --w is 4 or 8, not '5'" sign report --w 5
 refuses "error: --w is 4 or 8, not '16'" sign report --w 16
 refuses "error: --tree is 5 or 10, not '6'" deliver --tree 6
+refuses "error: --frames is a number from 1 to 2, not '3'" deliver --frames 3
 refuses "error: --seed is 64 hexadecimal digits, not '00'" sign report --seed 00
 refuses "error: --replica is a number from 0 to 3, not '4'" sign report --replica 4
 refuses "error: --replica is a number from 0 to 6, not '7'" deliver --n 7 --replica 7
@@ -242,6 +253,7 @@ cat >"$room/common" <<'EOT'
       --kind <kind>        The application: 1 keys and values, 2 a counter, 3 a purse [default: 1]
       --w <w>              Bits of a digit of a signature: 4 or 8 [default: 4]
       --tree <tree>        Height of a signature tree: 5 or 10 [default: 5]
+      --frames <frames>    The version of the frames, 1 or 2; with 2 a batch has up to 64 transactions, not 16 [default: 1]
       --seed <seed>        The seed of all keys, 64 hexadecimal digits [default: 0000000000000000000000000000000000000000000000000000000000000000]
 EOT
 : >"$room/wanted-err"
@@ -321,7 +333,7 @@ Lines, one for each frame:
   ignored N CAUSE  it was ignored: the cause's number and name, as in 'ignored 7 Repeated'
 
 The last line, where the stream is wrong:
-  fault 1 TooLong    a frame longer than 150000 bytes was announced
+  fault 1 TooLong    a frame longer than 150000 bytes was announced, or than 600000 with --frames 2
   fault 2 Malformed  a frame is not spelled as one
   cut                the stream ends within a frame
 

@@ -36,8 +36,9 @@ def play(abft, seed):
     data = run(abft, "simulate", "--histories", data=text)
     histories = read_histories(data)
     require(list(histories) == cluster.correct, "the histories are of", list(histories))
-    replicas, ledger = follow(histories, cluster.replicas, cluster.faults, cluster.kind)
-    told = run(abft, "audit", "--n", str(cluster.replicas), "--t", str(cluster.faults), "--kind", str(cluster.kind), data=data)
+    replicas, ledger = follow(histories, cluster.replicas, cluster.faults, cluster.kind, cluster.frames)
+    options = {"--n": cluster.replicas, "--t": cluster.faults, "--kind": cluster.kind, "--frames": cluster.frames}
+    told = run(abft, "audit", *(f"{name}={value}" for name, value in options.items()), data=data)
     require(told.decode() == ledger_lines(ledger), "the audit answers", told[:200])
     if seed % 5 == 0:
         check_printed(run(abft, "simulate", data=text).decode().splitlines(), ledger)
@@ -57,6 +58,8 @@ def counts(scenario, replicas, ledger):
     found["heights decided"] = len({height for replica in replicas.values() for height in replica.decided})
     found["runs that decide"] = min(found["heights decided"], 1)
     found["runs with a block"] = min(found["blocks"], 1)
+    found["runs with frames of version 2"] = scenario.cluster.frames - 1
+    found["blocks of more than 16 transactions"] = sum(len(batch) > 16 for batch in ledger)
     for replica in replicas.values():
         found["frames sent"] += len(replica.sent)
         found["frames accepted"] += len(replica.accepted)

@@ -64,6 +64,9 @@ counts 'a part has its rounds' 4 '<title>round ' --first 5 --last 8
 counts 'a part has its decision' 1 '<title>height 1 decided: ' --first 5 --last 8
 counts 'another height is empty' 0 '; accepted' --height 2
 counts 'rounds past the last are empty' 0 '<title>round ' --first 20 --last 30
+runs 'frames of version 2 have the same picture' 0 '' \
+    "awk '{ print } /^config / { print \"frames 2\" }' examples/plain-run.txt | '$abft' simulate --histories | '$abft' draw --frames 2 |
+    cmp - docs/pictures/plain-run.svg"
 runs 'an empty input has rows' 0 4 "'$abft' draw </dev/null | grep -c 'no history was handed in' | tr -d '\n'"
 runs 'what is no histories is told' 1 $'bad history\n' "printf x | '$abft' draw"
 finish

@@ -13,9 +13,10 @@ FAR_LEAF = 16  # scenarios use a liar's leaves from 0 on; what is signed here us
 
 
 class Cluster:
-    """How many replicas there are, which of them lie, and what they run."""
+    """How many replicas there are, which of them lie, what they run, and the version of their frames."""
 
-    def __init__(self, random_numbers):
+    def __init__(self, random_numbers, frames):
+        self.frames = frames
         self.replicas = random_numbers.choices(range(4, 14), weights=[40, 8, 4, 14, 3, 2, 5, 1, 1, 2])[0]
         most = (self.replicas - 1) // 3
         self.faults = most if random_numbers.random() < 0.8 else random_numbers.randint(1, most)
@@ -28,7 +29,8 @@ class Cluster:
         return phase % self.replicas
 
     def lines(self):
-        return [f"config {self.replicas} {self.faults} {self.kind}", *(f"liar {liar}" for liar in self.liars)]
+        frames = ["frames 2"] * (self.frames == 2)
+        return [f"config {self.replicas} {self.faults} {self.kind}", *frames, *(f"liar {liar}" for liar in self.liars)]
 
 
 class Scenario:
@@ -36,7 +38,7 @@ class Scenario:
 
     def __init__(self, seed, abft):
         self.random, self.abft = random.Random(seed), abft
-        self.cluster = Cluster(self.random)
+        self.cluster = Cluster(self.random, 2 if seed % 4 == 3 else 1)
         self.lines = self.cluster.lines()
         self.clocks = dict.fromkeys(self.cluster.correct, 0)
         self.heights, self.values, self.number, self.leaf = [], [()], 0, FAR_LEAF
@@ -70,10 +72,19 @@ class Scenario:
         if transaction not in self.pools[replica] and len(transaction) <= MAX_TX and self.fresh.check(transaction) == 0:
             self.pools[replica].append(transaction)
 
+    def how_many(self):
+        """Transactions of one batch: with frames of version 2 now and then more than version 1 has."""
+        most = 70 if self.cluster.frames == 2 and self.chance(0.3) else 3
+        return self.random.randint(1, most)
+
+    def version(self):
+        """The version of a liar's statement: frames of version 2 may carry both."""
+        return self.random.randint(1, 2) if self.cluster.frames == 2 else 1
+
     def submit(self):
         """Clients hand in transactions: to all the same, to two camps, to each its own, or none."""
         camps = self.random.choice([1, 1, 1, 2, 2, len(self.cluster.correct), 0])
-        batches = [tuple(self.transaction() for _ in range(self.random.randint(1, 3))) for _ in range(camps)]
+        batches = [tuple(self.transaction() for _ in range(self.how_many())) for _ in range(camps)]
         for place, replica in enumerate(self.cluster.correct if camps else []):
             for transaction in batches[place % camps]:
                 self.hand_in(replica, transaction)
@@ -88,7 +99,7 @@ class Scenario:
                 if not self.chance(0.03):
                     self.say("propose", replica, height)
             # What liars speak of: what may be proposed, and nothing.
-            self.values = list(dict.fromkeys([tuple(pool[:MAX_BATCH]) for pool in self.pools.values()] + self.values[:3] + [()]))
+            self.values = list(dict.fromkeys([tuple(pool[:MAX_BATCH[self.cluster.frames]]) for pool in self.pools.values()] + self.values[:3] + [()]))
 
     def ask(self):
         for replica in self.cluster.correct:
@@ -149,7 +160,7 @@ class Scenario:
         done = subprocess.run([self.abft, "simulate", "--histories"], input=self.text().encode(), stdout=subprocess.PIPE, check=True)
         found = {}
         for number, entries in read_histories(done.stdout).items():
-            found[number] = Replica(number, self.cluster.replicas, self.cluster.faults, self.cluster.kind)
+            found[number] = Replica(number, self.cluster.replicas, self.cluster.faults, self.cluster.kind, self.cluster.frames)
             found[number].follow(entries)
         return found
 
@@ -215,7 +226,8 @@ class Scenario:
 
     def lie_report(self, liar, phase):
         if self.chance(0.2):
-            self.inject_signed(liar, signing.report(self.height(), phase, liar, self.value(), self.distinct(1), self.distinct(0), self.chance(0.5)))
+            proper, locked, says_all = self.distinct(1), self.distinct(0), self.chance(0.5)
+            self.inject_signed(liar, signing.report(self.height(), phase, liar, self.value(), proper, locked, says_all, self.version()))
         else:
             self.say("lie-report", liar, self.height(), phase, spell_batch(self.value()), self.towards())
 
@@ -243,9 +255,9 @@ class Scenario:
         signers = sorted(self.some(range(self.cluster.replicas + 3), 3)[:self.random.randint(3, 12)])
         if len(signers) < 3:
             signers = [0, 1, 2]
-        reports = [signing.report(height + self.random.randint(0, 1), phase, signer, value) for signer in signers]
+        reports = [signing.report(height + self.random.randint(0, 1), phase, signer, value, version=self.version()) for signer in signers]
         proof = [signing.signed(report, signing.key_of(liar), 31) for report in reports]
-        return signing.lock(height, phase, liar, value, proof)
+        return signing.lock(height, phase, liar, value, proof, self.version())
 
     def lie_ack(self, liar, phase):
         owner = self.cluster.owner(phase)

@@ -54,12 +54,13 @@ seed_rule = option_rule (codes "seed") (codes "000000000000000000000000000000000
 -- the options of a cluster, which every subcommand but `abft simulate` has
 abbrev pub with_cluster : App → App
 with_cluster a =
-    with_rule (with_rule (with_rule (with_rule (with_rule (with_rule a
+    with_rule (with_rule (with_rule (with_rule (with_rule (with_rule (with_rule a
     (option_rule (codes "n") (codes "4")))
     (option_rule (codes "t") (codes "1")))
     (option_rule (codes "kind") (codes "1")))
     (option_rule (codes "w") (codes "4")))
     (option_rule (codes "tree") (codes "5")))
+    (option_rule (codes "frames") (codes "1")))
     seed_rule
 
 -- the statement to sign: a word that is required

@@ -13,6 +13,8 @@ use Rattle.clap.specs.declared.parser.matches.ValueSource.TheVariants.{CommandLi
 use Rattle.ledger_model.specs.declared.config.AppKind.{AppKind}
 use Rattle.ledger_model.specs.Replies.{check_reply}
 use Rattle.ledger_model.specs.declared.config.AppKind.TheVariants.{KvStore, Counter, Purse}
+use Rattle.ledger_model.specs.declared.version.Version.{Version}
+use Rattle.ledger_model.specs.declared.version.Version.TheVariants.{One, Two}
 use Rattle.lm_ots.specs.Parameters.{bits_of, levels_of}
 use Rattle.command_line.specs.Grammar.{abft_app}
 use Rattle.command_line.specs.Receipts.{SpellsReceipt}
@@ -55,11 +57,11 @@ limits option least most = record { option = option; least = least; most = most 
 
 -- the numbers of a cluster, which every subcommand but `abft simulate` has
 abbrev pub cluster_numbers : List Limits
-cluster_numbers = limits (codes "n") 4 13 ∷ limits (codes "t") 1 4 ∷ limits (codes "kind") 1 3 ∷ []
+cluster_numbers = limits (codes "n") 4 13 ∷ limits (codes "t") 1 4 ∷ limits (codes "kind") 1 3 ∷ limits (codes "frames") 1 2 ∷ []
 
 -- the options of a cluster that have a value
 abbrev pub cluster_names : List Text
-cluster_names = codes "n" ∷ codes "t" ∷ codes "kind" ∷ codes "w" ∷ codes "tree" ∷ codes "seed" ∷ []
+cluster_names = codes "n" ∷ codes "t" ∷ codes "kind" ∷ codes "w" ∷ codes "tree" ∷ codes "frames" ∷ codes "seed" ∷ []
 
 -- the options of `abft sign`
 abbrev pub sign_options : OptionTable
@@ -177,6 +179,8 @@ pub record HasCluster (table : OptionTable) : Type 0 where
   pub kind_limits : IsTrue (list_any (is_limit (codes "kind") 1 3) table.numbers)
   pub w : HasOption table (codes "w")
   pub tree : HasOption table (codes "tree")
+  pub frames : HasOption table (codes "frames")
+  pub frames_limits : IsTrue (list_any (is_limit (codes "frames") 1 2) table.numbers)
   pub seed : HasOption table (codes "seed")
 
 -- the table has the options of a running cluster
@@ -222,6 +226,11 @@ number_of KvStore = 1
 number_of Counter = 2
 number_of Purse = 3
 
+-- the number of a version of frames
+abbrev pub version_number : Version → ℕ
+version_number One = 1
+version_number Two = 2
+
 -- the options of a cluster
 pub record SetsCluster (rows : List Row) (cluster : ClusterSeed) : Type 0 where
   pub n : IsNumber rows (codes "n") 0 255 cluster.config.replicas
@@ -232,6 +241,7 @@ pub record SetsCluster (rows : List Row) (cluster : ClusterSeed) : Type 0 where
   pub tolerant : 1 ≤ cluster.config.faults
   pub w : IsNumber rows (codes "w") 4 8 (bits_of cluster.params.width)
   pub tree : IsNumber rows (codes "tree") 5 10 (levels_of cluster.params.height)
+  pub frames : IsNumber rows (codes "frames") 1 2 (version_number cluster.config.frames)
   pub seed : IsSeed rows cluster.seed
 
 -- the word that names the statement to sign

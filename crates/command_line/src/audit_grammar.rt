@@ -1,5 +1,5 @@
 //! The grammar of `abft audit`.
-use crate::shared_arguments::{APPLICATION, FAULTS, REPLICAS, SEED, TREE, WIDTH};
+use crate::shared_arguments::{APPLICATION, FAULTS, FRAMES, REPLICAS, SEED, TREE, WIDTH};
 use crate::subcommand::{Argument, Kind, Subcommand};
 
 /// The end of `abft audit --help`.
@@ -40,6 +40,7 @@ pub(crate) const AUDIT: Subcommand = Subcommand {
         APPLICATION,
         WIDTH,
         TREE,
+        FRAMES,
         SEED,
         Argument {
             name: "receipt",

@@ -1,5 +1,5 @@
 //! The grammar of `abft draw`.
-use crate::shared_arguments::{APPLICATION, FAULTS, REPLICAS, SEED, TREE, WIDTH};
+use crate::shared_arguments::{APPLICATION, FAULTS, FRAMES, REPLICAS, SEED, TREE, WIDTH};
 use crate::subcommand::{Argument, Kind, Subcommand};
 
 /// The end of `abft draw --help`.
@@ -26,6 +26,7 @@ pub(crate) const DRAW: Subcommand = Subcommand {
         APPLICATION,
         WIDTH,
         TREE,
+        FRAMES,
         SEED,
         Argument {
             name: "height",

@@ -6,7 +6,7 @@ ghost use Rattle.command_line.specs.Grammar.{at_top, abft_app};
 use crate::audit_grammar::AUDIT;
 use crate::draw_grammar::DRAW;
 use crate::running_grammar::{RUN_CLUSTER, SERVE};
-use crate::shared_arguments::{APPLICATION, FAULTS, REPLICAS, SEED, TREE, WIDTH};
+use crate::shared_arguments::{APPLICATION, FAULTS, FRAMES, REPLICAS, SEED, TREE, WIDTH};
 use crate::subcommand::{Argument, Kind, Subcommand, clap_commands};
 use clap::Command;
 use std::alloc::{AllocError, Global};
@@ -38,7 +38,7 @@ Lines, one for each frame:
   ignored N CAUSE  it was ignored: the cause's number and name, as in 'ignored 7 Repeated'
 
 The last line, where the stream is wrong:
-  fault 1 TooLong    a frame longer than 150000 bytes was announced
+  fault 1 TooLong    a frame longer than 150000 bytes was announced, or than 600000 with --frames 2
   fault 2 Malformed  a frame is not spelled as one
   cut                the stream ends within a frame
 
@@ -92,6 +92,7 @@ const SIGN: Subcommand = Subcommand {
         APPLICATION,
         WIDTH,
         TREE,
+        FRAMES,
         SEED,
         Argument {
             name: "what",
@@ -133,6 +134,7 @@ const DELIVER: Subcommand = Subcommand {
         APPLICATION,
         WIDTH,
         TREE,
+        FRAMES,
         SEED,
         Argument {
             name: "replica",

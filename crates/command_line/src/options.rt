@@ -3,12 +3,13 @@ ghost use Rattle.std.specs.Prelude.{◌≡◌, ◌↔◌, IsTrue, ℕ, List, [],
 ghost use Rattle.clap.specs.Words.{Row, found_of, rows_of, first_of};
 ghost use Rattle.lm_ots.specs.Parameters.{bits_of, levels_of};
 ghost use Rattle.command_line.specs.Faults.{IsRightOf};
-ghost use Rattle.command_line.specs.Options.{HasCluster, HasOption, IsAccepted, IsNamed, IsNumber, IsSeed, IsWritten, OptionTable, SetsCluster, TakesNumber, TakesTransaction, WantsMemory, number_of, word_of};
+ghost use Rattle.command_line.specs.Options.{HasCluster, HasOption, IsAccepted, IsNamed, IsNumber, IsSeed, IsWritten, OptionTable, SetsCluster, TakesNumber, TakesTransaction, WantsMemory, number_of, version_number, word_of};
 ghost use Rattle.plain_text.specs.Transactions.{StandsFor};
 ghost use Rattle.ledger_model.specs.Replies.{check_reply};
 ghost use Rattle.ledger_model.specs.declared.config.AppKind.{AppKind};
 ghost use Rattle.cluster_keys.specs.declared.cluster_seed.ClusterSeed.{ClusterSeed};
 ghost use Rattle.settings.specs.declared.sign.What.{What};
+ghost use Rattle.ledger_model.specs.declared.version.Version.{Version};
 ghost use Rattle.lm_ots.specs.declared.params.Width.{Width};
 ghost use Rattle.lm_ots.specs.declared.params.TreeHeight.{TreeHeight};
 
@@ -19,7 +20,7 @@ use clap::ArgMatches;
 use clap::parser::ValueSource;
 use cluster_keys::ClusterSeed;
 use hex::FromHex;
-use ledger_model::{AppKind, Config, Tx};
+use ledger_model::{AppKind, Config, Tx, Version};
 use lm_ots::{Params, TreeHeight, Width};
 use plain_text::{SpellingFault, decimal, written};
 use settings::What;
@@ -248,6 +249,18 @@ fn kind<'a>(matches: &ArgMatches<'a>) -> Result<AppKind, UsageFault<'a>>
     }
 }
 
+/// The option `--frames`: the number of a version.
+fn frames<'a>(matches: &ArgMatches<'a>) -> Result<Version, UsageFault<'a>>
+    ensures some { IfOk result (λ v. IsNumber (rows_of (found_of matches.now)) (codes "frames") 1 2 (version_number v)) }
+    ensures none { OnErr result ((v : Version) → IsNumber (rows_of (found_of matches.now)) (codes "frames") 1 2 (version_number v) → ⊥) }
+    ensures right { (table : OptionTable) → TakesNumber table (rows_of (found_of matches.now)) (codes "frames") 1 2 → IfErr result (IsRightOf table (rows_of (found_of matches.now))) }
+{
+    match number(matches, "frames", 1, 2)? {
+        1 => Ok(Version::One),
+        _ => Ok(Version::Two),
+    }
+}
+
 /// The options of a cluster.
 pub(crate) fn cluster<'a>(matches: &ArgMatches<'a>) -> Result<ClusterSeed, UsageFault<'a>>
     ensures some { IfOk result (λ c. SetsCluster (rows_of (found_of matches.now)) c) }
@@ -257,11 +270,13 @@ pub(crate) fn cluster<'a>(matches: &ArgMatches<'a>) -> Result<ClusterSeed, Usage
     let replicas = small_number(matches, "n", 4, Config::MAX_REPLICAS)?;
     let faults = small_number(matches, "t", 1, 4)?;
     let kind = kind(matches)?;
-    let Ok(config) = Config::new(replicas, faults, kind) else {
+    let Ok(mut config) = Config::new(replicas, faults, kind) else {
         return Err(UsageFault::TooFew { replicas, faults });
     };
     let width = width(matches)?;
     let height = tree_height(matches)?;
+    let frames = frames(matches)?;
+    config.frames = frames;
     let seed = seed(matches)?;
     Ok(ClusterSeed {
         config,

@@ -1,8 +1,5 @@
 //! The grammar of `abft cluster` and `abft serve`, the subcommands that run a whole cluster.
-use crate::shared_arguments::{
-    APPLICATION, FAULTS, FIRST_ROUND, HISTORIES_FILE, QUIET, REPLICAS, ROUNDS, SEED, STOP_AT_EOF,
-    TRANSACTION, TREE, WIDTH,
-};
+use crate::shared_arguments::{APPLICATION, FAULTS, FIRST_ROUND, FRAMES, HISTORIES_FILE, QUIET, REPLICAS, ROUNDS, SEED, STOP_AT_EOF, TRANSACTION, TREE, WIDTH};
 use crate::subcommand::{Argument, Kind, Subcommand};
 
 /// The end of `abft cluster --help`.
@@ -59,6 +56,7 @@ pub(crate) const RUN_CLUSTER: Subcommand = Subcommand {
         APPLICATION,
         WIDTH,
         TREE,
+        FRAMES,
         SEED,
         TRANSACTION,
         ROUNDS,
@@ -81,6 +79,7 @@ pub(crate) const SERVE: Subcommand = Subcommand {
         APPLICATION,
         WIDTH,
         TREE,
+        FRAMES,
         SEED,
         TRANSACTION,
         ROUNDS,

@@ -36,6 +36,13 @@ pub(crate) const TREE: Argument = Argument {
     help: "Height of a signature tree: 5 or 10",
 };
 
+/// The version of a cluster's frames.
+pub(crate) const FRAMES: Argument = Argument {
+    name: "frames",
+    kind: Kind::Value("1"),
+    help: "The version of the frames, 1 or 2; with 2 a batch has up to 64 transactions, not 16",
+};
+
 /// The seed of all keys, which every subcommand has.
 pub(crate) const SEED: Argument = Argument {
     name: "seed",

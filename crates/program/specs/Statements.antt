@@ -1,7 +1,6 @@
 -- What `abft sign` signs, and the frame that it makes.
 use Rattle.std.specs.Prelude.{false, [], ◌∷◌}
 use Rattle.ledger_model.specs.declared.statement.Statement.{Statement}
-use Rattle.ledger_model.specs.declared.version.Version.TheVariants.{One}
 use Rattle.ledger_model.specs.declared.statement.Statement.TheVariants as statement
 use Rattle.ledger_model.specs.declared.statement.SignedStatement.{SignedStatement}
 use Rattle.ledger_model.specs.Spelling.{statement_bytes}
@@ -11,10 +10,11 @@ use Rattle.settings.specs.declared.sign.SignSettings.{SignSettings}
 use Rattle.settings.specs.declared.sign.What.{What}
 use Rattle.settings.specs.declared.sign.What.TheVariants.{Report, Ack}
 
--- a report of a replica that proposed the value and has read nothing, or an acknowledgement of a lock on it
+-- A report of a replica that proposed the value and has read nothing, or an acknowledgement of a lock on it. Its version is that of
+-- the cluster's frames.
 abbrev pub said_of : What → SignSettings → Statement
 said_of Report s = statement.Report (record {
-  version = One;
+  version = s.cluster.config.frames;
   height = s.height;
   phase = s.phase;
   signer = s.replica;
@@ -23,7 +23,7 @@ said_of Report s = statement.Report (record {
   proper = (s.value ∷ []) ∷ [];
   locked = [];
 })
-said_of Ack s = statement.Ack (record { version = One; height = s.height; phase = s.phase; signer = s.replica; value = s.value ∷ [] })
+said_of Ack s = statement.Ack (record { version = s.cluster.config.frames; height = s.height; phase = s.phase; signer = s.replica; value = s.value ∷ [] })
 
 -- the statement of the settings
 abbrev pub said : SignSettings → Statement

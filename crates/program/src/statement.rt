@@ -3,10 +3,10 @@ ghost use Rattle.std.specs.Prelude.{◌≡◌, ◌≤◌, ◌∷◌, [], length,
 ghost use Rattle.ledger_model.specs.Limits.{max_tx_len};
 ghost use Rattle.ledger_model.specs.Spelling.{IsStatement};
 ghost use Rattle.ledger_model.specs.Values.{IsValueIn};
-ghost use Rattle.ledger_model.specs.declared.version.Version.TheVariants.{One};
+ghost use Rattle.ledger_model.specs.declared.version.Version.{Version};
 ghost use Rattle.program.specs.Statements.{said};
 
-use ledger_model::{Ack, Batch, Batches, Report, Statement, Tx, Version};
+use ledger_model::{Ack, Batch, Batches, Report, Statement, Tx};
 use settings::{SignSettings, What};
 use std::alloc::{AllocError, Global};
 
@@ -15,7 +15,7 @@ fn batch_of(alloc: Global, bytes: &[u8]) -> Result<Batch, AllocError>
     requires some { 1 ≤ length bytes.now }
     requires short { length bytes.now ≤ max_tx_len }
     ensures batch { IfOk result (λ batch. batch ≡ bytes.now ∷ []) }
-    ensures spelled { IfOk result (λ batch. IsValueIn One batch) }
+    ensures spelled { IfOk result (λ batch. (version : Version) → IsValueIn version batch) }
 {
     let mut transactions = Vec::with_capacity(alloc, 1)?;
     match Tx::new(Vec::from_slice(alloc, bytes)?) {
@@ -38,14 +38,14 @@ pub(crate) fn statement(alloc: Global, settings: &SignSettings) -> Result<Statem
     let proper = initial.copy()?;
     match settings.what {
         What::Ack => Ok(Statement::Ack(Ack {
-            version: Version::One,
+            version: settings.cluster.config.frames,
             height: settings.height,
             phase: settings.phase,
             signer: settings.replica,
             value: initial,
         })),
         What::Report => Ok(Statement::Report(Report {
-            version: Version::One,
+            version: settings.cluster.config.frames,
             height: settings.height,
             phase: settings.phase,
             signer: settings.replica,

@@ -6,22 +6,22 @@ use std::alloc::Global;
 #[test]
 fn the_words_of_audit_set_each_option(rt: HostRuntime) {
     for &(words, line) in &[
-        ("abft audit", "4 1 KvStore W4 32 0, no receipt"),
+        ("abft audit", "4 1 KvStore W4 32 One 0, no receipt"),
         (
-            "abft audit --n 7 --t 2 --kind 3 --w 8 --tree 10",
-            "7 2 Purse W8 1024 0, no receipt",
+            "abft audit --n 7 --t 2 --kind 3 --w 8 --tree 10 --frames 2",
+            "7 2 Purse W8 1024 Two 0, no receipt",
         ),
         (
             "abft audit --receipt 0:0:a=1",
-            "4 1 KvStore W4 32 0, 0 0 [97, 61, 49]",
+            "4 1 KvStore W4 32 One 0, 0 0 [97, 61, 49]",
         ),
         (
             "abft audit --receipt=12:4294967295:a:b=1",
-            "4 1 KvStore W4 32 0, 12 4294967295 [97, 58, 98, 61, 49]",
+            "4 1 KvStore W4 32 One 0, 12 4294967295 [97, 58, 98, 61, 49]",
         ),
         (
             "abft audit --receipt 255:10:\\00",
-            "4 1 KvStore W4 32 0, 255 10 [0]",
+            "4 1 KvStore W4 32 One 0, 255 10 [0]",
         ),
         (
             "abft audit --receipt 0:0",

@@ -5,15 +5,15 @@ use settings::{AuditSettings, ClusterSettings, Receipt, ServeSettings, Settings}
 use std::alloc::{AllocError, Global};
 
 /// The options of a cluster, as a line: the number of replicas, how many of them may lie, the application, bits and
-/// leaves of keys, and the seed's last byte.
+/// leaves of keys, the version of frames, and the seed's last byte.
 fn cluster_line(alloc: Global, cluster: &ClusterSeed) -> Result<String, AllocError> {
     let config = cluster.config;
     let params = cluster.params;
     let width = params.width;
     let leaves = params.leaves();
     format!(in alloc;
-        "{} {} {:?} {width:?} {leaves} {}",
-        config.replicas, config.faults, config.kind, cluster.seed[31]
+        "{} {} {:?} {width:?} {leaves} {:?} {}",
+        config.replicas, config.faults, config.kind, config.frames, cluster.seed[31]
     )
 }
 

@@ -1,7 +1,7 @@
 //! The settings that the words of a command line give. `tests/end_to_end.sh` tests those of `abft sign`, and the words
 //! that are refused.
 use command_line::settings;
-use ledger_model::AppKind;
+use ledger_model::{AppKind, Version};
 use settings::Settings;
 use std::alloc::Global;
 
@@ -37,6 +37,32 @@ fn a_kind_is_named_by_its_number(rt: HostRuntime) {
     }
 }
 
+/// The version of the frames of `abft sign`.
+fn frames_in(settings: &Settings) -> Option<Version> {
+    match settings {
+        Settings::Sign(sign) => Some(sign.cluster.config.frames),
+        _ => None,
+    }
+}
+
+/// The version with this number, if there is one.
+fn frames_of(alloc: Global, word: &str) -> Option<Version> {
+    let settings = set(alloc, &["abft", "sign", "ack", "--frames", word])?;
+    frames_in(&settings)
+}
+
+#[test]
+fn frames_have_version_1_or_2(rt: HostRuntime) {
+    for &(word, version) in &[
+        ("1", Some(Version::One)),
+        ("2", Some(Version::Two)),
+        ("0", None),
+        ("3", None),
+    ] {
+        assert!(rt; frames_of(rt.alloc(), word) == version, "at '{word}'");
+    }
+}
+
 /// Whether these are the settings of `abft deliver` with the words below.
 fn is_deliver_set(settings: &Settings) -> bool {
     let Settings::Deliver(deliver) = settings else {
@@ -45,6 +71,7 @@ fn is_deliver_set(settings: &Settings) -> bool {
     deliver.cluster.config.replicas == 4
         && deliver.cluster.params.leaves() == 1024
         && deliver.cluster.seed == [0; 32]
+        && deliver.cluster.config.frames == Version::Two
         && deliver.replica.number() == 2
         && deliver.height.number() == 4
         && deliver.rounds == 0
@@ -65,6 +92,7 @@ fn the_words_of_deliver_set_each_option(rt: HostRuntime) {
         "8",
         "--tree",
         "10",
+        "--frames=2",
     ];
     let settings = set(rt.alloc(), &words).expect(&rt, "the words are a command line");
     assert!(rt; is_deliver_set(&settings));

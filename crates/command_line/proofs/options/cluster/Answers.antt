@@ -60,3 +60,13 @@ pub returns-in_err-seed-clause-right : goal.returns-in_err-seed-clause-right
 returns-in_err-seed-clause-right c =
     λ table has. passed_up _ c.in_err-seed.field-0.0 (IsRightOf table (rows_of (found_of c.args.matches.now)))
     c.from_residual-in_err-seed.ensures.1 (c.in_err-seed.ensures.right table has.seed)
+
+pub returns-in_err-frames-clause-none : goal.returns-in_err-frames-clause-none
+returns-in_err-frames-clause-none c =
+    on_err {X = (s : ClusterSeed) → SetsCluster (rows_of (found_of c.args.matches.now)) s → ⊥} _
+    (λ s i. c.in_err-frames.ensures.none _ i.frames)
+
+pub returns-in_err-frames-clause-right : goal.returns-in_err-frames-clause-right
+returns-in_err-frames-clause-right c =
+    λ table has. passed_up _ c.in_err-frames.field-0.0 (IsRightOf table (rows_of (found_of c.args.matches.now)))
+    c.from_residual-in_err-frames.ensures.1 (c.in_err-frames.ensures.right table (has.frames, inl has.frames_limits))
