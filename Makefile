@@ -9,12 +9,14 @@
 #       ends at once with status 127.
 # soak: proves and builds the program, and runs live clusters, many sessions and hostile use on this machine for two hours and a half; no part
 #       of the gate, since what a clock brings differs from machine to machine.
+# browser: proves and builds the program, and uses the page of `abft serve --http` in CHROMIUM (Debian's chromium); no part of the gate.
 # prove-NAME: proves a library and what it stands on; what was said is in crates/NAME/out/said.
 # One of them at a time in one tree: the gate sets crates/*/out aside while it runs.
 # What the checker said in the gate is in gate.log; a line for each crate and each edit appears.
 SHELL := bash
 .SHELLFLAGS := -o pipefail -c
-.PHONY: demo prove bench bench-v3 soak test
+CHROMIUM ?= chromium
+.PHONY: demo prove bench bench-v3 browser soak test
 
 crates := $(shell sed -n 's/^\([a-z_]*\)\( [^:]*\)\?:.*/\1/p' crates.txt)
 below = $(filter $(crates),$(shell sed -n 's/^$(1)\( [^:]*\)\?://p' crates.txt))
@@ -52,6 +54,10 @@ bench-v3:
 soak:
 	@cd crates/abft && rt run -- --version </dev/null >/dev/null
 	@tests/soak.sh
+
+browser:
+	@cd crates/abft && rt run -- --version </dev/null >/dev/null
+	@tests/browser.py crates/abft/out/abft $(CHROMIUM)
 
 # The scripts take the programs that `rt ci` has just made.
 test:

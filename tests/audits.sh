@@ -57,6 +57,11 @@ finds 'frames of version 2' "$ledger" "'$abft' audit --frames 2 <'$room/second'"
 runs 'frames of version 2 to an audit of version 1' 1 $'bad history\n' "'$abft' audit <'$room/second'"
 blames 'frames of version 1 to an audit of version 2' 'fault 2 NotReplay 0 2' "$(broken 0 2)" "'$abft' audit --frames 2 <'$room/plain'"
 
+tests/pick.py "$room/plain" 0 >"$room/mixed"
+tests/pick.py "$room/second" 1 2 3 >>"$room/mixed"
+runs 'frames of both versions to an audit of version 1' 1 $'bad history\n' "'$abft' audit <'$room/mixed'"
+blames 'frames of both versions to an audit of version 2' 'fault 2 NotReplay 0 2' "$(broken 0 2)" "'$abft' audit --frames 2 <'$room/mixed'"
+
 # Receipts.
 finds 'a receipt' "${ledger}receipt ok"$'\n' "'$abft' audit --receipt 0:0:a=1 <'$room/plain'"
 for wrong in 0:1:a=1 0:0:a=2 1:1:a=1 4:0:a=1 255:0:a=1 0:4294967295:a=1; do

@@ -52,6 +52,11 @@ runs 'version 2 is malformed to version 1' 1 $'fault 2 Malformed\n' "$report --f
 runs 'an acknowledgement of version 2' 0 $'ignored 4 WrongRound\n' "$ack --frames 2 | $deliver --frames 2"
 runs 'the first bytes of version 2' 0 '00000945''11 0000093d''13 ' \
     "for what in report ack; do '$abft' sign \$what --frames 2 | head -c 5 | od -An -v -tx1 | tr -d ' \\n'; echo -n ' '; done"
+runs 'a signature of version 1 under version 2' 0 $'ignored 8 BadSignature\n' \
+    "$report | (head -c 4; head -c 1 >/dev/null; printf '\\021'; cat) | $deliver --frames 2"
+runs 'version 1 by default' 0 '' "cmp <($report) <($report --frames 1)"
+runs 'a statement of version 1 that is too long for it' 1 $'fault 2 Malformed\n' \
+    "(printf '\\000\\002\\111\\361\\001'; head -c 150000 /dev/zero) | $deliver --frames 2"
 runs 'too long for version 2' 1 $'fault 1 TooLong\n' "printf '\\000\\011\\047\\301' | $deliver --frames 2"
 runs 'as long as version 2 may be' 1 $'cut\n' "printf '\\000\\011\\047\\300' | $deliver --frames 2"
 runs 'another seed, in digits of either case' 0 $'accepted\n' "$report --seed ${ones%??}Ff | $deliver --seed ${ones%??}fF"
@@ -96,6 +101,7 @@ refuses "error: --kind is a number from 1 to 3, not '4'" sign report --kind 4
 refuses "error: --w is 4 or 8, not '5'" sign report --w 5
 refuses "error: --w is 4 or 8, not '16'" sign report --w 16
 refuses "error: --tree is 5 or 10, not '6'" deliver --tree 6
+refuses "error: --http is a number from 0 to 65535, not '65536'" serve --http 65536
 refuses "error: --frames is a number from 1 to 2, not '3'" deliver --frames 3
 refuses "error: --seed is 64 hexadecimal digits, not '00'" sign report --seed 00
 refuses "error: --replica is a number from 0 to 3, not '4'" sign report --replica 4
@@ -334,7 +340,7 @@ Lines, one for each frame:
 
 The last line, where the stream is wrong:
   fault 1 TooLong    a frame longer than 150000 bytes was announced, or than 600000 with --frames 2
-  fault 2 Malformed  a frame is not spelled as one
+  fault 2 Malformed  a frame is not spelled as one, or has version 2 without --frames 2
   cut                the stream ends within a frame
 
 Exit status:
@@ -414,7 +420,7 @@ Then the lines of an audit over the histories of all replicas, as 'abft audit --
   ledger C     the histories are those of one ledger of C blocks
   H BATCH      its block at height H, one line for each
 
-With --histories FILE the histories are written to FILE, for 'abft audit <FILE'.
+With --histories FILE the histories are written to FILE, for 'abft audit <FILE' with the options of the cluster.
 How it stands is told on standard error, unless --quiet is there.
 
 Exit status:
@@ -440,6 +446,8 @@ EOT
           The file to which the histories are written at the end
       --port <port>
           The port to listen at, 0 to 65535; 0 for one that is free [default: 0]
+      --http <http>
+          The port for HTTP requests, 0 to 65535; 0 for one that is free; without it there is no HTTP
       --sessions <sessions>
           How many connections are taken, 1 to 1000 [default: 1]
       --client-entries <client-entries>
@@ -447,8 +455,9 @@ EOT
   -h, --help
           Print help
 
-The first line:
+The first line, and with --http the second:
   listening PORT  clients can connect to this port
+  http PORT       this port answers HTTP requests
 
 Then lines as of 'abft cluster', one for each replica:
   commits R C  replica R committed C blocks
@@ -459,7 +468,7 @@ Then the lines of an audit over the histories of all replicas, as 'abft audit --
 
 It ends when the rounds are over and as many connections as --sessions says have ended,
 or where standard input ends if --stop-at-eof is there.
-With --histories FILE the histories are written to FILE, for 'abft audit <FILE'.
+With --histories FILE the histories are written to FILE, for 'abft audit <FILE' with the options of the cluster.
 How it stands is told on standard error, unless --quiet is there.
 docs/OPERATING.md has the rest.
 
@@ -496,7 +505,7 @@ Otherwise one line:
   fault 1 Count          fewer than N-t histories, two of one replica, or one of a replica that the cluster doesn't have
   fault 2 NotReplay R I  entry I of R's history has a reply that the protocol doesn't allow there, or sends what R didn't sign
   fault 3 Unsent R I S   at entry I of its history R accepted a statement of S that S's history doesn't send
-  bad history            the input is not spelled as histories
+  bad history            the input is not spelled as histories, or those of version 2 need --frames 2
 After a fault, standard error has one more sentence about it.
 
 With --receipt there is one more line after a ledger. A receipt is what a client holds: the replica that took its
@@ -528,7 +537,8 @@ EOT
   -h, --help             Print help
 
 Input: the histories of replicas, as bytes, one after another. 'abft simulate --histories' prints such bytes, and
-'abft cluster --histories FILE' writes them. The options are those of the cluster; only --n and --t change the picture.
+'abft cluster --histories FILE' writes them. The options are those of the cluster: histories of version 2 need --frames 2,
+and only --n and --t change the picture.
 
 Output: an SVG document, or 'bad history' if the input is not spelled as histories. docs/PICTURES.md says how to read it.
 

@@ -24,7 +24,7 @@ goes() {
 
 goes 'hostile scenarios, seeds 1 to 100' tests/hostile.py "$abft" 1 100 "$(nproc)"
 
-runs 'frames that are cut and changed' 0 '2377 bytes of a report, each prefix: deliver 1 ignored 1 Malformed: 26
+answers='2377 bytes of a report, each prefix: deliver 1 ignored 1 Malformed: 26
 a report and a byte: deliver 1 ignored 1 Malformed: 1
 9489 bytes of a lock, each prefix: deliver 0 ignored 1 Malformed: 99
 a lock and a byte: deliver 0 ignored 1 Malformed: 1
@@ -39,6 +39,8 @@ an acknowledgement itself: deliver 1 accepted: 1
 2373 bytes of a report in a proof, each changed: deliver 0 ignored 1 Malformed: 1; deliver 0 ignored 9 BadProof: 25
 a lock with this proof itself: deliver 0 accepted: 1
 192 frames to one replica, the other lines as without: deliver 3 accepted: 8; deliver 3 ignored 1 Malformed: 96; deliver 3 ignored 4 WrongRound: 56; deliver 3 ignored 5 WrongPhase: 18; deliver 3 ignored 7 Repeated: 6; deliver 3 ignored 8 BadSignature: 8
-' "tests/hostile_frames.py '$abft' 97"
-
+'
+for version in 1 2; do
+    runs "frames of version $version that are cut and changed" 0 "$answers" "tests/hostile_frames.py '$abft' 97 $version"
+done
 finish

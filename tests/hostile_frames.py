@@ -1,6 +1,6 @@
 #!/usr/bin/env python3
-"""Frames that were cut or changed at each place, and a history that is filled: tests/hostile_frames.py ABFT [STEP]. Of the cut and the changed
-frames each STEP-th is tried, the first and the last always; without STEP each. Each row prints what came; docs/SCENARIOS.md has the lines of a
+"""Frames that were cut or changed at each place, and a history that is filled: tests/hostile_frames.py ABFT [STEP [VERSION]]. Of the cut and the
+changed frames each STEP-th is tried, the first and the last always; without STEP each. Each row prints what came; docs/SCENARIOS.md has the lines of a
 scenario, and docs/FORMATS.md the bytes of a frame."""
 import collections
 import os
@@ -14,10 +14,13 @@ from signing import ack, frame, key_of, lock, report, signed  # noqa: E402
 ABFT = sys.argv[1]
 STEP = int(sys.argv[2]) if len(sys.argv) > 2 else 1
 VALUE = [b"a=1"]
-START = ["config 4 1 1", *(f"submit {r} a=1" for r in range(4)), *(f"propose {r} 1" for r in range(4))]
-REPORT = frame(signed(report(1, 1, 0, VALUE), key_of(0), 0))
-LOCK = frame(signed(lock(1, 1, 1, VALUE, [signed(report(1, 1, r, VALUE), key_of(r), 0) for r in range(3)]), key_of(1), 1))
-ACK = frame(signed(ack(1, 1, 2, VALUE), key_of(2), 1))
+VERSION = int(sys.argv[3]) if len(sys.argv) > 3 else 1
+FRAMES = ["frames 2"] * (VERSION - 1)
+START = ["config 4 1 1", *FRAMES, *(f"submit {r} a=1" for r in range(4)), *(f"propose {r} 1" for r in range(4))]
+REPORT = frame(signed(report(1, 1, 0, VALUE, version=VERSION), key_of(0), 0))
+PROOF = [signed(report(1, 1, r, VALUE, version=VERSION), key_of(r), 0) for r in range(3)]
+LOCK = frame(signed(lock(1, 1, 1, VALUE, PROOF, version=VERSION), key_of(1), 1))
+ACK = frame(signed(ack(1, 1, 2, VALUE, version=VERSION), key_of(2), 1))
 
 
 def simulate(lines):
@@ -61,11 +64,11 @@ def change(name, setup, to, digits):
 
 def change_in_proof():
     """A lock of a liar with one byte of its proof's first report changed, at each place, and signed so."""
-    setup = ["config 4 1 1", "liar 1", *(f"submit {r} a=1" for r in (0, 2, 3)), *(f"propose {r} 1" for r in (0, 2, 3)), "round", "silent"]
-    first, *others = [signed(report(1, 1, r, VALUE), key_of(r), 0) for r in (0, 2, 3)]
+    setup = ["config 4 1 1", *FRAMES, "liar 1", *(f"submit {r} a=1" for r in (0, 2, 3)), *(f"propose {r} 1" for r in (0, 2, 3)), "round", "silent"]
+    first, *others = [signed(report(1, 1, r, VALUE, version=VERSION), key_of(r), 0) for r in (0, 2, 3)]
 
     def of_proof(proof):
-        return frame(signed(lock(1, 1, 1, VALUE, proof), key_of(1), 0))
+        return frame(signed(lock(1, 1, 1, VALUE, proof, version=VERSION), key_of(1), 0))
 
     locks = [of_proof([bytes.fromhex(changed(first.hex(), place)), *others]) for place in places(len(first))]
     told(f"{len(first)} bytes of a report in a proof, each changed", answers(setup, [f"inject 0 {digits}" for digits in locks]))

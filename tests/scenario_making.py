@@ -63,7 +63,7 @@ class Scenario:
         if self.cluster.kind == 1:
             return b"%c=%d" % (self.random.choice(b"abcdef"), self.number) if self.chance(0.9) else self.random.randbytes(8)
         if self.cluster.kind == 2:
-            return (self.random.randint(0, 3) if self.chance(0.7) else self.number).to_bytes(self.random.randint(1, 3), "big")
+            return (self.random.randint(0, 3) if self.chance(0.7) else self.number % 250).to_bytes(self.random.randint(1, 3), "big")
         return struct.pack(">BBII", self.random.randint(0, 3), self.random.randint(0, 3), self.random.randint(0, 1200), self.random.randint(0, 1))
 
     def hand_in(self, replica, transaction):

@@ -2,7 +2,8 @@
 #![tactic(auto)]
 
 use cluster_service::{
-    SharedStatus, Watcher, cluster, listen_at, open_histories, serve, start_reporter,
+    SharedStatus, Watcher, cluster, listen_at, listen_for_http, open_histories, serve,
+    start_reporter,
 };
 use program::{Outcome, finish, refuse_words, run};
 use program_streams::{ProgramFault, Resource, require_open};
@@ -88,7 +89,7 @@ where
     cluster(rt, alloc, settings, status, input, &mut output, &mut file)
 }
 
-/// `abft serve`, if standard output is open, and the file for the histories. The file is emptied only once there is a listener, so a port
+/// `abft serve`, if standard output is open, and the file for the histories. The file is emptied only once there are the listeners, so a port
 /// that is taken leaves an earlier file as it was.
 fn run_server<R>(
     rt: &R,
@@ -112,6 +113,7 @@ where
 {
     require_open(&output, Resource::Output)?;
     let (listener, port) = listen_at(rt, settings.port)?;
+    let http = listen_for_http(rt, settings.http)?;
     let mut file = open_histories(rt, &settings.cluster)?;
     serve(
         rt,
@@ -119,6 +121,7 @@ where
         settings,
         listener,
         port,
+        http,
         status,
         input,
         &mut output,

@@ -99,9 +99,9 @@ fn refuses(pool: &mut Pool, app: &Counter) -> bool {
         && pool.len() == 1024
 }
 
-// Whether a pool proposes `count` numbers, from `first` on.
-fn proposes(pool: &Pool, first: u16, count: usize) -> bool {
-    match pool.reap(Version::One) {
+// Whether a pool proposes `count` numbers, from `first` on, in a cluster with frames of this version.
+fn proposes(pool: &Pool, version: Version, first: u16, count: usize) -> bool {
+    match pool.reap(version) {
         Ok(block) => block.transactions().len() == count && are_numbers_from(&block, first),
         Err(_) => false,
     }
@@ -117,7 +117,7 @@ fn runs_three(alloc: Global, executor: &mut Executor<Counter>, pool: &mut Pool) 
 
 // Whether the next numbers are proposed then, and the number 2 can be submitted again.
 fn goes_on_at_three(pool: &mut Pool, app: &Counter) -> bool {
-    proposes(pool, 3, 16) && submits(pool, app, &[0, 2], Ok(())) && pool.len() == 1022
+    proposes(pool, Version::One, 3, 16) && submits(pool, app, &[0, 2], Ok(())) && pool.len() == 1022
 }
 
 // Whether a pool is filled with 1024 transactions, and refuses more.
@@ -125,14 +125,15 @@ fn is_filled(pool: &mut Pool, app: &Counter) -> bool {
     takes_numbers(pool, app, 1023) && takes_the_last(pool, app) && refuses(pool, app)
 }
 
-// The first 16 are proposed and stay, until a block removes its transactions.
+// The first 16, with frames of version 2 the first 64, are proposed and stay, until a block removes its transactions.
 #[test]
 fn a_full_pool_refuses_and_goes_on_behind_a_block(rt: HostRuntime) -> Result<(), Fail> {
     let random = RandomState::new(&rt)?;
     let mut executor = Executor::new(Counter::new(rt.alloc()))?;
     let mut pool = Pool::new(rt.alloc(), random);
     assert!(rt; is_filled(&mut pool, executor.app()));
-    assert!(rt; proposes(&pool, 0, 16) && numbers_in(&pool) == Some(1024));
+    assert!(rt; proposes(&pool, Version::One, 0, 16) && proposes(&pool, Version::Two, 0, 64));
+    assert!(rt; numbers_in(&pool) == Some(1024));
     assert!(rt;
         runs_three(rt.alloc(), &mut executor, &mut pool)
             && goes_on_at_three(&mut pool, executor.app())

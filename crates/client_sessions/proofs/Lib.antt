@@ -1,7 +1,7 @@
 mod Exchanging
-mod Filling
+pub mod Filling
 mod PrefixLemmas
-mod Results
+pub mod Results
 pub mod RisingHeights
 mod Sizes
 mod UnderWay

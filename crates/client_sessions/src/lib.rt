@@ -49,3 +49,4 @@ pub use session::Session;
 pub use session_end::{SessionEnd, SessionFault};
 pub use streams::{SessionReader, SessionWriter};
 pub use targets::{TargetFault, Targets};
+pub use transfers::send;

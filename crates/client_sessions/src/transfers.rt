@@ -39,7 +39,7 @@ fn write_all<W: SessionWriter>(output: &mut W, bytes: &[u8]) -> io::Result<()>
 }
 
 /// Writes all of the bytes, and flushes the writer. After an error, a prefix of them was written.
-pub(crate) fn send<W: SessionWriter>(output: &mut W, bytes: &[u8]) -> io::Result<()>
+pub fn send<W: SessionWriter>(output: &mut W, bytes: &[u8]) -> io::Result<()>
     ensures written { Writes result (W.contents output.old) (W.contents output.new) bytes.now }
     ensures counted { W.failures output.new ≡ W.failures output.old + failures_in result }
 {

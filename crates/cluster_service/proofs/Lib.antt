@@ -1,4 +1,5 @@
 mod Begun
+mod Delivering
 mod Taken
 mod RunFaultLemmas
 pub mod ReportingLemmas

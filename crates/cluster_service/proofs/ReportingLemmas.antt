@@ -24,7 +24,7 @@ use Rattle.byte_streams.proofs.WritingLemmas.{all_some, longer_some, nothing_som
 use Rattle.program_streams.specs.declared.program_fault.ProgramFault.{ProgramFault}
 use Rattle.program_streams.specs.declared.program_fault.ProgramFault.TheVariants as fault
 use Rattle.cluster_service.specs.HistoriesFiles.{Saves}
-use Rattle.cluster_service.specs.Lines.{commit_line, commit_lines, port_line}
+use Rattle.cluster_service.specs.Lines.{commit_line, commit_lines}
 use Rattle.cluster_service.specs.RunFaults.{IsLineFault, IsRunFault, IsSaveFault, IsWriteFault}
 use Rattle.cluster_service.specs.Reporting.{AreTaken, IsTaken, Reports, ReportsCommits, ReportsEnd, ReportsSome, Serves, ServesSome}
 use Rattle.cluster_service.specs.Reporting.{WritesFinding, WritesSuch}
@@ -185,48 +185,48 @@ pub ran : (s : ClusterSettings) (r : Result ℕ ProgramFault) (a b empty full : 
     → WritesSuch r (Reports s) (λ _. ReportsEnd s) a b empty full → WritesSuch r (Reports s) (ReportsSome s) a b empty full
 ran s r a b empty full ended = each_way _ _ _ _ r (λ status w. w) (λ _ w. (w.0, (w.1.0, (inr w.1.1.0, w.1.1.1)))) ended
 
-module _ (s : ClusterSettings) (port : ℕ) where
+module _ (s : ClusterSettings) (ports : List ℕ) where
   -- nothing was written
-  pub nothing_served : (f : ProgramFault) (a empty : Option (List ℕ)) → IsRunFault f → WrittenSome (ServesSome s port) f a a empty empty
+  pub nothing_served : (f : ProgramFault) (a empty : Option (List ℕ)) → IsRunFault f → WrittenSome (ServesSome s ports) f a a empty empty
   nothing_served f a empty is = ([], ([], (inl (is, (refl, refl)), (nothing_some a [], nothing_saved f empty))))
 
-  -- the line of the port was refused
-  pub port_refused : (f : ProgramFault) (a b empty : Option (List ℕ)) → IsWriteFault f → AppendsSome a b (port_line port)
-      → WrittenSome (ServesSome s port) f a b empty empty
-  port_refused f a b empty is some = (port_line port, ([], (inr (inl (is, (refl, refl))), (some, nothing_saved f empty))))
+  -- the lines of the ports were refused
+  pub port_refused : (f : ProgramFault) (a b empty : Option (List ℕ)) → IsWriteFault f → AppendsSome a b (ports)
+      → WrittenSome (ServesSome s ports) f a b empty empty
+  port_refused f a b empty is some = (ports, ([], (inr (inl (is, (refl, refl))), (some, nothing_saved f empty))))
 
-  -- the line of the port was written, and then nothing
-  pub port_alone : (f : ProgramFault) (a b empty : Option (List ℕ)) → IsRunFault f → Appends a b (port_line port)
-      → WrittenSome (ServesSome s port) f a b empty empty
+  -- the lines of the ports were written, and then nothing
+  pub port_alone : (f : ProgramFault) (a b empty : Option (List ℕ)) → IsRunFault f → Appends a b (ports)
+      → WrittenSome (ServesSome s ports) f a b empty empty
   port_alone f a b empty is whole =
-      let served : Serves port (ReportsSome s f) (port_line port ++ []) [] =
+      let served : Serves ports (ReportsSome s f) (ports ++ []) [] =
       record { later = []; reports = inl (is, (refl, refl)); shows = refl } in (
-        port_line port ++ [],
-        ([], (inr (inr served), (longer_some a b (port_line port) [] (all_some a b (port_line port) whole), nothing_saved f empty))),
+        ports ++ [],
+        ([], (inr (inr served), (longer_some a b (ports) [] (all_some a b (ports) whole), nothing_saved f empty))),
       )
 
   -- that line was written, and then what a cluster writes
-  pub port_first : (r : Result ℕ ProgramFault) (a b c empty full : Option (List ℕ)) → Appends a b (port_line port)
+  pub port_first : (r : Result ℕ ProgramFault) (a b c empty full : Option (List ℕ)) → Appends a b (ports)
       → WritesSuch r (Reports s) (λ _. ReportsEnd s) b c empty full
-      → WritesSuch r (λ status. Serves port (Reports s status)) (ServesSome s port) a c empty full
+      → WritesSuch r (λ status. Serves ports (Reports s status)) (ServesSome s ports) a c empty full
   port_first r a b c empty full first later = each_way _ _ _ _ r
       (λ status w. (
-        port_line port ++ w.0,
+        ports ++ w.0,
         (
           w.1.0,
           (
             record { later = w.0; reports = w.1.1.0; shows = refl },
-            (Appends-trans a b c (port_line port) w.0 first w.1.1.1.0, w.1.1.1.1),
+            (Appends-trans a b c (ports) w.0 first w.1.1.1.0, w.1.1.1.1),
           ),
         ),
       ))
       (λ _ w. (
-        port_line port ++ w.0,
+        ports ++ w.0,
         (
           w.1.0,
           (
             inr (inr (record { later = w.0; reports = inr w.1.1.0; shows = refl })),
-            (then_some a b c (port_line port) w.0 first w.1.1.1.0, w.1.1.1.1),
+            (then_some a b c (ports) w.0 first w.1.1.1.0, w.1.1.1.1),
           ),
         ),
       ))

@@ -1,5 +1,7 @@
 pub mod Replicas
 pub mod Targets
+pub mod Deliveries
+pub mod Inquiries
 pub mod HistoriesFiles
 pub mod Lines
 pub mod RunFaults

@@ -1,5 +1,5 @@
 -- The lines of `abft cluster` and `abft serve`.
-use Rattle.std.specs.Prelude.{ℕ, ◌+◌, List, [], ◌∷◌, ◌++◌, codes, decimal}
+use Rattle.std.specs.Prelude.{ℕ, ◌+◌, List, [], ◌∷◌, ◌++◌, codes, decimal, Option, Some, None}
 
 -- the line of a replica: the number of blocks that it committed
 abbrev pub commit_line : ℕ → ℕ → List ℕ
@@ -13,3 +13,8 @@ commit_lines replica (height ∷ heights) = commit_line replica height ++ commit
 -- the line with the port of the listener
 abbrev pub port_line : ℕ → List ℕ
 port_line port = codes "listening " ++ decimal port ++ 10 ∷ []
+
+-- the line with the port, and one with that of HTTP, if it is served
+abbrev pub port_lines : ℕ → Option ℕ → List ℕ
+port_lines port None = port_line port
+port_lines port (Some http) = codes "listening " ++ (decimal port ++ (codes "\nhttp " ++ (decimal http ++ 10 ∷ [])))

@@ -18,7 +18,7 @@ use Rattle.audit_lines.specs.AuditLines.{finding_status, finding_text}
 use Rattle.settings.specs.declared.cluster.ClusterSettings.{ClusterSettings}
 use Rattle.program_streams.specs.declared.program_fault.ProgramFault.{ProgramFault}
 use Rattle.cluster_service.specs.HistoriesFiles.{Saves}
-use Rattle.cluster_service.specs.Lines.{commit_lines, port_line}
+use Rattle.cluster_service.specs.Lines.{commit_lines}
 use Rattle.cluster_service.specs.RunFaults.{IsRunFault, IsWriteFault}
 
 -- ---- what a cluster leaves
@@ -88,18 +88,18 @@ ReportsNothing lines file = (lines ≡ []) × (file ≡ [])
 abbrev pub ReportsSome : ClusterSettings → ProgramFault → List ℕ → List ℕ → Type 0
 ReportsSome s fault lines file = (IsRunFault fault × ReportsNothing lines file) ⊎ ReportsEnd s lines file
 
--- the lines have first the port, and then such lines
-pub record Serves (port : ℕ) (P : List ℕ → List ℕ → Type 0) (lines file : List ℕ) : Type 0 where
+-- the lines have first those of the ports, and then such lines
+pub record Serves (ports : List ℕ) (P : List ℕ → List ℕ → Type 0) (lines file : List ℕ) : Type 0 where
   pub later : List ℕ
   pub reports : P later file
-  pub shows : lines ≡ port_line port ++ later
+  pub shows : lines ≡ ports ++ later
 
--- The same of a server with this port. If the line of its port can't be written, the server is not run.
-abbrev pub ServesSome : ClusterSettings → ℕ → ProgramFault → List ℕ → List ℕ → Type 0
-ServesSome s port fault lines file =
+-- The same of a server with these lines of its ports. If they can't be written, the server is not run.
+abbrev pub ServesSome : ClusterSettings → List ℕ → ProgramFault → List ℕ → List ℕ → Type 0
+ServesSome s ports fault lines file =
     (IsRunFault fault × ReportsNothing lines file)
-    ⊎ ((IsWriteFault fault × ((lines ≡ port_line port) × (file ≡ [])))
-    ⊎ Serves port (ReportsSome s fault) lines file)
+    ⊎ ((IsWriteFault fault × ((lines ≡ ports) × (file ≡ [])))
+    ⊎ Serves ports (ReportsSome s fault) lines file)
 
 -- Such lines were written, and such bytes into the file. After a fault, prefixes of others were: of the file's bytes only if the fault is
 -- the file's own.

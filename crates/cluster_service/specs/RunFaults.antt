@@ -8,7 +8,6 @@ use Rattle.program_streams.specs.declared.resource.Resource.{Resource}
 use Rattle.program_streams.specs.declared.resource.Resource.TheVariants as resource
 use Rattle.byte_streams.specs.Writing.{AppendsSome}
 use Rattle.cluster_service.specs.HistoriesFiles.{HistoriesFileView, path_of}
-use Rattle.cluster_service.specs.Lines.{port_line}
 
 -- a cluster asks for this before it has ended: the input whose end stops it, the clock, and random bytes
 abbrev pub is_asked_in_run : Resource → Bool
@@ -71,7 +70,7 @@ IsPortFault port _ = ⊥
 abbrev pub EndsCluster : Option HistoriesFileView → Option HistoriesFileView → Option (List ℕ) → Option (List ℕ) → ProgramFault → Type 0
 EndsCluster empty full before after f = IsReportFault empty f ⊎ (IsRunFault f × (Keeps before after × (full ≡ empty)))
 
--- The same of a server, which listens at this port and first writes the line of it: by then it has written at most that.
-abbrev pub EndsServer : ℕ → Option HistoriesFileView → Option HistoriesFileView → Option (List ℕ) → Option (List ℕ) → ProgramFault → Type 0
-EndsServer port empty full before after f =
-    IsReportFault empty f ⊎ (IsRunFault f × (AppendsSome before after (port_line port) × (full ≡ empty)))
+-- The same of a server, which first writes these lines of its ports: by then it has written at most those.
+abbrev pub EndsServer : List ℕ → Option HistoriesFileView → Option HistoriesFileView → Option (List ℕ) → Option (List ℕ) → ProgramFault → Type 0
+EndsServer ports empty full before after f =
+    IsReportFault empty f ⊎ (IsRunFault f × (AppendsSome before after ports × (full ≡ empty)))

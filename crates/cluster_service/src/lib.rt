@@ -12,8 +12,11 @@
 
 mod asking;
 mod cluster_status;
+mod deliveries;
 mod door;
 mod final_histories;
+mod http_door;
+mod http_listening;
 mod lines;
 mod listening;
 mod live_targets;
@@ -23,11 +26,14 @@ mod reporter;
 mod reporting;
 mod running;
 mod saving;
+mod showing;
 mod stopping;
 mod subcommands;
+mod waiting;
 mod writing;
 
 pub use final_histories::FinalHistories;
+pub use http_listening::{HttpListener, listen_for_http};
 pub use live_targets::LiveTargets;
 pub use replicas::new_replicas;
 pub use reporter::{Watcher, start_reporter};
@@ -36,4 +42,4 @@ pub use running::{listen_at, run_cluster, serve_cluster};
 pub use saving::{HistoriesFile, open_histories};
 pub use stopping::stop_at_end;
 pub use subcommands::{cluster, serve};
-pub use writing::{write_commits, write_port};
+pub use writing::{write_commits, write_ports};

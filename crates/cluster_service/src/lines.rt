@@ -1,7 +1,8 @@
 //! The lines that `abft cluster` and `abft serve` write.
-ghost use Rattle.std.specs.Prelude.{◌≡◌, IfOk, string_bytes};
-ghost use Rattle.cluster_service.specs.Lines.{commit_lines, port_line};
+ghost use Rattle.std.specs.Prelude.{◌≡◌, option_map, IfOk, string_bytes};
+ghost use Rattle.cluster_service.specs.Lines.{commit_lines, port_lines};
 
+use crate::http_listening::HttpListener;
 use std::alloc::{AllocError, Global};
 
 /// A line for each replica, by number, with the number of blocks that it committed.
@@ -18,9 +19,31 @@ pub(crate) fn commit_lines(alloc: Global, heights: &[u32]) -> Result<String, All
 }
 
 /// The line with the port of the listener.
-pub(crate) fn port_line(alloc: Global, port: u16) -> Result<String, AllocError>
-    ensures { IfOk result (λ text. string_bytes text ≡ port_line port) }
+fn port_line(alloc: Global, port: u16) -> Result<String, AllocError>
+    ensures { IfOk result (λ text. string_bytes text ≡ port_lines port None) }
 {
     let line = format!(in alloc; "listening {port}\n")?;
     Ok(line)
+}
+
+/// That line, and one with the port of HTTP.
+fn two_lines(alloc: Global, port: u16, http: u16) -> Result<String, AllocError>
+    ensures { IfOk result (λ text. string_bytes text ≡ port_lines port (Some http)) }
+{
+    let lines = format!(in alloc; "listening {port}\nhttp {http}\n")?;
+    Ok(lines)
+}
+
+/// The line with the port of the listener, and one with that of HTTP, if it is served.
+pub(crate) fn port_lines(
+    alloc: Global,
+    port: u16,
+    http: &Option<HttpListener>,
+) -> Result<String, AllocError>
+    ensures { IfOk result (λ text. string_bytes text ≡ port_lines port (option_map (λ h. h.port) http.now)) }
+{
+    match http {
+        Some(http) => two_lines(alloc, port, http.port),
+        None => port_line(alloc, port),
+    }
 }

@@ -85,31 +85,36 @@ impl<A: Application, R: Wait> Connection<'_, '_, A, R> {
     }
 }
 
-/// Targets for one session per seat. The clients of all sessions share these entries of each replica's history.
+/// Targets for one session or connection per seat. The clients of all share these entries of each replica's history.
 pub(crate) fn targets_of<'a, A: Application, R: Wait>(
     rt: &'a R,
     alloc: Global,
     cluster: &'a RunningCluster<A>,
     entries: &'a [Mutex<ClientEntries>],
     seats: Vec<ReaderSeat>,
+    stop: &'a Stop,
 ) -> Result<Vec<LiveTargets<'a, A, R>>, AllocError>
     requires seats { All (λ seat. seat.board ≡ cluster.now.board) seats.items }
     requires entries { length entries.now ≡ cluster.now.replicas }
 {
     let mut targets = Vec::with_capacity(alloc, seats.len())?;
     for seat in seats {
-        targets.push(LiveTargets::new(rt, alloc, cluster, entries, seat))?;
+        targets.push(LiveTargets::new(rt, alloc, cluster, entries, seat, stop))?;
     }
     Ok(targets)
 }
 
 /// Waits for `RETRY_MS`.
-fn pause<R: Clock>(rt: &R) {
+pub(crate) fn pause<R: Clock>(rt: &R) {
     let _ = thread::sleep(rt, Duration::from_millis(RETRY_MS));
 }
 
-/// The next connection; `None` if the cluster is asked to stop. Tries again if a connection can't be accepted.
-fn next_stream<R: Clock + Wait>(rt: &R, listener: &TcpListener, stop: &Stop) -> Option<TcpStream> {
+/// The next connection; `None` if it is asked to stop. Tries again if a connection can't be accepted.
+pub(crate) fn next_stream<R: Clock + Wait>(
+    rt: &R,
+    listener: &TcpListener,
+    stop: &Stop,
+) -> Option<TcpStream> {
     for _ in rt.forever() {
         let taken = listener.accept();
         if stop.is_asked() {

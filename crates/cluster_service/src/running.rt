@@ -8,11 +8,14 @@ ghost use denote.Param.Send.{IsSend, IsSync};
 
 use crate::door::Door;
 use crate::final_histories::{FinalHistories, take_all};
+use crate::http_door::HttpDoor;
+use crate::http_listening::{HTTP_SEATS, HttpListener, HttpSeat, end_http, listen_http, seats_of};
 use crate::listening::{listen, targets_of};
 use crate::live_targets::LiveTargets;
 use crate::notice::Notice;
 use crate::replicas::{NewReplicas, new_replicas};
 use crate::reporting::{ReportingGate, SharedStatus};
+use abci::Application;
 use app_kinds::AnyKind;
 use cluster_workers::{MachineClock, RunningCluster, Stop, Worker, run_all};
 use commit_board::ReaderSeat;
@@ -151,17 +154,17 @@ fn new_entries(
     Ok(entries)
 }
 
-/// Waits until the sessions have ended, if the cluster can be asked to stop. Once it is asked, this ends the sessions,
+/// Waits until the sessions have ended, if something is to be done by then. Once the cluster is asked to stop, this ends the sessions,
 /// and connects to the listener to wake it.
 fn end_sessions<R: Clock + Net<Listener = TcpListener, Stream = TcpStream> + Wait>(
     rt: &R,
     port: u16,
-    may_stop: bool,
+    is_watched: bool,
     stop: &Stop,
     door: &Door,
 ) {
     for _ in rt.forever() {
-        if door.is_closed() || !(may_stop || stop.is_asked()) {
+        if door.is_closed() || !(is_watched || stop.is_asked()) {
             break;
         }
         if stop.is_asked() {
@@ -172,7 +175,41 @@ fn end_sessions<R: Clock + Net<Listener = TcpListener, Stream = TcpStream> + Wai
     }
 }
 
-/// Runs the workers of a cluster in parallel with the sessions of its clients, until both have ended.
+/// HTTP of a running cluster: its listener, the port of the listener, a seat for each connection at once, and the door.
+struct HttpService<'a, 'b, A: Application, R: Wait> {
+    listener: TcpListener,
+    port: u16,
+    seats: Vec<HttpSeat<'a, A, R>>,
+    door: &'b HttpDoor,
+}
+
+// An own `Drop` keeps proofs short: an owner drops it by one call. See docs/WORKING.md.
+impl<A: Application, R: Wait> Drop for HttpService<'_, '_, A, R> {
+    fn drop(self) {
+        let HttpService {
+            listener: _listener,
+            port: _port,
+            seats: _seats,
+            door: _door,
+        } = self;
+    }
+}
+
+impl<A: Application + Send, R: Clock + Threads + Wait + Sync> HttpService<'_, '_, A, R> {
+    /// Serves HTTP until it is to end.
+    fn listen(self, rt: &R, alloc: Global) {
+        let HttpService {
+            listener,
+            port: _port,
+            seats,
+            door,
+        } = self;
+        listen_http(rt, alloc, listener, seats, door);
+    }
+}
+
+/// Runs the workers of a cluster in parallel with the sessions of its clients, until both have ended. If it is watched, something is to be
+/// done then.
 fn run_beside<'a, R>(
     rt: &R,
     alloc: Global,
@@ -181,6 +218,7 @@ fn run_beside<'a, R>(
     gate: &ReportingGate<'_, R>,
     listener: TcpListener,
     port: u16,
+    is_watched: bool,
     targets: Vec<LiveTargets<'a, AnyKind, R>>,
     stop: &Stop,
     door: &Door,
@@ -205,7 +243,7 @@ where
             if done.is_ok() {
                 gate.tell(end_of(stop, Notice::ServesOn));
             }
-            end_sessions(rt, port, settings.stops_at_eof, stop, door);
+            end_sessions(rt, port, is_watched || settings.stops_at_eof, stop, door);
             if done.is_ok() {
                 gate.wait_for_end();
             }
@@ -214,8 +252,54 @@ where
     )
 }
 
-/// Runs the workers of a cluster in parallel with one session per seat. The sessions share the given number of entries
-/// of each history.
+/// Like [`run_beside`], and serves HTTP until then, if there is a service.
+fn run_beside_http<'a, R>(
+    rt: &R,
+    alloc: Global,
+    settings: &ClusterSettings,
+    workers: Vec<Worker<AnyKind>>,
+    gate: &ReportingGate<'_, R>,
+    listener: TcpListener,
+    port: u16,
+    targets: Vec<LiveTargets<'a, AnyKind, R>>,
+    http: Option<HttpService<'a, '_, AnyKind, R>>,
+    stop: &Stop,
+    door: &Door,
+) -> Result<(), ProgramFault>
+where
+    R: Clock + Net<Listener = TcpListener, Stream = TcpStream> + Threads + Wait + Sync,
+    ensures { IfErr result IsRunFault }
+{
+    let Some(http) = http else {
+        return run_beside(
+            rt, alloc, settings, workers, gate, listener, port, false, targets, stop, door,
+        );
+    };
+    thread::scope(
+        thread::scope_env(),
+        rt,
+        move |scope| -> Result<(), ProgramFault>
+            ensures { IfErr result IsRunFault }
+        {
+            let (http_port, http_door) = (http.port, http.door);
+            if scope.spawn(move || http_door.watch(rt)).is_err() {
+                return Err(ProgramFault::NoThread);
+            }
+            if scope.spawn(move || http.listen(rt, alloc)).is_err() {
+                http_door.over().ask();
+                return Err(ProgramFault::NoThread);
+            }
+            let done = run_beside(
+                rt, alloc, settings, workers, gate, listener, port, true, targets, stop, door,
+            );
+            end_http(rt, http_port, http_door);
+            done
+        },
+    )
+}
+
+/// Runs the workers of a cluster in parallel with one session for each of the first seats, and with HTTP in the others. All clients share
+/// the given number of entries of each history.
 fn serve_beside<R>(
     rt: &R,
     alloc: Global,
@@ -226,6 +310,7 @@ fn serve_beside<R>(
     gate: &ReportingGate<'_, R>,
     listener: TcpListener,
     port: u16,
+    http: Option<HttpListener>,
     stop: &Stop,
 ) -> Result<(), ProgramFault>
 where
@@ -236,11 +321,31 @@ where
 {
     let run = &settings.cluster;
     let entries = new_entries(alloc, run.cluster.config.replicas, settings.client_entries)?;
-    let door = Door::new(alloc, seats.len())?;
-    let targets = targets_of(rt, alloc, cluster, &entries, seats)?;
-    run_beside(
-        rt, alloc, run, workers, gate, listener, port, targets, stop, &door,
+    let sessions = settings.sessions as usize;
+    let door = Door::new(alloc, sessions)?;
+    let http_door = HttpDoor::new(alloc, seats.len().saturating_sub(sessions))?;
+    let mut targets = targets_of(rt, alloc, cluster, &entries, seats, http_door.over())?;
+    let others = targets.split_off(sessions.min(targets.len()))?;
+    let http = match http {
+        Some(HttpListener { listener, port }) => Some(HttpService {
+            listener,
+            port,
+            seats: seats_of(alloc, others)?,
+            door: &http_door,
+        }),
+        None => None,
+    };
+    run_beside_http(
+        rt, alloc, run, workers, gate, listener, port, targets, http, stop, &door,
     )
+}
+
+/// How many seats of the board a server needs.
+fn seat_count(sessions: u32, http: &Option<HttpListener>) -> u32 {
+    match http {
+        Some(_) => sessions.saturating_add(HTTP_SEATS),
+        None => sessions,
+    }
 }
 
 /// Makes a cluster, runs it and serves its clients. Returns what its replicas have at the end.
@@ -251,6 +356,7 @@ fn serve_through<R>(
     gate: &ReportingGate<'_, R>,
     listener: TcpListener,
     port: u16,
+    http: Option<HttpListener>,
     stop: &Stop,
 ) -> Result<FinalHistories, ProgramFault>
 where
@@ -273,22 +379,24 @@ where
         config,
         states,
         run.rounds,
-        settings.sessions,
+        seat_count(settings.sessions, &http),
     )?;
     serve_beside(
-        rt, alloc, settings, &cluster, workers, seats, gate, listener, port, stop,
+        rt, alloc, settings, &cluster, workers, seats, gate, listener, port, http, stop,
     )?;
     take_all(rt, alloc, &cluster, config, ring)
 }
 
 /// Like [`run_cluster`], and serves the clients of a listener. Returns when the rounds are over and as many connections as
-/// the settings say have ended, or when the cluster was asked to stop. Closes the listener after the last connection.
+/// the settings say have ended, or when the cluster was asked to stop. Closes the listener after the last connection. Until then it serves
+/// HTTP, too, if there is a listener for it.
 pub fn serve_cluster<R>(
     rt: &R,
     alloc: Global,
     settings: &ServeSettings,
     listener: TcpListener,
     port: u16,
+    http: Option<HttpListener>,
     status: &SharedStatus,
     stop: &Stop,
 ) -> Result<FinalHistories, ProgramFault>
@@ -305,5 +413,5 @@ where
     ensures fault { IfErr result IsRunFault }
 {
     let gate = new_gate(rt, &settings.cluster, status);
-    serve_through(rt, alloc, settings, &gate, listener, port, stop)
+    serve_through(rt, alloc, settings, &gate, listener, port, http, stop)
 }

@@ -62,7 +62,7 @@ impl<W: Write> HistoriesFile<W> {
     ghost use Rattle.cluster_service.specs.RunFaults.{IsSaveFault};
 
     /// Writes the histories, one after another. After an error a prefix of them was written: memory ran out, or a write
-    /// was refused. Either moves the path into its fault; the fault of a later write has an empty path.
+    /// was refused. The fault takes the path out of the file, so the fault of a later write has an empty path.
     pub fn save(&mut self, alloc: Global, histories: &[History]) -> Result<(), ProgramFault>
         ensures written { Writes result self.old.bytes self.new.bytes (flat_map history_bytes histories.now) }
         ensures fault { IfErr result (IsSaveFault (Some self.old.path)) }

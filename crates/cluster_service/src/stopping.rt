@@ -17,7 +17,7 @@ const PIECE_LEN: usize = 4096;
 /// wait, takes next to no processor time.
 const REST_MS: u64 = 50;
 
-/// Reads an input until it ends or can't be read any more.
+/// Reads an input until it ends or can't be read any more. A terminal whose reads return at once (VMIN 0) counts as ended.
 fn read_to_end<R: Clock, I: Read>(rt: &R, input: &mut I) {
     let mut piece = [0; PIECE_LEN];
     for _ in 0..u64::MAX {
@@ -32,8 +32,8 @@ fn read_to_end<R: Clock, I: Read>(rt: &R, input: &mut I) {
     }
 }
 
-/// Asks a cluster to stop when the input ends. A thread of its own reads the input, and nothing waits for it. The
-/// errors are an input that can't be read, and that no thread can be had.
+/// Asks a cluster to stop when the input ends. A thread of its own reads the input. Nothing waits for that thread, since a read can't be
+/// interrupted. The errors are an input that can't be read, and that no thread can be had.
 pub fn stop_at_end<R, I>(rt: &R, mut input: I, stop: Arc<Stop>) -> Result<(), ProgramFault>
 where
     R: Clock + Copy + Send + Threads + 'static,

@@ -1,13 +1,15 @@
 //! `abft cluster` and `abft serve`: runs a cluster, and writes its lines.
-ghost use Rattle.std.specs.Prelude.{◌≡◌, length, IfErr};
+ghost use Rattle.std.specs.Prelude.{◌≡◌, length, option_map, IfErr};
 ghost use Rattle.cluster_keys.specs.Keys.{ring_of};
 ghost use Rattle.cluster_service.specs.HistoriesFiles.{bytes_in};
+ghost use Rattle.cluster_service.specs.Lines.{port_lines};
 ghost use Rattle.cluster_service.specs.Reporting.{AreTaken, Reports, ReportsEnd, ReportsSome, Serves, ServesSome, WritesSuch};
 ghost use Rattle.cluster_service.specs.RunFaults.{EndsCluster, EndsServer, IsReportFault, IsRunFault};
 
 use crate::final_histories::FinalHistories;
+use crate::http_listening::HttpListener;
 use crate::saving::{HistoriesFile, save_histories};
-use crate::writing::{write_lines, write_port};
+use crate::writing::{write_lines, write_ports};
 use crate::{SharedStatus, run_cluster, serve_cluster, stop_at_end};
 use cluster_workers::Stop;
 use program_streams::ProgramFault;
@@ -87,14 +89,15 @@ where
     report(rt, alloc, settings, &left, writer, file)
 }
 
-/// `abft serve`: writes the port of the listener at once; then runs a cluster and serves clients in parallel; at the end writes what
-/// [`cluster`] writes. The listener comes from [`listen_at`](crate::listen_at), so no port is refused here.
+/// `abft serve`: writes the port of the listener, and that of HTTP, at once; then runs a cluster and serves clients in parallel; at the end writes what
+/// [`cluster`] writes. The listeners come from [`listen_at`](crate::listen_at), so no port is refused here.
 pub fn serve<R, I, W: Write, H: Write>(
     rt: &R,
     alloc: Global,
     settings: &ServeSettings,
     listener: TcpListener,
     port: u16,
+    http: Option<HttpListener>,
     status: &SharedStatus,
     input: I,
     writer: &mut W,
@@ -111,13 +114,15 @@ where
         + Wait
         + 'static,
     I: Read + Drop + Send + 'static,
-    ensures serves { WritesSuch result (λ status. Serves port (Reports settings.now.cluster status)) (ServesSome settings.now.cluster port)
+    ensures serves { WritesSuch result (λ status. Serves (port_lines port (option_map (λ h. h.port) http)) (Reports settings.now.cluster status))
+        (ServesSome settings.now.cluster (port_lines port (option_map (λ h. h.port) http)))
         (W.contents writer.old) (W.contents writer.new) (bytes_in file.old) (bytes_in file.new) }
-    // A server that isn't run to its end writes at most its port.
-    ensures fault { IfErr result (EndsServer port file.old file.new (W.contents writer.old) (W.contents writer.new)) }
+    // A server that isn't run to its end writes at most its ports.
+    ensures fault { IfErr result (EndsServer (port_lines port (option_map (λ h. h.port) http)) file.old file.new
+        (W.contents writer.old) (W.contents writer.new)) }
 {
     let stop = new_stop(rt, alloc, &settings.cluster, input)?;
-    write_port(alloc, port, writer)?;
-    let left = serve_cluster(rt, alloc, settings, listener, port, status, &stop)?;
+    write_ports(alloc, port, &http, writer)?;
+    let left = serve_cluster(rt, alloc, settings, listener, port, http, status, &stop)?;
     report(rt, alloc, &settings.cluster, &left, writer, file)
 }

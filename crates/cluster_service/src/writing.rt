@@ -1,13 +1,14 @@
 //! Writes and flushes the lines of a cluster.
-ghost use Rattle.std.specs.Prelude.{IfErr};
+ghost use Rattle.std.specs.Prelude.{option_map, IfErr};
 ghost use Rattle.byte_streams.specs.Writing.{Writes};
 ghost use Rattle.audit_lines.specs.AuditLines.{finding_text};
-ghost use Rattle.cluster_service.specs.Lines.{commit_lines, port_line};
+ghost use Rattle.cluster_service.specs.Lines.{commit_lines, port_lines};
 ghost use Rattle.cluster_service.specs.Reporting.{WritesFinding};
 ghost use Rattle.cluster_service.specs.RunFaults.{IsLineFault, IsWriteFault};
 
 use crate::final_histories::FinalHistories;
-use crate::lines::{commit_lines, port_line};
+use crate::http_listening::HttpListener;
+use crate::lines::{commit_lines, port_lines};
 use audit_lines::{add_finding, audited, finding_status};
 use history_audit::AuditFault;
 use ledger_model::{Config, Ledger};
@@ -32,13 +33,19 @@ pub fn write_commits<W: Write>(
     Ok(())
 }
 
-/// Writes the line with the port, and flushes it, so that its reader has it at once.
-pub fn write_port<W: Write>(alloc: Global, port: u16, writer: &mut W) -> Result<(), ProgramFault>
-    ensures written { Writes result (W.contents writer.old) (W.contents writer.new) (port_line port) }
+/// Writes the line with the port, and one with the port of HTTP, if it is served; and flushes them, so that their reader has them at
+/// once.
+pub fn write_ports<W: Write>(
+    alloc: Global,
+    port: u16,
+    http: &Option<HttpListener>,
+    writer: &mut W,
+) -> Result<(), ProgramFault>
+    ensures written { Writes result (W.contents writer.old) (W.contents writer.new) (port_lines port (option_map (λ h. h.port) http.now)) }
     ensures fault { IfErr result IsWriteFault }
 {
-    let line = port_line(alloc, port)?;
-    write_output(writer, line.as_bytes())?;
+    let lines = port_lines(alloc, port, http)?;
+    write_output(writer, lines.as_bytes())?;
     flush_output(writer)?;
     Ok(())
 }

@@ -55,7 +55,7 @@ struct Taken {
     sets: Vec<Vec<History>>,
 }
 
-/// After every 16th turn, eight times, it takes the histories of all replicas. The others go on in the meantime.
+/// After every 16th turn, eight times, it takes the histories of all replicas. The others continue in the meantime.
 #[derive(Drop)]
 pub(crate) struct HistoryGate<'a, R: Wait> {
     rt: &'a R,

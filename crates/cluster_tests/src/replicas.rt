@@ -22,8 +22,13 @@ const PARAMS: Params = Params {
 
 /// A cluster of four, of which one may lie.
 pub(crate) fn four() -> Result<ClusterSeed, Fail> {
+    four_with_frames(1)
+}
+
+/// The same with frames of this version.
+pub(crate) fn four_with_frames(version: u8) -> Result<ClusterSeed, Fail> {
     Ok(ClusterSeed {
-        config: Config::new(4, 1, AppKind::KvStore)?,
+        config: Config::new(4, 1, AppKind::KvStore)?.with_frames(version)?,
         params: PARAMS,
         seed: [0; 32],
     })

@@ -1,5 +1,5 @@
 //! What a replica's verifier hashes where a frame is delivered, with and without its answers beforehand.
-use crate::replicas::{four, replicas};
+use crate::replicas::{four, four_with_frames, replicas};
 use app_kinds::AnyKind;
 use bytes::Bytes;
 use key_ring::KeyRing;
@@ -120,7 +120,8 @@ fn hashes_of<R: Threads + Sync>(
 ) -> Result<Option<u64>, Fail> {
     open_round(alloc, reader)?;
     reader.apply(Event::RoundEnd)?;
-    let frames = arrived_frames(alloc, &[lock.clone()?])?;
+    let version = reader.config().frames;
+    let frames = arrived_frames(version, alloc, &[lock.clone()?])?;
     prime_some(rt, alloc, reader, &frames, checked)?;
     if reads(reader, lock)? {
         Ok(Some(reader.verifier().computed()))
@@ -150,7 +151,7 @@ fn hashes<R: RandomSource + Threads + Sync>(
 /// Of what arrived, the number of frames, of those whose signatures the replica would check, and of those among them of
 /// which it doesn't know whether they are signed.
 fn counts(alloc: Global, state: &State<AnyKind>, arrived: &[Bytes]) -> Result<[usize; 3], Fail> {
-    let mut frames = arrived_frames(alloc, arrived)?;
+    let mut frames = arrived_frames(state.config().frames, alloc, arrived)?;
     let all = frames.len();
     keep_checked(state, &mut frames);
     let parts = unknown_parts(alloc, state.verifier(), &frames)?;
@@ -173,7 +174,7 @@ fn counts_of<R: Threads + Sync>(
     let closed = counts(alloc, reader, &arrived)?;
     open_round(alloc, reader)?;
     let open = counts(alloc, reader, &arrived)?;
-    let frames = arrived_frames(alloc, &arrived)?;
+    let frames = arrived_frames(reader.config().frames, alloc, &arrived)?;
     prime_own(rt, alloc, reader, &frames)?;
     let known = counts(alloc, reader, &arrived)?;
     reads(reader, report)?;
@@ -192,6 +193,34 @@ fn all_counts<R: RandomSource + Threads + Sync>(
     };
     let report = open_round(alloc, &mut sender)?;
     counts_of(rt, alloc, &mut reader, report)
+}
+
+/// A replica's report, and another replica in its round, of a cluster with frames of this version.
+fn report_and_reader<R: RandomSource>(
+    rt: &R,
+    alloc: Global,
+    version: u8,
+) -> Result<(Bytes, State<AnyKind>), Fail> {
+    let mut states = replicas(rt, alloc, &four_with_frames(version)?)?;
+    let (Some(mut sender), Some(mut reader)) = (states.pop(), states.pop()) else {
+        return Err(missing());
+    };
+    let report = open_round(alloc, &mut sender)?;
+    open_round(alloc, &mut reader)?;
+    Ok((report, reader))
+}
+
+/// The same for a report of version 1 and one of version 2, at a replica whose cluster's frames have version 1, and at one whose
+/// cluster's frames have version 2.
+fn counts_of_versions<R: RandomSource>(rt: &R, alloc: Global) -> Result<[[usize; 3]; 4], Fail> {
+    let (first, reader_of_first) = report_and_reader(rt, alloc, 1)?;
+    let (second, reader_of_both) = report_and_reader(rt, alloc, 2)?;
+    Ok([
+        counts(alloc, &reader_of_first, &[first.clone()?])?,
+        counts(alloc, &reader_of_first, &[second.clone()?])?,
+        counts(alloc, &reader_of_both, &[first])?,
+        counts(alloc, &reader_of_both, &[second])?,
+    ])
 }
 
 /// Why the replica ignores the frame before it checks its signature, if it does.
@@ -239,6 +268,16 @@ fn a_worker_checks_what_the_replica_would_check_and_does_not_know(
         counts,
         [[1, 0, 0], [1, 1, 1], [1, 1, 0], [1, 0, 0], [1, 0, 0]]
     );
+    Ok(())
+}
+
+// A report of version 2 is malformed for a cluster with frames of version 1, so its signature isn't checked.
+#[test]
+fn a_worker_checks_frames_of_the_versions_that_its_cluster_reads(
+    rt: HostRuntime,
+) -> Result<(), Fail> {
+    let counts = counts_of_versions(&rt, rt.alloc())?;
+    assert_eq!(rt; counts, [[1, 1, 1], [0, 0, 0], [1, 1, 1], [1, 1, 1]]);
     Ok(())
 }
 

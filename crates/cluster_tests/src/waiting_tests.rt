@@ -1,5 +1,6 @@
 //! The frames that wait for a replica.
 use bytes::Bytes;
+use ledger_model::Version;
 use replica_turns::WaitingFrames;
 use std::alloc::{AllocError, Global};
 use std::test::Fail;
@@ -15,7 +16,7 @@ fn take_in_two(alloc: Global, waiting: &mut WaitingFrames, clock: u32) -> Result
     if waiting.room() < 2 {
         return Err(AllocError);
     }
-    waiting.take_in(alloc, clock, frames)
+    waiting.take_in(Version::One, alloc, clock, frames)
 }
 
 /// The number of frames that are due, and the number of frames that there is room for.
@@ -50,7 +51,7 @@ fn fill(alloc: Global, waiting: &mut WaitingFrames) -> Result<(), AllocError> {
         return Err(AllocError);
     }
     let count = frames.len();
-    waiting.take_in(alloc, 0, frames)?;
+    waiting.take_in(Version::One, alloc, 0, frames)?;
     waiting.give_up(count);
     Ok(())
 }
@@ -71,5 +72,32 @@ fn frames_are_handed_over_in_pieces(rt: HostRuntime) -> Result<(), Fail> {
     assert_eq!(rt; next_counts(&waiting), (128, 64));
     waiting.give_up(100);
     assert_eq!(rt; next_counts(&waiting), (28, 28));
+    Ok(())
+}
+
+/// The number of frames that wait for the next round where one arrived, whose statement starts with this byte.
+fn waiting_of(alloc: Global, version: Version, first: u8) -> Result<usize, AllocError> {
+    let mut bytes = *REPORT;
+    bytes[4] = first;
+    let mut frames = Vec::with_capacity(alloc, 1)?;
+    frames.push(Bytes::copy_from_slice(alloc, &bytes)?)?;
+    let mut waiting = WaitingFrames::new(alloc);
+    waiting.take_in(version, alloc, 0, frames)?;
+    waiting.give_up(1);
+    waiting.open_round()?;
+    Ok(waiting.due().len())
+}
+
+#[test]
+fn frames_wait_whose_version_is_read(rt: HostRuntime) -> Result<(), Fail> {
+    for (version, first, wanted) in [
+        (Version::One, 0x01, 1),
+        (Version::One, 0x11, 0),
+        (Version::Two, 0x01, 1),
+        (Version::Two, 0x11, 1),
+    ] {
+        let waiting = waiting_of(rt.alloc(), version, first)?;
+        assert!(rt; waiting == wanted, "{version:?} {first} {waiting}");
+    }
     Ok(())
 }

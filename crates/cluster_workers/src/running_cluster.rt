@@ -10,7 +10,7 @@ use crate::worker::Worker;
 use abci::Application;
 use commit_board::{Board, ReaderSeat, WriterSeat};
 use key_ring::KeyRing;
-use ledger_model::{Config, ReplicaId};
+use ledger_model::{Config, ReplicaId, Version};
 use locked_replica::State;
 use replica_turns::LockedReplica;
 use std::alloc::{AllocError, Global};
@@ -105,9 +105,10 @@ fn share_all<A: Application>(
 }
 
 /// The workers of these replicas, by number. The writers' seats of the board are in the same order; each worker takes one
-/// of the readers' seats. Each worker ends `rounds` rounds.
+/// of the readers' seats. Each worker reads frames of this version, and ends `rounds` rounds.
 fn workers_of<A: Application>(
     alloc: Global,
+    version: Version,
     board: &Arc<Board>,
     seats: Vec<WriterSeat>,
     looking: Vec<ReaderSeat>,
@@ -143,7 +144,9 @@ fn workers_of<A: Application>(
         let replica = Arc::try_clone(&replicas[usize::from(number)])?;
         let turn_taker = TurnTaker::new(Arc::try_clone(board)?, seat, reader);
         let ring = Arc::try_clone(ring)?;
-        workers.push(Worker::new(alloc, replica, turn_taker, receiver, senders, ring, rounds))?;
+        workers.push(Worker::new(
+            alloc, version, replica, turn_taker, receiver, senders, ring, rounds,
+        ))?;
     }
     Ok(workers)
 }
@@ -172,6 +175,7 @@ impl<A: Application> RunningCluster<A> {
         let (replicas, ring) = share_all(alloc, states)?;
         let workers = workers_of(
             alloc,
+            config.frames,
             &board,
             seats,
             looking,

@@ -10,7 +10,7 @@ use crate::turn_taker::{TurnOutcome, TurnTaker};
 use abci::Application;
 use bytes::Bytes;
 use key_ring::KeyRing;
-use ledger_model::{Event, ReplicaId, Sent};
+use ledger_model::{Event, ReplicaId, Sent, Version};
 use locked_replica::ApplyFault;
 use replica_turns::{
     LockedReplica, OwnEvents, WaitingFrames, arrived_frames, deliveries_of, keep_checked, sent_at,
@@ -30,6 +30,8 @@ const CHECKERS: u8 = 2;
 /// The worker of one replica. A thread of its own runs it.
 pub struct Worker<A: Application> {
     alloc: Global,
+    /// The version of the cluster's frames.
+    version: Version,
     replica: Arc<LockedReplica<A>>,
     turn_taker: TurnTaker,
     receiver: Receiver,
@@ -66,6 +68,7 @@ impl<A: Application> Drop for Worker<A> {
     fn drop(self) {
         let Worker {
             alloc: _alloc,
+            version: _version,
             replica: _replica,
             turn_taker: _turn_taker,
             receiver: _receiver,
@@ -109,6 +112,7 @@ fn take_frames<R: Wait>(rt: &R, alloc: Global, receiver: &mut Receiver, most: us
 impl<A: Application> Worker<A> {
     pub(crate) fn new(
         alloc: Global,
+        version: Version,
         replica: Arc<LockedReplica<A>>,
         turn_taker: TurnTaker,
         receiver: Receiver,
@@ -120,6 +124,7 @@ impl<A: Application> Worker<A> {
     {
         Worker {
             alloc,
+            version,
             replica,
             turn_taker,
             receiver,
@@ -151,7 +156,7 @@ impl<A: Application> Worker<A> {
 
     /// The frames among these whose signatures the replica would check now, each once; none if memory runs out.
     fn checked_frames<R: Wait>(&self, rt: &R, arrived: &[Bytes]) -> Vec<Frame> {
-        let Ok(mut frames) = arrived_frames(self.alloc, arrived) else {
+        let Ok(mut frames) = arrived_frames(self.version, self.alloc, arrived) else {
             return Vec::new(self.alloc);
         };
         let state = self.replica.lock(rt);
@@ -210,7 +215,8 @@ impl<A: Application> Worker<A> {
     fn take_in<R: Wait>(&mut self, rt: &R, clock: u32) -> usize {
         let frames = take_frames(rt, self.alloc, &mut self.receiver, self.frames.room());
         let taken = frames.len();
-        if self.frames.take_in(self.alloc, clock, frames).is_err() {
+        let done = self.frames.take_in(self.version, self.alloc, clock, frames);
+        if done.is_err() {
             self.has_lost = true;
         }
         taken

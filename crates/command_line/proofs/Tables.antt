@@ -7,8 +7,19 @@ use Rattle.command_line.specs.Options.{cluster_numbers, running_options}
 pub has_cluster : (numbers : List Limits) (transactions names : List Text)
     → HasCluster (record { numbers = cluster_numbers ++ numbers; transactions = transactions; names = cluster_names ++ names })
 has_cluster numbers transactions names =
-    record { n = refl; n_limits = refl; t = refl; t_limits = refl; kind = refl; kind_limits = refl; w = refl; tree = refl; frames = refl;
-        frames_limits = refl; seed = refl }
+    record {
+      n = refl;
+      n_limits = refl;
+      t = refl;
+      t_limits = refl;
+      kind = refl;
+      kind_limits = refl;
+      w = refl;
+      tree = refl;
+      frames = refl;
+      frames_limits = refl;
+      seed = refl;
+    }
 
 pub has_running : (numbers : List Limits) (transactions names : List Text) → HasRunning (record {
   numbers = running_options.numbers ++ numbers;

@@ -120,8 +120,9 @@ cluster_app = with_running (new_app (codes "cluster"))
 -- the options that only `abft serve` has
 abbrev pub with_serve : App → App
 with_serve a =
-    with_rule (with_rule (with_rule a
+    with_rule (with_rule (with_rule (with_rule a
     (option_rule (codes "port") (codes "0")))
+    (optional_rule (codes "http")))
     (option_rule (codes "sessions") (codes "1")))
     (option_rule (codes "client-entries") (codes "32768"))
 

@@ -94,10 +94,11 @@ running_options = record {
 -- of `abft serve`
 abbrev pub serve_options : OptionTable
 serve_options = record {
-  numbers = running_options.numbers ++ limits (codes "port") 0 65535 ∷ limits (codes "sessions") 1 1000
+  numbers = running_options.numbers ++ limits (codes "port") 0 65535 ∷ limits (codes "http") 0 65535
+      ∷ limits (codes "sessions") 1 1000
       ∷ limits (codes "client-entries") 0 65536 ∷ [];
   transactions = running_options.transactions;
-  names = running_options.names ++ codes "port" ∷ codes "sessions" ∷ codes "client-entries" ∷ [];
+  names = running_options.names ++ codes "port" ∷ codes "http" ∷ codes "sessions" ∷ codes "client-entries" ∷ [];
 }
 
 -- of `abft audit`
@@ -220,6 +221,11 @@ abbrev pub SetsReceipt : List Row → Option Receipt → Type 0
 SetsReceipt rows None = first_of (codes "receipt") rows ≡ None
 SetsReceipt rows (Some receipt) = (text : Text) × ((first_of (codes "receipt") rows ≡ Some text) × SpellsReceipt text receipt)
 
+-- the words contain a port, and it is this one, or they contain none
+abbrev pub SetsPort : List Row → Text → Option ℕ → Type 0
+SetsPort rows name None = first_of name rows ≡ None
+SetsPort rows name (Some port) = IsNumber rows name 0 65535 port
+
 -- the number of an application
 abbrev pub number_of : AppKind → ℕ
 number_of KvStore = 1
@@ -286,6 +292,7 @@ pub record SetsRunning (rows : List Row) (s : ClusterSettings) : Type 0 where
 pub record SetsServe (rows : List Row) (s : ServeSettings) : Type 0 where
   pub cluster : SetsRunning rows s.cluster
   pub port : IsNumber rows (codes "port") 0 65535 s.port
+  pub http : SetsPort rows (codes "http") s.http
   pub sessions : IsNumber rows (codes "sessions") 1 1000 s.sessions
   pub entries : IsNumber rows (codes "client-entries") 0 65536 s.client_entries
 

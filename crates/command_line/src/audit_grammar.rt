@@ -15,7 +15,7 @@ Otherwise one line:
   fault 1 Count          fewer than N-t histories, two of one replica, or one of a replica that the cluster doesn't have
   fault 2 NotReplay R I  entry I of R's history has a reply that the protocol doesn't allow there, or sends what R didn't sign
   fault 3 Unsent R I S   at entry I of its history R accepted a statement of S that S's history doesn't send
-  bad history            the input is not spelled as histories
+  bad history            the input is not spelled as histories, or those of version 2 need --frames 2
 After a fault, standard error has one more sentence about it.
 
 With --receipt there is one more line after a ledger. A receipt is what a client holds: the replica that took its

@@ -5,7 +5,8 @@ use crate::subcommand::{Argument, Kind, Subcommand};
 /// The end of `abft draw --help`.
 const PICTURE: &str = "\
 Input: the histories of replicas, as bytes, one after another. 'abft simulate --histories' prints such bytes, and
-'abft cluster --histories FILE' writes them. The options are those of the cluster; only --n and --t change the picture.
+'abft cluster --histories FILE' writes them. The options are those of the cluster: histories of version 2 need --frames 2,
+and only --n and --t change the picture.
 
 Output: an SVG document, or 'bad history' if the input is not spelled as histories. docs/PICTURES.md says how to read it.
 

@@ -39,7 +39,7 @@ Lines, one for each frame:
 
 The last line, where the stream is wrong:
   fault 1 TooLong    a frame longer than 150000 bytes was announced, or than 600000 with --frames 2
-  fault 2 Malformed  a frame is not spelled as one
+  fault 2 Malformed  a frame is not spelled as one, or has version 2 without --frames 2
   cut                the stream ends within a frame
 
 Exit status:

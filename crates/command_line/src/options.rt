@@ -1,9 +1,9 @@
 //! Reads the options of a command line from its matches.
-ghost use Rattle.std.specs.Prelude.{◌≡◌, ◌↔◌, IsTrue, ℕ, List, [], ◌≤◌, ◌-◌, IfOk, IfErr, OnErr, Some, None, codes, option_map, string_bytes};
+ghost use Rattle.std.specs.Prelude.{◌≡◌, ◌↔◌, IsTrue, ℕ, List, [], ◌≤◌, ◌-◌, IfOk, IfErr, OnErr, Option, Some, None, codes, option_map, string_bytes};
 ghost use Rattle.clap.specs.Words.{Row, found_of, rows_of, first_of};
 ghost use Rattle.lm_ots.specs.Parameters.{bits_of, levels_of};
 ghost use Rattle.command_line.specs.Faults.{IsRightOf};
-ghost use Rattle.command_line.specs.Options.{HasCluster, HasOption, IsAccepted, IsNamed, IsNumber, IsSeed, IsWritten, OptionTable, SetsCluster, TakesNumber, TakesTransaction, WantsMemory, number_of, version_number, word_of};
+ghost use Rattle.command_line.specs.Options.{HasCluster, HasOption, IsAccepted, IsNamed, IsNumber, IsSeed, IsWritten, OptionTable, SetsCluster, SetsPort, TakesNumber, TakesTransaction, WantsMemory, number_of, version_number, word_of};
 ghost use Rattle.plain_text.specs.Transactions.{StandsFor};
 ghost use Rattle.ledger_model.specs.Replies.{check_reply};
 ghost use Rattle.ledger_model.specs.declared.config.AppKind.{AppKind};
@@ -81,6 +81,22 @@ pub(crate) fn small_number<'a>(
 {
     let number = number(matches, name, u32::from(least), u32::from(most))?;
     Ok(number as u8)
+}
+
+/// An option that is a port, if the words contain it.
+pub(crate) fn optional_port<'a>(
+    matches: &ArgMatches<'a>,
+    name: &'static str,
+) -> Result<Option<u16>, UsageFault<'a>>
+    ensures some { IfOk result (λ port. SetsPort (rows_of (found_of matches.now)) name.now port) }
+    ensures none { OnErr result ((port : Option ℕ) → SetsPort (rows_of (found_of matches.now)) name.now port → ⊥) }
+    ensures right { (table : OptionTable) → TakesNumber table (rows_of (found_of matches.now)) name.now 0 65535 → IfErr result (IsRightOf table (rows_of (found_of matches.now))) }
+{
+    if optional_text(matches, name).is_none() {
+        return Ok(None);
+    }
+    let port = number(matches, name, 0, 65_535)?;
+    Ok(Some(port as u16))
 }
 
 /// The bytes that the text of an option encodes.

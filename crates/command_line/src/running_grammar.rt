@@ -1,5 +1,8 @@
 //! The grammar of `abft cluster` and `abft serve`, the subcommands that run a whole cluster.
-use crate::shared_arguments::{APPLICATION, FAULTS, FIRST_ROUND, FRAMES, HISTORIES_FILE, QUIET, REPLICAS, ROUNDS, SEED, STOP_AT_EOF, TRANSACTION, TREE, WIDTH};
+use crate::shared_arguments::{
+    APPLICATION, FAULTS, FIRST_ROUND, FRAMES, HISTORIES_FILE, QUIET, REPLICAS, ROUNDS, SEED,
+    STOP_AT_EOF, TRANSACTION, TREE, WIDTH,
+};
 use crate::subcommand::{Argument, Kind, Subcommand};
 
 /// The end of `abft cluster --help`.
@@ -11,7 +14,7 @@ Then the lines of an audit over the histories of all replicas, as 'abft audit --
   ledger C     the histories are those of one ledger of C blocks
   H BATCH      its block at height H, one line for each
 
-With --histories FILE the histories are written to FILE, for 'abft audit <FILE'.
+With --histories FILE the histories are written to FILE, for 'abft audit <FILE' with the options of the cluster.
 How it stands is told on standard error, unless --quiet is there.
 
 Exit status:
@@ -22,8 +25,9 @@ Exit status:
 
 /// The end of `abft serve --help`.
 const LISTENING: &str = "\
-The first line:
+The first line, and with --http the second:
   listening PORT  clients can connect to this port
+  http PORT       this port answers HTTP requests
 
 Then lines as of 'abft cluster', one for each replica:
   commits R C  replica R committed C blocks
@@ -34,7 +38,7 @@ Then the lines of an audit over the histories of all replicas, as 'abft audit --
 
 It ends when the rounds are over and as many connections as --sessions says have ended,
 or where standard input ends if --stop-at-eof is there.
-With --histories FILE the histories are written to FILE, for 'abft audit <FILE'.
+With --histories FILE the histories are written to FILE, for 'abft audit <FILE' with the options of the cluster.
 How it stands is told on standard error, unless --quiet is there.
 docs/OPERATING.md has the rest.
 
@@ -91,6 +95,11 @@ pub(crate) const SERVE: Subcommand = Subcommand {
             name: "port",
             kind: Kind::Value("0"),
             help: "The port to listen at, 0 to 65535; 0 for one that is free",
+        },
+        Argument {
+            name: "http",
+            kind: Kind::Optional,
+            help: "The port for HTTP requests, 0 to 65535; 0 for one that is free; without it there is no HTTP",
         },
         Argument {
             name: "sessions",

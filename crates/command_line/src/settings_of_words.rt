@@ -15,7 +15,8 @@ ghost use Rattle.settings.specs.declared.Settings.{Settings};
 
 use crate::grammar::abft_command;
 use crate::options::{
-    accepted_transaction, cluster, file, is_named, number, seed, small_number, transaction, what,
+    accepted_transaction, cluster, file, is_named, number, optional_port, seed, small_number,
+    transaction, what,
 };
 use crate::receipts::receipt;
 use crate::refused_words::fault_of;
@@ -125,11 +126,13 @@ fn serve_settings<'a>(
 {
     let cluster = cluster_settings(alloc, matches)?;
     let port = number(matches, "port", 0, 65_535)?;
+    let http = optional_port(matches, "http")?;
     let sessions = number(matches, "sessions", 1, 1000)?;
     let client_entries = number(matches, "client-entries", 0, 65_536)?;
     Ok(ServeSettings {
         cluster,
         port: port as u16,
+        http,
         sessions,
         client_entries,
     })

@@ -60,7 +60,7 @@ impl Metric {
         }
     }
 
-    /// Its number for a replica.
+    /// The value of the metric for a replica.
     fn value_of(self, of: &ReplicaMetrics) -> u64
         ensures { result ≡ value_of self of.now }
     {

@@ -291,3 +291,64 @@ pub(crate) const METRICS: &str = "\
     abft_history_entries{replica=\"0\"} 333\n\
     abft_history_entries{replica=\"3\"} 0\n\
     ";
+
+pub(crate) const ALL_METRICS: &str = "\
+    HTTP/1.1 200 OK\r\n\
+    Content-Type: text/plain; version=0.0.4; charset=utf-8\r\n\
+    Content-Length: 1149\r\n\
+    Connection: close\r\n\
+    \r\n\
+    # HELP abft_rounds Rounds that the replica ended.\n\
+    # TYPE abft_rounds gauge\n\
+    abft_rounds{replica=\"0\"} 345\n\
+    abft_rounds{replica=\"1\"} 345\n\
+    abft_rounds{replica=\"2\"} 345\n\
+    abft_rounds{replica=\"3\"} 345\n\
+    # HELP abft_height The last height that the replica committed.\n\
+    # TYPE abft_height gauge\n\
+    abft_height{replica=\"0\"} 12\n\
+    abft_height{replica=\"1\"} 12\n\
+    abft_height{replica=\"2\"} 12\n\
+    abft_height{replica=\"3\"} 12\n\
+    # HELP abft_signatures_left One-time signatures that its key pair has left.\n\
+    # TYPE abft_signatures_left gauge\n\
+    abft_signatures_left{replica=\"0\"} 1001\n\
+    abft_signatures_left{replica=\"1\"} 1001\n\
+    abft_signatures_left{replica=\"2\"} 1001\n\
+    abft_signatures_left{replica=\"3\"} 1001\n\
+    # HELP abft_pool_transactions Transactions that wait for a block.\n\
+    # TYPE abft_pool_transactions gauge\n\
+    abft_pool_transactions{replica=\"0\"} 5\n\
+    abft_pool_transactions{replica=\"1\"} 5\n\
+    abft_pool_transactions{replica=\"2\"} 5\n\
+    abft_pool_transactions{replica=\"3\"} 5\n\
+    # HELP abft_history_entries Entries of the history.\n\
+    # TYPE abft_history_entries gauge\n\
+    abft_history_entries{replica=\"0\"} 333\n\
+    abft_history_entries{replica=\"1\"} 333\n\
+    abft_history_entries{replica=\"2\"} 333\n\
+    abft_history_entries{replica=\"3\"} 333\n\
+    ";
+
+pub(crate) const METRICS_OF_2: &str = "\
+    HTTP/1.1 200 OK\r\n\
+    Content-Type: text/plain; version=0.0.4; charset=utf-8\r\n\
+    Content-Length: 633\r\n\
+    Connection: close\r\n\
+    \r\n\
+    # HELP abft_rounds Rounds that the replica ended.\n\
+    # TYPE abft_rounds gauge\n\
+    abft_rounds{replica=\"2\"} 345\n\
+    # HELP abft_height The last height that the replica committed.\n\
+    # TYPE abft_height gauge\n\
+    abft_height{replica=\"2\"} 12\n\
+    # HELP abft_signatures_left One-time signatures that its key pair has left.\n\
+    # TYPE abft_signatures_left gauge\n\
+    abft_signatures_left{replica=\"2\"} 1001\n\
+    # HELP abft_pool_transactions Transactions that wait for a block.\n\
+    # TYPE abft_pool_transactions gauge\n\
+    abft_pool_transactions{replica=\"2\"} 5\n\
+    # HELP abft_history_entries Entries of the history.\n\
+    # TYPE abft_history_entries gauge\n\
+    abft_history_entries{replica=\"2\"} 333\n\
+    ";

@@ -7,3 +7,9 @@ mod expected;
 mod reply_tests;
 #[cfg(test)]
 mod request_tests;
+#[cfg(test)]
+mod session_streams;
+#[cfg(test)]
+mod session_targets;
+#[cfg(test)]
+mod session_tests;

@@ -57,7 +57,8 @@ pub fn frames_read_back()
     ensures { FramesReadBack }
 {}
 
-/// The longest batch has 1041 bytes, and a batch of 17 transactions is not read.
+/// The longest batch of version 1 has 1041 bytes, that of version 2 has 4161. A batch of 17 transactions is not read in version 1, nor one
+/// of 65 in version 2.
 pub fn batch_limits()
     ensures { BatchLimits }
 {}

@@ -154,7 +154,7 @@ impl<A: Application> State<A> {
 
     /// The first cause for which the replica ignores the frame before it checks the signature, if one applies: the signer,
     /// the height, the round, the phase, the owner, or a repetition. If none applies, a delivery of the frame checks its
-    /// signature.
+    /// signature. The frame must be of a version that the cluster's frames carry: any other is ignored as malformed.
     pub fn cause_before_signature(&self, frame: &Frame) -> Result<(), Ignored>
         ensures cause { result ≡ answer_before_signature self.now.config self.now.id self.now.entries frame.now.statement }
         // The reply to a delivery of the statement is that cause, whatever the signature is.

@@ -20,11 +20,11 @@ fn the_words_of_cluster_and_serve_set_each_option(rt: HostRuntime) {
         ),
         (
             "abft serve",
-            "4 1 KvStore W4 32 One 0 [97, 61, 49] 40 200 false false None, 0 1 32768",
+            "4 1 KvStore W4 32 One 0 [97, 61, 49] 40 200 false false None, 0 None 1 32768",
         ),
         (
-            "abft serve --n 13 --tx b=2 --rounds 0 --base-ms 1 --stop-at-eof --histories new.bin --port 65535 --sessions 1000 --client-entries 65536",
-            "13 1 KvStore W4 32 One 0 [98, 61, 50] 0 1 false true Some(\"new.bin\"), 65535 1000 65536",
+            "abft serve --n 13 --tx b=2 --rounds 0 --base-ms 1 --stop-at-eof --histories new.bin --port 65535 --http=80 --sessions 1000 --client-entries 65536",
+            "13 1 KvStore W4 32 One 0 [98, 61, 50] 0 1 false true Some(\"new.bin\"), 65535 Some(80) 1000 65536",
         ),
     ] {
         assert!(rt; is_told_of(rt.alloc(), words, line), "{line}");

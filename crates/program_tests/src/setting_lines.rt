@@ -32,8 +32,8 @@ fn running_line(alloc: Global, running: &ClusterSettings) -> Result<String, Allo
 fn serving_line(alloc: Global, serve: &ServeSettings) -> Result<String, AllocError> {
     let running = running_line(alloc, &serve.cluster)?;
     format!(in alloc;
-        "{running}, {} {} {}",
-        serve.port, serve.sessions, serve.client_entries
+        "{running}, {} {:?} {} {}",
+        serve.port, serve.http, serve.sessions, serve.client_entries
     )
 }
 

@@ -1,10 +1,10 @@
 //! Audits of the histories of the worked runs: as they are, cut, changed, too few, in any order.
 use crate::fault::Fault;
 use crate::playing::{history_of, new_apps, played};
-use crate::scripts::{PLAIN, PLAIN_WITH_B};
+use crate::scripts::{PLAIN, PLAIN_IN_VERSION_2, PLAIN_WITH_B, Script};
 use app_kinds::AnyKind;
 use history_audit::{AuditFault, audit, receipt_holds};
-use ledger_model::{Entries, Entry, History, Ignored, Ledger, ReplicaId, Reply, Tx};
+use ledger_model::{Entries, Entry, History, Ignored, Ledger, ReplicaId, Reply, Tx, Version};
 use locked_replica::Snapshot;
 use simulation::Simulation;
 use std::alloc::{AllocError, Global};
@@ -45,15 +45,18 @@ struct Row {
     outcome: Outcome,
 }
 
+/// All four histories, in another order.
+const ALL: &[(u8, Part)] = &[
+    (3, Part::Whole),
+    (0, Part::Whole),
+    (2, Part::Whole),
+    (1, Part::Whole),
+];
+
 const ROWS: [Row; 12] = [
     Row {
         name: "all four, in another order",
-        parts: &[
-            (3, Part::Whole),
-            (0, Part::Whole),
-            (2, Part::Whole),
-            (1, Part::Whole),
-        ],
+        parts: ALL,
         outcome: Outcome::PlainBlock,
     },
     Row {
@@ -303,6 +306,37 @@ fn a_fork_is_reported_by_its_first_unsent_statement(rt: HostRuntime) -> Result<(
     let random = RandomState::new(&rt)?;
     // Entry 3 of replica 0 accepts replica 1's report on [a=1]; the history of replica 1 sends one on [b=1].
     assert!(rt; outcome_of_fork(rt.alloc(), random)? == Outcome::Unsent(0, 3, 1));
+    Ok(())
+}
+
+/// What an audit returns for the histories of a script, as those of a cluster with frames of this version.
+fn outcome_in(
+    alloc: Global,
+    random: RandomState,
+    script: Script,
+    version: Version,
+) -> Result<Outcome, Fault> {
+    let simulation = played(alloc, random, script)?;
+    let mut snapshot = history_of(&simulation, 0)?;
+    snapshot.config.frames = version;
+    let histories = handed_in(alloc, &simulation, ALL)?;
+    Ok(audited(alloc, random, &snapshot, &histories)?)
+}
+
+// Entry 2 of replica 0 sends its first report, of the version of its cluster's frames.
+#[test]
+fn an_audit_follows_replicas_in_the_version_of_their_cluster(rt: HostRuntime) -> Result<(), Fail> {
+    let random = RandomState::new(&rt)?;
+    for (script, version, wanted) in [
+        (PLAIN, Version::Two, Outcome::NotReplay(0, 2)),
+        (PLAIN_IN_VERSION_2, Version::One, Outcome::NotReplay(0, 2)),
+        (PLAIN_IN_VERSION_2, Version::Two, Outcome::PlainBlock),
+    ] {
+        assert!(rt;
+            outcome_in(rt.alloc(), random, script, version)? == wanted,
+            "{version:?}"
+        );
+    }
     Ok(())
 }
 

@@ -1,7 +1,7 @@
 //! Histories are read back from their bytes: those of played scenarios, and small files, of which some are bad.
 use crate::fault::Fault;
 use crate::playing::{history_of, played};
-use crate::scripts::{PLAIN, REFUSALS, RETIRED, Script};
+use crate::scripts::{PLAIN, REFUSALS, RETIRED, SEVENTEEN, SEVENTEEN_IN_VERSION_2, Script};
 use app_kinds::AnyKind;
 use bytes::Bytes;
 use history_bytes::history_bytes;
@@ -226,6 +226,37 @@ fn is_script_read(alloc: Global, random: RandomState, script: Script) -> Result<
         return Ok(false);
     };
     Ok(lens_read(alloc, &bytes)? == lens && is_bad(alloc, cut))
+}
+
+/// Whether the histories of a script are histories of a cluster with frames of this version.
+fn is_script_of(
+    alloc: Global,
+    random: RandomState,
+    script: Script,
+    version: Version,
+) -> Result<bool, Fault> {
+    let (bytes, lens) = played_bytes(alloc, random, script)?;
+    match read_histories(version, alloc, Bytes::from_vec(bytes)?) {
+        Ok(histories) => Ok(histories.len() == lens.len()),
+        Err(HistoryFault::BadHistory) => Ok(false),
+        Err(HistoryFault::NoMemory) => Err(Fault::NoHistory),
+    }
+}
+
+// A batch of 17 transactions, and frames of version 2, are in no history of a cluster with frames of version 1.
+#[test]
+fn histories_are_read_in_the_version_of_their_cluster(rt: HostRuntime) -> Result<(), Fail> {
+    let random = RandomState::new(&rt)?;
+    for (script, version, wanted) in [
+        (SEVENTEEN, Version::One, true),
+        (SEVENTEEN, Version::Two, true),
+        (SEVENTEEN_IN_VERSION_2, Version::One, false),
+        (SEVENTEEN_IN_VERSION_2, Version::Two, true),
+    ] {
+        let is_read = is_script_of(rt.alloc(), random, script, version)?;
+        assert!(rt; is_read == wanted, "{version:?} {wanted}");
+    }
+    Ok(())
 }
 
 #[test]

@@ -23,6 +23,16 @@ pub(crate) const PLAIN: Script = &[
     ),
 ];
 
+/// The same with frames of version 2.
+pub(crate) const PLAIN_IN_VERSION_2: Script = &[
+    (
+        b"config 4 1 1\nframes 2\nsubmit 0 a=1\nsubmit 1 a=1\nsubmit 2 a=1\nsubmit 3 a=1\npropose 0 1\npropose 1 1\npropose 2 1\npropose 3 1\n",
+        1,
+    ),
+    (b"round\n", 16),
+    (b"execute 0\nexecute 1\nexecute 2\nexecute 3\n", 1),
+];
+
 /// The same as far as the first block, with another transaction.
 pub(crate) const PLAIN_WITH_B: Script = &[
     (

@@ -1,7 +1,7 @@
 //! Which parts of the frames that arrived are worth a check before the replica's turn.
 ghost use Rattle.std.specs.Prelude.{◌≡◌, [], filter, map, IfOk, OnOk};
 ghost use Rattle.std.specs.List.{filter_map, flat_map, list_any};
-ghost use Rattle.ledger_model.specs.Reading.{reading};
+ghost use Rattle.ledger_model.specs.Reading.{reading_in};
 ghost use Rattle.signed_frames.specs.Lending.{own_part};
 ghost use Rattle.verify_cache.specs.Same.{same};
 ghost use Rattle.verify_cache.specs.Verifiers.{check_of};
@@ -38,15 +38,19 @@ fn each_once(alloc: Global, arrived: &[Bytes]) -> Result<Vec<Bytes>, AllocError>
     Ok(once)
 }
 
-/// The frames among these bytes, in order, each once. Bytes that are no frame are left out. The only error is allocation
-/// failure.
-pub fn arrived_frames(alloc: Global, arrived: &[Bytes]) -> Result<Vec<Frame>, AllocError>
-    ensures { IfOk result (λ frames. frames.items ≡ filter_map reading (distinct arrived.now)) }
+/// The frames of this version among these bytes, in order, each once. Bytes that are no such frame are left out: a replica
+/// ignores them as malformed. The only error is allocation failure.
+pub fn arrived_frames(
+    version: Version,
+    alloc: Global,
+    arrived: &[Bytes],
+) -> Result<Vec<Frame>, AllocError>
+    ensures { IfOk result (λ frames. frames.items ≡ filter_map (reading_in version) (distinct arrived.now)) }
 {
     let once = each_once(alloc, arrived)?;
     let mut frames = Vec::with_capacity(alloc, once.len())?;
     for bytes in once {
-        match Frame::parse_in(Version::Two, alloc, bytes) {
+        match Frame::parse_in(version, alloc, bytes) {
             Ok(frame) => frames.push(frame)?,
             Err(DecodeFault::Malformed) => (),
             Err(DecodeFault::NoMemory) => return Err(AllocError),
@@ -153,9 +157,9 @@ fn put_reports<'a>(
     put_unknown(once, verifier, frame.lent_reports())
 }
 
-/// The reports in the proofs of the locks that the verifier knows to be signed and whose proofs are a quorum's, each once,
-/// without the reports of which it knows whether they are signed. A replica that checks another lock looks at none of its reports'
-/// signatures. The only error is allocation failure.
+/// The reports that the verifier doesn't know, each once, in the proofs of these locks: those that it knows to be signed, and whose
+/// proofs are a quorum's. A replica that checks another lock looks at none of its reports' signatures. The only error is allocation
+/// failure.
 pub fn unknown_reports<'a>(
     alloc: Global,
     config: &Config,

@@ -1,11 +1,12 @@
 //! The frames that wait for a replica: a bounded number, for its next turns and for the next round.
 ghost use Rattle.std.specs.Prelude.{◌≡◌, ◌≤◌, ◌+◌, ◌-◌, ◌++◌, [], length, take, drop, filter, vec_len, OnOk, OnErr};
-ghost use Rattle.ledger_model.specs.Reading.{reading};
+ghost use Rattle.ledger_model.specs.Reading.{reading_in};
 ghost use Rattle.replica_turns.specs.Rounds.{is_early};
 ghost use Rattle.replica_turns.specs.Waiting.{WaitingFramesView, max_at_once, max_due, max_early, max_waiting};
 
 use crate::early::early_of;
 use bytes::Bytes;
+use ledger_model::Version;
 use std::alloc::{AllocError, Global};
 use std::marker::Model;
 
@@ -83,10 +84,11 @@ impl WaitingFrames {
         MAX_AT_ONCE.saturating_sub(self.due.len())
     }
 
-    /// Takes in frames that arrived while the round `clock` was open: all are due. Those of the next round also wait for it,
-    /// up to 1,024 in all. The only error is allocation failure: all of `frames` are dropped.
+    /// Takes in frames that arrived while the round `clock` was open: all are due. Those of this version that are of the next
+    /// round also wait for it, up to 1,024 in all. The only error is allocation failure: all of `frames` are dropped.
     pub fn take_in(
         &mut self,
+        version: Version,
         alloc: Global,
         clock: u32,
         mut frames: Vec<Bytes>,
@@ -94,10 +96,10 @@ impl WaitingFrames {
         requires { vec_len frames ≤ max_at_once - length self.old.due }
         ensures due { OnOk result (self.new.due ≡ self.old.due ++ frames.items) }
         ensures early { OnOk result (self.new.early
-            ≡ take max_early (self.old.early ++ filter (λ bytes. is_early clock (reading bytes)) frames.items)) }
+            ≡ take max_early (self.old.early ++ filter (λ bytes. is_early clock (reading_in version bytes)) frames.items)) }
         ensures same { OnErr result (self.new ≡ self.old) }
     {
-        let mut early = early_of(alloc, clock, frames.as_slice())?;
+        let mut early = early_of(version, alloc, clock, frames.as_slice())?;
         early.truncate(MAX_EARLY - self.early.len());
         self.early.reserve(early.len())?;
         self.due.append(&mut frames)?;

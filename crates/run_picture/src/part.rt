@@ -11,7 +11,7 @@ use ledger_model::{Height, ReplicaId, Statement};
 pub struct Part {
     pub first: u32,
     pub last: u32,
-    /// The one height that is shown; all heights without it.
+    /// The one height that is shown; `None` shows all heights.
     pub height: Option<Height>,
 }
 
@@ -48,7 +48,7 @@ impl Part {
         }
     }
 
-    /// Whether the picture shows a frame with this statement. What is no frame is about no height.
+    /// Whether the picture shows a frame with this statement. Bytes that are no frame are about no height.
     pub(crate) fn has_statement(&self, statement: Option<&Statement>) -> bool
         ensures { result ≡ has_statement self.now (option_copied statement.entry) }
     {

@@ -67,7 +67,7 @@ struct Shown {
     facts: Vec<Mark>,
 }
 
-/// Appends what an entry shows. The open round before it is `clock`.
+/// Appends what an entry shows. Round `clock` is open before it.
 fn add_entry(
     alloc: Global,
     shown: &mut Shown,

@@ -80,7 +80,7 @@ fn follows<R: Wait>(rt: &R, board: &Board, mut seat: ReaderSeat) -> bool
     unreachable!()
 }
 
-/// Whether two readers do so in two threads.
+/// Whether two readers, each in a thread, read the heights of both writers until they are the last.
 fn both_follow<R: Threads + Wait + Sync>(
     rt: &R,
     board: &Board,

@@ -36,7 +36,7 @@ fn counts(line: &[u8]) -> bool
     !matches!(line, [] | [b'#', ..])
 }
 
-/// The most bytes of the next line, without its line feed, after the lines that were read.
+/// The most bytes that the next line may have without its line feed, after the lines that were read.
 fn line_limit(so_far: &Option<Scenario>) -> usize
     ensures { result ≡ limit_after (option_map plan_of so_far.now) }
 {

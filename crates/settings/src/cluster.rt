@@ -29,6 +29,8 @@ pub struct ServeSettings {
     pub cluster: ClusterSettings,
     /// The port of 127.0.0.1 to listen at; 0 for any free one.
     pub port: u16,
+    /// The port of 127.0.0.1 at which HTTP is served, if it is; 0 for any free one.
+    pub http: Option<u16>,
     /// The number of connections that are served.
     pub sessions: u32,
     /// The number of entries of each replica's history that clients may use.

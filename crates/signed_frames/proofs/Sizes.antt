@@ -1,22 +1,25 @@
 -- The most bytes of a statement: every frame is short enough.
-use Rattle.std.proofs.Common.{◌≡◌, ℕ, ◌+◌, ◌-◌, ◌*◌, ◌≤◌, true, List, [], ◌∷◌, ◌++◌, length, drop, ap, ◌∙◌, arith}
+use Rattle.std.proofs.Common.{◌≡◌, ℕ, ◌+◌, ◌-◌, ◌*◌, ◌≤◌, true, List, [], ◌∷◌, ◌++◌, length, drop, Some, refl, ap, ◌∙◌, arith, eqb}
 use Rattle.std.specs.Prelude.{if◌then◌else◌}
 use Rattle.std.specs.Int.{w16, w32, to_be_bytes}
 use Rattle.std.specs.List.{flat_map, AllByRecursion}
+use Rattle.std.proofs.lemmas.Bool.{eq-eqb, le-leb}
 use Rattle.std.proofs.lemmas.List.{length-append, length-drop}
 use Rattle.std.proofs.lemmas.List.Concat.{flat_map-cons}
 use Rattle.ledger_model.specs.declared.statement.Report.{Report}
 use Rattle.ledger_model.specs.declared.statement.Lock.{Lock}
-use Rattle.ledger_model.specs.declared.statement.Ack.{Ack}
 use Rattle.ledger_model.specs.declared.statement.SignedReport.{SignedReport}
 use Rattle.ledger_model.specs.declared.statement.SignedStatement.{SignedStatement}
 use Rattle.ledger_model.specs.declared.statement.Statement.{Statement}
 use Rattle.ledger_model.specs.declared.statement.Statement.TheVariants as statement
 use Rattle.ledger_model.specs.Values.{Value, value_bytes, IsTx, IsValueIn}
 use Rattle.ledger_model.specs.Spelling.{SpellsFrame, IsSignature, IsValueList, IsSigned, IsLock, IsStatement, list_bytes}
-use Rattle.ledger_model.specs.Spelling.{report_bytes, signature_bytes, signed_bytes, lock_bytes, ack_bytes, statement_bytes, body_bytes}
+use Rattle.ledger_model.specs.Spelling.{report_bytes, signature_bytes, signed_bytes, lock_bytes, statement_bytes, body_bytes}
 use Rattle.signed_frames.specs.Parts.{HoldsStatement}
 use Rattle.signed_frames.proofs.FrameParts.{body_length, written}
+use Rattle.ledger_model.specs.GrammarLaws.{IsBytes}
+use Rattle.ledger_model.specs.Reading.{statement_at, signature_at, body_reading}
+use Rattle.ledger_model.proofs.StatementReading.{statement_takes, signature_takes}
 use Rattle.ledger_model.specs.Limits.{max_signature_len}
 use Rattle.ledger_model.specs.Versions.{reads, first_byte, body_limit}
 use Rattle.ledger_model.specs.Notes.{version_of}
@@ -134,6 +137,29 @@ body_bound s is short = of_version (version_of s.statement) (version_bound s.sta
         → body ≤ message + 2 + signature → body ≤ body_limit version
     of_version One message signature body = omega (arith, message, signature, body)
     of_version Two message signature body = omega (arith, message, signature, body)
+
+-- A body whose statement and signature are read, with nothing behind them, is one of the statement's version: it is never too long.
+pub body_read : (version : Version) (bytes left rest : List ℕ) (statement : Statement) (signature : List ℕ) → IsBytes bytes
+    → statement_at bytes ≡ Some (statement, left) → signature_at left ≡ Some (signature, rest) → length rest ≡ 0
+    → reads version (version_of statement) ≡ true
+    → body_reading version bytes ≡ Some (record { statement = statement; signature = signature })
+unfolding body_reading
+body_read version bytes left rest statement signature fits is_statement is_signature ends carried =
+    let t = statement_takes bytes statement left fits is_statement in
+    let u = signature_takes left signature rest t.2 is_signature in
+    let s : SignedStatement = record { statement = statement; signature = signature } in
+    let short : length bytes ≤ body_limit (version_of statement) = omega (
+      arith,
+      ends,
+      body_bound s t.1 u.1.short,
+      body_length s,
+      ap length t.0,
+      ap length u.0,
+      length-append (statement_bytes statement) left,
+      length-append (signature_bytes signature) rest,
+    ) in
+    let ended : eqb (length rest) 0 ≡ true = eq-eqb _ _ ends in
+    rw (is_statement, is_signature, ended, carried, le-leb _ _ short) refl
 
 -- what is written round the bytes of a statement that stand there is spelled
 pub completed : (statement : Statement) (signature old headed ended bytes : List ℕ) (len : ℕ) → HoldsStatement old statement

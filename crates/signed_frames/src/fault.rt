@@ -8,7 +8,7 @@ use thiserror::Error;
 /// Why a stream of frames can't be read further.
 #[derive(Clone, Copy, Debug, PartialEq, Eq, Error)]
 pub enum FrameFault {
-    /// A frame's length is above 150,000.
+    /// A frame's length is above the limit of the reader's version: 150,000 or 600,000.
     #[error("the announced frame is too long")]
     TooLong,
     /// A body arrived in full, and encodes nothing.

@@ -2,6 +2,7 @@
 
 ghost use Rattle.std.specs.Prelude.{◌≡◌, ◌+◌, ◌-◌, ◌≤◌, length, take, drop, IfOk, MatchResult};
 ghost use Rattle.ledger_model.specs.declared.statement.SignedStatement.{SignedStatement};
+ghost use Rattle.ledger_model.specs.GrammarLaws.{IsBytes};
 ghost use Rattle.ledger_model.specs.Spelling.{SpellsFrame};
 ghost use Rattle.ledger_model.specs.Reading.{reading_in, body_reading};
 ghost use Rattle.ledger_model.specs.declared.version.Version.{Version};
@@ -30,8 +31,9 @@ pub fn message_in(frame: &[u8], signature_len: usize) -> &[u8]
 /// The body of the frame that the bytes are: the bytes after its length, if they are exactly that many.
 #[tactic(auto, unfolding(ledger_model::specs::Reading::reading_in))]
 fn body_at(bytes: &[u8]) -> Result<&[u8], DecodeFault>
-    ensures { MatchResult result (λ body. (version : Version) → reading_in version bytes.now ≡ body_reading version body.now)
+    ensures read { MatchResult result (λ body. (version : Version) → reading_in version bytes.now ≡ body_reading version body.now)
         (λ fault. (version : Version) → Faults fault (reading_in version bytes.now)) }
+    ensures bytes { IfOk result (λ body. IsBytes body.now) }
 {
     let mut cursor = Cursor::new(bytes);
     let len = cursor.take_u32()? as usize;
@@ -41,6 +43,7 @@ fn body_at(bytes: &[u8]) -> Result<&[u8], DecodeFault>
     Ok(cursor.rest())
 }
 
+/// The same as [`parts_of`]. A statement and its signature are never longer than a body of their version may be.
 #[tactic(auto, unfolding(ledger_model::specs::Reading::body_reading))]
 fn parts_at(
     version: Version,
@@ -53,8 +56,7 @@ fn parts_at(
     let mut cursor = Cursor::new(body);
     let statement = take_statement(alloc, &mut cursor)?;
     let signature = take_signature_bytes(&mut cursor)?;
-    let own = statement.version();
-    if !cursor.is_empty() || !version.reads(own) || body.len() > own.body_limit() {
+    if !cursor.is_empty() || !version.reads(statement.version()) {
         return Err(DecodeFault::Malformed);
     }
     Ok((statement, signature))

@@ -155,7 +155,7 @@ fn is_numbered(tally: &Tally<SignedReport>, values: &[ReportedValue], value: &Ba
         .any(|reported| is_value(tally, reported, value))
 }
 
-/// Numbers the value at this index of those within the report of a replica, if it has no number. There is room for it.
+/// Gives a number to the value at this index within a replica's report, unless it has one. There is room for it.
 fn put_value(
     values: &mut Vec<ReportedValue>,
     tally: &Tally<SignedReport>,

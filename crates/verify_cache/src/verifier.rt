@@ -104,7 +104,7 @@ impl Verifier {
         answer
     }
 
-    /// The same where memory for the key is refused: the verifier looks at one answer after the other, and what it
+    /// The same if memory for the key is refused: the verifier compares one known check after the other, and what it
     /// knows stays as it is.
     fn check_apart(&mut self, signer: ReplicaId, message: &[u8], signature: &[u8]) -> bool
         ensures answer { result ≡ is_signed_by (slice_get self.old.ring signer) message.now signature.now }

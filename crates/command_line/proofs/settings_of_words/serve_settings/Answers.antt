@@ -17,6 +17,10 @@ pub returns-in_err-port-clause-none : goal.returns-in_err-port-clause-none
 returns-in_err-port-clause-none c =
     none_set (SetsServe (rows_of (found_of c.args.matches.now))) WantsMemory _ (λ s i. c.in_err-port.ensures.none s.port i.port)
 
+pub returns-in_err-http-clause-none : goal.returns-in_err-http-clause-none
+returns-in_err-http-clause-none c =
+    none_set (SetsServe (rows_of (found_of c.args.matches.now))) WantsMemory _ (λ s i. c.in_err-http.ensures.none s.http i.http)
+
 pub returns-in_err-sessions-clause-none : goal.returns-in_err-sessions-clause-none
 returns-in_err-sessions-clause-none c =
     none_set (SetsServe (rows_of (found_of c.args.matches.now))) WantsMemory _ (λ s i. c.in_err-sessions.ensures.none s.sessions i.sessions)
@@ -35,6 +39,11 @@ pub returns-in_err-port-clause-right : goal.returns-in_err-port-clause-right
 returns-in_err-port-clause-right c =
     passed_up _ c.in_err-port.field-0.0 (IsRightOf serve_options (rows_of (found_of c.args.matches.now)))
     c.from_residual-in_err-port.ensures.1 (c.in_err-port.ensures.right serve_options (refl, inl refl))
+
+pub returns-in_err-http-clause-right : goal.returns-in_err-http-clause-right
+returns-in_err-http-clause-right c =
+    passed_up _ c.in_err-http.field-0.0 (IsRightOf serve_options (rows_of (found_of c.args.matches.now)))
+    c.from_residual-in_err-http.ensures.1 (c.in_err-http.ensures.right serve_options (refl, inl refl))
 
 pub returns-in_err-sessions-clause-right : goal.returns-in_err-sessions-clause-right
 returns-in_err-sessions-clause-right c =

@@ -1,0 +1,10 @@
+use Rattle.std.proofs.Common.{ap, ◌∙◌}
+use Rattle.cluster_service.proofs.showing.app_info.Goals as goal
+
+pub returns-clause-told : goal.returns-clause-told
+returns-clause-told g c = record {
+  state = c.args.state.now;
+  replay = c.len.ensures.replay;
+  kind = ap (λ config. config.kind) c.config.ensures;
+  reply = ap (λ h. record { height = h; hash = c.info-info.result.hash }) c.new.ensures ∙ c.info-info.ensures;
+}

@@ -1,0 +1,51 @@
+-- What a running replica answers to HTTP alone, by that replica as it was then.
+use Rattle.std.specs.Prelude.{◌≡◌, ℕ, ◌+◌, ⊤, List, length}
+use Rattle.http_replies.specs.declared.metrics.ReplicaMetrics.{ReplicaMetrics}
+use Rattle.http_sessions.specs.declared.targets.AppInfo.{AppInfo}
+use Rattle.http_sessions.specs.declared.targets.Delivery.{Delivery}
+use Rattle.http_sessions.specs.declared.targets.Delivery.TheVariants.{Committed, TimedOut, Stopping}
+use Rattle.http_sessions.specs.declared.targets.PoolSize.{PoolSize}
+use Rattle.http_sessions.specs.Exchanges.{Inquiry, Shows, Pools, Infos, Spreads, Waits}
+use Rattle.key_ring.specs.Signers.{leaves_of}
+use Rattle.ledger_model.specs.Commits.{commits_of, pool_of}
+use Rattle.ledger_model.specs.Lawful.{Replay, clock_at}
+use Rattle.locked_replica.specs.States.{StateView}
+use Rattle.replica_core.specs.Facts.{info_reply}
+use Rattle.cluster_service.specs.Deliveries.{IsDelivered}
+
+-- a replica with a lawful history showed these numbers
+pub record IsShown (m : ReplicaMetrics) : Type 0 where
+  pub state : StateView
+  pub replay : Replay state.config state.ring state.id state.entries
+  pub rounds : m.rounds ≡ clock_at state.entries
+  pub height : m.height ≡ length (commits_of state.config state.id state.entries)
+  pub signatures : state.used + m.signatures_left ≡ leaves_of state.secret
+  pub pool : m.pool_transactions ≡ length (pool_of state.config state.id state.entries)
+  pub entries : m.history_entries ≡ length state.entries
+
+-- a replica with a lawful history had a pool of so many transactions
+pub record IsPooled (size : PoolSize) : Type 0 where
+  pub state : StateView
+  pub replay : Replay state.config state.ring state.id state.entries
+  pub transactions : size.transactions ≡ length (pool_of state.config state.id state.entries)
+
+-- the application of a replica with a lawful history said this of itself
+pub record IsInfo (info : AppInfo) : Type 0 where
+  pub state : StateView
+  pub replay : Replay state.config state.ring state.id state.entries
+  pub kind : info.kind ≡ state.config.kind
+  pub reply : record { height = info.height; hash = info.hash } ≡ info_reply state.config.kind (commits_of state.config state.id state.entries)
+
+-- what became of a transaction; that the wait ended says nothing
+abbrev pub AnswersWait : List ℕ → Delivery → Type 0
+AnswersWait tx (Committed height code) = IsDelivered tx height code
+AnswersWait tx TimedOut = ⊤
+AnswersWait tx Stopping = ⊤
+
+-- the inquiry is of a running cluster; that a transaction was spread says nothing
+abbrev pub IsInquiry : Inquiry → Type 0
+IsInquiry (Shows r m) = IsShown m
+IsInquiry (Pools r size) = IsPooled size
+IsInquiry (Infos r info) = IsInfo info
+IsInquiry (Spreads r tx) = ⊤
+IsInquiry (Waits r tx index delivery) = AnswersWait tx delivery

@@ -1,0 +1,76 @@
+//! Finds the block that has a transaction, among the entries of a history from one on.
+ghost use Rattle.std.specs.Prelude.{◌≡◌, drop, position, IfSome};
+ghost use Rattle.std.specs.Str.{bytes_eq};
+ghost use Rattle.ledger_model.specs.Commits.{commits_of};
+ghost use Rattle.locked_replica.specs.Views.{reply_lent};
+ghost use Rattle.cluster_service.specs.Deliveries.{IsDelivered, code_for, code_in, delivered_by, delivered_in};
+
+use abci::Application;
+use ledger_model::{BlockResult, Height, Tx};
+use locked_replica::{ReplyView, State};
+
+/// The place of the first of these transactions that is this one.
+fn place_of(txs: &[Tx], tx: &[u8]) -> Option<usize>
+    ensures { result ≡ position (λ t. bytes_eq t tx.now) txs.now }
+{
+    txs.iter().position(|found| found.as_bytes() == tx)
+}
+
+/// The code for the first of these transactions that is this one.
+fn code_for(txs: &[Tx], codes: &[u32], tx: &[u8]) -> Option<u32>
+    ensures { result ≡ code_for txs.now codes.now tx.now }
+{
+    match place_of(txs, tx) {
+        Some(place) => codes.get(place).copied(),
+        None => None,
+    }
+}
+
+/// The code for a transaction in a block that the replica ran.
+fn code_in<A: Application>(state: &State<A>, block: &BlockResult, tx: &[u8]) -> Option<u32>
+    ensures { result ≡ code_in (commits_of state.now.config state.now.id state.now.entries) block.now tx.now }
+{
+    match state.block(block.height) {
+        Some(batch) => code_for(batch.transactions(), block.codes.as_slice(), tx),
+        None => None,
+    }
+}
+
+/// The height of the block and the code for a transaction, if this entry ran a block that has it.
+fn delivered_at<A: Application>(
+    state: &State<A>,
+    reply: &ReplyView<'_>,
+    tx: &[u8],
+) -> Option<(Height, u32)>
+    ensures { result ≡ delivered_by (commits_of state.now.config state.now.id state.now.entries) (reply_lent reply.now) tx.now }
+{
+    match reply {
+        ReplyView::Executed(Ok(block)) => match code_in(state, block, tx) {
+            Some(code) => Some((block.height, code)),
+            None => None,
+        },
+        _ => None,
+    }
+}
+
+/// The height of the first block that has the transaction, and the application's code for it, among the entries from this one on.
+pub(crate) fn delivered_after<A: Application>(
+    state: &State<A>,
+    first: usize,
+    tx: &[u8],
+) -> Option<(Height, u32)>
+    ensures found { result ≡ delivered_in (commits_of state.now.config state.now.id state.now.entries) (drop first state.now.entries) tx.now }
+    // The result as HTTP sees it.
+    ensures told { IfSome result (λ found. IsDelivered tx.now found.0 found.1) }
+{
+    for index in first..state.len() {
+        let Some(entry) = state.entry(index) else {
+            unreachable!();
+        };
+        match delivered_at(state, &entry.reply(), tx) {
+            Some(found) => return Some(found),
+            None => {}
+        }
+    }
+    None
+}

@@ -1,0 +1,74 @@
+//! What a replica shows of itself to HTTP. None of it is an event.
+ghost use Rattle.std.specs.Prelude.{◌≡◌, ◌+◌, length};
+ghost use Rattle.key_ring.specs.Signers.{leaves_of};
+ghost use Rattle.ledger_model.specs.Commits.{commits_of, pool_of};
+ghost use Rattle.ledger_model.specs.Lawful.{clock_at};
+ghost use Rattle.cluster_service.specs.Inquiries.{IsInfo, IsPooled, IsShown};
+
+use abci::Application;
+use batch_pool::Pool;
+use http_replies::ReplicaMetrics;
+use http_sessions::{AppInfo, PoolSize};
+use ledger_model::{Height, ReplicaId};
+use locked_replica::State;
+
+/// The metrics of a replica, under this number.
+pub(crate) fn metrics_of<A: Application>(replica: ReplicaId, state: &State<A>) -> ReplicaMetrics
+    ensures replica { result.replica ≡ replica }
+    ensures rounds { result.rounds ≡ clock_at state.now.entries }
+    ensures height { result.height ≡ length (commits_of state.now.config state.now.id state.now.entries) }
+    ensures signatures { state.now.used + result.signatures_left ≡ leaves_of state.now.secret }
+    ensures pool { result.pool_transactions ≡ length (pool_of state.now.config state.now.id state.now.entries) }
+    ensures entries { result.history_entries ≡ length state.now.entries }
+    // The result as HTTP sees it.
+    ensures told { IsShown result }
+{
+    ReplicaMetrics {
+        replica,
+        rounds: state.clock(),
+        height: Height::new(state.height()),
+        signatures_left: state.leaves_left(),
+        pool_transactions: state.waiting() as u64,
+        history_entries: state.len() as u64,
+    }
+}
+
+/// The number of bytes of the transactions in a pool.
+fn bytes_in(pool: &Pool) -> u64 {
+    let mut bytes = 0u64;
+    for tx in pool.transactions() {
+        bytes = bytes.saturating_add(tx.as_bytes().len() as u64);
+    }
+    bytes
+}
+
+/// How many transactions wait in a replica's pool. It looks at each of them, which are at most 1024.
+pub(crate) fn pool_size<A: Application>(state: &State<A>) -> PoolSize
+    ensures transactions { result.transactions ≡ length (pool_of state.now.config state.now.id state.now.entries) }
+    // The result as HTTP sees it.
+    ensures told { IsPooled result }
+{
+    // The history is a replay: its length is read for the proof.
+    let _ = state.len();
+    PoolSize {
+        transactions: state.waiting() as u64,
+        bytes: bytes_in(state.pool()),
+    }
+}
+
+/// What a replica's application says of itself.
+pub(crate) fn app_info<A: Application>(state: &State<A>) -> AppInfo
+    ensures kind { result.kind ≡ state.now.config.kind }
+    // The result as HTTP sees it.
+    ensures told { IsInfo result }
+{
+    // The history is a replay: its length is read for the proof.
+    let _ = state.len();
+    let info = state.info();
+    let hash = info.hash;
+    AppInfo {
+        kind: state.config().kind,
+        height: Height::new(info.height),
+        hash,
+    }
+}

@@ -1,0 +1,33 @@
+-- The metrics of replicas, one after the other.
+use Rattle.std.proofs.Common.{◌≡◌, ℕ, ◌+◌, List, [], ◌∷◌, ◌++◌, zero, suc, refl, ap, sym, subst, ◌∙◌, map, arith}
+use Rattle.std.proofs.lemmas.List.{map-append}
+use Rattle.std.specs.List.{FoldsTo, range_with_len}
+use Rattle.std.proofs.lemmas.Fn.{FoldsTo-push}
+use Rattle.http_replies.specs.declared.metrics.ReplicaMetrics.{ReplicaMetrics}
+use Rattle.http_sessions.specs.Exchanges.{HttpExchange, Inquired, Shows}
+use Rattle.http_sessions.specs.Answering.{shown}
+
+-- one number more
+pub range_more : (a n : ℕ) → range_with_len a (suc n) ≡ range_with_len a n ++ (a + n) ∷ []
+range_more a zero = let same : a ≡ a + 0 = omega arith in ap (λ k. k ∷ []) same
+range_more a (suc n) =
+    let same : (a + 1) + n ≡ a + suc n = omega arith in
+    ap (λ l. a ∷ l) (range_more (a + 1) n) ∙ ap (λ k. a ∷ (range_with_len (a + 1) n ++ k ∷ [])) same
+
+-- the numbers of one replica more
+pub each_more : (all : List ReplicaMetrics) (m : ReplicaMetrics) (n : ℕ) → map (λ x. x.replica) all ≡ range_with_len 0 n → m.replica ≡ n
+    → map (λ x. x.replica) (all ++ m ∷ []) ≡ range_with_len 0 (n + 1)
+each_more all m n each is =
+    let last : m.replica ≡ 0 + n = omega (arith, is) in
+    let next : suc n ≡ n + 1 = omega arith in
+    map-append (λ x. x.replica) all (m ∷ []) ∙ ap (λ l. l ++ m.replica ∷ []) each ∙ ap (λ k. range_with_len 0 n ++ k ∷ []) last
+    ∙ sym (range_more 0 n) ∙ ap (range_with_len 0) next
+
+-- one exchange more
+pub shown_more : {T : Type 0} (makes : T → HttpExchange → T → Type 0) (before now after : T) (all : List ReplicaMetrics)
+    (m : ReplicaMetrics) (r : ℕ) → FoldsTo makes before (shown all) now → m.replica ≡ r → makes now (Inquired (Shows r m)) after
+    → FoldsTo makes before (shown (all ++ m ∷ [])) after
+shown_more makes before now after all m r made is asked =
+    subst (λ l. FoldsTo makes before l after) (sym (map-append (λ x. Inquired (Shows x.replica x)) all (m ∷ [])))
+    (FoldsTo-push makes before (shown all) now (Inquired (Shows m.replica m)) after made
+    (subst (λ k. makes now (Inquired (Shows k m)) after) (sym is) asked))

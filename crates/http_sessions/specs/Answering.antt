@@ -1,0 +1,198 @@
+-- How a request is answered: the exchanges that it makes, and the answer by what the replicas answered.
+use Rattle.std.specs.Prelude.{◌≡◌, ◌⊎◌, ◌≢◌, ℕ, zero, suc, ◌<◌, ◌≤◌, ◌==◌, min, List, [], ◌∷◌, map, Option, Some, None, unwrap_or, Result, Ok, Err}
+use Rattle.std.specs.Prelude.{if◌then◌else◌}
+use Rattle.std.specs.List.{FoldsTo, range_with_len}
+use Rattle.ledger_model.specs.Values.{Value}
+use Rattle.ledger_model.specs.declared.reply.QueryAnswer.{QueryAnswer}
+use Rattle.ledger_model.specs.declared.reply.SubmitRefusal.{SubmitRefusal}
+use Rattle.ledger_model.specs.Sessions.{Exchange, Submits, Queries, Heights, Blocks, Fault as ReplicaFault, Full, Want_of_memory}
+use Rattle.http_requests.specs.declared.fault.RequestFault.{RequestFault}
+use Rattle.http_requests.specs.declared.fault.RequestFault.TheVariants as fault
+use Rattle.http_requests.specs.declared.request.Request.{Request}
+use Rattle.http_requests.specs.Questions.{QuestionView, question_view}
+use Rattle.http_requests.specs.Questions as question
+use Rattle.http_replies.specs.declared.answer.Commitment.TheVariants as commitment
+use Rattle.http_replies.specs.declared.answer.ServiceFault.TheVariants as service
+use Rattle.http_replies.specs.declared.answer.Submission.TheVariants as submission
+use Rattle.http_replies.specs.declared.metrics.ReplicaMetrics.{ReplicaMetrics}
+use Rattle.http_replies.specs.Answers.{AnswerView, Page, Health, Status, AbciInfo, AbciQuery, Block, UnconfirmedTxs, BroadcastSync}
+use Rattle.http_replies.specs.Answers.{BroadcastCommit, Metrics, Fault, Unanswered}
+use Rattle.http_replies.specs.Replies.{reply_bytes}
+use Rattle.http_sessions.specs.declared.targets.Delivery.{Delivery}
+use Rattle.http_sessions.specs.declared.targets.Delivery.TheVariants as delivery
+use Rattle.http_sessions.specs.Exchanges.{HttpExchange, Asked, Inquired, Shows, Pools, Infos, Spreads, Waits}
+
+-- ---- answers by what a replica answered
+
+-- a replica took no event
+abbrev pub fault_answer : ReplicaFault → AnswerView
+fault_answer Full = Unanswered service.HistoryFull
+fault_answer Want_of_memory = Fault fault.NoMemory
+
+-- a submit's
+abbrev pub sync_answer : ℕ → List ℕ → Result (Result ℕ SubmitRefusal) ReplicaFault → AnswerView
+sync_answer r tx (Ok (Ok index)) = BroadcastSync tx (submission.Pooled (record { replica = r; index = index }))
+sync_answer r tx (Ok (Err refusal)) = BroadcastSync tx (submission.Refused refusal)
+sync_answer r tx (Err f) = fault_answer f
+
+-- that of a submit which no pool took
+abbrev pub unpooled_answer : List ℕ → Result SubmitRefusal ReplicaFault → AnswerView
+unpooled_answer tx (Ok refusal) = BroadcastCommit tx (commitment.Refused refusal)
+unpooled_answer tx (Err f) = fault_answer f
+
+-- that of a submit which the pool took, by what became of the transaction
+abbrev pub delivery_answer : ℕ → List ℕ → ℕ → Delivery → AnswerView
+delivery_answer r tx index (delivery.Committed height code) =
+    BroadcastCommit tx (commitment.Committed (record { replica = r; index = index }) height code)
+delivery_answer r tx index delivery.TimedOut = Unanswered service.TimedOut
+delivery_answer r tx index delivery.Stopping = Unanswered service.Stopping
+
+-- a query's
+abbrev pub query_answer : List ℕ → Result QueryAnswer ReplicaFault → AnswerView
+query_answer key (Ok found) = AbciQuery key found.value found.height
+query_answer key (Err f) = fault_answer f
+
+-- that of a query which names a height: the application has to answer as of this height
+abbrev pub query_answer_at : ℕ → List ℕ → Result QueryAnswer ReplicaFault → AnswerView
+query_answer_at h key (Ok found) = if found.height == h then AbciQuery key found.value found.height else Unanswered service.NotLastHeight
+query_answer_at h key (Err f) = fault_answer f
+
+-- a block's
+abbrev pub block_answer : ℕ → Result (Option Value) ReplicaFault → AnswerView
+block_answer h (Ok (Some txs)) = Block h txs
+block_answer h (Ok None) = Unanswered service.NotCommitted
+block_answer h (Err f) = fault_answer f
+
+-- ---- the exchanges with replica `r` by which a question is answered, and the answer
+
+abbrev pub AnswersStatus : ℕ → List HttpExchange → AnswerView → Type 0
+AnswersStatus r (Inquired (Shows q m) ∷ []) a = (q ≡ r) × (a ≡ Status r m.rounds m.height)
+AnswersStatus r _ a = ⊥
+
+abbrev pub AnswersInfo : ℕ → List HttpExchange → AnswerView → Type 0
+AnswersInfo r (Inquired (Infos q info) ∷ []) a = (q ≡ r) × (a ≡ AbciInfo info.kind info.height info.hash)
+AnswersInfo r _ a = ⊥
+
+-- a query at no height: as of the last block
+abbrev pub AnswersQuery : ℕ → List ℕ → List HttpExchange → AnswerView → Type 0
+AnswersQuery r key (Asked (Queries q k told) ∷ []) a = (q ≡ r) × (k ≡ key) × (a ≡ query_answer key told)
+AnswersQuery r key _ a = ⊥
+
+-- a query at a height, which is made only if this is the committed height
+abbrev pub AnswersQueryAt : ℕ → List ℕ → ℕ → List HttpExchange → AnswerView → Type 0
+AnswersQueryAt r key h (Asked (Heights q c) ∷ []) a = (q ≡ r) × (c ≢ h) × (a ≡ Unanswered service.NotLastHeight)
+AnswersQueryAt r key h (Asked (Heights q c) ∷ Asked (Queries s k told) ∷ []) a =
+    (q ≡ r) × (c ≡ h) × (s ≡ r) × (k ≡ key) × (a ≡ query_answer_at h key told)
+AnswersQueryAt r key h _ a = ⊥
+
+-- the height 0 is the last, as if none were named
+abbrev pub AnswersQueryIf : ℕ → List ℕ → Option ℕ → List HttpExchange → AnswerView → Type 0
+AnswersQueryIf r key None exchanges a = AnswersQuery r key exchanges a
+AnswersQueryIf r key (Some zero) exchanges a = AnswersQuery r key exchanges a
+AnswersQueryIf r key (Some (suc n)) exchanges a = AnswersQueryAt r key (suc n) exchanges a
+
+-- the block at a height
+abbrev pub AnswersBlockAt : ℕ → ℕ → List HttpExchange → AnswerView → Type 0
+AnswersBlockAt r h (Asked (Blocks q k told) ∷ []) a = (q ≡ r) × (k ≡ h) × (a ≡ block_answer h told)
+AnswersBlockAt r h _ a = ⊥
+
+-- the block at the committed height
+abbrev pub AnswersLastBlock : ℕ → List HttpExchange → AnswerView → Type 0
+AnswersLastBlock r (Asked (Heights q h) ∷ Asked (Blocks s k told) ∷ []) a = (q ≡ r) × (s ≡ r) × (k ≡ h) × (a ≡ block_answer h told)
+AnswersLastBlock r _ a = ⊥
+
+-- if no height is named, the block at the committed height
+abbrev pub AnswersBlock : ℕ → Option ℕ → List HttpExchange → AnswerView → Type 0
+AnswersBlock r (Some h) exchanges a = AnswersBlockAt r h exchanges a
+AnswersBlock r None exchanges a = AnswersLastBlock r exchanges a
+
+abbrev pub AnswersPool : ℕ → List HttpExchange → AnswerView → Type 0
+AnswersPool r (Inquired (Pools q size) ∷ []) a = (q ≡ r) × (a ≡ UnconfirmedTxs size.transactions size.bytes)
+AnswersPool r _ a = ⊥
+
+-- only a transaction that the pool took is submitted to the other replicas, too
+abbrev pub AnswersSync : ℕ → List ℕ → List HttpExchange → AnswerView → Type 0
+AnswersSync r tx (Asked (Submits q t (Ok (Err refusal))) ∷ []) a = (q ≡ r) × (t ≡ tx) × (a ≡ sync_answer r tx (Ok (Err refusal)))
+AnswersSync r tx (Asked (Submits q t (Err f)) ∷ []) a = (q ≡ r) × (t ≡ tx) × (a ≡ sync_answer r tx (Err f))
+AnswersSync r tx (Asked (Submits q t (Ok (Ok index))) ∷ Inquired (Spreads s u) ∷ []) a =
+    (q ≡ r) × (t ≡ tx) × (s ≡ r) × (u ≡ tx) × (a ≡ sync_answer r tx (Ok (Ok index)))
+AnswersSync r tx _ a = ⊥
+
+-- only then is it waited for
+abbrev pub AnswersCommit : ℕ → List ℕ → List HttpExchange → AnswerView → Type 0
+AnswersCommit r tx (Asked (Submits q t (Ok (Err refusal))) ∷ []) a = (q ≡ r) × (t ≡ tx) × (a ≡ unpooled_answer tx (Ok refusal))
+AnswersCommit r tx (Asked (Submits q t (Err f)) ∷ []) a = (q ≡ r) × (t ≡ tx) × (a ≡ unpooled_answer tx (Err f))
+AnswersCommit r tx (Asked (Submits q t (Ok (Ok index))) ∷ Inquired (Spreads p v) ∷ Inquired (Waits s u i delivery) ∷ []) a =
+    (q ≡ r) × (t ≡ tx) × (p ≡ r) × (v ≡ tx) × (s ≡ r) × (u ≡ tx) × (i ≡ index) × (a ≡ delivery_answer r tx index delivery)
+AnswersCommit r tx _ a = ⊥
+
+abbrev pub AnswersMetrics : ℕ → List HttpExchange → AnswerView → Type 0
+AnswersMetrics r (Inquired (Shows q m) ∷ []) a = (q ≡ r) × (a ≡ Metrics (m ∷ []))
+AnswersMetrics r _ a = ⊥
+
+-- the exchanges by which replicas showed these metrics
+abbrev pub shown : List ReplicaMetrics → List HttpExchange
+shown all = map (λ m. Inquired (Shows m.replica m)) all
+
+-- the metrics of this number of replicas, from 0 on
+pub record AnswersAllMetrics (count : ℕ) (exchanges : List HttpExchange) (a : AnswerView) : Type 0 where
+  pub all : List ReplicaMetrics
+  pub each : map (λ m. m.replica) all ≡ range_with_len 0 count
+  pub asked : exchanges ≡ shown all
+  pub answer : a ≡ Metrics all
+
+-- ---- a whole request
+
+-- nothing is asked
+abbrev pub AsksNone : AnswerView → List HttpExchange → AnswerView → Type 0
+AsksNone answer exchanges a = (exchanges ≡ []) × (a ≡ answer)
+
+-- a question to replica `r`, which exists
+abbrev pub AnswersAt : ℕ → QuestionView → List HttpExchange → AnswerView → Type 0
+AnswersAt r question.Page exchanges a = AsksNone Page exchanges a
+AnswersAt r question.Health exchanges a = AsksNone Health exchanges a
+AnswersAt r question.Status exchanges a = AnswersStatus r exchanges a
+AnswersAt r question.AbciInfo exchanges a = AnswersInfo r exchanges a
+AnswersAt r (question.AbciQuery key height) exchanges a = AnswersQueryIf r key height exchanges a
+AnswersAt r (question.Block height) exchanges a = AnswersBlock r height exchanges a
+AnswersAt r question.UnconfirmedTxs exchanges a = AnswersPool r exchanges a
+AnswersAt r (question.BroadcastSync tx) exchanges a = AnswersSync r tx exchanges a
+AnswersAt r (question.BroadcastCommit tx) exchanges a = AnswersCommit r tx exchanges a
+AnswersAt r question.Metrics exchanges a = AnswersMetrics r exchanges a
+
+-- a question to replica `r` of `count`; if there is none, nothing is asked
+pub record AnswersIf (count r : ℕ) (q : QuestionView) (exchanges : List HttpExchange) (a : AnswerView) : Type 0 where
+  pub known : r < count → AnswersAt r q exchanges a
+  pub unknown : count ≤ r → AsksNone (Unanswered service.NoReplica) exchanges a
+
+-- the most replicas that numbers of one byte can name
+abbrev pub most_replicas : ℕ
+most_replicas = 256
+
+-- a question to the replica that it names, else to replica 0, and for metrics to all
+abbrev pub AnswersQuestion : ℕ → Option ℕ → QuestionView → List HttpExchange → AnswerView → Type 0
+AnswersQuestion count None question.Metrics exchanges a = AnswersAllMetrics (min count most_replicas) exchanges a
+AnswersQuestion count named q exchanges a = AnswersIf count (unwrap_or named 0) q exchanges a
+
+-- what was asked of `count` replicas is answered by these exchanges and this answer; a fault asks nothing
+abbrev pub Answers : ℕ → Result Request RequestFault → List HttpExchange → AnswerView → Type 0
+Answers count (Ok request) exchanges a = AnswersQuestion count request.replica (question_view request.question) exchanges a
+Answers count (Err f) exchanges a = AsksNone (Fault f) exchanges a
+
+-- ---- the reply, or that memory ran out
+
+-- exchanges were made, and the reply is that of the answer that they give
+pub record Replies {T : Type 0} (makes : T → HttpExchange → T → Type 0) (before after : T)
+    (Gives : List HttpExchange → AnswerView → Type 0) (reply : List ℕ) : Type 0 where
+  pub exchanges : List HttpExchange
+  pub answer : AnswerView
+  pub made : FoldsTo makes before exchanges after
+  pub gives : Gives exchanges answer
+  pub bytes : reply ≡ reply_bytes answer
+
+-- memory ran out: before anything was asked, or after all was
+pub record Loses {T : Type 0} (makes : T → HttpExchange → T → Type 0) (before after : T)
+    (Gives : List HttpExchange → AnswerView → Type 0) : Type 0 where
+  pub exchanges : List HttpExchange
+  pub made : FoldsTo makes before exchanges after
+  pub whole : (exchanges ≡ []) ⊎ ((answer : AnswerView) × Gives exchanges answer)

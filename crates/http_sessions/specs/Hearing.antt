@@ -1,0 +1,34 @@
+-- The head of a request, read from a stream.
+use Rattle.std.specs.Prelude.{◌≡◌, ◌⊎◌, ℕ, ◌≤◌, List, [], ◌++◌, length, Option, Result, Err}
+use Rattle.std.specs.Io.KnownBytes.{Consumes, IsAtEnd}
+use Rattle.http_requests.specs.declared.fault.RequestFault.{RequestFault}
+use Rattle.http_requests.specs.declared.fault.RequestFault.TheVariants as fault
+use Rattle.http_requests.specs.declared.request.Request.{Request}
+use Rattle.http_requests.specs.Requests.{Answers}
+
+-- these bytes are less than a head: there are none, or more of them may make one
+abbrev pub IsPart : List ℕ → Type 0
+IsPart bytes = (bytes ≡ []) ⊎ Answers bytes (Err fault.Incomplete)
+
+-- at most `most` bytes were read, which ask this; without those of the last read they were less than a head
+pub record Hears (most : ℕ) (unread left : Option (List ℕ)) (asked : Result Request RequestFault) : Type 0 where
+  pub first : List ℕ
+  pub last : List ℕ
+  pub part : IsPart first
+  pub some : 1 ≤ length (first ++ last)
+  pub within : length (first ++ last) ≤ most
+  pub read : Consumes unread left (first ++ last)
+  pub answers : Answers (first ++ last) asked
+  pub end : asked ≡ Err fault.Incomplete → IsAtEnd left
+
+-- the input ended without a byte
+pub record HearsNone (unread left : Option (List ℕ)) : Type 0 where
+  pub read : Consumes unread left []
+  pub end : IsAtEnd left
+
+-- at most `most` bytes were read, less than a head
+pub record HearsPart (most : ℕ) (unread left : Option (List ℕ)) : Type 0 where
+  pub bytes : List ℕ
+  pub part : IsPart bytes
+  pub within : length bytes ≤ most
+  pub read : Consumes unread left bytes

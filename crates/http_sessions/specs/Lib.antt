@@ -1,0 +1,4 @@
+pub mod Exchanges
+pub mod Answering
+pub mod Hearing
+pub mod Serving

@@ -1,0 +1,383 @@
+//! Answers a request by what the replicas answer.
+ghost use Rattle.std.specs.Prelude.{◌≡◌, ◌<◌, ◌≤◌, min, [], map, vec_capacity, MatchResult};
+ghost use Rattle.std.specs.List.{FoldsTo, range_with_len};
+ghost use Rattle.http_requests.specs.Questions.{question_view};
+ghost use Rattle.http_sessions.specs.Exchanges.{Makes};
+ghost use Rattle.http_sessions.specs.Answering.{Replies, Loses, Answers, AnswersQuestion, AnswersIf, AnswersAt, AnswersStatus, AnswersInfo, AnswersQuery, AnswersQueryAt, AnswersQueryIf, AnswersBlockAt, AnswersLastBlock, AnswersBlock, AnswersPool, AnswersSync, AnswersCommit, AnswersMetrics, AnswersAllMetrics, most_replicas, shown};
+
+use crate::answers::{
+    block_answer, delivery_answer, fault_answer, query_answer, query_answer_at, reply_to,
+    sync_answer,
+};
+use crate::targets::HttpTargets;
+use http_replies::{Answer, Commitment, ReplicaMetrics, ServiceFault};
+use http_requests::{Question, Request, RequestFault};
+use ledger_model::{Height, ReplicaId};
+use std::alloc::{AllocError, Global};
+
+/// The most replicas that numbers of one byte can name.
+const MOST_REPLICAS: usize = 256;
+
+/// How far a replica is.
+fn status<T: HttpTargets>(
+    alloc: Global,
+    targets: &mut T,
+    replica: ReplicaId,
+) -> Result<Vec<u8>, AllocError>
+    requires { replica < T.replicas targets.old }
+    ensures replies { MatchResult result
+        (λ reply. Replies (Makes T.asks T.inquires) targets.old targets.new (AnswersStatus replica) reply.items)
+        (λ _. Loses (Makes T.asks T.inquires) targets.old targets.new (AnswersStatus replica)) }
+    ensures count { T.replicas targets.new ≡ T.replicas targets.old }
+{
+    let shown = targets.metrics(replica);
+    reply_to(
+        alloc,
+        &Answer::Status {
+            replica,
+            round: shown.rounds,
+            height: shown.height,
+        },
+    )
+}
+
+/// What a replica's application says of itself.
+fn app_info<T: HttpTargets>(
+    alloc: Global,
+    targets: &mut T,
+    replica: ReplicaId,
+) -> Result<Vec<u8>, AllocError>
+    requires { replica < T.replicas targets.old }
+    ensures replies { MatchResult result
+        (λ reply. Replies (Makes T.asks T.inquires) targets.old targets.new (AnswersInfo replica) reply.items)
+        (λ _. Loses (Makes T.asks T.inquires) targets.old targets.new (AnswersInfo replica)) }
+    ensures count { T.replicas targets.new ≡ T.replicas targets.old }
+{
+    let info = targets.info(replica);
+    reply_to(
+        alloc,
+        &Answer::AbciInfo {
+            kind: info.kind,
+            height: info.height,
+            hash: &info.hash,
+        },
+    )
+}
+
+/// What a replica's application has under a key, as of its last block.
+fn query<T: HttpTargets>(
+    alloc: Global,
+    targets: &mut T,
+    replica: ReplicaId,
+    key: &[u8],
+) -> Result<Vec<u8>, AllocError>
+    requires { replica < T.replicas targets.old }
+    ensures replies { MatchResult result
+        (λ reply. Replies (Makes T.asks T.inquires) targets.old targets.new (AnswersQuery replica key.now) reply.items)
+        (λ _. Loses (Makes T.asks T.inquires) targets.old targets.new (AnswersQuery replica key.now)) }
+    ensures count { T.replicas targets.new ≡ T.replicas targets.old }
+{
+    let found = targets.query(replica, key);
+    reply_to(alloc, &query_answer(key, &found))
+}
+
+/// The same, if its last block is at this height. Otherwise no query is made, which would be an entry of the history.
+fn query_at<T: HttpTargets>(
+    alloc: Global,
+    targets: &mut T,
+    replica: ReplicaId,
+    key: &[u8],
+    height: Height,
+) -> Result<Vec<u8>, AllocError>
+    requires { replica < T.replicas targets.old }
+    ensures replies { MatchResult result
+        (λ reply. Replies (Makes T.asks T.inquires) targets.old targets.new (AnswersQueryAt replica key.now height) reply.items)
+        (λ _. Loses (Makes T.asks T.inquires) targets.old targets.new (AnswersQueryAt replica key.now height)) }
+    ensures count { T.replicas targets.new ≡ T.replicas targets.old }
+{
+    let committed = targets.height(replica);
+    if committed.number() != height.number() {
+        return reply_to(alloc, &Answer::Unanswered(ServiceFault::NotLastHeight));
+    }
+    let found = targets.query(replica, key);
+    reply_to(alloc, &query_answer_at(height, key, &found))
+}
+
+/// What a replica's application has under a key, at the height that the request names: 0 is the last, as if none were named.
+fn query_if<T: HttpTargets>(
+    alloc: Global,
+    targets: &mut T,
+    replica: ReplicaId,
+    key: &[u8],
+    height: Option<Height>,
+) -> Result<Vec<u8>, AllocError>
+    requires { replica < T.replicas targets.old }
+    ensures replies { MatchResult result
+        (λ reply. Replies (Makes T.asks T.inquires) targets.old targets.new (AnswersQueryIf replica key.now height) reply.items)
+        (λ _. Loses (Makes T.asks T.inquires) targets.old targets.new (AnswersQueryIf replica key.now height)) }
+    ensures count { T.replicas targets.new ≡ T.replicas targets.old }
+{
+    match height {
+        Some(height) if height.number() > 0 => query_at(alloc, targets, replica, key, height),
+        _ => query(alloc, targets, replica, key),
+    }
+}
+
+/// A replica's block at a height.
+fn block_at<T: HttpTargets>(
+    alloc: Global,
+    targets: &mut T,
+    replica: ReplicaId,
+    height: Height,
+) -> Result<Vec<u8>, AllocError>
+    requires { replica < T.replicas targets.old }
+    ensures replies { MatchResult result
+        (λ reply. Replies (Makes T.asks T.inquires) targets.old targets.new (AnswersBlockAt replica height) reply.items)
+        (λ _. Loses (Makes T.asks T.inquires) targets.old targets.new (AnswersBlockAt replica height)) }
+    ensures count { T.replicas targets.new ≡ T.replicas targets.old }
+{
+    let found = targets.block(replica, height);
+    reply_to(alloc, &block_answer(height, &found))
+}
+
+/// A replica's block at its committed height.
+fn last_block<T: HttpTargets>(
+    alloc: Global,
+    targets: &mut T,
+    replica: ReplicaId,
+) -> Result<Vec<u8>, AllocError>
+    requires { replica < T.replicas targets.old }
+    ensures replies { MatchResult result
+        (λ reply. Replies (Makes T.asks T.inquires) targets.old targets.new (AnswersLastBlock replica) reply.items)
+        (λ _. Loses (Makes T.asks T.inquires) targets.old targets.new (AnswersLastBlock replica)) }
+    ensures count { T.replicas targets.new ≡ T.replicas targets.old }
+{
+    let last = targets.height(replica);
+    let found = targets.block(replica, last);
+    reply_to(alloc, &block_answer(last, &found))
+}
+
+/// A replica's block at the height that the request names; if it names none, at the committed height.
+fn block<T: HttpTargets>(
+    alloc: Global,
+    targets: &mut T,
+    replica: ReplicaId,
+    height: Option<Height>,
+) -> Result<Vec<u8>, AllocError>
+    requires { replica < T.replicas targets.old }
+    ensures replies { MatchResult result
+        (λ reply. Replies (Makes T.asks T.inquires) targets.old targets.new (AnswersBlock replica height) reply.items)
+        (λ _. Loses (Makes T.asks T.inquires) targets.old targets.new (AnswersBlock replica height)) }
+    ensures count { T.replicas targets.new ≡ T.replicas targets.old }
+{
+    match height {
+        Some(height) => block_at(alloc, targets, replica, height),
+        None => last_block(alloc, targets, replica),
+    }
+}
+
+/// How many transactions wait in a replica's pool.
+fn pool<T: HttpTargets>(
+    alloc: Global,
+    targets: &mut T,
+    replica: ReplicaId,
+) -> Result<Vec<u8>, AllocError>
+    requires { replica < T.replicas targets.old }
+    ensures replies { MatchResult result
+        (λ reply. Replies (Makes T.asks T.inquires) targets.old targets.new (AnswersPool replica) reply.items)
+        (λ _. Loses (Makes T.asks T.inquires) targets.old targets.new (AnswersPool replica)) }
+    ensures count { T.replicas targets.new ≡ T.replicas targets.old }
+{
+    let size = targets.pool(replica);
+    reply_to(
+        alloc,
+        &Answer::UnconfirmedTxs {
+            count: size.transactions,
+            bytes: size.bytes,
+        },
+    )
+}
+
+/// Submits a transaction to a replica and, if its pool takes it, to the others.
+fn broadcast_sync<T: HttpTargets>(
+    alloc: Global,
+    targets: &mut T,
+    replica: ReplicaId,
+    tx: &[u8],
+) -> Result<Vec<u8>, AllocError>
+    requires { replica < T.replicas targets.old }
+    ensures replies { MatchResult result
+        (λ reply. Replies (Makes T.asks T.inquires) targets.old targets.new (AnswersSync replica tx.now) reply.items)
+        (λ _. Loses (Makes T.asks T.inquires) targets.old targets.new (AnswersSync replica tx.now)) }
+    ensures count { T.replicas targets.new ≡ T.replicas targets.old }
+{
+    match targets.submit(replica, tx) {
+        Ok(Ok(index)) => {
+            targets.spread(replica, tx);
+            reply_to(alloc, &sync_answer(replica, tx, Ok(Ok(index))))
+        }
+        Ok(Err(refusal)) => reply_to(alloc, &sync_answer(replica, tx, Ok(Err(refusal)))),
+        Err(fault) => reply_to(alloc, &fault_answer(fault)),
+    }
+}
+
+/// Submits a transaction to a replica and, if its pool takes it, to the others, and waits for a block that has it.
+fn broadcast_commit<T: HttpTargets>(
+    alloc: Global,
+    targets: &mut T,
+    replica: ReplicaId,
+    tx: &[u8],
+) -> Result<Vec<u8>, AllocError>
+    requires { replica < T.replicas targets.old }
+    ensures replies { MatchResult result
+        (λ reply. Replies (Makes T.asks T.inquires) targets.old targets.new (AnswersCommit replica tx.now) reply.items)
+        (λ _. Loses (Makes T.asks T.inquires) targets.old targets.new (AnswersCommit replica tx.now)) }
+    ensures count { T.replicas targets.new ≡ T.replicas targets.old }
+{
+    match targets.submit(replica, tx) {
+        Ok(Ok(index)) => {
+            targets.spread(replica, tx);
+            let delivery = targets.wait(replica, tx, index);
+            reply_to(alloc, &delivery_answer(replica, tx, index, delivery))
+        }
+        Ok(Err(refusal)) => reply_to(
+            alloc,
+            &Answer::BroadcastCommit {
+                tx,
+                commitment: Commitment::Refused(refusal),
+            },
+        ),
+        Err(fault) => reply_to(alloc, &fault_answer(fault)),
+    }
+}
+
+/// The metrics of one replica.
+fn metrics<T: HttpTargets>(
+    alloc: Global,
+    targets: &mut T,
+    replica: ReplicaId,
+) -> Result<Vec<u8>, AllocError>
+    requires { replica < T.replicas targets.old }
+    ensures replies { MatchResult result
+        (λ reply. Replies (Makes T.asks T.inquires) targets.old targets.new (AnswersMetrics replica) reply.items)
+        (λ _. Loses (Makes T.asks T.inquires) targets.old targets.new (AnswersMetrics replica)) }
+    ensures count { T.replicas targets.new ≡ T.replicas targets.old }
+{
+    let shown = [targets.metrics(replica)];
+    reply_to(alloc, &Answer::Metrics(&shown))
+}
+
+/// Appends the metrics of the first `count` replicas, for which there is room.
+fn add_metrics<T: HttpTargets>(targets: &mut T, count: usize, all: &mut Vec<ReplicaMetrics>)
+    requires few { count ≤ 256 }
+    requires known { count ≤ T.replicas targets.old }
+    requires empty { all.old.items ≡ [] }
+    requires room { count ≤ vec_capacity all.old }
+    ensures each { map (λ m. m.replica) all.new.items ≡ range_with_len 0 count }
+    ensures made { FoldsTo (Makes T.asks T.inquires) targets.old (shown all.new.items) targets.new }
+    ensures count { T.replicas targets.new ≡ T.replicas targets.old }
+{
+    for number in 0..count {
+        all.push_reserved(targets.metrics(ReplicaId::new(number as u8)));
+    }
+}
+
+/// The metrics of all replicas, in order.
+fn all_metrics<T: HttpTargets>(alloc: Global, targets: &mut T) -> Result<Vec<u8>, AllocError>
+    ensures replies { MatchResult result
+        (λ reply. Replies (Makes T.asks T.inquires) targets.old targets.new (AnswersAllMetrics (min (T.replicas targets.old) most_replicas)) reply.items)
+        (λ _. Loses (Makes T.asks T.inquires) targets.old targets.new (AnswersAllMetrics (min (T.replicas targets.old) most_replicas))) }
+    ensures count { T.replicas targets.new ≡ T.replicas targets.old }
+{
+    let count = targets.count().min(MOST_REPLICAS);
+    let mut all = Vec::with_capacity(alloc, count)?;
+    add_metrics(targets, count, &mut all);
+    reply_to(alloc, &Answer::Metrics(&all))
+}
+
+/// Asks a replica, which exists.
+fn answer_at<T: HttpTargets>(
+    alloc: Global,
+    question: &Question,
+    targets: &mut T,
+    replica: ReplicaId,
+) -> Result<Vec<u8>, AllocError>
+    requires { replica < T.replicas targets.old }
+    ensures replies { MatchResult result
+        (λ reply. Replies (Makes T.asks T.inquires) targets.old targets.new (AnswersAt replica (question_view question.now)) reply.items)
+        (λ _. Loses (Makes T.asks T.inquires) targets.old targets.new (AnswersAt replica (question_view question.now))) }
+    ensures count { T.replicas targets.new ≡ T.replicas targets.old }
+{
+    match question {
+        Question::Page => reply_to(alloc, &Answer::Page),
+        Question::Health => reply_to(alloc, &Answer::Health),
+        Question::Status => status(alloc, targets, replica),
+        Question::AbciInfo => app_info(alloc, targets, replica),
+        Question::AbciQuery { key, height } => query_if(alloc, targets, replica, key, *height),
+        Question::Block { height } => block(alloc, targets, replica, *height),
+        Question::UnconfirmedTxs => pool(alloc, targets, replica),
+        Question::BroadcastSync { tx } => broadcast_sync(alloc, targets, replica, tx),
+        Question::BroadcastCommit { tx } => broadcast_commit(alloc, targets, replica, tx),
+        Question::Metrics => metrics(alloc, targets, replica),
+    }
+}
+
+/// Asks a replica, if it exists.
+fn answer_if<T: HttpTargets>(
+    alloc: Global,
+    question: &Question,
+    targets: &mut T,
+    replica: ReplicaId,
+) -> Result<Vec<u8>, AllocError>
+    ensures replies { MatchResult result
+        (λ reply. Replies (Makes T.asks T.inquires) targets.old targets.new (AnswersIf (T.replicas targets.old) replica (question_view question.now)) reply.items)
+        (λ _. Loses (Makes T.asks T.inquires) targets.old targets.new (AnswersIf (T.replicas targets.old) replica (question_view question.now))) }
+    ensures count { T.replicas targets.new ≡ T.replicas targets.old }
+{
+    if usize::from(replica.number()) < targets.count() {
+        answer_at(alloc, question, targets, replica)
+    } else {
+        reply_to(alloc, &Answer::Unanswered(ServiceFault::NoReplica))
+    }
+}
+
+/// Asks the replica that the request names, else replica 0; for metrics, if the request names none, all.
+fn answer_question<T: HttpTargets>(
+    alloc: Global,
+    question: &Question,
+    named: Option<ReplicaId>,
+    targets: &mut T,
+) -> Result<Vec<u8>, AllocError>
+    ensures replies { MatchResult result
+        (λ reply. Replies (Makes T.asks T.inquires) targets.old targets.new (AnswersQuestion (T.replicas targets.old) named (question_view question.now)) reply.items)
+        (λ _. Loses (Makes T.asks T.inquires) targets.old targets.new (AnswersQuestion (T.replicas targets.old) named (question_view question.now))) }
+    ensures count { T.replicas targets.new ≡ T.replicas targets.old }
+{
+    match (named, question) {
+        (Some(replica), question) => answer_if(alloc, question, targets, replica),
+        (None, Question::Metrics) => all_metrics(alloc, targets),
+        (None, question) => answer_if(alloc, question, targets, ReplicaId::new(0)),
+    }
+}
+
+/// The reply to what was asked, as [`parse`](http_requests::parse) returns it.
+///
+/// A request asks one replica: the one that it names, else replica 0; metrics, if it names none, of all. If there is no such replica, or
+/// what was asked is a fault, no replica is asked. The only error is allocation failure: then the reply is
+/// [`out_of_memory_reply`](http_replies::out_of_memory_reply), and either nothing was asked, or all that the request asks was done.
+pub fn answer<T: HttpTargets>(
+    alloc: Global,
+    asked: &Result<Request, RequestFault>,
+    targets: &mut T,
+) -> Result<Vec<u8>, AllocError>
+    // The exchanges are those by which the request is answered, and the reply is that of the answer.
+    ensures replies { MatchResult result
+        (λ reply. Replies (Makes T.asks T.inquires) targets.old targets.new (Answers (T.replicas targets.old) asked.now) reply.items)
+        (λ _. Loses (Makes T.asks T.inquires) targets.old targets.new (Answers (T.replicas targets.old) asked.now)) }
+    ensures count { T.replicas targets.new ≡ T.replicas targets.old }
+{
+    match asked {
+        Ok(request) => answer_question(alloc, &request.question, request.replica, targets),
+        Err(fault) => reply_to(alloc, &Answer::Fault(*fault)),
+    }
+}

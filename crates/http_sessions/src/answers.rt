@@ -1,0 +1,137 @@
+//! Answers by what a replica answered.
+ghost use Rattle.std.specs.Prelude.{◌≡◌, Ok, Err, IfOk};
+ghost use Rattle.ledger_model.specs.Sessions.{Fault as ReplicaFault};
+ghost use Rattle.client_sessions.specs.Asking.{fault_of, told};
+ghost use Rattle.http_replies.specs.Answers.{answer_view};
+ghost use Rattle.http_replies.specs.Replies.{reply_bytes};
+ghost use Rattle.http_sessions.specs.Answering.{fault_answer, sync_answer, unpooled_answer, delivery_answer, query_answer, query_answer_at, block_answer};
+
+use crate::targets::Delivery;
+use client_sessions::TargetFault;
+use http_replies::{Answer, Commitment, Receipt, ServiceFault, Submission, put_reply};
+use http_requests::RequestFault;
+use ledger_model::{Batch, Height, QueryAnswer, ReplicaId, SubmitRefusal};
+use std::alloc::{AllocError, Global};
+
+/// The whole reply to an answer.
+pub(crate) fn reply_to(alloc: Global, answer: &Answer<'_>) -> Result<Vec<u8>, AllocError>
+    ensures { IfOk result (λ reply. reply.items ≡ reply_bytes (answer_view answer.now)) }
+{
+    let mut reply = Vec::new(alloc);
+    put_reply(&mut reply, answer)?;
+    Ok(reply)
+}
+
+/// That a replica took no event.
+pub(crate) fn fault_answer(fault: TargetFault) -> Answer<'static>
+    ensures { answer_view result ≡ fault_answer (fault_of fault) }
+{
+    match fault {
+        TargetFault::HistoryFull => Answer::Unanswered(ServiceFault::HistoryFull),
+        TargetFault::NoMemory => Answer::Fault(RequestFault::NoMemory),
+    }
+}
+
+/// What the pool did with a transaction.
+pub(crate) fn sync_answer<'a>(
+    replica: ReplicaId,
+    tx: &'a [u8],
+    submitted: Result<Result<u32, SubmitRefusal>, TargetFault>,
+) -> Answer<'a>
+    ensures { answer_view result ≡ sync_answer replica tx.now (told submitted) }
+{
+    match submitted {
+        Ok(Ok(index)) => Answer::BroadcastSync {
+            tx,
+            submission: Submission::Pooled(Receipt { replica, index }),
+        },
+        Ok(Err(refusal)) => Answer::BroadcastSync {
+            tx,
+            submission: Submission::Refused(refusal),
+        },
+        Err(fault) => fault_answer(fault),
+    }
+}
+
+/// What became of a transaction that the pool took as the entry with this index.
+pub(crate) fn delivery_answer<'a>(
+    replica: ReplicaId,
+    tx: &'a [u8],
+    index: u32,
+    delivery: Delivery,
+) -> Answer<'a>
+    ensures { answer_view result ≡ delivery_answer replica tx.now index delivery }
+{
+    match delivery {
+        Delivery::Committed { height, code } => Answer::BroadcastCommit {
+            tx,
+            commitment: Commitment::Committed {
+                receipt: Receipt { replica, index },
+                height,
+                code,
+            },
+        },
+        Delivery::TimedOut => Answer::Unanswered(ServiceFault::TimedOut),
+        Delivery::Stopping => Answer::Unanswered(ServiceFault::Stopping),
+    }
+}
+
+/// What the application has under a key.
+fn found_answer<'a>(key: &'a [u8], found: &'a QueryAnswer) -> Answer<'a>
+    ensures { answer_view result ≡ query_answer key.now (Ok found.now) }
+{
+    match &found.value {
+        Some(value) => Answer::AbciQuery {
+            key,
+            value: Some(value.as_slice()),
+            height: found.height,
+        },
+        None => Answer::AbciQuery {
+            key,
+            value: None,
+            height: found.height,
+        },
+    }
+}
+
+/// What the application has under a key, as of its last block.
+pub(crate) fn query_answer<'a>(
+    key: &'a [u8],
+    found: &'a Result<QueryAnswer, TargetFault>,
+) -> Answer<'a>
+    ensures { answer_view result ≡ query_answer key.now (told found.now) }
+{
+    match found {
+        Ok(found) => found_answer(key, found),
+        Err(fault) => fault_answer(*fault),
+    }
+}
+
+/// The same, if its last block is at this height.
+pub(crate) fn query_answer_at<'a>(
+    height: Height,
+    key: &'a [u8],
+    found: &'a Result<QueryAnswer, TargetFault>,
+) -> Answer<'a>
+    ensures { answer_view result ≡ query_answer_at height key.now (told found.now) }
+{
+    match found {
+        Ok(found) if found.height.number() == height.number() => found_answer(key, found),
+        Ok(_) => Answer::Unanswered(ServiceFault::NotLastHeight),
+        Err(fault) => fault_answer(*fault),
+    }
+}
+
+/// The block at a height.
+pub(crate) fn block_answer<'a>(
+    height: Height,
+    found: &'a Result<Option<Batch>, TargetFault>,
+) -> Answer<'a>
+    ensures { answer_view result ≡ block_answer height (told found.now) }
+{
+    match found {
+        Ok(Some(batch)) => Answer::Block { height, batch },
+        Ok(None) => Answer::Unanswered(ServiceFault::NotCommitted),
+        Err(fault) => fault_answer(*fault),
+    }
+}

@@ -1,0 +1,78 @@
+//! What a request can ask of replicas, as a trait that a server implements.
+use client_sessions::Targets;
+use http_replies::ReplicaMetrics;
+use ledger_model::{AppKind, Height, ReplicaId};
+
+/// What a replica's application says of itself.
+#[derive(Clone, Copy, Debug, PartialEq, Eq)]
+pub struct AppInfo {
+    pub kind: AppKind,
+    /// The last height that it committed.
+    pub height: Height,
+    /// The SHA-256 of its state then.
+    pub hash: [u8; 32],
+}
+
+/// The transactions that wait in a replica's pool.
+#[derive(Clone, Copy, Debug, PartialEq, Eq)]
+pub struct PoolSize {
+    /// Their number.
+    pub transactions: u64,
+    /// The number of their bytes together.
+    pub bytes: u64,
+}
+
+/// What became of a transaction that a pool took.
+#[derive(Clone, Copy, Debug, PartialEq, Eq)]
+pub enum Delivery {
+    /// The replica's block at this height has the transaction, for which the application returned this code.
+    Committed { height: Height, code: u32 },
+    /// No block of the replica had it in time.
+    TimedOut,
+    /// The server was asked to stop before a block of the replica had it.
+    Stopping,
+}
+
+/// Replicas by number, which also show what HTTP alone asks for.
+///
+/// Each call is one exchange, and but for `spread` it adds no entry to a history. `inquires` relates the targets before a call to the
+/// targets after it, as `asks` of [`Targets`] does.
+pub trait HttpTargets: Targets {
+    ghost use Rattle.std.specs.Prelude.{◌≡◌, ◌<◌};
+    ghost use Rattle.http_sessions.specs.Exchanges.{Inquiry, Shows, Pools, Infos, Spreads, Waits};
+
+    ghost inquires: { Self → Inquiry → Self → Type 0 };
+
+    /// What a replica shows of itself at one moment.
+    fn metrics(&mut self, replica: ReplicaId) -> ReplicaMetrics
+        requires { replica < Self.replicas self.old }
+        ensures asked { inquires self.old (Shows replica result) self.new }
+        ensures replica { result.replica ≡ replica }
+        ensures count { Self.replicas self.new ≡ Self.replicas self.old };
+
+    /// How many transactions wait in a replica's pool.
+    fn pool(&mut self, replica: ReplicaId) -> PoolSize
+        requires { replica < Self.replicas self.old }
+        ensures asked { inquires self.old (Pools replica result) self.new }
+        ensures count { Self.replicas self.new ≡ Self.replicas self.old };
+
+    /// What a replica's application says of itself.
+    fn info(&mut self, replica: ReplicaId) -> AppInfo
+        requires { replica < Self.replicas self.old }
+        ensures asked { inquires self.old (Infos replica result) self.new }
+        ensures count { Self.replicas self.new ≡ Self.replicas self.old };
+
+    /// Submits a transaction that the replica's pool took to all other replicas, so that whoever owns a phase may propose it. What they
+    /// answer isn't told.
+    fn spread(&mut self, replica: ReplicaId, tx: &[u8])
+        requires { replica < Self.replicas self.old }
+        ensures asked { inquires self.old (Spreads replica tx.now) self.new }
+        ensures count { Self.replicas self.new ≡ Self.replicas self.old };
+
+    /// Waits until a block of a replica has the transaction that its pool took, or until it has waited for too long or is to stop. The
+    /// index is that of the submit's entry in the replica's history.
+    fn wait(&mut self, replica: ReplicaId, tx: &[u8], index: u32) -> Delivery
+        requires { replica < Self.replicas self.old }
+        ensures asked { inquires self.old (Waits replica tx.now index result) self.new }
+        ensures count { Self.replicas self.new ≡ Self.replicas self.old };
+}

@@ -1,0 +1,147 @@
+//! Four replicas whose answers a test sets.
+use bytes::Bytes;
+use client_sessions::{TargetFault, Targets};
+use http_replies::ReplicaMetrics;
+use http_sessions::{AppInfo, Delivery, HttpTargets, PoolSize};
+use ledger_model::{AppKind, Batch, Height, QueryAnswer, ReplicaId, SubmitRefusal};
+use std::alloc::Global;
+use test_support::{BuildFault, batch};
+
+/// The answer to a submit.
+pub(crate) type Submitted = Result<Result<u32, SubmitRefusal>, TargetFault>;
+
+/// Replicas whose application has `abcd` under `abcd`, and which have the blocks 1 and 4096.
+#[derive(Drop)]
+pub(crate) struct Fake {
+    alloc: Global,
+    /// The answer to each submit.
+    pub(crate) submitted: Submitted,
+    /// What becomes of each transaction.
+    pub(crate) delivery: Delivery,
+    /// The committed height.
+    pub(crate) height: u32,
+    /// The height of the answer to each query.
+    pub(crate) found_height: u32,
+    /// The answer to each query and block, if it is a fault.
+    pub(crate) fault: Option<TargetFault>,
+    /// The calls: a letter and the number of the replica for each.
+    pub(crate) calls: Vec<u8>,
+}
+
+impl Fake {
+    pub(crate) fn new(alloc: Global) -> Self {
+        Fake {
+            alloc,
+            submitted: Ok(Ok(44)),
+            delivery: Delivery::TimedOut,
+            height: 12,
+            found_height: 12,
+            fault: None,
+            calls: Vec::new(alloc),
+        }
+    }
+
+    fn note(&mut self, letter: u8, replica: ReplicaId) {
+        let _ = self.calls.push(letter);
+        let _ = self.calls.push(b'0' | (replica.number() & 3));
+    }
+
+    fn note_or_fail(&mut self, letter: u8, replica: ReplicaId) -> Result<(), TargetFault> {
+        self.note(letter, replica);
+        match self.fault {
+            Some(fault) => Err(fault),
+            None => Ok(()),
+        }
+    }
+}
+
+/// The block at a height.
+fn block_at(alloc: Global, height: u32) -> Result<Option<Batch>, BuildFault> {
+    match height {
+        1 => Ok(Some(batch(alloc, &[])?)),
+        4096 => Ok(Some(batch(alloc, &[b"a=1", b"name=satoshi"])?)),
+        _ => Ok(None),
+    }
+}
+
+impl Targets for Fake {
+    ghost replicas = { λ _. 4 };
+
+    ghost asks = { λ _ _ _. Unit {0} };
+
+    fn count(&self) -> usize {
+        4
+    }
+
+    fn submit(&mut self, replica: ReplicaId, _tx: &[u8]) -> Submitted {
+        self.note(b'S', replica);
+        self.submitted
+    }
+
+    fn query(&mut self, replica: ReplicaId, key: &[u8]) -> Result<QueryAnswer, TargetFault> {
+        self.note_or_fail(b'Q', replica)?;
+        Ok(QueryAnswer {
+            height: Height::new(self.found_height),
+            value: if key == b"abcd".as_slice() {
+                Some(Bytes::from_static(b"abcd"))
+            } else {
+                None
+            },
+        })
+    }
+
+    fn height(&mut self, replica: ReplicaId) -> Height {
+        self.note(b'H', replica);
+        Height::new(self.height)
+    }
+
+    fn block(&mut self, replica: ReplicaId, height: Height) -> Result<Option<Batch>, TargetFault> {
+        self.note_or_fail(b'B', replica)?;
+        match block_at(self.alloc, height.number()) {
+            Ok(found) => Ok(found),
+            Err(_) => Err(TargetFault::NoMemory),
+        }
+    }
+}
+
+impl HttpTargets for Fake {
+    ghost inquires = { λ _ _ _. Unit {0} };
+
+    fn metrics(&mut self, replica: ReplicaId) -> ReplicaMetrics {
+        self.note(b'M', replica);
+        ReplicaMetrics {
+            replica,
+            rounds: 345,
+            height: Height::new(12),
+            signatures_left: 1001,
+            pool_transactions: 5,
+            history_entries: 333,
+        }
+    }
+
+    fn pool(&mut self, replica: ReplicaId) -> PoolSize {
+        self.note(b'P', replica);
+        PoolSize {
+            transactions: 31,
+            bytes: 19_974,
+        }
+    }
+
+    fn info(&mut self, replica: ReplicaId) -> AppInfo {
+        self.note(b'I', replica);
+        AppInfo {
+            kind: AppKind::KvStore,
+            height: Height::new(12),
+            hash: [0; 32],
+        }
+    }
+
+    fn spread(&mut self, replica: ReplicaId, _tx: &[u8]) {
+        self.note(b'A', replica);
+    }
+
+    fn wait(&mut self, replica: ReplicaId, _tx: &[u8], _index: u32) -> Delivery {
+        self.note(b'W', replica);
+        self.delivery
+    }
+}

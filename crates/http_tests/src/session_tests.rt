@@ -1,0 +1,325 @@
+//! Connections over streams in memory: each question with its exchanges and its reply, each fault, and streams that end and fail.
+
+use crate::expected::*;
+use crate::session_streams::{SlowReader, SlowWriter};
+use crate::session_targets::Fake;
+use client_sessions::TargetFault;
+use counted_streams::CountedStream;
+use http_sessions::{Delivery, RequestEnd, StreamFault, serve_request};
+use ledger_model::{Height, SubmitRefusal};
+use std::alloc::Global;
+
+/// How a connection ended.
+#[derive(Clone, Copy, PartialEq, Eq)]
+enum End {
+    Answered,
+    OutOfMemory,
+    Silent,
+    Read,
+    Write,
+}
+
+fn end_of(served: &Result<RequestEnd, StreamFault>) -> End {
+    match served {
+        Ok(RequestEnd::Answered) => End::Answered,
+        Ok(RequestEnd::OutOfMemory) => End::OutOfMemory,
+        Ok(RequestEnd::Silent) => End::Silent,
+        Err(StreamFault::Read(_)) => End::Read,
+        Err(StreamFault::Write(_)) => End::Write,
+    }
+}
+
+/// Serves a connection, and returns how it ended.
+fn ends(
+    alloc: Global,
+    input: &mut SlowReader<'_>,
+    output: &mut SlowWriter,
+    targets: &mut Fake,
+) -> End {
+    let (mut input, mut output) = (CountedStream::new(input), CountedStream::new(output));
+    let served = serve_request(alloc, &mut input, &mut output, targets);
+    end_of(&served)
+}
+
+/// The head of a GET of this target.
+fn head_of(alloc: Global, target: &[u8]) -> Option<Vec<u8>> {
+    let mut head = b"GET ".to_vec(alloc).ok()?;
+    head.extend_from_slice(target).ok()?;
+    head.extend_from_slice(b" HTTP/1.1\r\nHost: localhost\r\n\r\n")
+        .ok()?;
+    Some(head)
+}
+
+/// Whether these bytes are answered by this text, and by these calls.
+fn is_reply(alloc: Global, targets: &mut Fake, input: &[u8], calls: &[u8], text: &str) -> bool {
+    let mut output = SlowWriter::new(alloc, usize::MAX);
+    let mut reader = SlowReader::new(input, false);
+    targets.calls.clear();
+    ends(alloc, &mut reader, &mut output, targets) == End::Answered
+        && output.bytes.as_slice() == text.as_bytes()
+        && targets.calls.as_slice() == calls
+}
+
+/// Whether a GET of this target is answered by this text, and by these calls.
+fn is_answer(alloc: Global, targets: &mut Fake, target: &[u8], calls: &[u8], text: &str) -> bool {
+    match head_of(alloc, target) {
+        Some(head) => is_reply(alloc, targets, &head, calls, text),
+        None => false,
+    }
+}
+
+/// A target, the calls that it makes, and the reply.
+type Case<'a> = (&'a [u8], &'a [u8], &'a str);
+
+/// The first of the cases that goes wrong.
+fn first_wrong<'a>(alloc: Global, targets: &mut Fake, cases: &[Case<'a>]) -> Option<&'a str> {
+    for (target, calls, text) in cases {
+        if !is_answer(alloc, targets, target, calls, text) {
+            return Some(text);
+        }
+    }
+    None
+}
+
+const QUESTIONS: [Case<'static>; 18] = [
+    (b"/health", b"", HEALTH),
+    (b"/status?replica=2", b"M2", STATUS),
+    (b"/abci_info", b"I0", INFO),
+    (b"/abci_query?data=\"abcd\"", b"Q0", FOUND),
+    (b"/abci_query?data=\"abcd\"&height=0", b"Q0", FOUND),
+    (
+        b"/abci_query?data=\"abcd\"&height=12&replica=3",
+        b"H3Q3",
+        FOUND,
+    ),
+    (
+        b"/abci_query?data=\"abcd\"&height=11",
+        b"H0",
+        NOT_LAST_HEIGHT,
+    ),
+    (b"/block?height=1", b"B0", EMPTY_BLOCK),
+    (b"/block?height=4096", b"B0", BLOCK),
+    (b"/block?height=0", b"B0", NOT_COMMITTED),
+    (b"/block", b"H0B0", NOT_COMMITTED),
+    (b"/num_unconfirmed_txs", b"P0", UNCONFIRMED),
+    (
+        b"/broadcast_tx_sync?tx=\"name=satoshi\"&replica=3",
+        b"S3A3",
+        SYNC,
+    ),
+    (
+        b"/broadcast_tx_commit?tx=\"name=satoshi\"",
+        b"S0A0W0",
+        TIMED_OUT,
+    ),
+    (b"/metrics", b"M0M1M2M3", ALL_METRICS),
+    (b"/metrics?replica=2", b"M2", METRICS_OF_2),
+    (b"/metrics?replica=4", b"", NO_REPLICA),
+    (b"/health?replica=255", b"", NO_REPLICA),
+];
+
+#[test]
+fn each_question_has_its_exchanges_and_its_reply(rt: HostRuntime) {
+    let mut targets = Fake::new(rt.alloc());
+    assert_eq!(rt; first_wrong(rt.alloc(), &mut targets, &QUESTIONS), None);
+}
+
+const FAULTS: [Case<'static>; 3] = [
+    (b"/abci_query", b"", WRONG),
+    (b"/nothing", b"", NOT_FOUND),
+    (b"/ \x00", b"", MALFORMED),
+];
+
+#[test]
+fn a_fault_asks_nothing(rt: HostRuntime) {
+    let mut targets = Fake::new(rt.alloc());
+    assert_eq!(rt; first_wrong(rt.alloc(), &mut targets, &FAULTS), None);
+    assert!(rt;
+        is_reply(
+            rt.alloc(),
+            &mut targets,
+            b"POST /health HTTP/1.1\r\n\r\n",
+            b"",
+            METHOD
+        )
+    );
+}
+
+#[test]
+fn the_block_at_the_committed_height_is_the_last(rt: HostRuntime) {
+    let mut targets = Fake::new(rt.alloc());
+    targets.height = 4096;
+    assert!(rt;
+        is_answer(
+            rt.alloc(),
+            &mut targets,
+            b"/block?replica=1",
+            b"H1B1",
+            BLOCK
+        )
+    );
+}
+
+#[test]
+fn a_query_that_comes_after_the_next_block_is_refused(rt: HostRuntime) {
+    let mut targets = Fake::new(rt.alloc());
+    targets.found_height = 13;
+    let query = b"/abci_query?data=\"abcd\"&height=12";
+    assert!(rt; is_answer(rt.alloc(), &mut targets, query, b"H0Q0", NOT_LAST_HEIGHT));
+}
+
+/// The first of the refusals of a submit that goes wrong: its reply to `broadcast_tx_sync`, and that to `broadcast_tx_commit`.
+fn first_wrong_refusal(alloc: Global, targets: &mut Fake) -> Option<&'static str> {
+    for (refusal, sync, commit) in [
+        (SubmitRefusal::Empty, EMPTY, EMPTY),
+        (SubmitRefusal::TooLong, LONG, LONG),
+        (SubmitRefusal::Duplicate, DUPLICATE, DUPLICATE),
+        (SubmitRefusal::Full, FULL, FULL),
+        (SubmitRefusal::Rejected(7), REJECTED, REJECTED_COMMIT),
+    ] {
+        targets.submitted = Ok(Err(refusal));
+        if let Some(wrong) = first_wrong(
+            alloc,
+            targets,
+            &[
+                (b"/broadcast_tx_sync?tx=\"name=satoshi\"", b"S0", sync),
+                (b"/broadcast_tx_commit?tx=\"name=satoshi\"", b"S0", commit),
+            ],
+        ) {
+            return Some(wrong);
+        }
+    }
+    None
+}
+
+#[test]
+fn what_no_pool_takes_is_not_waited_for(rt: HostRuntime) {
+    let mut targets = Fake::new(rt.alloc());
+    assert_eq!(rt; first_wrong_refusal(rt.alloc(), &mut targets), None);
+}
+
+/// The first of what becomes of a transaction that goes wrong.
+fn first_wrong_delivery(alloc: Global, targets: &mut Fake) -> Option<&'static str> {
+    targets.submitted = Ok(Ok(39));
+    for (delivery, text) in [
+        (
+            Delivery::Committed {
+                height: Height::new(5),
+                code: 1,
+            },
+            COMMIT,
+        ),
+        (Delivery::TimedOut, TIMED_OUT),
+        (Delivery::Stopping, STOPPING),
+    ] {
+        targets.delivery = delivery;
+        if !is_answer(
+            alloc,
+            targets,
+            b"/broadcast_tx_commit?tx=\"name=satoshi\"",
+            b"S0A0W0",
+            text,
+        ) {
+            return Some(text);
+        }
+    }
+    None
+}
+
+#[test]
+fn what_a_pool_takes_is_waited_for(rt: HostRuntime) {
+    let mut targets = Fake::new(rt.alloc());
+    assert_eq!(rt; first_wrong_delivery(rt.alloc(), &mut targets), None);
+}
+
+/// The first reply to a replica's fault that goes wrong.
+fn first_wrong_fault(alloc: Global, targets: &mut Fake) -> Option<&'static str> {
+    for (fault, text) in [
+        (TargetFault::HistoryFull, HISTORY_FULL),
+        (TargetFault::NoMemory, NO_MEMORY),
+    ] {
+        targets.fault = Some(fault);
+        targets.submitted = Err(fault);
+        if let Some(wrong) = first_wrong(
+            alloc,
+            targets,
+            &[
+                (b"/abci_query?data=\"abcd\"", b"Q0", text),
+                (b"/abci_query?data=\"abcd\"&height=12", b"H0Q0", text),
+                (b"/block?height=1", b"B0", text),
+                (b"/broadcast_tx_sync?tx=\"a\"", b"S0", text),
+                (b"/broadcast_tx_commit?tx=\"a\"", b"S0", text),
+            ],
+        ) {
+            return Some(wrong);
+        }
+    }
+    None
+}
+
+#[test]
+fn the_fault_of_a_replica_is_a_reply(rt: HostRuntime) {
+    let mut targets = Fake::new(rt.alloc());
+    assert_eq!(rt; first_wrong_fault(rt.alloc(), &mut targets), None);
+}
+
+#[test]
+fn a_head_that_is_cut_is_a_fault(rt: HostRuntime) {
+    let mut targets = Fake::new(rt.alloc());
+    let cut = b"GET /health HTTP/1.1\r\n";
+    assert!(rt; is_reply(rt.alloc(), &mut targets, cut, b"", INCOMPLETE));
+}
+
+/// Whether a head of this many bytes is answered as too long, and how many of `most` bytes are then left unread.
+fn left_of_long(alloc: Global, len: usize) -> Option<usize> {
+    let mut input = b"GET /".to_vec(alloc).ok()?;
+    input.resize(len, b'a').ok()?;
+    let mut reader = SlowReader::new(&input, false);
+    let mut output = SlowWriter::new(alloc, usize::MAX);
+    let mut targets = Fake::new(alloc);
+    if ends(alloc, &mut reader, &mut output, &mut targets) != End::Answered
+        || output.bytes.as_slice() != TOO_LONG.as_bytes()
+    {
+        return None;
+    }
+    Some(reader.left())
+}
+
+#[test]
+fn a_head_that_is_too_long_is_not_read_to_its_end(rt: HostRuntime) {
+    assert_eq!(rt; left_of_long(rt.alloc(), 10_000), Some(10_000 - 8193));
+}
+
+/// How a connection ends whose input is these bytes and then the end or a fault, and whose output fails after `room` bytes; with the
+/// number of bytes that were written, and the calls.
+fn ending(alloc: Global, input: &[u8], fails: bool, room: usize) -> (End, usize, usize) {
+    let mut reader = SlowReader::new(input, fails);
+    let mut output = SlowWriter::new(alloc, room);
+    let mut targets = Fake::new(alloc);
+    let end = ends(alloc, &mut reader, &mut output, &mut targets);
+    (end, output.bytes.len(), targets.calls.len())
+}
+
+#[test]
+fn a_silent_client_gets_nothing(rt: HostRuntime) {
+    assert!(rt; ending(rt.alloc(), b"", false, 9) == (End::Silent, 0, 0));
+}
+
+#[test]
+fn a_failed_read_asks_nothing_and_writes_nothing(rt: HostRuntime) {
+    assert!(rt; ending(rt.alloc(), b"", true, 9) == (End::Read, 0, 0));
+    assert!(rt; ending(rt.alloc(), b"GET /status HTT", true, 9) == (End::Read, 0, 0));
+}
+
+#[test]
+fn a_failed_write_leaves_a_prefix_of_the_reply(rt: HostRuntime) {
+    let head = b"GET /status HTTP/1.1\r\n\r\n";
+    assert!(rt; ending(rt.alloc(), head, true, 0) == (End::Write, 0, 2));
+    assert!(rt; ending(rt.alloc(), head, false, 40) == (End::Write, 40, 2));
+}
+
+#[test]
+fn the_page_asks_nothing(rt: HostRuntime) {
+    let head = b"GET / HTTP/1.0\r\n\r\n";
+    assert!(rt; ending(rt.alloc(), head, true, usize::MAX) == (End::Answered, 5266, 0));
+}

@@ -1,0 +1,103 @@
+#!/usr/bin/env bash
+# HTTP of the built program `abft serve`, by curl and by Python's sockets. The last line is `N passed, M failed`.
+set -u
+cd "$(dirname "$0")/.." || exit 1
+. tests/harness.sh
+build abft --help
+abft=$built
+
+# starts OPTIONS..: a server that runs until the file descriptor 9 is closed; sets `port` and `http` to its ports
+starts() {
+    mkfifo "$room/input"
+    "$abft" serve --http 0 --tree 10 --base-ms 50 --rounds 100000 --sessions 1000 --stop-at-eof --quiet "$@" \
+        <"$room/input" >"$room/served" 2>"$room/faults" &
+    server=$!
+    exec 9>"$room/input"
+    for _ in {1..600}; do
+        [ "$(wc -l <"$room/served")" -ge 2 ] && break
+        sleep 0.1
+    done
+    port=$(sed -n 's/^listening //p' "$room/served")
+    http=$(sed -n 's/^http //p' "$room/served")
+    at="http://127.0.0.1:$http"
+    ask="python3 tests/http_clients.py $http"
+}
+
+# ends: closes the input of the server, and sets `ended` to its status
+ends() {
+    exec 9>&-
+    wait "$server"
+    ended=$?
+    rm "$room/input"
+}
+
+satoshi=57D835FBBA0DBF922D8A2EDA56922C9B24E7760927F245A7684A736C4769DB8A
+starts
+
+# The tutorial of CometBFT's key-value store.
+runs 'a transaction is committed' 0 "0 0 $satoshi 0"$'\n' \
+    "$ask fields '/broadcast_tx_commit?tx=\"name=satoshi\"' check_tx.code deliver_tx.code hash abft.replica"
+runs 'by curl, as the tutorial writes it' 0 $'{"check_tx":{"code":0,' \
+    "curl -s '$at/broadcast_tx_commit?tx=\"abcd\"' | grep -o '{\"check_tx\":{\"code\":0,' | tr -d '\\n'"
+runs 'its value is found' 0 $'exists b\'name\' b\'satoshi\'\n' "$ask value '/abci_query?data=\"name\"'"
+runs 'its value by curl' 0 '"value":"c2F0b3NoaQ=="' "curl -s '$at/abci_query?data=\"name\"' | grep -o '\"value\":\"[^\"]*\"' | tr -d '\\n'"
+runs 'a key without a value' 0 $'does not exist b\'nobody\' None\n' "$ask value '/abci_query?data=\"nobody\"'"
+runs 'a key in hexadecimal digits' 0 $'exists b\'name\' b\'satoshi\'\n' "$ask value '/abci_query?data=0x6e616d65'"
+runs 'the height 0 is the last' 0 $'exists b\'name\' b\'satoshi\'\n' "$ask value '/abci_query?data=\"name\"&height=0'"
+runs 'another height' 0 $'400 -32602 the application answers as of its last block alone\n' "$ask error '/abci_query?data=\"name\"&height=4000'"
+
+# What is asked of a replica.
+runs 'a status' 0 $'abft replica 0 False 0\n' "$ask fields /status node_info.network node_info.moniker sync_info.catching_up abft.replica"
+runs 'the status of another' 0 $'replica 3 3\n' "$ask fields '/status?replica=3' node_info.moniker abft.replica"
+runs 'no such replica' 0 $'400 -32602 the cluster has no such replica\n' "$ask error '/status?replica=4'"
+runs 'the first block' 0 $'1 YT0x\n' "$ask fields '/block?height=1' block.header.height block.data.txs.0"
+runs 'no block at height 0' 0 $'500 -32603 the replica has not committed this height\n' "$ask error '/block?height=0'"
+runs 'no block above the last' 0 $'500 -32603 the replica has not committed this height\n' "$ask error '/block?height=4096'"
+runs 'the application' 0 $'kvstore\n' "$ask fields /abci_info response.data"
+runs 'its hash has 32 bytes' 0 $'32\n' "$ask fields /abci_info response.last_block_app_hash | base64 -d | wc -c"
+runs 'nothing waits' 0 $'0 0 0 None\n' "$ask fields /num_unconfirmed_txs n_txs total total_bytes txs"
+runs 'a whole reply' 0 $'HTTP/1.1 200 OK\r\nContent-Type: application/json\r\nContent-Length: 37\r\nConnection: close\r\n\r\n{"jsonrpc":"2.0","id":-1,"result":{}}' \
+    "curl -si $at/health"
+runs 'the page' 0 $'<!DOCTYPE html>\n' "curl -s $at/ | sed -n 1p"
+
+# Transactions.
+runs 'a transaction for the pool' 0 $'0  3\n' "$ask fields '/broadcast_tx_sync?tx=\"b=2\"&replica=3' code data abft.replica"
+runs 'an empty one' 0 $'400 -32602 the transaction has no byte\n' "$ask error '/broadcast_tx_sync?tx=\"\"'"
+runs 'one of 65 bytes' 0 $'400 -32602 the transaction has more than 64 bytes\n' \
+    "$ask error '/broadcast_tx_commit?tx=\"$(printf 'x%.0s' {1..65})\"'"
+runs 'no parameter' 0 $'400 -32602 the parameter tx is missing or wrong\n' "$ask error /broadcast_tx_commit"
+
+# Prometheus.
+runs 'metrics of all replicas' 0 $'replicas: 0 1 2 3\n' "$ask metrics"
+runs 'metrics of one' 0 $'replicas: 2\n' "$ask metrics '/metrics?replica=2'"
+
+# Clients that are no good.
+runs 'no HTTP' 0 $'HTTP/1.1 400 Bad Request\n' "$ask bytes 00010203ff"
+runs 'a request of the binary protocol' 0 $'HTTP/1.1 400 Bad Request\n' "$ask bytes 000103"
+runs 'half a head' 0 $'HTTP/1.1 400 Bad Request\n' "$ask bytes 474554202f6865616c7468"
+runs 'a client that sends nothing' 0 $'\n' "$ask bytes ''"
+runs 'a long head' 0 $'HTTP/1.1 431 Request Header Fields Too Large\n' "$ask bytes $(printf '61%.0s' {1..20000})"
+runs 'no such path' 0 $'404 -32601 no such path\n' "$ask error /nothing"
+runs 'another method' 0 $'405\n' "curl -s -o /dev/null -w '%{http_code}\\n' -X DELETE $at/status"
+runs 'a body is not read' 0 $'405\n' "curl -s -o /dev/null -w '%{http_code}\\n' -d 'name=satoshi' $at/broadcast_tx_commit"
+runs 'a head that never ends' 0 $'ended in time\n' "$ask cut"
+runs 'two hundred that sleep' 0 $'200 at once\nsilent: {\'\'}\ncut: HTTP/1.1 400 Bad Request\nclosed in time\n' "$ask crowd 200"
+runs 'one after another' 0 $'many\n' "$ask steady 5"
+runs 'then all is as before' 0 $'exists b\'name\' b\'satoshi\'\n' "$ask value '/abci_query?data=\"name\"'"
+ends
+runs 'the end of the input ends it' 0 $'0\nledger\n' "echo $ended; sed -n 's/^\\(ledger\\) .*/\\1/p' '$room/served'"
+runs 'it tells nothing but its ports and its end' 0 $'listening\nhttp\ncommits\ncommits\ncommits\ncommits\nledger\n' \
+    "sed '/^[0-9]/d; s/ .*//' '$room/served'; cat '$room/faults'"
+
+# Rounds that are over: HTTP alone keeps nothing up.
+mkfifo "$room/input"
+runs 'no session is waited for but those of the binary protocol' 0 $'http\ncommits\ncommits\ncommits\ncommits\nledger\n' \
+    "(exec 8<>'$room/input'; '$abft' serve --http 0 --base-ms 20 --rounds 8 --sessions 1 --quiet >'$room/served' & sleep 3
+    python3 -c 'import socket, sys; socket.create_connection((\"127.0.0.1\", int(sys.argv[1]))).close()' \$(sed -n 's/^listening //p' '$room/served'); wait)
+    sed '1d; /^[0-9]/d; s/ .*//' '$room/served'"
+runs 'a port that is taken' 0 $'3 \n' "python3 -c 'if 1:
+    import socket, subprocess, sys
+    taken = socket.create_server((\"127.0.0.1\", 0))
+    done = subprocess.run([sys.argv[1], \"serve\", \"--http\", str(taken.getsockname()[1])], capture_output=True, text=True)
+    print(done.returncode, done.stdout)' '$abft'"
+finish

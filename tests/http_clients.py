@@ -1,0 +1,153 @@
+#!/usr/bin/env python3
+"""What tests/http.sh asks of a running server: tests/http_clients.py PORT WHAT [ARGUMENTS].
+
+    fields PATH NAME..     the fields of these names in the JSON of a reply, which has status 200
+    error PATH             the status, and the error of the JSON of a reply
+    metrics [PATH]         whether the reply is text of Prometheus' format 0.0.4, and of how many replicas each metric is
+    bytes HEX              the first line of the reply to these bytes, after which the client closes its side
+    crowd COUNT            how many clients that send nothing are open while another is answered
+    cut                    how long a client is read that sends a head byte by byte, and never its end
+    steady SECONDS         how many requests are answered, one after the other, by one client after another
+"""
+import base64
+import json
+import re
+import socket
+import sys
+import time
+import urllib.error
+import urllib.request
+
+PORT = int(sys.argv[1])
+METRICS = ["abft_rounds", "abft_height", "abft_signatures_left", "abft_pool_transactions", "abft_history_entries"]
+
+
+def connect():
+    return socket.create_connection(("127.0.0.1", PORT), timeout=20)
+
+
+def get(path):
+    """The status, the type and the body of a reply."""
+    try:
+        with urllib.request.urlopen(f"http://127.0.0.1:{PORT}{path}", timeout=20) as reply:
+            return reply.status, reply.headers["Content-Type"], reply.read()
+    except urllib.error.HTTPError as error:
+        return error.code, error.headers["Content-Type"], error.read()
+
+
+def rest_of(stream):
+    """What comes until the server closes the connection."""
+    data = b""
+    while piece := stream.recv(65536):
+        data += piece
+    return data
+
+
+def ask(data):
+    """The reply to these bytes, after which the client closes its side."""
+    with connect() as stream:
+        stream.sendall(data)
+        stream.shutdown(socket.SHUT_WR)
+        return rest_of(stream)
+
+
+def fields(path, *names):
+    status, kind, body = get(path)
+    assert (status, kind) == (200, "application/json"), (status, kind, body)
+    result = json.loads(body)["result"]
+    found = []
+    for name in names:
+        value = result
+        for part in name.split("."):
+            value = value[int(part)] if isinstance(value, list) else value[part]
+        found.append(str(value))
+    print(" ".join(found))
+
+
+def error(path):
+    status, kind, body = get(path)
+    assert kind == "application/json", kind
+    told = json.loads(body)["error"]
+    print(status, told["code"], told["data"])
+
+
+def metrics(path="/metrics"):
+    """Each metric has one HELP, one TYPE and then its samples, of different labels; and no other line."""
+    status, kind, body = get(path)
+    assert (status, kind) == (200, "text/plain; version=0.0.4; charset=utf-8"), (status, kind)
+    assert body.endswith(b"\n")
+    lines = body.decode("ascii").splitlines()
+    found, labels = [], {}
+    for line in lines:
+        if match := re.fullmatch(r"# HELP ([a-zA-Z_:][a-zA-Z0-9_:]*) (\S.*)", line):
+            found.append(match[1])
+            labels[match[1]] = []
+            state = "help"
+        elif match := re.fullmatch(r"# TYPE (\S+) gauge", line):
+            assert (state, match[1]) == ("help", found[-1]), line
+            state = "type"
+        else:
+            match = re.fullmatch(r'([a-zA-Z_:][a-zA-Z0-9_:]*)\{replica="([0-9]+)"\} ([0-9]+)', line)
+            assert match and state != "help" and match[1] == found[-1], line
+            labels[match[1]].append(int(match[2]))
+            state = "sample"
+    assert found == METRICS, found
+    print("replicas:", *{" ".join(map(str, of)) for of in labels.values()})
+
+
+def crowd(count):
+    """That many clients send nothing, or part of a head, while another is answered."""
+    silent = [connect() for _ in range(int(count))]
+    for stream in silent[::2]:
+        stream.sendall(b"GET /hea")
+    begun = time.monotonic()
+    status, _, _ = get("/health")
+    took = time.monotonic() - begun
+    print(status, "at once" if took < 1 else f"after {took:.1f} s")
+    replies = [rest_of(stream) for stream in silent]
+    whole = time.monotonic() - begun
+    print("silent:", {reply.split(b"\r\n")[0].decode() for reply in replies[1::2]} or "{}")
+    print("cut:", *{reply.split(b"\r\n")[0].decode() for reply in replies[::2]})
+    print("closed", "in time" if 1.5 < whole < 6 else f"after {whole:.1f} s")
+
+
+def cut():
+    """A head that never ends, a byte each 50 milliseconds."""
+    begun = time.monotonic()
+    with connect() as stream:
+        try:
+            for byte in b"GET /health HTTP/1.1\r\nX: " + b"a" * 1000:
+                stream.sendall(bytes([byte]))
+                time.sleep(0.05)
+        except OSError:
+            pass
+    took = time.monotonic() - begun
+    print("ended in time" if 1.5 < took < 20 else f"ended after {took:.1f} s")
+
+
+def steady(seconds):
+    """One request after the other, each by a client of its own."""
+    end, count = time.monotonic() + float(seconds), 0
+    while time.monotonic() < end:
+        status, _, _ = get("/status")
+        assert status == 200
+        count += 1
+    print("many" if count > 100 else count)
+
+
+def value(path):
+    """The key and the value of a query, decoded, and whether there is one."""
+    _, _, body = get(path)
+    response = json.loads(body)["result"]["response"]
+    found = response["value"]
+    print(response["log"], base64.b64decode(response["key"]), found and base64.b64decode(found))
+
+
+def main(what, *arguments):
+    if what == "bytes":
+        print(ask(bytes.fromhex(arguments[0])).split(b"\r\n")[0].decode())
+    else:
+        globals()[what](*arguments)
+
+
+main(*sys.argv[2:])
