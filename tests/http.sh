@@ -39,6 +39,8 @@ runs 'a transaction is committed' 0 "0 0 $satoshi 0"$'\n' \
     "$ask fields '/broadcast_tx_commit?tx=\"name=satoshi\"' check_tx.code deliver_tx.code hash abft.replica"
 runs 'by curl, as the tutorial writes it' 0 $'{"check_tx":{"code":0,' \
     "curl -s '$at/broadcast_tx_commit?tx=\"abcd\"' | grep -o '{\"check_tx\":{\"code\":0,' | tr -d '\\n'"
+again="$ask fields '/broadcast_tx_commit?tx=\"again=1\"' height"
+runs 'the same bytes once more are in a later block' 0 $'later\n' "first=\$($again); second=\$($again); [ \"\$second\" -gt \"\$first\" ] && echo later"
 runs 'its value is found' 0 $'exists b\'name\' b\'satoshi\'\n' "$ask value '/abci_query?data=\"name\"'"
 runs 'its value by curl' 0 '"value":"c2F0b3NoaQ=="' "curl -s '$at/abci_query?data=\"name\"' | grep -o '\"value\":\"[^\"]*\"' | tr -d '\\n'"
 runs 'a key without a value' 0 $'does not exist b\'nobody\' None\n' "$ask value '/abci_query?data=\"nobody\"'"

@@ -23,7 +23,7 @@ pub record IsShown (m : ReplicaMetrics) : Type 0 where
   pub pool : m.pool_transactions ≡ length (pool_of state.config state.id state.entries)
   pub entries : m.history_entries ≡ length state.entries
 
--- a replica with a lawful history had a pool of so many transactions
+-- a replica with a lawful history had this number of transactions in its pool
 pub record IsPooled (size : PoolSize) : Type 0 where
   pub state : StateView
   pub replay : Replay state.config state.ring state.id state.entries
