@@ -216,6 +216,8 @@ refuses "error: unexpected argument '--port' found
 Usage: abft cluster [OPTIONS]
 
 For more information, try '--help'." cluster --port 1
+refuses "error: --log is off, warn, info or debug, not 'loud'" cluster --log loud
+refuses "error: --log is off, warn, info or debug, not ''" serve --quiet --log=
 refuses "error: unexpected value '1' for '--quiet' found; no more were expected
 
 Usage: abft cluster --quiet
@@ -397,7 +399,8 @@ cat >"$room/running" <<'EOT'
       --tx <tx>            The transaction that each pool is given [default: a=1]
       --rounds <rounds>    How many rounds each replica ends, 0 to 4000000000 [default: 40]
       --base-ms <base-ms>  Milliseconds of the first round, 1 to 60000; each later round has one more [default: 200]
-      --quiet              Tells nothing of its progress
+      --log <log>          What standard error is told: off, warn, info or debug [default: info]
+      --quiet              The same as --log off
       --stop-at-eof        Ends the rounds, and the listener, where standard input ends
 EOT
 {
@@ -421,7 +424,7 @@ Then the lines of an audit over the histories of all replicas, as 'abft audit --
   H BATCH      its block at height H, one line for each
 
 With --histories FILE the histories are written to FILE, for 'abft audit <FILE' with the options of the cluster.
-How it stands is told on standard error, unless --quiet is there.
+How it stands is told on standard error, as much as --log says.
 
 Exit status:
   0  the rounds are over, and the audit found a ledger
@@ -469,7 +472,7 @@ Then the lines of an audit over the histories of all replicas, as 'abft audit --
 It ends when the rounds are over and as many connections as --sessions says have ended,
 or where standard input ends if --stop-at-eof is there.
 With --histories FILE the histories are written to FILE, for 'abft audit <FILE' with the options of the cluster.
-How it stands is told on standard error, unless --quiet is there.
+How it stands is told on standard error, as much as --log says.
 docs/OPERATING.md has the rest.
 
 Exit status:
@@ -572,8 +575,17 @@ runs 'a cluster of no rounds' 0 "$none" "'$abft' cluster --rounds 0 --quiet"
 printf '%s' "$none" >"$room/wanted-out"
 printf 'the seed is the default one, which everybody knows: anybody can forge\nthe rounds are over\n' >"$room/wanted-err"
 check 'what its operator is told' 0 "'$abft' cluster --rounds 0"
+check 'what it is told with --log info' 0 "'$abft' cluster --rounds 0 --log=INFO"
+check 'and with debug, where there is no round' 0 "'$abft' cluster --rounds 0 --log debug"
+printf 'the seed is the default one, which everybody knows: anybody can forge\n' >"$room/wanted-err"
+check 'what it is told with --log warn' 0 "'$abft' cluster --rounds 0 --log warn"
 printf 'the cluster was asked to stop\n' >"$room/wanted-err"
 check 'a cluster whose input ends' 0 "'$abft' cluster --seed $ones --rounds 4000000000 --stop-at-eof </dev/null"
+runs 'what it is told with --log off' 0 "$none" "'$abft' cluster --rounds 0 --log off"
+runs 'and with --quiet, whatever --log says' 0 "$none" "'$abft' cluster --rounds 0 --quiet --log debug"
+runs 'each round of each replica with --log debug' 0 "$(for r in 0 1 2 3; do
+    printf 'replica %d ended round 1: blocks 0\nreplica %d ended round 2: blocks 0\n' "$r" "$r"; done)"$'\n' \
+    "'$abft' cluster --rounds 2 --log debug 2>&1 >/dev/null | sed -nE 's/^(replica .*), signatures [0-9]+$/\1/p' | sort"
 faults 'an input of a cluster that is a folder' 3 "$folder" "'$abft' cluster --rounds 0 --stop-at-eof </"
 faults 'an input of a cluster that is closed' 3 "$no_input" "'$abft' cluster --rounds 0 --stop-at-eof <&-"
 faults 'an output of a cluster that is closed' 3 "$closed" "timeout 60 '$abft' cluster --rounds 4000000000 >&-"

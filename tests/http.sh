@@ -32,7 +32,7 @@ ends() {
 }
 
 satoshi=57D835FBBA0DBF922D8A2EDA56922C9B24E7760927F245A7684A736C4769DB8A
-starts
+starts --histories "$room/histories"
 
 # The tutorial of CometBFT's key-value store.
 runs 'a transaction is committed' 0 "0 0 $satoshi 0"$'\n' \
@@ -71,12 +71,17 @@ runs 'no parameter' 0 $'400 -32602 the parameter tx is missing or wrong\n' "$ask
 
 # Prometheus.
 runs 'metrics of all replicas' 0 $'replicas: 0 1 2 3\n' "$ask metrics"
+runs 'counts of frames, for the end' 0 '' "curl -s '$at/metrics' >'$room/scraped'"
 runs 'metrics of one' 0 $'replicas: 2\n' "$ask metrics '/metrics?replica=2'"
+
+# A client that was written for CometBFT.
+runs "CometBFT's client reads each answer" 0 $'14 calls\n' "python3 tests/comet_client.py $http"
 
 # Clients that are no good.
 runs 'no HTTP' 0 $'HTTP/1.1 400 Bad Request\n' "$ask bytes 00010203ff"
 runs 'a request of the binary protocol' 0 $'HTTP/1.1 400 Bad Request\n' "$ask bytes 000103"
 runs 'half a head' 0 $'HTTP/1.1 400 Bad Request\n' "$ask bytes 474554202f6865616c7468"
+runs 'what follows a head' 0 $'HTTP/1.1 200 OK\n' "$ask bytes 474554202f6865616c746820485454502f312e310d0a0d0a$(printf '78%.0s' {1..9000})"
 runs 'a client that sends nothing' 0 $'\n' "$ask bytes ''"
 runs 'a long head' 0 $'HTTP/1.1 431 Request Header Fields Too Large\n' "$ask bytes $(printf '61%.0s' {1..20000})"
 runs 'no such path' 0 $'404 -32601 no such path\n' "$ask error /nothing"
@@ -87,6 +92,7 @@ runs 'two hundred that sleep' 0 $'200 at once\nsilent: {\'\'}\ncut: HTTP/1.1 400
 runs 'one after another' 0 $'many\n' "$ask steady 5"
 runs 'then all is as before' 0 $'exists b\'name\' b\'satoshi\'\n' "$ask value '/abci_query?data=\"name\"'"
 ends
+runs 'the counts are those of the histories' 0 $'frames accepted and ignored: some\n' "$ask counts '$room/scraped' '$room/histories'"
 runs 'the end of the input ends it' 0 $'0\nledger\n' "echo $ended; sed -n 's/^\\(ledger\\) .*/\\1/p' '$room/served'"
 runs 'it tells nothing but its ports and its end' 0 $'listening\nhttp\ncommits\ncommits\ncommits\ncommits\nledger\n' \
     "sed '/^[0-9]/d; s/ .*//' '$room/served'; cat '$room/faults'"

@@ -3,13 +3,15 @@
 
     fields PATH NAME..     the fields of these names in the JSON of a reply, which has status 200
     error PATH             the status, and the error of the JSON of a reply
-    metrics [PATH]         whether the reply is text of Prometheus' format 0.0.4, and of how many replicas each metric is
+    metrics [PATH]         whether the reply is text of Prometheus' format 0.0.4, and of which replicas each metric is
+    counts TEXT HISTORIES  whether the counts of frames in the text of a reply are those of the histories that the server wrote at its end
     bytes HEX              the first line of the reply to these bytes, after which the client closes its side
     crowd COUNT            how many clients that send nothing are open while another is answered
     cut                    how long a client is read that sends a head byte by byte, and never its end
     steady SECONDS         how many requests are answered, one after the other, by one client after another
 """
 import base64
+import collections
 import json
 import re
 import socket
@@ -18,8 +20,22 @@ import time
 import urllib.error
 import urllib.request
 
+sys.dont_write_bytecode = True
+from hostile import CAUSES  # noqa: E402
+from records import read_histories  # noqa: E402
+
 PORT = int(sys.argv[1])
-METRICS = ["abft_rounds", "abft_height", "abft_signatures_left", "abft_pool_transactions", "abft_history_entries"]
+# The type and the labels of each metric.
+METRICS = {
+    "abft_rounds": ("gauge", ["replica"]),
+    "abft_height": ("gauge", ["replica"]),
+    "abft_signatures_left": ("gauge", ["replica"]),
+    "abft_pool_transactions": ("gauge", ["replica"]),
+    "abft_history_entries": ("gauge", ["replica"]),
+    "abft_frames_lost_total": ("counter", ["replica"]),
+    "abft_frames_accepted_total": ("counter", ["replica"]),
+    "abft_frames_ignored_total": ("counter", ["replica", "cause"]),
+}
 
 
 def connect():
@@ -71,28 +87,60 @@ def error(path):
     print(status, told["code"], told["data"])
 
 
-def metrics(path="/metrics"):
-    """Each metric has one HELP, one TYPE and then its samples, of different labels; and no other line."""
-    status, kind, body = get(path)
-    assert (status, kind) == (200, "text/plain; version=0.0.4; charset=utf-8"), (status, kind)
-    assert body.endswith(b"\n")
-    lines = body.decode("ascii").splitlines()
-    found, labels = [], {}
-    for line in lines:
+def read_metrics(text):
+    """The numbers of each metric by the values of its labels. Each metric has one HELP, one TYPE and then its samples, all of the same
+    labels, and no two of the same values; there is no other line."""
+    assert text.endswith("\n")
+    found, state = {}, None
+    for line in text.splitlines():
         if match := re.fullmatch(r"# HELP ([a-zA-Z_:][a-zA-Z0-9_:]*) (\S.*)", line):
-            found.append(match[1])
-            labels[match[1]] = []
+            name = match[1]
+            assert name not in found, line
+            found[name] = {}
             state = "help"
-        elif match := re.fullmatch(r"# TYPE (\S+) gauge", line):
-            assert (state, match[1]) == ("help", found[-1]), line
+        elif match := re.fullmatch(r"# TYPE (\S+) (\S+)", line):
+            assert (state, match[1], match[2]) == ("help", name, METRICS[name][0]), line
             state = "type"
         else:
-            match = re.fullmatch(r'([a-zA-Z_:][a-zA-Z0-9_:]*)\{replica="([0-9]+)"\} ([0-9]+)', line)
-            assert match and state != "help" and match[1] == found[-1], line
-            labels[match[1]].append(int(match[2]))
+            match = re.fullmatch(r'([a-zA-Z_:][a-zA-Z0-9_:]*)\{((?:[a-z]+="[A-Za-z0-9]+",?)+)\} ([0-9]+)', line)
+            assert match and state != "help" and match[1] == name, line
+            labels = [label.split("=") for label in match[2].split(",")]
+            assert [label for label, _ in labels] == METRICS[name][1], line
+            values = tuple(value.strip('"') for _, value in labels)
+            assert values not in found[name], line
+            found[name][values] = int(match[3])
             state = "sample"
-    assert found == METRICS, found
-    print("replicas:", *{" ".join(map(str, of)) for of in labels.values()})
+    assert list(found) == list(METRICS), list(found)
+    return found
+
+
+def metrics(path="/metrics"):
+    status, kind, body = get(path)
+    assert (status, kind) == (200, "text/plain; version=0.0.4; charset=utf-8"), (status, kind)
+    found = read_metrics(body.decode("ascii"))
+    replicas = [values[0] for values in found["abft_rounds"]]
+    for name, samples in found.items():
+        causes = [[cause] for cause in CAUSES.values()] if "cause" in METRICS[name][1] else [[]]
+        assert list(samples) == [(replica, *cause) for replica in replicas for cause in causes], name
+    print("replicas:", *replicas)
+
+
+def counts(text, histories):
+    """Each replica's counts are those of the first entries of its history, as many as it then had."""
+    with open(text, encoding="ascii") as file:
+        found = read_metrics(file.read())
+    with open(histories, "rb") as file:
+        written = read_histories(file.read())
+    answers = collections.Counter()
+    for (replica,), length in found["abft_history_entries"].items():
+        entries = written[int(replica)][:length]
+        assert len(entries) == length, replica
+        whys = collections.Counter(entry.why for entry in entries if entry.kind == "deliver")
+        assert found["abft_frames_accepted_total"][replica,] == whys[0], (replica, whys)
+        for why, cause in CAUSES.items():
+            assert found["abft_frames_ignored_total"][replica, cause] == whys[why], (replica, cause, whys)
+        answers += whys
+    print("frames accepted and ignored:", "some" if answers[0] > 0 and len(answers) > 1 else answers)
 
 
 def crowd(count):

@@ -23,7 +23,7 @@ SOURCE = r"""
 static unsigned long spare[3], *calls = spare;
 static unsigned long refused[64], refused_count, refused_from, read_fails_at, write_fails_at, at_most;
 /* A thread's number from 1 on, in the order in which they are made, and the allocations that it has made. */
-static unsigned long threads, sleeper, sleeps_at, sleeps_for;
+static unsigned long threads, sleeper, sleeps_at, sleeps_for, has_slept;
 static __thread unsigned long thread, allocations;
 static int (*next_create)(pthread_t *, const pthread_attr_t *, void *(*)(void *), void *);
 static void *(*next_malloc)(size_t);
@@ -101,7 +101,8 @@ int pthread_create(pthread_t *made, const pthread_attr_t *how, void *(*body)(voi
 }
 
 static void sleep_if_due(void) {
-    if (thread == 0 || thread != sleeper || ++allocations != sleeps_at) return;
+    if (thread == 0 || (sleeper != 0 && thread != sleeper) || ++allocations != sleeps_at) return;
+    if (__sync_lock_test_and_set(&has_slept, 1)) return;
     struct timespec left = {sleeps_for, 0};
     while (nanosleep(&left, &left)) {}
 }
@@ -151,8 +152,8 @@ class Refusing:
     def run(self, words, data, counts=None, **limits):
         """What a run answers and how many allocations, reads and writes it made. Limits are REFUSED (up to 64 allocations that are refused,
         separated by commas), REFUSED_FROM (that one is, and all later ones), READ_FAILS_AT, WRITE_FAILS_AT, AT_MOST (the bytes of a read
-        or a write), and SLEEPER (the thread that was made as that one, from 1 on), which at its allocation SLEEPS_AT sleeps for SLEEPS_FOR
-        seconds."""
+        or a write), and SLEEPER (the thread that was made as that one, from 1 on; without it the first that comes so far), which at its
+        allocation SLEEPS_AT sleeps for SLEEPS_FOR seconds."""
         counts = counts or self.counts
         # Files and no pipes: of a pipe nobody knows how much a read takes, and a million short writes to one would wake its reader each time.
         with open(counts, "w+b") as file, tempfile.TemporaryFile() as given, tempfile.TemporaryFile() as printed:

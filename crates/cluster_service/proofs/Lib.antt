@@ -1,5 +1,6 @@
 mod Begun
 mod Delivering
+mod FrameCountLemmas
 mod Taken
 mod RunFaultLemmas
 pub mod ReportingLemmas

@@ -1,5 +1,5 @@
 -- What became of a transaction, by a replica's history.
-use Rattle.std.specs.Prelude.{ℕ, List, [], ◌∷◌, position, slice_get, Option, Some, None, option_and_then, option_map, Ok, ◌≡◌, drop}
+use Rattle.std.specs.Prelude.{ℕ, ◌≤◌, List, [], ◌∷◌, position, slice_get, Option, Some, None, option_and_then, option_map, Ok, ◌≡◌, drop}
 use Rattle.std.specs.Str.{bytes_eq}
 use Rattle.ledger_model.specs.Commits.{commits_of}
 use Rattle.ledger_model.specs.Lawful.{Replay}
@@ -33,9 +33,11 @@ abbrev pub delivered_in : List Value → List Entry → List ℕ → Option (ℕ
 delivered_in batches [] tx = None
 delivered_in batches (e ∷ es) tx = first_of (delivered_by batches e.reply tx) (delivered_in batches es tx)
 
--- a replica with a lawful history had run a block at this height that has the transaction, for which the application returned this code
-pub record IsDelivered (tx : List ℕ) (height code : ℕ) : Type 0 where
+-- a replica with a lawful history had run a block at this height, by the entry with this index or a later one; the block has the
+-- transaction, and the application returned this code for it
+pub record IsDelivered (tx : List ℕ) (index height code : ℕ) : Type 0 where
   pub state : StateView
   pub replay : Replay state.config state.ring state.id state.entries
   pub after : ℕ
+  pub later : index ≤ after
   pub found : delivered_in (commits_of state.config state.id state.entries) (drop after state.entries) tx ≡ Some (height, code)

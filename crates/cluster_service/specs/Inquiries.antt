@@ -1,5 +1,6 @@
 -- What a running replica answers to HTTP alone, by that replica as it was then.
 use Rattle.std.specs.Prelude.{◌≡◌, ℕ, ◌+◌, ⊤, List, length}
+use Rattle.http_replies.specs.FrameCounts.{ignored_for}
 use Rattle.http_replies.specs.declared.metrics.ReplicaMetrics.{ReplicaMetrics}
 use Rattle.http_sessions.specs.declared.targets.AppInfo.{AppInfo}
 use Rattle.http_sessions.specs.declared.targets.Delivery.{Delivery}
@@ -9,11 +10,13 @@ use Rattle.http_sessions.specs.Exchanges.{Inquiry, Shows, Pools, Infos, Spreads,
 use Rattle.key_ring.specs.Signers.{leaves_of}
 use Rattle.ledger_model.specs.Commits.{commits_of, pool_of}
 use Rattle.ledger_model.specs.Lawful.{Replay, clock_at}
+use Rattle.ledger_model.specs.declared.reply.Ignored.{Ignored}
 use Rattle.locked_replica.specs.States.{StateView}
 use Rattle.replica_core.specs.Facts.{info_reply}
 use Rattle.cluster_service.specs.Deliveries.{IsDelivered}
+use Rattle.cluster_service.specs.FrameCounting.{accepted_in, ignored_in}
 
--- a replica with a lawful history showed these numbers
+-- a replica with a lawful history showed these numbers; how many frames its inbox lost isn't in it
 pub record IsShown (m : ReplicaMetrics) : Type 0 where
   pub state : StateView
   pub replay : Replay state.config state.ring state.id state.entries
@@ -22,6 +25,8 @@ pub record IsShown (m : ReplicaMetrics) : Type 0 where
   pub signatures : state.used + m.signatures_left ≡ leaves_of state.secret
   pub pool : m.pool_transactions ≡ length (pool_of state.config state.id state.entries)
   pub entries : m.history_entries ≡ length state.entries
+  pub accepted : m.frames.accepted ≡ accepted_in state.entries
+  pub ignored : (cause : Ignored) → ignored_for m.frames cause ≡ ignored_in cause state.entries
 
 -- a replica with a lawful history had this number of transactions in its pool
 pub record IsPooled (size : PoolSize) : Type 0 where
@@ -34,13 +39,14 @@ pub record IsInfo (info : AppInfo) : Type 0 where
   pub state : StateView
   pub replay : Replay state.config state.ring state.id state.entries
   pub kind : info.kind ≡ state.config.kind
-  pub reply : record { height = info.height; hash = info.hash } ≡ info_reply state.config.kind (commits_of state.config state.id state.entries)
+  pub reply : record { height = info.height; hash = info.hash }
+      ≡ info_reply state.config.kind (commits_of state.config state.id state.entries)
 
--- what became of a transaction; that the wait ended says nothing
-abbrev pub AnswersWait : List ℕ → Delivery → Type 0
-AnswersWait tx (Committed height code) = IsDelivered tx height code
-AnswersWait tx TimedOut = ⊤
-AnswersWait tx Stopping = ⊤
+-- what became of a transaction that the entry with this index submitted; that the wait ended says nothing
+abbrev pub AnswersWait : List ℕ → ℕ → Delivery → Type 0
+AnswersWait tx index (Committed height code) = IsDelivered tx index height code
+AnswersWait tx index TimedOut = ⊤
+AnswersWait tx index Stopping = ⊤
 
 -- the inquiry is of a running cluster; that a transaction was spread says nothing
 abbrev pub IsInquiry : Inquiry → Type 0
@@ -48,4 +54,4 @@ IsInquiry (Shows r m) = IsShown m
 IsInquiry (Pools r size) = IsPooled size
 IsInquiry (Infos r info) = IsInfo info
 IsInquiry (Spreads r tx) = ⊤
-IsInquiry (Waits r tx index delivery) = AnswersWait tx delivery
+IsInquiry (Waits r tx index delivery) = AnswersWait tx index delivery

@@ -1,6 +1,7 @@
 pub mod Replicas
 pub mod Targets
 pub mod Deliveries
+pub mod FrameCounting
 pub mod Inquiries
 pub mod HistoriesFiles
 pub mod Lines

@@ -71,6 +71,7 @@ abbrev pub EndsCluster : Option HistoriesFileView → Option HistoriesFileView �
 EndsCluster empty full before after f = IsReportFault empty f ⊎ (IsRunFault f × (Keeps before after × (full ≡ empty)))
 
 -- The same of a server, which first writes these lines of its ports: by then it has written at most those.
-abbrev pub EndsServer : List ℕ → Option HistoriesFileView → Option HistoriesFileView → Option (List ℕ) → Option (List ℕ) → ProgramFault → Type 0
+abbrev pub EndsServer : List ℕ → Option HistoriesFileView → Option HistoriesFileView → Option (List ℕ) → Option (List ℕ) → ProgramFault
+    → Type 0
 EndsServer ports empty full before after f =
     IsReportFault empty f ⊎ (IsRunFault f × (AppendsSome before after ports × (full ≡ empty)))

@@ -1,6 +1,7 @@
 //! The status of a running cluster's replicas, and the notices that the operator hasn't received yet.
 use crate::notice::Notice;
 use ledger_model::ReplicaId;
+use log::LevelFilter;
 use program_streams::ProgramFault;
 use replica_turns::ReplicaStatus;
 use std::alloc::{AllocError, Global};
@@ -8,6 +9,9 @@ use std::mem;
 
 /// The number of notices for which there is room from the start.
 pub(crate) const FIRST_NOTICES: usize = 32;
+
+/// The number of waiting notices from which on rounds get none, so that an operator who reads nothing costs no memory.
+const MOST_NOTICES: usize = 4096;
 
 /// A replica of which nothing is known.
 const UNKNOWN: ReplicaStatus = ReplicaStatus {
@@ -34,7 +38,9 @@ pub(crate) struct ClusterStatus {
     losses: Vec<bool>,
     /// The greatest height for whose block a notice was added.
     height: u32,
-    /// Whether blocks, mute replicas and nearly full histories get notices. If not, each round of replica 0 is news.
+    /// Which notices are added.
+    filter: LevelFilter,
+    /// Whether what changes at a replica gets notices. If not, each round of replica 0 is news.
     has_log: bool,
     /// Whether no more notices will come.
     is_over: bool,
@@ -44,22 +50,30 @@ pub(crate) struct ClusterStatus {
 
 impl ClusterStatus {
     /// The status of a cluster of `replicas` replicas that hasn't started.
-    pub(crate) fn new(alloc: Global, replicas: u8, has_log: bool) -> Result<Self, AllocError> {
+    pub(crate) fn new(
+        alloc: Global,
+        replicas: u8,
+        filter: LevelFilter,
+        has_log: bool,
+    ) -> Result<Self, AllocError> {
         Ok(ClusterStatus {
             replicas: unknown(alloc, replicas)?,
             // With room for the notices of replicas for which memory runs out.
             notices: Vec::with_capacity(alloc, FIRST_NOTICES)?,
             losses: Vec::from_elem(alloc, false, usize::from(replicas))?,
             height: 0,
+            filter,
             has_log,
             is_over: false,
             fault: None,
         })
     }
 
-    /// Adds a notice, unless memory runs out.
+    /// Adds a notice, unless the operator gets none of its level or memory runs out.
     pub(crate) fn add(&mut self, notice: Notice) {
-        let _ = self.notices.push(notice);
+        if self.filter.allows(notice.level()) {
+            let _ = self.notices.push(notice);
+        }
     }
 
     /// Announces that no further notice will be added. The fault is what ended the cluster, if one did.
@@ -86,6 +100,18 @@ impl ClusterStatus {
         true
     }
 
+    /// Adds a notice of the round that a replica has ended, unless too many notices wait.
+    fn add_round(&mut self, replica: ReplicaId, status: &ReplicaStatus) {
+        if self.notices.len() < MOST_NOTICES {
+            self.add(Notice::Round {
+                replica,
+                round: status.rounds,
+                blocks: status.height,
+                signatures: status.signatures,
+            });
+        }
+    }
+
     /// Adds a notice for each block that this replica is the first to run.
     fn add_blocks(&mut self, replica: ReplicaId, status: &ReplicaStatus) {
         for height in self.height..status.height {
@@ -100,6 +126,9 @@ impl ClusterStatus {
 
     /// Adds notices for what changed at a replica since `before`.
     fn add_changes(&mut self, replica: ReplicaId, before: &ReplicaStatus, after: &ReplicaStatus) {
+        if after.rounds > before.rounds {
+            self.add_round(replica, after);
+        }
         self.add_blocks(replica, after);
         if after.is_mute && !before.is_mute {
             self.add(Notice::Mute {

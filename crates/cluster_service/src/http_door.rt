@@ -13,8 +13,8 @@ pub(crate) const LOOK_MS: u64 = 50;
 /// The look after which a client can send no more: what it has sent in two seconds is its request.
 const HEAD_LOOKS: u32 = 40;
 
-/// The look after which a connection is closed: fifteen seconds.
-const MOST_LOOKS: u32 = 300;
+/// The look after which a connection is closed: 95 seconds, so that a wait for a block can end before.
+const MOST_LOOKS: u32 = 1900;
 
 /// What is shut at a look, from 1 on, at an open connection: first what the client sends, and at last what it receives, too.
 fn shut_at(look: u32) -> Option<Shutdown> {

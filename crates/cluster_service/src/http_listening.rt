@@ -19,7 +19,7 @@ use std::thread::Threads;
 use std::time::{Clock, Duration};
 
 /// The most connections that are served at once. More wait in the listener's queue.
-pub(crate) const HTTP_SEATS: u32 = 256;
+pub(crate) const HTTP_SEATS: u32 = 1024;
 
 /// The most bytes that are read at once of what a client sends after its request.
 const PIECE_LEN: usize = 4096;

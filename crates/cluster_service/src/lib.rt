@@ -15,6 +15,7 @@ mod cluster_status;
 mod deliveries;
 mod door;
 mod final_histories;
+mod frame_counting;
 mod http_door;
 mod http_listening;
 mod lines;

@@ -116,8 +116,11 @@ impl<A: Application, R: Clock + Wait> HttpTargets for LiveTargets<'_, A, R> {
     ghost inquires = { λ _ inquiry _. IsInquiry inquiry };
 
     fn metrics(&mut self, replica: ReplicaId) -> ReplicaMetrics {
+        // One client at a time walks a history, so a replica waits for one walk, not for those of all clients.
+        let _turn = self.entries[usize::from(replica.number())].lock(self.rt);
+        let lost = self.cluster.lost(replica);
         let state = self.cluster.replica(replica).lock(self.rt);
-        metrics_of(replica, &*state)
+        metrics_of(replica, lost, &*state)
     }
 
     fn pool(&mut self, replica: ReplicaId) -> PoolSize {

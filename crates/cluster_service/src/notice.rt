@@ -1,5 +1,6 @@
 //! The notices of a running cluster to its operator, one line each.
 use ledger_model::ReplicaId;
+use log::Level;
 use std::fmt;
 
 /// A notice to the operator.
@@ -9,6 +10,13 @@ pub(crate) enum Notice {
     DefaultSeed,
     /// The keys of this many replicas are being made.
     Keys(u8),
+    /// A replica has ended this round, and has this many blocks and signatures.
+    Round {
+        replica: ReplicaId,
+        round: u32,
+        blocks: u32,
+        signatures: u32,
+    },
     /// A block was run, and this replica was the first to run it.
     Block {
         height: u32,
@@ -37,6 +45,22 @@ pub(crate) enum Notice {
 }
 
 impl Notice {
+    /// How important the notice is.
+    pub(crate) fn level(&self) -> Level {
+        match self {
+            Notice::DefaultSeed
+            | Notice::Mute { .. }
+            | Notice::NearlyFull { .. }
+            | Notice::Loss(_) => Level::Warn,
+            Notice::Round { .. } => Level::Debug,
+            Notice::Keys(_)
+            | Notice::Block { .. }
+            | Notice::RoundsOver
+            | Notice::ServesOn
+            | Notice::Stopped => Level::Info,
+        }
+    }
+
     /// Whether the notice is shown in a terminal's line of progress, and left out of a log.
     pub(crate) fn is_progress(&self) -> bool {
         matches!(self, Notice::Keys(_))
@@ -58,6 +82,12 @@ impl fmt::Display for Notice {
                 "the seed is the default one, which everybody knows: anybody can forge",
             ),
             Notice::Keys(replicas) => write!(f, "making the keys of {replicas} replicas"),
+            Notice::Round {
+                replica,
+                round,
+                blocks,
+                signatures,
+            } => show_round(f, *replica, *round, *blocks, *signatures),
             Notice::Block {
                 height,
                 replica,
@@ -77,6 +107,20 @@ impl fmt::Display for Notice {
             Notice::Stopped => f.write_str("the cluster was asked to stop"),
         }
     }
+}
+
+fn show_round<W: fmt::Write>(
+    f: &mut fmt::Formatter<W>,
+    replica: ReplicaId,
+    round: u32,
+    blocks: u32,
+    signatures: u32,
+) -> fmt::Result {
+    let replica = replica.number();
+    write!(
+        f,
+        "replica {replica} ended round {round}: blocks {blocks}, signatures {signatures}"
+    )
 }
 
 fn show_block<W: fmt::Write>(

@@ -4,6 +4,7 @@ use crate::cluster_status::{FIRST_NOTICES, unknown};
 use crate::notice::Notice;
 use crate::reporting::SharedStatus;
 use byte_streams::write_whole;
+use log::LevelFilter;
 use program_streams::{ProgramFault, complain};
 use replica_turns::ReplicaStatus;
 use settings::ClusterSettings;
@@ -33,6 +34,14 @@ impl<P: Write + Drop> Watcher<P> {
 
     pub(crate) fn is_log(&self) -> bool {
         matches!(self, Watcher::Log(_))
+    }
+
+    /// The same stream, in plain lines unless it is a terminal that is told of progress and no more.
+    fn for_level(self, filter: LevelFilter) -> Self {
+        match self {
+            Watcher::Terminal(writer) if filter != LevelFilter::Info => Watcher::Log(writer),
+            watcher => watcher,
+        }
     }
 }
 
@@ -215,8 +224,8 @@ impl<P: Write + Drop> Reporter<P> {
     }
 }
 
-/// Starts the reporter of a cluster in a detached thread, and returns what it shares with the cluster. If the settings ask for quiet it
-/// writes nothing but the fault that ends the cluster, if one does.
+/// Starts the reporter of a cluster in a detached thread, and returns what it shares with the cluster. It writes the notices that the
+/// settings ask for, and the fault that ends the cluster, if one does.
 pub fn start_reporter<R, P>(
     rt: &R,
     alloc: Global,
@@ -228,7 +237,8 @@ where
     P: Write + Drop + Send + 'static,
 {
     let replicas = settings.cluster.config.replicas;
-    let shared = SharedStatus::new(alloc, replicas, settings.is_quiet, watcher.is_log())?;
+    let watcher = watcher.for_level(settings.log);
+    let shared = SharedStatus::new(alloc, replicas, settings.log, watcher.is_log())?;
     let shared = Arc::new(alloc, shared)?;
     let theirs = Arc::try_clone(&shared)?;
     let reporter = Reporter::new(alloc, watcher, replicas, settings.rounds, theirs)?;

@@ -5,6 +5,7 @@ use crate::cluster_status::ClusterStatus;
 use crate::notice::Notice;
 use cluster_workers::{Bell, TurnGate};
 use ledger_model::ReplicaId;
+use log::{Level, LevelFilter};
 use program_streams::{ProgramFault, STOPPED};
 use replica_turns::ReplicaStatus;
 use std::alloc::{AllocError, Global};
@@ -20,8 +21,8 @@ const LAST_MS: u64 = 1000;
 #[derive(Drop)]
 pub struct SharedStatus {
     status: Mutex<ClusterStatus>,
-    /// Whether the operator gets no notice, but for a fault.
-    is_quiet: bool,
+    /// Which notices the operator gets.
+    filter: LevelFilter,
     /// Rung when there is news.
     news: Bell,
     /// Rung when the reporter has written that the workers have ended.
@@ -35,21 +36,26 @@ impl SharedStatus {
     pub(crate) fn new(
         alloc: Global,
         replicas: u8,
-        is_quiet: bool,
+        filter: LevelFilter,
         has_log: bool,
     ) -> Result<Self, AllocError> {
         Ok(SharedStatus {
-            status: Mutex::new(ClusterStatus::new(alloc, replicas, has_log)?),
-            is_quiet,
+            status: Mutex::new(ClusterStatus::new(alloc, replicas, filter, has_log)?),
+            filter,
             news: Bell::new(),
             over: Bell::new(),
             end: Bell::new(),
         })
     }
 
-    /// Passes a notice to the reporter, unless the operator gets none.
+    /// Whether the operator gets no notice at all, but for a fault.
+    fn is_quiet(&self) -> bool {
+        self.filter == LevelFilter::Off
+    }
+
+    /// Passes a notice to the reporter, unless the operator gets none of its level.
     pub(crate) fn tell<R: Wait>(&self, rt: &R, notice: Notice) {
-        if !self.is_quiet {
+        if self.filter.allows(notice.level()) {
             self.status.lock(rt).add(notice);
             self.news.ring();
         }
@@ -57,14 +63,14 @@ impl SharedStatus {
 
     /// Stores the status of a replica.
     fn note<R: Wait>(&self, rt: &R, replica: ReplicaId, status: ReplicaStatus) {
-        if !self.is_quiet && self.status.lock(rt).note(replica, status) {
+        if !self.is_quiet() && self.status.lock(rt).note(replica, status) {
             self.news.ring();
         }
     }
 
     /// Passes on that a replica lost something since memory ran out, the first time.
     fn note_loss<R: Wait>(&self, rt: &R, replica: ReplicaId) {
-        if !self.is_quiet && self.status.lock(rt).add_loss(replica) {
+        if !self.is_quiet() && self.status.lock(rt).add_loss(replica) {
             self.news.ring();
         }
     }
@@ -86,7 +92,7 @@ impl SharedStatus {
 
     /// Waits until the reporter has written that the workers have ended, at most for a second.
     fn wait_for_end<R: Wait>(&self, rt: &R) {
-        if !self.is_quiet {
+        if self.filter.allows(Level::Info) {
             self.over.sleep(rt, 0, Duration::from_millis(LAST_MS));
         }
     }

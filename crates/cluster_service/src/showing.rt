@@ -3,8 +3,12 @@ ghost use Rattle.std.specs.Prelude.{◌≡◌, ◌+◌, length};
 ghost use Rattle.key_ring.specs.Signers.{leaves_of};
 ghost use Rattle.ledger_model.specs.Commits.{commits_of, pool_of};
 ghost use Rattle.ledger_model.specs.Lawful.{clock_at};
+ghost use Rattle.ledger_model.specs.declared.reply.Ignored.{Ignored};
+ghost use Rattle.http_replies.specs.FrameCounts.{ignored_for};
+ghost use Rattle.cluster_service.specs.FrameCounting.{accepted_in, ignored_in};
 ghost use Rattle.cluster_service.specs.Inquiries.{IsInfo, IsPooled, IsShown};
 
+use crate::frame_counting::frame_counts;
 use abci::Application;
 use batch_pool::Pool;
 use http_replies::ReplicaMetrics;
@@ -12,14 +16,22 @@ use http_sessions::{AppInfo, PoolSize};
 use ledger_model::{Height, ReplicaId};
 use locked_replica::State;
 
-/// The metrics of a replica, under this number.
-pub(crate) fn metrics_of<A: Application>(replica: ReplicaId, state: &State<A>) -> ReplicaMetrics
+/// The metrics of a replica, under this number, with the number of frames that its inbox lost. It looks at each entry of the history to count
+/// the frames in it.
+pub(crate) fn metrics_of<A: Application>(
+    replica: ReplicaId,
+    lost: u64,
+    state: &State<A>,
+) -> ReplicaMetrics
     ensures replica { result.replica ≡ replica }
     ensures rounds { result.rounds ≡ clock_at state.now.entries }
     ensures height { result.height ≡ length (commits_of state.now.config state.now.id state.now.entries) }
     ensures signatures { state.now.used + result.signatures_left ≡ leaves_of state.now.secret }
     ensures pool { result.pool_transactions ≡ length (pool_of state.now.config state.now.id state.now.entries) }
     ensures entries { result.history_entries ≡ length state.now.entries }
+    ensures accepted { result.frames.accepted ≡ accepted_in state.now.entries }
+    ensures ignored { (cause : Ignored) → ignored_for result.frames cause ≡ ignored_in cause state.now.entries }
+    ensures lost { result.frames_lost ≡ lost }
     // The result as HTTP sees it.
     ensures told { IsShown result }
 {
@@ -30,6 +42,8 @@ pub(crate) fn metrics_of<A: Application>(replica: ReplicaId, state: &State<A>) -
         signatures_left: state.leaves_left(),
         pool_transactions: state.waiting() as u64,
         history_entries: state.len() as u64,
+        frames: frame_counts(state),
+        frames_lost: lost,
     }
 }
 

@@ -1,5 +1,5 @@
 //! Waits until a block of a replica has a transaction.
-ghost use Rattle.std.specs.Prelude.{◌≡◌, ◌<◌, IfSome};
+ghost use Rattle.std.specs.Prelude.{◌≡◌, ◌<◌, ◌≤◌, IfSome};
 ghost use Rattle.cluster_service.specs.Deliveries.{IsDelivered};
 ghost use Rattle.cluster_service.specs.Inquiries.{AnswersWait};
 
@@ -16,11 +16,12 @@ use std::time::{Clock, Duration, Instant};
 /// How many milliseconds pass between two looks at the committed height.
 const LOOK_MS: u64 = 20;
 
-/// The number of looks, which take at least ten seconds.
-const MOST_LOOKS: u32 = 500;
+/// The number of looks, which take at least ninety seconds.
+const MOST_LOOKS: u32 = 4500;
 
-/// How long a wait lasts at most: CometBFT's `timeout_broadcast_tx_commit`.
-const MOST_SECS: u64 = 10;
+/// How long a wait lasts at most. A block takes up to 50 rounds, and a round at the end of tall trees' keys some 1.7 seconds, so CometBFT's
+/// ten seconds would end most waits.
+const MOST_SECS: u64 = 90;
 
 /// Whether a wait that began then has lasted too long. If the clock can't be read, the number of looks ends it.
 fn is_over<R: Clock>(rt: &R, start: &Option<Instant>) -> bool {
@@ -33,7 +34,7 @@ fn is_over<R: Clock>(rt: &R, start: &Option<Instant>) -> bool {
     }
 }
 
-/// What a replica's history from the entry `next` on says of the transaction. Then `next` is the entry after the last.
+/// What a replica's history from the entry `next` on says of the transaction. Then `next` is the entry after the last that was looked at.
 fn look<A: Application, R: Wait>(
     rt: &R,
     cluster: &RunningCluster<A>,
@@ -42,15 +43,16 @@ fn look<A: Application, R: Wait>(
     next: &mut usize,
 ) -> Option<(Height, u32)>
     requires { replica < cluster.now.replicas }
-    ensures { IfSome result (λ found. IsDelivered tx.now found.0 found.1) }
+    ensures told { IfSome result (λ found. IsDelivered tx.now next.old found.0 found.1) }
+    ensures next { next.old ≤ next.new }
 {
     let state = cluster.replica(replica).lock(rt);
     let found = delivered_after(&*state, *next, tx);
-    *next = state.len();
+    *next = state.len().max(*next);
     found
 }
 
-/// Waits until a block of the replica has the transaction, at most for ten seconds, or until it is asked to stop. The entry of the submit
+/// Waits until a block of the replica has the transaction, at most for ninety seconds, or until it is asked to stop. The entry of the submit
 /// has this index, so only entries from there on are looked at, and each of them once: after the committed height has risen. No lock is
 /// held in between.
 pub(crate) fn wait_for<A: Application, R: Clock + Wait>(
@@ -65,7 +67,7 @@ pub(crate) fn wait_for<A: Application, R: Clock + Wait>(
     requires board { seat.old.board ≡ cluster.now.board }
     requires replica { replica < cluster.now.replicas }
     ensures board { seat.new.board ≡ seat.old.board }
-    ensures told { AnswersWait tx.now result }
+    ensures told { AnswersWait tx.now index result }
 {
     let start = Instant::now(rt).ok();
     let mut next = index as usize;

@@ -3,6 +3,7 @@ ghost use Rattle.std.specs.Prelude.{◌≡◌, length, vec_len, IfOk};
 ghost use Rattle.std.specs.Arc.{arc_value};
 
 use crate::bell::Bell;
+use crate::losses::Losses;
 use bytes::Bytes;
 use inbox::{Inbox, Item, PuttingPass, TakingPass};
 use ledger_model::ReplicaId;
@@ -25,6 +26,7 @@ pub(crate) struct Sender {
     to: ReplicaId,
     inbox: Arc<Inbox>,
     bell: Arc<Bell>,
+    losses: Arc<Losses>,
     pass: PuttingPass,
     ghost tied: { pass.inbox ≡ arc_value inbox },
 }
@@ -56,7 +58,7 @@ impl Sender {
     }
 
     /// Puts a frame in without copying its bytes, and wakes the taker. Returns false if the frame is lost: the inbox
-    /// was full, or memory ran out.
+    /// was full, which is counted, or memory ran out.
     pub(crate) fn send<R: Wait>(&mut self, rt: &R, frame: &Bytes) -> bool {
         let Ok(bytes) = frame.clone() else {
             return false;
@@ -65,6 +67,8 @@ impl Sender {
         let is_put = self.inbox.put(rt, &mut self.pass, item).is_ok();
         if is_put {
             self.bell.ring();
+        } else {
+            self.losses.add(self.to);
         }
         is_put
     }
@@ -75,6 +79,7 @@ fn new_inbox(
     alloc: Global,
     to: ReplicaId,
     owners: u8,
+    losses: &Arc<Losses>,
 ) -> Result<(Receiver, Vec<Sender>), AllocError> {
     let (inbox, taking, putting) = Inbox::new(alloc, u32::from(owners))?;
     let inbox = Arc::new(alloc, inbox)?;
@@ -85,6 +90,7 @@ fn new_inbox(
             to,
             inbox: Arc::try_clone(&inbox)?,
             bell: Arc::try_clone(&bell)?,
+            losses: Arc::try_clone(losses)?,
             pass,
         })?;
     }
@@ -126,15 +132,19 @@ fn no_senders(alloc: Global, owners: u8) -> Result<Vec<Vec<Sender>>, AllocError>
     Ok(senders)
 }
 
-/// The inboxes of `replicas` replicas.
-pub(crate) fn inboxes_of(alloc: Global, replicas: u8) -> Result<Inboxes, AllocError>
+/// The inboxes of `replicas` replicas, which count the frames that they lose.
+pub(crate) fn inboxes_of(
+    alloc: Global,
+    replicas: u8,
+    losses: &Arc<Losses>,
+) -> Result<Inboxes, AllocError>
     ensures receivers { IfOk result (λ inboxes. vec_len inboxes.receivers ≡ replicas) }
     ensures senders { IfOk result (λ inboxes. vec_len inboxes.senders ≡ replicas) }
 {
     let mut receivers = Vec::with_capacity(alloc, usize::from(replicas))?;
     let mut senders = no_senders(alloc, replicas)?;
     for to in 0..replicas {
-        let (receiver, row) = new_inbox(alloc, ReplicaId::new(to), replicas)?;
+        let (receiver, row) = new_inbox(alloc, ReplicaId::new(to), replicas, losses)?;
         receivers.push(receiver)?;
         add_row(&mut senders, row)?;
     }

@@ -4,7 +4,7 @@
 //! blocks, gives up the heights that all replicas committed, as it reads on the commit board, and ends the rounds that
 //! are due. It changes the replica only by turns, each under the replica's lock, so the invariant behind the lock holds
 //! whatever the threads do: each history is a replay. The frames that a round end sends go into the inboxes of their
-//! addressees; a full inbox loses the frame.
+//! addressees; a full inbox loses the frame, which is counted ([`RunningCluster::lost`]).
 //!
 //! [`RunningCluster::new`] makes a worker for each replica, and what the workers share. [`run_all`] runs each in a
 //! thread of its own until its rounds are over, or a [`Stop`] asks it to end. The workers are generic over a
@@ -13,13 +13,14 @@
 //!
 //! A worker whose replica's history is full drops the waiting frames, takes no more, and only counts its rounds.
 //!
-//! Proved: the worker's decisions, and each turn (`replica_turns`). Only tested: that the workers run concurrently, and
-//! that the cluster commits. Not promised: progress and time.
+//! Proved: the worker's decisions, and each turn (`replica_turns`). Only tested: that the workers run concurrently,
+//! that the cluster commits, and the count of lost frames. Not promised: progress and time.
 #![tactic(auto)]
 
 mod bell;
 mod gate;
 mod inboxes;
+mod losses;
 mod round_clock;
 mod running;
 mod running_cluster;

@@ -5,6 +5,7 @@ ghost use Rattle.commit_board.specs.Seats.{replicas_of, new_reader};
 ghost use Rattle.cluster_workers.specs.RunningClusters.{AreDealt, AreReadersOf, all_workers, first_ring};
 
 use crate::inboxes::{Inboxes, inboxes_of};
+use crate::losses::Losses;
 use crate::turn_taker::TurnTaker;
 use crate::worker::Worker;
 use abci::Application;
@@ -17,10 +18,11 @@ use std::alloc::{AllocError, Global};
 use std::marker::Model;
 use std::sync::{Arc, Mutex};
 
-/// The replicas of a running cluster by number, and the board of their heights. Threads share it by `&`.
+/// The replicas of a running cluster by number, the board of their heights, and how many frames their inboxes lost. Threads share it by `&`.
 pub struct RunningCluster<A: Application> {
     replicas: Vec<Arc<LockedReplica<A>>>,
     board: Arc<Board>,
+    losses: Arc<Losses>,
 }
 
 // An own `Drop` keeps proofs short: an owner drops it by one call. See docs/WORKING.md.
@@ -29,6 +31,7 @@ impl<A: Application> Drop for RunningCluster<A> {
         let RunningCluster {
             replicas: _replicas,
             board: _board,
+            losses: _losses,
         } = self;
     }
 }
@@ -105,7 +108,7 @@ fn share_all<A: Application>(
 }
 
 /// The workers of these replicas, by number. The writers' seats of the board are in the same order; each worker takes one
-/// of the readers' seats. Each worker reads frames of this version, and ends `rounds` rounds.
+/// of the readers' seats. Each worker reads frames of this version, and ends `rounds` rounds. Their inboxes count the frames that they lose.
 fn workers_of<A: Application>(
     alloc: Global,
     version: Version,
@@ -114,6 +117,7 @@ fn workers_of<A: Application>(
     looking: Vec<ReaderSeat>,
     replicas: &[Arc<LockedReplica<A>>],
     ring: &Arc<KeyRing>,
+    losses: &Arc<Losses>,
     count: u8,
     rounds: u32,
 ) -> Result<Vec<Worker<A>>, AllocError>
@@ -122,7 +126,7 @@ fn workers_of<A: Application>(
     requires replicas { length replicas.now ≡ count }
     ensures { IfOk result (λ workers. workers.items ≡ all_workers count rounds) }
 {
-    let Inboxes { receivers, senders } = inboxes_of(alloc, count)?;
+    let Inboxes { receivers, senders } = inboxes_of(alloc, count, losses)?;
     let mut seats = seats.into_iter();
     let mut looking = looking.into_iter();
     let mut receivers = receivers.into_iter();
@@ -173,6 +177,7 @@ impl<A: Application> RunningCluster<A> {
         let (board, seats, looking, reading) = board_of(alloc, config, readers)?;
         let board = Arc::new(alloc, board)?;
         let (replicas, ring) = share_all(alloc, states)?;
+        let losses = Arc::new(alloc, Losses::new(alloc, config.replicas)?)?;
         let workers = workers_of(
             alloc,
             config.frames,
@@ -181,10 +186,19 @@ impl<A: Application> RunningCluster<A> {
             looking,
             &replicas,
             &ring,
+            &losses,
             config.replicas,
             rounds,
         )?;
-        Ok((RunningCluster { replicas, board }, workers, reading))
+        Ok((
+            RunningCluster {
+                replicas,
+                board,
+                losses,
+            },
+            workers,
+            reading,
+        ))
     }
 
     /// The number of replicas.
@@ -200,6 +214,11 @@ impl<A: Application> RunningCluster<A> {
         requires { id < self.now.replicas }
     {
         &self.replicas[usize::from(id.number())]
+    }
+
+    /// How many frames the full inbox of this replica has lost; 0 if there is no such replica.
+    pub fn lost(&self, id: ReplicaId) -> u64 {
+        self.losses.of(id)
     }
 
     /// The board of the committed heights.

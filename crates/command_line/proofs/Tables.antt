@@ -33,6 +33,7 @@ has_running numbers transactions names = record {
   rounds_limits = refl;
   base = refl;
   base_limits = refl;
+  log = refl;
 }
 
 -- an option `replica` takes the numbers below that of the replicas

@@ -4,6 +4,7 @@ use Rattle.clap.specs.Words.{HasKind, IsAmong, Kinds, Row, Text, fault_of, first
 use Rattle.clap.specs.declared.error.ErrorKind.TheVariants as kind
 use Rattle.ledger_model.specs.declared.config.AppKind.{AppKind}
 use Rattle.ledger_model.specs.Replies.{check_reply}
+use Rattle.log.specs.Level.{parse_filter}
 use Rattle.plain_text.specs.Transactions.{Misspells, StandsFor}
 use Rattle.plain_text.specs.declared.spelling_fault.SpellingFault.{SpellingFault}
 use Rattle.settings.specs.declared.sign.What.{What}
@@ -103,6 +104,10 @@ IsNoReceipt rows word = (first_of (codes "receipt") rows ≡ Some word) × ((rec
 abbrev pub IsNoStatement : List Row → Text → Type 0
 IsNoStatement rows word = (first_of (codes "what") rows ≡ Some word) × ((what : What) → word ≡ word_of what → ⊥)
 
+-- the word is the value of `--log`, but names no level
+abbrev pub IsNoLevel : List Row → Text → Type 0
+IsNoLevel rows word = (first_of (codes "log") rows ≡ Some word) × (parse_filter word ≡ None)
+
 -- the fault names an option of the table and of these rows, the numbers that it takes, and what is wrong with it
 abbrev pub IsRightOf : OptionTable → List Row → UsageFault → Type 0
 IsRightOf table rows (fault.CommandLine error) = ⊥
@@ -118,6 +123,7 @@ IsRightOf table rows (fault.Rejected option code word) = TakesTransaction table 
 IsRightOf table rows (fault.Receipt word) = HasOption table (codes "receipt") × IsNoReceipt rows word.now
 IsRightOf table rows (fault.NamedInput input word) = ⊥
 IsRightOf table rows (fault.What word) = HasOption table (codes "what") × IsNoStatement rows word.now
+IsRightOf table rows (fault.Level word) = HasOption table (codes "log") × IsNoLevel rows word.now
 IsRightOf table rows (fault.Missing option) = HasOption table option.now × (first_of option.now rows ≡ None)
 IsRightOf table rows fault.NoSubcommand = ⊥
 IsRightOf table rows fault.NoMemory = ⊤
@@ -164,6 +170,7 @@ IsRightFault words (fault.NoTransaction option word) = IsRightOption words (faul
 IsRightFault words (fault.Rejected option code word) = IsRightOption words (fault.Rejected option code word)
 IsRightFault words (fault.Receipt word) = IsRightOption words (fault.Receipt word)
 IsRightFault words (fault.What word) = IsRightOption words (fault.What word)
+IsRightFault words (fault.Level word) = IsRightOption words (fault.Level word)
 IsRightFault words (fault.Missing option) = IsRightOption words (fault.Missing option)
 IsRightFault words fault.NoSubcommand = IsRightOption words fault.NoSubcommand
 IsRightFault words fault.NoMemory = ⊤

@@ -100,10 +100,11 @@ simulate_app = with_rule (with_rule (new_app (codes "simulate")) seed_rule) (fla
 -- the options of a run that have a value
 abbrev pub with_run : App → App
 with_run a =
-    with_rule (with_rule (with_rule a
+    with_rule (with_rule (with_rule (with_rule a
     (option_rule (codes "tx") (codes "a=1")))
     (option_rule (codes "rounds") (codes "40")))
-    (option_rule (codes "base-ms") (codes "200"))
+    (option_rule (codes "base-ms") (codes "200")))
+    (option_rule (codes "log") (codes "info"))
 
 -- the options of a running cluster, which `abft cluster` and `abft serve` have
 abbrev pub with_running : App → App

@@ -16,6 +16,9 @@ use Rattle.ledger_model.specs.declared.config.AppKind.TheVariants.{KvStore, Coun
 use Rattle.ledger_model.specs.declared.version.Version.{Version}
 use Rattle.ledger_model.specs.declared.version.Version.TheVariants.{One, Two}
 use Rattle.lm_ots.specs.Parameters.{bits_of, levels_of}
+use Rattle.log.specs.Level.{parse_filter}
+use Rattle.log.specs.declared.level.LevelFilter.{LevelFilter}
+use Rattle.log.specs.declared.level.LevelFilter.TheVariants.{Off}
 use Rattle.command_line.specs.Grammar.{abft_app}
 use Rattle.command_line.specs.Receipts.{SpellsReceipt}
 use Rattle.command_line.specs.declared.usage_fault.UsageFault.{UsageFault}
@@ -88,7 +91,7 @@ abbrev pub running_options : OptionTable
 running_options = record {
   numbers = cluster_numbers ++ limits (codes "rounds") 0 4000000000 ∷ limits (codes "base-ms") 1 60000 ∷ [];
   transactions = codes "tx" ∷ [];
-  names = cluster_names ++ codes "tx" ∷ codes "rounds" ∷ codes "base-ms" ∷ codes "histories" ∷ [];
+  names = cluster_names ++ codes "tx" ∷ codes "rounds" ∷ codes "base-ms" ∷ codes "log" ∷ codes "histories" ∷ [];
 }
 
 -- of `abft serve`
@@ -192,6 +195,7 @@ pub record HasRunning (table : OptionTable) : Type 0 where
   pub rounds_limits : IsTrue (list_any (is_limit (codes "rounds") 0 4000000000) table.numbers)
   pub base : HasOption table (codes "base-ms")
   pub base_limits : IsTrue (list_any (is_limit (codes "base-ms") 1 60000) table.numbers)
+  pub log : HasOption table (codes "log")
 
 -- the option's value is the 64 hexadecimal digits of these bytes
 pub record IsSeed (rows : List Row) (seed : List ℕ) : Type 0 where
@@ -225,6 +229,15 @@ SetsReceipt rows (Some receipt) = (text : Text) × ((first_of (codes "receipt") 
 abbrev pub SetsPort : List Row → Text → Option ℕ → Type 0
 SetsPort rows name None = first_of name rows ≡ None
 SetsPort rows name (Some port) = IsNumber rows name 0 65535 port
+
+-- The value of `--log` names a level, in capitals or not. This is the level, or none is: if the words contain `--quiet`.
+pub record SetsLog (rows : List Row) (level : LevelFilter) : Type 0 where
+  pub text : Text
+  pub has : first_of (codes "log") rows ≡ Some text
+  pub named : LevelFilter
+  pub parsed : parse_filter text ≡ Some named
+  pub quiet : IsNamed rows (codes "quiet") → level ≡ Off
+  pub loud : (IsNamed rows (codes "quiet") → ⊥) → level ≡ named
 
 -- the number of an application
 abbrev pub number_of : AppKind → ℕ
@@ -277,14 +290,14 @@ pub record SetsSimulate (rows : List Row) (s : SimulateSettings) : Type 0 where
   pub seed : IsSeed rows s.seed
   pub histories : IsTrue s.histories ↔ IsNamed rows (codes "histories")
 
--- The options of `abft cluster` set these settings. The run is quiet, and ends with standard input, if the words
--- contain those options. The histories are written to the file that the words name, if they name one.
+-- The options of `abft cluster` set these settings. The run ends with standard input, if the words contain that option. The histories
+-- are written to the file that the words name, if they name one.
 pub record SetsRunning (rows : List Row) (s : ClusterSettings) : Type 0 where
   pub cluster : SetsCluster rows s.cluster
   pub tx : IsAccepted rows (codes "tx") s.cluster.config.kind s.tx
   pub rounds : IsNumber rows (codes "rounds") 0 4000000000 s.rounds
   pub base : IsNumber rows (codes "base-ms") 1 60000 s.base_ms
-  pub quiet : IsTrue s.is_quiet ↔ IsNamed rows (codes "quiet")
+  pub log : SetsLog rows s.log
   pub stops : IsTrue s.stops_at_eof ↔ IsNamed rows (codes "stop-at-eof")
   pub histories : option_map string_bytes s.histories ≡ first_of (codes "histories") rows
 
@@ -340,6 +353,7 @@ WantsMemory (fault.Rejected option code word) = ⊥
 WantsMemory (fault.Receipt word) = ⊥
 WantsMemory (fault.NamedInput input word) = ⊥
 WantsMemory (fault.What word) = ⊥
+WantsMemory (fault.Level word) = ⊥
 WantsMemory (fault.Missing option) = ⊥
 WantsMemory fault.NoSubcommand = ⊥
 WantsMemory fault.NoMemory = Unit {0}
@@ -357,6 +371,7 @@ AsksForText (fault.Rejected option code word) = ⊥
 AsksForText (fault.Receipt word) = ⊥
 AsksForText (fault.NamedInput input word) = ⊥
 AsksForText (fault.What word) = ⊥
+AsksForText (fault.Level word) = ⊥
 AsksForText (fault.Missing option) = ⊥
 AsksForText fault.NoSubcommand = ⊥
 AsksForText fault.NoMemory = ⊥

@@ -3,12 +3,13 @@ ghost use Rattle.std.specs.Prelude.{◌≡◌, ◌↔◌, IsTrue, ℕ, List, [],
 ghost use Rattle.clap.specs.Words.{Row, found_of, rows_of, first_of};
 ghost use Rattle.lm_ots.specs.Parameters.{bits_of, levels_of};
 ghost use Rattle.command_line.specs.Faults.{IsRightOf};
-ghost use Rattle.command_line.specs.Options.{HasCluster, HasOption, IsAccepted, IsNamed, IsNumber, IsSeed, IsWritten, OptionTable, SetsCluster, SetsPort, TakesNumber, TakesTransaction, WantsMemory, number_of, version_number, word_of};
+ghost use Rattle.command_line.specs.Options.{HasCluster, HasOption, IsAccepted, IsNamed, IsNumber, IsSeed, IsWritten, OptionTable, SetsCluster, SetsLog, SetsPort, TakesNumber, TakesTransaction, WantsMemory, number_of, version_number, word_of};
 ghost use Rattle.plain_text.specs.Transactions.{StandsFor};
 ghost use Rattle.ledger_model.specs.Replies.{check_reply};
 ghost use Rattle.ledger_model.specs.declared.config.AppKind.{AppKind};
 ghost use Rattle.cluster_keys.specs.declared.cluster_seed.ClusterSeed.{ClusterSeed};
 ghost use Rattle.settings.specs.declared.sign.What.{What};
+ghost use Rattle.log.specs.declared.level.LevelFilter.{LevelFilter};
 ghost use Rattle.ledger_model.specs.declared.version.Version.{Version};
 ghost use Rattle.lm_ots.specs.declared.params.Width.{Width};
 ghost use Rattle.lm_ots.specs.declared.params.TreeHeight.{TreeHeight};
@@ -22,9 +23,11 @@ use cluster_keys::ClusterSeed;
 use hex::FromHex;
 use ledger_model::{AppKind, Config, Tx, Version};
 use lm_ots::{Params, TreeHeight, Width};
+use log::LevelFilter;
 use plain_text::{SpellingFault, decimal, written};
 use settings::What;
 use std::alloc::{AllocError, Global};
+use std::str::FromStr;
 
 /// The text of an option, if the words or a default give it one.
 pub(crate) fn optional_text<'a>(matches: &ArgMatches<'a>, name: &str) -> Option<&'a str>
@@ -178,6 +181,22 @@ pub(crate) fn what<'a>(matches: &ArgMatches<'a>) -> Result<What, UsageFault<'a>>
         "ack" => Ok(What::Ack),
         _ => Err(UsageFault::What(word)),
     }
+}
+
+/// What the operator is told: what `--log` says, nothing if the words contain `--quiet`.
+pub(crate) fn log_filter<'a>(matches: &ArgMatches<'a>) -> Result<LevelFilter, UsageFault<'a>>
+    ensures some { IfOk result (λ level. SetsLog (rows_of (found_of matches.now)) level) }
+    ensures none { OnErr result ((level : LevelFilter) → SetsLog (rows_of (found_of matches.now)) level → ⊥) }
+    ensures right { (table : OptionTable) → HasOption table (codes "log") → IfErr result (IsRightOf table (rows_of (found_of matches.now))) }
+{
+    let word = text(matches, "log")?;
+    let Ok(level) = LevelFilter::from_str(word) else {
+        return Err(UsageFault::Level(word));
+    };
+    if is_named(matches, "quiet") {
+        return Ok(LevelFilter::Off);
+    }
+    Ok(level)
 }
 
 /// The file that an option names, if the words contain that option.

@@ -1,6 +1,6 @@
 //! The grammar of `abft cluster` and `abft serve`, the subcommands that run a whole cluster.
 use crate::shared_arguments::{
-    APPLICATION, FAULTS, FIRST_ROUND, FRAMES, HISTORIES_FILE, QUIET, REPLICAS, ROUNDS, SEED,
+    APPLICATION, FAULTS, FIRST_ROUND, FRAMES, HISTORIES_FILE, LOG, QUIET, REPLICAS, ROUNDS, SEED,
     STOP_AT_EOF, TRANSACTION, TREE, WIDTH,
 };
 use crate::subcommand::{Argument, Kind, Subcommand};
@@ -15,7 +15,7 @@ Then the lines of an audit over the histories of all replicas, as 'abft audit --
   H BATCH      its block at height H, one line for each
 
 With --histories FILE the histories are written to FILE, for 'abft audit <FILE' with the options of the cluster.
-How it stands is told on standard error, unless --quiet is there.
+How it stands is told on standard error, as much as --log says.
 
 Exit status:
   0  the rounds are over, and the audit found a ledger
@@ -39,7 +39,7 @@ Then the lines of an audit over the histories of all replicas, as 'abft audit --
 It ends when the rounds are over and as many connections as --sessions says have ended,
 or where standard input ends if --stop-at-eof is there.
 With --histories FILE the histories are written to FILE, for 'abft audit <FILE' with the options of the cluster.
-How it stands is told on standard error, unless --quiet is there.
+How it stands is told on standard error, as much as --log says.
 docs/OPERATING.md has the rest.
 
 Exit status:
@@ -65,6 +65,7 @@ pub(crate) const RUN_CLUSTER: Subcommand = Subcommand {
         TRANSACTION,
         ROUNDS,
         FIRST_ROUND,
+        LOG,
         QUIET,
         STOP_AT_EOF,
         HISTORIES_FILE,
@@ -88,6 +89,7 @@ pub(crate) const SERVE: Subcommand = Subcommand {
         TRANSACTION,
         ROUNDS,
         FIRST_ROUND,
+        LOG,
         QUIET,
         STOP_AT_EOF,
         HISTORIES_FILE,

@@ -15,8 +15,8 @@ ghost use Rattle.settings.specs.declared.Settings.{Settings};
 
 use crate::grammar::abft_command;
 use crate::options::{
-    accepted_transaction, cluster, file, is_named, number, optional_port, seed, small_number,
-    transaction, what,
+    accepted_transaction, cluster, file, is_named, log_filter, number, optional_port, seed,
+    small_number, transaction, what,
 };
 use crate::receipts::receipt;
 use crate::refused_words::fault_of;
@@ -103,13 +103,14 @@ fn cluster_settings<'a>(
     let tx = accepted_transaction(alloc, matches, "tx", cluster.config.kind)?;
     let rounds = number(matches, "rounds", 0, 4_000_000_000)?;
     let base_ms = number(matches, "base-ms", 1, 60_000)?;
+    let log = log_filter(matches)?;
     let histories = file(alloc, matches, "histories")?;
     Ok(ClusterSettings {
         cluster,
         tx,
         rounds,
         base_ms,
-        is_quiet: is_named(matches, "quiet"),
+        log,
         stops_at_eof: is_named(matches, "stop-at-eof"),
         histories,
     })

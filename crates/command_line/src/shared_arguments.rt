@@ -71,11 +71,18 @@ pub(crate) const FIRST_ROUND: Argument = Argument {
     help: "Milliseconds of the first round, 1 to 60000; each later round has one more",
 };
 
+/// What a run tells of itself.
+pub(crate) const LOG: Argument = Argument {
+    name: "log",
+    kind: Kind::Value("info"),
+    help: "What standard error is told: off, warn, info or debug",
+};
+
 /// Whether a run is quiet.
 pub(crate) const QUIET: Argument = Argument {
     name: "quiet",
     kind: Kind::Flag,
-    help: "Tells nothing of its progress",
+    help: "The same as --log off",
 };
 
 /// Whether a run ends when standard input does.

@@ -73,6 +73,8 @@ pub enum UsageFault<'a> {
     },
     /// The word for the statement to sign is neither `report` nor `ack`.
     What(&'a str),
+    /// The word for `--log` names no level.
+    Level(&'a str),
     /// An option without a default is missing.
     Missing(&'static str),
     /// The subcommand is missing.
@@ -227,6 +229,7 @@ impl fmt::Display for UsageFault<'_> {
             }
             UsageFault::NamedInput { input, word } => show_named(f, *input, word),
             UsageFault::What(word) => show_wanted(f, "what to sign is 'report' or 'ack'", word),
+            UsageFault::Level(word) => show_wanted(f, "--log is off, warn, info or debug", word),
             UsageFault::Missing(option) => show_option(f, option, &"is missing"),
             UsageFault::NoSubcommand => f.write_str("error: a subcommand is missing"),
             UsageFault::NoMemory => f.write_str("error: out of memory"),

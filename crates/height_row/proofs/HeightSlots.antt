@@ -115,7 +115,11 @@ module _ (config : Config) (id : ℕ) where
       → AllByRecursion (λ row. (row.config ≡ config) × (row.id ≡ id)) (all_read slots)
   slots_own floor [] all = tt
   slots_own floor (None ∷ slots) all = slots_own (floor + 1) slots (later_slots floor None slots all)
-  slots_own floor (Some row ∷ slots) all = (((all 0 row refl).0, (all 0 row refl).1), slots_own (floor + 1) slots (later_slots floor (Some row) slots all))
+  slots_own floor (Some row ∷ slots) all = (
+    ((all 0 row refl).0, (all 0 row refl).1),
+    slots_own (floor + 1) slots
+        (later_slots floor (Some row) slots all),
+  )
 
   -- no height below the floor is open
   pub none_below : (floor : ℕ) (slots : List (Option InstanceView)) → AreSlots config id floor slots → (h : ℕ) → h < floor

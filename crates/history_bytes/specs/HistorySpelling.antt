@@ -87,14 +87,14 @@ abbrev pub IsFrameText : Version → List ℕ → Type 0
 IsFrameText version bytes = (s : SignedStatement) × SpellsFrame version bytes s
 
 -- a frame that was sent
-pub record IsSent (version : Version) (sent : Sent) : Type 0 where
+pub record IsSentFrame (version : Version) (sent : Sent) : Type 0 where
   pub addressee : IsAddressee sent.addressee
   pub frame : IsFrameText version sent.frame
 
 -- a round end that can be encoded
-pub record IsRoundEnded (version : Version) (ended : RoundEnded) : Type 0 where
+pub record IsEndedRound (version : Version) (ended : RoundEnded) : Type 0 where
   pub few : length ended.frames < 2 ^ 16
-  pub each : AllByRecursion (IsSent version) ended.frames
+  pub each : AllByRecursion (IsSentFrame version) ended.frames
 
 -- a block's result that can be encoded
 pub record IsBlock (block : BlockResult) : Type 0 where
@@ -121,7 +121,7 @@ IsReply version (reply.Submitted (Err r)) = IsRefusal r
 IsReply version (reply.Proposed (Ok batch)) = IsValueIn version batch
 IsReply version (reply.Proposed (Err _)) = Unit {0}
 IsReply version (reply.Delivered result) = Unit {0}
-IsReply version (reply.RoundEnded (Ok ended)) = IsRoundEnded version ended
+IsReply version (reply.RoundEnded (Ok ended)) = IsEndedRound version ended
 IsReply version (reply.RoundEnded (Err _)) = Unit {0}
 IsReply version (reply.Executed (Ok block)) = IsBlock block
 IsReply version (reply.Executed (Err _)) = Unit {0}

@@ -17,7 +17,7 @@ use Rattle.ledger_model.proofs.Readers.{IsReader}
 use Rattle.ledger_model.proofs.ValueReading.{value_reader}
 use Rattle.history_bytes.specs.Histories.{ended_bytes, block_bytes, answer_bytes, code_bytes}
 use Rattle.history_bytes.specs.Histories.{reply_bytes}
-use Rattle.history_bytes.specs.HistorySpelling.{IsWord, IsRoundEnded, IsBlock, IsAnswer, IsRefusal}
+use Rattle.history_bytes.specs.HistorySpelling.{IsWord, IsEndedRound, IsBlock, IsAnswer, IsRefusal}
 use Rattle.history_bytes.specs.HistorySpelling.{IsReply, reply_number}
 use Rattle.history_bytes.specs.HistoryReading.{submitted_at, proposed_at, delivered_at, round_ended_at, executed_at, queried_at, retired_at}
 use Rattle.history_bytes.specs.HistoryReading.{reply_of}
@@ -54,7 +54,7 @@ unfolding delivered_at
 delivered_reader = outcome_reader nothing_reader cause_tagged cause_some
 
 round_ended_reader : (version : Version)
-    → IsReader (outcome_bytes ended_bytes number_1 no_bytes) (IsOutcome (IsRoundEnded version) IsAny) (round_ended_at version)
+    → IsReader (outcome_bytes ended_bytes number_1 no_bytes) (IsOutcome (IsEndedRound version) IsAny) (round_ended_at version)
 unfolding round_ended_at
 round_ended_reader version = outcome_reader (ended_reader version) (only_tagged (record {}) (λ (r : LastRound). refl)) (λ r. refl)
 
@@ -123,7 +123,7 @@ reply_takes version n bytes r rest fits read =
     (λ _ f3. if_some (eqb n 4) _ _ (r, rest) f3
     (λ is f. branch_takes (round_ended_reader version) reply_number reply_tail (IsReply version) reply.RoundEnded n
     (λ x. sym (eqb-true n 4 is)) (λ x. refl)
-    (outcome_is version reply.RoundEnded (IsRoundEnded version) IsAny (λ x i. i) (λ x i. tt)) bytes r rest fits f)
+    (outcome_is version reply.RoundEnded (IsEndedRound version) IsAny (λ x i. i) (λ x i. tt)) bytes r rest fits f)
     (λ _ f4. if_some (eqb n 5) _ _ (r, rest) f4
     (λ is f. branch_takes executed_reader reply_number reply_tail (IsReply version) reply.Executed n (λ x. sym (eqb-true n 5 is))
     (λ x. refl)

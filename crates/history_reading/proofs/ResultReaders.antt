@@ -19,7 +19,7 @@ use Rattle.ledger_model.proofs.Readers.{some_is, IsReader, bytes_take, bytes_aga
 use Rattle.ledger_model.proofs.StatementReading.{flag_bytes, flag_reader}
 use Rattle.history_bytes.specs.Histories.{addressee_number, sent_bytes, present_bytes, ended_bytes, block_bytes, answer_bytes}
 use Rattle.history_bytes.specs.Histories.{count_in_1, count_in_2}
-use Rattle.history_bytes.specs.HistorySpelling.{IsWord, IsAddressee, IsSent, IsRoundEnded, IsBlock, IsPresent, IsAnswer}
+use Rattle.history_bytes.specs.HistorySpelling.{IsWord, IsAddressee, IsSentFrame, IsEndedRound, IsBlock, IsPresent, IsAnswer}
 use Rattle.history_bytes.specs.HistoryReading.{short_at, addressee_of, sent_at, frames_of, frames_at, ended_at, codes_of, codes_at}
 use Rattle.history_bytes.specs.HistoryReading.{block_at}
 use Rattle.history_bytes.specs.HistoryReading.{present_at, answer_at}
@@ -49,7 +49,7 @@ addressee_back : (a : Addressee) → IsAddressee a → addressee_of (addressee_n
 addressee_back addressee.All is = refl
 addressee_back (addressee.One r) is = let other : eqb r 255 ≡ false = ne_eqb r 255 (λ e. omega (arith, e, is)) in rw other refl
 
-sent_reader : (version : Version) → IsReader sent_bytes (IsSent version) (sent_at version)
+sent_reader : (version : Version) → IsReader sent_bytes (IsSentFrame version) (sent_at version)
 unfolding sent_at
 sent_reader version = record {
   takes = λ bytes sent rest fits e.
@@ -61,7 +61,7 @@ sent_reader version = record {
       (λ frame last f_parts f_is f_fits g.
       let made : Sent × List ℕ = (record { addressee = addressee_of to; frame = frame }, last) in
       let back = number_back to t_is in
-      subst (λ (p : Sent × List ℕ). (bytes ≡ sent_bytes p.0 ++ p.1) × IsSent version p.0 × IsBytes p.1) (some_is made (sent, rest) g) (
+      subst (λ (p : Sent × List ℕ). (bytes ≡ sent_bytes p.0 ++ p.1) × IsSentFrame version p.0 × IsBytes p.1) (some_is made (sent, rest) g) (
         t_parts ∙ ap (λ (k : ℕ). k ∷ more) (sym back.0) ∙ ap (λ (t : List ℕ). addressee_number (addressee_of to) ∷ t) f_parts,
         record { addressee = back.1; frame = f_is },
         f_fits,
@@ -70,7 +70,8 @@ sent_reader version = record {
       rw ((frame_reader version).again sent.frame rest is.frame, addressee_back sent.addressee is.addressee) refl;
 }
 
-frames_of_reader : (version : Version) → IsSizedReader (flat_map sent_bytes) (AllByRecursion (IsSent version)) length (frames_of version)
+frames_of_reader : (version : Version) → IsSizedReader (flat_map sent_bytes) (AllByRecursion (IsSentFrame version)) length
+    (frames_of version)
 unfolding frames_of
 frames_of_reader version = many_reader (sent_reader version) (frames_of version) (λ bytes. refl) (λ n bytes. refl)
 
@@ -78,7 +79,7 @@ abbrev frames_bytes : List Sent → List ℕ
 frames_bytes frames = count_in_2 (length frames) ++ flat_map sent_bytes frames
 
 abbrev AreFrames : Version → List Sent → Type 0
-AreFrames version frames = (length frames < 2 ^ 16) × AllByRecursion (IsSent version) frames
+AreFrames version frames = (length frames < 2 ^ 16) × AllByRecursion (IsSentFrame version) frames
 
 frames_reader : (version : Version) → IsReader frames_bytes (AreFrames version) (frames_at version)
 unfolding frames_at
@@ -88,12 +89,12 @@ frames_reader version = counted_reader count_2_reader (frames_of_reader version)
 abbrev ended_of : Bool → List Sent → RoundEnded
 ended_of mute frames = record { mute = mute; frames = frames }
 
-pub ended_reader : (version : Version) → IsReader ended_bytes (IsRoundEnded version) (ended_at version)
+pub ended_reader : (version : Version) → IsReader ended_bytes (IsEndedRound version) (ended_at version)
 unfolding ended_at
 ended_reader version = same_reader (pair_reader flag_reader (frames_reader version) ended_of (λ x. x.mute) (λ x. x.frames) (λ x. refl)
     (λ a b. refl)
     (λ a b. refl))
-    ended_bytes (IsRoundEnded version) (λ x. sym (append_assoc (flag_bytes x.mute) (count_in_2 (length x.frames))
+    ended_bytes (IsEndedRound version) (λ x. sym (append_assoc (flag_bytes x.mute) (count_in_2 (length x.frames))
     (flat_map sent_bytes x.frames)))
     (λ x is. record { few = is.1.0; each = is.1.1 }) (λ x is. (tt, (is.few, is.each)))
 

@@ -1,10 +1,15 @@
 -- Worked examples: the bytes of replies, by the definitions alone.
-use Rattle.std.proofs.Common.{◌≡◌, ◌++◌, codes, refl}
+use Rattle.std.proofs.Common.{◌≡◌, ◌++◌, codes, map, refl}
 use Rattle.std.specs.Prelude.{⊤}
 use Rattle.std.specs.Fmt.{digits}
+use Rattle.std.specs.List.{range_with_len}
+use Rattle.ledger_model.specs.Causes.{cause_number}
+use Rattle.ledger_model.specs.declared.reply.Ignored.TheVariants as cause
 use Rattle.http_requests.specs.declared.fault.RequestFault.TheVariants as fault
+use Rattle.http_replies.specs.declared.metrics.TheConstants.{CAUSES}
 use Rattle.http_replies.specs.Answers as answer
 use Rattle.http_replies.specs.Errors.{reason_text, error_text}
+use Rattle.http_replies.specs.Metrics.{cause_name}
 use Rattle.http_replies.specs.Results.{unconfirmed_result}
 use Rattle.http_replies.specs.Replies.{status_of, content_type, allow_text, fields_text, head_text, result_text, body_text, reply_bytes}
 
@@ -35,3 +40,13 @@ reply-method : reply_bytes (answer.Fault fault.Method)
     ++ codes "\"data\":\"only GET is answered here\"}}"
 unfolding replies_on_literals
 reply-method = refl
+
+-- the causes are those of the numbers from 1 to 11, in this order
+causes-all : map cause_number CAUSES ≡ range_with_len 1 11
+causes-all = refl
+
+name-repeated : cause_name cause.Repeated ≡ codes "Repeated"
+name-repeated = refl
+
+name-not_mine : cause_name cause.NotMine ≡ codes "NotMine"
+name-not_mine = refl

@@ -5,6 +5,7 @@
 
 mod answer;
 mod errors;
+mod frame_counts;
 mod metrics;
 mod page;
 mod replying;
@@ -12,5 +13,6 @@ mod results;
 mod texts;
 
 pub use answer::{Answer, Commitment, Receipt, ServiceFault, Submission};
+pub use frame_counts::FrameCounts;
 pub use metrics::ReplicaMetrics;
 pub use replying::{out_of_memory_reply, put_reply};

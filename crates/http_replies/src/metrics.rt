@@ -2,9 +2,10 @@
 ghost use Rattle.std.specs.Prelude.{◌≡◌, ◌++◌, IfOk, OnOk};
 ghost use Rattle.std.specs.String.{string_bytes};
 ghost use Rattle.std.specs.List.{flat_map};
-ghost use Rattle.http_replies.specs.Metrics.{metric_name, metric_help, value_of, head_text, sample_text, metric_text, metrics_text};
+ghost use Rattle.http_replies.specs.Metrics.{cause_name, metric_name, metric_help, metric_kind, value_of, head_text, sample_text, metric_text, ignored_text, all_ignored_text, metrics_text};
 
-use ledger_model::{Height, ReplicaId};
+use crate::frame_counts::FrameCounts;
+use ledger_model::{Height, Ignored, ReplicaId};
 use std::alloc::{AllocError, Global};
 
 /// The metrics of one replica: what it shows of itself at one moment.
@@ -21,9 +22,13 @@ pub struct ReplicaMetrics {
     pub pool_transactions: u64,
     /// How many entries its history has.
     pub history_entries: u64,
+    /// The frames among these entries, by its answer.
+    pub frames: FrameCounts,
+    /// How many frames for it were lost at its full inbox.
+    pub frames_lost: u64,
 }
 
-/// A metric: one number for each replica.
+/// A metric with one number for each replica.
 #[derive(Clone, Copy)]
 enum Metric {
     Rounds,
@@ -31,6 +36,8 @@ enum Metric {
     SignaturesLeft,
     PoolTransactions,
     HistoryEntries,
+    FramesLost,
+    FramesAccepted,
 }
 
 impl Metric {
@@ -44,6 +51,8 @@ impl Metric {
             Metric::SignaturesLeft => "abft_signatures_left",
             Metric::PoolTransactions => "abft_pool_transactions",
             Metric::HistoryEntries => "abft_history_entries",
+            Metric::FramesLost => "abft_frames_lost_total",
+            Metric::FramesAccepted => "abft_frames_accepted_total",
         }
     }
 
@@ -57,6 +66,18 @@ impl Metric {
             Metric::SignaturesLeft => "One-time signatures that its key pair has left.",
             Metric::PoolTransactions => "Transactions that wait for a block.",
             Metric::HistoryEntries => "Entries of the history.",
+            Metric::FramesLost => "Frames that a full inbox lost.",
+            Metric::FramesAccepted => "Frames that the replica accepted.",
+        }
+    }
+
+    /// A gauge is a number as it is now, a counter only grows.
+    fn kind(self) -> &'static str
+        ensures { result.now ≡ metric_kind self }
+    {
+        match self {
+            Metric::FramesLost | Metric::FramesAccepted => "counter",
+            _ => "gauge",
         }
     }
 
@@ -70,27 +91,54 @@ impl Metric {
             Metric::SignaturesLeft => u64::from(of.signatures_left),
             Metric::PoolTransactions => of.pool_transactions,
             Metric::HistoryEntries => of.history_entries,
+            Metric::FramesLost => of.frames_lost,
+            Metric::FramesAccepted => of.frames.accepted,
         }
     }
 }
 
-/// All metrics.
-const METRICS: [Metric; 5] = [
+/// All metrics with one number for each replica.
+const METRICS: [Metric; 7] = [
     Metric::Rounds,
     Metric::Height,
     Metric::SignaturesLeft,
     Metric::PoolTransactions,
     Metric::HistoryEntries,
+    Metric::FramesLost,
+    Metric::FramesAccepted,
 ];
 
-/// Appends the lines that say what a metric is. Each is a gauge: a number as it is now.
-#[tactic(auto, unfolding(crate::specs::Metrics::head_text))]
-fn add_head(out: &mut String, metric: Metric) -> Result<(), AllocError>
-    ensures { OnOk result (string_bytes out.new ≡ string_bytes out.old ++ head_text metric) }
+/// All causes, in the order of their numbers.
+const CAUSES: [Ignored; 11] = [
+    Ignored::Malformed,
+    Ignored::Signer,
+    Ignored::NoRow,
+    Ignored::WrongRound,
+    Ignored::WrongPhase,
+    Ignored::NotOwner,
+    Ignored::Repeated,
+    Ignored::BadSignature,
+    Ignored::BadProof,
+    Ignored::TableFull,
+    Ignored::NotMine,
+];
+
+/// The name of a cause: its text without its number.
+fn cause_name(cause: Ignored) -> &'static str
+    ensures { result.now ≡ cause_name cause }
 {
-    let name = metric.name();
-    let help = metric.help();
-    write!(out, "# HELP {name} {help}\n# TYPE {name} gauge\n")
+    let Some((_, name)) = cause.text().split_once(' ') else {
+        unreachable!();
+    };
+    name
+}
+
+/// Appends the lines that say what a metric is.
+#[tactic(auto, unfolding(crate::specs::Metrics::head_text))]
+fn add_head(out: &mut String, name: &str, help: &str, kind: &str) -> Result<(), AllocError>
+    ensures { OnOk result (string_bytes out.new ≡ string_bytes out.old ++ head_text name.now help.now kind.now) }
+{
+    write!(out, "# HELP {name} {help}\n# TYPE {name} {kind}\n")
 }
 
 /// Appends the line of a metric for a replica.
@@ -99,9 +147,9 @@ fn add_sample(out: &mut String, metric: Metric, of: &ReplicaMetrics) -> Result<(
     ensures { OnOk result (string_bytes out.new ≡ string_bytes out.old ++ sample_text metric of.now) }
 {
     let name = metric.name();
-    let replica = of.replica.number();
+    let number = of.replica.number();
     let value = metric.value_of(of);
-    write!(out, "{name}{{replica=\"{replica}\"}} {value}\n")
+    write!(out, "{name}{{replica=\"{number}\"}} {value}\n")
 }
 
 /// Appends the lines of a metric for all replicas.
@@ -112,7 +160,7 @@ fn add_metric(
 ) -> Result<(), AllocError>
     ensures { OnOk result (string_bytes out.new ≡ string_bytes out.old ++ metric_text replicas.now metric) }
 {
-    add_head(out, metric)?;
+    add_head(out, metric.name(), metric.help(), metric.kind())?;
     for of in replicas {
         add_sample(out, metric, of)?;
     }
@@ -133,6 +181,46 @@ fn add_metrics(
     Ok(())
 }
 
+/// Appends the line of the frames that a replica ignored for a cause.
+#[tactic(auto, unfolding(crate::specs::Metrics::ignored_text))]
+fn add_ignored_for(out: &mut String, of: &ReplicaMetrics, cause: Ignored) -> Result<(), AllocError>
+    ensures { OnOk result (string_bytes out.new ≡ string_bytes out.old ++ ignored_text of.now cause) }
+{
+    let replica = of.replica.number();
+    let cause_name = cause_name(cause);
+    let value = of.frames.ignored_for(cause);
+    write!(
+        out,
+        "abft_frames_ignored_total{{replica=\"{replica}\",cause=\"{cause_name}\"}} {value}\n"
+    )
+}
+
+/// Appends the lines of the frames that a replica ignored, for these causes.
+fn add_ignored(out: &mut String, of: &ReplicaMetrics, causes: &[Ignored]) -> Result<(), AllocError>
+    ensures { OnOk result (string_bytes out.new ≡ string_bytes out.old ++ flat_map (ignored_text of.now) causes.now) }
+{
+    for cause in causes {
+        add_ignored_for(out, of, *cause)?;
+    }
+    Ok(())
+}
+
+/// Appends the lines of the metric of ignored frames, for all replicas.
+fn add_all_ignored(out: &mut String, replicas: &[ReplicaMetrics]) -> Result<(), AllocError>
+    ensures { OnOk result (string_bytes out.new ≡ string_bytes out.old ++ all_ignored_text replicas.now) }
+{
+    add_head(
+        out,
+        "abft_frames_ignored_total",
+        "Frames that the replica ignored, by the first cause that fits.",
+        "counter",
+    )?;
+    for of in replicas {
+        add_ignored(out, of, &CAUSES)?;
+    }
+    Ok(())
+}
+
 /// The metrics of these replicas.
 #[tactic(auto, unfolding(crate::specs::Metrics::metrics_text))]
 pub(crate) fn metrics(alloc: Global, replicas: &[ReplicaMetrics]) -> Result<String, AllocError>
@@ -140,5 +228,6 @@ pub(crate) fn metrics(alloc: Global, replicas: &[ReplicaMetrics]) -> Result<Stri
 {
     let mut text = String::new(alloc);
     add_metrics(&mut text, &METRICS, replicas)?;
+    add_all_ignored(&mut text, replicas)?;
     Ok(text)
 }

@@ -1,14 +1,14 @@
 -- Bytes that are read into a buffer after others, until they are a head.
-use Rattle.std.proofs.Common.{◌≡◌, ℕ, ◌+◌, ◌<◌, ◌≤◌, List, [], ◌++◌, length, take, ap, subst, sym, refl, ◌∙◌, append-nil, arith, inl, inr}
+use Rattle.std.proofs.Common.{◌≡◌, ℕ, ◌+◌, ◌<◌, ◌≤◌, List, [], ◌++◌, length, take, ap, subst, sym, ◌∙◌, append-nil, arith, inl, inr}
 use Rattle.std.proofs.Common.{length-append, length-take-le}
-use Rattle.std.specs.Prelude.{Option, Some, None, Result, Err, MatchOption}
+use Rattle.std.specs.Prelude.{Option, Result, Err}
 use Rattle.std.specs.Io.KnownBytes.{Consumes, IsAtEnd}
 use Rattle.std.proofs.KnownBytes.{Consumes-trans}
 use Rattle.http_requests.specs.declared.fault.RequestFault.{RequestFault}
 use Rattle.http_requests.specs.declared.fault.RequestFault.TheVariants as fault
 use Rattle.http_requests.specs.declared.request.Request.{Request}
 use Rattle.http_requests.specs.Requests.{Answers}
-use Rattle.http_sessions.specs.Hearing.{Hears, HearsNone, IsPart}
+use Rattle.http_sessions.specs.Hearing.{AnswersRead, Hears, HearsNone, IsPart}
 use Rattle.client_sessions.proofs.Filling.{grown}
 use borrow.Rule.Slice.PartMut.{put_mid}
 
@@ -44,7 +44,7 @@ module _ (unread mid left : Option (List ℕ)) (count more most : ℕ) (xs ys : 
         some = omega (arith, long, joined, some);
         within = omega (arith, long, joined, within, sized);
         read = subst (Consumes unread left) (sym same) (nothing_more unread mid left (take count xs) ys more none first second.0);
-        answers = subst (λ l. Answers l (Err fault.Incomplete)) (sym same) answers;
+        answers = subst (λ l. AnswersRead l (Err fault.Incomplete)) (sym same) (inl (answers.0, answers));
         end = λ _. second.1 none room;
       }
 
@@ -56,7 +56,7 @@ module _ (unread mid left : Option (List ℕ)) (count more most : ℕ) (xs ys : 
 
   -- and are no part of a head any more
   pub more_heard : (r : ℕ) (asked : Result Request RequestFault) → more ≤ length ys → count + more ≤ most → (more ≡ 0 → ⊥)
-      → IsPart (take count xs) → Answers (take (count + more) (put_mid count r xs ys)) asked → (asked ≡ Err fault.Incomplete → ⊥)
+      → IsPart (take count xs) → AnswersRead (take (count + more) (put_mid count r xs ys)) asked → (asked ≡ Err fault.Incomplete → ⊥)
       → Hears most unread left asked
   more_heard r asked fits few some part answers whole =
       let joined : take (count + more) (put_mid count r xs ys) ≡ take count xs ++ take more ys =
@@ -71,6 +71,6 @@ module _ (unread mid left : Option (List ℕ)) (count more most : ℕ) (xs ys : 
         some = omega (arith, long, more_long, all_long, some);
         within = omega (arith, long, more_long, all_long, few);
         read = Consumes-trans unread mid left (take count xs) (take more ys) first second.0;
-        answers = subst (λ l. Answers l asked) joined answers;
+        answers = subst (λ l. AnswersRead l asked) joined answers;
         end = λ e. absurd (whole e);
       }

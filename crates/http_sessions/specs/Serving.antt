@@ -10,8 +10,8 @@ use Rattle.http_replies.specs.Answers.{AnswerView, Fault}
 use Rattle.http_replies.specs.Replies.{reply_bytes}
 use Rattle.http_sessions.specs.declared.request_end.RequestEnd.{RequestEnd}
 use Rattle.http_sessions.specs.declared.request_end.RequestEnd.TheVariants.{Answered, OutOfMemory, Silent}
-use Rattle.http_sessions.specs.declared.request_end.StreamFault.{StreamFault}
-use Rattle.http_sessions.specs.declared.request_end.StreamFault.TheVariants as fault
+use Rattle.http_sessions.specs.declared.request_end.ConnectionFault.{ConnectionFault}
+use Rattle.http_sessions.specs.declared.request_end.ConnectionFault.TheVariants as fault
 use Rattle.http_sessions.specs.Exchanges.{HttpExchange}
 use Rattle.http_sessions.specs.Answering.{Answers, Loses, Replies}
 use Rattle.http_sessions.specs.Hearing.{Hears, HearsNone, HearsPart}
@@ -55,19 +55,19 @@ Ends makes count before after unread left had has Silent = HearsNone unread left
 
 -- what a failed stream left: a part of a request, or a prefix of the reply
 abbrev pub Stops : {T : Type 0} → (T → HttpExchange → T → Type 0) → ℕ → T → T → Option (List ℕ) → Option (List ℕ) → Option (List ℕ)
-    → Option (List ℕ) → StreamFault → Type 0
+    → Option (List ℕ) → ConnectionFault → Type 0
 Stops makes count before after unread left had has (fault.Read error) = HearsPart most_read unread left × DoesNothing before after had has
 Stops makes count before after unread left had has (fault.Write error) =
     (end : RequestEnd) × Serves makes count before after unread left end (AppendsSome had has)
 
 -- the number of reads that failed in a call with this result
-abbrev pub read_failures_in : {A : Type 0} → Result A StreamFault → ℕ
+abbrev pub read_failures_in : {A : Type 0} → Result A ConnectionFault → ℕ
 read_failures_in (Ok x) = 0
 read_failures_in (Err (fault.Read error)) = 1
 read_failures_in (Err (fault.Write error)) = 0
 
 -- the number of writes that failed in a call with this result
-abbrev pub write_failures_in : {A : Type 0} → Result A StreamFault → ℕ
+abbrev pub write_failures_in : {A : Type 0} → Result A ConnectionFault → ℕ
 write_failures_in (Ok x) = 0
 write_failures_in (Err (fault.Read error)) = 0
 write_failures_in (Err (fault.Write error)) = 1

@@ -1,11 +1,12 @@
 //! Reads the head of a request from a stream.
-ghost use Rattle.std.specs.Prelude.{◌≡◌, ◌≢◌, ◌+◌, ◌<◌, true, false, length, MatchResult, MatchOption};
+ghost use Rattle.std.specs.Prelude.{◌≡◌, ◌≢◌, ◌+◌, ◌<◌, Err, true, false, length, MatchResult, MatchOption};
 ghost use Rattle.client_sessions.specs.Faults.{failures_in};
 ghost use Rattle.http_requests.specs.Limits.{max_head_len};
-ghost use Rattle.http_sessions.specs.Hearing.{Hears, HearsNone, HearsPart};
+ghost use Rattle.http_requests.specs.Requests.{Answers};
+ghost use Rattle.http_sessions.specs.Hearing.{AnswersRead, Hears, HearsNone, HearsPart};
 
 use client_sessions::SessionReader;
-use http_requests::{Request, RequestFault, parse};
+use http_requests::{MAX_HEAD_LEN, Request, RequestFault, parse};
 use std::alloc::Global;
 use std::io;
 
@@ -18,6 +19,22 @@ fn is_incomplete(asked: &Result<Request, RequestFault>) -> bool
         Err(RequestFault::Incomplete) => true,
         _ => false,
     }
+}
+
+/// What bytes ask that were read. Of more than [`MAX_HEAD_LEN`] bytes the last may follow a head, so only the first are looked at; if these
+/// end within a head, it is too long.
+fn asked_in(alloc: Global, bytes: &[u8]) -> Result<Request, RequestFault>
+    ensures answers { AnswersRead bytes.now result }
+    ensures part { result ≡ Err RequestFault.Incomplete → Answers bytes.now (Err RequestFault.Incomplete) }
+{
+    if bytes.len() <= MAX_HEAD_LEN {
+        return parse(alloc, bytes);
+    }
+    let asked = parse(alloc, &bytes[..MAX_HEAD_LEN]);
+    if is_incomplete(&asked) {
+        return Err(RequestFault::TooLong);
+    }
+    asked
 }
 
 /// Reads into the buffer until its bytes are the head of a request or cannot become one, and returns what they ask; `None` if the input
@@ -45,7 +62,7 @@ pub(crate) fn hear<R: SessionReader>(
             });
         }
         count += more;
-        let asked = parse(alloc, &buffer[..count]);
+        let asked = asked_in(alloc, &buffer[..count]);
         if !is_incomplete(&asked) {
             return Ok(Some(asked));
         }

@@ -13,6 +13,6 @@ mod serving;
 mod targets;
 
 pub use answering::answer;
-pub use request_end::{RequestEnd, StreamFault};
+pub use request_end::{ConnectionFault, RequestEnd};
 pub use serving::serve_request;
 pub use targets::{AppInfo, Delivery, HttpTargets, PoolSize};

@@ -15,7 +15,7 @@ pub enum RequestEnd {
 
 /// What stopped a connection before the whole reply was written.
 #[derive(Debug, Drop, Error)]
-pub enum StreamFault {
+pub enum ConnectionFault {
     /// A read failed. Nothing was asked, and nothing written.
     #[error("a read failed: {0}")]
     Read(io::Error),

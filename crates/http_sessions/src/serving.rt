@@ -9,7 +9,7 @@ ghost use Rattle.http_sessions.specs.declared.request_end.RequestEnd.{RequestEnd
 
 use crate::answering::answer;
 use crate::hearing::hear;
-use crate::request_end::{RequestEnd, StreamFault};
+use crate::request_end::{ConnectionFault, RequestEnd};
 use crate::targets::HttpTargets;
 use client_sessions::{SessionReader, SessionWriter, send};
 use http_replies::out_of_memory_reply;
@@ -54,7 +54,7 @@ pub fn serve_request<R: SessionReader, W: SessionWriter, T: HttpTargets>(
     input: &mut R,
     output: &mut W,
     targets: &mut T,
-) -> Result<RequestEnd, StreamFault>
+) -> Result<RequestEnd, ConnectionFault>
     // A request was read, the exchanges are those by which it is answered, and the reply was written; or nothing came.
     ensures ends { IfOk result (λ end. Ends (Makes T.asks T.inquires) (T.replicas targets.old) targets.old targets.new
         (R.remaining input.old) (R.remaining input.new) (W.contents output.old) (W.contents output.new) end) }
@@ -70,9 +70,9 @@ pub fn serve_request<R: SessionReader, W: SessionWriter, T: HttpTargets>(
     match hear(alloc, input, &mut buffer) {
         Ok(Some(asked)) => match respond(alloc, &asked, output, targets) {
             Ok(end) => Ok(end),
-            Err(error) => Err(StreamFault::Write(error)),
+            Err(error) => Err(ConnectionFault::Write(error)),
         },
         Ok(None) => Ok(RequestEnd::Silent),
-        Err(error) => Err(StreamFault::Read(error)),
+        Err(error) => Err(ConnectionFault::Read(error)),
     }
 }

@@ -267,7 +267,7 @@ pub(crate) const FULL: &str = "\
 pub(crate) const METRICS: &str = "\
     HTTP/1.1 200 OK\r\n\
     Content-Type: text/plain; version=0.0.4; charset=utf-8\r\n\
-    Content-Length: 823\r\n\
+    Content-Length: 2678\r\n\
     Connection: close\r\n\
     \r\n\
     # HELP abft_rounds Rounds that the replica ended.\n\
@@ -290,12 +290,44 @@ pub(crate) const METRICS: &str = "\
     # TYPE abft_history_entries gauge\n\
     abft_history_entries{replica=\"0\"} 333\n\
     abft_history_entries{replica=\"3\"} 0\n\
+    # HELP abft_frames_lost_total Frames that a full inbox lost.\n\
+    # TYPE abft_frames_lost_total counter\n\
+    abft_frames_lost_total{replica=\"0\"} 9\n\
+    abft_frames_lost_total{replica=\"3\"} 18446744073709551615\n\
+    # HELP abft_frames_accepted_total Frames that the replica accepted.\n\
+    # TYPE abft_frames_accepted_total counter\n\
+    abft_frames_accepted_total{replica=\"0\"} 180\n\
+    abft_frames_accepted_total{replica=\"3\"} 18446744073709551615\n\
+    # HELP abft_frames_ignored_total Frames that the replica ignored, by the first cause that fits.\n\
+    # TYPE abft_frames_ignored_total counter\n\
+    abft_frames_ignored_total{replica=\"0\",cause=\"Malformed\"} 1\n\
+    abft_frames_ignored_total{replica=\"0\",cause=\"Signer\"} 20\n\
+    abft_frames_ignored_total{replica=\"0\",cause=\"NoRow\"} 3\n\
+    abft_frames_ignored_total{replica=\"0\",cause=\"WrongRound\"} 40\n\
+    abft_frames_ignored_total{replica=\"0\",cause=\"WrongPhase\"} 5\n\
+    abft_frames_ignored_total{replica=\"0\",cause=\"NotOwner\"} 60\n\
+    abft_frames_ignored_total{replica=\"0\",cause=\"Repeated\"} 7\n\
+    abft_frames_ignored_total{replica=\"0\",cause=\"BadSignature\"} 80\n\
+    abft_frames_ignored_total{replica=\"0\",cause=\"BadProof\"} 9\n\
+    abft_frames_ignored_total{replica=\"0\",cause=\"TableFull\"} 100\n\
+    abft_frames_ignored_total{replica=\"0\",cause=\"NotMine\"} 18446744073709551615\n\
+    abft_frames_ignored_total{replica=\"3\",cause=\"Malformed\"} 0\n\
+    abft_frames_ignored_total{replica=\"3\",cause=\"Signer\"} 0\n\
+    abft_frames_ignored_total{replica=\"3\",cause=\"NoRow\"} 0\n\
+    abft_frames_ignored_total{replica=\"3\",cause=\"WrongRound\"} 0\n\
+    abft_frames_ignored_total{replica=\"3\",cause=\"WrongPhase\"} 0\n\
+    abft_frames_ignored_total{replica=\"3\",cause=\"NotOwner\"} 0\n\
+    abft_frames_ignored_total{replica=\"3\",cause=\"Repeated\"} 0\n\
+    abft_frames_ignored_total{replica=\"3\",cause=\"BadSignature\"} 0\n\
+    abft_frames_ignored_total{replica=\"3\",cause=\"BadProof\"} 0\n\
+    abft_frames_ignored_total{replica=\"3\",cause=\"TableFull\"} 0\n\
+    abft_frames_ignored_total{replica=\"3\",cause=\"NotMine\"} 0\n\
     ";
 
 pub(crate) const ALL_METRICS: &str = "\
     HTTP/1.1 200 OK\r\n\
     Content-Type: text/plain; version=0.0.4; charset=utf-8\r\n\
-    Content-Length: 1149\r\n\
+    Content-Length: 4395\r\n\
     Connection: close\r\n\
     \r\n\
     # HELP abft_rounds Rounds that the replica ended.\n\
@@ -328,12 +360,70 @@ pub(crate) const ALL_METRICS: &str = "\
     abft_history_entries{replica=\"1\"} 333\n\
     abft_history_entries{replica=\"2\"} 333\n\
     abft_history_entries{replica=\"3\"} 333\n\
+    # HELP abft_frames_lost_total Frames that a full inbox lost.\n\
+    # TYPE abft_frames_lost_total counter\n\
+    abft_frames_lost_total{replica=\"0\"} 2\n\
+    abft_frames_lost_total{replica=\"1\"} 2\n\
+    abft_frames_lost_total{replica=\"2\"} 2\n\
+    abft_frames_lost_total{replica=\"3\"} 2\n\
+    # HELP abft_frames_accepted_total Frames that the replica accepted.\n\
+    # TYPE abft_frames_accepted_total counter\n\
+    abft_frames_accepted_total{replica=\"0\"} 271\n\
+    abft_frames_accepted_total{replica=\"1\"} 271\n\
+    abft_frames_accepted_total{replica=\"2\"} 271\n\
+    abft_frames_accepted_total{replica=\"3\"} 271\n\
+    # HELP abft_frames_ignored_total Frames that the replica ignored, by the first cause that fits.\n\
+    # TYPE abft_frames_ignored_total counter\n\
+    abft_frames_ignored_total{replica=\"0\",cause=\"Malformed\"} 0\n\
+    abft_frames_ignored_total{replica=\"0\",cause=\"Signer\"} 0\n\
+    abft_frames_ignored_total{replica=\"0\",cause=\"NoRow\"} 3\n\
+    abft_frames_ignored_total{replica=\"0\",cause=\"WrongRound\"} 0\n\
+    abft_frames_ignored_total{replica=\"0\",cause=\"WrongPhase\"} 0\n\
+    abft_frames_ignored_total{replica=\"0\",cause=\"NotOwner\"} 0\n\
+    abft_frames_ignored_total{replica=\"0\",cause=\"Repeated\"} 17\n\
+    abft_frames_ignored_total{replica=\"0\",cause=\"BadSignature\"} 0\n\
+    abft_frames_ignored_total{replica=\"0\",cause=\"BadProof\"} 0\n\
+    abft_frames_ignored_total{replica=\"0\",cause=\"TableFull\"} 0\n\
+    abft_frames_ignored_total{replica=\"0\",cause=\"NotMine\"} 1\n\
+    abft_frames_ignored_total{replica=\"1\",cause=\"Malformed\"} 0\n\
+    abft_frames_ignored_total{replica=\"1\",cause=\"Signer\"} 0\n\
+    abft_frames_ignored_total{replica=\"1\",cause=\"NoRow\"} 3\n\
+    abft_frames_ignored_total{replica=\"1\",cause=\"WrongRound\"} 0\n\
+    abft_frames_ignored_total{replica=\"1\",cause=\"WrongPhase\"} 0\n\
+    abft_frames_ignored_total{replica=\"1\",cause=\"NotOwner\"} 0\n\
+    abft_frames_ignored_total{replica=\"1\",cause=\"Repeated\"} 17\n\
+    abft_frames_ignored_total{replica=\"1\",cause=\"BadSignature\"} 0\n\
+    abft_frames_ignored_total{replica=\"1\",cause=\"BadProof\"} 0\n\
+    abft_frames_ignored_total{replica=\"1\",cause=\"TableFull\"} 0\n\
+    abft_frames_ignored_total{replica=\"1\",cause=\"NotMine\"} 1\n\
+    abft_frames_ignored_total{replica=\"2\",cause=\"Malformed\"} 0\n\
+    abft_frames_ignored_total{replica=\"2\",cause=\"Signer\"} 0\n\
+    abft_frames_ignored_total{replica=\"2\",cause=\"NoRow\"} 3\n\
+    abft_frames_ignored_total{replica=\"2\",cause=\"WrongRound\"} 0\n\
+    abft_frames_ignored_total{replica=\"2\",cause=\"WrongPhase\"} 0\n\
+    abft_frames_ignored_total{replica=\"2\",cause=\"NotOwner\"} 0\n\
+    abft_frames_ignored_total{replica=\"2\",cause=\"Repeated\"} 17\n\
+    abft_frames_ignored_total{replica=\"2\",cause=\"BadSignature\"} 0\n\
+    abft_frames_ignored_total{replica=\"2\",cause=\"BadProof\"} 0\n\
+    abft_frames_ignored_total{replica=\"2\",cause=\"TableFull\"} 0\n\
+    abft_frames_ignored_total{replica=\"2\",cause=\"NotMine\"} 1\n\
+    abft_frames_ignored_total{replica=\"3\",cause=\"Malformed\"} 0\n\
+    abft_frames_ignored_total{replica=\"3\",cause=\"Signer\"} 0\n\
+    abft_frames_ignored_total{replica=\"3\",cause=\"NoRow\"} 3\n\
+    abft_frames_ignored_total{replica=\"3\",cause=\"WrongRound\"} 0\n\
+    abft_frames_ignored_total{replica=\"3\",cause=\"WrongPhase\"} 0\n\
+    abft_frames_ignored_total{replica=\"3\",cause=\"NotOwner\"} 0\n\
+    abft_frames_ignored_total{replica=\"3\",cause=\"Repeated\"} 17\n\
+    abft_frames_ignored_total{replica=\"3\",cause=\"BadSignature\"} 0\n\
+    abft_frames_ignored_total{replica=\"3\",cause=\"BadProof\"} 0\n\
+    abft_frames_ignored_total{replica=\"3\",cause=\"TableFull\"} 0\n\
+    abft_frames_ignored_total{replica=\"3\",cause=\"NotMine\"} 1\n\
     ";
 
 pub(crate) const METRICS_OF_2: &str = "\
     HTTP/1.1 200 OK\r\n\
     Content-Type: text/plain; version=0.0.4; charset=utf-8\r\n\
-    Content-Length: 633\r\n\
+    Content-Length: 1704\r\n\
     Connection: close\r\n\
     \r\n\
     # HELP abft_rounds Rounds that the replica ended.\n\
@@ -351,4 +441,23 @@ pub(crate) const METRICS_OF_2: &str = "\
     # HELP abft_history_entries Entries of the history.\n\
     # TYPE abft_history_entries gauge\n\
     abft_history_entries{replica=\"2\"} 333\n\
+    # HELP abft_frames_lost_total Frames that a full inbox lost.\n\
+    # TYPE abft_frames_lost_total counter\n\
+    abft_frames_lost_total{replica=\"2\"} 2\n\
+    # HELP abft_frames_accepted_total Frames that the replica accepted.\n\
+    # TYPE abft_frames_accepted_total counter\n\
+    abft_frames_accepted_total{replica=\"2\"} 271\n\
+    # HELP abft_frames_ignored_total Frames that the replica ignored, by the first cause that fits.\n\
+    # TYPE abft_frames_ignored_total counter\n\
+    abft_frames_ignored_total{replica=\"2\",cause=\"Malformed\"} 0\n\
+    abft_frames_ignored_total{replica=\"2\",cause=\"Signer\"} 0\n\
+    abft_frames_ignored_total{replica=\"2\",cause=\"NoRow\"} 3\n\
+    abft_frames_ignored_total{replica=\"2\",cause=\"WrongRound\"} 0\n\
+    abft_frames_ignored_total{replica=\"2\",cause=\"WrongPhase\"} 0\n\
+    abft_frames_ignored_total{replica=\"2\",cause=\"NotOwner\"} 0\n\
+    abft_frames_ignored_total{replica=\"2\",cause=\"Repeated\"} 17\n\
+    abft_frames_ignored_total{replica=\"2\",cause=\"BadSignature\"} 0\n\
+    abft_frames_ignored_total{replica=\"2\",cause=\"BadProof\"} 0\n\
+    abft_frames_ignored_total{replica=\"2\",cause=\"TableFull\"} 0\n\
+    abft_frames_ignored_total{replica=\"2\",cause=\"NotMine\"} 1\n\
     ";

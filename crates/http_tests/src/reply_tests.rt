@@ -2,11 +2,11 @@
 
 use crate::expected::*;
 use http_replies::{
-    Answer, Commitment, Receipt, ReplicaMetrics, ServiceFault, Submission, out_of_memory_reply,
-    put_reply,
+    Answer, Commitment, FrameCounts, Receipt, ReplicaMetrics, ServiceFault, Submission,
+    out_of_memory_reply, put_reply,
 };
 use http_requests::{Parameter, RequestFault};
-use ledger_model::{AppKind, Height, ReplicaId, SubmitRefusal};
+use ledger_model::{AppKind, Height, Ignored, ReplicaId, SubmitRefusal};
 use std::alloc::Global;
 use test_support::batch;
 
@@ -206,6 +206,11 @@ fn metrics_are_one_text_for_all_replicas(rt: HostRuntime) {
             signatures_left: 1001,
             pool_transactions: 5,
             history_entries: 333,
+            frames: FrameCounts {
+                accepted: 180,
+                ignored: [1, 20, 3, 40, 5, 60, 7, 80, 9, 100, u64::MAX],
+            },
+            frames_lost: 9,
         },
         ReplicaMetrics {
             replica: ReplicaId::new(3),
@@ -214,11 +219,61 @@ fn metrics_are_one_text_for_all_replicas(rt: HostRuntime) {
             signatures_left: 0,
             pool_transactions: u64::MAX,
             history_entries: 0,
+            frames: FrameCounts {
+                accepted: u64::MAX,
+                ignored: [0; 11],
+            },
+            frames_lost: u64::MAX,
         },
     ];
     for (answer, text) in &[(Answer::Metrics(&replicas), METRICS)] {
         assert!(rt; is_reply(rt.alloc(), answer, text));
     }
+}
+
+const ALL_CAUSES: [Ignored; 11] = [
+    Ignored::Malformed,
+    Ignored::Signer,
+    Ignored::NoRow,
+    Ignored::WrongRound,
+    Ignored::WrongPhase,
+    Ignored::NotOwner,
+    Ignored::Repeated,
+    Ignored::BadSignature,
+    Ignored::BadProof,
+    Ignored::TableFull,
+    Ignored::NotMine,
+];
+
+// The counts after the answer was counted this number of times for each cause, in turn: once for the first, twice for the second.
+fn counts_of_causes() -> FrameCounts {
+    let mut counts = FrameCounts::new();
+    for (place, cause) in ALL_CAUSES.iter().enumerate() {
+        for _ in 0..=place {
+            counts.count(Err(*cause));
+        }
+    }
+    counts.count(Ok(()));
+    counts
+}
+
+#[test]
+fn each_answer_is_counted_for_its_cause(rt: HostRuntime) {
+    let counts = counts_of_causes();
+    assert!(rt; counts.accepted == 1);
+    assert!(rt; counts.ignored == [1, 2, 3, 4, 5, 6, 7, 8, 9, 10, 11]);
+}
+
+#[test]
+fn a_count_stays_at_the_last_number(rt: HostRuntime) {
+    let mut counts = FrameCounts {
+        accepted: u64::MAX,
+        ignored: [u64::MAX; 11],
+    };
+    counts.count(Ok(()));
+    counts.count(Err(Ignored::Repeated));
+    assert!(rt; counts.accepted == u64::MAX);
+    assert!(rt; counts.ignored_for(Ignored::Repeated) == u64::MAX);
 }
 
 // Whether the reply to the answer starts with these bytes.

@@ -1,7 +1,7 @@
 //! Four replicas whose answers a test sets.
 use bytes::Bytes;
 use client_sessions::{TargetFault, Targets};
-use http_replies::ReplicaMetrics;
+use http_replies::{FrameCounts, ReplicaMetrics};
 use http_sessions::{AppInfo, Delivery, HttpTargets, PoolSize};
 use ledger_model::{AppKind, Batch, Height, QueryAnswer, ReplicaId, SubmitRefusal};
 use std::alloc::Global;
@@ -116,6 +116,11 @@ impl HttpTargets for Fake {
             signatures_left: 1001,
             pool_transactions: 5,
             history_entries: 333,
+            frames: FrameCounts {
+                accepted: 271,
+                ignored: [0, 0, 3, 0, 0, 0, 17, 0, 0, 0, 1],
+            },
+            frames_lost: 2,
         }
     }
 

@@ -5,7 +5,7 @@ use crate::session_streams::{SlowReader, SlowWriter};
 use crate::session_targets::Fake;
 use client_sessions::TargetFault;
 use counted_streams::CountedStream;
-use http_sessions::{Delivery, RequestEnd, StreamFault, serve_request};
+use http_sessions::{ConnectionFault, Delivery, RequestEnd, serve_request};
 use ledger_model::{Height, SubmitRefusal};
 use std::alloc::Global;
 
@@ -19,13 +19,13 @@ enum End {
     Write,
 }
 
-fn end_of(served: &Result<RequestEnd, StreamFault>) -> End {
+fn end_of(served: &Result<RequestEnd, ConnectionFault>) -> End {
     match served {
         Ok(RequestEnd::Answered) => End::Answered,
         Ok(RequestEnd::OutOfMemory) => End::OutOfMemory,
         Ok(RequestEnd::Silent) => End::Silent,
-        Err(StreamFault::Read(_)) => End::Read,
-        Err(StreamFault::Write(_)) => End::Write,
+        Err(ConnectionFault::Read(_)) => End::Read,
+        Err(ConnectionFault::Write(_)) => End::Write,
     }
 }
 

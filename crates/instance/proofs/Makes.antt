@@ -169,7 +169,8 @@ module _ (ring : Ring) (row : InstanceView) (log : List Note) (m : MatchesLog ri
   -- ---- the acknowledgement
 
   ack_alike : (sent : Option Statement) (taken : Option Value)
-      → Alike (sent ≡ sent_ack row k taken) (beside sent (unsent_frames (unsent_ack row k taken)) ≡ acks_of row.config row.id row.height k taken)
+      → Alike (sent ≡ sent_ack row k taken) (beside sent (unsent_frames (unsent_ack row k taken))
+      ≡ acks_of row.config row.id row.height k taken)
   ack_alike sent taken = grind arith
 
   -- ---- in any round

@@ -22,7 +22,8 @@ use Rattle.tally.specs.Tallies.{all_read, read_of}
 use Rattle.ledger_model.proofs.Lists.{all_has, all_from, pointwise_refl, pointwise_equal, same_value-refl, same_value-equal, same_some}
 use Rattle.instance.specs.Instances.{InstanceView}
 use Rattle.phase_core.proofs.Choosing.{chosen_found, none_chosen}
-use Rattle.instance.specs.Plans.{own_report, own_ack_of, sent_ack, unsent_ack, MaySend, MaySendLock, IsOwnLockOf, IsOwnStatement, same_flag, same_version}
+use Rattle.instance.specs.Plans.{own_report, own_ack_of, sent_ack, unsent_ack, MaySend}
+use Rattle.instance.specs.Plans.{MaySendLock, IsOwnLockOf, IsOwnStatement, same_flag, same_version}
 use Rattle.ledger_model.specs.declared.version.Version.{Version}
 use Rattle.ledger_model.specs.declared.version.Version.TheVariants.{One, Two}
 use Rattle.instance.specs.Plans.{same_report, same_signed, is_kept, is_own_lock, is_own_ack, may_send, may_send_report, may_send_lock}

@@ -44,7 +44,8 @@ use Rattle.std.proofs.lemmas.List.Elements.{filter_map-append}
 
 module _ (log : List Note) (k : ℕ)
     (unread : (place : ℕ) (test : Statement → Bool) → 1 ≤ place → was_read log (round_at place k) test ≡ false) where
-  pub no_reports : (version : Version) (ring : Ring) (replicas height : ℕ) → ReportsMatch version ring replicas height log k (replicate replicas None)
+  pub no_reports : (version : Version) (ring : Ring) (replicas height : ℕ)
+      → ReportsMatch version ring replicas height log k (replicate replicas None)
   no_reports version ring replicas height = record {
     count = length-replicate replicas None;
     same = λ test. unread 1 (is_report test) (omega arith) ∙ sym (ap (λ ss. list_any test (reports_of ss)) (none_read replicas));
@@ -234,7 +235,8 @@ module _ (ring : Ring) (row : InstanceView) (log : List Note) (old : MatchesLog 
         ∙ ap (λ d. proper_at row.config row.id (more log n) (proper_phase d) proper.own) (sym clock);
     locks = sym held;
     decided = decides ∙ ap (λ d. decided_by row.config (more log n) (d / rounds_in_phase)) (sym clock);
-    reports = subst (λ d. ReportsMatch row.config.frames ring row.config.replicas row.height (more log n) (phase_of d) reports) (sym clock) are;
+    reports = subst (λ d. ReportsMatch row.config.frames ring row.config.replicas row.height (more log n) (phase_of d) reports) (sym clock)
+        are;
     lock = subst (λ d. LockMatches (more log n) (phase_of d) taken made) (sym clock) lock;
     acks = subst (λ d. AcksMatch row.config.replicas (more log n) (phase_of d) acks) (sym clock) ack;
   }

@@ -50,30 +50,36 @@ use Rattle.instance.proofs.KeptPlaces.{read_added}
 table_of : {version : Version} (t : List SignedLock) → IsValueList version (values_of t) → IsTable t
 table_of {version} t h = let same = length-map t (λ (s : SignedLock). s.lock.value) in grind arith
 
-of_table : {version : Version} (t : List SignedLock) → IsTable t → ((v : Value) → Has (values_of t) v → IsValueIn version v) → IsValueList version (values_of t)
+of_table : {version : Version} (t : List SignedLock) → IsTable t → ((v : Value) → Has (values_of t) v → IsValueIn version v)
+    → IsValueList version (values_of t)
 of_table {version} t table each = record {
   few = let few = table.few in let same = length-map t (λ (s : SignedLock). s.lock.value) in omega arith;
   each = each_from (IsValueIn version) (values_of t) each;
   ascend = table.ascends;
 }
 
-with_lock-spelled : {version : Version} (s : SignedLock) (t : List SignedLock) → IsValueIn version s.lock.value → IsValueList version (values_of t)
+with_lock-spelled : {version : Version} (s : SignedLock) (t : List SignedLock) → IsValueIn version s.lock.value
+    → IsValueList version (values_of t)
     → has_four_others s.lock.value t ≡ false
     → IsValueList version (values_of (with_lock s t))
 with_lock-spelled {version} s t value h room =
     of_table (with_lock s t) (with_lock-table s t (table_of t h) room)
-    (λ v k. let known = with_value_has s.lock.value (values_of t) v in let was = each_has (IsValueIn version) (values_of t) v h.each in let is =
+    (λ v k. let known = with_value_has s.lock.value (values_of t) v in let was = each_has (IsValueIn version) (values_of t) v h.each in let
+    is =
     with_lock-values s t in grind arith)
 
-filter-spelled : {version : Version} (p : SignedLock → Bool) (t : List SignedLock) → IsValueList version (values_of t) → IsValueList version (values_of (filter p t))
+filter-spelled : {version : Version} (p : SignedLock → Bool) (t : List SignedLock) → IsValueList version (values_of t)
+    → IsValueList version (values_of (filter p t))
 filter-spelled {version} p t h =
     of_table (filter p t) (filter-table p t (table_of t h))
     (λ v k. let m = has_map (λ (s : SignedLock). s.lock.value) (filter p t) v k in
-    subst (IsValueIn version) m.1.1 (each_has (IsValueIn version) (values_of t) m.0.lock.value h.each (has_value t m.0 (filter_has p t m.0 m.1.0).0)))
+    subst (IsValueIn version) m.1.1 (each_has (IsValueIn version) (values_of t) m.0.lock.value h.each
+    (has_value t m.0 (filter_has p t m.0 m.1.0).0)))
 
 -- ---- proper values
 
-cut-spelled : {version : Version} (own : Value) (vs : List Value) → IsValueIn version own → ((v : Value) → Has vs v → IsValueIn version v) → IsValueList version (cut own vs)
+cut-spelled : {version : Version} (own : Value) (vs : List Value) → IsValueIn version own → ((v : Value) → Has vs v → IsValueIn version v)
+    → IsValueList version (cut own vs)
 cut-spelled {version} own vs own_spelled each =
     let others = filter (λ v. not (same_value own v)) (ascending vs) in
     record {
@@ -134,7 +140,8 @@ module _ {row : InstanceView} (h : IsSpelled row) where
   -- other locks and reports, and another value that was taken; what else was read, made or decided doesn't matter
   spelled_with : {table : List SignedLock} {taken : Option Value} {reports : Places SignedReport} {acks : Places Ack}
       {made decided : Option Value}
-      → IsValueList row.config.frames (values_of table) → IfSome taken (IsValueIn row.config.frames) → AreKeptReports row.config.frames reports
+      → IsValueList row.config.frames (values_of table) → IfSome taken (IsValueIn row.config.frames)
+      → AreKeptReports row.config.frames reports
       → IsSpelled (record row { table = table; reports = reports; acks = acks; taken = taken; made = made; decided = decided })
   spelled_with locked taken reports =
       record { heights = h.heights; own = h.own; proper = h.proper; some = h.some; locked = locked; taken = taken; reports = reports }
@@ -142,7 +149,8 @@ module _ {row : InstanceView} (h : IsSpelled row) where
   -- a report more, at its signer's place
   with_report : (r : ℕ) (s : SignedReport) → s.report.signer ≡ r → IsSigned row.config.frames s
       → (q : ℕ) (x : SignedReport) → ((q ≡ r) × (s ≡ x)) ⊎ (read_of row.reports q ≡ Some x) → IsKeptReport row.config.frames q x
-  with_report r s signer spelled q x (inl new) = subst (IsKeptReport row.config.frames q) new.1 (record { of_signer = signer ∙ sym new.0; spelled = spelled })
+  with_report r s signer spelled q x (inl new) = subst (IsKeptReport row.config.frames q) new.1
+      (record { of_signer = signer ∙ sym new.0; spelled = spelled })
   with_report r s signer spelled q x (inr old) = h.reports q x old
 
   -- a report is kept
@@ -229,7 +237,8 @@ module _ {ring : Ring} {row : InstanceView} (h : IsSound ring row) where
   pub sound_lock : (s : SignedLock) → IsHeldLock ring row.config row.height s → has_four_others s.lock.value row.table ≡ false
       → IsSound ring (record row { table = with_lock s row.table; taken = Some s.lock.value })
   sound_lock s held room = record {
-    spelled = keeps_lock h.spelled s _ _ _ (value_within row.config.frames s.lock.version s.lock.value held.frame.read held.frame.statement.value)
+    spelled = keeps_lock h.spelled s _ _ _ (value_within row.config.frames s.lock.version s.lock.value held.frame.read
+        held.frame.statement.value)
         room refl refl;
     held = λ m k. elim (with_lock_has s row.table h.spelled.locked.ascend m k) [
       | inl e ↦
@@ -262,10 +271,12 @@ is_right ring row c s ok = record {
 }
 
 sound_read : (ring : Ring) (row : InstanceView) (c : ℕ) (signature : List ℕ) (s : Statement) → IsSound ring row → height_of s ≡ row.height
-    → IsFrameIn row.config.frames (record { statement = s; signature = signature }) → IsRight ring row c (record { statement = s; signature = signature })
+    → IsFrameIn row.config.frames (record { statement = s; signature = signature })
+    → IsRight ring row c (record { statement = s; signature = signature })
     → IsSound ring (with_statement row c signature s)
 sound_read ring row c signature (statement.Report r) h height frame right =
-    sound_report h (record { report = r; signature = signature }) (record { read = frame.read; report = frame.statement; signature = frame.signature })
+    sound_report h (record { report = r; signature = signature })
+    (record { read = frame.read; report = frame.statement; signature = frame.signature })
 sound_read ring row c signature (statement.Ack a) h height frame right = still_sound h
 sound_read ring row c signature (statement.Lock l) h height frame right = elim (cases_Bool (nat_eq (place_of c) lock_place)) [
   | inl second ↦

@@ -149,5 +149,6 @@ Closes =
 abbrev pub ReadsSound : Type 0
 ReadsSound =
     (ring : Ring) (row : InstanceView) (log : List Note) (s : SignedStatement)
-    → MatchesLog ring row log → height_of s.statement ≡ row.height → IsFrameIn row.config.frames s → first_of (row_causes row ring (clock_of log) s) ≡ Ok tt
+    → MatchesLog ring row log → height_of s.statement ≡ row.height → IsFrameIn row.config.frames s
+    → first_of (row_causes row ring (clock_of log) s) ≡ Ok tt
     → IsSound ring (after_read row (clock_of log) s)

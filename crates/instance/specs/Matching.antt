@@ -41,7 +41,8 @@ pub record IsKept (version : Version) (ring : Ring) (height : ℕ) (log : List N
   pub read : Has log (Read (round_at report_place k) (with_signature s))
 
 -- the stored reports are those that were read in phase k, each at its signer's place
-pub record ReportsMatch (version : Version) (ring : Ring) (replicas height : ℕ) (log : List Note) (k : ℕ) (places : Places SignedReport) : Type 0 where
+pub record ReportsMatch (version : Version) (ring : Ring) (replicas height : ℕ) (log : List Note) (k : ℕ) (places : Places SignedReport) :
+    Type 0 where
   pub count : length places ≡ replicas
   pub same : (test : Report → Bool) → was_read log (round_at report_place k) (is_report test) ≡ list_any test (reports_of (all_read places))
   pub kept : (r : ℕ) (s : SignedReport) → read_of places r ≡ Some s → IsKept version ring height log k r s

@@ -122,7 +122,8 @@ same_version Two Two = true
 -- the two reports are equal
 abbrev pub same_report : Report → Report → Bool
 same_report p q =
-    same_version p.version q.version && (p.height == q.height) && (p.phase == q.phase) && (p.signer == q.signer) && same_flag p.all q.all && same_value p.initial q.initial
+    same_version p.version q.version && (p.height == q.height) && (p.phase == q.phase) && (p.signer == q.signer) && same_flag p.all q.all &&
+    same_value p.initial q.initial
     && pointwise same_value p.proper q.proper && pointwise same_value p.locked q.locked
 
 -- the two signed reports are equal
@@ -136,7 +137,8 @@ is_kept row s = option_map_or (same_signed s) (read_of row.reports s.report.sign
 -- the owner may make the lock in phase k
 abbrev pub is_own_lock : InstanceView → ℕ → Lock → Bool
 is_own_lock row k l =
-    same_version l.version row.config.frames && (l.height == row.height) && (l.phase == k) && (l.signer == row.id) && is_quorate row.config l && is_supporting l
+    same_version l.version row.config.frames && (l.height == row.height) && (l.phase == k) && (l.signer == row.id) && is_quorate row.config
+    l && is_supporting l
     && list_all (is_kept row) l.proof
 
 -- it is the replica's acknowledgement of the lock on v in phase k

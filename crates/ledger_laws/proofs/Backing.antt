@@ -113,7 +113,8 @@ pub signer_made : (config : Config) (id h : ℕ) (front : List Note) (d : ℕ) (
     → Made_by config id h front d made → Has made u → signer_of u ≡ id
 unfolding report_of
 signer_made config id h front d made u (Of_nothing e) has = absurd (has_none made u e has)
-signer_made config id h front d made u (Of_ack place e) has = acks_signer config id h (phase_of d) (value_taken front (phase_of d)) made u e has
+signer_made config id h front d made u (Of_ack place e) has = acks_signer config id h (phase_of d) (value_taken front (phase_of d)) made u e
+    has
 signer_made config id h front d made u (Of_lock lock place owner e own) has =
     sym (ap signer_of (is_only made (statement.Lock lock) u e has)) ∙ own.own
 signer_made config id h front d made u (Of_report own began place e) has =
@@ -263,7 +264,8 @@ module _ (config : Config) (ring : Ring) (correct : List ℕ) where
       → BackedWhole config (histories_at correct (front ++ a ∷ [])) s.statement
   unfolding notes_of
   new_read front a h backed is (event.Deliver bytes) (reply.Delivered (Ok u)) same_e same_r lawful unforged d s has =
-      let told = delivered_only (reading_in config.frames bytes) (clock_of (log_of config a.replica h (entries_at front a.replica))) h d s has in
+      let told = delivered_only (reading_in config.frames bytes) (clock_of (log_of config a.replica h (entries_at front a.replica))) h d s
+      has in
       let ok : answer_to config ring (log_of config a.replica (height_of s.statement) (entries_at front a.replica)) s ≡ Ok u =
       subst (λ o. answer config ring a.replica (entries_at front a.replica) o ≡ Ok u) (told.0) (sym lawful) in
       let fine = unforged s (reading-reads config.frames bytes s told.0).0 in

@@ -11,7 +11,8 @@ use Rattle.ledger_laws.specs.Examples.{RoundEntriesReplay, WorldRuns, tx_a, worl
 use Rattle.ledger_model.specs.Proper.{is_all_proper, proper_values}
 use Rattle.ledger_model.specs.Locks.{decided_of, holds, held_values}
 use Rattle.ledger_model.specs.Spelling.{statement_bytes, body_bytes, frame_bytes}
-use Rattle.ledger_model.specs.Reading.{reading_in, body_reading, statement_at, report_at, lock_at, proof_at, signed_at, place_at, positive_at}
+use Rattle.ledger_model.specs.Reading.{reading_in, body_reading, statement_at, report_at}
+use Rattle.ledger_model.specs.Reading.{lock_at, proof_at, signed_at, place_at, positive_at}
 use Rattle.ledger_model.specs.Reading.{flag_at, value_at, txs_at, tx_at, list_at, values_at, signature_at}
 use Rattle.ledger_model.specs.Signatures.{coef, checksum}
 use Rattle.ledger_model.specs.Applications.{codes, code_after, check_after, accepted, held_at}
@@ -92,7 +93,8 @@ unfolding proper_values is_all_proper
 own_listing_is_no_others = (refl, refl, refl)
 
 pub log_of_a_round : LogOfARound
-unfolding log_of log_after notes_of statements_made statements_sent own_ack reading_in body_reading statement_at place_at positive_at flag_at
+unfolding log_of log_after notes_of statements_made statements_sent own_ack reading_in body_reading statement_at place_at positive_at
+    flag_at
     tx_at report_at value_at txs_at list_at values_at signature_at frame_bytes body_bytes statement_bytes
 log_of_a_round = (refl, refl)
 
@@ -102,7 +104,8 @@ lock_sent_on = refl
 
 pub round_entries_replay : RoundEntriesReplay
 unfolding Replay ReplaysFrom propose_reply commits_of floor_of pool_of pool_after log_of log_after notes_of statements_made statements_sent
-    own_ack MayMake causes reading_in body_reading statement_at place_at positive_at flag_at tx_at report_at value_at txs_at list_at values_at
+    own_ack MayMake causes reading_in body_reading statement_at place_at positive_at flag_at tx_at report_at value_at txs_at list_at
+    values_at
     signature_at frame_bytes body_bytes statement_bytes
 round_entries_replay = (
   (

@@ -18,7 +18,8 @@ use Rattle.ledger_model.specs.Order.{tx_bytes}
 use Rattle.ledger_model.specs.Validity.{ascends_within, signers_of}
 use Rattle.ledger_model.specs.Spelling.{list_bytes, report_bytes, signature_bytes, signed_bytes, lock_bytes, ack_bytes, statement_bytes}
 use Rattle.ledger_model.specs.Reading.{◌>>=◌, only_if, guarded, bytes_at, byte_at, number_at, signature_at, place_at, value_at, report_at}
-use Rattle.ledger_model.specs.Reading.{signed_at, proof_at, lock_at, ack_at, statement_at, body_reading, reading, reading_in, report_version, as_report, as_lock, as_ack}
+use Rattle.ledger_model.specs.Reading.{signed_at, proof_at, lock_at, ack_at, statement_at, body_reading}
+use Rattle.ledger_model.specs.Reading.{reading, reading_in, report_version, as_report, as_lock, as_ack}
 use Rattle.ledger_model.specs.Limits.{max_signature_len}
 use Rattle.ledger_model.specs.Versions.{first_byte}
 use Rattle.ledger_model.specs.declared.version.Version.{Version}
@@ -221,8 +222,10 @@ FitsAck a = FitsPlace a.height a.phase
 
 ack_once : Once ack_bytes FitsAck
 ack_once a b rest more is also e =
-    let parts_a = ack_parts (to_be_bytes w32 a.height) (to_be_bytes w32 a.phase) (value_bytes a.value) rest (first_byte a.version 3) a.signer in
-    let parts_b = ack_parts (to_be_bytes w32 b.height) (to_be_bytes w32 b.phase) (value_bytes b.value) more (first_byte b.version 3) b.signer in
+    let parts_a = ack_parts (to_be_bytes w32 a.height) (to_be_bytes w32 a.phase) (value_bytes a.value) rest (first_byte a.version 3)
+    a.signer in
+    let parts_b = ack_parts (to_be_bytes w32 b.height) (to_be_bytes w32 b.phase) (value_bytes b.value) more (first_byte b.version 3)
+    b.signer in
     let tail = heads (first_byte a.version 3) (first_byte b.version 3) _ _ (sym parts_a ∙ e ∙ parts_b) in
     let version = versions_once a.version b.version 3 tail.0 in
     let height = number_once a.height b.height _ _ is.0 also.0 tail.1 in
@@ -317,7 +320,8 @@ short_lock : (version : Version) (bytes : List ℕ) (l : Lock) (rest : List ℕ)
 unfolding lock_at
 short_lock version bytes l rest e =
     bind_then (place_at bytes) (λ place. value_at version place.1 >>= λ value. byte_at value.1 >>= λ count. guarded
-    (leb 3 count.0 && leb count.0 12) (proof_at version count.0 count.1) >>= λ reports. only_if (ascends_within 0 256 (signers_of reports.0)) (
+    (leb 3 count.0 && leb count.0 12) (proof_at version count.0 count.1) >>= λ reports. only_if
+    (ascends_within 0 256 (signers_of reports.0)) (
       record {
         version = version;
         height = place.0.height;
@@ -342,7 +346,8 @@ short_lock version bytes l rest e =
       },
       reports.1,
     )) (l, rest) after_place (λ value value_is after_value.
-    bind_then (byte_at value.1) (λ count. guarded (leb 3 count.0 && leb count.0 12) (proof_at version count.0 count.1) >>= λ reports. only_if
+    bind_then (byte_at value.1) (λ count. guarded (leb 3 count.0 && leb count.0 12) (proof_at version count.0 count.1) >>= λ reports.
+    only_if
     (ascends_within 0 256 (signers_of reports.0)) (
       record {
         version = version;

@@ -292,6 +292,7 @@ agreement_has_ledger = is_agreed
 
 pub floor_example : FloorExample
 unfolding commits_of floor_of retire_reply propose_reply decided_of log_of log_after notes_of statements_made statements_sent own_ack
-    held_values holds statement_bytes body_bytes frame_bytes reading_in body_reading statement_at report_at lock_at ack_at proof_at signed_at
+    held_values holds statement_bytes body_bytes frame_bytes reading_in body_reading statement_at report_at lock_at ack_at proof_at
+    signed_at
     place_at positive_at flag_at value_at txs_at tx_at list_at values_at signature_at
 floor_example = (refl, refl, refl, refl, refl, refl)

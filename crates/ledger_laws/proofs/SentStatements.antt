@@ -198,7 +198,8 @@ module _ (config : Config) (ring : Ring) (id h : ℕ) where
   notes_clock front log (event.Query x y) (reply.RoundEnded (Ok ended)) lawful = absurd lawful
   notes_clock front log (event.Retire x) (reply.RoundEnded (Ok ended)) lawful = absurd lawful
   notes_clock front log (event.Propose n) (reply.Proposed (Ok v)) lawful = clock_proposed (nat_eq n h) v
-  notes_clock front log (event.Deliver bytes) (reply.Delivered (Ok u)) lawful = clock_delivered (clock_of log) (reading_in config.frames bytes)
+  notes_clock front log (event.Deliver bytes) (reply.Delivered (Ok u)) lawful = clock_delivered (clock_of log)
+      (reading_in config.frames bytes)
   notes_clock front log (event.Retire g) (reply.Retired (Ok f)) lawful = clock_retired (nat_lt h f) f
   notes_clock front log e r lawful = refl
 

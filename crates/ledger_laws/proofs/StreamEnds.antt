@@ -37,14 +37,17 @@ frame_first version bytes s fits whole short e =
     ∙ sym (append_assoc (to_be_bytes w32 (length (body_bytes s))) (body_bytes s) rest) in
     (is.0, parts)
 
-frames_more : (version : Version) (s : SignedStatement) (bytes rest tail : List ℕ) (frames : List SignedStatement) → IsFrameIn version s → bytes ≡ frame_bytes s ++ rest
+frames_more : (version : Version) (s : SignedStatement) (bytes rest tail : List ℕ) (frames : List SignedStatement) → IsFrameIn version s
+    → bytes ≡ frame_bytes s ++ rest
     → Frames version rest frames tail → Frames version bytes (s ∷ frames) tail
 frames_more version s bytes rest tail frames is parts f =
     ((is, f.0), parts ∙ ap (λ (t : List ℕ). frame_bytes s ++ t) f.1 ∙ sym (append_assoc (frame_bytes s) (flat_map frame_bytes frames) tail))
 
-ends_more : (version : Version) (s : SignedStatement) (bytes rest : List ℕ) (frames : List SignedStatement) → IsFrameIn version s → bytes ≡ frame_bytes s ++ rest
+ends_more : (version : Version) (s : SignedStatement) (bytes rest : List ℕ) (frames : List SignedStatement) → IsFrameIn version s → bytes
+    ≡ frame_bytes s ++ rest
     → Ends version rest frames → Ends version bytes (s ∷ frames)
-ends_more version s bytes rest frames is parts (inl split) = inl (split.0, (frames_more version s bytes rest split.0 frames is parts split.1.0, split.1.1))
+ends_more version s bytes rest frames is parts (inl split) = inl
+    (split.0, (frames_more version s bytes rest split.0 frames is parts split.1.0, split.1.1))
 ends_more version s bytes rest frames is parts (inr (inl broken)) =
     inr (inl (broken.0, (frames_more version s bytes rest broken.0 frames is parts broken.1.0, broken.1.1)))
 ends_more version s bytes rest frames is parts (inr (inr broken)) =
@@ -54,7 +57,8 @@ found_or_not : {A : Type 0} (o : Option A) → (o ≡ None) ⊎ ((x : A) × (o �
 found_or_not None = inl refl
 found_or_not (Some x) = inr (x, refl)
 
-ends_within : (version : Version) (n : ℕ) (bytes : List ℕ) → length bytes ≤ n → IsBytes bytes → (frames : List SignedStatement) × Ends version bytes frames
+ends_within : (version : Version) (n : ℕ) (bytes : List ℕ) → length bytes ≤ n → IsBytes bytes → (frames : List SignedStatement)
+    × Ends version bytes frames
 ends_within version zero bytes le fits = ([], inl (bytes, ((tt, refl), inl (omega arith))))
 ends_within version (suc n) bytes le fits =
     let len = announced bytes in

@@ -221,7 +221,8 @@ FramesReadBack =
     × (reading (frame_bytes signed_report ++ 0 ∷ []) ≡ None)
     × (reading (frame_bytes (signed_lock (by_signer 0 ∷ by_signer 2 ∷ by_signer 1 ∷ []))) ≡ None)
 
--- The longest batch of version 1, 16 transactions of 64 bytes, has 1041 bytes, that of version 2, 64 transactions, has 4161. A count of 17 is
+-- The longest batch of version 1, 16 transactions of 64 bytes, has 1041 bytes, that of version 2, 64 transactions, has 4161. A count of 17
+-- is
 -- not read in version 1, nor one of 65 in version 2.
 abbrev pub BatchLimits : Type 0
 BatchLimits =

@@ -75,7 +75,10 @@ lock_on v = record {
 
 -- the signer's acknowledgement of that lock
 abbrev pub ack_on : Value → ℕ → SignedStatement
-ack_on v signer = record { statement = statement.Ack (record { version = One; height = 1; phase = 1; signer = signer; value = v }); signature = [] }
+ack_on v signer = record {
+  statement = statement.Ack (record { version = One; height = 1; phase = 1; signer = signer; value = v });
+  signature = [];
+}
 
 -- the replica opens height 1 with the value
 abbrev pub proposes : Value → Entry

@@ -122,7 +122,8 @@ module _ (config : Config) (ring : Ring) (id h : ℕ) where
   notes_retire front log event.Execute (reply.Retired (Ok g)) lawful = absurd lawful
   notes_retire front log (event.Query x y) (reply.Retired (Ok g)) lawful = absurd lawful
   notes_retire front log (event.Propose n) (reply.Proposed (Ok v)) lawful = proposed_keeps (nat_eq n h) v
-  notes_retire front log (event.Deliver bytes) (reply.Delivered (Ok u)) lawful = delivered_keeps (clock_of log) h (reading_in config.frames bytes)
+  notes_retire front log (event.Deliver bytes) (reply.Delivered (Ok u)) lawful = delivered_keeps (clock_of log) h
+      (reading_in config.frames bytes)
   notes_retire front log event.RoundEnd (reply.RoundEnded (Ok ended)) lawful =
       round_keeps log (clock_of log + 1) (statements_made config id h log (clock_of log + 1) ended)
   notes_retire front log e r lawful = refl

@@ -1,5 +1,6 @@
 -- Frames are read back from their encoding, and a stream of frames splits in one way.
-use Rattle.std.proofs.Common.{◌≡◌, ℕ, ◌+◌, ◌^◌, ◌≤◌, true, ◌&&◌, IsTrue, inl, inr, List, [], ◌∷◌, ◌++◌, length, take, drop, Option, Some, None}
+use Rattle.std.proofs.Common.{◌≡◌, ℕ, ◌+◌, ◌^◌, ◌≤◌, true, ◌&&◌, IsTrue, inl, inr}
+use Rattle.std.proofs.Common.{List, [], ◌∷◌, ◌++◌, length, take, drop, Option, Some, None}
 use Rattle.std.proofs.Common.{refl, sym, ap, subst, ◌∙◌, append_assoc, arith, leb, eqb}
 use Rattle.std.specs.List.{flat_map}
 use Rattle.std.specs.Int.{w32, to_be_bytes, from_be_bytes}
@@ -10,7 +11,8 @@ use Rattle.ledger_model.specs.declared.statement.SignedStatement.{SignedStatemen
 use Rattle.ledger_model.specs.declared.statement.Statement.{Statement}
 use Rattle.ledger_model.specs.Spelling.{IsStatement, IsFrame, IsFrameIn, statement_bytes, signature_bytes, body_bytes, frame_bytes}
 use Rattle.ledger_model.specs.Spelling.{Spells, SpellsFrame, Frames}
-use Rattle.ledger_model.specs.Reading.{◌>>=◌, only_if, guarded, bytes_at, number_at, signature_at, statement_at, reading, reading_in, statement_reading}
+use Rattle.ledger_model.specs.Reading.{◌>>=◌, only_if, guarded, bytes_at, number_at}
+use Rattle.ledger_model.specs.Reading.{signature_at, statement_at, reading, reading_in, statement_reading}
 use Rattle.ledger_model.specs.Reading.{body_reading, is_carried}
 use Rattle.ledger_model.specs.Streams.{announced, IsPartial, BeginsTooLong, BeginsMalformed}
 use Rattle.ledger_model.specs.GrammarLaws.{IsBytes, FramesPart, StatementsPart, OneStatement, OneSplit, OneBreak, SplitOrBreak}
@@ -28,7 +30,8 @@ none_left text rest test = ap (λ (t : List ℕ). text ++ t) (nil_from_length re
 
 -- ---- statements alone
 
-pub statement_reading-spells : (version : Version) (bytes : List ℕ) (s : Statement) → IsBytes bytes → statement_reading version bytes ≡ Some s
+pub statement_reading-spells : (version : Version) (bytes : List ℕ) (s : Statement) → IsBytes bytes → statement_reading version bytes
+    ≡ Some s
     → Spells version bytes s
 unfolding statement_reading
 statement_reading-spells version bytes s fits e =
@@ -246,13 +249,16 @@ abbrev pub BeginsNoFrame : Version → List ℕ → Type 0
 BeginsNoFrame version rest = (s : SignedStatement) (more : List ℕ) → IsFrameIn version s → rest ≡ frame_bytes s ++ more → ⊥
 
 pub partial_begins_no_frame : (version : Version) (rest : List ℕ) → IsPartial version rest → BeginsNoFrame version rest
-partial_begins_no_frame version rest (inl few) s more is e = let f = subst (HasFrame version s) (sym e) (has_frame version s more is) in let whole =
+partial_begins_no_frame version rest (inl few) s more is e = let f = subst (HasFrame version s) (sym e) (has_frame version s more is) in let
+    whole =
     f.whole in omega arith
-partial_begins_no_frame version rest (inr less) s more is e = let f = subst (HasFrame version s) (sym e) (has_frame version s more is) in let whole =
+partial_begins_no_frame version rest (inr less) s more is e = let f = subst (HasFrame version s) (sym e) (has_frame version s more is) in
+    let whole =
     f.whole in let announces = f.announces in omega (arith, less.1)
 
 pub too_long_begins_no_frame : (version : Version) (rest : List ℕ) → BeginsTooLong version rest → BeginsNoFrame version rest
-too_long_begins_no_frame version rest long s more is e = let f = subst (HasFrame version s) (sym e) (has_frame version s more is) in let announces =
+too_long_begins_no_frame version rest long s more is e = let f = subst (HasFrame version s) (sym e) (has_frame version s more is) in let
+    announces =
     f.announces in let short = f.short in omega (arith, long.1)
 
 pub malformed_begins_no_frame : (version : Version) (rest : List ℕ) → BeginsMalformed version rest → BeginsNoFrame version rest
@@ -263,7 +269,8 @@ malformed_begins_no_frame version rest bad s more is e = let f =
     both g = cc
 
 -- a stream splits in one way, where what is behind its frames begins with none
-pub frames_once : (version : Version) (frames others : List SignedStatement) (bytes rest more : List ℕ) → Frames version bytes frames rest → Frames version bytes others more
+pub frames_once : (version : Version) (frames others : List SignedStatement) (bytes rest more : List ℕ) → Frames version bytes frames rest
+    → Frames version bytes others more
     → BeginsNoFrame version rest → BeginsNoFrame version more → (frames ≡ others) × (rest ≡ more)
 frames_once version [] [] bytes rest more f g ends stops = (refl, sym f.1 ∙ g.1)
 frames_once version [] (b ∷ others) bytes rest more f g ends stops =
@@ -276,8 +283,10 @@ frames_once version (a ∷ frames) (b ∷ others) bytes rest more f g ends stops
     let parts : frame_bytes a ++ (flat_map frame_bytes frames ++ rest) ≡ frame_bytes b ++ (flat_map frame_bytes others ++ more) =
     sym (append_assoc (frame_bytes a) (flat_map frame_bytes frames) rest) ∙ sym f.1 ∙ g.1
     ∙ append_assoc (frame_bytes b) (flat_map frame_bytes others) more in
-    let first = frames_part a b (flat_map frame_bytes frames ++ rest) (flat_map frame_bytes others ++ more) (any_frame version a f.0.0) (any_frame version b g.0.0) parts in
-    let later = frames_once version frames others (flat_map frame_bytes frames ++ rest) rest more (f.0.1, refl) (g.0.1, first.1) ends stops in
+    let first = frames_part a b (flat_map frame_bytes frames ++ rest) (flat_map frame_bytes others ++ more) (any_frame version a f.0.0)
+    (any_frame version b g.0.0) parts in
+    let later = frames_once version frames others (flat_map frame_bytes frames ++ rest) rest more (f.0.1, refl) (g.0.1, first.1) ends stops
+    in
     (cons_same a b frames others first.0 later.0, later.1)
   where
     cons_same : (x y : SignedStatement) (xs ys : List SignedStatement) → x ≡ y → xs ≡ ys → x ∷ xs ≡ y ∷ ys
@@ -285,7 +294,8 @@ frames_once version (a ∷ frames) (b ∷ others) bytes rest more f g ends stops
 
 pub one_split : OneSplit
 one_split version bytes frames others rest more f g =
-    frames_once version frames others bytes rest more f.0 g.0 (partial_begins_no_frame version rest f.1) (partial_begins_no_frame version more g.1)
+    frames_once version frames others bytes rest more f.0 g.0 (partial_begins_no_frame version rest f.1)
+    (partial_begins_no_frame version more g.1)
 
 -- what is partial is neither of what a stream breaks off at, and they aren't each other
 partial_not_too_long : (version : Version) (rest : List ℕ) → IsPartial version rest → BeginsTooLong version rest → ⊥
@@ -313,7 +323,8 @@ split_or_break version bytes frames others rest f = (
 
 pub one_break : OneBreak
 one_break version bytes frames others = (
-  λ f g. (frames_once version frames others bytes f.0 g.0 f.1.0 g.1.0 (too_long_begins_no_frame version f.0 f.1.1) (too_long_begins_no_frame version g.0 g.1.1)).0,
+  λ f g. (frames_once version frames others bytes f.0 g.0 f.1.0 g.1.0 (too_long_begins_no_frame version f.0 f.1.1)
+      (too_long_begins_no_frame version g.0 g.1.1)).0,
   λ f g. (frames_once version frames others bytes f.0 g.0 f.1.0 g.1.0 (malformed_begins_no_frame version f.0 f.1.1)
       (malformed_begins_no_frame version g.0 g.1.1)).0,
   λ f g.

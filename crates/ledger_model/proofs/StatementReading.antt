@@ -163,11 +163,13 @@ report_regroup h p v l m rest s f = simp append_assoc
 abbrev pub IsReportIn : Version → Report → Type 0
 IsReportIn version r = (r.version ≡ version) × IsReport r
 
-pub report_takes : (version : Version) (bytes : List ℕ) (r : Report) (rest : List ℕ) → IsBytes bytes → report_at version bytes ≡ Some (r, rest)
+pub report_takes : (version : Version) (bytes : List ℕ) (r : Report) (rest : List ℕ) → IsBytes bytes → report_at version bytes
+    ≡ Some (r, rest)
     → (bytes ≡ report_tail r ++ rest) × IsReportIn version r × IsBytes rest
 unfolding report_at
 report_takes version bytes r rest fits e =
-    bind_then (place_at bytes) (λ place. flag_at place.1 >>= λ all. value_at version all.1 >>= λ initial. list_at version initial.1 >>= λ proper. guarded
+    bind_then (place_at bytes) (λ place. flag_at place.1 >>= λ all. value_at version all.1 >>= λ initial. list_at version initial.1 >>= λ
+    proper. guarded
     (leb 1 (length proper.0)) (list_at version proper.1) >>= λ locked. Some (
       record {
         version = version;
@@ -182,7 +184,8 @@ report_takes version bytes r rest fits e =
       },
       locked.1,
     )) (r, rest) e (λ place place_is after_place.
-    bind_then (flag_at place.1) (λ all. value_at version all.1 >>= λ initial. list_at version initial.1 >>= λ proper. guarded (leb 1 (length proper.0))
+    bind_then (flag_at place.1) (λ all. value_at version all.1 >>= λ initial. list_at version initial.1 >>= λ proper. guarded
+    (leb 1 (length proper.0))
     (list_at version proper.1) >>= λ locked. Some (
       record {
         version = version;
@@ -197,7 +200,8 @@ report_takes version bytes r rest fits e =
       },
       locked.1,
     )) (r, rest) after_place (λ all all_is after_all.
-    bind_then (value_at version all.1) (λ initial. list_at version initial.1 >>= λ proper. guarded (leb 1 (length proper.0)) (list_at version proper.1) >>=
+    bind_then (value_at version all.1) (λ initial. list_at version initial.1 >>= λ proper. guarded (leb 1 (length proper.0))
+    (list_at version proper.1) >>=
     λ locked. Some (
       record {
         version = version;
@@ -267,7 +271,8 @@ report_takes version bytes r rest fits e =
     (c.0 ∙ ap (λ (t : List ℕ). value_bytes initial.0 ++ t) (d.0 ∙ ap (λ (t : List ℕ). list_bytes proper.0 ++ t) f.0)))
     ∙ report_regroup (to_be_bytes w32 place.0.height) (to_be_bytes w32 place.0.phase) (value_bytes initial.0) (list_bytes proper.0)
     (list_bytes locked.0) locked.1 place.0.signer (cond all.0 1 0) in
-    subst (λ (q : Report × List ℕ). (bytes ≡ report_tail q.0 ++ q.1) × IsReportIn version q.0 × IsBytes q.1) (some_is made (r, rest) after_locked)
+    subst (λ (q : Report × List ℕ). (bytes ≡ report_tail q.0 ++ q.1) × IsReportIn version q.0 × IsBytes q.1)
+    (some_is made (r, rest) after_locked)
     (parts, (refl, record { place = a.1; initial = c.1; proper = d.1; some = leb-true 1 (length proper.0) g.0; locked = f.1 }), f.2))))))
 
 pub report_again : (r : Report) (rest : List ℕ) → IsReport r → report_at r.version (report_tail r ++ rest) ≡ Some (r, rest)
@@ -279,7 +284,8 @@ report_again r rest is =
     let after_initial = list_bytes r.proper ++ after_proper in
     let after_flag = value_bytes r.initial ++ after_initial in
     let after_place = flag_bytes r.all ++ after_flag in
-    ap (report_at version) (sym (report_regroup (to_be_bytes w32 r.height) (to_be_bytes w32 r.phase) (value_bytes r.initial) (list_bytes r.proper)
+    ap (report_at version) (sym (report_regroup (to_be_bytes w32 r.height) (to_be_bytes w32 r.phase) (value_bytes r.initial)
+    (list_bytes r.proper)
     (list_bytes r.locked) rest r.signer (cond r.all 1 0)))
     ∙ rw (
       place_reader.again place after_place is.place,
@@ -385,7 +391,8 @@ pub lock_takes : (version : Version) (bytes : List ℕ) (l : Lock) (rest : List 
 unfolding lock_at
 lock_takes version bytes l rest fits e =
     bind_then (place_at bytes) (λ place. value_at version place.1 >>= λ value. byte_at value.1 >>= λ count. guarded
-    (leb 3 count.0 && leb count.0 12) (proof_at version count.0 count.1) >>= λ reports. only_if (ascends_within 0 256 (signers_of reports.0)) (
+    (leb 3 count.0 && leb count.0 12) (proof_at version count.0 count.1) >>= λ reports. only_if
+    (ascends_within 0 256 (signers_of reports.0)) (
       record {
         version = version;
         height = place.0.height;
@@ -410,7 +417,8 @@ lock_takes version bytes l rest fits e =
       },
       reports.1,
     )) (l, rest) after_place (λ value value_is after_value.
-    bind_then (byte_at value.1) (λ count. guarded (leb 3 count.0 && leb count.0 12) (proof_at version count.0 count.1) >>= λ reports. only_if
+    bind_then (byte_at value.1) (λ count. guarded (leb 3 count.0 && leb count.0 12) (proof_at version count.0 count.1) >>= λ reports.
+    only_if
     (ascends_within 0 256 (signers_of reports.0)) (
       record {
         version = version;
@@ -516,16 +524,28 @@ unfolding ack_at
 ack_takes version bytes x rest fits e =
     let a = bind_some (place_at bytes)
     (λ place. value_at version place.1 >>= λ v. Some
-    (record { version = version; height = place.0.height; phase = place.0.phase; signer = place.0.signer; value = v.0 }, v.1)) (x, rest) e in
+    (record { version = version; height = place.0.height; phase = place.0.phase; signer = place.0.signer; value = v.0 }, v.1)) (x, rest) e
+    in
     let b = bind_some (value_at version a.0.1)
-    (λ v. Some (record { version = version; height = a.0.0.height; phase = a.0.0.phase; signer = a.0.0.signer; value = v.0 }, v.1)) (x, rest) a.2 in
+    (λ v. Some (record { version = version; height = a.0.0.height; phase = a.0.0.phase; signer = a.0.0.signer; value = v.0 }, v.1))
+    (x, rest) a.2 in
     let place = place_reader.takes bytes a.0.0 a.0.1 fits a.1 in
     let value = (value_reader version).takes a.0.1 b.0.0 b.0.1 place.2 b.1 in
-    let made : Ack × List ℕ = (record { version = version; height = a.0.0.height; phase = a.0.0.phase; signer = a.0.0.signer; value = b.0.0 }, b.0.1) in
+    let made : Ack × List ℕ = (
+      record {
+        version = version;
+        height = a.0.0.height;
+        phase = a.0.0.phase;
+        signer = a.0.0.signer;
+        value = b.0.0;
+      },
+      b.0.1,
+    ) in
     let parts : bytes ≡ ack_tail made.0 ++ made.1 =
     place.0 ∙ ap (λ (t : List ℕ). place_bytes a.0.0 ++ t) value.0
     ∙ ack_regroup (to_be_bytes w32 a.0.0.height) (to_be_bytes w32 a.0.0.phase) (value_bytes b.0.0) b.0.1 a.0.0.signer in
-    subst (λ (q : Ack × List ℕ). (bytes ≡ ack_tail q.0 ++ q.1) × ((q.0.version ≡ version) × IsAck q.0) × IsBytes q.1) (some_is made (x, rest) b.2)
+    subst (λ (q : Ack × List ℕ). (bytes ≡ ack_tail q.0 ++ q.1) × ((q.0.version ≡ version) × IsAck q.0) × IsBytes q.1)
+    (some_is made (x, rest) b.2)
     (parts, (refl, record { place = place.1; value = value.1 }), value.2)
 
 pub ack_again : (a : Ack) (rest : List ℕ) → IsAck a → ack_at a.version (ack_tail a ++ rest) ≡ Some (a, rest)
@@ -542,7 +562,8 @@ ack_again a rest is =
 abbrev IsTaken : List ℕ → Statement → List ℕ → Type 0
 IsTaken bytes s rest = (bytes ≡ statement_bytes s ++ rest) × IsStatement s × IsBytes rest
 
-report_taken : (version : Version) (first : ℕ) (bytes : List ℕ) (s : Statement) (rest : List ℕ) → first ≡ first_byte version 1 → IsBytes bytes
+report_taken : (version : Version) (first : ℕ) (bytes : List ℕ) (s : Statement) (rest : List ℕ) → first ≡ first_byte version 1
+    → IsBytes bytes
     → as_report version bytes ≡ Some (s, rest) → IsTaken (first ∷ bytes) s rest
 unfolding statement_bytes
 report_taken version first bytes s rest is fits e =

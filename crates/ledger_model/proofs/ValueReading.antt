@@ -96,7 +96,8 @@ unfolding list_at
 list_takes version bytes vs rest fits e =
     let a = bind_some (byte_at bytes)
     (λ count. guarded (leb count.0 4) (values_at version count.0 count.1) >>= λ read. only_if (are_ascending read.0) read) (vs, rest) e in
-    let b = bind_some (guarded (leb a.0.0 4) (values_at version a.0.0 a.0.1)) (λ read. only_if (are_ascending read.0) read) (vs, rest) a.2 in
+    let b = bind_some (guarded (leb a.0.0 4) (values_at version a.0.0 a.0.1)) (λ read. only_if (are_ascending read.0) read) (vs, rest) a.2
+    in
     let g = guarded-some (leb a.0.0 4) (values_at version a.0.0 a.0.1) b.0 b.1 in
     let few : a.0.0 ≤ 4 = leb-true a.0.0 4 g.0 in
     let o = only_if-some (are_ascending b.0.0) b.0 (vs, rest) b.2 in

@@ -9,7 +9,7 @@ use Rattle.ledger_model.specs.Validity.{ValidLock, is_quorate, is_supporting}
 use Rattle.lock_proofs.specs.LockTables.{SignedLock, as_statement}
 use Rattle.ledger_model.proofs.Lists.{all_has, all_from}
 use Rattle.lock_proofs.specs.declared.fault.LockFault.TheVariants as fault
-use Rattle.lock_proofs.specs.Faults.{faults, are_signed, IsBacked, IsSigned}
+use Rattle.lock_proofs.specs.Faults.{faults, are_signed, IsBacked, SignaturesVerify}
 
 -- where no cause fits, the first doesn't, nor one of the others
 passed : {C : Type 0} (b : Bool) (c : C) (cs : List (Bool × C)) → first_of ((not b, c) ∷ cs) ≡ Ok tt → (b ≡ true) × (first_of cs ≡ Ok tt)
@@ -41,7 +41,7 @@ valid config ring s h =
     }
 
 -- no fault fits what is valid by its own signatures
-pub accepted : (config : Config) (ring : Ring) (s : SignedLock) → IsSigned ring s → ValidLock (IsBacked ring) config s.lock
+pub accepted : (config : Config) (ring : Ring) (s : SignedLock) → SignaturesVerify ring s → ValidLock (IsBacked ring) config s.lock
     → first_of (faults config ring s) ≡ Ok tt
 accepted config ring s signed v =
     let l = s.lock in

@@ -30,7 +30,7 @@ abbrev pub IsBacked : Ring → Statement → Type 0
 IsBacked ring s = (signature : List ℕ) × IsTrue (is_signed ring (record { statement = s; signature = signature }))
 
 -- the signatures in the lock verify: its own, and those of the reports in its proof
-pub record IsSigned (ring : Ring) (s : SignedLock) : Type 0 where
+pub record SignaturesVerify (ring : Ring) (s : SignedLock) : Type 0 where
   pub own : IsTrue (is_signed ring (as_statement s))
   pub reports : (p : SignedReport) → Has s.lock.proof p → IsTrue (is_signed ring (with_signature p))
 

@@ -4,7 +4,7 @@ ghost use Rattle.ledger_model.specs.Validity.{ValidLock};
 ghost use Rattle.ledger_model.specs.Rules.{first_of};
 ghost use Rattle.lock_proofs.specs.LockTables.{as_statement};
 ghost use Rattle.lock_proofs.specs.LockFrames.{IsLockFrame, lock_in};
-ghost use Rattle.lock_proofs.specs.Faults.{faults, IsBacked, IsSigned, without_lock};
+ghost use Rattle.lock_proofs.specs.Faults.{faults, IsBacked, SignaturesVerify, without_lock};
 
 use crate::LockFault;
 use crate::checks::{is_of_owner, is_quorate, is_supporting};
@@ -127,7 +127,7 @@ pub fn check_lock(config: &Config, ring: &KeyRing, frame: Frame) -> Result<LockF
     ensures valid { IfOk result (λ lock. ValidLock (IsBacked ring.now) config.now lock.lock) }
 
     // A valid lock whose own signatures verify is returned.
-    ensures only { IsSigned ring.now (lock_in frame) → ValidLock (IsBacked ring.now) config.now (lock_in frame).lock
+    ensures only { SignaturesVerify ring.now (lock_in frame) → ValidLock (IsBacked ring.now) config.now (lock_in frame).lock
         → IsOk result }
 {
     let mut checks = ring;
@@ -149,7 +149,7 @@ pub fn check_lock_with<C: CheckSignatures>(
     ensures valid { IfOk result (λ lock. ValidLock (IsBacked (C.ring checks.old)) config.now lock.lock) }
 
     // A valid lock whose own signatures verify is returned.
-    ensures only { IsSigned (C.ring checks.old) (lock_in frame) → ValidLock (IsBacked (C.ring checks.old)) config.now (lock_in frame).lock
+    ensures only { SignaturesVerify (C.ring checks.old) (lock_in frame) → ValidLock (IsBacked (C.ring checks.old)) config.now (lock_in frame).lock
         → IsOk result }
     // The keys are the same.
     ensures same { C.ring checks.new ≡ C.ring checks.old }

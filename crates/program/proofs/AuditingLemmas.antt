@@ -40,14 +40,16 @@ module _ (s : AuditSettings) (input : List ℕ) (unread left : Option (List ℕ)
 
   -- the input is histories, which were audited
   audits_whole : (histories : List History) (status : ℕ) (before after : Option (List ℕ)) → ReadsWhole unread left input
-      → histories_reading s.cluster.config.frames input ≡ Some histories → AuditsWritten s histories status before after → Audits s status unread left before after
+      → histories_reading s.cluster.config.frames input ≡ Some histories → AuditsWritten s histories status before after
+      → Audits s status unread left before after
   audits_whole histories status before after (read, to_end) reads (text, (audited, written)) = (
     to_end,
     record { input = input; text = text; goes_with = inr (histories, reads, audited); read = read; written = written },
   )
 
   audits_part : (histories : List History) (before after : Option (List ℕ)) → ReadsWhole unread left input
-      → histories_reading s.cluster.config.frames input ≡ Some histories → AuditsWrittenSome s histories before after → AuditsSome s unread left before after
+      → histories_reading s.cluster.config.frames input ≡ Some histories → AuditsWrittenSome s histories before after
+      → AuditsSome s unread left before after
   audits_part histories before after (read, to_end) reads (text, (inl none, written)) =
       record { input = input; text = text; goes_with = inl none; read = read; written = written }
   audits_part histories before after (read, to_end) reads (text, (inr (status, audited), written)) = record {

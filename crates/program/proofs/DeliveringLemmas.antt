@@ -17,7 +17,8 @@ use Rattle.program.specs.declared.stream_end.StreamEnd.{StreamEnd}
 use Rattle.program.specs.Lines.{last_line}
 use Rattle.byte_streams.specs.Writing.{AppendsSome}
 use Rattle.program.specs.Answering.{Answers, AnswersSome, deliveries, fresh, starting}
-use Rattle.program.specs.Streams.{Delivers, DeliversSome, DeliversStream, DeliversStreamSome, Ended, FillsHistory, IsMuteOnlySpent, Stands, Stopped}
+use Rattle.program.specs.Streams.{Delivers, DeliversSome, DeliversStream, DeliversStreamSome}
+use Rattle.program.specs.Streams.{Ended, FillsHistory, IsMuteOnlySpent, Stands, Stopped}
 use Rattle.ledger_model.specs.Spelling.{Frames}
 use Rattle.byte_streams.proofs.WritingLemmas.{nothing_some, then_some}
 use Rattle.program.proofs.AnsweringLemmas.{answers_both, some_after, some_longer}

@@ -35,10 +35,12 @@ module _ (start state new : StateView) (unread now left before out after : Optio
   read_now = Consumes-trans unread now left so_far.input piece so_far.read read
 
   -- it goes on behind the frames, or a fault stands there
-  pub piece_goes : (found : List SignedStatement) (next last : FrameReaderView) (fault : Option StreamFault) → next.version ≡ start.config.frames → last.version ≡ start.config.frames
+  pub piece_goes : (found : List SignedStatement) (next last : FrameReaderView) (fault : Option StreamFault) → next.version
+      ≡ start.config.frames → last.version ≡ start.config.frames
       → HandsOut reader.version reader.state piece found next.state
       → Printed state (deliveries found) new out after
-      → ((bytes : List ℕ) (frames : List SignedStatement) → Leaves next.version bytes frames next.state → GoesBehind bytes frames last fault)
+      → ((bytes : List ℕ) (frames : List SignedStatement) → Leaves next.version bytes frames next.state
+      → GoesBehind bytes frames last fault)
       → GoesOn start unread left before after new last fault
   piece_goes found next last None is_next is_last handed printed behind =
       let (kept, goes) = behind (so_far.input ++ piece) (so_far.frames ++ found) (rw is_next (given_now found next handed)) in record {
@@ -71,7 +73,8 @@ module _ (start state new : StateView) (unread now left before out after : Optio
       → PrintedSome state (deliveries found) new out after
       → Stopped start unread left before after new
   piece_stops found next handed printed =
-      let (rest, frames) = frames_left start.config.frames (so_far.input ++ piece) (so_far.frames ++ found) next.state (given_now found next handed) in record {
+      let (rest, frames) = frames_left start.config.frames (so_far.input ++ piece) (so_far.frames ++ found) next.state
+      (given_now found next handed) in record {
         input = so_far.input ++ piece;
         frames = so_far.frames ++ found;
         rest = rest;
@@ -85,9 +88,11 @@ module _ (start state new : StateView) (unread now left before out after : Optio
 
   -- either of both
   pub piece_behind : {E : Type 0} → (found : List SignedStatement) (next last : FrameReaderView) (r : Result (Option StreamFault) E)
-      → next.version ≡ start.config.frames → last.version ≡ start.config.frames → HandsOut reader.version reader.state piece found next.state
+      → next.version ≡ start.config.frames → last.version ≡ start.config.frames
+      → HandsOut reader.version reader.state piece found next.state
       → Printed state (deliveries found) new out after
-      → ((bytes : List ℕ) (frames : List SignedStatement) → Leaves next.version bytes frames next.state → IfOk r (GoesBehind bytes frames last))
+      → ((bytes : List ℕ) (frames : List SignedStatement) → Leaves next.version bytes frames next.state
+      → IfOk r (GoesBehind bytes frames last))
       → MatchResult r (GoesOn start unread left before after new last) (λ _. Stopped start unread left before after new)
   piece_behind found next last (Ok fault) is_next is_last handed printed behind =
       piece_goes found next last fault is_next is_last handed printed behind
@@ -95,7 +100,8 @@ module _ (start state new : StateView) (unread now left before out after : Optio
       piece_stops found next handed (printed_all state new (deliveries found) out after printed)
 
   -- a fault stands there, with no frame before it
-  pub piece_told : (fault : FrameFault) (next : FrameReaderView) (found : StreamFault) → Tells reader.version reader.state piece fault next.state → IsTold fault found
+  pub piece_told : (fault : FrameFault) (next : FrameReaderView) (found : StreamFault)
+      → Tells reader.version reader.state piece fault next.state → IsTold fault found
       → Ended start unread left before out state (Fault found)
   piece_told fault next found tells is = record {
     input = so_far.input ++ piece;

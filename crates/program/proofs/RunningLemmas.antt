@@ -249,6 +249,7 @@ asks_no_memory (fault.Rejected option code word) asks wants = asks
 asks_no_memory (fault.NamedInput input word) asks wants = asks
 asks_no_memory (fault.Receipt word) asks wants = asks
 asks_no_memory (fault.What word) asks wants = asks
+asks_no_memory (fault.Level word) asks wants = asks
 asks_no_memory (fault.Missing option) asks wants = asks
 asks_no_memory fault.NoSubcommand asks wants = asks
 asks_no_memory fault.NoMemory asks wants = asks

@@ -13,13 +13,16 @@ use Rattle.program.specs.declared.stream_end.StreamFault.{StreamFault}
 use Rattle.program.specs.Streams.{Breaks, IsTold}
 
 -- the frames of what was read, and of the next piece
-pub more_given : (version : Version) (input kept piece : List ℕ) (frames found : List SignedStatement) (new : ReaderState) → SplitsTo version input frames kept
+pub more_given : (version : Version) (input kept piece : List ℕ) (frames found : List SignedStatement) (new : ReaderState)
+    → SplitsTo version input frames kept
     → Leaves version (kept ++ piece) found new
     → Leaves version (input ++ piece) (frames ++ found) new
-more_given version input kept piece frames found new given leaves = joined version (Reading []) (Reading kept) new input piece frames found given leaves
+more_given version input kept piece frames found new given leaves = joined version (Reading []) (Reading kept) new input piece frames found
+    given leaves
 
 -- a reader that handed out frames is within the bytes behind them
-pub frames_left : (version : Version) (bytes : List ℕ) (frames : List SignedStatement) (reader : ReaderState) → Leaves version bytes frames reader
+pub frames_left : (version : Version) (bytes : List ℕ) (frames : List SignedStatement) (reader : ReaderState)
+    → Leaves version bytes frames reader
     → (rest : List ℕ) × Frames version bytes frames rest
 frames_left version bytes frames (Reading kept) l = (kept, l.0)
 frames_left version bytes frames (Found told.TooLong) l = (l.1.0, l.1.1.0)
@@ -29,7 +32,8 @@ frames_left version bytes frames (Found told.NoMemory) l = absurd l
 frames_left version bytes frames Failed l = absurd l
 
 -- what breaks off behind a piece breaks off behind all
-break_after : (version : Version) (Begins : Version → List ℕ → Type 0) (input kept piece : List ℕ) (frames : List SignedStatement) → SplitsTo version input frames kept
+break_after : (version : Version) (Begins : Version → List ℕ → Type 0) (input kept piece : List ℕ) (frames : List SignedStatement)
+    → SplitsTo version input frames kept
     → BreaksOff Begins version (kept ++ piece) []
     → BreaksOff Begins version (input ++ piece) frames
 break_after version Begins input kept piece frames given breaks =
@@ -44,11 +48,14 @@ break_after version Begins input kept piece frames given breaks =
 -- the fault that a reader tells of a piece
 pub told_after : (version : Version) (input kept piece : List ℕ) (frames : List SignedStatement) (fault : FrameFault) (new : ReaderState)
     (found : StreamFault)
-    → SplitsTo version input frames kept → Faults version kept piece fault new → IsTold fault found → Breaks version found (input ++ piece) frames
+    → SplitsTo version input frames kept → Faults version kept piece fault new → IsTold fault found
+    → Breaks version found (input ++ piece) frames
 told_after version input kept piece frames told.TooLong new found given faults is =
-    subst (λ f. Breaks version f (input ++ piece) frames) (sym is) (break_after version BeginsTooLong input kept piece frames given faults.0)
+    subst (λ f. Breaks version f (input ++ piece) frames) (sym is)
+    (break_after version BeginsTooLong input kept piece frames given faults.0)
 told_after version input kept piece frames told.Malformed new found given faults is =
-    subst (λ f. Breaks version f (input ++ piece) frames) (sym is) (break_after version BeginsMalformed input kept piece frames given faults.0)
+    subst (λ f. Breaks version f (input ++ piece) frames) (sym is)
+    (break_after version BeginsMalformed input kept piece frames given faults.0)
 told_after version input kept piece frames told.Failed new found given faults is = absurd is
 told_after version input kept piece frames told.NoMemory new found given faults is = absurd is
 
@@ -73,7 +80,8 @@ reading_unfailed version Failed kept piece fault new is tells = absurd cc
 -- nor does one that handed out frames
 pub fed_unfailed : (version : Version) (reader : ReaderState) (bytes piece : List ℕ) (frames : List SignedStatement) (fault : FrameFault)
     (new : ReaderState) → Leaves version bytes frames reader → Tells version reader piece fault new → fault ≢ told.Failed
-fed_unfailed version (Reading kept) bytes piece frames fault new l tells = reading_unfailed version (Reading kept) kept piece fault new refl tells
+fed_unfailed version (Reading kept) bytes piece frames fault new l tells = reading_unfailed version (Reading kept) kept piece fault new refl
+    tells
 fed_unfailed version (Found told.TooLong) bytes piece frames fault new l tells = λ e. let bad : told.Failed ≡ told.TooLong =
     sym e ∙ tells.0 in absurd cc
 fed_unfailed version (Found told.Malformed) bytes piece frames fault new l tells = λ e. let bad : told.Failed ≡ told.Malformed =
@@ -83,17 +91,20 @@ fed_unfailed version (Found told.NoMemory) bytes piece frames fault new l tells 
 fed_unfailed version Failed bytes piece frames fault new l tells = absurd l
 
 -- an empty piece shows that no fault stands behind the frames that were handed out
-pub behind_none : (version : Version) (old new : ReaderState) (bytes : List ℕ) (frames out : List SignedStatement) → Leaves version bytes frames old
+pub behind_none : (version : Version) (old new : ReaderState) (bytes : List ℕ) (frames out : List SignedStatement)
+    → Leaves version bytes frames old
     → HandsOut version old [] out new
     → ((kept rest : List ℕ) (all : List SignedStatement) → old ≡ Reading kept → SplitsTo version (kept ++ []) all rest → (out ≡ all)
     × (new ≡ Reading rest))
     → (kept : List ℕ) × ((new ≡ Reading kept) × SplitsTo version bytes frames kept)
-behind_none version (Reading kept) new bytes frames out l handed whole = (kept, ((whole kept kept [] refl ((tt, append-nil kept), l.1)).1, l))
+behind_none version (Reading kept) new bytes frames out l handed whole =
+    (kept, ((whole kept kept [] refl ((tt, append-nil kept), l.1)).1, l))
 behind_none version (Found found) new bytes frames out l handed whole = absurd handed
 behind_none version Failed new bytes frames out l handed whole = absurd l
 
 -- or that one does
-pub behind_some : (version : Version) (old new : ReaderState) (bytes : List ℕ) (frames : List SignedStatement) (fault : FrameFault) (found : StreamFault)
+pub behind_some : (version : Version) (old new : ReaderState) (bytes : List ℕ) (frames : List SignedStatement) (fault : FrameFault)
+    (found : StreamFault)
     → Leaves version bytes frames old → Tells version old [] fault new → IsTold fault found
     → Breaks version found bytes frames
 behind_some version (Reading kept) new bytes frames fault found l tells is =

@@ -30,7 +30,8 @@ pub record Drawn (s : DrawSettings) (histories : List History) (text : List ℕ)
 abbrev pub IsDrawn : DrawSettings → List ℕ → ℕ → List ℕ → Type 0
 IsDrawn s input status text =
     ((histories_reading s.cluster.config.frames input ≡ None) × (status ≡ 1) × (text ≡ bad_history))
-    ⊎ ((histories : List History) × (histories_reading s.cluster.config.frames input ≡ Some histories) × (status ≡ 0) × Drawn s histories text)
+    ⊎ ((histories : List History) × (histories_reading s.cluster.config.frames input ≡ Some histories) × (status ≡ 0)
+    × Drawn s histories text)
 
 -- the whole input was read, and what is written for it was written
 abbrev pub Draws : DrawSettings → ℕ → Option (List ℕ) → Option (List ℕ) → Option (List ℕ) → Option (List ℕ) → Type 0

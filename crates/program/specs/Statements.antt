@@ -23,7 +23,14 @@ said_of Report s = statement.Report (record {
   proper = (s.value ∷ []) ∷ [];
   locked = [];
 })
-said_of Ack s = statement.Ack (record { version = s.cluster.config.frames; height = s.height; phase = s.phase; signer = s.replica; value = s.value ∷ [] })
+said_of Ack s = statement.Ack (record {
+  version = s.cluster.config.frames;
+  height = s.height;
+  phase = s.phase;
+  signer = s.replica;
+  value =
+      s.value ∷ [];
+})
 
 -- the statement of the settings
 abbrev pub said : SignSettings → Statement

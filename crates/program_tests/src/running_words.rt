@@ -7,24 +7,32 @@ fn the_words_of_cluster_and_serve_set_each_option(rt: HostRuntime) {
     for &(words, line) in &[
         (
             "abft cluster",
-            "4 1 KvStore W4 32 One 0 [97, 61, 49] 40 200 false false None",
+            "4 1 KvStore W4 32 One 0 [97, 61, 49] 40 200 Info false None",
         ),
         (
             "abft cluster --n 7 --t=2 --kind 2 --w 8 --tree 10 --frames 2 --seed 0000000000000000000000000000000000000000000000000000000000000011 \
              --tx \\00 --rounds 4000000000 --base-ms 60000 --quiet",
-            "7 2 Counter W8 1024 Two 17 [0] 4000000000 60000 true false None",
+            "7 2 Counter W8 1024 Two 17 [0] 4000000000 60000 Off false None",
         ),
         (
             "abft cluster --histories=f",
-            "4 1 KvStore W4 32 One 0 [97, 61, 49] 40 200 false false Some(\"f\")",
+            "4 1 KvStore W4 32 One 0 [97, 61, 49] 40 200 Info false Some(\"f\")",
+        ),
+        (
+            "abft cluster --log debug",
+            "4 1 KvStore W4 32 One 0 [97, 61, 49] 40 200 Debug false None",
+        ),
+        (
+            "abft cluster --log debug --quiet",
+            "4 1 KvStore W4 32 One 0 [97, 61, 49] 40 200 Off false None",
         ),
         (
             "abft serve",
-            "4 1 KvStore W4 32 One 0 [97, 61, 49] 40 200 false false None, 0 None 1 32768",
+            "4 1 KvStore W4 32 One 0 [97, 61, 49] 40 200 Info false None, 0 None 1 32768",
         ),
         (
-            "abft serve --n 13 --tx b=2 --rounds 0 --base-ms 1 --stop-at-eof --histories new.bin --port 65535 --http=80 --sessions 1000 --client-entries 65536",
-            "13 1 KvStore W4 32 One 0 [98, 61, 50] 0 1 false true Some(\"new.bin\"), 65535 Some(80) 1000 65536",
+            "abft serve --n 13 --tx b=2 --rounds 0 --base-ms 1 --log WARN --stop-at-eof --histories new.bin --port 65535 --http=80 --sessions 1000 --client-entries 65536",
+            "13 1 KvStore W4 32 One 0 [98, 61, 50] 0 1 Warn true Some(\"new.bin\"), 65535 Some(80) 1000 65536",
         ),
     ] {
         assert!(rt; is_told_of(rt.alloc(), words, line), "{line}");

@@ -23,8 +23,8 @@ fn running_line(alloc: Global, running: &ClusterSettings) -> Result<String, Allo
     let tx = running.tx.as_bytes();
     let histories = &running.histories;
     format!(in alloc;
-        "{cluster} {tx:?} {} {} {} {} {histories:?}",
-        running.rounds, running.base_ms, running.is_quiet, running.stops_at_eof
+        "{cluster} {tx:?} {} {} {:?} {} {histories:?}",
+        running.rounds, running.base_ms, running.log, running.stops_at_eof
     )
 }
 

@@ -43,7 +43,8 @@ module _ (held : ReplicaStateView) (bytes : List ℕ) where
       refl refl (λ floor. refl) held.pool refl (λ h. refl)
 
   -- bytes that are no frame
-  pub malformed : reading_in held.config.frames bytes ≡ None → IsStep held (event.Deliver bytes) (reply.Delivered (Err cause.Malformed)) held
+  pub malformed : reading_in held.config.frames bytes ≡ None
+      → IsStep held (event.Deliver bytes) (reply.Delivered (Err cause.Malformed)) held
   malformed is entries matches = (
     ap (answer held.config held.ring held.id entries) (sym is),
     refl,
@@ -188,7 +189,8 @@ judged_there held s old new (Ok shown) same there config answers reads leaves st
     kept (Ok u) e = tt
     kept (Err f) e = ap (λ (x : HeightRowView). x.rows) e ∙ same
 
-    by : (bytes : List ℕ) → reading_in held.config.frames bytes ≡ Some s → (o : Option InstanceView) → row_at held.rows (height_of s.statement) ≡ o
+    by : (bytes : List ℕ) → reading_in held.config.frames bytes ≡ Some s → (o : Option InstanceView)
+        → row_at held.rows (height_of s.statement) ≡ o
         → IsStep held (event.Deliver bytes) (reply.Delivered shown) (record held { rows = new.rows })
     by bytes is None none = absurd (false≢true (sym (ap is_some none) ∙ there))
     by bytes is (Some row) at = judged held bytes s is row new.rows shown at (record {

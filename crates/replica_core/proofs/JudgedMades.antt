@@ -55,7 +55,8 @@ pub record IsJudging (held : ReplicaStateView) (xs : List RoundClosing) (rows_le
     pub count : length left ≡ length rows_left
     -- each of these heights is open
     pub found : AllByRecursion (λ row. row_at held.rows row.height ≡ Some row) rows_left
-    pub own : AllByRecursion (λ x. IsOwnMade held.config held.id x.made) left → AllByRecursion (λ x. IsOwnMade held.config held.id x.made) xs
+    pub own : AllByRecursion (λ x. IsOwnMade held.config held.id x.made) left
+        → AllByRecursion (λ x. IsOwnMade held.config held.id x.made) xs
     pub may : (entries : List Entry) → MatchesHistory held entries
         → AreMade held.ring false (held.clock + 1) rows_left (map (λ x. x.made) left)
         → AreMade held.ring false (held.clock + 1) held.rows (map (λ x. x.made) xs)

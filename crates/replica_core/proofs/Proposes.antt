@@ -56,7 +56,8 @@ module _ (held : ReplicaStateView) (h : ℕ) (entries : List Entry) (matches : M
       ∙ ap (λ b. first_fault (faults ((h == 0) || nat_lt max_height h) (nat_lt h (floor_of entries)) b
       (nat_lt (length held.commits + max_ahead) h)) (take (batch_limit held.config.frames) held.pool)) (opened_there held entries matches h)
       ∙ ap (λ vs. first_fault (faults ((h == 0) || nat_lt max_height h) (nat_lt h (floor_of entries))
-      (is_open (log_of held.config held.id h entries)) (nat_lt (length vs + max_ahead) h)) (take (batch_limit held.config.frames) held.pool))
+      (is_open (log_of held.config held.id h entries)) (nat_lt (length vs + max_ahead) h))
+      (take (batch_limit held.config.frames) held.pool))
       (sym matches.commits)
       ∙ ap (λ p. first_fault (faults ((h == 0) || nat_lt max_height h) (nat_lt h (floor_of entries))
       (is_open (log_of held.config held.id h entries)) (nat_lt (length (commits_of held.config held.id entries) + max_ahead) h))

@@ -53,7 +53,8 @@ with_value (Err f) x = Err f
 
 -- the reply to opening a height
 abbrev pub propose_held : ReplicaStateView → ℕ → Result Value ProposeRefusal
-propose_held held h = with_value (open_answer held.floor held.rows (length held.commits) h) (take (batch_limit held.config.frames) held.pool)
+propose_held held h = with_value (open_answer held.floor held.rows (length held.commits) h)
+    (take (batch_limit held.config.frames) held.pool)
 
 -- the batch that is decided for the height after the committed ones, if one is
 abbrev pub next_decided : ReplicaStateView → Option Value

@@ -3,6 +3,7 @@ ghost use Rattle.std.specs.Prelude.{◌≤◌};
 
 use cluster_keys::ClusterSeed;
 use ledger_model::Tx;
+use log::LevelFilter;
 
 /// The settings of `abft cluster`: the replicas that run, and for how long.
 #[derive(Drop)]
@@ -14,8 +15,9 @@ pub struct ClusterSettings {
     pub rounds: u32,
     /// The milliseconds that the first round lasts; each later one lasts a millisecond more.
     pub base_ms: u32,
-    /// Whether no progress is reported to the operator.
-    pub is_quiet: bool,
+    /// What the operator is told: nothing but a fault (`Off`), also what needs attention (`Warn`), also progress (`Info`), also each
+    /// round of each replica (`Debug`).
+    pub log: LevelFilter,
     /// Whether the rounds end with standard input.
     pub stops_at_eof: bool,
     /// The file to which the histories are written at the end, if one is named.

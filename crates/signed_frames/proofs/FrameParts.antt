@@ -80,7 +80,8 @@ statement_part bytes statement len h =
 
 -- what is written field by field is spelled
 pub written : (statement : Statement) (signature message bytes : List ℕ) (len : ℕ) → IsStatement statement → IsSignature signature
-    → length (body_bytes (record { statement = statement; signature = signature })) ≤ body_limit (version_of statement) → message ≡ statement_bytes statement
+    → length (body_bytes (record { statement = statement; signature = signature })) ≤ body_limit (version_of statement) → message
+    ≡ statement_bytes statement
     → len ≡ length message + 2 + length signature
     → bytes ≡ ((to_be_bytes w32 len ++ message) ++ to_be_bytes w16 (length signature)) ++ signature
     → SpellsFrame Two bytes (record { statement = statement; signature = signature })

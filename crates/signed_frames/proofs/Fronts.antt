@@ -28,7 +28,8 @@ reading_front version bytes len whole says =
     rw (long, head, tail, says, test) refl
 
 -- so a body that isn't spelled stands there
-pub is_malformed : (version : Version) (bytes : List ℕ) (len : ℕ) → 4 + len ≤ length bytes → announced bytes ≡ len → len ≤ body_limit version
+pub is_malformed : (version : Version) (bytes : List ℕ) (len : ℕ) → 4 + len ≤ length bytes → announced bytes ≡ len
+    → len ≤ body_limit version
     → reading_in version (take (4 + len) bytes) ≡ None → BeginsMalformed version bytes
 is_malformed version bytes len whole says short none = (
   omega arith,
@@ -51,7 +52,8 @@ all_join P [] ys a b = b
 all_join P (x ∷ xs) ys a b = (a.0, all_join P xs ys a.1 b)
 
 -- frames, and then more of them
-pub frames_join : (version : Version) (bytes mid rest : List ℕ) (frames more : List SignedStatement) → Frames version bytes frames mid → Frames version mid more rest
+pub frames_join : (version : Version) (bytes mid rest : List ℕ) (frames more : List SignedStatement) → Frames version bytes frames mid
+    → Frames version mid more rest
     → Frames version bytes (frames ++ more) rest
 frames_join version bytes mid rest frames more f g = (
   all_join (IsFrameIn version) frames more f.0 g.0,
@@ -61,18 +63,19 @@ frames_join version bytes mid rest frames more f g = (
 )
 
 -- what was used so far is some frames
-pub record Used (version : Version) (bytes : List ℕ) (frames : List SignedStatement) (used : ℕ) : Type 0 where
+pub record TakesUp (version : Version) (bytes : List ℕ) (frames : List SignedStatement) (used : ℕ) : Type 0 where
   pub within : used ≤ length bytes
   pub split : Frames version bytes frames (drop used bytes)
 
 -- nothing at first
-pub none_used : (version : Version) (bytes : List ℕ) → Used version bytes [] 0
+pub none_used : (version : Version) (bytes : List ℕ) → TakesUp version bytes [] 0
 none_used version bytes = record { within = omega arith; split = (tt, refl) }
 
 -- one frame more
-pub one_more : (version : Version) (bytes : List ℕ) (frames : List SignedStatement) (used : ℕ) (s : SignedStatement) → Used version bytes frames used → IsFrameIn version s
+pub one_more : (version : Version) (bytes : List ℕ) (frames : List SignedStatement) (used : ℕ) (s : SignedStatement)
+    → TakesUp version bytes frames used → IsFrameIn version s
     → drop used bytes ≡ frame_bytes s ++ drop (length (frame_bytes s)) (drop used bytes)
-    → Used version bytes (frames ++ s ∷ []) (used + length (frame_bytes s))
+    → TakesUp version bytes (frames ++ s ∷ []) (used + length (frame_bytes s))
 one_more version bytes frames used s so_far is e =
     let next : drop (length (frame_bytes s)) (drop used bytes) ≡ drop (used + length (frame_bytes s)) bytes =
     drop-drop (length (frame_bytes s)) used bytes in
@@ -99,6 +102,7 @@ pub some_bytes : (s : SignedStatement) → 0 < length (frame_bytes s)
 some_bytes s = omega (arith, frame_length s)
 
 -- so less is left
-pub less_left : (version : Version) (bytes : List ℕ) (frames : List SignedStatement) (used n : ℕ) (s : SignedStatement) → Used version bytes frames (used + n)
+pub less_left : (version : Version) (bytes : List ℕ) (frames : List SignedStatement) (used n : ℕ) (s : SignedStatement)
+    → TakesUp version bytes frames (used + n)
     → n ≡ length (frame_bytes s) → length bytes - (used + n) < length bytes - used
 less_left version bytes frames used n s after e = omega (arith, after.within, some_bytes s)

@@ -14,9 +14,11 @@ use Rattle.statements.specs.declared.fault.DecodeFault.{DecodeFault}
 use Rattle.statements.specs.Reads.{Gives}
 
 -- what is spelled is parsed
-pub is_read : (version : Version) (bytes : List ℕ) (result : Result SignedStatement DecodeFault) → Gives result (reading_in version bytes) → (s : SignedStatement)
+pub is_read : (version : Version) (bytes : List ℕ) (result : Result SignedStatement DecodeFault) → Gives result (reading_in version bytes)
+    → (s : SignedStatement)
     → SpellsFrame version bytes s → Gives result (Some s)
-is_read version bytes result e s spells = subst (λ read. Gives result read) (ap (reading_in version) spells.1 ∙ reading-again version s spells.0) e
+is_read version bytes result e s spells = subst (λ read. Gives result read)
+    (ap (reading_in version) spells.1 ∙ reading-again version s spells.0) e
 
 -- the parts that were read are spelled
 pub parts_spelled : (version : Version) (bytes : List ℕ) (result : Result (Statement × Bor (List ℕ)) DecodeFault) → IsBytes bytes

@@ -20,17 +20,30 @@ some_of_both : (first second : List SignedStatement) → 1 ≤ length second →
 some_of_both first second some = omega (arith, length-append first second)
 
 -- what is left of the second piece is left of both
-leaves_both : (version : Version) (bytes rest more : List ℕ) (first second : List SignedStatement) (new : ReaderState) → Frames version bytes first rest
+leaves_both : (version : Version) (bytes rest more : List ℕ) (first second : List SignedStatement) (new : ReaderState)
+    → Frames version bytes first rest
     → Leaves version (rest ++ more) second new → Leaves version (bytes ++ more) (first ++ second) new
 leaves_both version bytes rest more first second (Reading left) f l =
     (frames_join version (bytes ++ more) (rest ++ more) left first second (longer version bytes rest more first f) l.0, l.1)
 leaves_both version bytes rest more first second (Found fault.TooLong) f l = (
   some_of_both first second l.0,
-  (l.1.0, (frames_join version (bytes ++ more) (rest ++ more) l.1.0 first second (longer version bytes rest more first f) l.1.1.0, l.1.1.1)),
+  (
+    l.1.0,
+    (
+      frames_join version (bytes ++ more) (rest ++ more) l.1.0 first second (longer version bytes rest more first f) l.1.1.0,
+      l.1.1.1,
+    ),
+  ),
 )
 leaves_both version bytes rest more first second (Found fault.Malformed) f l = (
   some_of_both first second l.0,
-  (l.1.0, (frames_join version (bytes ++ more) (rest ++ more) l.1.0 first second (longer version bytes rest more first f) l.1.1.0, l.1.1.1)),
+  (
+    l.1.0,
+    (
+      frames_join version (bytes ++ more) (rest ++ more) l.1.0 first second (longer version bytes rest more first f) l.1.1.0,
+      l.1.1.1,
+    ),
+  ),
 )
 leaves_both version bytes rest more first second (Found fault.Failed) f l = absurd l
 leaves_both version bytes rest more first second (Found fault.NoMemory) f l = absurd l

@@ -28,7 +28,8 @@ Outcome version bytes frames (Some fault.NoMemory) = ⊥
 
 -- ---- bytes have one outcome
 
-one_outcome : (version : Version) (bytes : List ℕ) (frames others : List SignedStatement) (a b : Option FrameFault) → Outcome version bytes frames a
+one_outcome : (version : Version) (bytes : List ℕ) (frames others : List SignedStatement) (a b : Option FrameFault)
+    → Outcome version bytes frames a
     → Outcome version bytes others b → (frames ≡ others) × (a ≡ b)
 one_outcome version bytes frames others None None x y = ((one_split version bytes frames others x.0 y.0 x.1 y.1).0, refl)
 one_outcome version bytes frames others None (Some fault.TooLong) x y = absurd ((split_or_break version bytes frames others x.0 x.1).0 y)
@@ -36,13 +37,17 @@ one_outcome version bytes frames others None (Some fault.Malformed) x y = absurd
 one_outcome version bytes frames others None (Some fault.Failed) x y = absurd y
 one_outcome version bytes frames others None (Some fault.NoMemory) x y = absurd y
 one_outcome version bytes frames others (Some fault.TooLong) None x y = absurd ((split_or_break version bytes others frames y.0 y.1).0 x)
-one_outcome version bytes frames others (Some fault.TooLong) (Some fault.TooLong) x y = ((one_break version bytes frames others).0 x y, refl)
-one_outcome version bytes frames others (Some fault.TooLong) (Some fault.Malformed) x y = absurd ((one_break version bytes frames others).2 x y)
+one_outcome version bytes frames others (Some fault.TooLong) (Some fault.TooLong) x y =
+    ((one_break version bytes frames others).0 x y, refl)
+one_outcome version bytes frames others (Some fault.TooLong) (Some fault.Malformed) x y = absurd
+    ((one_break version bytes frames others).2 x y)
 one_outcome version bytes frames others (Some fault.TooLong) (Some fault.Failed) x y = absurd y
 one_outcome version bytes frames others (Some fault.TooLong) (Some fault.NoMemory) x y = absurd y
 one_outcome version bytes frames others (Some fault.Malformed) None x y = absurd ((split_or_break version bytes others frames y.0 y.1).1 x)
-one_outcome version bytes frames others (Some fault.Malformed) (Some fault.TooLong) x y = absurd ((one_break version bytes others frames).2 y x)
-one_outcome version bytes frames others (Some fault.Malformed) (Some fault.Malformed) x y = ((one_break version bytes frames others).1 x y, refl)
+one_outcome version bytes frames others (Some fault.Malformed) (Some fault.TooLong) x y = absurd
+    ((one_break version bytes others frames).2 y x)
+one_outcome version bytes frames others (Some fault.Malformed) (Some fault.Malformed) x y =
+    ((one_break version bytes frames others).1 x y, refl)
 one_outcome version bytes frames others (Some fault.Malformed) (Some fault.Failed) x y = absurd y
 one_outcome version bytes frames others (Some fault.Malformed) (Some fault.NoMemory) x y = absurd y
 one_outcome version bytes frames others (Some fault.Failed) b x y = absurd x
@@ -72,14 +77,22 @@ malformed-longer version bytes more begins =
 
 long_break-longer : (version : Version) (bytes more : List ℕ) (frames : List SignedStatement) → BreaksOff BeginsTooLong version bytes frames
     → BreaksOff BeginsTooLong version (bytes ++ more) frames
-long_break-longer version bytes more frames b = (b.0 ++ more, (longer version bytes b.0 more frames b.1.0, too_long-longer version b.0 more b.1.1))
+long_break-longer version bytes more frames b = (
+  b.0 ++ more,
+  (longer version bytes b.0 more frames b.1.0, too_long-longer version b.0 more b.1.1),
+)
 
-bad_break-longer : (version : Version) (bytes more : List ℕ) (frames : List SignedStatement) → BreaksOff BeginsMalformed version bytes frames
+bad_break-longer : (version : Version) (bytes more : List ℕ) (frames : List SignedStatement)
+    → BreaksOff BeginsMalformed version bytes frames
     → BreaksOff BeginsMalformed version (bytes ++ more) frames
-bad_break-longer version bytes more frames b = (b.0 ++ more, (longer version bytes b.0 more frames b.1.0, malformed-longer version b.0 more b.1.1))
+bad_break-longer version bytes more frames b = (
+  b.0 ++ more,
+  (longer version bytes b.0 more frames b.1.0, malformed-longer version b.0 more b.1.1),
+)
 
 -- frames in front of an outcome
-outcome_behind : (version : Version) (bytes left more : List ℕ) (first second : List SignedStatement) (found : Option FrameFault) → FramesIn version bytes first left
+outcome_behind : (version : Version) (bytes left more : List ℕ) (first second : List SignedStatement) (found : Option FrameFault)
+    → FramesIn version bytes first left
     → Outcome version (left ++ more) second found → Outcome version (bytes ++ more) (first ++ second) found
 outcome_behind version bytes left more first second None f o =
     (o.0, (frames_join version (bytes ++ more) (left ++ more) o.0 first second (longer version bytes left more first f) o.1.0, o.1.1))
@@ -92,7 +105,8 @@ outcome_behind version bytes left more first second (Some fault.NoMemory) f o = 
 
 -- ---- a reader that found a fault hands out nothing more
 
-failed_gives : (version : Version) (pieces : List (List ℕ)) (answers : List Answer) (new : ReaderState) → TakesAll version Failed pieces answers new
+failed_gives : (version : Version) (pieces : List (List ℕ)) (answers : List Answer) (new : ReaderState)
+    → TakesAll version Failed pieces answers new
     → frames_of answers ≡ []
 failed_gives version [] [] new h = refl
 failed_gives version [] (a ∷ more) new h = absurd h
@@ -135,7 +149,8 @@ abbrev joined : List (List ℕ) → List ℕ
 joined pieces = flat_map (λ piece. piece) pieces
 
 -- the first piece gave frames
-outcome_frames : (version : Version) (kept p : List ℕ) (ps : List (List ℕ)) (frames : List SignedStatement) (mid : ReaderState) (more : List Answer)
+outcome_frames : (version : Version) (kept p : List ℕ) (ps : List (List ℕ)) (frames : List SignedStatement) (mid : ReaderState)
+    (more : List Answer)
     (new : ReaderState)
     → ((left : List ℕ) → IsPartial version left → TakesAll version (Reading left) ps more new
     → Outcome version (left ++ joined ps) (frames_of more) (fault_of more new))

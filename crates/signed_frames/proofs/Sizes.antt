@@ -78,7 +78,8 @@ signed_bound version s is = of_versions version s.report.version is.read
     (list_bound s.report.version s.report.proper is.report.proper) (list_bound s.report.version s.report.locked is.report.locked)
     (omega (arith, report_parts s.report, is.signature.short, length-append (report_bytes s.report) (signature_bytes s.signature)))
   where
-    of_versions : (version own : Version) {v l m n : ℕ} → reads version own ≡ true → v ≤ value_most own → l ≤ list_most own → m ≤ list_most own
+    of_versions : (version own : Version) {v l m n : ℕ} → reads version own ≡ true → v ≤ value_most own → l ≤ list_most own
+        → m ≤ list_most own
         → n ≤ 11 + v + l + m + 2510 → n ≤ signed_most version
     of_versions One One read value list last all = omega (arith, value, list, last, all)
     of_versions One Two read value list last all = absurd cc
@@ -118,7 +119,8 @@ version_bound (statement.Report r) is =
 version_bound (statement.Lock l) is = lock_bound l is
 version_bound (statement.Ack a) is =
     let start : List ℕ = first_byte a.version 3 ∷ to_be_bytes w32 a.height ++ to_be_bytes w32 a.phase ++ (a.signer ∷ []) in
-    within_lock a.version 0 (value_bound a.version a.value is.value) (omega arith) (omega (arith, length-append start (value_bytes a.value)))
+    within_lock a.version 0 (value_bound a.version a.value is.value) (omega arith)
+    (omega (arith, length-append start (value_bytes a.value)))
 
 -- any statement
 pub statement_bound : (s : Statement) → IsStatement s → length (statement_bytes s) ≤ 483836

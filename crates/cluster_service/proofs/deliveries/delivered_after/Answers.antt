@@ -1,4 +1,5 @@
 use Rattle.std.proofs.Common.{sym, ◌∙◌, ◌≤◌, length, subst}
+use Rattle.std.proofs.Math.Nat.{le_refl}
 use Rattle.ledger_model.specs.Commits.{commits_of}
 use Rattle.locked_replica.specs.Views.{reply_lent}
 use Rattle.cluster_service.proofs.Delivering.{found_here, none_left, not_here}
@@ -16,6 +17,7 @@ returns-in-Some-delivered_at-clause-told g c = record {
   state = c.args.state.now;
   replay = c.len-index-end.ensures.replay;
   after = c.args.first;
+  later = le_refl c.args.first;
   found = sym (returns-in-Some-delivered_at-clause-found g c);
 }
 

@@ -10,4 +10,6 @@ returns-clause-told g c = record {
   signatures = c.leaves_left.ensures;
   pool = c.waiting.ensures;
   entries = c.len.ensures.len;
+  accepted = c.frame_counts.ensures.accepted;
+  ignored = c.frame_counts.ensures.ignored;
 }

@@ -11,30 +11,35 @@ use Rattle.cluster_service.proofs.subcommands.serve.Goals as goal
 
 pub returns-in_err-stop-clause-serves : goal.returns-in_err-stop-clause-serves
 returns-in_err-stop-clause-serves g c = failed_with _ _ _ _ c.from_residual.ensures.1
-    (nothing_served c.args.settings.now.cluster (port_lines c.args.port (option_map (λ h. h.port) c.args.http)) _ (g.W.Write.contents c.args.writer.now) (bytes_in c.args.file.now)
+    (nothing_served c.args.settings.now.cluster (port_lines c.args.port (option_map (λ h. h.port) c.args.http)) _
+    (g.W.Write.contents c.args.writer.now) (bytes_in c.args.file.now)
     c.in_err-stop.ensures)
 
 pub returns-in_err-write_ports-clause-serves : goal.returns-in_err-write_ports-clause-serves
 returns-in_err-write_ports-clause-serves g c =
     failed_with _ _ _ _ c.from_residual-in_err-write_ports.ensures.1
-    (port_refused c.args.settings.now.cluster (port_lines c.args.port (option_map (λ h. h.port) c.args.http)) _ _ _ (bytes_in c.args.file.now) c.in_err-write_ports.ensures.fault
+    (port_refused c.args.settings.now.cluster (port_lines c.args.port (option_map (λ h. h.port) c.args.http)) _ _ _
+    (bytes_in c.args.file.now) c.in_err-write_ports.ensures.fault
     c.in_err-write_ports.ensures.written)
 
 pub returns-in_err-left-clause-serves : goal.returns-in_err-left-clause-serves
 returns-in_err-left-clause-serves g c =
     failed_with _ _ _ _ c.from_residual-in_err-left.ensures.1
-    (port_alone c.args.settings.now.cluster (port_lines c.args.port (option_map (λ h. h.port) c.args.http)) _ _ _ (bytes_in c.args.file.now) c.in_err-left.ensures.fault
+    (port_alone c.args.settings.now.cluster (port_lines c.args.port (option_map (λ h. h.port) c.args.http)) _ _ _ (bytes_in c.args.file.now)
+    c.in_err-left.ensures.fault
     c.in_ok-write_ports.ensures.written)
 
 pub returns-clause-serves : goal.returns-clause-serves
-returns-clause-serves g c = port_first c.args.settings.now.cluster (port_lines c.args.port (option_map (λ h. h.port) c.args.http)) c.report.result _ _ _ _ _ c.in_ok-write_ports.ensures.written
+returns-clause-serves g c = port_first c.args.settings.now.cluster (port_lines c.args.port (option_map (λ h. h.port) c.args.http))
+    c.report.result _ _ _ _ _ c.in_ok-write_ports.ensures.written
     c.report.ensures.reports
 
 pub returns-in_err-stop-clause-fault : goal.returns-in_err-stop-clause-fault
 returns-in_err-stop-clause-fault g c =
     let a = g.W.Write.contents c.args.writer.now in
     let empty = c.args.file.now in
-    passed _ c.in_err-stop.field-0.0 (EndsServer (port_lines c.args.port (option_map (λ h. h.port) c.args.http)) empty empty a a) c.from_residual.ensures.1
+    passed _ c.in_err-stop.field-0.0 (EndsServer (port_lines c.args.port (option_map (λ h. h.port) c.args.http)) empty empty a a)
+    c.from_residual.ensures.1
     (inr (c.in_err-stop.ensures, (nothing_some a (port_lines c.args.port (option_map (λ h. h.port) c.args.http)), refl)))
 
 pub returns-in_err-write_ports-clause-fault : goal.returns-in_err-write_ports-clause-fault
@@ -42,7 +47,8 @@ returns-in_err-write_ports-clause-fault g c =
     let a = g.W.Write.contents c.args.writer.now in
     let b = g.W.Write.contents c.write_ports.new.writer in
     let empty = c.args.file.now in
-    passed _ c.in_err-write_ports.field-0.0 (EndsServer (port_lines c.args.port (option_map (λ h. h.port) c.args.http)) empty empty a b) c.from_residual-in_err-write_ports.ensures.1
+    passed _ c.in_err-write_ports.field-0.0 (EndsServer (port_lines c.args.port (option_map (λ h. h.port) c.args.http)) empty empty a b)
+    c.from_residual-in_err-write_ports.ensures.1
     (inl (line_fault empty _ (written_line _ c.in_err-write_ports.ensures.fault)))
 
 pub returns-in_err-left-clause-fault : goal.returns-in_err-left-clause-fault
@@ -50,12 +56,21 @@ returns-in_err-left-clause-fault g c =
     let a = g.W.Write.contents c.args.writer.now in
     let b = g.W.Write.contents c.write_ports.new.writer in
     let empty = c.args.file.now in
-    passed _ c.in_err-left.field-0.0 (EndsServer (port_lines c.args.port (option_map (λ h. h.port) c.args.http)) empty empty a b) c.from_residual-in_err-left.ensures.1
-    (inr (c.in_err-left.ensures.fault, (all_some a b (port_lines c.args.port (option_map (λ h. h.port) c.args.http)) c.in_ok-write_ports.ensures.written, refl)))
+    passed _ c.in_err-left.field-0.0 (EndsServer (port_lines c.args.port (option_map (λ h. h.port) c.args.http)) empty empty a b)
+    c.from_residual-in_err-left.ensures.1
+    (inr (
+      c.in_err-left.ensures.fault,
+      (
+        all_some a b (port_lines c.args.port (option_map (λ h. h.port) c.args.http))
+            c.in_ok-write_ports.ensures.written,
+        refl,
+      ),
+    ))
 
 pub returns-clause-fault : goal.returns-clause-fault
 returns-clause-fault g c =
     let empty = c.args.file.now in
     of_each c.report.result (IsReportFault empty)
-    (EndsServer (port_lines c.args.port (option_map (λ h. h.port) c.args.http)) empty c.report.new.file (g.W.Write.contents c.args.writer.now) (g.W.Write.contents c.report.new.writer))
+    (EndsServer (port_lines c.args.port (option_map (λ h. h.port) c.args.http)) empty c.report.new.file
+    (g.W.Write.contents c.args.writer.now) (g.W.Write.contents c.report.new.writer))
     (λ e is. inl is) c.report.ensures.fault

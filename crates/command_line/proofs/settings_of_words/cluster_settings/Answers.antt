@@ -16,6 +16,10 @@ pub returns-in_err-base_ms-clause-none : goal.returns-in_err-base_ms-clause-none
 returns-in_err-base_ms-clause-none c =
     none_set (SetsRunning (rows_of (found_of c.args.matches.now))) WantsMemory _ (λ s i. c.in_err-base_ms.ensures.none s.base_ms i.base)
 
+pub returns-in_err-log-clause-none : goal.returns-in_err-log-clause-none
+returns-in_err-log-clause-none c =
+    none_set (SetsRunning (rows_of (found_of c.args.matches.now))) WantsMemory _ (λ s i. c.in_err-log.ensures.none s.log i.log)
+
 pub returns-in_err-tx-clause-none : goal.returns-in_err-tx-clause-none
 returns-in_err-tx-clause-none c =
     passed_up _ c.in_err-tx.field-0.0 (λ e. (s : ClusterSettings) → SetsRunning (rows_of (found_of c.args.matches.now)) s → WantsMemory e)
@@ -30,8 +34,8 @@ returns-clause-some c = record {
   tx = c.in_ok-tx.ensures.some;
   rounds = c.in_ok-rounds.ensures.some;
   base = c.in_ok-base_ms.ensures.some;
-  quiet = c.is_named.ensures;
-  stops = c.is_named-2.ensures;
+  log = c.in_ok-log.ensures.some;
+  stops = c.is_named.ensures;
   histories = c.in_ok-histories.ensures;
 }
 
@@ -54,3 +58,8 @@ pub returns-in_err-base_ms-clause-right : goal.returns-in_err-base_ms-clause-rig
 returns-in_err-base_ms-clause-right c =
     λ table has. passed_up _ c.in_err-base_ms.field-0.0 (IsRightOf table (rows_of (found_of c.args.matches.now)))
     c.from_residual-in_err-base_ms.ensures.1 (c.in_err-base_ms.ensures.right table (has.base, inl has.base_limits))
+
+pub returns-in_err-log-clause-right : goal.returns-in_err-log-clause-right
+returns-in_err-log-clause-right c =
+    λ table has. passed_up _ c.in_err-log.field-0.0 (IsRightOf table (rows_of (found_of c.args.matches.now)))
+    c.from_residual-in_err-log.ensures.1 (c.in_err-log.ensures.right table has.log)

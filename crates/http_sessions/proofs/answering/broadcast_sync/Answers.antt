@@ -15,10 +15,12 @@ returns-in-Ok-Ok-clause-replies g c = replied _ _ _ _ _ _ (Asked (Submits c.args
     (refl, refl, refl, refl, c.sync_answer.ensures) c.reply_to.ensures
 
 pub returns-in-Ok-Err-clause-replies : goal.returns-in-Ok-Err-clause-replies
-returns-in-Ok-Err-clause-replies g c = replied _ _ _ _ _ _ (Asked (Submits c.args.replica c.args.tx.now (Ok (Err c.in-Ok-Err.refusal))) ∷ []) _
+returns-in-Ok-Err-clause-replies g c = replied _ _ _ _ _ _ (Asked
+    (Submits c.args.replica c.args.tx.now (Ok (Err c.in-Ok-Err.refusal))) ∷ []) _
     (c.submit.new.self, rw c.in-Ok-Err.field-0-is at c.in-Ok-Err.ensures.asked, refl) (refl, refl, c.sync_answer-in-Ok-Err.ensures)
     c.reply_to-in-Ok-Err.ensures
 
 pub returns-in-Err-clause-replies : goal.returns-in-Err-clause-replies
-returns-in-Err-clause-replies g c = replied _ _ _ _ _ _ (Asked (Submits c.args.replica c.args.tx.now (Err (fault_of c.in-Err.fault))) ∷ []) _
+returns-in-Err-clause-replies g c = replied _ _ _ _ _ _ (Asked (Submits c.args.replica c.args.tx.now (Err (fault_of c.in-Err.fault))) ∷ [])
+    _
     (c.submit.new.self, c.in-Err.ensures.asked, refl) (refl, refl, c.fault_answer.ensures) c.reply_to-in-Err.ensures

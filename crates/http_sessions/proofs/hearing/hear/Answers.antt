@@ -1,6 +1,4 @@
-use Rattle.std.proofs.Common.{rules, inr, subst, take, ◌+◌}
-use Rattle.http_requests.specs.Requests.{Answers}
-use borrow.Rule.Slice.PartMut.{put_mid}
+use Rattle.std.proofs.Common.{rules, inr}
 use Rattle.http_sessions.proofs.Reading.{more_heard, more_read, none_heard, part_heard}
 use Rattle.http_sessions.proofs.hearing.hear.Goals as goal
 use Rattle.http_sessions.proofs.hearing.hear.Goals.{then-count-eq0, else-count-eq0}
@@ -10,10 +8,12 @@ returns-then-more-eq0-clause-heard g c =
     let so_far = c.loop-count.invariant in
     elim c.if-count-eq0.branch [
       | then-count-eq0 w ↦ rw w.result-is
-          (none_heard _ _ _ _ c.in_ok-more.more _ c.loop-count.buffer c.read.new.buffer c.loop-count-test.true so_far.same so_far.read c.in_ok-more.ensures.bytes
+          (none_heard _ _ _ _ c.in_ok-more.more _ c.loop-count.buffer c.read.new.buffer c.loop-count-test.true so_far.same so_far.read
+          c.in_ok-more.ensures.bytes
           (search rules) c.if-more-eq0.true w.if-count-eq0.true)
       | else-count-eq0 w ↦ rw w.result-is
-          (part_heard _ _ _ _ c.in_ok-more.more _ c.loop-count.buffer c.read.new.buffer c.loop-count-test.true so_far.same so_far.read c.in_ok-more.ensures.bytes
+          (part_heard _ _ _ _ c.in_ok-more.more _ c.loop-count.buffer c.read.new.buffer c.loop-count-test.true so_far.same so_far.read
+          c.in_ok-more.ensures.bytes
           (search rules) c.if-more-eq0.true w.if-count-eq0.false so_far.part)
     ]
 
@@ -25,8 +25,7 @@ loop-count-preserved g c =
       read = more_read _ _ _ _ c.in_ok-more.more _ c.loop-count.buffer c.read.new.buffer c.loop-count-test.true so_far.same so_far.read
           c.in_ok-more.ensures.bytes _ c.in_ok-more.ensures.bound.0;
       part =
-          inr (subst (Answers (take (c.loop-count.count + c.in_ok-more.more) (put_mid c.loop-count.count _ c.loop-count.buffer c.read.new.buffer)))
-          (c.is_incomplete.ensures.yes c.if-not-is_incomplete.false) c.parse-asked.ensures.answers);
+          inr (c.asked_in-asked.ensures.part (c.is_incomplete.ensures.yes c.if-not-is_incomplete.false));
       counted = search rules;
     }
 
@@ -34,5 +33,6 @@ pub returns-then-not-is_incomplete-clause-heard : goal.returns-then-not-is_incom
 returns-then-not-is_incomplete-clause-heard g c =
     let so_far = c.loop-count.invariant in
     more_heard _ _ _ _ c.in_ok-more.more _ c.loop-count.buffer c.read.new.buffer c.loop-count-test.true so_far.same so_far.read
-    c.in_ok-more.ensures.bytes _ _ c.in_ok-more.ensures.bound.0 (search rules) c.if-more-eq0.false so_far.part c.parse-asked.ensures.answers
+    c.in_ok-more.ensures.bytes _ _ c.in_ok-more.ensures.bound.0 (search rules) c.if-more-eq0.false so_far.part
+    c.asked_in-asked.ensures.answers
     (c.is_incomplete.ensures.no c.if-not-is_incomplete.true)

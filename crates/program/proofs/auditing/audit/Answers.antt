@@ -17,7 +17,8 @@ returns-in_err-from_vec-clause-audits g c =
 
 pub returns-in-Ok-clause-audits : goal.returns-in-Ok-clause-audits
 returns-in-Ok-clause-audits g c =
-    let reads = subst (λ b. histories_reading c.args.settings.now.cluster.config.frames b ≡ Some c.deref.result.now) c.in_ok-from_vec.ensures.ok
+    let reads = subst (λ b. histories_reading c.args.settings.now.cluster.config.frames b ≡ Some c.deref.result.now)
+    c.in_ok-from_vec.ensures.ok
     (c.in-Ok.ensures.read ∙ ap Some (sym c.deref.ensures.value)) in
     audits_histories c.args.settings.now c.in_ok-bytes.bytes.items _ _ c.audit_histories.result c.deref.result.now _ _
     c.in_ok-bytes.ensures.read reads c.audit_histories.ensures.audits

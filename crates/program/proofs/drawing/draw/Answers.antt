@@ -17,7 +17,8 @@ returns-in_err-from_vec-clause-draws g c =
 
 pub returns-in-Ok-clause-draws : goal.returns-in-Ok-clause-draws
 returns-in-Ok-clause-draws g c =
-    let reads = subst (λ b. histories_reading c.args.settings.now.cluster.config.frames b ≡ Some c.deref.result.now) c.in_ok-from_vec.ensures.ok
+    let reads = subst (λ b. histories_reading c.args.settings.now.cluster.config.frames b ≡ Some c.deref.result.now)
+    c.in_ok-from_vec.ensures.ok
     (c.in-Ok.ensures.read ∙ ap Some (sym c.deref.ensures.value)) in
     draws_histories c.args.settings.now c.in_ok-bytes.bytes.items _ _ c.draw_and_end.result c.deref.result.now _ _
     c.in_ok-bytes.ensures.read reads c.draw_and_end.ensures.draws

@@ -10,7 +10,8 @@ use Rattle.program.proofs.frame_stream.deliver_piece.Goals as goal
 pub fault_of-requires : goal.fault_of-requires
 fault_of-requires g c =
     let (kept, reading) = c.requires in
-    reading_unfailed c.args.frames.now.version c.args.frames.now.state kept c.args.piece.now c.in-Err.fault c.feed.new.self.state reading c.in-Err.ensures.fault
+    reading_unfailed c.args.frames.now.version c.args.frames.now.state kept c.args.piece.now c.in-Err.fault c.feed.new.self.state reading
+    c.in-Err.ensures.fault
 
 pub fault_behind-requires : goal.fault_behind-requires
 fault_behind-requires g c =
@@ -25,7 +26,8 @@ fault_behind-requires g c =
 pub returns-in_ok-deliver_all-in-Ok-clause-goes : goal.returns-in_ok-deliver_all-in-Ok-clause-goes
 returns-in_ok-deliver_all-in-Ok-clause-goes g c = λ start unread now left before so_far read.
     piece_behind start _ _ unread now left before _ _ _ c.args.piece.now so_far read _ c.feed.new.self _ _
-    (c.feed.ensures.version ∙ so_far.version) (c.fault_behind.ensures.version ∙ c.feed.ensures.version ∙ so_far.version) c.in-Ok.ensures.frames
+    (c.feed.ensures.version ∙ so_far.version) (c.fault_behind.ensures.version ∙ c.feed.ensures.version ∙ so_far.version)
+    c.in-Ok.ensures.frames
     c.in_ok-deliver_all-in-Ok.ensures.prints c.fault_behind.ensures.behind
 
 pub returns-in_err-deliver_all-in-Ok-clause-goes : goal.returns-in_err-deliver_all-in-Ok-clause-goes

@@ -7,4 +7,5 @@ use Rattle.replica_turns.proofs.arrivals.arrived_frames.Given as goal
 
 abbrev pub invariant-loop-bytes : goal.invariant-loop-bytes
 invariant-loop-bytes l =
-    l.frames.items ++ filter_map (reading_in l.version) l.bytes-iterator.rest.items ≡ filter_map (reading_in l.version) (distinct l.fn.arrived)
+    l.frames.items ++ filter_map (reading_in l.version) l.bytes-iterator.rest.items
+    ≡ filter_map (reading_in l.version) (distinct l.fn.arrived)

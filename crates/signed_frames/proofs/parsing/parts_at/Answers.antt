@@ -23,5 +23,6 @@ carried c = search rules
 pub returns : goal.returns
 returns c =
     let body = c.in_ok-body.ensures.read c.args.version in
-    let read = body_read c.args.version c.in_ok-body.body.now _ _ _ _ c.in_ok-body.ensures.bytes (statement c) (signature c) (ends c) (carried c) in
+    let read = body_read c.args.version c.in_ok-body.body.now _ _ _ _ c.in_ok-body.ensures.bytes (statement c) (signature c) (ends c)
+    (carried c) in
     body ∙ read

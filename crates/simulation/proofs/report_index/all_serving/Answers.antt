@@ -19,7 +19,8 @@ loop-replica-preserved g c =
           let at : serves c.loop-replica.replica ≡ Some w.in-Some.report = here ∙ w.in-Some.is in (
             more ∙ found_kept serves c.loop-replica.replica c.loop-replica.reports.items w.in-Some.report found at,
             subst (AllByRecursion (IsSigned c.args.lie.now.version)) (sym more)
-                (each_append (IsSigned c.args.lie.now.version) _ (w.in-Some.report ∷ []) spelled (rw w.in-Some.is at c.in_ok-report.ensures.spelled, tt)),
+                (each_append (IsSigned c.args.lie.now.version) _ (w.in-Some.report ∷ []) spelled
+                (rw w.in-Some.is at c.in_ok-report.ensures.spelled, tt)),
             c.in_ok-report.ensures.index,
             c.in_ok-report.ensures.made,
           )

@@ -4,4 +4,11 @@ use Rattle.std.proofs.Common.{refl}
 
 pub returns : goal.returns
 unfolding statement_reading
-returns c = rw (← c.new-cursor.ensures, c.in_ok-statement.ensures, ← c.if-not-is_empty.ensures, ← c.version.ensures, ← c.if-not-reads.ensures) refl
+returns c = rw (
+  ← c.new-cursor.ensures,
+  c.in_ok-statement.ensures,
+  ← c.if-not-is_empty.ensures,
+  ← c.version.ensures,
+  ←
+      c.if-not-reads.ensures,
+) refl

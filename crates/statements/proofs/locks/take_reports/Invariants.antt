@@ -4,4 +4,5 @@ use Rattle.statements.proofs.Loops.{with_front}
 use Rattle.statements.proofs.locks.take_reports.Given as goal
 
 abbrev pub invariant-loop : goal.invariant-loop
-invariant-loop l = with_front l.reports.items (proof_at l.fn.version (l.count - l.counter) l.cursor) ≡ proof_at l.fn.version l.count l.fn.cursor
+invariant-loop l = with_front l.reports.items (proof_at l.fn.version (l.count - l.counter) l.cursor)
+    ≡ proof_at l.fn.version l.count l.fn.cursor

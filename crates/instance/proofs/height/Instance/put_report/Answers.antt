@@ -18,6 +18,11 @@ invariant_of-self c =
       i.1,
       c.add.ensures.places ∙ i.2,
       i.3,
-      keeps_report i.4 _ _ _ refl (record { read = read; report = report; signature = subst IsSignature (sym c.requires.signature) frame.signature })
+      keeps_report i.4 _ _ _ refl (record {
+        read = read;
+        report = report;
+        signature = subst IsSignature (sym c.requires.signature)
+            frame.signature;
+      })
           (rw (c.add.ensures.added) at c.add.ensures.after),
     )

@@ -8,7 +8,8 @@ pub prepare_round-requires-clause-endings : goal.prepare_round-requires-clause-e
 prepare_round-requires-clause-endings g c = c.in_ok-closings.ensures.endings ∙ c.in_ok-endings.ensures.endings
 
 pub prepare_round-requires-clause-own : goal.prepare_round-requires-clause-own
-prepare_round-requires-clause-own g c = mute_own c.self.inside.kept.config c.self.inside.kept.id c.in_ok-closings.closings.items c.in_ok-closings.ensures.nothing
+prepare_round-requires-clause-own g c = mute_own c.self.inside.kept.config c.self.inside.kept.id c.in_ok-closings.closings.items
+    c.in_ok-closings.ensures.nothing
 
 pub returns-clause-prepared : goal.returns-clause-prepared
 returns-clause-prepared g c =

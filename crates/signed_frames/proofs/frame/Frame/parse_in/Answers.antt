@@ -12,13 +12,15 @@ pub returns-in_err-statement-clause-only : goal.returns-in_err-statement-clause-
 returns-in_err-statement-clause-only c =
     let p = err_from_is_err_and c.from_residual.result c.from_residual.ensures.1 in
     let fault = c.in_err-statement.field-0.0 in
-    let exact = subst (λ (bytes : List ℕ). Faults fault (reading_in c.args.version bytes)) c.as_slice.ensures c.in_err-statement.ensures.exact in
+    let exact = subst (λ (bytes : List ℕ). Faults fault (reading_in c.args.version bytes)) c.as_slice.ensures
+    c.in_err-statement.ensures.exact in
     λ s spells. rw (p.1, p.2) (is_read c.args.version c.args.bytes (Err fault) exact s spells)
 
 pub invariant_of-result : goal.invariant_of-result
 invariant_of-result c =
     let s : SignedStatement = record { statement = c.in_ok-statement.statement; signature = c.in_ok-statement.signature.now } in
-    holds c.args.version c.args.bytes s (subst (λ (bytes : List ℕ). SpellsFrame c.args.version bytes s) c.as_slice.ensures c.in_ok-statement.ensures.spelled)
+    holds c.args.version c.args.bytes s (subst (λ (bytes : List ℕ). SpellsFrame c.args.version bytes s) c.as_slice.ensures
+    c.in_ok-statement.ensures.spelled)
 
 pub returns-clause-found : goal.returns-clause-found
 returns-clause-found c =
@@ -38,4 +40,5 @@ returns-clause-only c =
     let s : SignedStatement = record { statement = c.in_ok-statement.statement; signature = c.in_ok-statement.signature.now } in
     let spells = subst (λ (bytes : List ℕ). SpellsFrame c.args.version bytes s) c.as_slice.ensures c.in_ok-statement.ensures.spelled in
     let exact = subst (λ (bytes : List ℕ). reading_in c.args.version bytes ≡ Some s) c.as_slice.ensures c.in_ok-statement.ensures.exact in
-    λ frame is. is_read c.args.version c.args.bytes (Ok s) exact frame is ∙ ap (λ (x : SignedStatement). Some x) (sym (last_is c.args.bytes s spells.1))
+    λ frame is. is_read c.args.version c.args.bytes (Ok s) exact frame is
+    ∙ ap (λ (x : SignedStatement). Some x) (sym (last_is c.args.bytes s spells.1))

@@ -1,0 +1,18 @@
+use Rattle.std.proofs.Common.{◌++◌, List, ℕ, ap, ◌∙◌}
+use Rattle.std.specs.String.{string_bytes}
+use Rattle.std.specs.List.{flat_map}
+use Rattle.std.proofs.lemmas.List.{append_assoc, take_all}
+use Rattle.http_replies.specs.declared.metrics.TheConstants.{CAUSES}
+use Rattle.http_replies.specs.declared.metrics.ReplicaMetrics.{ReplicaMetrics}
+use Rattle.http_replies.specs.Metrics.{ignored_text}
+use Rattle.http_replies.proofs.metrics.add_all_ignored.Goals as goal
+
+abbrev lines : List ReplicaMetrics → List ℕ
+lines = flat_map (λ of. flat_map (ignored_text of) CAUSES)
+
+pub returns : goal.returns
+returns c =
+    c.loop-of.invariant
+    ∙ ap (λ l. string_bytes c.add_head.new.out ++ lines l) (take_all c.loop-of.of-index c.args.replicas.now c.loop-of-test.false)
+    ∙ ap (λ l. l ++ lines c.args.replicas.now) c.in_ok-add_head.ensures
+    ∙ append_assoc (string_bytes c.args.out.now) _ _
