@@ -6,7 +6,8 @@ use Rattle.http_sessions.specs.declared.targets.AppInfo.{AppInfo}
 use Rattle.http_sessions.specs.declared.targets.Delivery.{Delivery}
 use Rattle.http_sessions.specs.declared.targets.Delivery.TheVariants.{Committed, TimedOut, Stopping}
 use Rattle.http_sessions.specs.declared.targets.PoolSize.{PoolSize}
-use Rattle.http_sessions.specs.Exchanges.{Inquiry, Shows, Pools, Infos, Spreads, Waits}
+use Rattle.http_sessions.specs.declared.targets.Progress.{Progress}
+use Rattle.http_sessions.specs.Exchanges.{Inquiry, Shows, Progresses, Pools, Infos, Spreads, Waits}
 use Rattle.key_ring.specs.Signers.{leaves_of}
 use Rattle.ledger_model.specs.Commits.{commits_of, pool_of}
 use Rattle.ledger_model.specs.Lawful.{Replay, clock_at}
@@ -27,6 +28,13 @@ pub record IsShown (m : ReplicaMetrics) : Type 0 where
   pub entries : m.history_entries ≡ length state.entries
   pub accepted : m.frames.accepted ≡ accepted_in state.entries
   pub ignored : (cause : Ignored) → ignored_for m.frames cause ≡ ignored_in cause state.entries
+
+-- a replica with a lawful history had ended this number of rounds, and committed this height
+pub record IsProgress (progress : Progress) : Type 0 where
+  pub state : StateView
+  pub replay : Replay state.config state.ring state.id state.entries
+  pub rounds : progress.rounds ≡ clock_at state.entries
+  pub height : progress.height ≡ length (commits_of state.config state.id state.entries)
 
 -- a replica with a lawful history had this number of transactions in its pool
 pub record IsPooled (size : PoolSize) : Type 0 where
@@ -51,6 +59,7 @@ AnswersWait tx index Stopping = ⊤
 -- the inquiry is of a running cluster; that a transaction was spread says nothing
 abbrev pub IsInquiry : Inquiry → Type 0
 IsInquiry (Shows r m) = IsShown m
+IsInquiry (Progresses r progress) = IsProgress progress
 IsInquiry (Pools r size) = IsPooled size
 IsInquiry (Infos r info) = IsInfo info
 IsInquiry (Spreads r tx) = ⊤

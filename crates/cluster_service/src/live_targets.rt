@@ -4,14 +4,14 @@ ghost use Rattle.client_sessions.specs.Asking.{told};
 ghost use Rattle.cluster_service.specs.Targets.{AnswersSubmit};
 
 use crate::asking::{block, query, submit};
-use crate::showing::{app_info, metrics_of, pool_size};
+use crate::showing::{app_info, metrics_of, pool_size, progress_of};
 use crate::waiting::wait_for;
 use abci::Application;
 use client_sessions::{TargetFault, Targets};
 use cluster_workers::{RunningCluster, Stop};
 use commit_board::ReaderSeat;
 use http_replies::ReplicaMetrics;
-use http_sessions::{AppInfo, Delivery, HttpTargets, PoolSize};
+use http_sessions::{AppInfo, Delivery, HttpTargets, PoolSize, Progress};
 use ledger_model::{Batch, Height, QueryAnswer, ReplicaId, SubmitRefusal};
 use replica_turns::ClientEntries;
 use std::alloc::Global;
@@ -121,6 +121,11 @@ impl<A: Application, R: Clock + Wait> HttpTargets for LiveTargets<'_, A, R> {
         let lost = self.cluster.lost(replica);
         let state = self.cluster.replica(replica).lock(self.rt);
         metrics_of(replica, lost, &*state)
+    }
+
+    fn progress(&mut self, replica: ReplicaId) -> Progress {
+        let state = self.cluster.replica(replica).lock(self.rt);
+        progress_of(&*state)
     }
 
     fn pool(&mut self, replica: ReplicaId) -> PoolSize {

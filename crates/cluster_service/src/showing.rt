@@ -6,13 +6,13 @@ ghost use Rattle.ledger_model.specs.Lawful.{clock_at};
 ghost use Rattle.ledger_model.specs.declared.reply.Ignored.{Ignored};
 ghost use Rattle.http_replies.specs.FrameCounts.{ignored_for};
 ghost use Rattle.cluster_service.specs.FrameCounting.{accepted_in, ignored_in};
-ghost use Rattle.cluster_service.specs.Inquiries.{IsInfo, IsPooled, IsShown};
+ghost use Rattle.cluster_service.specs.Inquiries.{IsInfo, IsPooled, IsProgress, IsShown};
 
 use crate::frame_counting::frame_counts;
 use abci::Application;
 use batch_pool::Pool;
 use http_replies::ReplicaMetrics;
-use http_sessions::{AppInfo, PoolSize};
+use http_sessions::{AppInfo, PoolSize, Progress};
 use ledger_model::{Height, ReplicaId};
 use locked_replica::State;
 
@@ -44,6 +44,21 @@ pub(crate) fn metrics_of<A: Application>(
         history_entries: state.len() as u64,
         frames: frame_counts(state),
         frames_lost: lost,
+    }
+}
+
+/// How far a replica is.
+pub(crate) fn progress_of<A: Application>(state: &State<A>) -> Progress
+    ensures rounds { result.rounds ≡ clock_at state.now.entries }
+    ensures height { result.height ≡ length (commits_of state.now.config state.now.id state.now.entries) }
+    // The result as HTTP sees it.
+    ensures told { IsProgress result }
+{
+    // The history is a replay: its length is read for the proof.
+    let _ = state.len();
+    Progress {
+        rounds: state.clock(),
+        height: Height::new(state.height()),
     }
 }
 

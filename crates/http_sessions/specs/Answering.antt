@@ -21,7 +21,7 @@ use Rattle.http_replies.specs.Answers.{BroadcastCommit, Metrics, Fault, Unanswer
 use Rattle.http_replies.specs.Replies.{reply_bytes}
 use Rattle.http_sessions.specs.declared.targets.Delivery.{Delivery}
 use Rattle.http_sessions.specs.declared.targets.Delivery.TheVariants as delivery
-use Rattle.http_sessions.specs.Exchanges.{HttpExchange, Asked, Inquired, Shows, Pools, Infos, Spreads, Waits}
+use Rattle.http_sessions.specs.Exchanges.{HttpExchange, Asked, Inquired, Shows, Progresses, Pools, Infos, Spreads, Waits}
 
 -- ---- answers by what a replica answered
 
@@ -67,7 +67,7 @@ block_answer h (Err f) = fault_answer f
 -- ---- the exchanges with replica `r` by which a question is answered, and the answer
 
 abbrev pub AnswersStatus : ℕ → List HttpExchange → AnswerView → Type 0
-AnswersStatus r (Inquired (Shows q m) ∷ []) a = (q ≡ r) × (a ≡ Status r m.rounds m.height)
+AnswersStatus r (Inquired (Progresses q progress) ∷ []) a = (q ≡ r) × (a ≡ Status r progress.rounds progress.height)
 AnswersStatus r _ a = ⊥
 
 abbrev pub AnswersInfo : ℕ → List HttpExchange → AnswerView → Type 0

@@ -5,10 +5,12 @@ use Rattle.http_replies.specs.declared.metrics.ReplicaMetrics.{ReplicaMetrics}
 use Rattle.http_sessions.specs.declared.targets.AppInfo.{AppInfo}
 use Rattle.http_sessions.specs.declared.targets.Delivery.{Delivery}
 use Rattle.http_sessions.specs.declared.targets.PoolSize.{PoolSize}
+use Rattle.http_sessions.specs.declared.targets.Progress.{Progress}
 
 -- what HTTP alone asks a replica, and the answer
 pub data Inquiry : Type 0 where
   Shows : (replica : ℕ) (metrics : ReplicaMetrics) → Inquiry
+  Progresses : (replica : ℕ) (progress : Progress) → Inquiry
   Pools : (replica : ℕ) (size : PoolSize) → Inquiry
   Infos : (replica : ℕ) (info : AppInfo) → Inquiry
   Spreads : (replica : ℕ) (tx : List ℕ) → Inquiry

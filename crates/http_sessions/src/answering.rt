@@ -30,13 +30,13 @@ fn status<T: HttpTargets>(
         (λ _. Loses (Makes T.asks T.inquires) targets.old targets.new (AnswersStatus replica)) }
     ensures count { T.replicas targets.new ≡ T.replicas targets.old }
 {
-    let shown = targets.metrics(replica);
+    let progress = targets.progress(replica);
     reply_to(
         alloc,
         &Answer::Status {
             replica,
-            round: shown.rounds,
-            height: shown.height,
+            round: progress.rounds,
+            height: progress.height,
         },
     )
 }

@@ -15,4 +15,4 @@ mod targets;
 pub use answering::answer;
 pub use request_end::{ConnectionFault, RequestEnd};
 pub use serving::serve_request;
-pub use targets::{AppInfo, Delivery, HttpTargets, PoolSize};
+pub use targets::{AppInfo, Delivery, HttpTargets, PoolSize, Progress};

@@ -3,6 +3,15 @@ use client_sessions::Targets;
 use http_replies::ReplicaMetrics;
 use ledger_model::{AppKind, Height, ReplicaId};
 
+/// How far a replica is.
+#[derive(Clone, Copy, Debug, PartialEq, Eq)]
+pub struct Progress {
+    /// The number of rounds that it ended.
+    pub rounds: u32,
+    /// The last height that it committed.
+    pub height: Height,
+}
+
 /// What a replica's application says of itself.
 #[derive(Clone, Copy, Debug, PartialEq, Eq)]
 pub struct AppInfo {
@@ -39,7 +48,7 @@ pub enum Delivery {
 /// targets after it, as `asks` of [`Targets`] does.
 pub trait HttpTargets: Targets {
     ghost use Rattle.std.specs.Prelude.{◌≡◌, ◌<◌};
-    ghost use Rattle.http_sessions.specs.Exchanges.{Inquiry, Shows, Pools, Infos, Spreads, Waits};
+    ghost use Rattle.http_sessions.specs.Exchanges.{Inquiry, Shows, Progresses, Pools, Infos, Spreads, Waits};
 
     ghost inquires: { Self → Inquiry → Self → Type 0 };
 
@@ -48,6 +57,12 @@ pub trait HttpTargets: Targets {
         requires { replica < Self.replicas self.old }
         ensures asked { inquires self.old (Shows replica result) self.new }
         ensures replica { result.replica ≡ replica }
+        ensures count { Self.replicas self.new ≡ Self.replicas self.old };
+
+    /// How far a replica is.
+    fn progress(&mut self, replica: ReplicaId) -> Progress
+        requires { replica < Self.replicas self.old }
+        ensures asked { inquires self.old (Progresses replica result) self.new }
         ensures count { Self.replicas self.new ≡ Self.replicas self.old };
 
     /// How many transactions wait in a replica's pool.

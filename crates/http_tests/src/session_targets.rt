@@ -2,7 +2,7 @@
 use bytes::Bytes;
 use client_sessions::{TargetFault, Targets};
 use http_replies::{FrameCounts, ReplicaMetrics};
-use http_sessions::{AppInfo, Delivery, HttpTargets, PoolSize};
+use http_sessions::{AppInfo, Delivery, HttpTargets, PoolSize, Progress};
 use ledger_model::{AppKind, Batch, Height, QueryAnswer, ReplicaId, SubmitRefusal};
 use std::alloc::Global;
 use test_support::{BuildFault, batch};
@@ -121,6 +121,14 @@ impl HttpTargets for Fake {
                 ignored: [0, 0, 3, 0, 0, 0, 17, 0, 0, 0, 1],
             },
             frames_lost: 2,
+        }
+    }
+
+    fn progress(&mut self, replica: ReplicaId) -> Progress {
+        self.note(b'G', replica);
+        Progress {
+            rounds: 345,
+            height: Height::new(12),
         }
     }
 

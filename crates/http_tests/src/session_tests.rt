@@ -83,7 +83,7 @@ fn first_wrong<'a>(alloc: Global, targets: &mut Fake, cases: &[Case<'a>]) -> Opt
 
 const QUESTIONS: [Case<'static>; 18] = [
     (b"/health", b"", HEALTH),
-    (b"/status?replica=2", b"M2", STATUS),
+    (b"/status?replica=2", b"G2", STATUS),
     (b"/abci_info", b"I0", INFO),
     (b"/abci_query?data=\"abcd\"", b"Q0", FOUND),
     (b"/abci_query?data=\"abcd\"&height=0", b"Q0", FOUND),

@@ -1,0 +1,10 @@
+use Rattle.std.proofs.Common.{◌∙◌}
+use Rattle.cluster_service.proofs.showing.progress_of.Goals as goal
+
+pub returns-clause-told : goal.returns-clause-told
+returns-clause-told g c = record {
+  state = c.args.state.now;
+  replay = c.len.ensures.replay;
+  rounds = c.clock.ensures;
+  height = c.new.ensures ∙ c.height.ensures.height;
+}
