@@ -195,7 +195,9 @@ def read_all(node):
     sent = node.broadcast_tx_sync(b"comet=2")
     assert (sent["code"], sent["hash"]) == (0, hash_of(b"comet=2")), sent
     waiting = node.num_unconfirmed_txs()
-    assert waiting["n_txs"] == waiting["total"], waiting
+    # A transaction has 1 to 64 bytes.
+    count = int(waiting["n_txs"])
+    assert waiting["n_txs"] == waiting["total"] and count <= int(waiting["total_bytes"]) <= 64 * count, waiting
     assert node.fault("/broadcast_tx_sync")["code"] == -32602
     assert node.fault("/block", height='"4096"')["code"] == -32603
     assert node.fault("/no_such_call")["code"] == -32601

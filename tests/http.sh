@@ -92,6 +92,7 @@ runs 'two hundred that sleep' 0 $'200 at once\nsilent: {\'\'}\ncut: HTTP/1.1 400
 runs 'one after another' 0 $'many\n' "$ask steady 5"
 runs 'then all is as before' 0 $'exists b\'name\' b\'satoshi\'\n' "$ask value '/abci_query?data=\"name\"'"
 ends
+runs 'all replicas got a broadcast' 0 $'replicas: 0 1 2 3\n' "$ask submits '$room/histories' b=2"
 runs 'the counts are those of the histories' 0 $'frames accepted and ignored: some\n' "$ask counts '$room/scraped' '$room/histories'"
 runs 'the end of the input ends it' 0 $'0\nledger\n' "echo $ended; sed -n 's/^\\(ledger\\) .*/\\1/p' '$room/served'"
 runs 'it tells nothing but its ports and its end' 0 $'listening\nhttp\ncommits\ncommits\ncommits\ncommits\nledger\n' \

@@ -5,6 +5,7 @@
     error PATH             the status, and the error of the JSON of a reply
     metrics [PATH]         whether the reply is text of Prometheus' format 0.0.4, and of which replicas each metric is
     counts TEXT HISTORIES  whether the counts of frames in the text of a reply are those of the histories that the server wrote at its end
+    submits HISTORIES TX   to which replicas a transaction was submitted, by the histories that the server wrote at its end
     bytes HEX              the first line of the reply to these bytes, after which the client closes its side
     crowd COUNT            how many clients that send nothing are open while another is answered
     cut                    how long a client is read that sends a head byte by byte, and never its end
@@ -141,6 +142,13 @@ def counts(text, histories):
             assert found["abft_frames_ignored_total"][replica, cause] == whys[why], (replica, cause, whys)
         answers += whys
     print("frames accepted and ignored:", "some" if answers[0] > 0 and len(answers) > 1 else answers)
+
+
+def submits(histories, tx):
+    with open(histories, "rb") as file:
+        written = read_histories(file.read())
+    print("replicas:", *(replica for replica, entries in sorted(written.items())
+                         if any(entry.kind == "submit" and entry.given == tx.encode() for entry in entries)))
 
 
 def crowd(count):

@@ -177,7 +177,8 @@ class Watch:
             self.block(result)
             assert given["height"] in (None, int(result["block"]["header"]["height"])), result
         elif path == "/num_unconfirmed_txs":
-            assert 0 <= int(result["n_txs"]) <= 1024, result
+            count = int(result["n_txs"])
+            assert 0 <= count <= 1024 and count <= int(result["total_bytes"]) <= 64 * count, result
         elif path == "/abci_query":
             response = result["response"]
             assert base64.b64decode(response["key"]) == given["data"], response

@@ -1,5 +1,5 @@
 -- What a running replica answers to HTTP alone, by that replica as it was then.
-use Rattle.std.specs.Prelude.{◌≡◌, ℕ, ◌+◌, ⊤, List, length}
+use Rattle.std.specs.Prelude.{◌≡◌, ℕ, ◌+◌, ◌-◌, ◌^◌, ⊤, List, length, min, sum_by}
 use Rattle.http_replies.specs.FrameCounts.{ignored_for}
 use Rattle.http_replies.specs.declared.metrics.ReplicaMetrics.{ReplicaMetrics}
 use Rattle.http_sessions.specs.declared.targets.AppInfo.{AppInfo}
@@ -36,11 +36,12 @@ pub record IsProgress (progress : Progress) : Type 0 where
   pub rounds : progress.rounds ≡ clock_at state.entries
   pub height : progress.height ≡ length (commits_of state.config state.id state.entries)
 
--- a replica with a lawful history had this number of transactions in its pool
+-- a replica with a lawful history had this number of transactions in its pool, and they have this number of bytes
 pub record IsPooled (size : PoolSize) : Type 0 where
   pub state : StateView
   pub replay : Replay state.config state.ring state.id state.entries
   pub transactions : size.transactions ≡ length (pool_of state.config state.id state.entries)
+  pub bytes : size.bytes ≡ min (sum_by length (pool_of state.config state.id state.entries)) (2 ^ 64 - 1)
 
 -- the application of a replica with a lawful history said this of itself
 pub record IsInfo (info : AppInfo) : Type 0 where

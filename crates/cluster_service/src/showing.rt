@@ -1,5 +1,5 @@
 //! What a replica shows of itself to HTTP. None of it is an event.
-ghost use Rattle.std.specs.Prelude.{◌≡◌, ◌+◌, length};
+ghost use Rattle.std.specs.Prelude.{◌≡◌, ◌+◌, ◌-◌, ◌^◌, length, min, sum_by};
 ghost use Rattle.key_ring.specs.Signers.{leaves_of};
 ghost use Rattle.ledger_model.specs.Commits.{commits_of, pool_of};
 ghost use Rattle.ledger_model.specs.Lawful.{clock_at};
@@ -62,8 +62,10 @@ pub(crate) fn progress_of<A: Application>(state: &State<A>) -> Progress
     }
 }
 
-/// The number of bytes of the transactions in a pool.
-fn bytes_in(pool: &Pool) -> u64 {
+/// The number of bytes of the transactions in a pool, at most 2^64 - 1.
+fn bytes_in(pool: &Pool) -> u64
+    ensures { result ≡ min (sum_by length pool.now) (2 ^ 64 - 1) }
+{
     let mut bytes = 0u64;
     for tx in pool.transactions() {
         bytes = bytes.saturating_add(tx.as_bytes().len() as u64);
@@ -74,6 +76,7 @@ fn bytes_in(pool: &Pool) -> u64 {
 /// How many transactions wait in a replica's pool. It looks at each of them, which are at most 1024.
 pub(crate) fn pool_size<A: Application>(state: &State<A>) -> PoolSize
     ensures transactions { result.transactions ≡ length (pool_of state.now.config state.now.id state.now.entries) }
+    ensures bytes { result.bytes ≡ min (sum_by length (pool_of state.now.config state.now.id state.now.entries)) (2 ^ 64 - 1) }
     // The result as HTTP sees it.
     ensures told { IsPooled result }
 {

@@ -6,10 +6,9 @@ use Rattle.std.specs.List.{range_with_len}
 use Rattle.ledger_model.specs.Causes.{cause_number}
 use Rattle.ledger_model.specs.declared.reply.Ignored.TheVariants as cause
 use Rattle.http_requests.specs.declared.fault.RequestFault.TheVariants as fault
-use Rattle.http_replies.specs.declared.metrics.TheConstants.{CAUSES}
 use Rattle.http_replies.specs.Answers as answer
 use Rattle.http_replies.specs.Errors.{reason_text, error_text}
-use Rattle.http_replies.specs.Metrics.{cause_name}
+use Rattle.http_replies.specs.Metrics.{all_causes, cause_name}
 use Rattle.http_replies.specs.Results.{unconfirmed_result}
 use Rattle.http_replies.specs.Replies.{status_of, content_type, allow_text, fields_text, head_text, result_text, body_text, reply_bytes}
 
@@ -42,7 +41,7 @@ unfolding replies_on_literals
 reply-method = refl
 
 -- the causes are those of the numbers from 1 to 11, in this order
-causes-all : map cause_number CAUSES ≡ range_with_len 1 11
+causes-all : map cause_number all_causes ≡ range_with_len 1 11
 causes-all = refl
 
 name-repeated : cause_name cause.Repeated ≡ codes "Repeated"

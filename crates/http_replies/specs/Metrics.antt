@@ -3,7 +3,7 @@ use Rattle.std.specs.Prelude.{ℕ, List, [], ◌∷◌, ◌++◌, ◌==◌, code
 use Rattle.std.specs.List.{flat_map, after_first}
 use Rattle.ledger_model.specs.Causes.{cause_text}
 use Rattle.ledger_model.specs.declared.reply.Ignored.{Ignored}
-use Rattle.http_replies.specs.declared.metrics.TheConstants.{CAUSES, METRICS}
+use Rattle.ledger_model.specs.declared.reply.Ignored.TheVariants as cause
 use Rattle.http_replies.specs.declared.metrics.ReplicaMetrics.{ReplicaMetrics}
 use Rattle.http_replies.specs.declared.metrics.Metric.{Metric}
 use Rattle.http_replies.specs.declared.metrics.Metric.TheVariants as metric
@@ -65,6 +65,12 @@ metric_text replicas metric =
 abbrev pub cause_name : Ignored → List ℕ
 cause_name cause = after_first (λ b. b == 32) (cause_text cause)
 
+-- all causes, in the order of their numbers
+abbrev pub all_causes : List Ignored
+all_causes =
+    cause.Malformed ∷ cause.Signer ∷ cause.NoRow ∷ cause.WrongRound ∷ cause.WrongPhase ∷ cause.NotOwner ∷ cause.Repeated
+    ∷ cause.BadSignature ∷ cause.BadProof ∷ cause.TableFull ∷ cause.NotMine ∷ []
+
 -- the line of the frames that a replica ignored for a cause
 unfoldable pub ignored_text : ReplicaMetrics → Ignored → List ℕ
 ignored_text of cause =
@@ -75,8 +81,14 @@ ignored_text of cause =
 abbrev pub all_ignored_text : List ReplicaMetrics → List ℕ
 all_ignored_text replicas =
     head_text (codes "abft_frames_ignored_total") (codes "Frames that the replica ignored, by the first cause that fits.") (codes "counter")
-    ++ flat_map (λ of. flat_map (ignored_text of) CAUSES) replicas
+    ++ flat_map (λ of. flat_map (ignored_text of) all_causes) replicas
+
+-- all metrics with one number for each replica, in the order of their lines
+abbrev pub all_metrics : List Metric
+all_metrics =
+    metric.Rounds ∷ metric.Height ∷ metric.SignaturesLeft ∷ metric.PoolTransactions ∷ metric.HistoryEntries ∷ metric.FramesLost
+    ∷ metric.FramesAccepted ∷ []
 
 -- the metrics of these replicas
 unfoldable pub metrics_text : List ReplicaMetrics → List ℕ
-metrics_text replicas = flat_map (metric_text replicas) METRICS ++ all_ignored_text replicas
+metrics_text replicas = flat_map (metric_text replicas) all_metrics ++ all_ignored_text replicas

@@ -1,7 +1,7 @@
 //! What a request asks, and of which replica.
 use ledger_model::{Height, ReplicaId};
 
-/// A question. A height or a number of a replica is as it was written: whether it exists, the replica answers.
+/// A question. A height is as it was written: whether the replica has committed it, the replica answers.
 #[derive(Debug, Drop)]
 pub enum Question {
     /// `/`: the page for people.
@@ -12,7 +12,7 @@ pub enum Question {
     Status,
     /// `/abci_info`: what the application says of itself.
     AbciInfo,
-    /// `/abci_query`: what the application has under a key, at this height or as the replica chooses.
+    /// `/abci_query`: what the application has under a key, at this height, or as of its last block.
     AbciQuery {
         key: Vec<u8>,
         height: Option<Height>,

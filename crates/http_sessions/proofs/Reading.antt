@@ -32,19 +32,15 @@ module _ (unread mid left : Option (List ℕ)) (count more most : ℕ) (xs ys : 
   -- or within a head
   pub part_heard : 0 < length ys → more ≡ 0 → (count ≡ 0 → ⊥) → IsPart (take count xs) → Hears most unread left (Err fault.Incomplete)
   part_heard room none some part =
-      let same : take count xs ++ [] ≡ take count xs = append-nil (take count xs) in
       let long : length (take count xs) ≡ count = length-take-le count xs (omega (arith, within)) in
-      let joined : length (take count xs ++ []) ≡ length (take count xs) = ap length same in
       let answers : Answers (take count xs) (Err fault.Incomplete) =
       elim part as (λ _. Answers (take count xs) (Err fault.Incomplete))
       [ inl empty ↦ absurd (some (sym long ∙ ap length empty)) | inr answers ↦ answers ] in record {
-        first = take count xs;
-        last = [];
-        part = part;
-        some = omega (arith, long, joined, some);
-        within = omega (arith, long, joined, within, sized);
-        read = subst (Consumes unread left) (sym same) (nothing_more unread mid left (take count xs) ys more none first second.0);
-        answers = subst (λ l. AnswersRead l (Err fault.Incomplete)) (sym same) (inl (answers.0, answers));
+        bytes = take count xs;
+        some = omega (arith, long, some);
+        within = omega (arith, long, within, sized);
+        read = nothing_more unread mid left (take count xs) ys more none first second.0;
+        answers = inl (answers.0, answers);
         end = λ _. second.1 none room;
       }
 
@@ -56,21 +52,19 @@ module _ (unread mid left : Option (List ℕ)) (count more most : ℕ) (xs ys : 
 
   -- and are no part of a head any more
   pub more_heard : (r : ℕ) (asked : Result Request RequestFault) → more ≤ length ys → count + more ≤ most → (more ≡ 0 → ⊥)
-      → IsPart (take count xs) → AnswersRead (take (count + more) (put_mid count r xs ys)) asked → (asked ≡ Err fault.Incomplete → ⊥)
+      → AnswersRead (take (count + more) (put_mid count r xs ys)) asked → (asked ≡ Err fault.Incomplete → ⊥)
       → Hears most unread left asked
-  more_heard r asked fits few some part answers whole =
-      let joined : take (count + more) (put_mid count r xs ys) ≡ take count xs ++ take more ys =
-      grown count r more xs ys (omega (arith, within)) fits in
+  more_heard r asked fits few some answers whole =
+      let bytes = take (count + more) (put_mid count r xs ys) in
+      let joined : bytes ≡ take count xs ++ take more ys = grown count r more xs ys (omega (arith, within)) fits in
       let long : length (take count xs) ≡ count = length-take-le count xs (omega (arith, within)) in
       let more_long : length (take more ys) ≡ more = length-take-le more ys fits in
-      let all_long : length (take count xs ++ take more ys) ≡ length (take count xs) + length (take more ys) =
-      length-append (take count xs) (take more ys) in record {
-        first = take count xs;
-        last = take more ys;
-        part = part;
+      let all_long : length bytes ≡ length (take count xs) + length (take more ys) =
+      ap length joined ∙ length-append (take count xs) (take more ys) in record {
+        bytes = bytes;
         some = omega (arith, long, more_long, all_long, some);
         within = omega (arith, long, more_long, all_long, few);
-        read = Consumes-trans unread mid left (take count xs) (take more ys) first second.0;
-        answers = subst (λ l. AnswersRead l asked) joined answers;
+        read = more_read r fits;
+        answers = answers;
         end = λ e. absurd (whole e);
       }

@@ -1,5 +1,5 @@
 -- The head of a request, read from a stream.
-use Rattle.std.specs.Prelude.{◌≡◌, ◌≢◌, ◌⊎◌, ℕ, ◌<◌, ◌≤◌, List, [], ◌++◌, length, take, Option, Result, Err}
+use Rattle.std.specs.Prelude.{◌≡◌, ◌≢◌, ◌⊎◌, ℕ, ◌<◌, ◌≤◌, List, [], length, take, Option, Result, Err}
 use Rattle.std.specs.Io.KnownBytes.{Consumes, IsAtEnd}
 use Rattle.http_requests.specs.declared.fault.RequestFault.{RequestFault}
 use Rattle.http_requests.specs.declared.fault.RequestFault.TheVariants as fault
@@ -21,15 +21,13 @@ abbrev pub AnswersRead : List ℕ → Result Request RequestFault → Type 0
 AnswersRead bytes asked =
     ((length bytes ≤ max_head_len) × Answers bytes asked) ⊎ ((max_head_len < length bytes) × AnswersCut (take max_head_len bytes) asked)
 
--- at most `most` bytes were read, which ask this; without those of the last read they were less than a head
+-- at most `most` bytes were read, which ask this; if they end within a head, so did the input
 pub record Hears (most : ℕ) (unread left : Option (List ℕ)) (asked : Result Request RequestFault) : Type 0 where
-  pub first : List ℕ
-  pub last : List ℕ
-  pub part : IsPart first
-  pub some : 1 ≤ length (first ++ last)
-  pub within : length (first ++ last) ≤ most
-  pub read : Consumes unread left (first ++ last)
-  pub answers : AnswersRead (first ++ last) asked
+  pub bytes : List ℕ
+  pub some : 1 ≤ length bytes
+  pub within : length bytes ≤ most
+  pub read : Consumes unread left bytes
+  pub answers : AnswersRead bytes asked
   pub end : asked ≡ Err fault.Incomplete → IsAtEnd left
 
 -- the input ended without a byte
@@ -37,7 +35,7 @@ pub record HearsNone (unread left : Option (List ℕ)) : Type 0 where
   pub read : Consumes unread left []
   pub end : IsAtEnd left
 
--- at most `most` bytes were read, less than a head
+-- a read failed after at most `most` bytes, less than a head; any read can fail, so none follows a head
 pub record HearsPart (most : ℕ) (unread left : Option (List ℕ)) : Type 0 where
   pub bytes : List ℕ
   pub part : IsPart bytes

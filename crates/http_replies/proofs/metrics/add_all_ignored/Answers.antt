@@ -2,13 +2,12 @@ use Rattle.std.proofs.Common.{◌++◌, List, ℕ, ap, ◌∙◌}
 use Rattle.std.specs.String.{string_bytes}
 use Rattle.std.specs.List.{flat_map}
 use Rattle.std.proofs.lemmas.List.{append_assoc, take_all}
-use Rattle.http_replies.specs.declared.metrics.TheConstants.{CAUSES}
 use Rattle.http_replies.specs.declared.metrics.ReplicaMetrics.{ReplicaMetrics}
-use Rattle.http_replies.specs.Metrics.{ignored_text}
+use Rattle.http_replies.specs.Metrics.{all_causes, ignored_text}
 use Rattle.http_replies.proofs.metrics.add_all_ignored.Goals as goal
 
 abbrev lines : List ReplicaMetrics → List ℕ
-lines = flat_map (λ of. flat_map (ignored_text of) CAUSES)
+lines = flat_map (λ of. flat_map (ignored_text of) all_causes)
 
 pub returns : goal.returns
 returns c =

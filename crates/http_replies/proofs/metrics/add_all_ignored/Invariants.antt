@@ -2,10 +2,9 @@
 use Rattle.std.proofs.Common.{◌≡◌, ◌++◌, take}
 use Rattle.std.specs.String.{string_bytes}
 use Rattle.std.specs.List.{flat_map}
-use Rattle.http_replies.specs.declared.metrics.TheConstants.{CAUSES}
-use Rattle.http_replies.specs.Metrics.{ignored_text}
+use Rattle.http_replies.specs.Metrics.{all_causes, ignored_text}
 use Rattle.http_replies.proofs.metrics.add_all_ignored.Given as goal
 
 abbrev pub invariant-loop-of : goal.invariant-loop-of
 invariant-loop-of l =
-    string_bytes l.out ≡ string_bytes l.initial.out ++ flat_map (λ of. flat_map (ignored_text of) CAUSES) (take l.of-index l.replicas)
+    string_bytes l.out ≡ string_bytes l.initial.out ++ flat_map (λ of. flat_map (ignored_text of) all_causes) (take l.of-index l.replicas)

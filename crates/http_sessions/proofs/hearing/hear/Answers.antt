@@ -33,6 +33,6 @@ pub returns-then-not-is_incomplete-clause-heard : goal.returns-then-not-is_incom
 returns-then-not-is_incomplete-clause-heard g c =
     let so_far = c.loop-count.invariant in
     more_heard _ _ _ _ c.in_ok-more.more _ c.loop-count.buffer c.read.new.buffer c.loop-count-test.true so_far.same so_far.read
-    c.in_ok-more.ensures.bytes _ _ c.in_ok-more.ensures.bound.0 (search rules) c.if-more-eq0.false so_far.part
+    c.in_ok-more.ensures.bytes _ _ c.in_ok-more.ensures.bound.0 (search rules) c.if-more-eq0.false
     c.asked_in-asked.ensures.answers
     (c.is_incomplete.ensures.no c.if-not-is_incomplete.true)

@@ -1,0 +1,11 @@
+use Rattle.std.proofs.Common.{ap, ◌∙◌, length, min}
+use Rattle.std.specs.List.{sum_by}
+use Rattle.cluster_service.proofs.showing.pool_size.Goals as goal
+
+pub returns-clause-told : goal.returns-clause-told
+returns-clause-told g c = record {
+  state = c.args.state.now;
+  replay = c.len.ensures.replay;
+  transactions = c.waiting.ensures;
+  bytes = c.bytes_in.ensures ∙ ap (λ l. min (sum_by length l) _) c.pool.ensures;
+}
