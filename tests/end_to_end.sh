@@ -399,7 +399,7 @@ cat >"$room/running" <<'EOT'
       --tx <tx>            The transaction that each pool is given [default: a=1]
       --rounds <rounds>    How many rounds each replica ends, 0 to 4000000000 [default: 40]
       --base-ms <base-ms>  Milliseconds of the first round, 1 to 60000; each later round has one more [default: 200]
-      --log <log>          What standard error is told: off, warn, info or debug [default: info]
+      --log <log>          What standard error shows: off, warn, info or debug [default: info]
       --quiet              The same as --log off
       --stop-at-eof        Ends the rounds, and the listener, where standard input ends
 EOT
@@ -424,7 +424,7 @@ Then the lines of an audit over the histories of all replicas, as 'abft audit --
   H BATCH      its block at height H, one line for each
 
 With --histories FILE the histories are written to FILE, for 'abft audit <FILE' with the options of the cluster.
-How it stands is told on standard error, as much as --log says.
+Standard error shows how it stands, as much of it as --log says.
 
 Exit status:
   0  the rounds are over, and the audit found a ledger
@@ -472,7 +472,7 @@ Then the lines of an audit over the histories of all replicas, as 'abft audit --
 It ends when the rounds are over and as many connections as --sessions says have ended,
 or where standard input ends if --stop-at-eof is there.
 With --histories FILE the histories are written to FILE, for 'abft audit <FILE' with the options of the cluster.
-How it stands is told on standard error, as much as --log says.
+Standard error shows how it stands, as much of it as --log says.
 docs/OPERATING.md has the rest.
 
 Exit status:

@@ -7,7 +7,7 @@ use Rattle.std.proofs.lemmas.Option.{get_or_from_slice_get, slice_get_within}
 use Rattle.ledger_model.specs.Values.{Value}
 use Rattle.ledger_model.specs.declared.history.Entry.{Entry}
 use Rattle.ledger_model.specs.declared.reply.Reply.{Reply}
-use Rattle.cluster_service.specs.Deliveries.{IsDelivered, delivered_by, delivered_in, first_of}
+use Rattle.cluster_service.specs.Deliveries.{IsDelivery, delivered_by, delivered_in, first_of}
 
 module _ (batches : List Value) (es : List Entry) (tx : List ℕ) (i : ℕ) where
   -- no entries are left
@@ -33,7 +33,7 @@ module _ (batches : List Value) (es : List Entry) (tx : List ℕ) (i : ℕ) wher
         ∙ ap (λ o. first_of o (delivered_in batches (drop (suc i) es) tx)) (sym (by ∙ ap (λ s. delivered_by batches s tx) same)))
 
 -- what was run by an entry or a later one was run by an earlier entry or a later one
-pub from_earlier : (tx : List ℕ) (index next height code : ℕ) → index ≤ next → IsDelivered tx next height code → IsDelivered tx index height code
+pub from_earlier : (tx : List ℕ) (index next height code : ℕ) → index ≤ next → IsDelivery tx next height code → IsDelivery tx index height code
 from_earlier tx index next height code before is = record {
   state = is.state;
   replay = is.replay;

@@ -35,7 +35,7 @@ delivered_in batches (e ∷ es) tx = first_of (delivered_by batches e.reply tx) 
 
 -- a replica with a lawful history had run a block at this height, by the entry with this index or a later one; the block has the
 -- transaction, and the application returned this code for it
-pub record IsDelivered (tx : List ℕ) (index height code : ℕ) : Type 0 where
+pub record IsDelivery (tx : List ℕ) (index height code : ℕ) : Type 0 where
   pub state : StateView
   pub replay : Replay state.config state.ring state.id state.entries
   pub after : ℕ

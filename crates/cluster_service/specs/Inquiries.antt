@@ -14,7 +14,7 @@ use Rattle.ledger_model.specs.Lawful.{Replay, clock_at}
 use Rattle.ledger_model.specs.declared.reply.Ignored.{Ignored}
 use Rattle.locked_replica.specs.States.{StateView}
 use Rattle.replica_core.specs.Facts.{info_reply}
-use Rattle.cluster_service.specs.Deliveries.{IsDelivered}
+use Rattle.cluster_service.specs.Deliveries.{IsDelivery}
 use Rattle.cluster_service.specs.FrameCounting.{accepted_in, ignored_in}
 
 -- a replica with a lawful history showed these numbers; how many frames its inbox lost isn't in it
@@ -53,7 +53,7 @@ pub record IsInfo (info : AppInfo) : Type 0 where
 
 -- what became of a transaction that the entry with this index submitted; that the wait ended says nothing
 abbrev pub AnswersWait : List ℕ → ℕ → Delivery → Type 0
-AnswersWait tx index (Committed height code) = IsDelivered tx index height code
+AnswersWait tx index (Committed height code) = IsDelivery tx index height code
 AnswersWait tx index TimedOut = ⊤
 AnswersWait tx index Stopping = ⊤
 

@@ -3,7 +3,7 @@ ghost use Rattle.std.specs.Prelude.{◌≡◌, drop, position, IfSome};
 ghost use Rattle.std.specs.Str.{bytes_eq};
 ghost use Rattle.ledger_model.specs.Commits.{commits_of};
 ghost use Rattle.locked_replica.specs.Views.{reply_lent};
-ghost use Rattle.cluster_service.specs.Deliveries.{IsDelivered, code_for, code_in, delivered_by, delivered_in};
+ghost use Rattle.cluster_service.specs.Deliveries.{IsDelivery, code_for, code_in, delivered_by, delivered_in};
 
 use abci::Application;
 use ledger_model::{BlockResult, Height, Tx};
@@ -61,7 +61,7 @@ pub(crate) fn delivered_after<A: Application>(
 ) -> Option<(Height, u32)>
     ensures found { result ≡ delivered_in (commits_of state.now.config state.now.id state.now.entries) (drop first state.now.entries) tx.now }
     // The result as HTTP sees it.
-    ensures told { IfSome result (λ found. IsDelivered tx.now first found.0 found.1) }
+    ensures told { IfSome result (λ found. IsDelivery tx.now first found.0 found.1) }
 {
     for index in first..state.len() {
         let Some(entry) = state.entry(index) else {

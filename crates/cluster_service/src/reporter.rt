@@ -36,7 +36,7 @@ impl<P: Write + Drop> Watcher<P> {
         matches!(self, Watcher::Log(_))
     }
 
-    /// The same stream, in plain lines unless it is a terminal that is told of progress and no more.
+    /// The same stream, in plain lines unless it is a terminal that shows progress and no more.
     fn for_level(self, filter: LevelFilter) -> Self {
         match self {
             Watcher::Terminal(writer) if filter != LevelFilter::Info => Watcher::Log(writer),

@@ -1,6 +1,6 @@
 //! Waits until a block of a replica has a transaction.
 ghost use Rattle.std.specs.Prelude.{◌≡◌, ◌<◌, ◌≤◌, IfSome};
-ghost use Rattle.cluster_service.specs.Deliveries.{IsDelivered};
+ghost use Rattle.cluster_service.specs.Deliveries.{IsDelivery};
 ghost use Rattle.cluster_service.specs.Inquiries.{AnswersWait};
 
 use crate::deliveries::delivered_after;
@@ -43,7 +43,7 @@ fn look<A: Application, R: Wait>(
     next: &mut usize,
 ) -> Option<(Height, u32)>
     requires { replica < cluster.now.replicas }
-    ensures told { IfSome result (λ found. IsDelivered tx.now next.old found.0 found.1) }
+    ensures told { IfSome result (λ found. IsDelivery tx.now next.old found.0 found.1) }
     ensures next { next.old ≤ next.new }
 {
     let state = cluster.replica(replica).lock(rt);

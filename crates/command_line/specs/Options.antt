@@ -230,7 +230,7 @@ abbrev pub SetsPort : List Row → Text → Option ℕ → Type 0
 SetsPort rows name None = first_of name rows ≡ None
 SetsPort rows name (Some port) = IsNumber rows name 0 65535 port
 
--- The value of `--log` names a level, in capitals or not. This is the level, or none is: if the words contain `--quiet`.
+-- The value of `--log` names a level, in capitals or not. This is that level, or `Off` if the words contain `--quiet`.
 pub record SetsLog (rows : List Row) (level : LevelFilter) : Type 0 where
   pub text : Text
   pub has : first_of (codes "log") rows ≡ Some text

@@ -183,7 +183,7 @@ pub(crate) fn what<'a>(matches: &ArgMatches<'a>) -> Result<What, UsageFault<'a>>
     }
 }
 
-/// What the operator is told: what `--log` says, nothing if the words contain `--quiet`.
+/// Which notices the operator reads: those that `--log` names, none if the words contain `--quiet`.
 pub(crate) fn log_filter<'a>(matches: &ArgMatches<'a>) -> Result<LevelFilter, UsageFault<'a>>
     ensures some { IfOk result (λ level. SetsLog (rows_of (found_of matches.now)) level) }
     ensures none { OnErr result ((level : LevelFilter) → SetsLog (rows_of (found_of matches.now)) level → ⊥) }

@@ -15,7 +15,7 @@ Then the lines of an audit over the histories of all replicas, as 'abft audit --
   H BATCH      its block at height H, one line for each
 
 With --histories FILE the histories are written to FILE, for 'abft audit <FILE' with the options of the cluster.
-How it stands is told on standard error, as much as --log says.
+Standard error shows how it stands, as much of it as --log says.
 
 Exit status:
   0  the rounds are over, and the audit found a ledger
@@ -39,7 +39,7 @@ Then the lines of an audit over the histories of all replicas, as 'abft audit --
 It ends when the rounds are over and as many connections as --sessions says have ended,
 or where standard input ends if --stop-at-eof is there.
 With --histories FILE the histories are written to FILE, for 'abft audit <FILE' with the options of the cluster.
-How it stands is told on standard error, as much as --log says.
+Standard error shows how it stands, as much of it as --log says.
 docs/OPERATING.md has the rest.
 
 Exit status:

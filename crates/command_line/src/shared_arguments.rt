@@ -71,11 +71,11 @@ pub(crate) const FIRST_ROUND: Argument = Argument {
     help: "Milliseconds of the first round, 1 to 60000; each later round has one more",
 };
 
-/// What a run tells of itself.
+/// How much a run shows of itself.
 pub(crate) const LOG: Argument = Argument {
     name: "log",
     kind: Kind::Value("info"),
-    help: "What standard error is told: off, warn, info or debug",
+    help: "What standard error shows: off, warn, info or debug",
 };
 
 /// Whether a run is quiet.

@@ -15,7 +15,7 @@ pub struct ClusterSettings {
     pub rounds: u32,
     /// The milliseconds that the first round lasts; each later one lasts a millisecond more.
     pub base_ms: u32,
-    /// What the operator is told: nothing but a fault (`Off`), also what needs attention (`Warn`), also progress (`Info`), also each
+    /// What the operator reads: nothing but a fault (`Off`), also what needs attention (`Warn`), also progress (`Info`), also each
     /// round of each replica (`Debug`).
     pub log: LevelFilter,
     /// Whether the rounds end with standard input.
