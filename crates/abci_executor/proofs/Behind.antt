@@ -4,14 +4,14 @@ use Rattle.std.specs.Prelude.{◌==◌, if◌then◌else◌}
 use Rattle.ledger_model.specs.declared.config.AppKind.{AppKind}
 use Rattle.ledger_model.specs.Applications.{accepted, codes, code_after}
 
--- what is accepted of transactions behind others
+-- what is accepted of transactions after others
 pub accepted-append : (kind : AppKind) (done xs ys : List (List ℕ))
     → accepted kind done (xs ++ ys) ≡ accepted kind (accepted kind done xs) ys
 unfolding accepted
 accepted-append kind done [] ys = refl
 accepted-append kind done (x ∷ xs) ys = accepted-append kind (if code_after kind done x == 0 then done ++ x ∷ [] else done) xs ys
 
--- the codes of transactions behind others
+-- the codes of transactions after others
 pub codes-append : (kind : AppKind) (done xs ys : List (List ℕ))
     → codes kind done (xs ++ ys) ≡ codes kind done xs ++ codes kind (accepted kind done xs) ys
 unfolding accepted codes

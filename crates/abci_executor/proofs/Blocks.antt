@@ -143,7 +143,7 @@ opens m opening = ap (λ (w : Option AppState). let n : Machine =
 pub reached_first : (m : Machine) → m ≡ run m.kind [] → IsReached (without_work m)
 reached_first m opening = ([], opens m opening ∙ opening)
 
--- what an application tells of itself is told of its blocks
+-- what an application answers of itself is an answer about its blocks
 pub shows_blocks : (m : Machine) (info : Info) → ShowsOf m info → ShowsBlocks (without_work m) info
 unfolding run
 shows_blocks m info tells = λ batches led. (

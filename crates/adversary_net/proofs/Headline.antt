@@ -5,7 +5,7 @@ use Rattle.ledger_model.specs.Worlds.{World, world_at, IsLedger, Refines}
 use Rattle.ledger_laws.proofs.WorldRuns.{runs_refine, world_now}
 use Rattle.adversary_net.specs.WorldViews.{WorldView, IsCluster, correct_of, world_of}
 use Rattle.adversary_net.specs.Headline.{IsUnforged, IsOneLedger}
-use Rattle.adversary_net.proofs.Telling.{own_machines}
+use Rattle.adversary_net.proofs.AppAnswers.{own_machines}
 
 -- where nothing that was accepted was forged
 pub one_ledger : (c : WorldView) → IsCluster c → IsUnforged c → IsOneLedger c

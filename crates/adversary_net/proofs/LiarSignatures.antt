@@ -106,40 +106,40 @@ signed_as view c i lent p message answer within is signs =
       ),
     )
 
--- whatever is answered, what holds of each cluster still does
-pub signed_keeps : {X : Type 0} (view : X → List ℕ) (c : WorldView) (i : ℕ) (lent p : Party StateView) (message : List ℕ)
-    (result : Option (Result X SignFault)) → IsCluster c → i < length c.parties
-    → lent ≡ slice_index_or c.parties i lent → IfSome result (λ answer. LiarSigns view lent message answer p) → IfNone result (p ≡ lent)
-    → IsCluster (record { config = c.config; ring = c.ring; parties = slice_set c.parties i p; order = c.order })
-signed_keeps view c i lent p message None cluster within is signs same =
-    subst IsCluster (sym (signed_none c i lent p within is same)) cluster
-signed_keeps view c i lent p message (Some answer) cluster within is signs same =
-    let at : slice_get c.parties i ≡ Some (party.Liar signs.0) = got c.parties i lent within is ∙ ap Some signs.2.0 in
-    subst (λ q. IsCluster (record { config = c.config; ring = c.ring; parties = slice_set c.parties i q; order = c.order }))
-    (sym signs.2.1) (signed_cluster c i signs.0 signs.1 cluster at)
+-- ---- whatever is answered, in a cluster `c` that equals `now`
 
--- the same, whether a signature is answered or none
-module _ {X : Type 0} (view : X → List ℕ) (c : WorldView) (i r : ℕ) (lent p : Party StateView) (message : List ℕ) (place : i ≡ r)
-    (within : i < length c.parties) (is : lent ≡ slice_index_or c.parties i lent) where
+module _ {X : Type 0} (view : X → List ℕ) {c now : WorldView} (is_now : c ≡ now) {i r : ℕ} (place : i ≡ r) (within : i < length c.parties)
+    {lent : Party StateView} (is : lent ≡ slice_index_or c.parties i lent) (p : Party StateView) (message : List ℕ) where
+  -- the cluster with the party that was put back
+  abbrev after : WorldView
+  after = record { config = c.config; ring = c.ring; parties = slice_set c.parties i p; order = c.order }
+
+  -- what holds of each cluster still does
+  pub signed_keeps : (result : Option (Result X SignFault)) → IsCluster c
+      → IfSome result (λ answer. LiarSigns view lent message answer p) → IfNone result (p ≡ lent) → IsCluster after
+  signed_keeps None cluster signs same = subst IsCluster (sym (signed_none c i lent p within is same)) cluster
+  signed_keeps (Some answer) cluster signs same =
+      let at : slice_get c.parties i ≡ Some (party.Liar signs.0) = got c.parties i lent within is ∙ ap Some signs.2.0 in
+      subst (λ q. IsCluster (record { config = c.config; ring = c.ring; parties = slice_set c.parties i q; order = c.order }))
+      (sym signs.2.1) (signed_cluster c i signs.0 signs.1 cluster at)
+
   pub signs_after : (result : Option (Result X SignFault)) → IfSome result (λ answer. LiarSigns view lent message answer p)
-      → IfSome result (λ answer. SignsFor view c r message answer
-      (record { config = c.config; ring = c.ring; parties = slice_set c.parties i p; order = c.order }))
+      → IfSome result (λ answer. SignsFor view now r message answer after)
   signs_after None signs = tt
   signs_after (Some answer) signs =
-      subst (λ k. SignsFor view c k message answer
-      (record { config = c.config; ring = c.ring; parties = slice_set c.parties i p; order = c.order })) place
-      (signed_as view c i lent p message answer within is signs)
+      subst (λ d. SignsFor view d r message answer after) is_now
+      (subst (λ k. SignsFor view c k message answer after) place (signed_as view c i lent p message answer within is signs))
 
-  pub none_after : (result : Option (Result X SignFault)) → IfNone result (liar_in lent ≡ None) → IfNone result (liar_at c r ≡ None)
+  pub none_after : (result : Option (Result X SignFault)) → IfNone result (liar_in lent ≡ None) → IfNone result (liar_at now r ≡ None)
   none_after (Some answer) none = tt
-  none_after None none = ap (λ k. liar_at c k) (sym place) ∙ ap (option_and_then liar_in) (got c.parties i lent within is) ∙ none
+  none_after None none =
+      ap (λ d. liar_at d r) (sym is_now) ∙ ap (λ k. liar_at c k) (sym place)
+      ∙ ap (option_and_then liar_in) (got c.parties i lent within is) ∙ none
 
-  pub same_after : (result : Option (Result X SignFault)) → IfNone result (p ≡ lent)
-      → IfNone result (◌≡◌ {A = WorldView}
-      (record { config = c.config; ring = c.ring; parties = slice_set c.parties i p; order = c.order }) c)
+  pub same_after : (result : Option (Result X SignFault)) → IfNone result (p ≡ lent) → IfNone result (after ≡ now)
   same_after (Some answer) same = tt
-  same_after None same = signed_none c i lent p within is same
+  same_after None same = signed_none c i lent p within is same ∙ is_now
 
 -- a number past the last replica is no liar's
-pub no_liar : (c : WorldView) (r : ℕ) → length c.parties ≤ r → liar_at c r ≡ None
-no_liar c r past = ap (option_and_then liar_in) (slice_get_past c.parties r past)
+pub no_liar : {c now : WorldView} → c ≡ now → (r : ℕ) → length c.parties ≤ r → liar_at now r ≡ None
+no_liar {c} is_now r past = ap (λ d. liar_at d r) (sym is_now) ∙ ap (option_and_then liar_in) (slice_get_past c.parties r past)

@@ -3,8 +3,9 @@ mod Beginning
 mod Headline
 pub mod LiarSignatures
 mod Members
+mod OneStep
 mod Running
 mod SentPlaces
 mod Staying
-mod Telling
+mod AppAnswers
 mod UsedLeaves

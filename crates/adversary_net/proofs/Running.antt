@@ -85,9 +85,9 @@ found c s r e cluster ready =
 
 -- ---- the leaves that it may lose
 
-abbrev first_of : Result (ℕ × Event) WorldRefusal → ℕ
-first_of (Ok p) = p.0
-first_of (Err f) = 0
+abbrev number_in : Result (ℕ × Event) WorldRefusal → ℕ
+number_in (Ok p) = p.0
+number_in (Err f) = 0
 
 abbrev event_in : Result (ℕ × Event) WorldRefusal → Event
 event_in (Ok p) = p.1
@@ -99,7 +99,7 @@ asked config w x r d e ok =
     elim (cases_Bool (nat_lt x config.replicas)) [
       | inr far ↦ absurd (let no = simp far at ok in cc)
       | inl near ↦ elim (cases_Bool (is_correct w.histories x)) [
-        | inl is ↦ (let same = simp (near, is) at ok in (ap first_of same, ap event_in same))
+        | inl is ↦ (let same = simp (near, is) at ok in (ap number_in same, ap event_in same))
         | inr liar ↦ absurd (let no = simp (near, liar) at ok in cc)
       ]
     ]
@@ -124,7 +124,7 @@ passed config w from index to r e ok s =
     frame None given = cc
     frame (Some bytes) given = ap (may_lose s) (sym (ap event_in given))
 
--- as many as the event may cost
+-- at most the number that the event may use
 loss_here : (config : Config) (w : World) (s : WorldStep) (r : ℕ) (e : Event) → event_of config w s ≡ Ok (r, e) → (x : StateView)
     → loss_at s r x ≡ may_lose x e
 unfolding event_of
@@ -305,7 +305,7 @@ no_room c r order s e cluster ready is =
     (sym is)
     (refused_step c s refused.NoMemory cluster (no_memory c (event_of c.config (world_of c) s) r e ready))
 
--- the party that is lent is the correct replica
+-- the borrowed party is the correct replica
 pub lent_is : (c : WorldView) (i r : ℕ) (lent : Party StateView) → (at : Found c r) → i ≡ r → lent ≡ slice_index_or c.parties i lent
     → lent ≡ party.Correct at.state
 lent_is c i r lent at place is =

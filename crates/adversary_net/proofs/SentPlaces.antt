@@ -178,13 +178,13 @@ none_sent i before (x ∷ xs) none =
       | inr some ↦ absurd (let one = rw some at none in omega (arith, one))
     ]
 
--- where the frame of an index stands: at an entry, which is so many entries behind the first
+-- where the frame of an index is: at an entry, this number of entries after the first
 record Stands (i before : ℕ) (entries : List Entry) (index : ℕ) (p : SendingEntry) : Type 0 where
   behind : ℕ
   place : p.entry ≡ i + behind
   frame : slice_get (frames_sent entries) (index - before) ≡ frame_of entries behind (index - p.before)
 
--- p is the last entry that sent frames of those with no more than so many before it
+-- p is the last entry that sent frames among those with at most this number before it
 record IsLast (sending : List SendingEntry) (index : ℕ) (p : SendingEntry) (k : ℕ) : Type 0 where
   within : k < length sending
   here : (d : SendingEntry) → slice_index_or sending k d ≡ p

@@ -50,8 +50,8 @@ impl<X: Application> Application for Counted<X> {
 
     fn init_chain(&mut self) -> Result<(), AllocError>
         requires { (X.machine self.old.app).height ≡ 0 }
-        ensures machine { X.machine self.new.app ≡ X.machine self.old.app }
         ensures count { self.new.delivered ≡ self.old.delivered }
+        ensures machine { X.machine self.new.app ≡ X.machine self.old.app }
     {
         self.app.init_chain()
     }
@@ -62,9 +62,9 @@ impl<X: Application> Application for Counted<X> {
 
     fn begin_block(&mut self, height: Height) -> Result<(), AllocError>
         requires { height ≡ (X.machine self.old.app).height + 1 }
+        ensures count { self.new.delivered ≡ self.old.delivered }
         ensures ok { OnOk result (Begins (X.machine self.old.app) (X.machine self.new.app)) }
         ensures err { OnErr result (LosesWork (X.machine self.old.app) (X.machine self.new.app)) }
-        ensures count { self.new.delivered ≡ self.old.delivered }
     {
         self.app.begin_block(height)
     }
@@ -72,10 +72,10 @@ impl<X: Application> Application for Counted<X> {
     /// Counts the call, whatever it returns.
     fn deliver_tx(&mut self, tx: &Tx) -> Result<u32, AllocError>
         requires { IsSome (X.machine self.old.app).working }
+        ensures count { self.new.delivered ≡ min (self.old.delivered + 1) (2 ^ 64 - 1) }
         ensures goes_on { OnOk result (GoesOn (X.machine self.old.app) (X.machine self.new.app)) }
         ensures ok { IfOk result (λ code. DeliversTo (X.machine self.old.app) tx.now code (X.machine self.new.app)) }
         ensures err { OnErr result (LosesWork (X.machine self.old.app) (X.machine self.new.app)) }
-        ensures count { self.new.delivered ≡ min (self.old.delivered + 1) (2 ^ 64 - 1) }
     {
         self.delivered = self.delivered.saturating_add(1);
         self.app.deliver_tx(tx)
@@ -83,17 +83,17 @@ impl<X: Application> Application for Counted<X> {
 
     fn end_block(&mut self) -> Result<(), AllocError>
         requires { IsSome (X.machine self.old.app).working }
+        ensures count { self.new.delivered ≡ self.old.delivered }
         ensures ok { OnOk result (X.machine self.new.app ≡ X.machine self.old.app) }
         ensures err { OnErr result (LosesWork (X.machine self.old.app) (X.machine self.new.app)) }
-        ensures count { self.new.delivered ≡ self.old.delivered }
     {
         self.app.end_block()
     }
 
     fn commit(&mut self) -> [u8; 32]
         requires { IsSome (X.machine self.old.app).working }
-        ensures commits { CommitsTo (X.machine self.old.app) result (X.machine self.new.app) }
         ensures count { self.new.delivered ≡ self.old.delivered }
+        ensures commits { CommitsTo (X.machine self.old.app) result (X.machine self.new.app) }
     {
         self.app.commit()
     }

@@ -22,8 +22,8 @@ fn plays(app: &mut AnyApp, tx: &Tx) -> Result<bool, AllocError> {
     let code = app.deliver_tx(tx)?;
     app.end_block()?;
     let hash = app.commit();
-    let told = app.info();
-    Ok(code == 0 && told.height == 1 && told.hash == hash)
+    let info = app.info();
+    Ok(code == 0 && info.height == 1 && info.hash == hash)
 }
 
 /// Whether a transaction is accepted, by CheckTx and in the first block. The same function runs each kind, wrapped or not.

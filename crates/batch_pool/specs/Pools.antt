@@ -27,8 +27,8 @@ own_part (Err (fault.Refused (refusal.Rejected code))) = Ok tt
 own_part (Err fault.NoMemory) = Ok tt
 
 -- the answer to a submit, given the blocks that led to the application's committed state
-abbrev pub Answers : Machine → Value → List ℕ → Result (Unit {0}) SubmitRefusal → Type 0
-Answers m pool tx answer =
+abbrev pub AnswersSubmission : Machine → Value → List ℕ → Result (Unit {0}) SubmitRefusal → Type 0
+AnswersSubmission m pool tx answer =
     (batches : List Value) → without_work m ≡ run m.kind batches → answer ≡ submit_answer pool tx (check_reply m.kind batches tx)
 
 -- the transactions that wait after the application ran blocks of which `block` is the last

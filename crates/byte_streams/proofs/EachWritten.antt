@@ -25,7 +25,7 @@ module _ {X : Type 0} (f : X → List ℕ) (xs : List X) (i : ℕ) (a b : Option
       subst (AppendsSome a b) (sym (flat_map-append f (take i xs) (drop i xs)) ∙ ap (flat_map f) (take-append-drop i xs))
       (longer_some a b (flat_map f (take i xs)) (flat_map f (drop i xs)) (all_some a b (flat_map f (take i xs)) written))
 
-  -- and so do they with a beginning of the next one's
+  -- and so do they with a prefix of the next one's
   pub next_some : (c : Option (List ℕ)) (x : X) → i < length xs → x ≡ get_or xs i x → AppendsSome b c (f x)
       → AppendsSome a c (flat_map f xs)
   next_some c x within is some =

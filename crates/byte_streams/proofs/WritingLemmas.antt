@@ -7,19 +7,19 @@ use Rattle.std.proofs.KnownBytes.{Appends-kept, Appends-nil, Appends-trans}
 use Rattle.byte_streams.specs.Writing.{AppendsSome}
 use Rattle.std.proofs.lemmas.List.{take_rest}
 
--- all of a text is a beginning of it
+-- all of a text is a prefix of it
 pub all_some : (a b : Option (List ℕ)) (text : List ℕ) → Appends a b text → AppendsSome a b text
 all_some a b text written = record { done = text; left = []; split = append-nil text; written = written }
 
--- so it is where nothing was written behind it
+-- so it is where nothing was written after it
 pub kept_some : (a b c : Option (List ℕ)) (text : List ℕ) → Appends a b text → Keeps b c → AppendsSome a c text
 kept_some a b c text written keeps = all_some a c text (Appends-kept a b c text written keeps)
 
--- nothing is a beginning of any text
+-- the empty text is a prefix of any text
 pub nothing_some : (a : Option (List ℕ)) (text : List ℕ) → AppendsSome a a text
 nothing_some a text = record { done = []; left = text; split = refl; written = Appends-nil a }
 
--- a text in whole, and a beginning of the next
+-- a whole text, and a prefix of the next
 pub then_some : (a b c : Option (List ℕ)) (first second : List ℕ) → Appends a b first → AppendsSome b c second
     → AppendsSome a c (first ++ second)
 then_some a b c first second whole some = record {
@@ -29,7 +29,7 @@ then_some a b c first second whole some = record {
   written = Appends-trans a b c first some.done whole some.written;
 }
 
--- a beginning of a text is one of a longer text
+-- a prefix of a text is one of a longer text
 pub longer_some : (a b : Option (List ℕ)) (text more : List ℕ) → AppendsSome a b text → AppendsSome a b (text ++ more)
 longer_some a b text more some = record {
   done = some.done;

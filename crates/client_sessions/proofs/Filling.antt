@@ -10,7 +10,7 @@ use Rattle.std.proofs.Math.Seq.{take-add}
 use Rattle.client_sessions.specs.Reading.{Fills, ReadsFewer}
 use borrow.Rule.Slice.PartMut.{put_mid, post_of}
 
--- the first bytes of the buffer grow by those of the part behind them
+-- the first bytes of the buffer grow by those of the part after them
 pub grown : (from room n : ℕ) (xs ys : List ℕ) → from ≤ length xs → n ≤ length ys
     → take (from + n) (put_mid from room xs ys) ≡ take from xs ++ take n ys
 grown from room n xs ys within fits =

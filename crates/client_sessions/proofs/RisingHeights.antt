@@ -21,7 +21,7 @@ behind_refuses : (reply : List ℕ) → reply ≡ status 2 → IsRefusal reply
 behind_refuses reply is = subst IsRefusal (sym is) (omega arith)
 
 module _ (s : Session) (reply : List ℕ) (new : Session) where
-  -- nothing is told, and the session stays as it was
+  -- no height is answered, and the session stays as it was
   stays : (request : Request) → new ≡ s → TellsNone request reply → RisesBy s.greatest request reply new.greatest
   stays request same none = inl (ap (λ t. t.greatest) same, none)
 
@@ -70,7 +70,7 @@ one_rises targets s (Switch r) [] reply new serves = switch_step s reply new r (
 one_rises targets s Malformed [] reply new serves = stays s reply new Malformed serves.1 tt
 one_rises targets s _ _ reply new serves = absurd serves
 
--- a whole session: what was written are replies by which the heights told never fall
+-- a whole session: what was written are replies whose heights never fall
 pub heights_rise : (targets : ℕ) (s : Session) (bodies : List (List ℕ)) (exchanges : List Exchange) (written : List ℕ) (new : Session)
     → Session_of targets s bodies exchanges written new
     → (replies : List (List ℕ)) × ((written ≡ flat_map framed replies) × Rises s.greatest bodies replies new.greatest)

@@ -101,7 +101,7 @@ module _ {T : Type 0} (asks : T → Exchange → T → Type 0) (count : ℕ) (be
     written = Appends-nil had;
   }
 
-  -- nothing was read, for want of memory
+  -- nothing was read, since memory ran out
   pub no_memory : Stopped asks count before before old old unread unread had had fault.NoMemory
   unfolding Session_of Rises
   no_memory = record {
@@ -189,7 +189,7 @@ module _ {T : Type 0} (asks : T → Exchange → T → Type 0) (count : ℕ) (be
             (Appends-trans had has holds (flat_map framed so_far.replies) (framed one.reply) so_far.written sent);
       }
 
-      -- or a beginning of it
+      -- or a prefix of it
       pub write_fails : (holds : Option (List ℕ)) (error : _) → AppendsSome has holds (framed one.reply)
           → Stopped asks count before after old new unread last had holds (fault.Write error)
       write_fails holds error sent = record {

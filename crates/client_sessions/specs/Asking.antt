@@ -10,9 +10,9 @@ fault_of HistoryFull = Full
 fault_of NoMemory = Want_of_memory
 
 -- what a call returned, as its exchange records it
-abbrev pub told : {T : Type 0} → Result T TargetFault → Result T Fault
-told (Ok answer) = Ok answer
-told (Err fault) = Err (fault_of fault)
+abbrev pub outcome_of : {T : Type 0} → Result T TargetFault → Result T Fault
+outcome_of (Ok answer) = Ok answer
+outcome_of (Err fault) = Err (fault_of fault)
 
 -- the most bytes of a value in a reply, which also has a status, a height and a flag for the value
 abbrev pub max_value_len : ℕ

@@ -20,7 +20,7 @@ pub enum TargetFault {
 pub trait Targets {
     ghost use Rattle.std.specs.Prelude.{◌≡◌, ℕ, ◌<◌, ◌≤◌, length, IfOk, IfSome};
     ghost use Rattle.ledger_model.specs.Sessions.{Exchange, Submits, Queries, Heights, Blocks};
-    ghost use Rattle.client_sessions.specs.Asking.{told, max_value_len};
+    ghost use Rattle.client_sessions.specs.Asking.{outcome_of, max_value_len};
 
     ghost replicas: { Self → ℕ };
 
@@ -38,14 +38,14 @@ pub trait Targets {
         tx: &[u8],
     ) -> Result<Result<u32, SubmitRefusal>, TargetFault>
         requires { replica < replicas self.old }
-        ensures asked { asks self.old (Submits replica tx.now (told result)) self.new }
+        ensures asked { asks self.old (Submits replica tx.now (outcome_of result)) self.new }
         ensures count { replicas self.new ≡ replicas self.old };
 
     /// Queries a replica's application for a key of at most 64 bytes, as of its last block. The value has at most
     /// 65,529 bytes, so that it fits into a reply.
     fn query(&mut self, replica: ReplicaId, key: &[u8]) -> Result<QueryAnswer, TargetFault>
         requires { replica < replicas self.old }
-        ensures asked { asks self.old (Queries replica key.now (told result)) self.new }
+        ensures asked { asks self.old (Queries replica key.now (outcome_of result)) self.new }
         ensures count { replicas self.new ≡ replicas self.old }
         ensures short { IfOk result (λ answer. IfSome answer.value (λ v. length v ≤ max_value_len)) };
 
@@ -58,6 +58,6 @@ pub trait Targets {
     /// The batch that a replica committed at a height; `None` at height 0 and above its committed height.
     fn block(&mut self, replica: ReplicaId, height: Height) -> Result<Option<Batch>, TargetFault>
         requires { replica < replicas self.old }
-        ensures asked { asks self.old (Blocks replica height (told result)) self.new }
+        ensures asked { asks self.old (Blocks replica height (outcome_of result)) self.new }
         ensures count { replicas self.new ≡ replicas self.old };
 }

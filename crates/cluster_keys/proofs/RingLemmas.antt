@@ -13,7 +13,7 @@ get_range_at a zero i lt = absurd (omega arith)
 get_range_at a (suc n) zero lt = ap Some (omega arith)
 get_range_at a (suc n) (suc i) lt = get_range_at (a + 1) n i (omega arith) ∙ ap Some (omega arith)
 
--- the key of a replica stands in the ring at its number
+-- the key of a replica is in the ring at its number
 pub key_in_ring : (config : Config) (secrets : ℕ → Secret) (r : ℕ) → r < config.replicas
     → slice_get (ring_with config secrets) r ≡ Some (key_of (secrets r))
 key_in_ring config secrets r lt =

@@ -1,5 +1,6 @@
 -- The first block among the entries of a history that has a transaction, entry by entry.
 use Rattle.std.proofs.Common.{◌≡◌, ℕ, ◌+◌, ◌≤◌, List, ◌∷◌, suc, length, drop, ap, sym, ◌∙◌, arith}
+use Rattle.std.specs.Option.{option_or}
 use Rattle.std.specs.Prelude.{Some, None, slice_get}
 use Rattle.std.proofs.Math.ListN.{drop_of_length-le}
 use Rattle.std.proofs.Math.Seq.{drop-cons}
@@ -7,7 +8,7 @@ use Rattle.std.proofs.lemmas.Option.{get_or_from_slice_get, slice_get_within}
 use Rattle.ledger_model.specs.Values.{Value}
 use Rattle.ledger_model.specs.declared.history.Entry.{Entry}
 use Rattle.ledger_model.specs.declared.reply.Reply.{Reply}
-use Rattle.cluster_service.specs.Deliveries.{IsDelivery, delivered_by, delivered_in, first_of}
+use Rattle.cluster_service.specs.Deliveries.{IsDelivery, delivered_by, delivered_in}
 
 module _ (batches : List Value) (es : List Entry) (tx : List ℕ) (i : ℕ) where
   -- no entries are left
@@ -22,7 +23,7 @@ module _ (batches : List Value) (es : List Entry) (tx : List ℕ) (i : ℕ) wher
     pub found_here : (found : ℕ × ℕ) → Some found ≡ delivered_by batches r tx → Some found ≡ delivered_in batches (drop i es) tx
     found_here found by =
         sym (ap (λ l. delivered_in batches l tx) split
-        ∙ ap (λ o. first_of o (delivered_in batches (drop (suc i) es) tx)) (sym (by ∙ ap (λ s. delivered_by batches s tx) same)))
+        ∙ ap (λ o. option_or o (delivered_in batches (drop (suc i) es) tx)) (sym (by ∙ ap (λ s. delivered_by batches s tx) same)))
 
     -- the entry says nothing
     pub not_here : None ≡ delivered_by batches r tx → delivered_in batches (drop (i + 1) es) tx ≡ delivered_in batches (drop i es) tx
@@ -30,10 +31,11 @@ module _ (batches : List Value) (es : List Entry) (tx : List ℕ) (i : ℕ) wher
         let next : i + 1 ≡ suc i = omega arith in
         ap (λ n. delivered_in batches (drop n es) tx) next
         ∙ sym (ap (λ l. delivered_in batches l tx) split
-        ∙ ap (λ o. first_of o (delivered_in batches (drop (suc i) es) tx)) (sym (by ∙ ap (λ s. delivered_by batches s tx) same)))
+        ∙ ap (λ o. option_or o (delivered_in batches (drop (suc i) es) tx)) (sym (by ∙ ap (λ s. delivered_by batches s tx) same)))
 
 -- what was run by an entry or a later one was run by an earlier entry or a later one
-pub from_earlier : (tx : List ℕ) (index next height code : ℕ) → index ≤ next → IsDelivery tx next height code → IsDelivery tx index height code
+pub from_earlier : (tx : List ℕ) (index next height code : ℕ) → index ≤ next
+    → IsDelivery tx next height code → IsDelivery tx index height code
 from_earlier tx index next height code before is = record {
   state = is.state;
   replay = is.replay;

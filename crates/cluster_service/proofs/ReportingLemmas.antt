@@ -43,7 +43,7 @@ module _ (config : Config) (ring : Ring) where
   one_taken first [] (h1 ∷ hs) m h all one = absurd all
   one_taken first (m1 ∷ ms) [] m h all one = absurd all
 
--- the lines of replicas and of one behind them
+-- the lines of replicas and of one after them
 pub lines_append : (r : ℕ) (first : List ℕ) (h : ℕ)
     → commit_lines r (first ++ h ∷ []) ≡ commit_lines r first ++ commit_line (r + length first) h
 unfolding commit_lines
@@ -56,7 +56,7 @@ lines_append r (f ∷ first) h =
     ∙ sym (append_assoc (commit_line r f) (commit_lines (r + 1) first) (commit_line (r + 1 + length first) h))
     ∙ ap (λ k. (commit_line r f ++ commit_lines (r + 1) first) ++ commit_line k h) same
 
--- the line of the next replica behind those of the first ones
+-- the line of the next replica after those of the first ones
 pub next_line : (heights : List ℕ) (i : ℕ) (text new : List ℕ) → i < length heights → text ≡ commit_lines 0 (take i heights)
     → new ≡ text ++ commit_line i (get_or heights i 0) → new ≡ commit_lines 0 (take (i + 1) heights)
 next_line heights i text new below before added =

@@ -1,5 +1,6 @@
 -- What became of a transaction, by a replica's history.
 use Rattle.std.specs.Prelude.{ℕ, ◌≤◌, List, [], ◌∷◌, position, slice_get, Option, Some, None, option_and_then, option_map, Ok, ◌≡◌, drop}
+use Rattle.std.specs.Option.{option_or}
 use Rattle.std.specs.Str.{bytes_eq}
 use Rattle.ledger_model.specs.Commits.{commits_of}
 use Rattle.ledger_model.specs.Lawful.{Replay}
@@ -24,14 +25,10 @@ abbrev pub delivered_by : List Value → Reply → List ℕ → Option (ℕ × �
 delivered_by batches (reply.Executed (Ok block)) tx = option_map (λ code. (block.height, code)) (code_in batches block tx)
 delivered_by batches _ tx = None
 
-abbrev pub first_of : {A : Type 0} → Option A → Option A → Option A
-first_of (Some x) later = Some x
-first_of None later = later
-
 -- the first block among these entries that has the transaction
 abbrev pub delivered_in : List Value → List Entry → List ℕ → Option (ℕ × ℕ)
 delivered_in batches [] tx = None
-delivered_in batches (e ∷ es) tx = first_of (delivered_by batches e.reply tx) (delivered_in batches es tx)
+delivered_in batches (e ∷ es) tx = option_or (delivered_by batches e.reply tx) (delivered_in batches es tx)
 
 -- a replica with a lawful history had run a block at this height, by the entry with this index or a later one; the block has the
 -- transaction, and the application returned this code for it

@@ -6,7 +6,7 @@ ghost use Rattle.ledger_model.specs.declared.event.Event.TheVariants as events;
 ghost use Rattle.replica_core.specs.Facts.{block_at};
 ghost use Rattle.replica_turns.specs.Clients.{IsReceipt, is_tx_len, submit_events, with_index};
 ghost use Rattle.replica_turns.specs.Turns.{Takes};
-ghost use Rattle.client_sessions.specs.Asking.{max_value_len, told};
+ghost use Rattle.client_sessions.specs.Asking.{max_value_len, outcome_of};
 ghost use Rattle.cluster_service.specs.Targets.{AnswersBlock, AnswersQuery, AnswersSubmit};
 ghost use Rattle.ledger_model.specs.Limits.{max_history_len};
 
@@ -37,7 +37,7 @@ pub(crate) fn submit<A: Application>(
         ↔ ((is_tx_len tx.now ≡ true) × ((entries.old ≡ 0) ⊎ (max_history_len ≤ length state.old.entries))) }
     ensures same { OnErr result (state.new ≡ state.old) }
     // The result as a session sees it.
-    ensures told { AnswersSubmit tx.now (told result) }
+    ensures outcome { AnswersSubmit tx.now (outcome_of result) }
 {
     match replica_turns::submit(alloc, state, entries, tx) {
         Ok(answer) => Ok(answer),
@@ -77,7 +77,7 @@ pub(crate) fn query<A: Application>(
     ensures short { IfOk result (λ answer. IfSome answer.value (λ v. length v ≤ max_value_len)) }
     ensures used { length state.new.entries + entries.new ≡ length state.old.entries + entries.old }
     // The result as a session sees it.
-    ensures told { AnswersQuery key.now (told result) }
+    ensures outcome { AnswersQuery key.now (outcome_of result) }
 {
     let Ok(key) = key_of(alloc, key) else {
         return Err(TargetFault::NoMemory);
@@ -104,7 +104,7 @@ pub(crate) fn block<A: Application>(
 ) -> Result<Option<Batch>, TargetFault>
     ensures block { IfOk result (λ b. b ≡ block_at (commits_of state.now.config state.now.id state.now.entries) height) }
     // The result as a session sees it.
-    ensures told { AnswersBlock height (told result) }
+    ensures outcome { AnswersBlock height (outcome_of result) }
 {
     // The history is a replay: its length is read for the proof.
     let _ = state.len();

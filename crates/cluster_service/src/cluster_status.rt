@@ -58,7 +58,7 @@ impl ClusterStatus {
     ) -> Result<Self, AllocError> {
         Ok(ClusterStatus {
             replicas: unknown(alloc, replicas)?,
-            // With room for the notices of replicas for which memory runs out.
+            // There is room for the notice of each replica for which memory runs out.
             notices: Vec::with_capacity(alloc, FIRST_NOTICES)?,
             losses: Vec::from_elem(alloc, false, usize::from(replicas))?,
             height: 0,

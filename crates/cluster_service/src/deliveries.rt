@@ -61,7 +61,7 @@ pub(crate) fn delivered_after<A: Application>(
 ) -> Option<(Height, u32)>
     ensures found { result ≡ delivered_in (commits_of state.now.config state.now.id state.now.entries) (drop first state.now.entries) tx.now }
     // The result as HTTP sees it.
-    ensures told { IfSome result (λ found. IsDelivery tx.now first found.0 found.1) }
+    ensures delivery { IfSome result (λ found. IsDelivery tx.now first found.0 found.1) }
 {
     for index in first..state.len() {
         let Some(entry) = state.entry(index) else {

@@ -1,6 +1,6 @@
 //! The replicas of a running cluster, as targets of a session, and of a request of HTTP.
 ghost use Rattle.std.specs.Prelude.{◌≡◌, ◌<◌, length};
-ghost use Rattle.client_sessions.specs.Asking.{told};
+ghost use Rattle.client_sessions.specs.Asking.{outcome_of};
 ghost use Rattle.cluster_service.specs.Targets.{AnswersSubmit};
 
 use crate::asking::{block, query, submit};
@@ -67,7 +67,7 @@ impl<A: Application, R: Wait> LiveTargets<'_, A, R> {
         tx: &[u8],
     ) -> Result<Result<u32, SubmitRefusal>, TargetFault>
         requires { replica < self.now.cluster.now.replicas }
-        ensures { AnswersSubmit tx.now (told result) }
+        ensures { AnswersSubmit tx.now (outcome_of result) }
     {
         let mut entries = self.entries[usize::from(replica.number())].lock(self.rt);
         let mut state = self.cluster.replica(replica).lock(self.rt);

@@ -1,4 +1,4 @@
-//! How a running cluster stands, told to its operator: on a terminal by one line that is written over and over, else by a line for
+//! How a running cluster stands, for its operator: on a terminal by one line that is written over and over, else by a line for
 //! each thing that happens. A thread of its own writes these lines, and the fault that ended the cluster; nobody waits for it for long.
 use crate::cluster_status::{FIRST_NOTICES, unknown};
 use crate::notice::Notice;
@@ -57,7 +57,7 @@ pub(crate) struct Reporter<P: Write + Drop> {
     /// The status of each replica at that time, by number.
     replicas: Vec<ReplicaStatus>,
     /// The last round of replica 0 that it reported.
-    told: u32,
+    reported: u32,
     /// Whether it reported that the workers have ended.
     is_ended: bool,
 }
@@ -118,7 +118,7 @@ impl<P: Write + Drop> Reporter<P> {
             shared,
             notices: Vec::with_capacity(alloc, FIRST_NOTICES)?,
             replicas: unknown(alloc, replicas)?,
-            told: 0,
+            reported: 0,
             is_ended: false,
         })
     }
@@ -143,7 +143,7 @@ impl<P: Write + Drop> Reporter<P> {
     /// The line of progress, at most 80 columns wide: the round that replica 0 ended, the least and the greatest number
     /// of blocks and of signatures left among the replicas, and how many replicas are mute.
     fn progress_line(&self) -> Result<String, AllocError> {
-        let ended = self.told;
+        let ended = self.reported;
         let rounds = self.rounds;
         let mut blocks = Range::NONE;
         let mut signatures = Range::NONE;
@@ -161,7 +161,7 @@ impl<P: Write + Drop> Reporter<P> {
     /// Whether replica 0 ended a round that was not reported yet. Counts it as reported.
     fn has_progress(&mut self) -> bool {
         let ended = self.replicas.first().map_or(0, |status| status.rounds);
-        ended > mem::replace(&mut self.told, ended)
+        ended > mem::replace(&mut self.reported, ended)
     }
 
     /// Reports a notice, unless memory runs out. A log skips notices of progress.

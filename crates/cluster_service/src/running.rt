@@ -361,11 +361,11 @@ fn serve_through<R>(
 ) -> Result<FinalHistories, ProgramFault>
 where
     R: Clock
-        + Net<Listener = TcpListener, Stream = TcpStream>
         + RandomSource
         + Threads
         + Wait
-        + Sync,
+        + Sync
+        + Net<Listener = TcpListener, Stream = TcpStream>,
     ensures each { IfOk result (λ left. vec_len left.heights ≡ settings.now.cluster.cluster.config.replicas) }
     ensures taken { IfOk result (λ left. AreTaken settings.now.cluster.cluster.config left.ring 0 left.histories.items left.heights.items) }
     ensures ring { IfOk result (λ left. left.ring ≡ ring_of settings.now.cluster.cluster) }

@@ -33,7 +33,7 @@ pub(crate) fn metrics_of<A: Application>(
     ensures ignored { (cause : Ignored) → ignored_for result.frames cause ≡ ignored_in cause state.now.entries }
     ensures lost { result.frames_lost ≡ lost }
     // The result as HTTP sees it.
-    ensures told { IsShown result }
+    ensures shown { IsShown result }
 {
     ReplicaMetrics {
         replica,
@@ -52,7 +52,7 @@ pub(crate) fn progress_of<A: Application>(state: &State<A>) -> Progress
     ensures rounds { result.rounds ≡ clock_at state.now.entries }
     ensures height { result.height ≡ length (commits_of state.now.config state.now.id state.now.entries) }
     // The result as HTTP sees it.
-    ensures told { IsProgress result }
+    ensures shown { IsProgress result }
 {
     // The history is a replay: its length is read for the proof.
     let _ = state.len();
@@ -78,7 +78,7 @@ pub(crate) fn pool_size<A: Application>(state: &State<A>) -> PoolSize
     ensures transactions { result.transactions ≡ length (pool_of state.now.config state.now.id state.now.entries) }
     ensures bytes { result.bytes ≡ min (sum_by length (pool_of state.now.config state.now.id state.now.entries)) (2 ^ 64 - 1) }
     // The result as HTTP sees it.
-    ensures told { IsPooled result }
+    ensures shown { IsPooled result }
 {
     // The history is a replay: its length is read for the proof.
     let _ = state.len();
@@ -92,7 +92,7 @@ pub(crate) fn pool_size<A: Application>(state: &State<A>) -> PoolSize
 pub(crate) fn app_info<A: Application>(state: &State<A>) -> AppInfo
     ensures kind { result.kind ≡ state.now.config.kind }
     // The result as HTTP sees it.
-    ensures told { IsInfo result }
+    ensures shown { IsInfo result }
 {
     // The history is a replay: its length is read for the proof.
     let _ = state.len();

@@ -43,7 +43,7 @@ fn look<A: Application, R: Wait>(
     next: &mut usize,
 ) -> Option<(Height, u32)>
     requires { replica < cluster.now.replicas }
-    ensures told { IfSome result (λ found. IsDelivery tx.now next.old found.0 found.1) }
+    ensures delivery { IfSome result (λ found. IsDelivery tx.now next.old found.0 found.1) }
     ensures next { next.old ≤ next.new }
 {
     let state = cluster.replica(replica).lock(rt);
@@ -67,7 +67,7 @@ pub(crate) fn wait_for<A: Application, R: Clock + Wait>(
     requires board { seat.old.board ≡ cluster.now.board }
     requires replica { replica < cluster.now.replicas }
     ensures board { seat.new.board ≡ seat.old.board }
-    ensures told { AnswersWait tx.now index result }
+    ensures delivery { AnswersWait tx.now index result }
 {
     let start = Instant::now(rt).ok();
     let mut next = index as usize;

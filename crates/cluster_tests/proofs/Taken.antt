@@ -7,7 +7,7 @@ use Rattle.ledger_model.specs.declared.event.Event.{Event}
 use Rattle.ledger_model.specs.declared.history.Entry.{Entry}
 use Rattle.replica_turns.specs.Turns.{Takes}
 
--- the entry behind the old ones has the event
+-- the entry after the old ones has the event
 behind : (old added : List Entry) (event : Event) → map (λ (e : Entry). e.event) added ≡ event ∷ []
     → option_map (λ (e : Entry). e.event) (slice_get (old ++ added) (length old)) ≡ Some event
 behind old [] event exactly = cc

@@ -14,15 +14,15 @@ use std::test::Fail;
 fn new_follower(
     alloc: Global,
     random: RandomState,
-    told: &Snapshot,
+    snapshot: &Snapshot,
 ) -> Result<Follower<AnyKind>, Fail> {
-    let id = told.history.replica;
-    if id.number() >= told.config.replicas {
+    let id = snapshot.history.replica;
+    if id.number() >= snapshot.config.replicas {
         return Err(Fail::from("the replica is none of its cluster"));
     }
-    let app = AnyKind::new(alloc, told.config.kind);
-    let ring = told.ring.copy()?;
-    Ok(Follower::new(alloc, told.config, ring, id, app, random)?)
+    let app = AnyKind::new(alloc, snapshot.config.kind);
+    let ring = snapshot.ring.copy()?;
+    Ok(Follower::new(alloc, snapshot.config, ring, id, app, random)?)
 }
 
 /// Whether the follower takes all of these entries.
@@ -45,7 +45,7 @@ pub(crate) fn is_followed<R: RandomSource + Wait>(
     alloc: Global,
     replica: &LockedReplica<AnyKind>,
 ) -> Result<bool, Fail> {
-    let told = replica.lock(rt).history()?;
-    let mut follower = new_follower(alloc, RandomState::new(rt)?, &told)?;
-    Ok(takes_all(&mut follower, alloc, told.history.entries.as_slice())?)
+    let snapshot = replica.lock(rt).history()?;
+    let mut follower = new_follower(alloc, RandomState::new(rt)?, &snapshot)?;
+    Ok(takes_all(&mut follower, alloc, snapshot.history.entries.as_slice())?)
 }

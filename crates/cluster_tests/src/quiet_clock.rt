@@ -61,14 +61,14 @@ impl Counts {
 #[derive(Drop)]
 pub(crate) struct QuietClock<'a, R: Wait> {
     rt: &'a R,
-    told: Mutex<Counts>,
+    counts: Mutex<Counts>,
 }
 
 impl<'a, R: Wait> QuietClock<'a, R> {
     pub(crate) fn new(rt: &'a R, alloc: Global, workers: usize) -> Result<Self, AllocError> {
         Ok(QuietClock {
             rt,
-            told: Mutex::new(Counts {
+            counts: Mutex::new(Counts {
                 idle: Vec::from_elem(alloc, false, workers)?,
                 sent: 0,
                 taken: 0,
@@ -81,13 +81,13 @@ impl<'a, R: Wait> QuietClock<'a, R> {
 
     /// Whether it gave up.
     pub(crate) fn has_note(&self) -> bool {
-        self.told.lock(self.rt).note
+        self.counts.lock(self.rt).note
     }
 }
 
 impl<R: Wait> RoundClock for QuietClock<'_, R> {
     fn is_due(&self, replica: ReplicaId, ended: u32, progress: Progress) -> bool {
-        self.told
+        self.counts
             .lock(self.rt)
             .ask(usize::from(replica.number()), ended, progress)
     }

@@ -51,7 +51,7 @@ pub struct Worker<A: Application> {
     is_full: bool,
     /// Whether memory ran out in the last turn with frames.
     is_short: bool,
-    /// Whether memory ran out since the gate was last told so, and an event or frames were lost.
+    /// Whether memory ran out since the last notice of it to the gate, and an event or frames were lost.
     has_lost: bool,
 }
 

@@ -109,7 +109,7 @@ answered words (fault.NamedInput input word) right alone = absurd (none_unknown 
 answered words fault.NoMemory right alone = inr tt
 answered words f right alone = absurd (some_kind (kinds_of words) right.0 alone)
 
--- whatever else is told is not told of words that ask for them alone
+-- no other fault is one of words that ask for them alone
 pub not_alone : (words : List Text) (f : UsageFault) → IsRightFault words f → (AsksForText f → ⊥) → (WantsMemory f → ⊥)
     → AskForHelpAlone words → ⊥
 not_alone words f right other enough alone = neither (answered words f right alone)

@@ -27,7 +27,7 @@ no_colon n i small within colon =
     let bad : true ≡ false = sym digits ∙ none in
     absurd cc
 
--- a number, a colon and more are cut behind the number
+-- a number, a colon and more are cut after the number
 pub cut_once : (text rest : Text) (n : ℕ) (r : Option (Bor (List ℕ) × Bor (List ℕ))) → IsSplitOnceResult 0x3a text r → n < 2 ^ 32
     → text ≡ number_text n ++ 0x3a ∷ rest
     → MatchOption r ⊥ (λ x. (x.0.now ≡ number_text n) × (x.1.now ≡ rest))

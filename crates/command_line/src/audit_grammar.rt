@@ -1,5 +1,5 @@
 //! The grammar of `abft audit`.
-use crate::shared_arguments::{APPLICATION, FAULTS, FRAMES, REPLICAS, SEED, TREE, WIDTH};
+use crate::shared_arguments::{APP_KIND, FAULTS, FRAMES, REPLICAS, SEED, TREE, WIDTH};
 use crate::subcommand::{Argument, Kind, Subcommand};
 
 /// The end of `abft audit --help`.
@@ -29,24 +29,20 @@ Exit status:
   2  a fault of usage
   3  out of memory, or a failed read or write";
 
+/// A receipt to look for.
+const RECEIPT: Argument = Argument {
+    name: "receipt",
+    kind: Kind::Optional,
+    help: "A receipt to look for, R:I:TX: the replica, the index in its history, and the transaction",
+};
+
 /// `abft audit`.
 pub(crate) const AUDIT: Subcommand = Subcommand {
     name: "audit",
     about: "Audits the histories of standard input, and prints their one ledger, or the first fault",
     usage: Some("abft audit [OPTIONS] <HISTORIES"),
     arguments: &[
-        REPLICAS,
-        FAULTS,
-        APPLICATION,
-        WIDTH,
-        TREE,
-        FRAMES,
-        SEED,
-        Argument {
-            name: "receipt",
-            kind: Kind::Optional,
-            help: "A receipt to look for, R:I:TX: the replica, the index in its history, and the transaction",
-        },
+        REPLICAS, FAULTS, APP_KIND, WIDTH, TREE, FRAMES, SEED, RECEIPT,
     ],
     after_help: FINDINGS,
 };

@@ -1,5 +1,5 @@
 //! The grammar of `abft draw`.
-use crate::shared_arguments::{APPLICATION, FAULTS, FRAMES, REPLICAS, SEED, TREE, WIDTH};
+use crate::shared_arguments::{APP_KIND, FAULTS, FRAMES, REPLICAS, SEED, TREE, WIDTH};
 use crate::subcommand::{Argument, Kind, Subcommand};
 
 /// The end of `abft draw --help`.
@@ -16,34 +16,34 @@ Exit status:
   2  a fault of usage
   3  out of memory, or a failed read or write";
 
+/// The height that is drawn.
+const HEIGHT: Argument = Argument {
+    name: "height",
+    kind: Kind::Value("0"),
+    help: "The one height to draw, 1 to 4096; 0 for all heights",
+};
+
+/// The first round that is drawn.
+const FIRST: Argument = Argument {
+    name: "first",
+    kind: Kind::Value("0"),
+    help: "The first round to draw, 0 to 4000000000; 0 is the time before round 1",
+};
+
+/// The last round that is drawn.
+const LAST: Argument = Argument {
+    name: "last",
+    kind: Kind::Value("64"),
+    help: "The last round to draw, 0 to 4000000000",
+};
+
 /// `abft draw`.
 pub(crate) const DRAW: Subcommand = Subcommand {
     name: "draw",
     about: "Draws the run of the histories of standard input, as an SVG document",
     usage: Some("abft draw [OPTIONS] <HISTORIES >PICTURE.svg"),
     arguments: &[
-        REPLICAS,
-        FAULTS,
-        APPLICATION,
-        WIDTH,
-        TREE,
-        FRAMES,
-        SEED,
-        Argument {
-            name: "height",
-            kind: Kind::Value("0"),
-            help: "The one height to draw, 1 to 4096; 0 for all heights",
-        },
-        Argument {
-            name: "first",
-            kind: Kind::Value("0"),
-            help: "The first round to draw, 0 to 4000000000; 0 is the time before round 1",
-        },
-        Argument {
-            name: "last",
-            kind: Kind::Value("64"),
-            help: "The last round to draw, 0 to 4000000000",
-        },
+        REPLICAS, FAULTS, APP_KIND, WIDTH, TREE, FRAMES, SEED, HEIGHT, FIRST, LAST,
     ],
     after_help: PICTURE,
 };

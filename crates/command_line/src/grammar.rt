@@ -6,7 +6,7 @@ ghost use Rattle.command_line.specs.Grammar.{at_top, abft_app};
 use crate::audit_grammar::AUDIT;
 use crate::draw_grammar::DRAW;
 use crate::running_grammar::{RUN_CLUSTER, SERVE};
-use crate::shared_arguments::{APPLICATION, FAULTS, FRAMES, REPLICAS, SEED, TREE, WIDTH};
+use crate::shared_arguments::{APP_KIND, FAULTS, FRAMES, REPLICAS, SEED, TREE, WIDTH};
 use crate::subcommand::{Argument, Kind, Subcommand, clap_commands};
 use clap::Command;
 use std::alloc::{AllocError, Global};
@@ -81,46 +81,78 @@ Exit status:
   2  a fault of usage
   3  out of memory, or a failed read or write";
 
+/// What is signed.
+const WHAT: Argument = Argument {
+    name: "what",
+    kind: Kind::Word,
+    help: "What to sign: report or ack",
+};
+
+/// The replica that signs.
+const SIGNER: Argument = Argument {
+    name: "replica",
+    kind: Kind::Value("0"),
+    help: "Who signs, below n",
+};
+
+/// The height that the statement is of.
+const HEIGHT: Argument = Argument {
+    name: "height",
+    kind: Kind::Value("1"),
+    help: "The height, 1 to 4096",
+};
+
+/// The phase that the statement is of.
+const PHASE: Argument = Argument {
+    name: "phase",
+    kind: Kind::Value("1"),
+    help: "The phase, 1 to 1000000000",
+};
+
+/// The batch that the statement has.
+const VALUE: Argument = Argument {
+    name: "value",
+    kind: Kind::Value("a=1"),
+    help: "The one transaction of the batch",
+};
+
 /// `abft sign WHAT`.
 const SIGN: Subcommand = Subcommand {
     name: "sign",
     about: "Signs a report or an acknowledgement, and writes its frame to standard output",
     usage: None,
     arguments: &[
-        REPLICAS,
-        FAULTS,
-        APPLICATION,
-        WIDTH,
-        TREE,
-        FRAMES,
-        SEED,
-        Argument {
-            name: "what",
-            kind: Kind::Word,
-            help: "What to sign: report or ack",
-        },
-        Argument {
-            name: "replica",
-            kind: Kind::Value("0"),
-            help: "Who signs, below n",
-        },
-        Argument {
-            name: "height",
-            kind: Kind::Value("1"),
-            help: "The height, 1 to 4096",
-        },
-        Argument {
-            name: "phase",
-            kind: Kind::Value("1"),
-            help: "The phase, 1 to 1000000000",
-        },
-        Argument {
-            name: "value",
-            kind: Kind::Value("a=1"),
-            help: "The one transaction of the batch",
-        },
+        REPLICAS, FAULTS, APP_KIND, WIDTH, TREE, FRAMES, SEED, WHAT, SIGNER, HEIGHT, PHASE, VALUE,
     ],
     after_help: SIGNED,
+};
+
+/// The replica that reads the frames.
+const RECIPIENT: Argument = Argument {
+    name: "replica",
+    kind: Kind::Value("1"),
+    help: "Which replica, below n",
+};
+
+/// The transaction of its pool.
+const SUBMITTED: Argument = Argument {
+    name: "value",
+    kind: Kind::Value("a=1"),
+    help: "The transaction that it submits",
+};
+
+/// The height that it opens.
+const OPENED: Argument = Argument {
+    name: "height",
+    kind: Kind::Value("1"),
+    help: "The height that it opens, 1 to 4",
+};
+
+/// The rounds that it ends.
+const ENDED: Argument = Argument {
+    name: "rounds",
+    kind: Kind::Value("1"),
+    help: "How many rounds it ends, 0 to 4000000000",
 };
 
 /// `abft deliver`.
@@ -129,35 +161,16 @@ const DELIVER: Subcommand = Subcommand {
     about: "Delivers the frames of standard input to a replica, and prints what it answers",
     usage: Some("abft deliver [OPTIONS] <FRAMES"),
     arguments: &[
-        REPLICAS,
-        FAULTS,
-        APPLICATION,
-        WIDTH,
-        TREE,
-        FRAMES,
-        SEED,
-        Argument {
-            name: "replica",
-            kind: Kind::Value("1"),
-            help: "Which replica, below n",
-        },
-        Argument {
-            name: "value",
-            kind: Kind::Value("a=1"),
-            help: "The transaction that it submits",
-        },
-        Argument {
-            name: "height",
-            kind: Kind::Value("1"),
-            help: "The height that it opens, 1 to 4",
-        },
-        Argument {
-            name: "rounds",
-            kind: Kind::Value("1"),
-            help: "How many rounds it ends, 0 to 4000000000",
-        },
+        REPLICAS, FAULTS, APP_KIND, WIDTH, TREE, FRAMES, SEED, RECIPIENT, SUBMITTED, OPENED, ENDED,
     ],
     after_help: LINES,
+};
+
+/// Whether histories are written, and not lines.
+const AS_BYTES: Argument = Argument {
+    name: "histories",
+    kind: Kind::Flag,
+    help: "Writes the histories of the correct replicas, as bytes, in place of the lines",
 };
 
 /// `abft simulate`.
@@ -165,14 +178,7 @@ const SIMULATE: Subcommand = Subcommand {
     name: "simulate",
     about: "Plays the scenario of standard input on a whole cluster, and prints what its replicas answer",
     usage: Some("abft simulate [OPTIONS] <SCENARIO"),
-    arguments: &[
-        SEED,
-        Argument {
-            name: "histories",
-            kind: Kind::Flag,
-            help: "Writes the histories of the correct replicas, as bytes, in place of the lines",
-        },
-    ],
+    arguments: &[SEED, AS_BYTES],
     after_help: SCENARIO,
 };
 

@@ -1,7 +1,7 @@
 //! The grammar of `abft cluster` and `abft serve`, the subcommands that run a whole cluster.
 use crate::shared_arguments::{
-    APPLICATION, FAULTS, FIRST_ROUND, FRAMES, HISTORIES_FILE, LOG, QUIET, REPLICAS, ROUNDS, SEED,
-    STOP_AT_EOF, TRANSACTION, TREE, WIDTH,
+    APP_KIND, BASE_MS, FAULTS, FIRST_TX, FRAMES, HISTORIES, LOG, QUIET, REPLICAS, ROUNDS, SEED,
+    STOP_EARLY, TREE, WIDTH,
 };
 use crate::subcommand::{Argument, Kind, Subcommand};
 
@@ -55,22 +55,38 @@ pub(crate) const RUN_CLUSTER: Subcommand = Subcommand {
     about: "Runs a whole cluster in one process, a thread for each replica, and prints what each committed",
     usage: None,
     arguments: &[
-        REPLICAS,
-        FAULTS,
-        APPLICATION,
-        WIDTH,
-        TREE,
-        FRAMES,
-        SEED,
-        TRANSACTION,
-        ROUNDS,
-        FIRST_ROUND,
-        LOG,
-        QUIET,
-        STOP_AT_EOF,
-        HISTORIES_FILE,
+        REPLICAS, FAULTS, APP_KIND, WIDTH, TREE, FRAMES, SEED, FIRST_TX, ROUNDS, BASE_MS, LOG,
+        QUIET, STOP_EARLY, HISTORIES,
     ],
     after_help: COMMITS,
+};
+
+/// The port of the sessions.
+const PORT: Argument = Argument {
+    name: "port",
+    kind: Kind::Value("0"),
+    help: "The port to listen at, 0 to 65535; 0 for one that is free",
+};
+
+/// The port of HTTP.
+const HTTP_PORT: Argument = Argument {
+    name: "http",
+    kind: Kind::Optional,
+    help: "The port for HTTP requests, 0 to 65535; 0 for one that is free; without it there is no HTTP",
+};
+
+/// The connections that are taken.
+const SESSIONS: Argument = Argument {
+    name: "sessions",
+    kind: Kind::Value("1"),
+    help: "How many connections are taken, 1 to 1000",
+};
+
+/// The entries that clients may use.
+const ENTRIES: Argument = Argument {
+    name: "client-entries",
+    kind: Kind::Value("32768"),
+    help: "How many entries of each replica's history its clients may use, 0 to 65536",
 };
 
 /// `abft serve`.
@@ -79,40 +95,8 @@ pub(crate) const SERVE: Subcommand = Subcommand {
     about: "Runs such a cluster beside a listener on 127.0.0.1, whose clients speak to its replicas",
     usage: None,
     arguments: &[
-        REPLICAS,
-        FAULTS,
-        APPLICATION,
-        WIDTH,
-        TREE,
-        FRAMES,
-        SEED,
-        TRANSACTION,
-        ROUNDS,
-        FIRST_ROUND,
-        LOG,
-        QUIET,
-        STOP_AT_EOF,
-        HISTORIES_FILE,
-        Argument {
-            name: "port",
-            kind: Kind::Value("0"),
-            help: "The port to listen at, 0 to 65535; 0 for one that is free",
-        },
-        Argument {
-            name: "http",
-            kind: Kind::Optional,
-            help: "The port for HTTP requests, 0 to 65535; 0 for one that is free; without it there is no HTTP",
-        },
-        Argument {
-            name: "sessions",
-            kind: Kind::Value("1"),
-            help: "How many connections are taken, 1 to 1000",
-        },
-        Argument {
-            name: "client-entries",
-            kind: Kind::Value("32768"),
-            help: "How many entries of each replica's history its clients may use, 0 to 65536",
-        },
+        REPLICAS, FAULTS, APP_KIND, WIDTH, TREE, FRAMES, SEED, FIRST_TX, ROUNDS, BASE_MS, LOG,
+        QUIET, STOP_EARLY, HISTORIES, PORT, HTTP_PORT, SESSIONS, ENTRIES,
     ],
     after_help: LISTENING,
 };

@@ -16,7 +16,7 @@ pub(crate) const FAULTS: Argument = Argument {
 };
 
 /// The application.
-pub(crate) const APPLICATION: Argument = Argument {
+pub(crate) const APP_KIND: Argument = Argument {
     name: "kind",
     kind: Kind::Value("1"),
     help: "The application: 1 keys and values, 2 a counter, 3 a purse",
@@ -51,7 +51,7 @@ pub(crate) const SEED: Argument = Argument {
 };
 
 /// The transaction of a run.
-pub(crate) const TRANSACTION: Argument = Argument {
+pub(crate) const FIRST_TX: Argument = Argument {
     name: "tx",
     kind: Kind::Value("a=1"),
     help: "The transaction that each pool is given",
@@ -65,7 +65,7 @@ pub(crate) const ROUNDS: Argument = Argument {
 };
 
 /// How long the first round of a run lasts.
-pub(crate) const FIRST_ROUND: Argument = Argument {
+pub(crate) const BASE_MS: Argument = Argument {
     name: "base-ms",
     kind: Kind::Value("200"),
     help: "Milliseconds of the first round, 1 to 60000; each later round has one more",
@@ -86,14 +86,14 @@ pub(crate) const QUIET: Argument = Argument {
 };
 
 /// Whether a run ends when standard input does.
-pub(crate) const STOP_AT_EOF: Argument = Argument {
+pub(crate) const STOP_EARLY: Argument = Argument {
     name: "stop-at-eof",
     kind: Kind::Flag,
     help: "Ends the rounds, and the listener, where standard input ends",
 };
 
 /// The file to which a run writes its histories.
-pub(crate) const HISTORIES_FILE: Argument = Argument {
+pub(crate) const HISTORIES: Argument = Argument {
     name: "histories",
     kind: Kind::Optional,
     help: "The file to which the histories are written at the end",

@@ -8,7 +8,7 @@ use Rattle.std.proofs.lemmas.List.Elements.{All-push, Contains-append_left, Cont
 use Rattle.std.proofs.lemmas.List.FromFn.{map-range_with_len_more}
 use Rattle.commit_board.specs.Seats.{ReaderSeatView, ReadAtOnce, ReadOneByOne, ReadsInOrder}
 
--- one more pair was read behind the others
+-- one more pair was read after the others
 one_more : (before reads : List (ℕ × ℕ)) (p : ℕ × ℕ) → ReadOneByOne before reads
     → ReadAtOnce (before ++ reads) p.0 p.1 ((before ++ reads) ++ p ∷ [])
     → ReadOneByOne before (reads ++ p ∷ [])

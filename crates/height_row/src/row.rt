@@ -222,7 +222,7 @@ impl HeightRow {
         self.read_with(alloc, &mut checks, frame, clock)
     }
 
-    /// Does what [`HeightRow::read`] does, under the keys of whoever checks signatures.
+    /// Does what [`HeightRow::read`] does, under the keys of the caller that checks signatures.
     pub fn read_with<C: CheckSignatures>(
         &mut self,
         alloc: Global,

@@ -248,7 +248,7 @@ pub found_history : (histories : List History) (r : ℕ) (m : History) → histo
     → Has histories m × (nat_eq m.replica r ≡ true)
 found_history histories r m is = found_has (λ (n : History). nat_eq n.replica r) histories m is
 
--- whoever has a history is a replica of the cluster
+-- a replica that has a history is one of the cluster
 pub is_member : (config : Config) (histories : List History) (r : ℕ) (m : History) → are_of_a_quorum config histories ≡ true
     → history_of histories r ≡ Some m → r < config.replicas
 is_member config histories r m count is =

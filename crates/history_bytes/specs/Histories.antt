@@ -78,7 +78,7 @@ block_bytes block = to_be_bytes w32 block.height ++ count_in_1 (length block.cod
 abbrev pub answer_bytes : QueryAnswer → List ℕ
 answer_bytes answer = to_be_bytes w32 answer.height ++ present_bytes answer.value
 
--- a reply: the number of its event; 0 if the event succeeded, followed by its result; or otherwise why it didn't
+-- a reply: the number of its event, then 0 and the result if the event succeeded, or else the refusal
 abbrev pub reply_bytes : Reply → List ℕ
 reply_bytes (reply.Submitted (Ok _)) = 1 ∷ 0 ∷ []
 reply_bytes (reply.Submitted (Err r)) = 1 ∷ refusal_bytes r

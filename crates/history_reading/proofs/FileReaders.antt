@@ -34,8 +34,8 @@ less_left version bytes h rest fits e =
     (omega (arith, len, history_some h, length-append (history_bytes h) rest), t.2)
 
 -- the first history, followed by the others
-abbrev first_of : Version → ℕ → Option (History × List ℕ) → Option (List History)
-first_of version n read = read >>= λ first. histories_within version n first.1 >>= λ rest. Some (first.0 ∷ rest)
+abbrev histories_from : Version → ℕ → Option (History × List ℕ) → Option (List History)
+histories_from version n read = read >>= λ first. histories_within version n first.1 >>= λ rest. Some (first.0 ∷ rest)
 
 -- any bound that is enough finds the same
 within_same : (version : Version) (n m : ℕ) (bytes : List ℕ) → IsBytes bytes → length bytes ≤ n → length bytes ≤ m
@@ -53,7 +53,7 @@ within_same version (suc n) (suc m) (b ∷ bytes) fits le ge =
     at : (o : Option (History × List ℕ)) → history_at version (b ∷ bytes) ≡ o
         → ((rest : List ℕ) → IsBytes rest → length rest ≤ n → length rest ≤ m
         → histories_within version n rest ≡ histories_within version m rest)
-        → first_of version n o ≡ first_of version m o
+        → histories_from version n o ≡ histories_from version m o
     at None e same = refl
     at (Some x) e same =
         let t = less_left version (b ∷ bytes) x.0 x.1 fits e in
@@ -68,7 +68,7 @@ reading_more version [] fits some = absurd (omega (arith, some))
 reading_more version (b ∷ bytes) fits some = at (history_at version (b ∷ bytes)) refl
   where
     at : (o : Option (History × List ℕ)) → history_at version (b ∷ bytes) ≡ o
-        → first_of version (length bytes) o
+        → histories_from version (length bytes) o
         ≡ (o >>= λ first. histories_within version (length first.1) first.1 >>= λ rest. Some (first.0 ∷ rest))
     at None e = refl
     at (Some x) e =

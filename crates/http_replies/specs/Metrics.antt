@@ -37,8 +37,8 @@ metric_kind metric.FramesAccepted = codes "counter"
 metric_kind _ = codes "gauge"
 
 -- the lines that say what the metric of this name is
-unfoldable pub head_text : List ℕ → List ℕ → List ℕ → List ℕ
-head_text name help kind =
+unfoldable pub comment_text : List ℕ → List ℕ → List ℕ → List ℕ
+comment_text name help kind =
     joined (codes "# HELP " ∷ name ∷ codes " " ∷ help ∷ codes "\n# TYPE " ∷ name ∷ codes " " ∷ kind ∷ codes "\n" ∷ [])
 
 -- the number of a metric for a replica
@@ -59,7 +59,7 @@ sample_text metric of =
 -- the lines of a metric for all replicas
 abbrev pub metric_text : List ReplicaMetrics → Metric → List ℕ
 metric_text replicas metric =
-    head_text (metric_name metric) (metric_help metric) (metric_kind metric) ++ flat_map (sample_text metric) replicas
+    comment_text (metric_name metric) (metric_help metric) (metric_kind metric) ++ flat_map (sample_text metric) replicas
 
 -- the name of a cause: its text after the number and a space
 abbrev pub cause_name : Ignored → List ℕ
@@ -80,7 +80,8 @@ ignored_text of cause =
 -- the lines of the metric of ignored frames: for each replica, a line for each cause
 abbrev pub all_ignored_text : List ReplicaMetrics → List ℕ
 all_ignored_text replicas =
-    head_text (codes "abft_frames_ignored_total") (codes "Frames that the replica ignored, by the first cause that fits.") (codes "counter")
+    comment_text
+    (codes "abft_frames_ignored_total") (codes "Frames that the replica ignored, by the first cause that fits.") (codes "counter")
     ++ flat_map (λ of. flat_map (ignored_text of) all_causes) replicas
 
 -- all metrics with one number for each replica, in the order of their lines

@@ -2,7 +2,7 @@
 ghost use Rattle.std.specs.Prelude.{◌≡◌, ◌++◌, IfOk, OnOk};
 ghost use Rattle.std.specs.String.{string_bytes};
 ghost use Rattle.std.specs.List.{flat_map};
-ghost use Rattle.http_replies.specs.Metrics.{cause_name, metric_name, metric_help, metric_kind, value_of, head_text, sample_text, metric_text, ignored_text, all_ignored_text, metrics_text};
+ghost use Rattle.http_replies.specs.Metrics.{cause_name, metric_name, metric_help, metric_kind, value_of, comment_text, sample_text, metric_text, ignored_text, all_ignored_text, metrics_text};
 
 use crate::frame_counts::FrameCounts;
 use ledger_model::{Height, Ignored, ReplicaId};
@@ -134,9 +134,9 @@ fn cause_name(cause: Ignored) -> &'static str
 }
 
 /// Appends the lines that say what a metric is.
-#[tactic(auto, unfolding(crate::specs::Metrics::head_text))]
+#[tactic(auto, unfolding(crate::specs::Metrics::comment_text))]
 fn add_head(out: &mut String, name: &str, help: &str, kind: &str) -> Result<(), AllocError>
-    ensures { OnOk result (string_bytes out.new ≡ string_bytes out.old ++ head_text name.now help.now kind.now) }
+    ensures { OnOk result (string_bytes out.new ≡ string_bytes out.old ++ comment_text name.now help.now kind.now) }
 {
     write!(out, "# HELP {name} {help}\n# TYPE {name} {kind}\n")
 }

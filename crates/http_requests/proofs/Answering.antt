@@ -11,7 +11,7 @@ use Rattle.http_requests.specs.declared.request.Request.{Request}
 use Rattle.http_requests.specs.Limits.{max_head_len, max_fields}
 use Rattle.http_requests.specs.Faults.{Gives}
 use Rattle.http_requests.specs.Questions.{RequestView, request_view}
-use Rattle.http_requests.specs.Requests.{asked_by, needs_memory, Answers}
+use Rattle.http_requests.specs.Requests.{asked_by, needs_memory, AnswersHead}
 use Rattle.http_requests.proofs.Asked.{IsAsked, asked_by-asked}
 
 -- as many fields as headers were written
@@ -29,7 +29,7 @@ asked_fault answer e asked no_memory gives = elim gives [ inl is ↦ absurd (no_
 -- the head is answered by what it asks
 pub answered : (bytes : List ℕ) (h : RequestHead) (rest : List ℕ) (r : Result Request RequestFault) → ReadsRequest bytes h rest
     → length bytes ≤ max_head_len → length h.fields ≤ max_fields → Gives request_view r (asked_by h.method h.target)
-    → (IsErrOf r fault.NoMemory → IsTrue (needs_memory h.method h.target)) → Answers bytes r
+    → (IsErrOf r fault.NoMemory → IsTrue (needs_memory h.method h.target)) → AnswersHead bytes r
 answered bytes h rest (Ok request) reads short few gives memory =
     record { head = h; rest = rest; reads = reads; short = short; few = few; asked = sym gives }
 answered bytes h rest (Err fault.Malformed) reads short few gives memory =

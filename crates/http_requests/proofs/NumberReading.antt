@@ -10,7 +10,7 @@ use Rattle.plain_text.specs.Numbers.{is_digit, is_decimal}
 use Rattle.http_requests.specs.Values.{number_of}
 use Rattle.http_requests.proofs.Texts.{text_of_ascii}
 
--- whoever reads decimal digits so reads them as here
+-- a reader of decimal digits reads them as this one does
 pub number_of-is : (digits : List ℕ) (r : Option ℕ) → IfSome r (λ n. n < 2 ^ 32)
     → IfSome r (λ n. IsTrue (is_decimal digits) × (digits_value 10 digits ≡ n))
     → IfNone r (IsTrue (is_decimal digits) → 2 ^ 32 ≤ digits_value 10 digits) → r ≡ number_of digits

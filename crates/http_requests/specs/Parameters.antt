@@ -10,13 +10,13 @@ use Rattle.http_requests.specs.Faults.{parameter_name, ◌>>=◌}
 use Rattle.http_requests.specs.Values.{byte_string_of, written_number_of}
 
 -- the value of the first of these pairs that has this name
-abbrev pub first_of : List ℕ → List (List ℕ × List ℕ) → Option (List ℕ)
-first_of name [] = None
-first_of name (pair ∷ pairs) = if bytes_eq pair.0 name then Some pair.1 else first_of name pairs
+abbrev pub first_value : List ℕ → List (List ℕ × List ℕ) → Option (List ℕ)
+first_value name [] = None
+first_value name (pair ∷ pairs) = if bytes_eq pair.0 name then Some pair.1 else first_value name pairs
 
 -- the value of the first pair of this name, still encoded
 unfoldable pub value_of : List ℕ → List ℕ → Option (List ℕ)
-value_of name query = first_of name (raw_pairs query)
+value_of name query = first_value name (raw_pairs query)
 
 -- the query has this parameter
 abbrev pub is_given : Parameter → List ℕ → Bool
@@ -36,7 +36,7 @@ abbrev pub bytes_in : Parameter → Option (List ℕ) → Result (List ℕ) Requ
 bytes_in p (Some encoded) = value_or_fault p (byte_string_of (decode encoded))
 bytes_in p None = Err (fault.Parameter p)
 
--- the bytes that a parameter has, which must be there
+-- the bytes of a parameter that is required
 unfoldable pub required_bytes : Parameter → List ℕ → Result (List ℕ) RequestFault
 required_bytes p query = bytes_in p (value_of (parameter_name p) query)
 

@@ -91,12 +91,12 @@ abbrev pub IsTooLong : List ℕ → Type 0
 IsTooLong bytes = (max_head_len < length bytes) ⊎ RequestExceeds max_fields bytes
 
 -- this is a right answer to a head
-abbrev pub Answers : List ℕ → Result Request RequestFault → Type 0
-Answers bytes (Ok request) = Asks bytes (Ok (request_view request))
-Answers bytes (Err fault.Malformed) = (length bytes ≤ max_head_len) × NeverHasRequest bytes
-Answers bytes (Err fault.Incomplete) = (length bytes ≤ max_head_len) × (HasNoRequest bytes × MayBecomeRequest bytes)
-Answers bytes (Err (fault.Parameter p)) = Asks bytes (Err (fault.Parameter p))
-Answers bytes (Err fault.NotFound) = Asks bytes (Err fault.NotFound)
-Answers bytes (Err fault.Method) = Asks bytes (Err fault.Method)
-Answers bytes (Err fault.TooLong) = IsTooLong bytes
-Answers bytes (Err fault.NoMemory) = RunsOut bytes
+abbrev pub AnswersHead : List ℕ → Result Request RequestFault → Type 0
+AnswersHead bytes (Ok request) = Asks bytes (Ok (request_view request))
+AnswersHead bytes (Err fault.Malformed) = (length bytes ≤ max_head_len) × NeverHasRequest bytes
+AnswersHead bytes (Err fault.Incomplete) = (length bytes ≤ max_head_len) × (HasNoRequest bytes × MayBecomeRequest bytes)
+AnswersHead bytes (Err (fault.Parameter p)) = Asks bytes (Err (fault.Parameter p))
+AnswersHead bytes (Err fault.NotFound) = Asks bytes (Err fault.NotFound)
+AnswersHead bytes (Err fault.Method) = Asks bytes (Err fault.Method)
+AnswersHead bytes (Err fault.TooLong) = IsTooLong bytes
+AnswersHead bytes (Err fault.NoMemory) = RunsOut bytes

@@ -4,7 +4,7 @@ ghost use Rattle.httparse.specs.Grammar.{RequestHead, ReadsRequest};
 ghost use Rattle.http_requests.specs.Faults.{Gives};
 ghost use Rattle.http_requests.specs.Limits.{max_fields, max_head_len};
 ghost use Rattle.http_requests.specs.Questions.{request_view};
-ghost use Rattle.http_requests.specs.Requests.{asked_by, Answers};
+ghost use Rattle.http_requests.specs.Requests.{asked_by, AnswersHead};
 
 use crate::asking::asked_by;
 use crate::fault::RequestFault;
@@ -24,7 +24,7 @@ pub const MAX_FIELDS: usize = 64;
 pub fn parse(alloc: Global, head: &[u8]) -> Result<Request, RequestFault>
     // `TooLong` only if there are too many bytes or field lines, `Malformed` only if no head starts with the bytes, `Incomplete` only if
     // more bytes may make them one.
-    ensures answers { Answers head.now result }
+    ensures answers { AnswersHead head.now result }
 
     // Too many bytes are refused before anything else.
     ensures too_long { max_head_len < length head.now → result ≡ Err RequestFault.TooLong }

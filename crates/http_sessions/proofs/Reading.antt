@@ -7,7 +7,7 @@ use Rattle.std.proofs.KnownBytes.{Consumes-trans}
 use Rattle.http_requests.specs.declared.fault.RequestFault.{RequestFault}
 use Rattle.http_requests.specs.declared.fault.RequestFault.TheVariants as fault
 use Rattle.http_requests.specs.declared.request.Request.{Request}
-use Rattle.http_requests.specs.Requests.{Answers}
+use Rattle.http_requests.specs.Requests.{AnswersHead}
 use Rattle.http_sessions.specs.Hearing.{AnswersRead, Hears, HearsNone, IsPart}
 use Rattle.client_sessions.proofs.Filling.{grown}
 use borrow.Rule.Slice.PartMut.{put_mid}
@@ -33,8 +33,8 @@ module _ (unread mid left : Option (List ℕ)) (count more most : ℕ) (xs ys : 
   pub part_heard : 0 < length ys → more ≡ 0 → (count ≡ 0 → ⊥) → IsPart (take count xs) → Hears most unread left (Err fault.Incomplete)
   part_heard room none some part =
       let long : length (take count xs) ≡ count = length-take-le count xs (omega (arith, within)) in
-      let answers : Answers (take count xs) (Err fault.Incomplete) =
-      elim part as (λ _. Answers (take count xs) (Err fault.Incomplete))
+      let answers : AnswersHead (take count xs) (Err fault.Incomplete) =
+      elim part as (λ _. AnswersHead (take count xs) (Err fault.Incomplete))
       [ inl empty ↦ absurd (some (sym long ∙ ap length empty)) | inr answers ↦ answers ] in record {
         bytes = take count xs;
         some = omega (arith, long, some);

@@ -1,7 +1,8 @@
 -- How a request is answered: the exchanges that it makes, and the answer by what the replicas answered.
 use Rattle.std.specs.Prelude.{◌≡◌, ◌⊎◌, ◌≢◌, ℕ, zero, suc, ◌<◌, ◌≤◌, ◌==◌, min}
-use Rattle.std.specs.Prelude.{List, [], ◌∷◌, map, Option, Some, None, unwrap_or, Result, Ok, Err}
+use Rattle.std.specs.Prelude.{List, [], ◌∷◌, map, Option, Some, None, unwrap_or, Result, Ok, Err, MatchResult, Vec}
 use Rattle.std.specs.Prelude.{if◌then◌else◌}
+use Rattle.std.specs.declared.alloc.Global.{Global}
 use Rattle.std.specs.List.{FoldsTo, range_with_len}
 use Rattle.ledger_model.specs.Values.{Value}
 use Rattle.ledger_model.specs.declared.reply.QueryAnswer.{QueryAnswer}
@@ -75,37 +76,37 @@ AnswersInfo r (Inquired (Infos q info) ∷ []) a = (q ≡ r) × (a ≡ AbciInfo 
 AnswersInfo r _ a = ⊥
 
 -- a query at no height: as of the last block
-abbrev pub AnswersQuery : ℕ → List ℕ → List HttpExchange → AnswerView → Type 0
-AnswersQuery r key (Asked (Queries q k told) ∷ []) a = (q ≡ r) × (k ≡ key) × (a ≡ query_answer key told)
-AnswersQuery r key _ a = ⊥
+abbrev pub AnswersQueryNow : ℕ → List ℕ → List HttpExchange → AnswerView → Type 0
+AnswersQueryNow r key (Asked (Queries q k outcome) ∷ []) a = (q ≡ r) × (k ≡ key) × (a ≡ query_answer key outcome)
+AnswersQueryNow r key _ a = ⊥
 
 -- a query at a height, which is made only if this is the committed height
 abbrev pub AnswersQueryAt : ℕ → List ℕ → ℕ → List HttpExchange → AnswerView → Type 0
 AnswersQueryAt r key h (Asked (Heights q c) ∷ []) a = (q ≡ r) × (c ≢ h) × (a ≡ Unanswered service.NotLastHeight)
-AnswersQueryAt r key h (Asked (Heights q c) ∷ Asked (Queries s k told) ∷ []) a =
-    (q ≡ r) × (c ≡ h) × (s ≡ r) × (k ≡ key) × (a ≡ query_answer_at h key told)
+AnswersQueryAt r key h (Asked (Heights q c) ∷ Asked (Queries s k outcome) ∷ []) a =
+    (q ≡ r) × (c ≡ h) × (s ≡ r) × (k ≡ key) × (a ≡ query_answer_at h key outcome)
 AnswersQueryAt r key h _ a = ⊥
 
 -- the height 0 is the last, as if none were named
 abbrev pub AnswersQueryIf : ℕ → List ℕ → Option ℕ → List HttpExchange → AnswerView → Type 0
-AnswersQueryIf r key None exchanges a = AnswersQuery r key exchanges a
-AnswersQueryIf r key (Some zero) exchanges a = AnswersQuery r key exchanges a
+AnswersQueryIf r key None exchanges a = AnswersQueryNow r key exchanges a
+AnswersQueryIf r key (Some zero) exchanges a = AnswersQueryNow r key exchanges a
 AnswersQueryIf r key (Some (suc n)) exchanges a = AnswersQueryAt r key (suc n) exchanges a
 
 -- the block at a height
 abbrev pub AnswersBlockAt : ℕ → ℕ → List HttpExchange → AnswerView → Type 0
-AnswersBlockAt r h (Asked (Blocks q k told) ∷ []) a = (q ≡ r) × (k ≡ h) × (a ≡ block_answer h told)
+AnswersBlockAt r h (Asked (Blocks q k outcome) ∷ []) a = (q ≡ r) × (k ≡ h) × (a ≡ block_answer h outcome)
 AnswersBlockAt r h _ a = ⊥
 
 -- the block at the committed height
 abbrev pub AnswersLastBlock : ℕ → List HttpExchange → AnswerView → Type 0
-AnswersLastBlock r (Asked (Heights q h) ∷ Asked (Blocks s k told) ∷ []) a = (q ≡ r) × (s ≡ r) × (k ≡ h) × (a ≡ block_answer h told)
+AnswersLastBlock r (Asked (Heights q h) ∷ Asked (Blocks s k outcome) ∷ []) a = (q ≡ r) × (s ≡ r) × (k ≡ h) × (a ≡ block_answer h outcome)
 AnswersLastBlock r _ a = ⊥
 
 -- if no height is named, the block at the committed height
-abbrev pub AnswersBlock : ℕ → Option ℕ → List HttpExchange → AnswerView → Type 0
-AnswersBlock r (Some h) exchanges a = AnswersBlockAt r h exchanges a
-AnswersBlock r None exchanges a = AnswersLastBlock r exchanges a
+abbrev pub AnswersBlockQuestion : ℕ → Option ℕ → List HttpExchange → AnswerView → Type 0
+AnswersBlockQuestion r (Some h) exchanges a = AnswersBlockAt r h exchanges a
+AnswersBlockQuestion r None exchanges a = AnswersLastBlock r exchanges a
 
 abbrev pub AnswersPool : ℕ → List HttpExchange → AnswerView → Type 0
 AnswersPool r (Inquired (Pools q size) ∷ []) a = (q ≡ r) × (a ≡ UnconfirmedTxs size.transactions size.bytes)
@@ -155,7 +156,7 @@ AnswersAt r question.Health exchanges a = AsksNone Health exchanges a
 AnswersAt r question.Status exchanges a = AnswersStatus r exchanges a
 AnswersAt r question.AbciInfo exchanges a = AnswersInfo r exchanges a
 AnswersAt r (question.AbciQuery key height) exchanges a = AnswersQueryIf r key height exchanges a
-AnswersAt r (question.Block height) exchanges a = AnswersBlock r height exchanges a
+AnswersAt r (question.Block height) exchanges a = AnswersBlockQuestion r height exchanges a
 AnswersAt r question.UnconfirmedTxs exchanges a = AnswersPool r exchanges a
 AnswersAt r (question.BroadcastSync tx) exchanges a = AnswersSync r tx exchanges a
 AnswersAt r (question.BroadcastCommit tx) exchanges a = AnswersCommit r tx exchanges a
@@ -176,9 +177,9 @@ AnswersQuestion count None question.Metrics exchanges a = AnswersAllMetrics (min
 AnswersQuestion count named q exchanges a = AnswersIf count (unwrap_or named 0) q exchanges a
 
 -- what was asked of `count` replicas is answered by these exchanges and this answer; a fault asks nothing
-abbrev pub Answers : ℕ → Result Request RequestFault → List HttpExchange → AnswerView → Type 0
-Answers count (Ok request) exchanges a = AnswersQuestion count request.replica (question_view request.question) exchanges a
-Answers count (Err f) exchanges a = AsksNone (Fault f) exchanges a
+abbrev pub AnswersRequest : ℕ → Result Request RequestFault → List HttpExchange → AnswerView → Type 0
+AnswersRequest count (Ok request) exchanges a = AnswersQuestion count request.replica (question_view request.question) exchanges a
+AnswersRequest count (Err f) exchanges a = AsksNone (Fault f) exchanges a
 
 -- ---- the reply, or that memory ran out
 
@@ -197,3 +198,9 @@ pub record Loses {T : Type 0} (makes : T → HttpExchange → T → Type 0) (bef
   pub exchanges : List HttpExchange
   pub made : FoldsTo makes before exchanges after
   pub whole : (exchanges ≡ []) ⊎ ((answer : AnswerView) × Gives exchanges answer)
+
+-- the reply to the answer that exchanges give, or that memory ran out
+abbrev pub RepliesOrLoses : {T E : Type 0} → Result (Vec ℕ Global) E → (T → HttpExchange → T → Type 0) → T → T
+    → (List HttpExchange → AnswerView → Type 0) → Type 0
+RepliesOrLoses result makes before after Gives =
+    MatchResult result (λ reply. Replies makes before after Gives reply.items) (λ _. Loses makes before after Gives)

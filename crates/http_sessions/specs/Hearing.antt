@@ -5,21 +5,21 @@ use Rattle.http_requests.specs.declared.fault.RequestFault.{RequestFault}
 use Rattle.http_requests.specs.declared.fault.RequestFault.TheVariants as fault
 use Rattle.http_requests.specs.declared.request.Request.{Request}
 use Rattle.http_requests.specs.Limits.{max_head_len}
-use Rattle.http_requests.specs.Requests.{Answers}
+use Rattle.http_requests.specs.Requests.{AnswersHead}
 
 -- these bytes are less than a head: there are none, or more of them may make one
 abbrev pub IsPart : List ℕ → Type 0
-IsPart bytes = (bytes ≡ []) ⊎ Answers bytes (Err fault.Incomplete)
+IsPart bytes = (bytes ≡ []) ⊎ AnswersHead bytes (Err fault.Incomplete)
 
 -- the right answer if more bytes follow these: they are a head or can't become one; if they could, the head is too long
 abbrev pub AnswersCut : List ℕ → Result Request RequestFault → Type 0
 AnswersCut bytes asked =
-    (Answers bytes asked × (asked ≢ Err fault.Incomplete)) ⊎ (Answers bytes (Err fault.Incomplete) × (asked ≡ Err fault.TooLong))
+    (AnswersHead bytes asked × (asked ≢ Err fault.Incomplete)) ⊎ (AnswersHead bytes (Err fault.Incomplete) × (asked ≡ Err fault.TooLong))
 
 -- the right answer to bytes that were read: only the first max_head_len of them can be a head
 abbrev pub AnswersRead : List ℕ → Result Request RequestFault → Type 0
 AnswersRead bytes asked =
-    ((length bytes ≤ max_head_len) × Answers bytes asked) ⊎ ((max_head_len < length bytes) × AnswersCut (take max_head_len bytes) asked)
+    ((length bytes ≤ max_head_len) × AnswersHead bytes asked) ⊎ ((max_head_len < length bytes) × AnswersCut (take max_head_len bytes) asked)
 
 -- at most `most` bytes were read, which ask this; if they end within a head, so did the input
 pub record Hears (most : ℕ) (unread left : Option (List ℕ)) (asked : Result Request RequestFault) : Type 0 where

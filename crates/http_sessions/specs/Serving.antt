@@ -13,7 +13,7 @@ use Rattle.http_sessions.specs.declared.request_end.RequestEnd.TheVariants.{Answ
 use Rattle.http_sessions.specs.declared.request_end.ConnectionFault.{ConnectionFault}
 use Rattle.http_sessions.specs.declared.request_end.ConnectionFault.TheVariants as fault
 use Rattle.http_sessions.specs.Exchanges.{HttpExchange}
-use Rattle.http_sessions.specs.Answering.{Answers, Loses, Replies}
+use Rattle.http_sessions.specs.Answering.{AnswersRequest, Loses, Replies}
 use Rattle.http_sessions.specs.Hearing.{Hears, HearsNone, HearsPart}
 
 -- the most bytes that are read: one more than a head has
@@ -22,9 +22,9 @@ most_read = max_head_len + 1
 
 -- the reply to what was asked: that of its answer, or that memory ran out
 abbrev pub IsReply : {T : Type 0} → RequestEnd → (T → HttpExchange → T → Type 0) → ℕ → T → T → Result Request RequestFault → List ℕ → Type 0
-IsReply Answered makes count before after asked reply = Replies makes before after (Answers count asked) reply
+IsReply Answered makes count before after asked reply = Replies makes before after (AnswersRequest count asked) reply
 IsReply OutOfMemory makes count before after asked reply =
-    Loses makes before after (Answers count asked) × (reply ≡ reply_bytes (Fault request_fault.NoMemory))
+    Loses makes before after (AnswersRequest count asked) × (reply ≡ reply_bytes (Fault request_fault.NoMemory))
 IsReply Silent makes count before after asked reply = ⊥
 
 -- exchanges were made for what was asked, and `Sent` holds of the reply

@@ -1,9 +1,9 @@
 //! Answers a request by what the replicas answer.
-ghost use Rattle.std.specs.Prelude.{◌≡◌, ◌<◌, ◌≤◌, min, [], map, vec_capacity, MatchResult};
+ghost use Rattle.std.specs.Prelude.{◌≡◌, ◌<◌, ◌≤◌, min, [], map, vec_capacity};
 ghost use Rattle.std.specs.List.{FoldsTo, range_with_len};
 ghost use Rattle.http_requests.specs.Questions.{question_view};
 ghost use Rattle.http_sessions.specs.Exchanges.{Makes};
-ghost use Rattle.http_sessions.specs.Answering.{Replies, Loses, Answers, AnswersQuestion, AnswersIf, AnswersAt, AnswersStatus, AnswersInfo, AnswersQuery, AnswersQueryAt, AnswersQueryIf, AnswersBlockAt, AnswersLastBlock, AnswersBlock, AnswersPool, AnswersSync, AnswersCommit, AnswersMetrics, AnswersAllMetrics, most_replicas, shown};
+ghost use Rattle.http_sessions.specs.Answering.{RepliesOrLoses, AnswersRequest, AnswersQuestion, AnswersIf, AnswersAt, AnswersStatus, AnswersInfo, AnswersQueryNow, AnswersQueryAt, AnswersQueryIf, AnswersBlockAt, AnswersLastBlock, AnswersBlockQuestion, AnswersPool, AnswersSync, AnswersCommit, AnswersMetrics, AnswersAllMetrics, most_replicas, shown};
 
 use crate::answers::{
     block_answer, delivery_answer, fault_answer, query_answer, query_answer_at, reply_to,
@@ -18,16 +18,13 @@ use std::alloc::{AllocError, Global};
 /// The most replicas that numbers of one byte can name.
 const MOST_REPLICAS: usize = 256;
 
+/// The bytes of a reply. The only error is allocation failure.
+type Reply = Result<Vec<u8>, AllocError>;
+
 /// How far a replica is.
-fn status<T: HttpTargets>(
-    alloc: Global,
-    targets: &mut T,
-    replica: ReplicaId,
-) -> Result<Vec<u8>, AllocError>
+fn status<T: HttpTargets>(alloc: Global, targets: &mut T, replica: ReplicaId) -> Reply
     requires { replica < T.replicas targets.old }
-    ensures replies { MatchResult result
-        (λ reply. Replies (Makes T.asks T.inquires) targets.old targets.new (AnswersStatus replica) reply.items)
-        (λ _. Loses (Makes T.asks T.inquires) targets.old targets.new (AnswersStatus replica)) }
+    ensures replies { RepliesOrLoses result (Makes T.asks T.inquires) targets.old targets.new (AnswersStatus replica) }
     ensures count { T.replicas targets.new ≡ T.replicas targets.old }
 {
     let progress = targets.progress(replica);
@@ -42,15 +39,9 @@ fn status<T: HttpTargets>(
 }
 
 /// What a replica's application says of itself.
-fn app_info<T: HttpTargets>(
-    alloc: Global,
-    targets: &mut T,
-    replica: ReplicaId,
-) -> Result<Vec<u8>, AllocError>
+fn app_info<T: HttpTargets>(alloc: Global, targets: &mut T, replica: ReplicaId) -> Reply
     requires { replica < T.replicas targets.old }
-    ensures replies { MatchResult result
-        (λ reply. Replies (Makes T.asks T.inquires) targets.old targets.new (AnswersInfo replica) reply.items)
-        (λ _. Loses (Makes T.asks T.inquires) targets.old targets.new (AnswersInfo replica)) }
+    ensures replies { RepliesOrLoses result (Makes T.asks T.inquires) targets.old targets.new (AnswersInfo replica) }
     ensures count { T.replicas targets.new ≡ T.replicas targets.old }
 {
     let info = targets.info(replica);
@@ -65,16 +56,9 @@ fn app_info<T: HttpTargets>(
 }
 
 /// What a replica's application has under a key, as of its last block.
-fn query<T: HttpTargets>(
-    alloc: Global,
-    targets: &mut T,
-    replica: ReplicaId,
-    key: &[u8],
-) -> Result<Vec<u8>, AllocError>
+fn query<T: HttpTargets>(alloc: Global, targets: &mut T, replica: ReplicaId, key: &[u8]) -> Reply
     requires { replica < T.replicas targets.old }
-    ensures replies { MatchResult result
-        (λ reply. Replies (Makes T.asks T.inquires) targets.old targets.new (AnswersQuery replica key.now) reply.items)
-        (λ _. Loses (Makes T.asks T.inquires) targets.old targets.new (AnswersQuery replica key.now)) }
+    ensures replies { RepliesOrLoses result (Makes T.asks T.inquires) targets.old targets.new (AnswersQueryNow replica key.now) }
     ensures count { T.replicas targets.new ≡ T.replicas targets.old }
 {
     let found = targets.query(replica, key);
@@ -88,11 +72,9 @@ fn query_at<T: HttpTargets>(
     replica: ReplicaId,
     key: &[u8],
     height: Height,
-) -> Result<Vec<u8>, AllocError>
+) -> Reply
     requires { replica < T.replicas targets.old }
-    ensures replies { MatchResult result
-        (λ reply. Replies (Makes T.asks T.inquires) targets.old targets.new (AnswersQueryAt replica key.now height) reply.items)
-        (λ _. Loses (Makes T.asks T.inquires) targets.old targets.new (AnswersQueryAt replica key.now height)) }
+    ensures replies { RepliesOrLoses result (Makes T.asks T.inquires) targets.old targets.new (AnswersQueryAt replica key.now height) }
     ensures count { T.replicas targets.new ≡ T.replicas targets.old }
 {
     let committed = targets.height(replica);
@@ -110,11 +92,9 @@ fn query_if<T: HttpTargets>(
     replica: ReplicaId,
     key: &[u8],
     height: Option<Height>,
-) -> Result<Vec<u8>, AllocError>
+) -> Reply
     requires { replica < T.replicas targets.old }
-    ensures replies { MatchResult result
-        (λ reply. Replies (Makes T.asks T.inquires) targets.old targets.new (AnswersQueryIf replica key.now height) reply.items)
-        (λ _. Loses (Makes T.asks T.inquires) targets.old targets.new (AnswersQueryIf replica key.now height)) }
+    ensures replies { RepliesOrLoses result (Makes T.asks T.inquires) targets.old targets.new (AnswersQueryIf replica key.now height) }
     ensures count { T.replicas targets.new ≡ T.replicas targets.old }
 {
     match height {
@@ -129,11 +109,9 @@ fn block_at<T: HttpTargets>(
     targets: &mut T,
     replica: ReplicaId,
     height: Height,
-) -> Result<Vec<u8>, AllocError>
+) -> Reply
     requires { replica < T.replicas targets.old }
-    ensures replies { MatchResult result
-        (λ reply. Replies (Makes T.asks T.inquires) targets.old targets.new (AnswersBlockAt replica height) reply.items)
-        (λ _. Loses (Makes T.asks T.inquires) targets.old targets.new (AnswersBlockAt replica height)) }
+    ensures replies { RepliesOrLoses result (Makes T.asks T.inquires) targets.old targets.new (AnswersBlockAt replica height) }
     ensures count { T.replicas targets.new ≡ T.replicas targets.old }
 {
     let found = targets.block(replica, height);
@@ -141,15 +119,9 @@ fn block_at<T: HttpTargets>(
 }
 
 /// A replica's block at its committed height.
-fn last_block<T: HttpTargets>(
-    alloc: Global,
-    targets: &mut T,
-    replica: ReplicaId,
-) -> Result<Vec<u8>, AllocError>
+fn last_block<T: HttpTargets>(alloc: Global, targets: &mut T, replica: ReplicaId) -> Reply
     requires { replica < T.replicas targets.old }
-    ensures replies { MatchResult result
-        (λ reply. Replies (Makes T.asks T.inquires) targets.old targets.new (AnswersLastBlock replica) reply.items)
-        (λ _. Loses (Makes T.asks T.inquires) targets.old targets.new (AnswersLastBlock replica)) }
+    ensures replies { RepliesOrLoses result (Makes T.asks T.inquires) targets.old targets.new (AnswersLastBlock replica) }
     ensures count { T.replicas targets.new ≡ T.replicas targets.old }
 {
     let last = targets.height(replica);
@@ -163,11 +135,9 @@ fn block<T: HttpTargets>(
     targets: &mut T,
     replica: ReplicaId,
     height: Option<Height>,
-) -> Result<Vec<u8>, AllocError>
+) -> Reply
     requires { replica < T.replicas targets.old }
-    ensures replies { MatchResult result
-        (λ reply. Replies (Makes T.asks T.inquires) targets.old targets.new (AnswersBlock replica height) reply.items)
-        (λ _. Loses (Makes T.asks T.inquires) targets.old targets.new (AnswersBlock replica height)) }
+    ensures replies { RepliesOrLoses result (Makes T.asks T.inquires) targets.old targets.new (AnswersBlockQuestion replica height) }
     ensures count { T.replicas targets.new ≡ T.replicas targets.old }
 {
     match height {
@@ -177,15 +147,9 @@ fn block<T: HttpTargets>(
 }
 
 /// How many transactions wait in a replica's pool.
-fn pool<T: HttpTargets>(
-    alloc: Global,
-    targets: &mut T,
-    replica: ReplicaId,
-) -> Result<Vec<u8>, AllocError>
+fn pool<T: HttpTargets>(alloc: Global, targets: &mut T, replica: ReplicaId) -> Reply
     requires { replica < T.replicas targets.old }
-    ensures replies { MatchResult result
-        (λ reply. Replies (Makes T.asks T.inquires) targets.old targets.new (AnswersPool replica) reply.items)
-        (λ _. Loses (Makes T.asks T.inquires) targets.old targets.new (AnswersPool replica)) }
+    ensures replies { RepliesOrLoses result (Makes T.asks T.inquires) targets.old targets.new (AnswersPool replica) }
     ensures count { T.replicas targets.new ≡ T.replicas targets.old }
 {
     let size = targets.pool(replica);
@@ -199,16 +163,9 @@ fn pool<T: HttpTargets>(
 }
 
 /// Submits a transaction to a replica and, if its pool takes it, to the others.
-fn broadcast_sync<T: HttpTargets>(
-    alloc: Global,
-    targets: &mut T,
-    replica: ReplicaId,
-    tx: &[u8],
-) -> Result<Vec<u8>, AllocError>
+fn sync<T: HttpTargets>(alloc: Global, targets: &mut T, replica: ReplicaId, tx: &[u8]) -> Reply
     requires { replica < T.replicas targets.old }
-    ensures replies { MatchResult result
-        (λ reply. Replies (Makes T.asks T.inquires) targets.old targets.new (AnswersSync replica tx.now) reply.items)
-        (λ _. Loses (Makes T.asks T.inquires) targets.old targets.new (AnswersSync replica tx.now)) }
+    ensures replies { RepliesOrLoses result (Makes T.asks T.inquires) targets.old targets.new (AnswersSync replica tx.now) }
     ensures count { T.replicas targets.new ≡ T.replicas targets.old }
 {
     match targets.submit(replica, tx) {
@@ -222,16 +179,9 @@ fn broadcast_sync<T: HttpTargets>(
 }
 
 /// Submits a transaction to a replica and, if its pool takes it, to the others, and waits for a block that has it.
-fn broadcast_commit<T: HttpTargets>(
-    alloc: Global,
-    targets: &mut T,
-    replica: ReplicaId,
-    tx: &[u8],
-) -> Result<Vec<u8>, AllocError>
+fn commit<T: HttpTargets>(alloc: Global, targets: &mut T, replica: ReplicaId, tx: &[u8]) -> Reply
     requires { replica < T.replicas targets.old }
-    ensures replies { MatchResult result
-        (λ reply. Replies (Makes T.asks T.inquires) targets.old targets.new (AnswersCommit replica tx.now) reply.items)
-        (λ _. Loses (Makes T.asks T.inquires) targets.old targets.new (AnswersCommit replica tx.now)) }
+    ensures replies { RepliesOrLoses result (Makes T.asks T.inquires) targets.old targets.new (AnswersCommit replica tx.now) }
     ensures count { T.replicas targets.new ≡ T.replicas targets.old }
 {
     match targets.submit(replica, tx) {
@@ -252,15 +202,9 @@ fn broadcast_commit<T: HttpTargets>(
 }
 
 /// The metrics of one replica.
-fn metrics<T: HttpTargets>(
-    alloc: Global,
-    targets: &mut T,
-    replica: ReplicaId,
-) -> Result<Vec<u8>, AllocError>
+fn metrics<T: HttpTargets>(alloc: Global, targets: &mut T, replica: ReplicaId) -> Reply
     requires { replica < T.replicas targets.old }
-    ensures replies { MatchResult result
-        (λ reply. Replies (Makes T.asks T.inquires) targets.old targets.new (AnswersMetrics replica) reply.items)
-        (λ _. Loses (Makes T.asks T.inquires) targets.old targets.new (AnswersMetrics replica)) }
+    ensures replies { RepliesOrLoses result (Makes T.asks T.inquires) targets.old targets.new (AnswersMetrics replica) }
     ensures count { T.replicas targets.new ≡ T.replicas targets.old }
 {
     let shown = [targets.metrics(replica)];
@@ -283,10 +227,9 @@ fn add_metrics<T: HttpTargets>(targets: &mut T, count: usize, all: &mut Vec<Repl
 }
 
 /// The metrics of all replicas, in order.
-fn all_metrics<T: HttpTargets>(alloc: Global, targets: &mut T) -> Result<Vec<u8>, AllocError>
-    ensures replies { MatchResult result
-        (λ reply. Replies (Makes T.asks T.inquires) targets.old targets.new (AnswersAllMetrics (min (T.replicas targets.old) most_replicas)) reply.items)
-        (λ _. Loses (Makes T.asks T.inquires) targets.old targets.new (AnswersAllMetrics (min (T.replicas targets.old) most_replicas))) }
+fn all_metrics<T: HttpTargets>(alloc: Global, targets: &mut T) -> Reply
+    ensures replies { RepliesOrLoses result (Makes T.asks T.inquires) targets.old targets.new
+        (AnswersAllMetrics (min (T.replicas targets.old) most_replicas)) }
     ensures count { T.replicas targets.new ≡ T.replicas targets.old }
 {
     let count = targets.count().min(MOST_REPLICAS);
@@ -301,11 +244,10 @@ fn answer_at<T: HttpTargets>(
     question: &Question,
     targets: &mut T,
     replica: ReplicaId,
-) -> Result<Vec<u8>, AllocError>
+) -> Reply
     requires { replica < T.replicas targets.old }
-    ensures replies { MatchResult result
-        (λ reply. Replies (Makes T.asks T.inquires) targets.old targets.new (AnswersAt replica (question_view question.now)) reply.items)
-        (λ _. Loses (Makes T.asks T.inquires) targets.old targets.new (AnswersAt replica (question_view question.now))) }
+    ensures replies { RepliesOrLoses result (Makes T.asks T.inquires) targets.old targets.new
+        (AnswersAt replica (question_view question.now)) }
     ensures count { T.replicas targets.new ≡ T.replicas targets.old }
 {
     match question {
@@ -316,8 +258,8 @@ fn answer_at<T: HttpTargets>(
         Question::AbciQuery { key, height } => query_if(alloc, targets, replica, key, *height),
         Question::Block { height } => block(alloc, targets, replica, *height),
         Question::UnconfirmedTxs => pool(alloc, targets, replica),
-        Question::BroadcastSync { tx } => broadcast_sync(alloc, targets, replica, tx),
-        Question::BroadcastCommit { tx } => broadcast_commit(alloc, targets, replica, tx),
+        Question::BroadcastSync { tx } => sync(alloc, targets, replica, tx),
+        Question::BroadcastCommit { tx } => commit(alloc, targets, replica, tx),
         Question::Metrics => metrics(alloc, targets, replica),
     }
 }
@@ -328,10 +270,9 @@ fn answer_if<T: HttpTargets>(
     question: &Question,
     targets: &mut T,
     replica: ReplicaId,
-) -> Result<Vec<u8>, AllocError>
-    ensures replies { MatchResult result
-        (λ reply. Replies (Makes T.asks T.inquires) targets.old targets.new (AnswersIf (T.replicas targets.old) replica (question_view question.now)) reply.items)
-        (λ _. Loses (Makes T.asks T.inquires) targets.old targets.new (AnswersIf (T.replicas targets.old) replica (question_view question.now))) }
+) -> Reply
+    ensures replies { RepliesOrLoses result (Makes T.asks T.inquires) targets.old targets.new
+        (AnswersIf (T.replicas targets.old) replica (question_view question.now)) }
     ensures count { T.replicas targets.new ≡ T.replicas targets.old }
 {
     if usize::from(replica.number()) < targets.count() {
@@ -347,10 +288,9 @@ fn answer_question<T: HttpTargets>(
     question: &Question,
     named: Option<ReplicaId>,
     targets: &mut T,
-) -> Result<Vec<u8>, AllocError>
-    ensures replies { MatchResult result
-        (λ reply. Replies (Makes T.asks T.inquires) targets.old targets.new (AnswersQuestion (T.replicas targets.old) named (question_view question.now)) reply.items)
-        (λ _. Loses (Makes T.asks T.inquires) targets.old targets.new (AnswersQuestion (T.replicas targets.old) named (question_view question.now))) }
+) -> Reply
+    ensures replies { RepliesOrLoses result (Makes T.asks T.inquires) targets.old targets.new
+        (AnswersQuestion (T.replicas targets.old) named (question_view question.now)) }
     ensures count { T.replicas targets.new ≡ T.replicas targets.old }
 {
     match (named, question) {
@@ -371,9 +311,7 @@ pub fn answer<T: HttpTargets>(
     targets: &mut T,
 ) -> Result<Vec<u8>, AllocError>
     // The exchanges are those by which the request is answered, and the reply is that of the answer.
-    ensures replies { MatchResult result
-        (λ reply. Replies (Makes T.asks T.inquires) targets.old targets.new (Answers (T.replicas targets.old) asked.now) reply.items)
-        (λ _. Loses (Makes T.asks T.inquires) targets.old targets.new (Answers (T.replicas targets.old) asked.now)) }
+    ensures replies { RepliesOrLoses result (Makes T.asks T.inquires) targets.old targets.new (AnswersRequest (T.replicas targets.old) asked.now) }
     ensures count { T.replicas targets.new ≡ T.replicas targets.old }
 {
     match asked {

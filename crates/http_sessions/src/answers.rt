@@ -1,7 +1,7 @@
 //! Answers by what a replica answered.
 ghost use Rattle.std.specs.Prelude.{◌≡◌, Ok, Err, IfOk};
 ghost use Rattle.ledger_model.specs.Sessions.{Fault as ReplicaFault};
-ghost use Rattle.client_sessions.specs.Asking.{fault_of, told};
+ghost use Rattle.client_sessions.specs.Asking.{fault_of, outcome_of};
 ghost use Rattle.http_replies.specs.Answers.{answer_view};
 ghost use Rattle.http_replies.specs.Replies.{reply_bytes};
 ghost use Rattle.http_sessions.specs.Answering.{fault_answer, sync_answer, unpooled_answer, delivery_answer, query_answer, query_answer_at, block_answer};
@@ -38,7 +38,7 @@ pub(crate) fn sync_answer<'a>(
     tx: &'a [u8],
     submitted: Result<Result<u32, SubmitRefusal>, TargetFault>,
 ) -> Answer<'a>
-    ensures { answer_view result ≡ sync_answer replica tx.now (told submitted) }
+    ensures { answer_view result ≡ sync_answer replica tx.now (outcome_of submitted) }
 {
     match submitted {
         Ok(Ok(index)) => Answer::BroadcastSync {
@@ -99,7 +99,7 @@ pub(crate) fn query_answer<'a>(
     key: &'a [u8],
     found: &'a Result<QueryAnswer, TargetFault>,
 ) -> Answer<'a>
-    ensures { answer_view result ≡ query_answer key.now (told found.now) }
+    ensures { answer_view result ≡ query_answer key.now (outcome_of found.now) }
 {
     match found {
         Ok(found) => found_answer(key, found),
@@ -113,7 +113,7 @@ pub(crate) fn query_answer_at<'a>(
     key: &'a [u8],
     found: &'a Result<QueryAnswer, TargetFault>,
 ) -> Answer<'a>
-    ensures { answer_view result ≡ query_answer_at height key.now (told found.now) }
+    ensures { answer_view result ≡ query_answer_at height key.now (outcome_of found.now) }
 {
     match found {
         Ok(found) if found.height.number() == height.number() => found_answer(key, found),
@@ -127,7 +127,7 @@ pub(crate) fn block_answer<'a>(
     height: Height,
     found: &'a Result<Option<Batch>, TargetFault>,
 ) -> Answer<'a>
-    ensures { answer_view result ≡ block_answer height (told found.now) }
+    ensures { answer_view result ≡ block_answer height (outcome_of found.now) }
 {
     match found {
         Ok(Some(batch)) => Answer::Block { height, batch },

@@ -2,7 +2,7 @@
 ghost use Rattle.std.specs.Prelude.{◌≡◌, ◌≢◌, ◌+◌, ◌<◌, Err, true, false, length, MatchResult, MatchOption};
 ghost use Rattle.client_sessions.specs.Faults.{failures_in};
 ghost use Rattle.http_requests.specs.Limits.{max_head_len};
-ghost use Rattle.http_requests.specs.Requests.{Answers};
+ghost use Rattle.http_requests.specs.Requests.{AnswersHead};
 ghost use Rattle.http_sessions.specs.Hearing.{AnswersRead, Hears, HearsNone, HearsPart};
 
 use client_sessions::SessionReader;
@@ -25,7 +25,7 @@ fn is_incomplete(asked: &Result<Request, RequestFault>) -> bool
 /// end within a head, it is too long.
 fn asked_in(alloc: Global, bytes: &[u8]) -> Result<Request, RequestFault>
     ensures answers { AnswersRead bytes.now result }
-    ensures part { result ≡ Err RequestFault.Incomplete → Answers bytes.now (Err RequestFault.Incomplete) }
+    ensures part { result ≡ Err RequestFault.Incomplete → AnswersHead bytes.now (Err RequestFault.Incomplete) }
 {
     if bytes.len() <= MAX_HEAD_LEN {
         return parse(alloc, bytes);

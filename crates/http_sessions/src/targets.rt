@@ -77,8 +77,8 @@ pub trait HttpTargets: Targets {
         ensures asked { inquires self.old (Infos replica result) self.new }
         ensures count { Self.replicas self.new ≡ Self.replicas self.old };
 
-    /// Submits a transaction that the replica's pool took to all other replicas, so that whoever owns a phase may propose it. What they
-    /// answer isn't told.
+    /// Submits a transaction that the replica's pool took to all other replicas, so that each owner of a phase may propose it. What they
+    /// answer isn't returned.
     fn spread(&mut self, replica: ReplicaId, tx: &[u8])
         requires { replica < Self.replicas self.old }
         ensures asked { inquires self.old (Spreads replica tx.now) self.new }

@@ -128,8 +128,8 @@ pub(crate) const WRONG: &str = "\
     Content-Length: 124\r\n\
     Connection: close\r\n\
     \r\n\
-    {\"jsonrpc\":\"2.0\",\"id\":-1,\"error\":{\"code\":-32602,\"message\":\"Invalid params\",\
-    \"data\":\"the parameter data is missing or wrong\"}}";
+    {\"jsonrpc\":\"2.0\",\"id\":-1,\"error\":{\"code\":-32602,\
+    \"message\":\"Invalid params\",\"data\":\"the parameter data is missing or wrong\"}}";
 
 pub(crate) const NOT_FOUND: &str = "\
     HTTP/1.1 404 Not Found\r\n\
@@ -420,44 +420,10 @@ pub(crate) const ALL_METRICS: &str = "\
     abft_frames_ignored_total{replica=\"3\",cause=\"NotMine\"} 1\n\
     ";
 
-pub(crate) const METRICS_OF_2: &str = "\
+/// The head of the metrics of replica 2; its lines stand in `ALL_METRICS`.
+pub(crate) const METRICS_OF_2_HEAD: &str = "\
     HTTP/1.1 200 OK\r\n\
     Content-Type: text/plain; version=0.0.4; charset=utf-8\r\n\
     Content-Length: 1704\r\n\
     Connection: close\r\n\
-    \r\n\
-    # HELP abft_rounds Rounds that the replica ended.\n\
-    # TYPE abft_rounds gauge\n\
-    abft_rounds{replica=\"2\"} 345\n\
-    # HELP abft_height The last height that the replica committed.\n\
-    # TYPE abft_height gauge\n\
-    abft_height{replica=\"2\"} 12\n\
-    # HELP abft_signatures_left One-time signatures that its key pair has left.\n\
-    # TYPE abft_signatures_left gauge\n\
-    abft_signatures_left{replica=\"2\"} 1001\n\
-    # HELP abft_pool_transactions Transactions that wait for a block.\n\
-    # TYPE abft_pool_transactions gauge\n\
-    abft_pool_transactions{replica=\"2\"} 5\n\
-    # HELP abft_history_entries Entries of the history.\n\
-    # TYPE abft_history_entries gauge\n\
-    abft_history_entries{replica=\"2\"} 333\n\
-    # HELP abft_frames_lost_total Frames that a full inbox lost.\n\
-    # TYPE abft_frames_lost_total counter\n\
-    abft_frames_lost_total{replica=\"2\"} 2\n\
-    # HELP abft_frames_accepted_total Frames that the replica accepted.\n\
-    # TYPE abft_frames_accepted_total counter\n\
-    abft_frames_accepted_total{replica=\"2\"} 271\n\
-    # HELP abft_frames_ignored_total Frames that the replica ignored, by the first cause that fits.\n\
-    # TYPE abft_frames_ignored_total counter\n\
-    abft_frames_ignored_total{replica=\"2\",cause=\"Malformed\"} 0\n\
-    abft_frames_ignored_total{replica=\"2\",cause=\"Signer\"} 0\n\
-    abft_frames_ignored_total{replica=\"2\",cause=\"NoRow\"} 3\n\
-    abft_frames_ignored_total{replica=\"2\",cause=\"WrongRound\"} 0\n\
-    abft_frames_ignored_total{replica=\"2\",cause=\"WrongPhase\"} 0\n\
-    abft_frames_ignored_total{replica=\"2\",cause=\"NotOwner\"} 0\n\
-    abft_frames_ignored_total{replica=\"2\",cause=\"Repeated\"} 17\n\
-    abft_frames_ignored_total{replica=\"2\",cause=\"BadSignature\"} 0\n\
-    abft_frames_ignored_total{replica=\"2\",cause=\"BadProof\"} 0\n\
-    abft_frames_ignored_total{replica=\"2\",cause=\"TableFull\"} 0\n\
-    abft_frames_ignored_total{replica=\"2\",cause=\"NotMine\"} 1\n\
-    ";
+    \r\n";

@@ -7,7 +7,7 @@ use client_sessions::TargetFault;
 use counted_streams::CountedStream;
 use http_sessions::{ConnectionFault, Delivery, RequestEnd, serve_request};
 use ledger_model::{Height, SubmitRefusal};
-use std::alloc::Global;
+use std::alloc::{AllocError, Global};
 
 /// How a connection ended.
 #[derive(Clone, Copy, PartialEq, Eq)]
@@ -81,7 +81,7 @@ fn first_wrong<'a>(alloc: Global, targets: &mut Fake, cases: &[Case<'a>]) -> Opt
     None
 }
 
-const QUESTIONS: [Case<'static>; 18] = [
+const QUESTIONS: [Case<'static>; 17] = [
     (b"/health", b"", HEALTH),
     (b"/status?replica=2", b"G2", STATUS),
     (b"/abci_info", b"I0", INFO),
@@ -113,7 +113,6 @@ const QUESTIONS: [Case<'static>; 18] = [
         TIMED_OUT,
     ),
     (b"/metrics", b"M0M1M2M3", ALL_METRICS),
-    (b"/metrics?replica=2", b"M2", METRICS_OF_2),
     (b"/metrics?replica=4", b"", NO_REPLICA),
     (b"/health?replica=255", b"", NO_REPLICA),
 ];
@@ -122,6 +121,32 @@ const QUESTIONS: [Case<'static>; 18] = [
 fn each_question_has_its_exchanges_and_its_reply(rt: HostRuntime) {
     let mut targets = Fake::new(rt.alloc());
     assert_eq!(rt; first_wrong(rt.alloc(), &mut targets, &QUESTIONS), None);
+}
+
+/// The metrics of replica 2: the comments and its lines of `ALL_METRICS`, under a head with their length.
+fn metrics_of_2(alloc: Global) -> Result<String, AllocError> {
+    let mut text = String::new(alloc);
+    text.push_str(METRICS_OF_2_HEAD)?;
+    for line in ALL_METRICS.split_inclusive('\n') {
+        if line.starts_with('#') || line.contains("{replica=\"2\"") {
+            text.push_str(line)?;
+        }
+    }
+    Ok(text)
+}
+
+/// Whether a request for the metrics of replica 2 is answered by them.
+fn is_answered_for_2(alloc: Global, targets: &mut Fake) -> bool {
+    match metrics_of_2(alloc) {
+        Ok(text) => is_answer(alloc, targets, b"/metrics?replica=2", b"M2", &text),
+        Err(_) => false,
+    }
+}
+
+#[test]
+fn metrics_of_one_replica_are_its_lines_of_all(rt: HostRuntime) {
+    let mut targets = Fake::new(rt.alloc());
+    assert!(rt; is_answered_for_2(rt.alloc(), &mut targets));
 }
 
 const FAULTS: [Case<'static>; 3] = [

@@ -17,7 +17,7 @@ use Rattle.lock_proofs.proofs.HeldLocks.{full_alike}
 use Rattle.instance.specs.Instances.{InstanceView}
 use Rattle.instance.specs.Matching.{MatchesLog}
 use Rattle.instance.specs.Reads.{is_kept_already}
-use Rattle.instance.specs.Laws.{Answers, Judges}
+use Rattle.instance.specs.Laws.{AnswersStatement, Judges}
 use Rattle.ledger_model.proofs.Lists.{any_mapped}
 use Rattle.instance.proofs.KeptPlaces.{taken_place}
 
@@ -61,7 +61,7 @@ module _ (ring : Ring) (row : InstanceView) (log : List Note) (m : MatchesLog ri
       → is_ack (λ a. not (option_map_or (same_value a.value) row.made false)) s ≡ is_not_mine log s
   not_mine_alike s t = let made = m.lock.made in let phase = t.phase in grind (arith, nat_tests, made)
 
-pub answers : Answers
+pub answers : AnswersStatement
 unfolding causes
 answers ring row log s m below =
     let round : Bool = nat_eq (clock_of log) 0 || not (has_place (place_of (clock_of log)) s.statement) in

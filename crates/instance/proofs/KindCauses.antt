@@ -8,7 +8,7 @@ use Rattle.ledger_model.specs.declared.statement.Statement.TheVariants as statem
 use Rattle.ledger_model.specs.Notes.{is_report, is_lock, is_ack}
 use Rattle.ledger_model.specs.Rules.{Ring, first_of, has_owner, is_signed}
 use Rattle.instance.specs.Instances.{InstanceView}
-use Rattle.instance.specs.Reads.{round_causes, row_causes, report_causes, room_causes, lock_causes, ack_causes, cause_told}
+use Rattle.instance.specs.Reads.{round_causes, row_causes, report_causes, room_causes, lock_causes, ack_causes, cause_of_fault}
 use Rattle.ledger_model.specs.declared.reply.Ignored.TheVariants as cause
 use Rattle.ledger_model.specs.Rounds.{place_of, owner_of, lock_place}
 use Rattle.ledger_model.specs.Validity.{is_quorate, is_supporting}
@@ -50,7 +50,7 @@ module _ (row : InstanceView) (ring : Ring) (c : ℕ) (g : List ℕ) (u : Unit {
 told : (owner signed quorate reports supporting full : Bool) (f : LockFault) → not (not owner) ≡ true
     → Err f ≡ first_of ((not owner, fault.NotOwner) ∷ (not signed, fault.BadSignature) ∷ (not (quorate && reports), fault.BadProof)
     ∷ (not supporting, fault.NotSupporting) ∷ [])
-    → Err (cause_told f) ≡ first_of
+    → Err (cause_of_fault f) ≡ first_of
     ((not signed, cause.BadSignature) ∷ (not (quorate && reports && supporting), cause.BadProof) ∷ (full, cause.TableFull) ∷ [])
 told owner signed quorate reports supporting full f is e = grind arith
 
@@ -58,7 +58,7 @@ told owner signed quorate reports supporting full f is e = grind arith
 pub lock_fault : (row : InstanceView) (ring : Ring) (c : ℕ) (s : Statement) (g : List ℕ) (f : LockFault)
     → IsTrue (is_lock (λ l. true) s) → has_owner row.config s ≡ true
     → Err f ≡ first_of (faults row.config ring (lock_in (record { statement = s; signature = g })))
-    → Err (cause_told f) ≡ first_of (lock_causes row ring c (record { statement = s; signature = g }))
+    → Err (cause_of_fault f) ≡ first_of (lock_causes row ring c (record { statement = s; signature = g }))
 lock_fault row ring c (statement.Lock l) g f lock owner e =
     told (l.signer == owner_of row.config l.phase) (is_signed ring (record { statement = statement.Lock l; signature = g }))
     (is_quorate row.config l) (are_signed ring l.proof) (is_supporting l)

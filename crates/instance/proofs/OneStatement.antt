@@ -21,7 +21,7 @@ use Rattle.ledger_model.specs.Locks.{took, value_read, decided_of, is_full}
 use Rattle.ledger_model.specs.Rules.{Ring, is_signed, with_signature}
 use Rattle.ledger_model.specs.Lawful.{held_locks}
 use Rattle.lock_proofs.specs.LockTables.{SignedLock, as_statement, with_lock, released, has_four_others}
-use Rattle.ledger_model.specs.Spelling.{IsFrameIn, IsSigned}
+use Rattle.ledger_model.specs.Spelling.{IsFrameIn, IsSignedReport}
 use Rattle.tally.specs.Tallies.{Places, all_read, read_of}
 use Rattle.ledger_model.proofs.Lists.{has_right, has_filter_map, same_value-refl, same_value-equal, any_mapped, find_only, none_if_not_some}
 use Rattle.ledger_model.proofs.LockSafety.{has_read, took_tells}
@@ -129,7 +129,7 @@ module _ (ring : Ring) (row : InstanceView) (log : List Note) (m : MatchesLog ri
 
   reads_report : (p : SignedReport) → OnTime now (statement.Report p.report) → p.report.signer < row.config.replicas
       → read_of row.reports p.report.signer ≡ None
-      → p.report.height ≡ row.height → IsTrue (is_signed ring (with_signature p)) → IsSigned row.config.frames p
+      → p.report.height ≡ row.height → IsTrue (is_signed ring (with_signature p)) → IsSignedReport row.config.frames p
       → MatchesLog ring (record row { reports = slice_set row.reports p.report.signer (Some p) }) (more log (Read now (with_signature p)))
   reads_report p t member none height signed spelled =
       let n : Note = Read now (with_signature p) in
@@ -271,7 +271,7 @@ module _ (ring : Ring) (row : InstanceView) (log : List Note) (m : MatchesLog ri
   -- a report
   pub own_report_read : (p : SignedReport) → OnTime c (statement.Report p.report) → p.report.signer ≡ row.id → p.report.height ≡ row.height
       → read_of row.reports p.report.signer ≡ None
-      → IsTrue (is_signed ring (with_signature p)) → IsSigned row.config.frames p
+      → IsTrue (is_signed ring (with_signature p)) → IsSignedReport row.config.frames p
       → MatchesLog ring (with_own (with_signature p) row)
       (log ++ OwnStatement c (statement.Report p.report) ∷ Read c (with_signature p) ∷ [])
   own_report_read p t own height none signed spelled =

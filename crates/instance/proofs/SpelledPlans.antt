@@ -8,7 +8,7 @@ use Rattle.ledger_model.proofs.VersionLaws.{value_within}
 use Rattle.ledger_model.specs.Notes.{Has}
 use Rattle.phase_core.specs.Choices.{chosen}
 use Rattle.tally.specs.Readings.{reports_of}
-use Rattle.ledger_model.specs.Spelling.{IsSigned, IsPlace, IsStatement}
+use Rattle.ledger_model.specs.Spelling.{IsSignedReport, IsPlace, IsStatement}
 use Rattle.ledger_model.proofs.Lists.{each_has, flat_map_has, has_cases, each_from}
 use Rattle.phase_core.proofs.Choosing.{chosen_named, chosen_found}
 use Rattle.std.proofs.lemmas.Bool.{cases_Bool}
@@ -66,7 +66,7 @@ module _ (row : InstanceView) (h : IsSpelled row) (member : row.id < row.config.
         place = place;
         value = chosen_spelled row.config (reports_of (all_read row.reports)) row.proper.own h.own (each_spelled h) v is;
         count = (omega arith, omega arith);
-        each = each_from (IsSigned row.config.frames) (own_lock row k v).proof
+        each = each_from (IsSignedReport row.config.frames) (own_lock row k v).proof
             (λ s has. (h.reports s.report.signer s (in_proof row h places k v s has).0).spelled);
         signers = ascends_higher 0 row.config.replicas 256 (signers_of (own_lock row k v).proof) (omega arith)
             (signers_within row h places k v);

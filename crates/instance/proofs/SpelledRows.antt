@@ -11,7 +11,7 @@ use Rattle.ledger_model.specs.Versions.{reads}
 use Rattle.ledger_model.specs.declared.version.Version.{Version}
 use Rattle.ledger_model.proofs.VersionLaws.{value_within}
 use Rattle.ledger_model.specs.Notes.{Has, clock_of, is_lock}
-use Rattle.ledger_model.specs.Spelling.{IsValueList, IsReport, IsFrameIn, IsSigned}
+use Rattle.ledger_model.specs.Spelling.{IsValueList, IsReport, IsFrameIn, IsSignedReport}
 use Rattle.lock_proofs.specs.LockTables.{SignedLock, with_lock, has_four_others, released, ends_hold}
 use Rattle.ledger_model.specs.Proper.{listed_by_other, cut}
 use Rattle.proper_sets.specs.Propriety.{ProperSet, absorbed, is_named_by, named_values}
@@ -147,14 +147,14 @@ module _ {row : InstanceView} (h : IsSpelled row) where
       record { heights = h.heights; own = h.own; proper = h.proper; some = h.some; locked = locked; taken = taken; reports = reports }
 
   -- a report more, at its signer's place
-  with_report : (r : ℕ) (s : SignedReport) → s.report.signer ≡ r → IsSigned row.config.frames s
+  with_report : (r : ℕ) (s : SignedReport) → s.report.signer ≡ r → IsSignedReport row.config.frames s
       → (q : ℕ) (x : SignedReport) → ((q ≡ r) × (s ≡ x)) ⊎ (read_of row.reports q ≡ Some x) → IsKeptReport row.config.frames q x
   with_report r s signer spelled q x (inl new) = subst (IsKeptReport row.config.frames q) new.1
       (record { of_signer = signer ∙ sym new.0; spelled = spelled })
   with_report r s signer spelled q x (inr old) = h.reports q x old
 
   -- a report is kept
-  pub keeps_report : (r : ℕ) (s : SignedReport) (reports : Places SignedReport) → s.report.signer ≡ r → IsSigned row.config.frames s
+  pub keeps_report : (r : ℕ) (s : SignedReport) (reports : Places SignedReport) → s.report.signer ≡ r → IsSignedReport row.config.frames s
       → reports ≡ added row.reports r s
       → IsSpelled (record row { reports = reports })
   keeps_report r s reports signer spelled is =
@@ -226,7 +226,7 @@ module _ {ring : Ring} {row : InstanceView} (h : IsSound ring row) where
   absorbs_soundly = record { spelled = keeps_proper h.spelled _ _ (absorbs h.spelled); held = h.held }
 
   -- a report is kept, a lock is taken, locks are released
-  pub sound_report : (p : SignedReport) → IsSigned row.config.frames p
+  pub sound_report : (p : SignedReport) → IsSignedReport row.config.frames p
       → IsSound ring (record row { reports = slice_set row.reports p.report.signer (Some p) })
   sound_report p spelled = record {
     spelled = spelled_with h.spelled h.spelled.locked h.spelled.taken

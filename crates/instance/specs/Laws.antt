@@ -30,8 +30,8 @@ Opens =
     → MatchesLog ring (opened_row config id height own) (log ++ Proposed own ∷ [])
 
 -- the answer to a statement is the one by the log
-abbrev pub Answers : Type 0
-Answers =
+abbrev pub AnswersStatement : Type 0
+AnswersStatement =
     (ring : Ring) (row : InstanceView) (log : List Note) (s : SignedStatement)
     → MatchesLog ring row log → signer_of s.statement < row.config.replicas
     → first_of (row_causes row ring (clock_of log) s) ≡ answer_to row.config ring log s

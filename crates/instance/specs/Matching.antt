@@ -20,7 +20,7 @@ use Rattle.proper_sets.specs.Propriety.{ProperSet}
 use Rattle.tally.specs.Readings.{reports_of}
 use Rattle.tally.specs.Tallies.{Places, all_read, read_of}
 use Rattle.lock_proofs.specs.LockTables.{SignedLock, as_statement}
-use Rattle.ledger_model.specs.Spelling.{IsFrameIn, IsSigned, IsValueList}
+use Rattle.ledger_model.specs.Spelling.{IsFrameIn, IsSignedReport, IsValueList}
 use Rattle.lock_proofs.specs.Tables.{values_of}
 use Rattle.proper_sets.specs.Laws.{proper_at}
 use Rattle.lock_proofs.specs.Laws.{IsTimely}
@@ -37,7 +37,7 @@ pub record IsKept (version : Version) (ring : Ring) (height : ℕ) (log : List N
   pub of_phase : s.report.phase ≡ k
   pub of_signer : s.report.signer ≡ r
   pub signed : IsTrue (is_signed ring (with_signature s))
-  pub spelled : IsSigned version s
+  pub spelled : IsSignedReport version s
   pub read : Has log (Read (round_at report_place k) (with_signature s))
 
 -- the stored reports are those that were read in phase k, each at its signer's place
@@ -63,7 +63,7 @@ pub record AcksMatch (replicas : ℕ) (log : List Note) (k : ℕ) (places : Plac
 -- the report that is stored for replica r is that replica's, and can be encoded with its signature
 pub record IsKeptReport (version : Version) (r : ℕ) (s : SignedReport) : Type 0 where
   pub of_signer : s.report.signer ≡ r
-  pub spelled : IsSigned version s
+  pub spelled : IsSignedReport version s
 
 -- the proper values can be encoded in a statement of this version
 pub record IsSpelledSet (version : Version) (proper : ProperSet) : Type 0 where

@@ -100,11 +100,11 @@ ack_causes row ring s =
     ∷ []
 
 -- the cause with which a lock with this fault is ignored
-abbrev pub cause_told : LockFault → Ignored
-cause_told fault.NotOwner = cause.NotOwner
-cause_told fault.BadSignature = cause.BadSignature
-cause_told fault.BadProof = cause.BadProof
-cause_told fault.NotSupporting = cause.BadProof
+abbrev pub cause_of_fault : LockFault → Ignored
+cause_of_fault fault.NotOwner = cause.NotOwner
+cause_of_fault fault.BadSignature = cause.BadSignature
+cause_of_fault fault.BadProof = cause.BadProof
+cause_of_fault fault.NotSupporting = cause.BadProof
 
 -- both instances are of the same replica at the same height
 pub record IsSameHeight (old new : InstanceView) : Type 0 where

@@ -2,7 +2,7 @@
 ghost use Rattle.std.specs.Prelude.{◌≡◌, ◌≤◌, true, IsTrue};
 ghost use Rattle.ledger_model.specs.Notes.{is_ack};
 ghost use Rattle.ledger_model.specs.Rules.{has_owner};
-ghost use Rattle.instance.specs.Reads.{cause_told};
+ghost use Rattle.instance.specs.Reads.{cause_of_fault};
 ghost use Rattle.ledger_model.specs.Limits.{last_round};
 
 use crate::height::Instance;
@@ -28,7 +28,7 @@ fn has_owner(config: &Config, statement: &Statement) -> bool
 
 /// Why a lock that isn't valid is ignored.
 fn cause_of(fault: LockFault) -> Ignored
-    ensures { result ≡ cause_told fault }
+    ensures { result ≡ cause_of_fault fault }
 {
     match fault {
         LockFault::NotOwner => Ignored::NotOwner,
@@ -306,7 +306,7 @@ impl Instance {
         self.read_with(alloc, &mut checks, frame, clock)
     }
 
-    /// Does what [`Instance::read`] does, under the keys of whoever checks signatures.
+    /// Does what [`Instance::read`] does, under the keys of the caller that checks signatures.
     pub fn read_with<C: CheckSignatures>(
         &mut self,
         alloc: Global,

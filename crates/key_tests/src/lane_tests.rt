@@ -12,6 +12,11 @@ fn message(lane: u8) -> [u8; 55] {
     message
 }
 
+/// The messages of all eight lanes.
+fn messages() -> [[u8; 55]; 8] {
+    [0, 1, 2, 3, 4, 5, 6, 7].map(message)
+}
+
 /// The SHA-256 digests of those messages.
 const WANTED: [[u8; 32]; 8] = [
     [
@@ -58,16 +63,7 @@ const WANTED: [[u8; 32]; 8] = [
 
 #[test]
 fn digests_side_by_side(rt: HostRuntime) {
-    let messages = [
-        message(0),
-        message(1),
-        message(2),
-        message(3),
-        message(4),
-        message(5),
-        message(6),
-        message(7),
-    ];
+    let messages = messages();
     let digests = digest_each(&messages);
     for lane in 0..8 {
         assert!(rt; digests[lane] == WANTED[lane], "{lane}");
@@ -83,16 +79,7 @@ const AFTER_TURNS: [u8; 32] = [
 
 #[test]
 fn digests_in_turns(rt: HostRuntime) {
-    let mut messages = [
-        message(0),
-        message(1),
-        message(2),
-        message(3),
-        message(4),
-        message(5),
-        message(6),
-        message(7),
-    ];
+    let mut messages = messages();
     take_turns(&mut messages, 0);
     assert!(rt; messages[3] == message(3));
     take_turns(&mut messages, 299);

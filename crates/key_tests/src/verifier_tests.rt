@@ -1,4 +1,4 @@
-//! A verifier answers from memory what it was asked or told before.
+//! A verifier answers from memory what it checked or took in before.
 
 use super::vectors::{IDENTIFIER, MESSAGE, SEED};
 use bytes::Bytes;

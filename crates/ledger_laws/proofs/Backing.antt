@@ -196,7 +196,7 @@ module _ (config : Config) (ring : Ring) (correct : List ℕ) where
     reports = λ l p is has. backed_later front a (statement.Report p.report) (b.reports l p is has);
   }
 
-  -- what an entry notes stands in the log after it
+  -- what an entry notes is in the log after it
   pub noted : (front : List Added) (a : Added) (h : ℕ) → is_correct (histories_at correct front) a.replica ≡ true → (n : Note)
       → Has (notes_of config a.replica h (log_of config a.replica h (entries_at front a.replica)) a.entry.event a.entry.reply) n
       → Has (log_in config (histories_at correct (front ++ a ∷ [])) h a.replica) n

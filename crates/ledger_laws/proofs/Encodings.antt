@@ -1,7 +1,7 @@
 -- Statements that were read are equal if their encodings are, and their heights and phases fit four bytes. The law
 -- `OneStatement` presumes statements of bytes; here the frames that they were read from may contain any numbers.
-use Rattle.std.proofs.Common.{◌≡◌, ℕ, zero, suc, ◌^◌, ◌<◌, ◌≤◌, Bool, true, false, ◌&&◌, cond, List, [], ◌∷◌, ◌++◌, length, take, drop}
-use Rattle.std.proofs.Common.{Option, Some, None, refl, sym, ap, subst, ◌∙◌, append_assoc, arith, leb, eqb}
+use Rattle.std.proofs.Common.{◌≡◌, ℕ, zero, suc, ◌^◌, ◌<◌, ◌≤◌, Bool, true, false, cond, List, [], ◌∷◌, ◌++◌, length, take, drop}
+use Rattle.std.proofs.Common.{Some, refl, sym, ap, subst, ◌∙◌, append_assoc, arith, leb, eqb}
 use Rattle.std.specs.List.{flat_map, AllByRecursion}
 use Rattle.std.specs.Int.{w16, w32, to_be_bytes}
 use Rattle.std.proofs.lemmas.Bool.{leb-true}
@@ -15,17 +15,17 @@ use Rattle.ledger_model.specs.declared.statement.Statement.{Statement}
 use Rattle.ledger_model.specs.declared.statement.Statement.TheVariants as statement
 use Rattle.ledger_model.specs.Values.{value_bytes}
 use Rattle.ledger_model.specs.Order.{tx_bytes}
-use Rattle.ledger_model.specs.Validity.{ascends_within, signers_of}
 use Rattle.ledger_model.specs.Spelling.{list_bytes, report_bytes, signature_bytes, signed_bytes, lock_bytes, ack_bytes, statement_bytes}
-use Rattle.ledger_model.specs.Reading.{◌>>=◌, only_if, guarded, bytes_at, byte_at, number_at, signature_at, place_at, value_at, report_at}
-use Rattle.ledger_model.specs.Reading.{signed_at, proof_at, lock_at, ack_at, statement_at, body_reading}
-use Rattle.ledger_model.specs.Reading.{reading, reading_in, report_version, as_report, as_lock, as_ack}
+use Rattle.ledger_model.specs.Reading.{◌>>=◌, guarded, bytes_at, number_at, signature_at}
+use Rattle.ledger_model.specs.Reading.{signed_at, proof_at, lock_at, statement_at, body_reading}
+use Rattle.ledger_model.specs.Reading.{reading, reading_in}
 use Rattle.ledger_model.specs.Limits.{max_signature_len}
 use Rattle.ledger_model.specs.Versions.{first_byte}
 use Rattle.ledger_model.specs.declared.version.Version.{Version}
 use Rattle.ledger_model.specs.declared.version.Version.TheVariants.{One, Two}
 use Rattle.ledger_model.proofs.FrameReading.{body_parts}
-use Rattle.ledger_model.proofs.Readers.{bind_some, bind_then, only_if-some, guarded-some, some_is, read_once, wide16, wide32, number_reader}
+use Rattle.ledger_model.proofs.ReadingSteps.{signed_steps, lock_steps, statement_then}
+use Rattle.ledger_model.proofs.Readers.{bind_some, only_if-some, guarded-some, some_is, read_once, wide16, wide32, number_reader}
 
 -- ---- encodings of which none is a proper prefix of another
 
@@ -120,7 +120,7 @@ FitsPlace height phase = (height < 2 ^ 32) × (phase < 2 ^ 32)
 abbrev pub FitsReport : Report → Type 0
 FitsReport r = FitsPlace r.height r.phase
 
--- a first byte tells the version and the kind
+-- a first byte encodes the version and the kind
 versions_once : (v w : Version) (kind : ℕ) → first_byte v kind ≡ first_byte w kind → v ≡ w
 versions_once One One kind e = refl
 versions_once One Two kind e = absurd (omega (arith, e))
@@ -284,21 +284,9 @@ short_signature bytes signature rest e =
 
 short_signed : (version : Version) (bytes : List ℕ) (s : SignedReport) (rest : List ℕ) → signed_at version bytes ≡ Some (s, rest)
     → IsShort s.signature
-unfolding signed_at
 short_signed version bytes s rest e =
-    bind_then (byte_at bytes)
-    (λ first. report_version version first.0 >>= λ own. report_at own first.1 >>= λ report. signature_at report.1 >>= λ signature. Some
-    (record { report = report.0; signature = signature.0 }, signature.1)) (s, rest) e (λ first first_is after_first.
-    bind_then (report_version version first.0) (λ own. report_at own first.1 >>= λ report. signature_at report.1 >>= λ signature. Some
-    (record { report = report.0; signature = signature.0 }, signature.1)) (s, rest) after_first (λ own own_is after_own.
-    bind_then (report_at own first.1)
-    (λ report. signature_at report.1 >>= λ signature. Some (record { report = report.0; signature = signature.0 }, signature.1))
-    (s, rest) after_own (λ report report_is after_report.
-    bind_then (signature_at report.1) (λ signature. Some (record { report = report.0; signature = signature.0 }, signature.1)) (s, rest)
-    after_report (λ signature signature_is after_signature.
-    let made : SignedReport × List ℕ = (record { report = report.0; signature = signature.0 }, signature.1) in
-    subst (λ (q : SignedReport × List ℕ). IsShort q.0.signature) (some_is made (s, rest) after_signature)
-    (short_signature report.1 signature.0 signature.1 signature_is)))))
+    let t = signed_steps version bytes s rest e in
+    short_signature t.after_report s.signature rest t.signature_is
 
 short_proof : (version : Version) (n : ℕ) (bytes : List ℕ) (proof : List SignedReport) (rest : List ℕ)
     → proof_at version n bytes ≡ Some (proof, rest)
@@ -317,117 +305,15 @@ short_proof version (suc n) bytes proof rest e =
 
 short_lock : (version : Version) (bytes : List ℕ) (l : Lock) (rest : List ℕ) → lock_at version bytes ≡ Some (l, rest)
     → HasShortProof (statement.Lock l)
-unfolding lock_at
 short_lock version bytes l rest e =
-    bind_then (place_at bytes) (λ place. value_at version place.1 >>= λ value. byte_at value.1 >>= λ count. guarded
-    (leb 3 count.0 && leb count.0 12) (proof_at version count.0 count.1) >>= λ reports. only_if
-    (ascends_within 0 256 (signers_of reports.0)) (
-      record {
-        version = version;
-        height = place.0.height;
-        phase = place.0.phase;
-        signer = place.0.signer;
-        value = value.0;
-        proof =
-            reports.0;
-      },
-      reports.1,
-    )) (l, rest) e (λ place place_is after_place.
-    bind_then (value_at version place.1) (λ value. byte_at value.1 >>= λ count. guarded (leb 3 count.0 && leb count.0 12)
-    (proof_at version count.0 count.1) >>= λ reports. only_if (ascends_within 0 256 (signers_of reports.0)) (
-      record {
-        version = version;
-        height = place.0.height;
-        phase = place.0.phase;
-        signer = place.0.signer;
-        value = value.0;
-        proof =
-            reports.0;
-      },
-      reports.1,
-    )) (l, rest) after_place (λ value value_is after_value.
-    bind_then (byte_at value.1) (λ count. guarded (leb 3 count.0 && leb count.0 12) (proof_at version count.0 count.1) >>= λ reports.
-    only_if
-    (ascends_within 0 256 (signers_of reports.0)) (
-      record {
-        version = version;
-        height = place.0.height;
-        phase = place.0.phase;
-        signer = place.0.signer;
-        value = value.0;
-        proof =
-            reports.0;
-      },
-      reports.1,
-    )) (l, rest) after_value (λ count count_is after_count.
-    bind_then (guarded (leb 3 count.0 && leb count.0 12) (proof_at version count.0 count.1))
-    (λ reports. only_if (ascends_within 0 256 (signers_of reports.0)) (
-      record {
-        version = version;
-        height = place.0.height;
-        phase = place.0.phase;
-        signer = place.0.signer;
-        value = value.0;
-        proof =
-            reports.0;
-      },
-      reports.1,
-    )) (l, rest) after_count (λ reports reports_is after_reports.
-    let g = guarded-some (leb 3 count.0 && leb count.0 12) (proof_at version count.0 count.1) reports reports_is in
-    let made : Lock × List ℕ = (
-      record {
-        version = version;
-        height = place.0.height;
-        phase = place.0.phase;
-        signer = place.0.signer;
-        value = value.0;
-        proof =
-            reports.0;
-      },
-      reports.1,
-    ) in
-    let o = only_if-some (ascends_within 0 256 (signers_of reports.0)) made (l, rest) after_reports in
-    subst (λ (q : Lock × List ℕ). HasShortProof (statement.Lock q.0)) o.1 (short_proof version count.0 count.1 reports.0 reports.1 g.1)))))
-
-short_as_report : (version : Version) (bytes : List ℕ) (s : Statement) (rest : List ℕ) → as_report version bytes ≡ Some (s, rest)
-    → HasShortProof s
-short_as_report version bytes s rest e =
-    let a = bind_some (report_at version bytes) (λ r. Some (statement.Report r.0, r.1)) (s, rest) e in
-    subst (λ (q : Statement × List ℕ). HasShortProof q.0) (some_is (statement.Report a.0.0, a.0.1) (s, rest) a.2) tt
-
-short_as_lock : (version : Version) (bytes : List ℕ) (s : Statement) (rest : List ℕ) → as_lock version bytes ≡ Some (s, rest)
-    → HasShortProof s
-short_as_lock version bytes s rest e =
-    let a = bind_some (lock_at version bytes) (λ l. Some (statement.Lock l.0, l.1)) (s, rest) e in
-    subst (λ (q : Statement × List ℕ). HasShortProof q.0) (some_is (statement.Lock a.0.0, a.0.1) (s, rest) a.2)
-    (short_lock version bytes a.0.0 a.0.1 a.1)
-
-short_as_ack : (version : Version) (bytes : List ℕ) (s : Statement) (rest : List ℕ) → as_ack version bytes ≡ Some (s, rest)
-    → HasShortProof s
-short_as_ack version bytes s rest e =
-    let a = bind_some (ack_at version bytes) (λ a. Some (statement.Ack a.0, a.1)) (s, rest) e in
-    subst (λ (q : Statement × List ℕ). HasShortProof q.0) (some_is (statement.Ack a.0.0, a.0.1) (s, rest) a.2) tt
-
--- the tests ask whether the first byte is 01, 02, 03, 11, 12, 13
-short_kind : (bytes : List ℕ) (s : Statement) (rest : List ℕ) (a b c d e f : Bool)
-    → cond a (as_report One bytes) (cond b (as_lock One bytes) (cond c (as_ack One bytes)
-    (cond d (as_report Two bytes) (cond e (as_lock Two bytes) (cond f (as_ack Two bytes) None))))) ≡ Some (s, rest)
-    → HasShortProof s
-short_kind bytes s rest true b c d e f is = short_as_report One bytes s rest is
-short_kind bytes s rest false true c d e f is = short_as_lock One bytes s rest is
-short_kind bytes s rest false false true d e f is = short_as_ack One bytes s rest is
-short_kind bytes s rest false false false true e f is = short_as_report Two bytes s rest is
-short_kind bytes s rest false false false false true f is = short_as_lock Two bytes s rest is
-short_kind bytes s rest false false false false false true is = short_as_ack Two bytes s rest is
-short_kind bytes s rest false false false false false false is = absurd cc
+    let s = lock_steps version bytes l rest e in
+    short_proof l.version s.count s.after_count l.proof rest s.proof_is
 
 short_statement : (bytes : List ℕ) (s : Statement) (rest : List ℕ) → statement_at bytes ≡ Some (s, rest) → HasShortProof s
-unfolding statement_at
 short_statement bytes s rest e =
-    let a = bind_some (byte_at bytes) (λ first. cond (eqb first.0 1) (as_report One first.1) (cond (eqb first.0 2) (as_lock One first.1)
-    (cond (eqb first.0 3) (as_ack One first.1) (cond (eqb first.0 17) (as_report Two first.1) (cond (eqb first.0 18) (as_lock Two first.1)
-    (cond (eqb first.0 19) (as_ack Two first.1) None)))))) (s, rest) e in
-    short_kind a.0.1 s rest (eqb a.0.0 1) (eqb a.0.0 2) (eqb a.0.0 3) (eqb a.0.0 17) (eqb a.0.0 18) (eqb a.0.0 19) a.2
+    statement_then bytes s rest (λ k. subst HasShortProof k.statement_is tt)
+    (λ k. subst HasShortProof k.statement_is (short_lock k.version k.after_first k.content rest k.content_is))
+    (λ k. subst HasShortProof k.statement_is tt) e
 
 -- whatever numbers a frame contains, the signatures that are read from it are short
 pub read_short : (bytes : List ℕ) (s : SignedStatement) → reading bytes ≡ Some s → HasShortProof s.statement

@@ -14,7 +14,7 @@ use Rattle.ledger_model.proofs.Staying.{all_decided, executed-append, length-com
 use Rattle.ledger_model.proofs.Floors.{floor_of-snoc, floor_cases, each_entry, retired_below}
 use Rattle.ledger_laws.specs.Floors.{FloorRises, FloorIsTheLeast, FloorIsCommitted, ClosedForGood}
 
--- what comes after the beginning of a lawful history is lawful after it
+-- what comes after a prefix of a lawful history is lawful after it
 follows_rest : (config : Config) (ring : Ring) (id : ℕ) (front xs ys : List Entry) → FollowsFrom config ring id front (xs ++ ys)
     → FollowsFrom config ring id (front ++ xs) ys
 unfolding FollowsFrom

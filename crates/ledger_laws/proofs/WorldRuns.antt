@@ -35,7 +35,7 @@ use Rattle.ledger_model.specs.Limits.{max_history_len}
 abbrev pub replicas_of : List Added → List ℕ
 replicas_of timeline = map (λ (a : Added). a.replica) timeline
 
--- the world that a timeline tells of
+-- the world that a timeline leads to
 abbrev pub world_of : List ℕ → List Added → World
 world_of correct timeline = record { histories = histories_at correct timeline; order = replicas_of timeline }
 

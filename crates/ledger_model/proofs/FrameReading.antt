@@ -268,7 +268,7 @@ malformed_begins_no_frame version rest bad s more is e = let f =
     both : {A : Type 0} {x : A} → None ≡ Some x → ⊥
     both g = cc
 
--- a stream splits in one way, where what is behind its frames begins with none
+-- a stream splits in one way, where what is after its frames begins with none
 pub frames_once : (version : Version) (frames others : List SignedStatement) (bytes rest more : List ℕ) → Frames version bytes frames rest
     → Frames version bytes others more
     → BeginsNoFrame version rest → BeginsNoFrame version more → (frames ≡ others) × (rest ≡ more)

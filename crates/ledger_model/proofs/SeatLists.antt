@@ -16,7 +16,7 @@ module _ {A : Type 0} where
   from_elem (x ∷ xs) zero a e = ap Some (some-injective x a e)
   from_elem (x ∷ xs) (suc j) a e = from_elem xs j a e
 
-  -- an element of a list with one more stands in the list, or is the last
+  -- an element of a list with one more is in the list, or is the last
   pub at_place : (l : List A) (a b : A) (j : ℕ) → get_elem? (l ++ a ∷ []) j ≡ some b → (get_elem? l j ≡ some b) ⊎ ((j ≡ length l) × (a ≡ b))
   at_place [] a b zero e = inr (refl, some-injective a b e)
   at_place [] a b (suc j) e = absurd (some-ne-none b (sym e))
@@ -27,7 +27,7 @@ module _ {A : Type 0} where
 abbrev pub Each : {A : Type 0} → (ℕ → A → Type 0) → List A → Type 0
 Each {A} F l = (j : ℕ) (a : A) → get_elem? l j ≡ some a → F j a
 
--- it holds of each where one element is set, if it holds of that one and of the others: `at_set` tells these apart
+-- it holds of each where one element is set, if it holds of that one and of the others: `at_set` separates these
 pub each_set_by : {A : Type 0} (F : ℕ → A → Type 0) (l : List A) (i : ℕ) (w : A)
     → ((j : ℕ) (u : A) → get_elem? (set l i w) j ≡ some u → ((j ≡ i) × (w ≡ u)) ⊎ ((j ≢ i) × (get_elem? l j ≡ some u)))
     → F i w → ((j : ℕ) (u : A) → j ≢ i → get_elem? l j ≡ some u → F j u) → Each F (set l i w)

@@ -11,15 +11,15 @@ use Rattle.ledger_model.specs.declared.statement.SignedReport.{SignedReport}
 use Rattle.ledger_model.specs.declared.statement.Statement.{Statement}
 use Rattle.ledger_model.specs.declared.statement.Statement.TheVariants as statement
 use Rattle.ledger_model.specs.Values.{value_bytes}
-use Rattle.ledger_model.specs.Validity.{ascends_within, signers_of}
-use Rattle.ledger_model.specs.Spelling.{IsPlace, IsReport, IsSignature, IsSigned, IsLock, IsAck, IsStatement, list_bytes, report_bytes}
-use Rattle.ledger_model.specs.Spelling.{signature_bytes, signed_bytes, lock_bytes, ack_bytes, statement_bytes}
+use Rattle.ledger_model.specs.Spelling.{IsPlace, IsReport, IsSignature, IsSignedReport, IsLock, IsAck, IsStatement, list_bytes}
+use Rattle.ledger_model.specs.Spelling.{signature_bytes, signed_bytes, statement_bytes}
 use Rattle.ledger_model.specs.GrammarLaws.{IsBytes}
 use Rattle.ledger_model.specs.Reading.{◌>>=◌, only_if, guarded, bytes_at, byte_at, number_at, signature_at, positive_at, flag_at, Header}
-use Rattle.ledger_model.specs.Reading.{place_at, value_at, list_at, report_at, signed_at, proof_at, lock_at, ack_at, statement_at}
-use Rattle.ledger_model.proofs.Readers.{bind_some, bind_then, only_if-some, guarded-some, some_is, each_byte, IsReader, many_takes}
+use Rattle.ledger_model.specs.Reading.{place_at, report_at, signed_at, proof_at, lock_at, ack_at, statement_at}
+use Rattle.ledger_model.proofs.Readers.{bind_some, only_if-some, guarded-some, some_is, each_byte, IsReader, many_takes}
 use Rattle.ledger_model.proofs.Readers.{many_again, IsBytes-tail, byte_takes, bytes_take, bytes_again, wide16, wide32, number_reader}
 use Rattle.ledger_model.proofs.ValueReading.{value_reader, list_reader}
+use Rattle.ledger_model.proofs.ReadingSteps.{header_of, report_steps, signed_steps, lock_steps, ack_steps, KindSteps, statement_then}
 use Rattle.ledger_model.specs.Limits.{max_signature_len}
 use Rattle.ledger_model.specs.Versions.{reads, first_byte}
 use Rattle.ledger_model.specs.declared.version.Version.{Version}
@@ -149,7 +149,7 @@ place_reader = record { takes = place_takes; again = place_again }
 
 -- ---- reports
 
--- what stands behind a report's first byte
+-- what follows a report's first byte
 abbrev pub report_tail : Report → List ℕ
 report_tail r =
     to_be_bytes w32 r.height ++ to_be_bytes w32 r.phase ++ (r.signer ∷ cond r.all 1 0 ∷ [])
@@ -166,120 +166,28 @@ IsReportIn version r = (r.version ≡ version) × IsReport r
 pub report_takes : (version : Version) (bytes : List ℕ) (r : Report) (rest : List ℕ) → IsBytes bytes → report_at version bytes
     ≡ Some (r, rest)
     → (bytes ≡ report_tail r ++ rest) × IsReportIn version r × IsBytes rest
-unfolding report_at
 report_takes version bytes r rest fits e =
-    bind_then (place_at bytes) (λ place. flag_at place.1 >>= λ all. value_at version all.1 >>= λ initial. list_at version initial.1 >>= λ
-    proper. guarded
-    (leb 1 (length proper.0)) (list_at version proper.1) >>= λ locked. Some (
-      record {
-        version = version;
-        height = place.0.height;
-        phase = place.0.phase;
-        signer = place.0.signer;
-        all = all.0;
-        initial = initial.0;
-        proper =
-            proper.0;
-        locked = locked.0;
-      },
-      locked.1,
-    )) (r, rest) e (λ place place_is after_place.
-    bind_then (flag_at place.1) (λ all. value_at version all.1 >>= λ initial. list_at version initial.1 >>= λ proper. guarded
-    (leb 1 (length proper.0))
-    (list_at version proper.1) >>= λ locked. Some (
-      record {
-        version = version;
-        height = place.0.height;
-        phase = place.0.phase;
-        signer = place.0.signer;
-        all = all.0;
-        initial = initial.0;
-        proper =
-            proper.0;
-        locked = locked.0;
-      },
-      locked.1,
-    )) (r, rest) after_place (λ all all_is after_all.
-    bind_then (value_at version all.1) (λ initial. list_at version initial.1 >>= λ proper. guarded (leb 1 (length proper.0))
-    (list_at version proper.1) >>=
-    λ locked. Some (
-      record {
-        version = version;
-        height = place.0.height;
-        phase = place.0.phase;
-        signer = place.0.signer;
-        all = all.0;
-        initial =
-            initial.0;
-        proper = proper.0;
-        locked = locked.0;
-      },
-      locked.1,
-    )) (r, rest) after_all (λ initial initial_is after_initial.
-    bind_then (list_at version initial.1) (λ proper. guarded (leb 1 (length proper.0)) (list_at version proper.1) >>= λ locked. Some (
-      record {
-        version = version;
-        height = place.0.height;
-        phase = place.0.phase;
-        signer = place.0.signer;
-        all = all.0;
-        initial = initial.0;
-        proper =
-            proper.0;
-        locked = locked.0;
-      },
-      locked.1,
-    )) (r, rest) after_initial (λ proper proper_is after_proper.
-    bind_then (guarded (leb 1 (length proper.0)) (list_at version proper.1))
-    (λ locked. Some (
-      record {
-        version = version;
-        height = place.0.height;
-        phase = place.0.phase;
-        signer = place.0.signer;
-        all = all.0;
-        initial =
-            initial.0;
-        proper = proper.0;
-        locked = locked.0;
-      },
-      locked.1,
-    )) (r, rest) after_proper (λ locked locked_is after_locked.
-    let g = guarded-some (leb 1 (length proper.0)) (list_at version proper.1) locked locked_is in
-    let a = place_reader.takes bytes place.0 place.1 fits place_is in
-    let b = flag_reader.takes place.1 all.0 all.1 a.2 all_is in
-    let c = (value_reader version).takes all.1 initial.0 initial.1 b.2 initial_is in
-    let d = (list_reader version).takes initial.1 proper.0 proper.1 c.2 proper_is in
-    let f = (list_reader version).takes proper.1 locked.0 locked.1 d.2 g.1 in
-    let made : Report × List ℕ = (
-      record {
-        version = version;
-        height = place.0.height;
-        phase = place.0.phase;
-        signer = place.0.signer;
-        all = all.0;
-        initial =
-            initial.0;
-        proper = proper.0;
-        locked = locked.0;
-      },
-      locked.1,
-    ) in
-    let parts : bytes ≡ report_tail made.0 ++ made.1 =
-    a.0 ∙ ap (λ (t : List ℕ). place_bytes place.0 ++ t)
-    (b.0 ∙ ap (λ (t : List ℕ). flag_bytes all.0 ++ t)
-    (c.0 ∙ ap (λ (t : List ℕ). value_bytes initial.0 ++ t) (d.0 ∙ ap (λ (t : List ℕ). list_bytes proper.0 ++ t) f.0)))
-    ∙ report_regroup (to_be_bytes w32 place.0.height) (to_be_bytes w32 place.0.phase) (value_bytes initial.0) (list_bytes proper.0)
-    (list_bytes locked.0) locked.1 place.0.signer (cond all.0 1 0) in
-    subst (λ (q : Report × List ℕ). (bytes ≡ report_tail q.0 ++ q.1) × IsReportIn version q.0 × IsBytes q.1)
-    (some_is made (r, rest) after_locked)
-    (parts, (refl, record { place = a.1; initial = c.1; proper = d.1; some = leb-true 1 (length proper.0) g.0; locked = f.1 }), f.2))))))
+    let s = report_steps version bytes r rest e in
+    let a = place_reader.takes bytes (header_of r.height r.phase r.signer) s.after_place fits s.place_is in
+    let b = flag_reader.takes s.after_place r.all s.after_flag a.2 s.flag_is in
+    let c = (value_reader r.version).takes s.after_flag r.initial s.after_initial b.2 s.initial_is in
+    let d = (list_reader r.version).takes s.after_initial r.proper s.after_proper c.2 s.proper_is in
+    let f = (list_reader r.version).takes s.after_proper r.locked rest d.2 s.locked_is in
+    let parts : bytes ≡ report_tail r ++ rest =
+    a.0 ∙ ap (λ (t : List ℕ). place_bytes (header_of r.height r.phase r.signer) ++ t)
+    (b.0 ∙ ap (λ (t : List ℕ). flag_bytes r.all ++ t)
+    (c.0 ∙ ap (λ (t : List ℕ). value_bytes r.initial ++ t) (d.0 ∙ ap (λ (t : List ℕ). list_bytes r.proper ++ t) f.0)))
+    ∙ report_regroup (to_be_bytes w32 r.height) (to_be_bytes w32 r.phase) (value_bytes r.initial) (list_bytes r.proper)
+    (list_bytes r.locked) rest r.signer (cond r.all 1 0) in
+    let is : IsReport r =
+    record { place = a.1; initial = c.1; proper = d.1; some = leb-true 1 (length r.proper) s.some; locked = f.1 } in
+    (parts, (s.version_is, is), f.2)
 
 pub report_again : (r : Report) (rest : List ℕ) → IsReport r → report_at r.version (report_tail r ++ rest) ≡ Some (r, rest)
 unfolding report_at
 report_again r rest is =
     let version = r.version in
-    let place : Header = record { height = r.height; phase = r.phase; signer = r.signer } in
+    let place = header_of r.height r.phase r.signer in
     let after_proper = list_bytes r.locked ++ rest in
     let after_initial = list_bytes r.proper ++ after_proper in
     let after_flag = value_bytes r.initial ++ after_initial in
@@ -298,7 +206,7 @@ report_again r rest is =
 
 -- ---- signed reports and proofs
 
--- the first byte of a report in a lock tells its version
+-- the first byte of a report in a lock encodes its version
 report_version-is : (version : Version) (first : ℕ) (own : Version) → report_version version first ≡ Some own
     → (first ≡ first_byte own 1) × (reads version own ≡ true)
 report_version-is version first own e = of_tests (eqb first 1) (eqb first 17) refl refl e
@@ -320,34 +228,21 @@ report_version-again version Two read = rw read refl
 
 pub signed_takes : (version : Version) (bytes : List ℕ) (s : SignedReport) (rest : List ℕ) → IsBytes bytes
     → signed_at version bytes ≡ Some (s, rest)
-    → (bytes ≡ signed_bytes s ++ rest) × IsSigned version s × IsBytes rest
-unfolding signed_at
+    → (bytes ≡ signed_bytes s ++ rest) × IsSignedReport version s × IsBytes rest
 signed_takes version bytes s rest fits e =
-    bind_then (byte_at bytes)
-    (λ first. report_version version first.0 >>= λ own. report_at own first.1 >>= λ report. signature_at report.1 >>= λ signature. Some
-    (record { report = report.0; signature = signature.0 }, signature.1)) (s, rest) e (λ first first_is after_first.
-    bind_then (report_version version first.0) (λ own. report_at own first.1 >>= λ report. signature_at report.1 >>= λ signature. Some
-    (record { report = report.0; signature = signature.0 }, signature.1)) (s, rest) after_first (λ own own_is after_own.
-    bind_then (report_at own first.1)
-    (λ report. signature_at report.1 >>= λ signature. Some (record { report = report.0; signature = signature.0 }, signature.1))
-    (s, rest) after_own (λ report report_is after_report.
-    bind_then (signature_at report.1) (λ signature. Some (record { report = report.0; signature = signature.0 }, signature.1)) (s, rest)
-    after_report (λ signature signature_is after_signature.
-    let a = byte_takes bytes first.0 first.1 fits first_is in
-    let b = report_version-is version first.0 own own_is in
-    let c = report_takes own first.1 report.0 report.1 a.2 report_is in
-    let d = signature_reader.takes report.1 signature.0 signature.1 c.2 signature_is in
-    let made : SignedReport × List ℕ = (record { report = report.0; signature = signature.0 }, signature.1) in
-    let version_is : own ≡ report.0.version = sym c.1.0 in
-    let parts : bytes ≡ signed_bytes made.0 ++ made.1 =
-    a.0 ∙ ap (λ (k : ℕ). k ∷ first.1) (b.0 ∙ ap (λ (v : Version). first_byte v 1) version_is)
-    ∙ ap (λ (t : List ℕ). first_byte report.0.version 1 ∷ t) (c.0 ∙ ap (λ (t : List ℕ). report_tail report.0 ++ t) d.0
-    ∙ sym (append_assoc (report_tail report.0) (signature_bytes signature.0) signature.1)) in
-    subst (λ (q : SignedReport × List ℕ). (bytes ≡ signed_bytes q.0 ++ q.1) × IsSigned version q.0 × IsBytes q.1)
-    (some_is made (s, rest) after_signature)
-    (parts, record { read = subst (λ (v : Version). reads version v ≡ true) version_is b.1; report = c.1.1; signature = d.1 }, d.2)))))
+    let t = signed_steps version bytes s rest e in
+    let a = byte_takes bytes t.first t.after_first fits t.first_is in
+    let b = report_version-is version t.first t.own t.own_is in
+    let c = report_takes t.own t.after_first s.report t.after_report a.2 t.report_is in
+    let d = signature_reader.takes t.after_report s.signature rest c.2 t.signature_is in
+    let version_is : t.own ≡ s.report.version = sym c.1.0 in
+    let parts : bytes ≡ signed_bytes s ++ rest =
+    a.0 ∙ ap (λ (k : ℕ). k ∷ t.after_first) (b.0 ∙ ap (λ (v : Version). first_byte v 1) version_is)
+    ∙ ap (λ (x : List ℕ). first_byte s.report.version 1 ∷ x) (c.0 ∙ ap (λ (x : List ℕ). report_tail s.report ++ x) d.0
+    ∙ sym (append_assoc (report_tail s.report) (signature_bytes s.signature) rest)) in
+    (parts, record { read = subst (λ (v : Version). reads version v ≡ true) version_is b.1; report = c.1.1; signature = d.1 }, d.2)
 
-pub signed_again : (version : Version) (s : SignedReport) (rest : List ℕ) → IsSigned version s
+pub signed_again : (version : Version) (s : SignedReport) (rest : List ℕ) → IsSignedReport version s
     → signed_at version (signed_bytes s ++ rest) ≡ Some (s, rest)
 unfolding signed_at
 signed_again version s rest is =
@@ -360,23 +255,23 @@ signed_again version s rest is =
           is.signature,
     ) refl
 
-pub signed_reader : (version : Version) → IsReader signed_bytes (IsSigned version) (signed_at version)
+pub signed_reader : (version : Version) → IsReader signed_bytes (IsSignedReport version) (signed_at version)
 signed_reader version = record { takes = signed_takes version; again = signed_again version }
 
 pub proof_takes : (version : Version) (n : ℕ) (bytes : List ℕ) (proof : List SignedReport) (rest : List ℕ) → IsBytes bytes
     → proof_at version n bytes ≡ Some (proof, rest)
-    → (bytes ≡ flat_map signed_bytes proof ++ rest) × AllByRecursion (IsSigned version) proof × IsBytes rest × (length proof ≡ n)
+    → (bytes ≡ flat_map signed_bytes proof ++ rest) × AllByRecursion (IsSignedReport version) proof × IsBytes rest × (length proof ≡ n)
 unfolding proof_at
 proof_takes version = many_takes (signed_reader version) (proof_at version) (λ bytes. refl) (λ n bytes. refl)
 
-pub proof_again : (version : Version) (proof : List SignedReport) (rest : List ℕ) → AllByRecursion (IsSigned version) proof
+pub proof_again : (version : Version) (proof : List SignedReport) (rest : List ℕ) → AllByRecursion (IsSignedReport version) proof
     → proof_at version (length proof) (flat_map signed_bytes proof ++ rest) ≡ Some (proof, rest)
 unfolding proof_at
 proof_again version = many_again (signed_reader version) (proof_at version) (λ bytes. refl) (λ n bytes. refl)
 
 -- ---- locks
 
--- what stands behind a lock's first byte
+-- what follows a lock's first byte
 abbrev pub lock_tail : Lock → List ℕ
 lock_tail l =
     to_be_bytes w32 l.height ++ to_be_bytes w32 l.phase ++ (l.signer ∷ []) ++ value_bytes l.value
@@ -388,111 +283,32 @@ lock_regroup h p v f rest s n = simp append_assoc
 
 pub lock_takes : (version : Version) (bytes : List ℕ) (l : Lock) (rest : List ℕ) → IsBytes bytes → lock_at version bytes ≡ Some (l, rest)
     → (bytes ≡ lock_tail l ++ rest) × ((l.version ≡ version) × IsLock l) × IsBytes rest
-unfolding lock_at
 lock_takes version bytes l rest fits e =
-    bind_then (place_at bytes) (λ place. value_at version place.1 >>= λ value. byte_at value.1 >>= λ count. guarded
-    (leb 3 count.0 && leb count.0 12) (proof_at version count.0 count.1) >>= λ reports. only_if
-    (ascends_within 0 256 (signers_of reports.0)) (
-      record {
-        version = version;
-        height = place.0.height;
-        phase = place.0.phase;
-        signer = place.0.signer;
-        value = value.0;
-        proof =
-            reports.0;
-      },
-      reports.1,
-    )) (l, rest) e (λ place place_is after_place.
-    bind_then (value_at version place.1) (λ value. byte_at value.1 >>= λ count. guarded (leb 3 count.0 && leb count.0 12)
-    (proof_at version count.0 count.1) >>= λ reports. only_if (ascends_within 0 256 (signers_of reports.0)) (
-      record {
-        version = version;
-        height = place.0.height;
-        phase = place.0.phase;
-        signer = place.0.signer;
-        value = value.0;
-        proof =
-            reports.0;
-      },
-      reports.1,
-    )) (l, rest) after_place (λ value value_is after_value.
-    bind_then (byte_at value.1) (λ count. guarded (leb 3 count.0 && leb count.0 12) (proof_at version count.0 count.1) >>= λ reports.
-    only_if
-    (ascends_within 0 256 (signers_of reports.0)) (
-      record {
-        version = version;
-        height = place.0.height;
-        phase = place.0.phase;
-        signer = place.0.signer;
-        value = value.0;
-        proof =
-            reports.0;
-      },
-      reports.1,
-    )) (l, rest) after_value (λ count count_is after_count.
-    bind_then (guarded (leb 3 count.0 && leb count.0 12) (proof_at version count.0 count.1))
-    (λ reports. only_if (ascends_within 0 256 (signers_of reports.0)) (
-      record {
-        version = version;
-        height = place.0.height;
-        phase = place.0.phase;
-        signer = place.0.signer;
-        value = value.0;
-        proof =
-            reports.0;
-      },
-      reports.1,
-    )) (l, rest) after_count (λ reports reports_is after_reports.
-    let g = guarded-some (leb 3 count.0 && leb count.0 12) (proof_at version count.0 count.1) reports reports_is in
-    let ends = and_parts (leb 3 count.0) (leb count.0 12) g.0 in
-    let least : 3 ≤ count.0 = leb-true 3 count.0 ends.0 in
-    let most : count.0 ≤ 12 = leb-true count.0 12 ends.1 in
-    let made : Lock × List ℕ = (
-      record {
-        version = version;
-        height = place.0.height;
-        phase = place.0.phase;
-        signer = place.0.signer;
-        value = value.0;
-        proof =
-            reports.0;
-      },
-      reports.1,
-    ) in
-    let o = only_if-some (ascends_within 0 256 (signers_of reports.0)) made (l, rest) after_reports in
-    let a = place_reader.takes bytes place.0 place.1 fits place_is in
-    let b = (value_reader version).takes place.1 value.0 value.1 a.2 value_is in
-    let c = byte_takes value.1 count.0 count.1 b.2 count_is in
-    let d = proof_takes version count.0 count.1 reports.0 reports.1 c.2 g.1 in
-    let len : count.0 ≡ length reports.0 = sym d.3 in
-    let spelled : value.1 ≡ length reports.0 ∷ (flat_map signed_bytes reports.0 ++ reports.1) =
-    c.0 ∙ ap (λ (t : List ℕ). count.0 ∷ t) d.0 ∙ ap (λ (k : ℕ). k ∷ (flat_map signed_bytes reports.0 ++ reports.1)) len in
-    let parts : bytes ≡ lock_tail made.0 ++ made.1 =
-    a.0 ∙ ap (λ (t : List ℕ). place_bytes place.0 ++ t) (b.0 ∙ ap (λ (t : List ℕ). value_bytes value.0 ++ t) spelled)
-    ∙ lock_regroup (to_be_bytes w32 place.0.height) (to_be_bytes w32 place.0.phase) (value_bytes value.0) (flat_map signed_bytes reports.0)
-    reports.1 place.0.signer (length reports.0) in
-    subst (λ (q : Lock × List ℕ). (bytes ≡ lock_tail q.0 ++ q.1) × ((q.0.version ≡ version) × IsLock q.0) × IsBytes q.1) o.1 (
-      parts,
-      (
-        refl,
-        record {
-          place = a.1;
-          value = b.1;
-          count = (subst (λ (k : ℕ). 3 ≤ k) len least, subst (λ (k : ℕ). k ≤ 12) len most);
-          each =
-              d.1;
-          signers = o.0;
-        },
-      ),
-      d.2,
-    )))))
+    let s = lock_steps version bytes l rest e in
+    let ends = and_parts (leb 3 s.count) (leb s.count 12) s.within in
+    let least : 3 ≤ s.count = leb-true 3 s.count ends.0 in
+    let most : s.count ≤ 12 = leb-true s.count 12 ends.1 in
+    let a = place_reader.takes bytes (header_of l.height l.phase l.signer) s.after_place fits s.place_is in
+    let b = (value_reader l.version).takes s.after_place l.value s.after_value a.2 s.value_is in
+    let c = byte_takes s.after_value s.count s.after_count b.2 s.count_is in
+    let d = proof_takes l.version s.count s.after_count l.proof rest c.2 s.proof_is in
+    let len : s.count ≡ length l.proof = sym d.3 in
+    let spelled : s.after_value ≡ length l.proof ∷ (flat_map signed_bytes l.proof ++ rest) =
+    c.0 ∙ ap (λ (t : List ℕ). s.count ∷ t) d.0 ∙ ap (λ (k : ℕ). k ∷ (flat_map signed_bytes l.proof ++ rest)) len in
+    let parts : bytes ≡ lock_tail l ++ rest =
+    a.0 ∙ ap (λ (t : List ℕ). place_bytes (header_of l.height l.phase l.signer) ++ t)
+    (b.0 ∙ ap (λ (t : List ℕ). value_bytes l.value ++ t) spelled)
+    ∙ lock_regroup (to_be_bytes w32 l.height) (to_be_bytes w32 l.phase) (value_bytes l.value) (flat_map signed_bytes l.proof)
+    rest l.signer (length l.proof) in
+    let count : (3 ≤ length l.proof) × (length l.proof ≤ 12) =
+    (subst (λ (k : ℕ). 3 ≤ k) len least, subst (λ (k : ℕ). k ≤ 12) len most) in
+    (parts, (s.version_is, record { place = a.1; value = b.1; count = count; each = d.1; signers = s.ascend }), d.2)
 
 pub lock_again : (l : Lock) (rest : List ℕ) → IsLock l → lock_at l.version (lock_tail l ++ rest) ≡ Some (l, rest)
 unfolding lock_at
 lock_again l rest is =
     let version = l.version in
-    let place : Header = record { height = l.height; phase = l.phase; signer = l.signer } in
+    let place = header_of l.height l.phase l.signer in
     let after_count = flat_map signed_bytes l.proof ++ rest in
     let after_value = length l.proof ∷ after_count in
     let after_place = value_bytes l.value ++ after_value in
@@ -511,7 +327,7 @@ lock_again l rest is =
 
 -- ---- acknowledgements
 
--- what stands behind an acknowledgement's first byte
+-- what follows an acknowledgement's first byte
 abbrev pub ack_tail : Ack → List ℕ
 ack_tail a = to_be_bytes w32 a.height ++ to_be_bytes w32 a.phase ++ (a.signer ∷ []) ++ value_bytes a.value
 
@@ -520,39 +336,20 @@ ack_regroup h p v rest s = simp append_assoc
 
 pub ack_takes : (version : Version) (bytes : List ℕ) (a : Ack) (rest : List ℕ) → IsBytes bytes → ack_at version bytes ≡ Some (a, rest)
     → (bytes ≡ ack_tail a ++ rest) × ((a.version ≡ version) × IsAck a) × IsBytes rest
-unfolding ack_at
-ack_takes version bytes x rest fits e =
-    let a = bind_some (place_at bytes)
-    (λ place. value_at version place.1 >>= λ v. Some
-    (record { version = version; height = place.0.height; phase = place.0.phase; signer = place.0.signer; value = v.0 }, v.1)) (x, rest) e
-    in
-    let b = bind_some (value_at version a.0.1)
-    (λ v. Some (record { version = version; height = a.0.0.height; phase = a.0.0.phase; signer = a.0.0.signer; value = v.0 }, v.1))
-    (x, rest) a.2 in
-    let place = place_reader.takes bytes a.0.0 a.0.1 fits a.1 in
-    let value = (value_reader version).takes a.0.1 b.0.0 b.0.1 place.2 b.1 in
-    let made : Ack × List ℕ = (
-      record {
-        version = version;
-        height = a.0.0.height;
-        phase = a.0.0.phase;
-        signer = a.0.0.signer;
-        value = b.0.0;
-      },
-      b.0.1,
-    ) in
-    let parts : bytes ≡ ack_tail made.0 ++ made.1 =
-    place.0 ∙ ap (λ (t : List ℕ). place_bytes a.0.0 ++ t) value.0
-    ∙ ack_regroup (to_be_bytes w32 a.0.0.height) (to_be_bytes w32 a.0.0.phase) (value_bytes b.0.0) b.0.1 a.0.0.signer in
-    subst (λ (q : Ack × List ℕ). (bytes ≡ ack_tail q.0 ++ q.1) × ((q.0.version ≡ version) × IsAck q.0) × IsBytes q.1)
-    (some_is made (x, rest) b.2)
-    (parts, (refl, record { place = place.1; value = value.1 }), value.2)
+ack_takes version bytes a rest fits e =
+    let s = ack_steps version bytes a rest e in
+    let place = place_reader.takes bytes (header_of a.height a.phase a.signer) s.after_place fits s.place_is in
+    let value = (value_reader a.version).takes s.after_place a.value rest place.2 s.value_is in
+    let parts : bytes ≡ ack_tail a ++ rest =
+    place.0 ∙ ap (λ (t : List ℕ). place_bytes (header_of a.height a.phase a.signer) ++ t) value.0
+    ∙ ack_regroup (to_be_bytes w32 a.height) (to_be_bytes w32 a.phase) (value_bytes a.value) rest a.signer in
+    (parts, (s.version_is, record { place = place.1; value = value.1 }), value.2)
 
 pub ack_again : (a : Ack) (rest : List ℕ) → IsAck a → ack_at a.version (ack_tail a ++ rest) ≡ Some (a, rest)
 unfolding ack_at
 ack_again a rest is =
     let version = a.version in
-    let place : Header = record { height = a.height; phase = a.phase; signer = a.signer } in
+    let place = header_of a.height a.phase a.signer in
     ap (ack_at version) (sym (ack_regroup (to_be_bytes w32 a.height) (to_be_bytes w32 a.phase) (value_bytes a.value) rest a.signer))
     ∙ rw (place_reader.again place (value_bytes a.value ++ rest) is.place, (value_reader version).again a.value rest is.value) refl
 
@@ -562,76 +359,34 @@ ack_again a rest is =
 abbrev IsTaken : List ℕ → Statement → List ℕ → Type 0
 IsTaken bytes s rest = (bytes ≡ statement_bytes s ++ rest) × IsStatement s × IsBytes rest
 
-report_taken : (version : Version) (first : ℕ) (bytes : List ℕ) (s : Statement) (rest : List ℕ) → first ≡ first_byte version 1
-    → IsBytes bytes
-    → as_report version bytes ≡ Some (s, rest) → IsTaken (first ∷ bytes) s rest
-unfolding statement_bytes
-report_taken version first bytes s rest is fits e =
-    let a = bind_some (report_at version bytes) (λ r. Some (statement.Report r.0, r.1)) (s, rest) e in
-    let t = report_takes version bytes a.0.0 a.0.1 fits a.1 in
-    let parts : first ∷ bytes ≡ report_bytes a.0.0 ++ a.0.1 =
-    ap (λ (k : ℕ). k ∷ bytes) (is ∙ ap (λ (v : Version). first_byte v 1) (sym t.1.0))
-    ∙ ap (λ (x : List ℕ). first_byte a.0.0.version 1 ∷ x) t.0 in
-    subst (λ (q : Statement × List ℕ). IsTaken (first ∷ bytes) q.0 q.1) (some_is (statement.Report a.0.0, a.0.1) (s, rest) a.2)
-    (parts, t.1.1, t.2)
-
-lock_taken : (version : Version) (first : ℕ) (bytes : List ℕ) (s : Statement) (rest : List ℕ) → first ≡ first_byte version 2 → IsBytes bytes
-    → as_lock version bytes ≡ Some (s, rest) → IsTaken (first ∷ bytes) s rest
-unfolding statement_bytes
-lock_taken version first bytes s rest is fits e =
-    let a = bind_some (lock_at version bytes) (λ l. Some (statement.Lock l.0, l.1)) (s, rest) e in
-    let t = lock_takes version bytes a.0.0 a.0.1 fits a.1 in
-    let parts : first ∷ bytes ≡ lock_bytes a.0.0 ++ a.0.1 =
-    ap (λ (k : ℕ). k ∷ bytes) (is ∙ ap (λ (v : Version). first_byte v 2) (sym t.1.0))
-    ∙ ap (λ (x : List ℕ). first_byte a.0.0.version 2 ∷ x) t.0 in
-    subst (λ (q : Statement × List ℕ). IsTaken (first ∷ bytes) q.0 q.1) (some_is (statement.Lock a.0.0, a.0.1) (s, rest) a.2)
-    (parts, t.1.1, t.2)
-
-ack_taken : (version : Version) (first : ℕ) (bytes : List ℕ) (s : Statement) (rest : List ℕ) → first ≡ first_byte version 3 → IsBytes bytes
-    → as_ack version bytes ≡ Some (s, rest) → IsTaken (first ∷ bytes) s rest
-unfolding statement_bytes
-ack_taken version first bytes s rest is fits e =
-    let a = bind_some (ack_at version bytes) (λ a. Some (statement.Ack a.0, a.1)) (s, rest) e in
-    let t = ack_takes version bytes a.0.0 a.0.1 fits a.1 in
-    let parts : first ∷ bytes ≡ ack_bytes a.0.0 ++ a.0.1 =
-    ap (λ (k : ℕ). k ∷ bytes) (is ∙ ap (λ (v : Version). first_byte v 3) (sym t.1.0))
-    ∙ ap (λ (x : List ℕ). first_byte a.0.0.version 3 ∷ x) t.0 in
-    subst (λ (q : Statement × List ℕ). IsTaken (first ∷ bytes) q.0 q.1) (some_is (statement.Ack a.0.0, a.0.1) (s, rest) a.2)
-    (parts, t.1.1, t.2)
-
--- What a statement's first byte says of the rest. The tests ask whether it is 01, 02, 03, 11, 12, 13.
-kind_takes : (first : ℕ) (bytes : List ℕ) (s : Statement) (rest : List ℕ) (a b c d e f : Bool) → eqb first 1 ≡ a → eqb first 2 ≡ b
-    → eqb first 3 ≡ c → eqb first 17 ≡ d → eqb first 18 ≡ e → eqb first 19 ≡ f → IsBytes bytes
-    → cond a (as_report One bytes) (cond b (as_lock One bytes) (cond c (as_ack One bytes)
-    (cond d (as_report Two bytes) (cond e (as_lock Two bytes) (cond f (as_ack Two bytes) None))))) ≡ Some (s, rest)
-    → IsTaken (first ∷ bytes) s rest
-kind_takes first bytes s rest true b c d e f is_a is_b is_c is_d is_e is_f fits read =
-    report_taken One first bytes s rest (eqb-true first 1 is_a) fits read
-kind_takes first bytes s rest false true c d e f is_a is_b is_c is_d is_e is_f fits read =
-    lock_taken One first bytes s rest (eqb-true first 2 is_b) fits read
-kind_takes first bytes s rest false false true d e f is_a is_b is_c is_d is_e is_f fits read =
-    ack_taken One first bytes s rest (eqb-true first 3 is_c) fits read
-kind_takes first bytes s rest false false false true e f is_a is_b is_c is_d is_e is_f fits read =
-    report_taken Two first bytes s rest (eqb-true first 17 is_d) fits read
-kind_takes first bytes s rest false false false false true f is_a is_b is_c is_d is_e is_f fits read =
-    lock_taken Two first bytes s rest (eqb-true first 18 is_e) fits read
-kind_takes first bytes s rest false false false false false true is_a is_b is_c is_d is_e is_f fits read =
-    ack_taken Two first bytes s rest (eqb-true first 19 is_f) fits read
-kind_takes first bytes s rest false false false false false false is_a is_b is_c is_d is_e is_f fits read = absurd cc
+-- a reader takes a statement of this kind, since `read` takes what follows the first byte
+kind_takes : {X : Type 0} (kind : ℕ) (read : Version → List ℕ → Option (X × List ℕ)) (make : X → Statement) (own : X → Version)
+    (tail : X → List ℕ) (Is : X → Type 0) (bytes : List ℕ) (s : Statement) (rest : List ℕ)
+    → ((x : X) → statement_bytes (make x) ≡ first_byte (own x) kind ∷ tail x) → ((x : X) → Is x → IsStatement (make x))
+    → ((version : Version) (more : List ℕ) (x : X) → IsBytes more → read version more ≡ Some (x, rest)
+    → (more ≡ tail x ++ rest) × ((own x ≡ version) × Is x) × IsBytes rest)
+    → IsBytes bytes → KindSteps kind read make bytes s rest → IsTaken bytes s rest
+kind_takes {X} kind read make own tail Is bytes s rest spelled is_statement takes fits k =
+    let first = byte_takes bytes (first_byte k.version kind) k.after_first fits k.first_is in
+    let t = takes k.version k.after_first k.content first.2 k.content_is in
+    let parts : bytes ≡ statement_bytes (make k.content) ++ rest =
+    first.0 ∙ ap (λ (v : Version). first_byte v kind ∷ k.after_first) (sym t.1.0)
+    ∙ ap (λ (x : List ℕ). first_byte (own k.content) kind ∷ x) t.0 ∙ ap (λ (x : List ℕ). x ++ rest) (sym (spelled k.content)) in
+    subst (λ (q : Statement). IsTaken bytes q rest) k.statement_is (parts, is_statement k.content t.1.1, t.2)
 
 pub statement_takes : (bytes : List ℕ) (s : Statement) (rest : List ℕ) → IsBytes bytes → statement_at bytes ≡ Some (s, rest)
     → (bytes ≡ statement_bytes s ++ rest) × IsStatement s × IsBytes rest
-unfolding statement_at
+unfolding statement_bytes
 statement_takes bytes s rest fits e =
-    let a = bind_some (byte_at bytes) (λ first. cond (eqb first.0 1) (as_report One first.1) (cond (eqb first.0 2) (as_lock One first.1)
-    (cond (eqb first.0 3) (as_ack One first.1) (cond (eqb first.0 17) (as_report Two first.1) (cond (eqb first.0 18) (as_lock Two first.1)
-    (cond (eqb first.0 19) (as_ack Two first.1) None)))))) (s, rest) e in
-    let first = byte_takes bytes a.0.0 a.0.1 fits a.1 in
-    let t = kind_takes a.0.0 a.0.1 s rest (eqb a.0.0 1) (eqb a.0.0 2) (eqb a.0.0 3) (eqb a.0.0 17) (eqb a.0.0 18) (eqb a.0.0 19)
-    refl refl refl refl refl refl first.2 a.2 in
-    (first.0 ∙ t.0, t.1, t.2)
+    statement_then bytes s rest
+    (λ k. kind_takes 1 report_at (λ r. statement.Report r) (λ r. r.version) report_tail IsReport bytes s rest (λ r. refl) (λ r is. is)
+    (λ version more r. report_takes version more r rest) fits k)
+    (λ k. kind_takes 2 lock_at (λ l. statement.Lock l) (λ l. l.version) lock_tail IsLock bytes s rest (λ l. refl) (λ l is. is)
+    (λ version more l. lock_takes version more l rest) fits k)
+    (λ k. kind_takes 3 ack_at (λ a. statement.Ack a) (λ a. a.version) ack_tail IsAck bytes s rest (λ a. refl) (λ a is. is)
+    (λ version more a. ack_takes version more a rest) fits k) e
 
--- a first byte is followed by what it tells
+-- a first byte is followed by what it announces
 report_first : (version : Version) (bytes : List ℕ) → statement_at (first_byte version 1 ∷ bytes) ≡ as_report version bytes
 unfolding statement_at
 report_first One bytes = refl

@@ -1,6 +1,6 @@
 //! The versions of statements and of the frames that carry them.
 
-/// The version of a statement. It is a part of the statement: its first byte tells it, and so it is signed. A cluster whose frames
+/// The version of a statement. It is a part of the statement: its first byte encodes it, so it is signed. A cluster whose frames
 /// have version 2 makes statements of version 2, and reads both; a cluster with frames of version 1 knows version 1 alone.
 #[derive(Clone, Copy, Debug, PartialEq, Eq)]
 pub enum Version {

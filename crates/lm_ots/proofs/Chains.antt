@@ -42,7 +42,7 @@ walk-chain id q i j (suc (suc n)) value inside =
     (stepped (id ++ to_be_bytes w32 q ++ to_be_bytes w16 i) j value)) next
     ∙ walk-chain id q i (j + 1) (suc n) _ (omega arith)
 
--- steps from the one that makes the chain's beginning of the seed
+-- steps from the one that makes the chain's first element from the seed
 pub walk-begun : (id seed : List ℕ) (q i n : ℕ) → n ≤ 255
     → walk (id ++ to_be_bytes w32 q ++ to_be_bytes w16 i) 255 (n + 1) seed ≡ chain id q i 0 n (chain_start id seed q i)
 unfolding walk chain_start
@@ -88,7 +88,7 @@ pub flat_map-map : {X Y : Type 0} (f : X → List Y) → (xs : List X) → flat_
 flat_map-map f [] = refl
 flat_map-map f (x ∷ xs) = ap (λ zs. f x ++ zs) (flat_map-map f xs)
 
--- the steps of the message that makes a chain's beginning of the seed lead up the chain
+-- the steps of the message that makes a chain's first element from the seed lead up the chain
 pub rest-begun : (id seed : List ℕ) (q i n : ℕ) → length id ≡ 16 → n ≤ 255
     → rest_of (id ++ to_be_bytes w32 q ++ to_be_bytes w16 i ++ (255 ∷ []) ++ seed) (n + 1) ≡ chain id q i 0 n (chain_start id seed q i)
 rest-begun id seed q i n named inside =

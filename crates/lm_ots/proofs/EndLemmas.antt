@@ -30,7 +30,7 @@ end_of-others c d p next left value is k other =
     ∙ (λ i. walk (place_of c k) (get_or-set_other c.next p k next 0 other i) (get_or-set_other c.left p k left 0 other i)
     (get_or-set_other c.values p k value [] other i))
 
--- a chain with no steps left is at its end
+-- a chain with no steps left has ended
 pub end_of-reached : (c : Chains) (p : ℕ) → slice_index c.left p ≡ 0 → slice_index_or c.values p [] ≡ end_of c p
 unfolding end_of walk
 end_of-reached c p none = ap (λ n. walk (place_of c p) (slice_index c.next p) n (slice_index_or c.values p [])) (sym none)

@@ -20,7 +20,7 @@ listed-from (x ∷ xs) f (suc n) a inside each =
     let rest = listed-from xs f n (a + 1) (omega arith) (λ i below. each (suc i) (omega arith) ∙ ap f (omega arith)) in
     (λ i. here i ∷ rest i)
 
--- the ends of so many chains, where each is what a function of the index gives
+-- the ends of the first n chains, if each is a function of its index
 pub listed : (xs : List (List ℕ)) (f : ℕ → List ℕ) (n : ℕ) → n ≤ length xs → ((i : ℕ) → i < n → slice_index_or xs i [] ≡ f i)
     → take n xs ≡ map f (range_with_len 0 n)
 listed xs f n inside each = listed-from xs f n 0 inside (λ i below. each i below ∙ ap f (omega arith))

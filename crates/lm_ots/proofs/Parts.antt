@@ -23,7 +23,7 @@ take-drop-flat_map g long (suc n) (suc i) a inside =
     ∙ take-drop-flat_map g long n i (a + 1) (omega arith)
     ∙ ap g on
 
--- the same behind other bytes
+-- the same after other bytes
 pub part-after : (front : List ℕ) (g : ℕ → List ℕ) → ((i : ℕ) → length (g i) ≡ 32) → (n i from : ℕ) → length front ≡ from → i < n
     → part (front ++ flat_map g (range_with_len 0 n)) from i ≡ g i
 part-after front g long n i from at inside =

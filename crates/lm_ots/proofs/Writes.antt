@@ -59,7 +59,7 @@ step-written m value step whole =
     get_or_append_left (take 23 xs) (value ++ drop 32 (drop 23 xs)) 0 22 long ∙ get_or-take 23 xs 22 0 (omega arith)
     ∙ get_or-set_same m 22 step 0 (omega arith)
 
--- what holds of each item before one that is set, and of what it is set to, holds up to behind it
+-- what holds of each item before one that is set, and of what it is set to, holds up to after it
 pub set-more : {X : Type 0} (P : ℕ → X → Type 0) (xs : List X) (i : ℕ) (y d : X) → i < length xs → ((k : ℕ) → k < i → P k (get_or xs k d))
     → P i y
     → (k : ℕ) → k < i + 1 → P k (get_or (set xs i y) k d)

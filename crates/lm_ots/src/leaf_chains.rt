@@ -225,7 +225,7 @@ impl Chains {
         longest
     }
 
-    /// The chains of the next turn: each chain that is at its end is replaced by the next waiting one, or else by one
+    /// The chains of the next turn: each chain that has ended is replaced by the next waiting one, or else by one
     /// that is already picked.
     fn next_picks(&self, picks: [u16; LANES], waiting: &mut Waiting) -> [u16; LANES]
         requires { (k : ℕ) → k < 8 → slice_index picks k < 67 }
@@ -240,7 +240,7 @@ impl Chains {
         self.doubled(next)
     }
 
-    /// These chains, with each one that is at its end replaced by the one with the most steps left.
+    /// These chains, with each one that has ended replaced by the one with the most steps left.
     fn doubled(&self, picks: [u16; LANES]) -> [u16; LANES]
         requires { (k : ℕ) → k < 8 → slice_index picks k < 67 }
         ensures { (k : ℕ) → k < 8 → slice_index result k < 67 }

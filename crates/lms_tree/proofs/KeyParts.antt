@@ -3,7 +3,7 @@ use Rattle.std.proofs.Common.{◌≡◌, ℕ, ◌+◌, List, [], ◌++◌, lengt
 use Rattle.std.proofs.lemmas.List.{take_at, drop_at, append_assoc, append-nil, length-append}
 use borrow.Rule.Slice.PartMut.{put_mid}
 
--- a part written behind those before it
+-- a part written after those before it
 put_mid-next : {X : Type 0} (a k : ℕ) (xs pad ys : List X) → length xs ≡ a → put_mid a k (xs ++ pad) ys ≡ xs ++ ys ++ drop k pad
 put_mid-next a k xs pad ys at =
     ap (λ zs. zs ++ (ys ++ drop k (drop a (xs ++ pad)))) (take_at xs pad a at)

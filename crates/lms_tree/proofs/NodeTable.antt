@@ -100,7 +100,7 @@ sibling-high d r low high =
     let two = pow-next (d + 1) in
     grind (arith, nat_tests)
 
--- the leaves are so many rows of eight
+-- the leaves are this number of rows of eight
 pub whole-rows : (h : TreeHeight) → 8 * (2 ^ levels_of h / 8) ≡ 2 ^ levels_of h
 whole-rows H5 = refl
 whole-rows H10 = refl

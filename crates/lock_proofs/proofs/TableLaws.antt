@@ -25,7 +25,7 @@ ascends_from_lower key w x (m ∷ ms) below h =
     let parts = and_parts (is_below x y) (are_ascending (y ∷ map key ms)) h in
     and_from (is_below w y) (are_ascending (y ∷ map key ms)) (below_trans w x y below (parts.0)) (parts.1)
 
--- behind a lower value a lock keeps its place in the order
+-- after a lower value a lock keeps its place in the order
 ascends_behind : (w : Value) (s : SignedLock) (t : List SignedLock) → is_below w s.lock.value ≡ true
     → are_ascending (w ∷ values_of t) ≡ true → are_ascending (w ∷ values_of (with_lock s t)) ≡ true
 ascends_behind w s [] below h = and_from (is_below w s.lock.value) true below refl
@@ -58,7 +58,7 @@ with_lock-ascends s (m ∷ ms) h =
       | Above differs not_under above ↦ rw (differs, not_under) (ascends_behind x s ms above h)
     ]
 
--- what stands in front is below what is left of the others
+-- the first one is below what is left of the others
 filter-ascends_behind : {X : Type 0} (key : X → Value) (p : X → Bool) (w : Value) (t : List X) → are_ascending (w ∷ map key t) ≡ true
     → are_ascending (w ∷ map key (filter p t)) ≡ true
 filter-ascends_behind key p w [] h = refl

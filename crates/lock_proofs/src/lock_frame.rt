@@ -134,7 +134,7 @@ pub fn check_lock(config: &Config, ring: &KeyRing, frame: Frame) -> Result<LockF
     check_lock_with(config, &mut checks, frame)
 }
 
-/// Does what [`check_lock`] does, under the keys of whoever checks signatures.
+/// Does what [`check_lock`] does, under the keys of the caller that checks signatures.
 pub fn check_lock_with<C: CheckSignatures>(
     config: &Config,
     checks: &mut C,

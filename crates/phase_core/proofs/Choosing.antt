@@ -53,7 +53,7 @@ told false proper [] v own named only other =
     let r = any_has (same_value v) proper named in
     has_left proper [] v (subst (λ x. Has proper x) (sym (same_value-equal v (r.0) (r.1.1))) (r.1.0))
 
--- v is found by enough, and own is not: then some report tells v
+-- v is found by enough, and own is not: then some report has v
 found_is_named : (config : Config) (reports : List Report) (own v : Value) → is_found_by config reports own ≡ false
     → is_found_by config reports v ≡ true → Has (values_named reports) v
 found_is_named config reports own v fails passes =
@@ -64,7 +64,7 @@ found_is_named config reports own v fails passes =
     let parts = and_parts (names p v) (list_all (same_value v) p.locked) (r.1.1.0) in
     has_flat_map (λ q. q.proper ++ q.locked) reports p v (r.1.0) (told p.all p.proper p.locked v own (parts.0) (parts.1) (r.1.1.1))
 
--- where nothing is found of what is told, nothing is found at all
+-- if no value of a report is found, none is found at all
 none_found : (config : Config) (reports : List Report) (own : Value) → is_found_by config reports own ≡ false
     → first_value (filter (is_found_by config reports) (ascending (values_named reports))) ≡ None → (v : Value)
     → is_found_by config reports v ≡ false
@@ -96,7 +96,7 @@ module _ (config : Config) (reports : List Report) (own : Value) where
         | inr fails ↦ none_found config reports own fails (sym (chosen_other config reports own fails) ∙ e) v
       ]
 
-  -- it is the own value, or a report tells it
+  -- it is the own value, or a report has it
   pub chosen_named : (v : Value) → chosen config reports own ≡ Some v → (own ≡ v) ⊎ Has (values_named reports) v
   chosen_named v e =
       elim (cases_Bool (is_found_by config reports own)) [

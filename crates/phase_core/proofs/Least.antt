@@ -58,7 +58,7 @@ above test w (x ∷ xs) u h e =
           simp fails at e in below_trans w x u (parts.0) (above test x xs u (parts.1) g))
     ]
 
--- the lesser of v and what stands behind v is v
+-- the lesser of v and what follows v is v
 first_stays : (v : Value) (b : Option Value) → ((u : Value) → b ≡ Some u → is_below v u ≡ true) → Some v ≡ least_both (Some v) b
 first_stays v None h = refl
 first_stays v (Some u) h = let e = below_other v u (h u refl) in simp e refl

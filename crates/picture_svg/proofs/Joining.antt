@@ -1,6 +1,7 @@
 -- A text to which pieces are appended one by one.
 use Rattle.std.proofs.Common.{◌≡◌, ◌∙◌, ℕ, List, [], ◌∷◌, ◌++◌, sym, ap, append_assoc, append-nil, ◌+◌, ◌-◌, ◌<◌, ◌≤◌, zero, suc, length}
-use Rattle.std.proofs.Common.{drop, get_or, arith}
+use Rattle.std.proofs.Common.{drop, get_or, arith, refl, subst}
+use Rattle.std.specs.Prelude.{Result, OnOk}
 use Rattle.std.specs.List.{flat_map}
 use Rattle.std.proofs.Math.ListN.{drop_of_length-le}
 use Rattle.history_parts.proofs.Items.{drop_item}
@@ -18,6 +19,13 @@ appended_joined out [] end is = is ∙ sym (append-nil out)
 appended_joined out (p ∷ []) end done = done.1.1 ∙ done.1.0
 appended_joined out (p ∷ q ∷ ps) end done =
     appended_joined done.0 (q ∷ ps) end done.1.1 ∙ ap (λ l. l ++ joined (q ∷ ps)) done.1.0 ∙ append_assoc out p (joined (q ∷ ps))
+
+-- the same of three pieces, if the last was appended
+pub three_joined : {T E : Type 0} (r : Result T E) (out p q l first second end : List ℕ) → first ≡ out ++ p → second ≡ first ++ q
+    → OnOk r (end ≡ second ++ l) → OnOk r (end ≡ out ++ joined (p ∷ q ∷ l ∷ []))
+three_joined r out p q l first second end first_is second_is last =
+    subst (λ t. OnOk r (end ≡ t)) (appended_joined out (p ∷ q ∷ l ∷ []) (second ++ l)
+    (first, (first_is, (second, (second_is, (second ++ l, (refl, refl))))))) last
 
 -- ---- what each element of a list adds
 

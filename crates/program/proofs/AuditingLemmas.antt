@@ -69,7 +69,7 @@ module _ (s : AuditSettings) (input : List ℕ) (unread left : Option (List ℕ)
       each_way _ _ _ _ r (λ ending written. audits_whole histories ending.status before after whole reads written)
       (λ fault part. audits_part histories before after whole reads part) done
 
-  -- the input is no histories, which was told
+  -- the input is not spelled as histories, and the program printed so
   pub audits_none : {E : Type 0} (r : Result Conclusion E) (before after : Option (List ℕ)) → ReadsWhole unread left input
       → histories_reading s.cluster.config.frames input ≡ None → Writes r before after bad_history
       → IfOk r (λ ending. (ending.explanation ≡ None) × (ending.status ≡ 1))

@@ -44,7 +44,7 @@ module _ (s : DrawSettings) (input : List ℕ) (unread left : Option (List ℕ))
     written = written;
   }
 
-  -- the input is no histories, which was told
+  -- the input is not spelled as histories, and the program printed so
   pub draws_none : {E : Type 0} (r : Result Conclusion E) (before after : Option (List ℕ)) → ReadsWhole unread left input
       → histories_reading s.cluster.config.frames input ≡ None → Writes r before after bad_history
       → IfOk r (λ ending. (ending.explanation ≡ None) × (ending.status ≡ 1))

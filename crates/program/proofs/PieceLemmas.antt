@@ -12,7 +12,7 @@ use Rattle.locked_replica.specs.States.{StateView}
 use Rattle.program.specs.declared.stream_end.StreamFault.{StreamFault}
 use Rattle.program.specs.declared.stream_end.StreamEnd.TheVariants.{Fault}
 use Rattle.program.specs.Answering.{Answers, AnswersSome, Printed, PrintedSome, deliveries}
-use Rattle.program.specs.Streams.{Ended, GoesBehind, GoesOn, IsTold, Stopped, UnderWay}
+use Rattle.program.specs.Streams.{Ended, GoesBehind, GoesOn, IsStreamFault, Stopped, UnderWay}
 use Rattle.byte_streams.proofs.WritingLemmas.{all_some, then_some}
 use Rattle.program.proofs.AnsweringLemmas.{answers_both, some_after, some_all}
 use Rattle.program.proofs.PrintingLemmas.{printed_all}
@@ -34,7 +34,7 @@ module _ (start state new : StateView) (unread now left before out after : Optio
   read_now : Consumes unread left (so_far.input ++ piece)
   read_now = Consumes-trans unread now left so_far.input piece so_far.read read
 
-  -- it goes on behind the frames, or a fault stands there
+  -- it goes on after the frames, or a fault stands there
   pub piece_goes : (found : List SignedStatement) (next last : FrameReaderView) (fault : Option StreamFault) → next.version
       ≡ start.config.frames → last.version ≡ start.config.frames
       → HandsOut reader.version reader.state piece found next.state
@@ -68,7 +68,7 @@ module _ (start state new : StateView) (unread now left before out after : Optio
     written = Appends-trans before out after so_far.text printed.0 so_far.written printed.1.1;
   }
 
-  -- it stops within the frames, or behind them
+  -- it stops within the frames, or after them
   pub piece_stops : (found : List SignedStatement) (next : FrameReaderView) → HandsOut reader.version reader.state piece found next.state
       → PrintedSome state (deliveries found) new out after
       → Stopped start unread left before after new
@@ -101,7 +101,7 @@ module _ (start state new : StateView) (unread now left before out after : Optio
 
   -- a fault stands there, with no frame before it
   pub piece_told : (fault : FrameFault) (next : FrameReaderView) (found : StreamFault)
-      → Tells reader.version reader.state piece fault next.state → IsTold fault found
+      → Tells reader.version reader.state piece fault next.state → IsStreamFault fault found
       → Ended start unread left before out state (Fault found)
   piece_told fault next found tells is = record {
     input = so_far.input ++ piece;

@@ -54,7 +54,7 @@ signed_done x s status unread before after is zero written =
       },
     )
 
--- a beginning of it was
+-- a prefix of it was
 pub signed_halted : (x : Piped) (s : SignSettings) (unread before after : Option (List ℕ)) → x ≡ piped.Sign s
     → AppendsSome before after (frame_bytes (signed s)) → Halted (settings_of x) unread unread before after
 signed_halted x s unread before after is written =
@@ -229,7 +229,7 @@ module _ (words : List (List ℕ)) (s : Settings) (set : IsSet words s) (taken :
   settled_known Q (inl (quiet, done)) = let small = done_small s status unread left before after done in omega (arith, small)
   settled_known Q (inr (is, halted)) = omega (arith, is)
 
--- what was told of words that set nothing: the help or the version, or what is wrong with them
+-- what was printed of words that set nothing: the help or the version, or what is wrong with them
 abbrev pub HelpOrFault : UsageFault → ℕ → Type 0 → Type 0 → Type 0
 HelpOrFault f status Quiet Refuses =
     (AsksForText f × (((status ≡ 0) × Quiet) ⊎ (status ≡ 3)))

@@ -33,7 +33,7 @@ text_written true lines histories before mid after first last = Appends-trans be
 text_written false lines histories before mid after first last =
     subst (Appends before after) (append-nil lines) (Appends-trans before mid after lines [] first last)
 
--- a beginning of them
+-- a prefix of them
 text_begun : (h : Bool) (lines histories : List ℕ) (before mid after : Option (List ℕ))
     → Appends before mid (if_wanted (not h) lines) → AppendsSome mid after (if h then histories else [])
     → AppendsSome before after (if h then histories else lines)
@@ -45,7 +45,7 @@ text_begun false lines histories before mid after first last =
 abbrev pub PlayedWritten : SimulateSettings → Plan → Option (List ℕ) → Option (List ℕ) → Type 0
 PlayedWritten s p before after = (text : List ℕ) × (Played s p text × Appends before after text)
 
--- a beginning of the text of a plan that was played, or of its first commands
+-- a prefix of the text of a plan that was played, or of its first commands
 abbrev pub PlayedBegun : SimulateSettings → Plan → Option (List ℕ) → Option (List ℕ) → Type 0
 PlayedBegun s p before after = (text : List ℕ) × ((PlayedSome s p text ⊎ Played s p text) × AppendsSome before after text)
 
@@ -81,7 +81,7 @@ module _ (s : SimulateSettings) (p : Plan) (config : Config) (sized : IsConfigOf
     ),
   )
 
-  -- or a beginning of it
+  -- or a prefix of it
   pub played_begun : (a b : SimulationView) (before mid after : Option (List ℕ)) → a ≡ opening s.seed config p
       → PlaysWritten (not s.histories) a p.commands b before mid
       → HasRun b.cluster → (IsUnforged b.cluster → IsOneLedger b.cluster) → AllReplay b.cluster → AllAccountForLeaves b.cluster
@@ -121,7 +121,7 @@ module _ (s : SimulateSettings) (input : List ℕ) (unread left before after : O
   simulated_part p spells (text, (inr played, written)) =
       record { input = input; text = text; goes_with = (in_time, inr (Whole, (p, (spells, played)))); read = read; written = written }
 
-  -- its first bad line was told
+  -- its first bad line was printed
   pub told_bad : (n : ℕ) → IsBadAt input n → IsAtEnd left ⊎ IsBadAnyway input n → Appends before after (bad_line n)
       → PlaysText s (BadLine n) unread left before after
   told_bad n bad shown written =

@@ -39,7 +39,7 @@ pub written_one : (w : Bool) (a b : SimulationView) (c : Command) (text : List �
     → Appends p q (if_wanted w text) → PlaysWritten w a (c ∷ []) b p q
 written_one w a b c text p q plays written = (text, (plays_one a b c text plays, written))
 
--- a beginning of its lines
+-- a prefix of its lines
 pub written_part : (w : Bool) (a b : SimulationView) (c : Command) (text : List ℕ) (p q : Option (List ℕ)) → Plays a c text b
     → AppendsSome p q (if_wanted w text) → PlaysWrittenSome w a (c ∷ []) p q
 written_part w a b c text p q plays written =

@@ -10,7 +10,7 @@ use Rattle.signed_frames.specs.Reader.{ReaderState, Reading, Found, Failed, Hand
 use Rattle.signed_frames.proofs.Joined.{longer, joined}
 use Rattle.signed_frames.proofs.Fronts.{frames_join}
 use Rattle.program.specs.declared.stream_end.StreamFault.{StreamFault}
-use Rattle.program.specs.Streams.{Breaks, IsTold}
+use Rattle.program.specs.Streams.{Breaks, IsStreamFault}
 
 -- the frames of what was read, and of the next piece
 pub more_given : (version : Version) (input kept piece : List ℕ) (frames found : List SignedStatement) (new : ReaderState)
@@ -20,7 +20,7 @@ pub more_given : (version : Version) (input kept piece : List ℕ) (frames found
 more_given version input kept piece frames found new given leaves = joined version (Reading []) (Reading kept) new input piece frames found
     given leaves
 
--- a reader that handed out frames is within the bytes behind them
+-- a reader that handed out frames is within the bytes after them
 pub frames_left : (version : Version) (bytes : List ℕ) (frames : List SignedStatement) (reader : ReaderState)
     → Leaves version bytes frames reader
     → (rest : List ℕ) × Frames version bytes frames rest
@@ -31,7 +31,7 @@ frames_left version bytes frames (Found told.Failed) l = absurd l
 frames_left version bytes frames (Found told.NoMemory) l = absurd l
 frames_left version bytes frames Failed l = absurd l
 
--- what breaks off behind a piece breaks off behind all
+-- what breaks off after a piece breaks off after all
 break_after : (version : Version) (Begins : Version → List ℕ → Type 0) (input kept piece : List ℕ) (frames : List SignedStatement)
     → SplitsTo version input frames kept
     → BreaksOff Begins version (kept ++ piece) []
@@ -45,10 +45,10 @@ break_after version Begins input kept piece frames given breaks =
       ),
     )
 
--- the fault that a reader tells of a piece
+-- the fault that a reader finds in a piece
 pub told_after : (version : Version) (input kept piece : List ℕ) (frames : List SignedStatement) (fault : FrameFault) (new : ReaderState)
     (found : StreamFault)
-    → SplitsTo version input frames kept → Faults version kept piece fault new → IsTold fault found
+    → SplitsTo version input frames kept → Faults version kept piece fault new → IsStreamFault fault found
     → Breaks version found (input ++ piece) frames
 told_after version input kept piece frames told.TooLong new found given faults is =
     subst (λ f. Breaks version f (input ++ piece) frames) (sym is)
@@ -59,9 +59,9 @@ told_after version input kept piece frames told.Malformed new found given faults
 told_after version input kept piece frames told.Failed new found given faults is = absurd is
 told_after version input kept piece frames told.NoMemory new found given faults is = absurd is
 
--- the fault that was found behind frames
+-- the fault that was found after frames
 pub told_behind : (version : Version) (bytes : List ℕ) (frames : List SignedStatement) (fault : FrameFault) (found : StreamFault)
-    → Leaves version bytes frames (Found fault) → IsTold fault found → Breaks version found bytes frames
+    → Leaves version bytes frames (Found fault) → IsStreamFault fault found → Breaks version found bytes frames
 told_behind version bytes frames told.TooLong found l is = subst (λ f. Breaks version f bytes frames) (sym is) l.1
 told_behind version bytes frames told.Malformed found l is = subst (λ f. Breaks version f bytes frames) (sym is) l.1
 told_behind version bytes frames told.Failed found l is = absurd is
@@ -90,7 +90,7 @@ fed_unfailed version (Found told.Failed) bytes piece frames fault new l tells = 
 fed_unfailed version (Found told.NoMemory) bytes piece frames fault new l tells = absurd l
 fed_unfailed version Failed bytes piece frames fault new l tells = absurd l
 
--- an empty piece shows that no fault stands behind the frames that were handed out
+-- an empty piece shows that no fault follows the frames that were handed out
 pub behind_none : (version : Version) (old new : ReaderState) (bytes : List ℕ) (frames out : List SignedStatement)
     → Leaves version bytes frames old
     → HandsOut version old [] out new
@@ -105,10 +105,10 @@ behind_none version Failed new bytes frames out l handed whole = absurd l
 -- or that one does
 pub behind_some : (version : Version) (old new : ReaderState) (bytes : List ℕ) (frames : List SignedStatement) (fault : FrameFault)
     (found : StreamFault)
-    → Leaves version bytes frames old → Tells version old [] fault new → IsTold fault found
+    → Leaves version bytes frames old → Tells version old [] fault new → IsStreamFault fault found
     → Breaks version found bytes frames
 behind_some version (Reading kept) new bytes frames fault found l tells is =
     subst (λ b. Breaks version found b frames) (append-nil bytes) (told_after version bytes kept [] frames fault new found l tells is)
 behind_some version (Found some) new bytes frames fault found l tells is =
-    told_behind version bytes frames some found l (subst (λ f. IsTold f found) tells.0 is)
+    told_behind version bytes frames some found l (subst (λ f. IsStreamFault f found) tells.0 is)
 behind_some version Failed new bytes frames fault found l tells is = absurd l

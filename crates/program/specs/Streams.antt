@@ -47,11 +47,11 @@ IsReadTo Cut left = IsAtEnd left
 IsReadTo (Fault fault) left = Unit {0}
 
 -- the fault of the stream for a fault of the frame reader
-abbrev pub IsTold : FrameFault → StreamFault → Type 0
-IsTold told.TooLong fault = fault ≡ TooLong
-IsTold told.Malformed fault = fault ≡ Malformed
-IsTold told.Failed fault = ⊥
-IsTold told.NoMemory fault = ⊥
+abbrev pub IsStreamFault : FrameFault → StreamFault → Type 0
+IsStreamFault told.TooLong fault = fault ≡ TooLong
+IsStreamFault told.Malformed fault = fault ≡ Malformed
+IsStreamFault told.Failed fault = ⊥
+IsStreamFault told.NoMemory fault = ⊥
 
 -- the reader has found no fault, and has the first bytes of the next frame, if any
 abbrev pub IsReading : FrameReaderView → Type 0

@@ -9,7 +9,7 @@ ghost use Rattle.locked_replica.specs.States.{StateView};
 ghost use Rattle.program.specs.Answering.{Prints, deliveries};
 ghost use Rattle.program_streams.specs.Faults.{IsMemoryOrAsked};
 ghost use Rattle.program.specs.Faults.{StopsAt};
-ghost use Rattle.program.specs.Streams.{Ended, GoesBehind, GoesOn, IsFed, IsReadTo, IsReading, IsTold, Stands, Stopped, UnderWay};
+ghost use Rattle.program.specs.Streams.{Ended, GoesBehind, GoesOn, IsFed, IsReadTo, IsReading, IsStreamFault, Stands, Stopped, UnderWay};
 
 use crate::line::Line;
 use crate::line_printing::print_line;
@@ -56,7 +56,7 @@ fn deliver_all<W: Write>(
 /// The stream's fault, from the fault that the frame reader returned. The only error is allocation failure.
 fn fault_of(fault: FrameFault) -> Result<StreamFault, ProgramFault>
     requires { fault ≢ faults.Failed }
-    ensures told { IfOk result (λ found. IsTold fault found) }
+    ensures fault { IfOk result (λ found. IsStreamFault fault found) }
     ensures memory { IfErr result IsMemoryOrAsked }
 {
     match fault {

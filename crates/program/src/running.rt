@@ -114,8 +114,8 @@ fn write_fault<W: Write, F: Write>(
         let done = show(alloc, fault, writer);
         return finish(alloc, done, faults);
     }
-    let is_told = complain(alloc, faults, fault);
-    if is_told && !fault.is_want_of_memory() {
+    let is_printed = complain(alloc, faults, fault);
+    if is_printed && !fault.is_want_of_memory() {
         BAD_USAGE
     } else {
         STOPPED

@@ -1,5 +1,5 @@
 //! The settings that the words of `abft audit` give, and the words that spell no receipt.
-use crate::setting_lines::is_told_of;
+use crate::setting_lines::is_set_by;
 use command_line::{UsageFault, settings};
 use std::alloc::Global;
 
@@ -32,7 +32,7 @@ fn the_words_of_audit_set_each_option(rt: HostRuntime) {
             "error: the histories come on standard input: abft audit <old.bin",
         ),
     ] {
-        assert!(rt; is_told_of(rt.alloc(), words, line), "{words}");
+        assert!(rt; is_set_by(rt.alloc(), words, line), "{words}");
     }
 }
 

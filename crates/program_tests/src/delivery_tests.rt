@@ -73,7 +73,7 @@ fn deliver_settings(alloc: Global) -> Result<DeliverSettings, Fail> {
 }
 
 /// How `abft deliver` at replica 1 finds that a stream ended, or the fault.
-fn told<S: RandomSource>(
+fn outcome<S: RandomSource>(
     source: &S,
     alloc: Global,
     case: &Case<'_>,
@@ -90,8 +90,8 @@ fn told<S: RandomSource>(
 /// Whether `abft deliver` does with the stream what the case says.
 fn delivers<S: RandomSource>(source: &S, alloc: Global, case: &Case<'_>) -> Result<bool, Fail> {
     let mut output = Sink::new(alloc, case.room);
-    let told = told(source, alloc, case, &mut output)?;
-    Ok(case.is(&told, &output))
+    let outcome = outcome(source, alloc, case, &mut output)?;
+    Ok(case.is(&outcome, &output))
 }
 
 #[test]
@@ -103,7 +103,7 @@ fn each_line_is_one_write_until_the_delivery_stops(rt: HostRuntime) -> Result<()
             text: &frames,
             fails: false,
             room: 99,
-            told: "Whole",
+            outcome: "Whole",
             output: b"accepted\nignored 7 Repeated\n",
             writes: 2,
         },
@@ -111,7 +111,7 @@ fn each_line_is_one_write_until_the_delivery_stops(rt: HostRuntime) -> Result<()
             text: &frames,
             fails: false,
             room: 12,
-            told: "error: standard output: failed to write whole buffer",
+            outcome: "error: standard output: failed to write whole buffer",
             output: b"accepted\nign",
             writes: 3,
         },
@@ -119,13 +119,17 @@ fn each_line_is_one_write_until_the_delivery_stops(rt: HostRuntime) -> Result<()
             text: b"\x00\x00\x09\x45",
             fails: true,
             room: 99,
-            told: "error: standard input: timed out",
+            outcome: "error: standard input: timed out",
             output: b"",
             writes: 0,
         },
     ];
     for case in &cases {
-        assert!(rt; delivers(&rt, alloc, case)?, "not told: {}", case.told);
+        assert!(rt;
+            delivers(&rt, alloc, case)?,
+            "another outcome: {}",
+            case.outcome
+        );
     }
     Ok(())
 }

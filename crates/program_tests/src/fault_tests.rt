@@ -40,18 +40,18 @@ fn each_fault_is_one_write(rt: HostRuntime) {
     let alloc = rt.alloc();
     for subcommand in ["deliver", "simulate"] {
         let mut faults = Sink::new(alloc, 99);
-        let is_told = ends_at_once(&rt, alloc, subcommand, 3, &mut faults)
+        let is_printed = ends_at_once(&rt, alloc, subcommand, 3, &mut faults)
             && faults.text.as_slice() == b"error: standard input: timed out\n".as_slice();
-        assert!(rt; is_told, "at {subcommand}");
+        assert!(rt; is_printed, "at {subcommand}");
     }
 }
 
 #[test]
-fn bad_usage_is_told_at_once(rt: HostRuntime) {
+fn bad_usage_is_printed_at_once(rt: HostRuntime) {
     let alloc = rt.alloc();
     let mut faults = Sink::new(alloc, usize::MAX);
-    let is_told = ends_at_once(&rt, alloc, "vote", 2, &mut faults);
-    assert!(rt; is_told && faults.text.ends_with(b"\n"));
+    let is_printed = ends_at_once(&rt, alloc, "vote", 2, &mut faults);
+    assert!(rt; is_printed && faults.text.ends_with(b"\n"));
 }
 
 /// Whether the program refuses words that this error keeps it from reading, with this status and text.

@@ -1,6 +1,6 @@
 //! The settings that the words of `abft cluster` and `abft serve` give. `tests/end_to_end.sh` tests the faults of words
 //! that give none.
-use crate::setting_lines::is_told_of;
+use crate::setting_lines::is_set_by;
 
 #[test]
 fn the_words_of_cluster_and_serve_set_each_option(rt: HostRuntime) {
@@ -35,6 +35,6 @@ fn the_words_of_cluster_and_serve_set_each_option(rt: HostRuntime) {
             "13 1 KvStore W4 32 One 0 [98, 61, 50] 0 1 Warn true Some(\"new.bin\"), 65535 Some(80) 1000 65536",
         ),
     ] {
-        assert!(rt; is_told_of(rt.alloc(), words, line), "{line}");
+        assert!(rt; is_set_by(rt.alloc(), words, line), "{line}");
     }
 }

@@ -10,7 +10,7 @@ use std::test::Fail;
 const TEXT: &[u8] = b"config 4 1 1\nend 0\nexecute 0\n";
 
 /// How `abft simulate` finds that the text of a stream ended, or the fault.
-fn told<S: RandomSource>(
+fn outcome<S: RandomSource>(
     source: &S,
     alloc: Global,
     case: &Case<'_>,
@@ -32,8 +32,8 @@ fn told<S: RandomSource>(
 /// Whether `abft simulate` does with the stream what the case says.
 fn plays<S: RandomSource>(source: &S, alloc: Global, case: &Case<'_>) -> Result<bool, Fail> {
     let mut output = Sink::new(alloc, case.room);
-    let told = told(source, alloc, case, &mut output)?;
-    Ok(case.is(&told, &output))
+    let outcome = outcome(source, alloc, case, &mut output)?;
+    Ok(case.is(&outcome, &output))
 }
 
 /// A scenario that is played, one whose second line is only partly written, one that cannot be read whole, and one with a bad line.
@@ -42,7 +42,7 @@ const SCENARIOS: [Case<'static>; 4] = [
         text: TEXT,
         fails: false,
         room: 99,
-        told: "Whole",
+        outcome: "Whole",
         output: b"end 0 1 sent 0\nexecute 0 nothing\n",
         writes: 2,
     },
@@ -50,7 +50,7 @@ const SCENARIOS: [Case<'static>; 4] = [
         text: TEXT,
         fails: false,
         room: 20,
-        told: "error: standard output: failed to write whole buffer",
+        outcome: "error: standard output: failed to write whole buffer",
         output: b"end 0 1 sent 0\nexecu",
         writes: 3,
     },
@@ -58,7 +58,7 @@ const SCENARIOS: [Case<'static>; 4] = [
         text: TEXT,
         fails: true,
         room: 99,
-        told: "error: standard input: timed out",
+        outcome: "error: standard input: timed out",
         output: b"",
         writes: 0,
     },
@@ -66,7 +66,7 @@ const SCENARIOS: [Case<'static>; 4] = [
         text: b"config 4 1 1\nend 0\nend 00\n",
         fails: false,
         room: 99,
-        told: "BadLine(3)",
+        outcome: "BadLine(3)",
         output: b"line 3 bad\n",
         writes: 1,
     },
@@ -75,7 +75,11 @@ const SCENARIOS: [Case<'static>; 4] = [
 #[test]
 fn each_line_is_one_write_until_the_scenario_stops(rt: HostRuntime) -> Result<(), Fail> {
     for case in &SCENARIOS {
-        assert!(rt; plays(&rt, rt.alloc(), case)?, "not told: {}", case.told);
+        assert!(rt;
+            plays(&rt, rt.alloc(), case)?,
+            "another outcome: {}",
+            case.outcome
+        );
     }
     Ok(())
 }

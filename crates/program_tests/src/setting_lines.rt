@@ -54,7 +54,7 @@ fn audit_line(alloc: Global, audit: &AuditSettings) -> Result<String, AllocError
 }
 
 /// The settings that the words give, as a line, or what is wrong with them.
-fn told(alloc: Global, words: &[&str]) -> Result<String, AllocError> {
+fn settings_line(alloc: Global, words: &[&str]) -> Result<String, AllocError> {
     match settings(alloc, words) {
         Ok(Settings::Cluster(running)) => running_line(alloc, &running),
         Ok(Settings::Serve(serve)) => serving_line(alloc, &serve),
@@ -65,18 +65,18 @@ fn told(alloc: Global, words: &[&str]) -> Result<String, AllocError> {
 }
 
 /// Whether the words give these settings, or have this fault.
-fn is_told(alloc: Global, words: &[&str], text: &str) -> bool {
-    match told(alloc, words) {
+fn sets(alloc: Global, words: &[&str], text: &str) -> bool {
+    match settings_line(alloc, words) {
         Ok(line) => line.as_str() == text,
         Err(_) => false,
     }
 }
 
 /// Whether the words of a line give these settings, or have this fault.
-pub(crate) fn is_told_of(alloc: Global, line: &str, text: &str) -> bool {
+pub(crate) fn is_set_by(alloc: Global, line: &str, text: &str) -> bool {
     let words: Result<Vec<&str>, AllocError> = line.split(' ').collect(alloc);
     match words {
-        Ok(words) => is_told(alloc, &words, text),
+        Ok(words) => sets(alloc, &words, text),
         Err(_) => false,
     }
 }

@@ -76,7 +76,7 @@ pub(crate) struct Case<'a> {
     /// The number of bytes that the output takes.
     pub(crate) room: usize,
     /// How the stream ended, or the fault.
-    pub(crate) told: &'a str,
+    pub(crate) outcome: &'a str,
     /// What the output took.
     pub(crate) output: &'a [u8],
     /// The number of writes, each of which ends a line.
@@ -85,8 +85,8 @@ pub(crate) struct Case<'a> {
 
 impl Case<'_> {
     /// Whether the subcommand returned this, and wrote that.
-    pub(crate) fn is(&self, told: &str, output: &Sink) -> bool {
-        told == self.told
+    pub(crate) fn is(&self, outcome: &str, output: &Sink) -> bool {
+        outcome == self.outcome
             && output.text.as_slice() == self.output
             && (output.writes, output.ends) == (self.writes, self.writes)
     }

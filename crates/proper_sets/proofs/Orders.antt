@@ -39,7 +39,7 @@ take-ascends (suc n) (v ∷ vs) a =
 
 -- ---- which values
 
--- so `ascending` tells only which values are in the list
+-- so `ascending` only says which values are in the list
 pub ascending_same : (vs ws : List Value) → ((x : Value) → Has vs x → Has ws x) → ((x : Value) → Has ws x → Has vs x)
     → ascending vs ≡ ascending ws
 ascending_same vs ws f g =

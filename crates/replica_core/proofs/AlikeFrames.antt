@@ -10,7 +10,7 @@ alike_length [] (y ∷ ys) alike = absurd alike
 alike_length (x ∷ xs) [] alike = absurd alike
 alike_length (x ∷ xs) (y ∷ ys) alike = ap suc (alike_length xs ys alike.1)
 
--- at each place they are told alike
+-- at each place they are alike
 pub alike_at : (xs ys : List Sent) (i : ℕ) (x y : Sent) → i < length xs → AreShownAlike xs ys → x ≡ get_or xs i x → y ≡ get_or ys i y
     → IsShownAlike x y
 alike_at [] ys i x y below alike first second = absurd (omega arith)

@@ -32,7 +32,7 @@ module _ (config : Config) (ring : Ring) (mute : Bool) (c : ℕ) where
   abbrev pub IsSentBy : InstanceView → Type 0
   IsSentBy row = (m : RoundStatement) → IsMadeAt ring mute c row m → AreSentAt config ring row.height (frames_at config c row m)
 
-  -- the statements of one height, and of those behind it
+  -- the statements of one height, and of those after it
   pub parts : (row : InstanceView) (m : RoundStatement) (rows : List InstanceView) (ms : List RoundStatement)
       → statements_in (frames_of config c (row ∷ rows) (m ∷ ms)) ≡ statements_in (frames_at config c row m)
       ++ statements_in (frames_of config c rows ms)
@@ -75,7 +75,7 @@ module _ (config : Config) (ring : Ring) (mute : Bool) (c : ℕ) where
       (λ s is. subst P (sym is) all.0) (sent.0 m made.0).heights)
       (each_height P rows ms all.1 sent.1 made.1))
 
-  -- no height falls behind a higher one
+  -- no height falls after a higher one
   pub ascend_sent : (rows : List InstanceView) (ms : List RoundStatement) → AreAscending rows → AllByRecursion IsSentBy rows
       → AreMade ring mute c rows ms
       → never_falls (map height_in (statements_in (frames_of config c rows ms))) ≡ true

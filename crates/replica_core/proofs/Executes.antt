@@ -22,7 +22,7 @@ use Rattle.replica_core.proofs.Histories.{pool_more, clock_more, mute_more, coun
 use Rattle.replica_core.proofs.Quiet.{log_stays, unheard}
 use Rattle.replica_core.proofs.Unopened.{decided_from}
 
--- the last of the batches is the one that was put behind them
+-- the last of the batches is the one that was put after them
 last_of : (vs : List Value) (v : Value) → last_block (vs ++ v ∷ []) ≡ v
 last_of [] v = refl
 last_of (w ∷ []) v = refl

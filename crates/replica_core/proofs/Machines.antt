@@ -13,7 +13,7 @@ use Rattle.ledger_model.specs.Replies.{block_reply, check_reply, query_reply}
 use Rattle.abci.specs.Meaning.{without_work}
 use Rattle.abci.specs.declared.info.Info.{Info}
 use Rattle.abci_executor.specs.Blocks.{AddsBlock, Replies, ShowsBlocks}
-use Rattle.batch_pool.specs.Pools.{Answers, Leaves}
+use Rattle.batch_pool.specs.Pools.{AnswersSubmission, Leaves}
 use Rattle.replica_core.specs.Facts.{info_reply}
 
 module _ (m : Machine) (kind : AppKind) (batches : List Value) (is : m ≡ run kind batches) where
@@ -38,7 +38,7 @@ module _ (m : Machine) (kind : AppKind) (batches : List Value) (is : m ≡ run k
 
   -- what is answered to a transaction
   pub answered : (app : Machine) (pool : Value) (tx : List ℕ) (answer : Result (Unit {0}) SubmitRefusal) → without_work app ≡ m
-      → Answers app pool tx answer
+      → AnswersSubmission app pool tx answer
       → answer ≡ submit_answer pool tx (check_reply kind batches tx)
   answered app pool tx answer same shown =
       shown batches (same ∙ reached_by) ∙ ap (λ k. submit_answer pool tx (check_reply k batches tx)) of_kind
@@ -66,7 +66,7 @@ module _ (m : Machine) (kind : AppKind) (batches : List Value) (is : m ≡ run k
   pub led : (batch : Value) (block : BlockResult) (new : Machine) → AddsBlock m batch block new → new ≡ run kind (batches ++ batch ∷ [])
   led batch block new adds = (adds batches reached).1 ∙ ap (λ k. run k (batches ++ batch ∷ [])) kind_is
 
-  -- what it tells of itself
+  -- what it answers of itself
   pub shown : (info : Info) → ShowsBlocks m info → info ≡ info_reply kind batches
   shown info shows =
       let height = (shows batches reached).0 in

@@ -17,7 +17,7 @@ at_least a b le = elim (cases_Bool (nat_lt a b)) [
   | inr not_below ↦ (let ge = ltb-false a b not_below in or_right (nat_lt a b) (a == b) (eq-eqb a b (omega (arith, le, ge))))
 ]
 
--- behind those of one height none falls, where each is at least of that height
+-- after those of one height none falls, where each is at least of that height
 pub falls_nowhere : (n : ℕ) (ss ts : List SignedStatement) → AllByRecursion (λ s. height_in s ≡ n) ss
     → AllByRecursion (λ t. n ≤ height_in t) ts
     → never_falls (map height_in ts) ≡ true → never_falls (map height_in (ss ++ ts)) ≡ true

@@ -55,7 +55,7 @@ at_most_one config id h log c own made may = elim (cases_Bool (nat_eq (place_of 
     by_lock (inl some) = subst (λ xs. length xs ≤ 1) (sym some.1) (omega arith)
     by_lock (inr none) = subst (λ xs. length xs ≤ 1) (sym none.0) (omega arith)
 
--- ---- what is told of one height
+-- ---- what is said of one height
 
 -- what is made there, and that its frames spell the statements of the height
 pub record IsShownAt (config : Config) (ring : Ring) (mute : Bool) (c : ℕ) (ss : List SignedStatement) (row : InstanceView) : Type 0 where

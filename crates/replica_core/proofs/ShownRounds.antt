@@ -215,7 +215,7 @@ ends_over held last false is goes_on =
     (λ entries matches keeps. let left = goes_on refl in let over = keeps.lawful in let now =
     matches.clock in absurd (omega (arith, left, over, now)))
 
--- a round that ends behind the last is refused
+-- a round that ends after the last is refused
 pub ends_late : (held : ReplicaStateView) (end : RoundEnded) → held.clock ≡ last_round
     → IsFollowed held event.RoundEnd (reply.RoundEnded (Ok end)) false held
 ends_late held end is =

@@ -21,7 +21,7 @@ step_rises a b h = elim (cases_Bool (nat_lt a b)) [
   | inr not_below ↦ (let same = eqb-true a b (rw not_below at h) in omega (arith, same))
 ]
 
--- behind the first nothing falls
+-- after the first nothing falls
 tail_rises : (s : SignedStatement) (ss : List SignedStatement) → never_falls (map height_in (s ∷ ss)) ≡ true
     → never_falls (map height_in ss) ≡ true
 tail_rises s [] h = refl
@@ -89,7 +89,7 @@ none_of_other h other ss apart =
     (each_weaker (λ s. height_in s ≡ h) (λ s. (height_in s == other) ≡ false) (of_height h ss)
     (λ s e. ne_eqb (height_in s) other (λ f. apart (sym e ∙ f))) (all_of h ss))
 
--- those of another height are behind
+-- those of another height come after
 of_back : (h other : ℕ) (ss : List SignedStatement) (p : Parted h ss) → (h ≡ other → ⊥) → of_height other ss ≡ of_height other p.back
 of_back h other ss p apart =
     ap (of_height other) p.is ∙ filter-append (λ s. height_in s == other) (of_height h ss) p.back

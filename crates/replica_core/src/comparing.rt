@@ -8,11 +8,26 @@ use ledger_model::{
     RetireRefusal, Sent, SubmitRefusal,
 };
 
+/// What a submit is answered.
+type SubmissionReply = Result<(), SubmitRefusal>;
+
+/// What a propose is answered.
+type OpeningReply = Result<Batch, ProposeRefusal>;
+
+/// What a delivery is answered.
+type DeliveryReply = Result<(), Ignored>;
+
+/// What a retirement is answered.
+type RetirementReply = Result<Height, RetireRefusal>;
+
+/// What an execution is answered.
+type ExecutionReply = Result<BlockResult, NothingDecided>;
+
+/// What a query is answered.
+type QueryReply = Result<QueryAnswer, NotHeld>;
+
 /// Whether both replies take the transaction, or refuse it for the same cause.
-pub(crate) fn is_same_submitted(
-    due: &Result<(), SubmitRefusal>,
-    shown: &Result<(), SubmitRefusal>,
-) -> bool
+pub(crate) fn is_same_submitted(due: &SubmissionReply, shown: &SubmissionReply) -> bool
     ensures { result ≡ true ↔ due.now ≡ shown.now }
 {
     match (due, shown) {
@@ -23,10 +38,7 @@ pub(crate) fn is_same_submitted(
 }
 
 /// Whether both replies open the height with the same batch, or refuse it for the same cause.
-pub(crate) fn is_same_proposed(
-    due: &Result<Batch, ProposeRefusal>,
-    shown: &Result<Batch, ProposeRefusal>,
-) -> bool
+pub(crate) fn is_same_proposed(due: &OpeningReply, shown: &OpeningReply) -> bool
     ensures { result ≡ true ↔ due.now ≡ shown.now }
 {
     match (due, shown) {
@@ -37,7 +49,7 @@ pub(crate) fn is_same_proposed(
 }
 
 /// Whether both replies read the frame, or ignore it for the same cause.
-pub(crate) fn is_same_delivered(due: &Result<(), Ignored>, shown: &Result<(), Ignored>) -> bool
+pub(crate) fn is_same_delivered(due: &DeliveryReply, shown: &DeliveryReply) -> bool
     ensures { result ≡ true ↔ due.now ≡ shown.now }
 {
     match (due, shown) {
@@ -48,10 +60,7 @@ pub(crate) fn is_same_delivered(due: &Result<(), Ignored>, shown: &Result<(), Ig
 }
 
 /// Whether both replies raise the floor to the same height, or refuse it for the same cause.
-pub(crate) fn is_same_retired(
-    due: &Result<Height, RetireRefusal>,
-    shown: &Result<Height, RetireRefusal>,
-) -> bool
+pub(crate) fn is_same_retired(due: &RetirementReply, shown: &RetirementReply) -> bool
     ensures { result ≡ true ↔ due.now ≡ shown.now }
 {
     match (due, shown) {
@@ -71,10 +80,7 @@ fn is_same_block(due: &BlockResult, shown: &BlockResult) -> bool
 }
 
 /// Whether both replies have the same result of a block, or both report that none is decided.
-pub(crate) fn is_same_executed(
-    due: &Result<BlockResult, NothingDecided>,
-    shown: &Result<BlockResult, NothingDecided>,
-) -> bool
+pub(crate) fn is_same_executed(due: &ExecutionReply, shown: &ExecutionReply) -> bool
     ensures { result ≡ true ↔ due.now ≡ shown.now }
 {
     match (due, shown) {
@@ -99,10 +105,7 @@ fn is_same_answer(due: &QueryAnswer, shown: &QueryAnswer) -> bool
 }
 
 /// Whether both replies have the same answer to a query, or both report that the height is not held.
-pub(crate) fn is_same_queried(
-    due: &Result<QueryAnswer, NotHeld>,
-    shown: &Result<QueryAnswer, NotHeld>,
-) -> bool
+pub(crate) fn is_same_queried(due: &QueryReply, shown: &QueryReply) -> bool
     ensures { result ≡ true ↔ due.now ≡ shown.now }
 {
     match (due, shown) {

@@ -2,7 +2,7 @@
 use Rattle.std.proofs.Common.{◌≡◌, ℕ, ◌+◌, ◌-◌, ◌≤◌, List, ◌++◌, length, take, sym, subst, arith}
 use Rattle.std.proofs.Math.Seq.{take-append-add}
 
--- what is cut to the room behind a list is what both come to, cut to the whole
+-- what is cut to the room after a list is what both come to, cut to the whole
 pub take_behind : {A : Type 0} (xs ys : List A) (n : ℕ) → length xs ≤ n → xs ++ take (n - length xs) ys ≡ take n (xs ++ ys)
 take_behind {A} xs ys n fits =
     let whole : length xs + (n - length xs) ≡ n = omega arith in

@@ -30,7 +30,7 @@ pub fails : (p : ℕ → Bool) (first height : ℕ) → first ≤ height → p h
 fails p first height from is =
     searched p first height from ∙ ap (λ l. filter p (range_with_len first (height - first)) ++ l) (rw is refl) ∙ append-nil _
 
--- what is lent is there where what it shows is
+-- a borrowed value is there where what it shows is
 pub none_copied : {T : Type 0} (lent : Option (Bor T)) (shown : Option T) → option_copied lent ≡ shown → is_none lent ≡ true
     → not (is_some shown) ≡ true
 none_copied None shown e none = ap (λ o. not (is_some o)) (sym e)

@@ -49,7 +49,7 @@ lock_note v c (Round d) s is = absurd (cc)
 lock_note v c (OwnStatement d u) s is = absurd (cc)
 lock_note v c (Retired f) s is = absurd (cc)
 
--- what a held lock tells
+-- what a held lock shows
 pub record Held (log : List Note) (s : SignedStatement) (l : Lock) : Type 0 where
   pub phase : ℕ
   pub some : 1 ≤ phase

@@ -115,46 +115,8 @@ fn hands_back<R: Wait>(
     Ok(put_bytes(rt, alloc, inbox, pass, &[byte])? == Some(byte))
 }
 
-/// Whether 1024 frames are accepted, and one more only after one is taken.
-fn takes_in_1024<R: Wait>(
-    rt: &R,
-    alloc: Global,
-    inbox: &Inbox,
-    taking: &mut TakingPass,
-    putting: &mut PuttingPass,
-) -> Result<bool, AllocError>
-    requires taking { taking.old.inbox ≡ inbox.now }
-    requires putting { putting.old.inbox ≡ inbox.now }
-    ensures taking { taking.new.inbox ≡ taking.old.inbox }
-    ensures putting { putting.new.inbox ≡ putting.old.inbox }
-{
-    let is_filled = fills(rt, alloc, inbox, putting, 1024)?;
-    let is_full = hands_back(rt, alloc, inbox, putting, 99)?;
-    let has_come = comes(rt, inbox, taking, 0);
-    let is_taken_in = fills(rt, alloc, inbox, putting, 1)?;
-    Ok(is_filled && is_full && has_come && is_taken_in)
-}
-
-/// Whether an empty inbox accepts 1024 frames, and returns them in order.
-fn holds_1024<R: Wait>(
-    rt: &R,
-    alloc: Global,
-    inbox: &Inbox,
-    taking: &mut TakingPass,
-    putting: &mut PuttingPass,
-) -> Result<bool, AllocError>
-    requires taking { taking.old.inbox ≡ inbox.now }
-    requires putting { putting.old.inbox ≡ inbox.now }
-    ensures taking { taking.new.inbox ≡ taking.old.inbox }
-    ensures putting { putting.new.inbox ≡ putting.old.inbox }
-{
-    let was_empty = is_empty(rt, inbox, taking);
-    let are_held = takes_in_1024(rt, alloc, inbox, taking, putting)?;
-    let others_came = comes_in_order(rt, inbox, taking, 1, 1025);
-    Ok(was_empty && are_held && others_came && is_empty(rt, inbox, taking))
-}
-
-/// Whether it is pass 1, by which an empty inbox accepts 1024 frames, and three more are accepted, of which the first is taken.
+/// Whether the pass is number 1, and through it an empty inbox accepts 1024 frames, accepts one more only after one is taken,
+/// returns all in order, accepts three more, and returns the first of those.
 fn holds_by_one<R: Wait>(
     rt: &R,
     alloc: Global,
@@ -167,10 +129,18 @@ fn holds_by_one<R: Wait>(
     ensures taking { taking.new.inbox ≡ taking.old.inbox }
     ensures putting { putting.new.inbox ≡ putting.old.inbox }
 {
-    let are_held = holds_1024(rt, alloc, inbox, taking, putting)?;
-    let are_filled = fills(rt, alloc, inbox, putting, 3)?;
-    let has_come = comes(rt, inbox, taking, 0);
-    Ok(putting.number() == 1 && are_held && are_filled && has_come)
+    let was_empty = is_empty(rt, inbox, taking);
+    let is_filled = fills(rt, alloc, inbox, putting, 1024)?;
+    let is_full = hands_back(rt, alloc, inbox, putting, 99)?;
+    let first_came = comes(rt, inbox, taking, 0);
+    let is_filled_again = fills(rt, alloc, inbox, putting, 1)?;
+    let others_came = comes_in_order(rt, inbox, taking, 1, 1025);
+    let is_empty_again = is_empty(rt, inbox, taking);
+    let are_accepted = fills(rt, alloc, inbox, putting, 3)?;
+    let next_came = comes(rt, inbox, taking, 0);
+    let accepts = was_empty && is_filled && is_full && is_filled_again && are_accepted;
+    let gives = first_came && others_came && is_empty_again && next_came;
+    Ok(putting.number() == 1 && accepts && gives)
 }
 
 /// Whether the second of two passes does so, and its other frames arrive after both passes are handed back.

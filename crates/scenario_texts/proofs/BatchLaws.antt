@@ -81,7 +81,7 @@ first_whole : (c : ℕ) (word rest : List ℕ) → without_first c word ≡ Some
 first_whole c [] rest e = absurd cc
 first_whole c (b ∷ more) rest e = let (test, same) = if_some (b == c) more rest e in let equal : b ≡ c = eqb-true b c test in cc
 
--- what stands in brackets
+-- what is in brackets
 bracketed-sound : (word inner : List ℕ) → bracketed word ≡ Some inner → word ≡ codes "[" ++ inner ++ codes "]"
 unfolding bracketed
 bracketed-sound word inner e =
@@ -118,7 +118,7 @@ some_join piece [] some e = some e
 some_join [] (next ∷ more) some e = some refl
 some_join (b ∷ piece) (next ∷ more) some e = cc
 
--- no comma stands in the transactions
+-- no comma is in the transactions
 lack_commas : (v : Value) → AllByRecursion IsTx v → AllByRecursion (Lacks 44) (map bytes_text v)
 lack_commas [] all = tt
 lack_commas (tx ∷ v) (first, all) = (Lacks-bytes_text tx first.bytes, lack_commas v all)

@@ -39,7 +39,7 @@ number_of-sound word n e = by_test (is_decimal word && not (has_needless_zero wo
         (number_text_of word n (not_true (has_needless_zero word) words.1) words.0 value small, small)
     by_test false is e = absurd cc
 
--- whoever reads numbers so reads them as here
+-- a reader of numbers reads them as this one does
 pub number_of-is : (word : List ℕ) (r : Option ℕ) → IfSome r (λ n. n < 2 ^ 32) → IfSome r (λ n. word ≡ number_text n)
     → ((n : ℕ) → n < 2 ^ 32 → word ≡ number_text n → r ≡ Some n) → r ≡ number_of word
 number_of-is word (Some n) small value found = sym (ap number_of value ∙ number_of-again n small)

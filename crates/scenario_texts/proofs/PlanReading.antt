@@ -36,7 +36,7 @@ is_new_liar-true p n none room within fresh =
     let replica : nat_lt n p.replicas ≡ true = grind (arith, nat_tests) in
     rw (none, few, replica, fresh) refl
 
--- what is told where one may be
+-- what is answered where one may be
 pub record MayLie (p : Plan) (n : ℕ) : Type 0 where
   pub no_steps : p.commands ≡ []
   pub few : length p.liars < p.faults

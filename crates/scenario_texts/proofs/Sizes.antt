@@ -40,7 +40,7 @@ pub none_counted : (count : LineCount) → count.ended ≡ 0 → count.under_way
 none_counted count none short =
     record { lines = []; rest = []; whole = refl; unbroken = tt; under_way = none_unbroken; ended = sym none; long = sym short }
 
--- a text with a byte more behind its lines
+-- a text with a byte more after its lines
 behind : (lines : List (List ℕ)) (text rest more : List ℕ) → text ≡ flat_map ended lines ++ rest
     → text ++ more ≡ flat_map ended lines ++ (rest ++ more)
 behind lines text rest more whole = ap (λ t. t ++ more) whole ∙ append_assoc (flat_map ended lines) rest more
@@ -243,7 +243,7 @@ split : (text : List ℕ) → IsSplit text
 split [] = has_none none_unbroken
 split (b ∷ text) = split_by b text (b == 10) refl (split text)
 
--- one behind the other
+-- one after the other
 unbroken_both : (a b : List ℕ) → IsUnbroken a → IsUnbroken b → IsUnbroken (a ++ b)
 unbroken_both a b u v = All-append (λ c. c ≢ 10) a b u v
 

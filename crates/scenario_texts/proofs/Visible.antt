@@ -40,7 +40,7 @@ comma_spelled b e = by_test (b == 44) refl
         subst (λ (x : ℕ). is_spelled x ≡ true) at e in absurd cc
     by_test false is = refl
 
--- no comma stands in them
+-- no comma is in them
 pub Lacks-bytes_text : (bytes : List ℕ) → AllByRecursion (λ b. b < 256) bytes → Lacks 44 (bytes_text bytes)
 Lacks-bytes_text bytes small =
     All-weaker (λ c. is_spelled c ≡ true) (λ b. (b == 44) ≡ false) comma_spelled (bytes_text bytes) (is_spelled-bytes_text bytes small)
@@ -58,7 +58,7 @@ IsWord-number_text n small =
 space_visible : (b : ℕ) → IsVisible b → (b == 32) ≡ false
 space_visible b h = grind (arith, nat_tests)
 
--- no space stands in a word
+-- no space is in a word
 pub Lacks-word : (word : List ℕ) → IsWord word → Lacks 32 word
 Lacks-word word all = All-weaker IsVisible (λ b. (b == 32) ≡ false) space_visible word all
 

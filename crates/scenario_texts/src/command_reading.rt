@@ -1,6 +1,6 @@
 //! Reads the commands of a scenario, one from each line.
 ghost use Rattle.std.specs.Prelude.{◌≡◌, ◌==◌, map, IfOk};
-ghost use Rattle.scenario_texts.specs.Reading.{liar_of, lie_of, submit_of, inject_of, query_of, propose_of, retire_of, pass_of, simple_of, stale_of, lying_of, command_of};
+ghost use Rattle.scenario_texts.specs.Reading.{liar_of, lie_of, submit_of, inject_of, query_of, propose_of, retire_of, pass_of, simple_of, stale_of, command_of};
 
 use crate::batch::batch;
 use crate::command::{Command, Lie};
@@ -24,7 +24,7 @@ fn liar(liars: &[ReplicaId], word: &str) -> Option<ReplicaId>
     liars.iter().copied().find(is_named)
 }
 
-/// The lie that the fields encode.
+/// The lie that the fields `L H K BATCH TO` encode.
 #[tactic(auto, unfolding(crate::specs::Reading::lie_of))]
 fn lie(
     version: Version,
@@ -197,30 +197,8 @@ fn simple(keyword: Keyword, fields: &[&str]) -> Option<Command>
     }
 }
 
-/// `lie-report`, `lie-lock` and `lie-ack`, each with `L H K BATCH TO`
-#[tactic(auto, unfolding(crate::specs::Reading::lying_of))]
-fn lying(
-    version: Version,
-    alloc: Global,
-    liars: &[ReplicaId],
-    keyword: Keyword,
-    fields: &[&str],
-) -> Result<Option<Command>, AllocError>
-    ensures { IfOk result (λ found. found ≡ lying_of version liars.now keyword (map (λ field. field.now) fields.now)) }
-{
-    let Some(lie) = lie(version, alloc, liars, fields)? else {
-        return Ok(None);
-    };
-    match keyword {
-        Keyword::LieReport => Ok(Some(Command::LieReport(lie))),
-        Keyword::LieLock => Ok(Some(Command::LieLock(lie))),
-        Keyword::LieAck => Ok(Some(Command::LieAck(lie))),
-        _ => Ok(None),
-    }
-}
-
 /// The command of a line, in a cluster with frames of this version and these liars.
-#[tactic(auto, unfolding(crate::specs::Reading::command_of))]
+#[tactic(auto, unfolding(crate::specs::Reading::command_of, crate::specs::Reading::lying_of))]
 pub(crate) fn command(
     version: Version,
     alloc: Global,
@@ -237,9 +215,9 @@ pub(crate) fn command(
         Keyword::Propose => Ok(propose(fields)),
         Keyword::Retire => Ok(retire(fields)),
         Keyword::Pass => Ok(pass(fields)),
-        Keyword::LieReport | Keyword::LieLock | Keyword::LieAck => {
-            lying(version, alloc, liars, keyword, fields)
-        }
+        Keyword::LieReport => Ok(lie(version, alloc, liars, fields)?.map(Command::LieReport)),
+        Keyword::LieLock => Ok(lie(version, alloc, liars, fields)?.map(Command::LieLock)),
+        Keyword::LieAck => Ok(lie(version, alloc, liars, fields)?.map(Command::LieAck)),
         Keyword::LieStale => stale(version, alloc, liars, fields),
         _ => Ok(simple(keyword, fields)),
     }

@@ -4,7 +4,7 @@ use Rattle.std.proofs.lemmas.List.{take_all, take_at, drop_at, drop_all, append-
 use borrow.Rule.Slice.PartMut.{put_mid}
 use Rattle.sha2.specs.Sha256.{compress, digest_bytes, hash_after, initial_hash_256, padded_message, padding, sha256}
 
--- a block that is filled with a message and what stands behind it
+-- a block that is filled with a message and what follows it
 pub filled : (m xs ys zs : List ℕ) → xs ≡ m → length m ≡ 55 → length ys ≡ 9 → put_mid 55 9 (xs ++ ys) zs ≡ m ++ zs
 filled m xs ys zs same long rest =
     let whole : length xs ≡ 55 = omega (arith, ap length same) in

@@ -54,7 +54,7 @@ next-digest m r whole =
     get_or-append_right (take 22 m ++ ((slice_index m 22 + 1) % 256 ∷ [])) (sha256 m) 23 (23 + r) 0 (front-is m whole) (omega arith)
     ∙ ap (slice_index (sha256 m)) back
 
--- what stands behind a message
+-- what follows a message
 abbrev tail : List ℕ
 tail = 0x80 ∷ 0 ∷ 0 ∷ 0 ∷ 0 ∷ 0 ∷ 0 ∷ 0x01 ∷ 0xb8 ∷ []
 
@@ -111,7 +111,7 @@ byte-3 n = refl
 
 -- ---- rounds
 
--- so many rounds look at so many words
+-- n rounds look at n words
 pub rounds-same : (h ws vs : List ℕ) (n : ℕ) → ((t : ℕ) → t < n → slice_index ws t ≡ slice_index vs t) → rounds h ws n ≡ rounds h vs n
 unfolding rounds
 rounds-same h ws vs zero same = refl
@@ -317,7 +317,7 @@ words-next m h w k5 k6 k7 k8 k9 k10 k11 k12 k13 whole bytes read is e5 e6 e7 e8 
     (e13 ∙ word-ended m h whole digest fits)
     (read 14 (omega arith) ∙ word-back m 14 whole (omega arith)) (read 15 (omega arith) ∙ word-back m 15 whole (omega arith))
 
--- a word of a block, as bytes behind those before it
+-- a word of a block, as bytes after those before it
 pub take-word : (b : List ℕ) (k w : ℕ) → length b ≡ 64 → k < 16 → AreBytes b → w ≡ word_at b (4 * k)
     → take (4 * k) b ++ to_be_bytes w32 w ≡ take (4 * (k + 1)) b
 take-word b k w whole low bytes is =

@@ -24,7 +24,7 @@ whole_handed version bytes rest frames out (Found fault.Failed) split leaves = a
 whole_handed version bytes rest frames out (Found fault.NoMemory) split leaves = absurd leaves
 whole_handed version bytes rest frames out Failed split leaves = absurd leaves
 
--- no fault is told there
+-- no fault is reported there
 whole_told : (version : Version) (kept piece rest : List ℕ) (frames : List SignedStatement) (told : FrameFault) (new : ReaderState)
     → SplitsTo version (kept ++ piece) frames rest → Faults version kept piece told new → told ≡ fault.NoMemory
 whole_told version kept piece rest frames fault.TooLong new split faults = absurd
@@ -45,7 +45,7 @@ long_handed version bytes frames out (Found fault.Failed) breaks leaves = absurd
 long_handed version bytes frames out (Found fault.NoMemory) breaks leaves = absurd leaves
 long_handed version bytes frames out Failed breaks leaves = absurd leaves
 
--- and which fault is told there
+-- and which fault is reported there
 long_told : (version : Version) (kept piece : List ℕ) (frames : List SignedStatement) (told : FrameFault) (new : ReaderState)
     → BreaksOff BeginsTooLong version (kept ++ piece) frames → Faults version kept piece told new → FaultAt frames fault.TooLong told
 long_told version kept piece frames fault.TooLong new breaks faults = inl
@@ -66,7 +66,7 @@ bad_handed version bytes frames out (Found fault.Failed) breaks leaves = absurd 
 bad_handed version bytes frames out (Found fault.NoMemory) breaks leaves = absurd leaves
 bad_handed version bytes frames out Failed breaks leaves = absurd leaves
 
--- and which fault is told there
+-- and which fault is reported there
 bad_told : (version : Version) (kept piece : List ℕ) (frames : List SignedStatement) (told : FrameFault) (new : ReaderState)
     → BreaksOff BeginsMalformed version (kept ++ piece) frames → Faults version kept piece told new → FaultAt frames fault.Malformed told
 bad_told version kept piece frames fault.TooLong new breaks faults = absurd

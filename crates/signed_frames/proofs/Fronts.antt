@@ -39,7 +39,7 @@ is_malformed version bytes len whole says short none = (
       ∙ sym (reading_front version bytes len whole says) ∙ none,
 )
 
--- what stands in front and is a frame
+-- what comes first and is a frame
 pub is_front : (bytes : List ℕ) (n : ℕ) (s : SignedStatement) → n ≤ length bytes → take n bytes ≡ frame_bytes s
     → bytes ≡ frame_bytes s ++ drop (length (frame_bytes s)) bytes
 is_front bytes n s fits e =

@@ -10,7 +10,7 @@ use Rattle.signed_frames.specs.Cuts.{FramesHoweverCut}
 use Rattle.signed_frames.specs.Reader.{ReaderState, Reading, Found, Failed, Leaves}
 use Rattle.signed_frames.proofs.Fronts.{frames_join}
 
--- more bytes stand behind the rest
+-- more bytes follow the rest
 pub longer : (version : Version) (bytes rest more : List ℕ) (frames : List SignedStatement) → Frames version bytes frames rest
     → Frames version (bytes ++ more) frames (rest ++ more)
 longer version bytes rest more frames f = (f.0, ap (λ (x : List ℕ). x ++ more) f.1 ∙ append_assoc (flat_map frame_bytes frames) rest more)

@@ -14,7 +14,7 @@ use Rattle.signed_frames.specs.Lending.{SignedPartView}
 use Rattle.signed_frames.specs.Parts.{signed_by_last, HoldsFrame}
 use Rattle.signed_frames.proofs.FrameParts.{holds_length}
 
--- what stands between two places, and behind the second
+-- what stands between two places, and after the second
 pub cut : (frame m behind : List ℕ) (at end : ℕ) → drop at frame ≡ m ++ behind → end ≡ at + length m
     → (slice_range frame at end ≡ m) × (drop end frame ≡ behind)
 cut frame m behind at end e n = (
@@ -26,7 +26,7 @@ cut frame m behind at end e n = (
 pub cut_within : (frame m behind : List ℕ) (at : ℕ) → drop at frame ≡ m ++ behind → 1 ≤ length m → at + length m ≤ length frame
 cut_within frame m behind at e some = omega (arith, some, length-drop at frame, ap length e, length-append m behind)
 
--- a message, two bytes and a signature, and what is behind them
+-- a message, two bytes and a signature, and what is after them
 pub signed_cut : (frame m w s rest : List ℕ) (at : ℕ) → drop at frame ≡ (m ++ (w ++ s)) ++ rest → length w ≡ 2
     → (slice_range frame at (at + length m) ≡ m)
     × (slice_range frame (at + length m + 2) (at + length m + 2 + length s) ≡ s)

@@ -53,7 +53,7 @@ one_outcome version bytes frames others (Some fault.Malformed) (Some fault.NoMem
 one_outcome version bytes frames others (Some fault.Failed) b x y = absurd x
 one_outcome version bytes frames others (Some fault.NoMemory) b x y = absurd x
 
--- ---- more bytes behind what is of no frame
+-- ---- more bytes after what is of no frame
 
 announced-longer : (bytes more : List ℕ) → 4 ≤ length bytes → announced (bytes ++ more) ≡ announced bytes
 announced-longer bytes more four = ap (from_be_bytes w32) (take-append-le 4 bytes more four)

@@ -13,7 +13,7 @@ use Rattle.ledger_model.specs.declared.statement.SignedStatement.{SignedStatemen
 use Rattle.ledger_model.specs.declared.statement.Statement.{Statement}
 use Rattle.ledger_model.specs.declared.statement.Statement.TheVariants as statement
 use Rattle.ledger_model.specs.Values.{Value, value_bytes, IsTx, IsValueIn}
-use Rattle.ledger_model.specs.Spelling.{SpellsFrame, IsSignature, IsValueList, IsSigned, IsLock, IsStatement, list_bytes}
+use Rattle.ledger_model.specs.Spelling.{SpellsFrame, IsSignature, IsValueList, IsSignedReport, IsLock, IsStatement, list_bytes}
 use Rattle.ledger_model.specs.Spelling.{report_bytes, signature_bytes, signed_bytes, lock_bytes, statement_bytes, body_bytes}
 use Rattle.signed_frames.specs.Parts.{HoldsStatement}
 use Rattle.signed_frames.proofs.FrameParts.{body_length, written}
@@ -72,7 +72,7 @@ report_parts r =
     )
 
 -- a signed report has at most `signed_most` bytes in a lock of this version
-signed_bound : (version : Version) (s : SignedReport) → IsSigned version s → length (signed_bytes s) ≤ signed_most version
+signed_bound : (version : Version) (s : SignedReport) → IsSignedReport version s → length (signed_bytes s) ≤ signed_most version
 signed_bound version s is = of_versions version s.report.version is.read
     (value_bound s.report.version s.report.initial is.report.initial)
     (list_bound s.report.version s.report.proper is.report.proper) (list_bound s.report.version s.report.locked is.report.locked)
@@ -88,7 +88,7 @@ signed_bound version s is = of_versions version s.report.version is.read
 
 lock_bound : (l : Lock) → IsLock l → length (lock_bytes l) ≤ lock_most l.version
 lock_bound l is = of_version l.version is.count.1 (value_bound l.version l.value is.value)
-    (flat_bound (IsSigned l.version) signed_bytes (signed_most l.version) (signed_bound l.version) l.proof is.each)
+    (flat_bound (IsSignedReport l.version) signed_bytes (signed_most l.version) (signed_bound l.version) l.proof is.each)
     (omega (
       arith,
       length-append (start ++ value_bytes l.value ++ (length l.proof ∷ [])) (flat_map signed_bytes l.proof),
@@ -140,7 +140,7 @@ body_bound s is short = of_version (version_of s.statement) (version_bound s.sta
     of_version One message signature body = omega (arith, message, signature, body)
     of_version Two message signature body = omega (arith, message, signature, body)
 
--- A body whose statement and signature are read, with nothing behind them, is one of the statement's version: it is never too long.
+-- A body whose statement and signature are read, with nothing after them, is one of the statement's version: it is never too long.
 pub body_read : (version : Version) (bytes left rest : List ℕ) (statement : Statement) (signature : List ℕ) → IsBytes bytes
     → statement_at bytes ≡ Some (statement, left) → signature_at left ≡ Some (signature, rest) → length rest ≡ 0
     → reads version (version_of statement) ≡ true

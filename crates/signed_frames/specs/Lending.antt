@@ -7,7 +7,7 @@ use Rattle.ledger_model.specs.declared.statement.Statement.{Statement}
 use Rattle.ledger_model.specs.declared.statement.Statement.TheVariants as statement
 use Rattle.ledger_model.specs.Notes.{signer_of}
 use Rattle.ledger_model.specs.declared.version.Version.{Version}
-use Rattle.ledger_model.specs.Spelling.{statement_bytes, signed_bytes, IsSigned}
+use Rattle.ledger_model.specs.Spelling.{statement_bytes, signed_bytes, IsSignedReport}
 
 -- who signed, the bytes over which the signature is made, and the bytes of the signature
 pub record SignedPartView : Type 0 where
@@ -31,6 +31,6 @@ proof_of (statement.Ack a) = []
 
 -- the frame has the bytes that encode these reports, one after the other, from there on; its length is that of a buffer
 pub record StandAt (at : ℕ) (reports : List SignedReport) (frame : List ℕ) : Type 0 where
-  pub each : (version : Version) × AllByRecursion (IsSigned version) reports
+  pub each : (version : Version) × AllByRecursion (IsSignedReport version) reports
   pub spelled : (rest : List ℕ) × (drop at frame ≡ flat_map signed_bytes reports ++ rest)
   pub short : length frame < 2 ^ 63

@@ -2,7 +2,7 @@
 
 ghost use Rattle.std.specs.Prelude.{◌≡◌, ◌<◌, ◌^◌, ◌++◌, ◌+◌, ℕ, List, length, map, drop};
 ghost use Rattle.ledger_model.specs.declared.version.Version.{Version};
-ghost use Rattle.ledger_model.specs.Spelling.{IsSigned, signed_bytes, IsLock, lock_bytes};
+ghost use Rattle.ledger_model.specs.Spelling.{IsSignedReport, signed_bytes, IsLock, lock_bytes};
 ghost use Rattle.signed_frames.specs.Lending.{lent_of, proof_of};
 ghost use Rattle.signed_frames.specs.Parts.{HoldsFrame};
 
@@ -55,7 +55,7 @@ impl<'a> Iterator for LentReports<'a> {
 /// The signed report that begins there in the frame, and where it ends.
 #[tactic(auto, unfolding(ledger_model::specs::Spelling::statement_bytes))]
 fn report_at<'a>(frame: &'a Bytes, at: usize, signed: &SignedReport) -> (SignedPart<'a>, usize)
-    requires spelled { (version : Version) × IsSigned version signed.now }
+    requires spelled { (version : Version) × IsSignedReport version signed.now }
     requires short { length frame.now < 2 ^ 63 }
     requires front { (rest : List ℕ) × (drop at frame.now ≡ signed_bytes signed.now ++ rest) }
     ensures part { result.0 ≡ lent_of signed.now }

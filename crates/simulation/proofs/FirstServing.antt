@@ -37,7 +37,7 @@ of_frame l k r bytes frame reads = ap (λ o. if_serves l k r (option_and_then re
 pub of_no_frame : (l : Lie) (k r : ℕ) (bytes : List ℕ) → reading bytes ≡ None → None ≡ first_serving l k r (bytes ∷ [])
 of_no_frame l k r bytes reads = ap (λ o. if_serves l k r (option_and_then report_of o)) (sym reads) ∙ sym (of_one l k r bytes)
 
--- ---- frames, and those behind them
+-- ---- frames, and those after them
 
 abbrev serving_of : Lie → ℕ → ℕ → List (List ℕ) → List SignedReport
 serving_of l k r frames = filter (serves l k r) (filter_map report_in frames)

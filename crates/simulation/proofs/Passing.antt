@@ -9,7 +9,7 @@ use Rattle.ledger_model.specs.declared.world.WorldStep.TheVariants as step
 use Rattle.simulation.specs.Playing.{receivers, passes_from}
 use Rattle.ledger_model.proofs.Lists.{take-next}
 
--- the passes of these frames, and of one more behind them
+-- the passes of these frames, and of one more after them
 pub passes_more : (correct : List ℕ) (from index : ℕ) (fs : List Sent) (f : Sent)
     → passes_from correct from index (fs ++ f ∷ []) ≡ passes_from correct from index fs
     ++ map (step.Pass from (index + length fs)) (receivers correct from f.addressee)

@@ -123,15 +123,15 @@ round_so c mid d before out after correct none passes nothing is (ends, (more, (
 -- ---- lies
 
 -- a lie is told or not, and its text added
-abbrev pub ToldTo : Lie → Statement → SimulationView → List ℕ → List ℕ → SimulationView → Type 0
-ToldTo l said p before after q = (text : List ℕ) × (Lies l said p text q × (after ≡ before ++ text))
+abbrev pub LiesTo : Lie → Statement → SimulationView → List ℕ → List ℕ → SimulationView → Type 0
+LiesTo l said p before after q = (text : List ℕ) × (Lies l said p text q × (after ≡ before ++ text))
 
 -- the liar signs, and the frame is injected and kept
 pub tells_so : (l : Lie) (said : Statement) (p q mid : SimulationView) (frame : SignedStatement) (before after : List ℕ)
     → (frame.statement ≡ said) × Signed p.cluster l.liar said (Ok frame.signature) mid.cluster → mid.lies ≡ p.lies
     → (text : List ℕ) × (StepsEach step_text mid.cluster (injections_to (lie_receivers mid.cluster l.to) (frame_bytes frame)) text
     q.cluster × (after ≡ before ++ text) × (q.lies ≡ mid.lies ++ frame_bytes frame ∷ []))
-    → ToldTo l said p before after q
+    → LiesTo l said p before after q
 tells_so l said p q mid frame before after (is, signs) same_lies (text, (steps, printed, kept)) =
     let same : frame ≡ record { statement = said; signature = frame.signature } =
     ap (λ (x : Statement). let f : SignedStatement = record { statement = x; signature = frame.signature } in f) is in (
@@ -151,13 +151,13 @@ tells_so l said p q mid frame before after (is, signs) same_lies (text, (steps, 
 -- the liar has no leaf left
 pub tells_exhausted : (l : Lie) (said : Statement) (p q : SimulationView) (before after : List ℕ)
     → Signed p.cluster l.liar said (Err sign.Exhausted) q.cluster → q.lies ≡ p.lies
-    → after ≡ before ++ codes "exhausted\n" → ToldTo l said p before after q
+    → after ≡ before ++ codes "exhausted\n" → LiesTo l said p before after q
 tells_exhausted l said p q before after signs kept is = (ended (codes "exhausted"), (inl (Err sign.Exhausted, (signs, kept, refl)), is))
 
--- who is no liar tells nothing
+-- a replica that is no liar lies nothing
 pub tells_nothing : (l : Lie) (said : Statement) (p q : SimulationView) (before : List ℕ)
     → (liar_at p.cluster l.liar ≡ None) × (q.cluster ≡ p.cluster) → q.lies ≡ p.lies
-    → ToldTo l said p before before q
+    → LiesTo l said p before before q
 tells_nothing l said p q before (none, same) kept =
     let all : q ≡ p = ap (λ (c : WorldView). let s : SimulationView = record { cluster = c; lies = q.lies } in s) same
     ∙ ap (λ (ls : List (List ℕ)). let s : SimulationView = record { cluster = p.cluster; lies = ls } in s) kept in
@@ -176,7 +176,7 @@ lock_cannot l proof cannot p q before after few same is =
 -- enough do
 pub lock_can : (l : Lie) (proof : List SignedReport) (cannot : List ℕ) (p q : SimulationView) (before after : List ℕ)
     → length proof ≡ quorum p.cluster.config
-    → ToldTo l (statement.Lock (lying_lock l proof)) p before after q
+    → LiesTo l (statement.Lock (lying_lock l proof)) p before after q
     → (text : List ℕ) × (LiesLock l proof cannot p text q × (after ≡ before ++ text))
 lock_can l proof cannot p q before after many (text, (lies, is)) =
     (text, (by (nat_lt (length proof) (quorum p.cluster.config)) refl, is))

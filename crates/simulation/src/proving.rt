@@ -1,6 +1,6 @@
 //! The proofs of liars' locks: the serving reports, among those that were sent so far.
 ghost use Rattle.std.specs.Prelude.{◌≡◌, IfOk, IfSome};
-ghost use Rattle.ledger_model.specs.Spelling.{IsSigned};
+ghost use Rattle.ledger_model.specs.Spelling.{IsSignedReport};
 
 use crate::report_index;
 use crate::simulation::Simulation;
@@ -21,7 +21,7 @@ impl<A: Application> Simulation<A> {
     fn all_serving(&mut self, lie: &Lie, source: Phase) -> Result<Vec<SignedReport>, AllocError>
         ensures same { self.new ≡ self.old }
         ensures found { IfOk result (λ found. found.items ≡ all_serving self.old lie.now source) }
-        ensures spelled { IfOk result (λ found. AllByRecursion (IsSigned lie.now.version) found.items) }
+        ensures spelled { IfOk result (λ found. AllByRecursion (IsSignedReport lie.now.version) found.items) }
     {
         let alloc = self.allocator();
         report_index::all_serving(alloc, &mut self.index, &self.world, &self.lies, lie, source)
@@ -37,7 +37,7 @@ impl<A: Application> Simulation<A> {
         ensures same { self.new ≡ self.old }
         ensures proof { IfOk result (λ proof. IfSome proof (λ reports. reports.items ≡ proof_for self.old lie.now source)) }
         ensures count { IfOk result (λ proof. IfSome proof (λ reports. length reports.items ≡ quorum self.old.cluster.config)) }
-        ensures spelled { IfOk result (λ proof. IfSome proof (λ reports. AllByRecursion (IsSigned lie.now.version) reports.items)) }
+        ensures spelled { IfOk result (λ proof. IfSome proof (λ reports. AllByRecursion (IsSignedReport lie.now.version) reports.items)) }
         ensures ascend { IfOk result (λ proof. IfSome proof (λ reports. IsTrue (ascends_within 0 256 (signers_of reports.items)))) }
         ensures none { IfOk result (λ proof. IfNone proof (length (proof_for self.old lie.now source) < quorum self.old.cluster.config)) }
     {

@@ -1,7 +1,7 @@
 //! The index of the reports that were sent or signed so far, and the serving reports that it finds.
 ghost use Rattle.std.specs.Prelude.{◌≡◌, ◌+◌, ◌≤◌, ℕ, List, [], length, IfOk, IfSome, OnOk};
 ghost use Rattle.std.specs.List.{AllByRecursion};
-ghost use Rattle.ledger_model.specs.Spelling.{IsSigned};
+ghost use Rattle.ledger_model.specs.Spelling.{IsSignedReport};
 ghost use Rattle.adversary_net.specs.WorldViews.{WorldView};
 ghost use Rattle.simulation.specs.Indexes.{IsIndexOf};
 ghost use Rattle.simulation.specs.Playing.{serving, all_serving, simulation_of};
@@ -63,7 +63,7 @@ fn serving<A: Application>(
     requires index { IsIndexOf index.old world.now lies.now }
     requires next { replica ≤ length index.old.sent.items }
     ensures found { IfOk result (λ found. found ≡ serving (simulation_of world.now lies.now) lie.now source replica) }
-    ensures spelled { IfOk result (λ found. IfSome found (λ signed. IsSigned lie.now.version signed)) }
+    ensures spelled { IfOk result (λ found. IfSome found (λ signed. IsSignedReport lie.now.version signed)) }
     ensures made { OnOk result (replica + 1 ≤ length index.new.sent.items) }
     ensures index { IsIndexOf index.new world.now lies.now }
 {
@@ -95,7 +95,7 @@ pub(crate) fn all_serving<A: Application>(
 ) -> Result<Vec<SignedReport>, AllocError>
     requires index { IsIndexOf index.old world.now lies.now }
     ensures found { IfOk result (λ found. found.items ≡ all_serving (simulation_of world.now lies.now) lie.now source) }
-    ensures spelled { IfOk result (λ found. AllByRecursion (IsSigned lie.now.version) found.items) }
+    ensures spelled { IfOk result (λ found. AllByRecursion (IsSignedReport lie.now.version) found.items) }
     ensures index { IsIndexOf index.new world.now lies.now }
 {
     let mut reports = Vec::new(alloc);

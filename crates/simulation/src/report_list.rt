@@ -1,6 +1,6 @@
 //! The frames of the reports that a replica sent, or that liars signed.
 ghost use Rattle.std.specs.Prelude.{◌≡◌, ◌≤◌, ◌++◌, ◌∷◌, [], map, length, take, slice_get, IfOk, IfSome, OnOk};
-ghost use Rattle.ledger_model.specs.Spelling.{IsSigned};
+ghost use Rattle.ledger_model.specs.Spelling.{IsSignedReport};
 ghost use Rattle.ledger_model.specs.Worlds.{frames_sent};
 ghost use Rattle.simulation.specs.Lies.{first_serving, frames_of};
 ghost use Rattle.simulation.specs.Indexes.{report_frames};
@@ -225,7 +225,7 @@ impl ReportList {
         replica: ReplicaId,
     ) -> Result<Option<SignedReport>, AllocError>
         ensures found { IfOk result (λ found. found ≡ first_serving lie.now source replica (frames_at lie.now source replica self.now.reports.items)) }
-        ensures spelled { IfOk result (λ found. IfSome found (λ signed. IsSigned lie.now.version signed)) }
+        ensures spelled { IfOk result (λ found. IfSome found (λ signed. IsSignedReport lie.now.version signed)) }
     {
         for report in &self.reports {
             if report.is_at(lie, source, replica) {

@@ -1,7 +1,7 @@
 //! The statements of liars.
 ghost use Rattle.std.specs.Prelude.{◌≡◌, ◌≤◌, length, IfOk, IsTrue};
 ghost use Rattle.std.specs.List.{AllByRecursion};
-ghost use Rattle.ledger_model.specs.Spelling.{IsAck, IsLock, IsPlace, IsReport, IsSigned};
+ghost use Rattle.ledger_model.specs.Spelling.{IsAck, IsLock, IsPlace, IsReport, IsSignedReport};
 ghost use Rattle.ledger_model.specs.Values.{IsValueIn};
 ghost use Rattle.ledger_model.specs.Validity.{ascends_within, signers_of};
 ghost use Rattle.simulation.specs.Lies.{lying_ack, lying_lock, lying_report};
@@ -65,7 +65,7 @@ pub(crate) fn ack_of(lie: &Lie) -> Result<Ack, AllocError>
 /// The lock of a lie, with this proof: from 3 to 12 reports of ascending signers.
 pub(crate) fn lock_of(lie: &Lie, proof: Vec<SignedReport>) -> Result<Lock, AllocError>
     requires count { (3 ≤ length proof.items) × (length proof.items ≤ 12) }
-    requires each { AllByRecursion (IsSigned lie.now.version) proof.items }
+    requires each { AllByRecursion (IsSignedReport lie.now.version) proof.items }
     requires signers { IsTrue (ascends_within 0 256 (signers_of proof.items)) }
     ensures lock { IfOk result (λ lock. lock ≡ lying_lock lie.now proof.items) }
     ensures spelled { IfOk result (λ lock. IsLock lock) }

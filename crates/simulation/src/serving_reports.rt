@@ -1,7 +1,7 @@
 //! The reports that serve in the proof of a liar's lock: those of its height and of one phase, of a version that it carries, that find
 //! its value.
 ghost use Rattle.std.specs.Prelude.{◌≡◌, ◌∷◌, [], IfOk, IfSome, IsTrue, true};
-ghost use Rattle.ledger_model.specs.Spelling.{IsSigned};
+ghost use Rattle.ledger_model.specs.Spelling.{IsSignedReport};
 ghost use Rattle.ledger_model.specs.Versions.{reads};
 ghost use Rattle.simulation.specs.Lies.{serves_report, report_of, if_serves, first_serving};
 
@@ -33,7 +33,7 @@ fn serving_in(
     frame: &Frame,
 ) -> Result<Option<SignedReport>, AllocError>
     ensures found { IfOk result (λ found. found ≡ if_serves lie.now source replica (report_of frame.now)) }
-    ensures spelled { IfOk result (λ found. IfSome found (λ signed. IsSigned lie.now.version signed)) }
+    ensures spelled { IfOk result (λ found. IfSome found (λ signed. IsSignedReport lie.now.version signed)) }
 {
     match frame.statement() {
         Statement::Report(report) if serves(lie, source, replica, report) => {
@@ -56,7 +56,7 @@ pub(crate) fn serving_bytes(
     bytes: &Bytes,
 ) -> Result<Option<SignedReport>, AllocError>
     ensures found { IfOk result (λ found. found ≡ first_serving lie.now source replica (bytes.now ∷ [])) }
-    ensures spelled { IfOk result (λ found. IfSome found (λ signed. IsSigned lie.now.version signed)) }
+    ensures spelled { IfOk result (λ found. IfSome found (λ signed. IsSignedReport lie.now.version signed)) }
 {
     match Frame::parse_in(Version::Two, alloc, bytes.clone()?) {
         Ok(frame) => serving_in(alloc, lie, source, replica, &frame),

@@ -3,11 +3,11 @@ use Rattle.std.proofs.Common.{◌≡◌, ℕ, ◌+◌, ◌<◌, List, [], ◌∷
 use Rattle.std.specs.List.{flat_map}
 use Rattle.std.proofs.lemmas.List.{flat_map_more, take_more}
 
--- behind the old bytes stands the text, and now more of it
+-- after the old bytes comes the text, and now more of it
 pub joins : (old text more : List ℕ) {mid new : List ℕ} → mid ≡ old ++ text → new ≡ mid ++ more → new ≡ old ++ (text ++ more)
 joins old text more e f = f ∙ ap (λ (x : List ℕ). x ++ more) e ∙ append_assoc old text more
 
--- behind the old bytes stand the first of a list, and now one more
+-- after the old bytes come the first of a list, and now one more
 pub joins_one : {X : Type 0} (bytes : X → List ℕ) (old : List ℕ) (xs : List X) (i : ℕ) (x : X) {mid new : List ℕ} → i < length xs
     → x ≡ get_or xs i x
     → mid ≡ old ++ flat_map bytes (take i xs) → new ≡ mid ++ bytes x → new ≡ old ++ flat_map bytes (take (i + 1) xs)

@@ -6,7 +6,7 @@ ghost use Rattle.std.specs.Int.{w32, to_be_bytes};
 ghost use Rattle.ledger_model.specs.Values.{value_bytes};
 ghost use Rattle.ledger_model.specs.Versions.{first_byte};
 ghost use Rattle.ledger_model.specs.declared.version.Version.{Version};
-ghost use Rattle.ledger_model.specs.Spelling.{list_bytes, report_bytes, signature_bytes, signed_bytes, lock_bytes, ack_bytes, statement_bytes, IsReport, IsSignature, IsSigned, IsLock, IsAck, IsStatement};
+ghost use Rattle.ledger_model.specs.Spelling.{list_bytes, report_bytes, signature_bytes, signed_bytes, lock_bytes, ack_bytes, statement_bytes, IsReport, IsSignature, IsSignedReport, IsLock, IsAck, IsStatement};
 
 use crate::lengths::encoded_len;
 use ledger_model::{
@@ -126,7 +126,7 @@ fn put_signed(out: &mut Vec<u8>, signed: &SignedReport) -> Result<(), AllocError
 }
 
 fn put_reports(out: &mut Vec<u8>, reports: &[SignedReport]) -> Result<(), AllocError>
-    requires { (version : Version) × AllByRecursion (IsSigned version) reports.now }
+    requires { (version : Version) × AllByRecursion (IsSignedReport version) reports.now }
     ensures { OnOk result (out.new.items ≡ out.old.items ++ flat_map signed_bytes reports.now) }
 {
     for signed in reports {

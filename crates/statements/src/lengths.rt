@@ -4,7 +4,7 @@ ghost use Rattle.std.specs.Prelude.{◌≡◌, ◌≤◌, ◌*◌, ◌∷◌, le
 ghost use Rattle.std.specs.List.{flat_map, AllByRecursion};
 ghost use Rattle.ledger_model.specs.Values.{value_bytes};
 ghost use Rattle.ledger_model.specs.declared.version.Version.{Version};
-ghost use Rattle.ledger_model.specs.Spelling.{list_bytes, report_bytes, signed_bytes, lock_bytes, ack_bytes, statement_bytes, IsReport, IsSignature, IsSigned, IsLock, IsAck, IsStatement};
+ghost use Rattle.ledger_model.specs.Spelling.{list_bytes, report_bytes, signed_bytes, lock_bytes, ack_bytes, statement_bytes, IsReport, IsSignature, IsSignedReport, IsLock, IsAck, IsStatement};
 
 use ledger_model::{Ack, Batch, Batches, Lock, Report, SignedReport, Statement, Tx};
 
@@ -63,7 +63,7 @@ fn signed_len(signed: &SignedReport) -> usize
 /// The number of bytes of at most 12 encoded signed reports together.
 pub fn reports_len(reports: &[SignedReport]) -> usize
     requires count { length reports.now ≤ 12 }
-    requires each { (version : Version) × AllByRecursion (IsSigned version) reports.now }
+    requires each { (version : Version) × AllByRecursion (IsSignedReport version) reports.now }
     ensures len { result ≡ length (flat_map signed_bytes reports.now) }
     ensures bound { result ≤ 39972 * length reports.now }
 {

@@ -190,7 +190,7 @@ mask_read_bit {X = X} places r = mask_bit (λ x. true) places r ∙ flag (read_o
     flag None = refl
     flag (Some x) = refl
 
--- a mask has no bit where nothing that was read passes
+-- a mask has no bit at a replica of which no statement passes
 pub mask_any : {X : Type 0} (test : X → Bool) (places : Places X) → nat_eq (mask_of test places) 0 ≡ not (list_any test (all_read places))
 mask_any {X = X} test places =
     elim (cases_Bool (list_any test (all_read places))) [

@@ -13,8 +13,8 @@ returns-in-Ok-query-clause-long g c = search rules
 pub returns-in-Ok-query-clause-long_same : goal.returns-in-Ok-query-clause-long_same
 returns-in-Ok-query-clause-long_same g c = search rules
 
-pub returns-in-Ok-query-clause-told : goal.returns-in-Ok-query-clause-told
-returns-in-Ok-query-clause-told g c = record {
+pub returns-in-Ok-query-clause-outcome : goal.returns-in-Ok-query-clause-outcome
+returns-in-Ok-query-clause-outcome g c = record {
   old = c.args.state.now;
   new = c.query.new.state;
   went = c.in-Ok-query.ensures.on;
@@ -33,8 +33,8 @@ returns-in_default-key-clause-event g c = search rules
 pub returns-in_default-key-clause-long : goal.returns-in_default-key-clause-long
 returns-in_default-key-clause-long g c = search rules
 
-pub returns-in_default-key-clause-told : goal.returns-in_default-key-clause-told
-returns-in_default-key-clause-told g c = record {
+pub returns-in_default-key-clause-outcome : goal.returns-in_default-key-clause-outcome
+returns-in_default-key-clause-outcome g c = record {
   old = c.args.state.now;
   new = c.args.state.now;
   went = record { same = refl; leaves = omega arith; replay = c.len.ensures.replay };

@@ -12,8 +12,8 @@ returns-in-Some-delivered_at-clause-found g c =
     (reply_lent c.reply.result) c.reply.ensures c.in-Some-delivered_at.found c.in-Some-delivered_at.ensures
     ∙ c.loop-index.invariant
 
-pub returns-in-Some-delivered_at-clause-told : goal.returns-in-Some-delivered_at-clause-told
-returns-in-Some-delivered_at-clause-told g c = record {
+pub returns-in-Some-delivered_at-clause-delivery : goal.returns-in-Some-delivered_at-clause-delivery
+returns-in-Some-delivered_at-clause-delivery g c = record {
   state = c.args.state.now;
   replay = c.len-index-end.ensures.replay;
   after = c.args.first;

@@ -2,8 +2,8 @@ use Rattle.std.proofs.Common.{ap, ◌∙◌, length, min}
 use Rattle.std.specs.List.{sum_by}
 use Rattle.cluster_service.proofs.showing.pool_size.Goals as goal
 
-pub returns-clause-told : goal.returns-clause-told
-returns-clause-told g c = record {
+pub returns-clause-shown : goal.returns-clause-shown
+returns-clause-shown g c = record {
   state = c.args.state.now;
   replay = c.len.ensures.replay;
   transactions = c.waiting.ensures;

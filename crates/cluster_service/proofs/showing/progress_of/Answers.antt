@@ -1,8 +1,8 @@
 use Rattle.std.proofs.Common.{◌∙◌}
 use Rattle.cluster_service.proofs.showing.progress_of.Goals as goal
 
-pub returns-clause-told : goal.returns-clause-told
-returns-clause-told g c = record {
+pub returns-clause-shown : goal.returns-clause-shown
+returns-clause-shown g c = record {
   state = c.args.state.now;
   replay = c.len.ensures.replay;
   rounds = c.clock.ensures;

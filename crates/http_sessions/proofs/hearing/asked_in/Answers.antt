@@ -1,6 +1,6 @@
 use Rattle.std.proofs.Common.{arith, inr, subst, sym, refl, take, length-take-le}
 use Rattle.http_requests.specs.Limits.{max_head_len}
-use Rattle.http_requests.specs.Requests.{Answers}
+use Rattle.http_requests.specs.Requests.{AnswersHead}
 use Rattle.http_sessions.proofs.hearing.asked_in.Goals as goal
 
 pub slice_bounds-parse-end : goal.slice_bounds-parse-end
@@ -11,7 +11,7 @@ returns-then-is_incomplete-clause-answers c =
     inr (
       omega (arith, c.if-bytes-le-MAX_HEAD_LEN.false),
       inr (
-        subst (Answers (take max_head_len c.args.bytes.now)) (c.is_incomplete.ensures.yes c.if-is_incomplete.true)
+        subst (AnswersHead (take max_head_len c.args.bytes.now)) (c.is_incomplete.ensures.yes c.if-is_incomplete.true)
             c.parse-asked.ensures.answers,
         refl,
       ),

@@ -1,4 +1,4 @@
--- the parts so far stand behind the others, and there is room for those to come
+-- the parts so far follow the others, and there is room for those to come
 use Rattle.std.proofs.Common.{◌≡◌, ◌≤◌, ◌+◌, ◌-◌, ◌*◌, ◌++◌, List, ℕ, take, length}
 use Rattle.std.specs.Prelude.{vec_len, vec_capacity}
 use Rattle.std.specs.List.{flat_map}

@@ -3,7 +3,7 @@ use Rattle.std.specs.Int.{w32, from_be_bytes}
 use Rattle.std.proofs.lemmas.List.{take-take, drop-drop}
 use Rattle.lms_tree.proofs.verification.cut.Goals as goal
 
--- what is left behind two cuts
+-- what is left after two cuts
 behind : (signature back rest : List ℕ) (n m : ℕ) → back ≡ drop 4 signature → n ≡ m → rest ≡ drop n back → rest ≡ drop (4 + m) signature
 behind signature back rest n m back_is n_is rest_is = rest_is ∙ ap (λ k. drop k back) n_is ∙ ap (drop m) back_is ∙ drop-drop m 4 signature
 

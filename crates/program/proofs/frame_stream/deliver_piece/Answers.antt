@@ -39,7 +39,7 @@ returns-in_err-deliver_all-in-Ok-clause-goes g c = λ start unread now left befo
 pub returns-in_ok-fault_of-in-Err-clause-goes : goal.returns-in_ok-fault_of-in-Err-clause-goes
 returns-in_ok-fault_of-in-Err-clause-goes g c = λ start unread now left before so_far read.
     piece_told start _ start unread now left before _ before _ c.args.piece.now so_far read _ c.feed.new.self _ c.in-Err.ensures.fault
-    c.in_ok-fault_of-in-Err.ensures.told
+    c.in_ok-fault_of-in-Err.ensures.fault
 
 pub returns-in_err-fault_of-in-Err-clause-goes : goal.returns-in_err-fault_of-in-Err-clause-goes
 returns-in_err-fault_of-in-Err-clause-goes g c = λ start unread now left before so_far read.

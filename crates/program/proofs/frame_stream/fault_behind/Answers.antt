@@ -16,5 +16,5 @@ returns-clause-behind c = λ bytes given leaves.
           w.in-Ok.ensures.whole))
       | in-Err+in_ok-fault_of-in-Err w ↦
           rw w.result-is (rw c.feed.ensures.version (behind_some _ _ _ bytes given _ _ leaves w.in-Err.ensures.fault
-          w.in_ok-fault_of-in-Err.ensures.told))
+          w.in_ok-fault_of-in-Err.ensures.fault))
     ]

@@ -1,4 +1,4 @@
--- so many rounds have ended
+-- this number of rounds has ended
 use Rattle.std.proofs.Common.{[], replicate}
 use Rattle.ledger_model.specs.declared.event.Event.TheVariants as event
 use Rattle.program.specs.Answering.{Answers}

@@ -7,7 +7,7 @@ use Rattle.height_row.specs.declared.round_closing.RoundClosing.{RoundClosing}
 use Rattle.replica_core.specs.Sending.{frames_in}
 use Rattle.replica_core.proofs.sending.frames_to_send.Goals as goal
 
--- one more height has its frames behind those of the lower ones
+-- one more height has its frames after those of the lower ones
 frames_more : (config : Config) (xs : List RoundClosing) (i : ℕ) (x : RoundClosing) → i < length xs → x ≡ get_or xs i x
     → flat_map (frames_in config) (take (i + 1) xs) ≡ flat_map (frames_in config) (take i xs) ++ frames_in config x
 frames_more config xs i x below is =

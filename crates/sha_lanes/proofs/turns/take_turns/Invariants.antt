@@ -1,4 +1,4 @@
--- the words are those of the messages after so many turns; then the messages so far are these
+-- the words are those of the messages after this number of turns; then the messages so far are these
 use Rattle.std.proofs.Common.{◌≡◌, ℕ, ◌*◌, ◌<◌, ◌≤◌, [], length, slice_index_or}
 use Rattle.sha2.specs.Sha256.{padded_message, word_at}
 use Rattle.sha_lanes.specs.Lanes.{lane_at}

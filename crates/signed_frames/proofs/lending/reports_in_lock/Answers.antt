@@ -1,6 +1,6 @@
 use Rattle.std.proofs.Common.{rules, ◌-◌, length, ap, subst, sym, arith}
 use Rattle.std.specs.List.{flat_map, AllByRecursion}
-use Rattle.ledger_model.specs.Spelling.{IsSigned, signed_bytes, signature_bytes}
+use Rattle.ledger_model.specs.Spelling.{IsSignedReport, signed_bytes, signature_bytes}
 use Rattle.ledger_model.specs.declared.statement.Statement.TheVariants as statement
 use Rattle.signed_frames.specs.Parts.{signed_by_last}
 use Rattle.signed_frames.proofs.LockParts.{reports_fit, reports_at}
@@ -26,7 +26,7 @@ invariant_of-result c =
     record {
       each = (
         l.version,
-        subst (AllByRecursion (IsSigned l.version)) (sym c.as_slice-reports.ensures) c.requires.spelled.0.statement.each,
+        subst (AllByRecursion (IsSignedReport l.version)) (sym c.as_slice-reports.ensures) c.requires.spelled.0.statement.each,
       );
       spelled = (
         signature_bytes (signed_by_last c.args.frame.now (statement.Lock l) c.args.signature_len).signature,

@@ -5,7 +5,7 @@ use Rattle.std.specs.Int.{w32, from_be_bytes}
 use Rattle.ledger_model.specs.declared.version.Version.{Version}
 use Rattle.ledger_model.proofs.Readers.{IsBytes-drop}
 
--- what stands behind a length that is its own is read as a body
+-- what follows a length that is its own is read as a body
 own-length : (version : Version) (bytes rest : List ℕ) (len : ℕ) → 4 ≤ length bytes → len ≡ from_be_bytes w32 (take 4 bytes) → rest
     ≡ drop 4 bytes
     → length rest ≡ len → reading_in version bytes ≡ body_reading version rest

@@ -1,7 +1,7 @@
 use Rattle.std.proofs.Common.{◌≡◌, [], ◌∷◌, ap, sym, subst, ◌∙◌}
 use Rattle.std.specs.Prelude.{Some, None}
 use Rattle.std.specs.List.{AllByRecursion}
-use Rattle.ledger_model.specs.Spelling.{IsSigned}
+use Rattle.ledger_model.specs.Spelling.{IsSignedReport}
 use Rattle.simulation.specs.Playing.{serving, simulation_of}
 use Rattle.simulation.proofs.Ranges.{found_kept, found_left}
 use Rattle.simulation.proofs.report_index.all_serving.Goals.{in-Some+in_ok-push, in_default}
@@ -18,8 +18,8 @@ loop-replica-preserved g c =
           let more = ap (λ v. v.items) w.reports-is ∙ w.in_ok-push.ensures.items in
           let at : serves c.loop-replica.replica ≡ Some w.in-Some.report = here ∙ w.in-Some.is in (
             more ∙ found_kept serves c.loop-replica.replica c.loop-replica.reports.items w.in-Some.report found at,
-            subst (AllByRecursion (IsSigned c.args.lie.now.version)) (sym more)
-                (each_append (IsSigned c.args.lie.now.version) _ (w.in-Some.report ∷ []) spelled
+            subst (AllByRecursion (IsSignedReport c.args.lie.now.version)) (sym more)
+                (each_append (IsSignedReport c.args.lie.now.version) _ (w.in-Some.report ∷ []) spelled
                 (rw w.in-Some.is at c.in_ok-report.ensures.spelled, tt)),
             c.in_ok-report.ensures.index,
             c.in_ok-report.ensures.made,
@@ -28,7 +28,7 @@ loop-replica-preserved g c =
           let same = ap (λ v. v.items) w.reports-is in
           let at : serves c.loop-replica.replica ≡ None = here ∙ w.in_default.is in (
             same ∙ found_left serves c.loop-replica.replica c.loop-replica.reports.items found at,
-            subst (AllByRecursion (IsSigned c.args.lie.now.version)) (sym same) spelled,
+            subst (AllByRecursion (IsSignedReport c.args.lie.now.version)) (sym same) spelled,
             c.in_ok-report.ensures.index,
             c.in_ok-report.ensures.made,
           )

@@ -1,4 +1,4 @@
--- The height that is told is the committed one, and a fault is the application's.
+-- The height in the answer is the committed one, and a fault is the application's.
 use Rattle.std.proofs.Common.{◌≡◌, sym, ap, subst, ◌∙◌, rules}
 use Rattle.std.specs.Prelude.{Result, Ok, Err, IfSome}
 use Rattle.ledger_model.specs.declared.reply.QueryAnswer.{QueryAnswer}

@@ -1,5 +1,5 @@
 use Rattle.std.proofs.Common.{◌∙◌}
-use Rattle.adversary_net.proofs.Telling.{info_at}
+use Rattle.adversary_net.proofs.AppAnswers.{info_at}
 use Rattle.adversary_net.proofs.world.World.info.Goals as goal
 
 pub returns-clause-info : goal.returns-clause-info

@@ -2,7 +2,7 @@ use Rattle.std.proofs.Common.{sym, subst, rules}
 use Rattle.adversary_net.specs.WorldViews.{IsCluster}
 use Rattle.adversary_net.proofs.Headline.{one_ledger}
 use Rattle.adversary_net.proofs.UsedLeaves.{accounts, replays}
-use Rattle.adversary_net.proofs.Telling.{own_machines, own_replies}
+use Rattle.adversary_net.proofs.AppAnswers.{own_machines, own_replies}
 use Rattle.adversary_net.proofs.world.World.run.Goals as goal
 
 pub returns-in_err-answers-clause-machines : goal.returns-in_err-answers-clause-machines

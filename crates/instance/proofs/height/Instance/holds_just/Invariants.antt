@@ -1,4 +1,4 @@
--- what is left of both tells the same
+-- what is left of both gives the same answer
 use Rattle.std.proofs.Common.{◌≡◌, drop}
 use Rattle.std.specs.Cmp.Lexicographic.{pointwise}
 use Rattle.ledger_model.specs.Values.{same_value}

@@ -19,7 +19,7 @@ returns-then-not-stays_mute-clause-followed g c =
     speaks_again c.args.self.now c.args.ended.now (c.stays_mute.ensures.was c.if-not-stays_mute.true)
     (c.stays_mute.ensures.says c.if-not-stays_mute.true)
 
--- what is told may not be made
+-- what is shown may not be made
 pub returns-in_default-clause-followed : goal.returns-in_default-clause-followed
 returns-in_default-clause-followed g c =
     refused c.args.self.now c.args.self.now event.RoundEnd (reply.RoundEnded (Ok c.args.ended.now))

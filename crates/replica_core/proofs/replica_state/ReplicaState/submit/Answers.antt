@@ -1,7 +1,7 @@
 use Rattle.std.proofs.Common.{subst, sym}
 use Rattle.std.specs.Prelude.{Ok, Err}
 use Rattle.std.specs.Option.{IfSome}
-use Rattle.batch_pool.specs.Pools.{Answers, answer_of}
+use Rattle.batch_pool.specs.Pools.{AnswersSubmission, answer_of}
 use Rattle.replica_core.proofs.Machines.{answered}
 use Rattle.replica_core.proofs.replica_state.ReplicaState.submit.Goals as goal
 use Rattle.replica_core.proofs.replica_state.ReplicaState.submit.Goals.{in-Ok, in-Err-Refused, in-Err-NoMemory}
@@ -15,7 +15,7 @@ returns-clause-answer g c = elim c.match-submit.branch [
       (w.in-Ok.ensures.answer))
   | in-Err-Refused w ↦
       let shown = subst (λ f. IfSome (answer_of (Err f))
-      (Answers (g.A.Application.machine c.app.result.now) c.self.inside.pool c.args.bytes.now)) w.in-Err-Refused.field-0-is
+      (AnswersSubmission (g.A.Application.machine c.app.result.now) c.self.inside.pool c.args.bytes.now)) w.in-Err-Refused.field-0-is
       (w.in-Err-Refused.ensures.answer) in
       rw (w.result-is, sym c.self.view_is)
       (answered (c.self.inside.executor) (c.self.inside.config.kind) (c.self.inside.committed.items) (c.self.invariant.3)

@@ -1,11 +1,11 @@
 use Rattle.std.proofs.Common.{◌≡◌, ◌+◌, ◌∷◌, ◌++◌, ℕ, List, length, drop, rules, sym, ap, subst, refl, ◌∙◌, append_assoc}
 use Rattle.std.specs.List.{flat_map, AllByRecursion}
 use Rattle.std.proofs.lemmas.List.Concat.{flat_map-cons}
-use Rattle.ledger_model.specs.Spelling.{IsSigned, signed_bytes}
+use Rattle.ledger_model.specs.Spelling.{IsSignedReport, signed_bytes}
 use Rattle.signed_frames.proofs.LockParts.{cut}
 use Rattle.signed_frames.proofs.lending.LentReportsIterator.next.Goals as goal
 
--- the first report stands in front of the others
+-- the first report comes before the others
 pub report_at-part-requires-clause-front : goal.report_at-part-requires-clause-front
 report_at-part-requires-clause-front c =
     let first = c.in_ok-signed.signed.now in
@@ -31,7 +31,7 @@ invariant_of-self c =
     record {
       each = (
         c.self.invariant.each.0,
-        (subst (AllByRecursion (IsSigned c.self.invariant.each.0)) is c.self.invariant.each.1).1,
+        (subst (AllByRecursion (IsSignedReport c.self.invariant.each.0)) is c.self.invariant.each.1).1,
       );
       spelled = (
         rest,

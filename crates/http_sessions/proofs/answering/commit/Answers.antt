@@ -3,7 +3,7 @@ use Rattle.ledger_model.specs.Sessions.{Submits}
 use Rattle.client_sessions.specs.Asking.{fault_of}
 use Rattle.http_sessions.specs.Exchanges.{Asked, Inquired, Spreads, Waits}
 use Rattle.http_sessions.proofs.Replying.{replied}
-use Rattle.http_sessions.proofs.answering.broadcast_commit.Goals as goal
+use Rattle.http_sessions.proofs.answering.commit.Goals as goal
 
 pub returns-in-Ok-Ok-clause-replies : goal.returns-in-Ok-Ok-clause-replies
 returns-in-Ok-Ok-clause-replies g c = replied _ _ _ _ _ _ (Asked (Submits c.args.replica c.args.tx.now (Ok (Ok c.in-Ok-Ok.index)))

@@ -58,7 +58,7 @@ own_replies c cluster r i m e is at =
     let replay : Replay c.config c.ring r m.entries = subst (Replay c.config c.ring r) own.entries own.member.replay in
     reply_is c.config c.ring r m.entries (replays_follow c.config c.ring r [] m.entries replay) i e at
 
--- what the application of a correct replica tells
+-- what the application of a correct replica answers
 pub info_at : (c : WorldView) (r : ℕ) (s t : StateView) → IsMemberAt c r s → entries_in (world_of c) r ≡ s.entries → t ≡ s
     → info_reply t.config.kind (commits_of t.config t.id t.entries)
     ≡ info_reply c.config.kind (commits_of c.config r (entries_in (world_of c) r))
