@@ -1,5 +1,5 @@
 #!/usr/bin/env python3
-"""Runs a command, and tells what the proofs under it cost: processor minutes for each crate, for its own proof, for that
+"""Runs a command, and prints what the proofs under it cost: processor minutes for each crate, for its own proof, for that
 of its tests, and for its must-fail edits.
 
     .ci/minutes.py [--table FILE] COMMAND..
@@ -15,12 +15,12 @@ import threading
 import time
 
 PARTS = ("proof", "tests", "edits")
-# Crates that stand on no other and hardly change: what their proofs take tells how fast the machine is.
+# Crates that depend on no other and hardly change: what their proofs take shows how fast the machine is.
 YARDSTICK = ("octets", "plain_text", "sha_lanes")
 PAGE = """# What the gate costs
 
 One run of the gate, as `.ci/run` wrote it down: every crate proved from nothing, the tests proved and run, each must-fail
-edit tried. The budget is 60 minutes by the clock on four processors.
+edit tried. The budget is 240 processor minutes on a quiet machine.
 
 """
 TICKS = os.sysconf("SC_CLK_TCK")
