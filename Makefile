@@ -1,6 +1,6 @@
 # demo: a first look, in minutes: compiles the program without any proof, and plays a scenario: what was decided and run.
 # prove: proves the crates below the program, and the program, and builds it: crates/abft/out/abft. First the three crates that
-#       stand on no other, since most wait for the largest of them; then those above side by side, each on one processor. A line
+#       depend on no other, since most wait for the largest of them; then those above in parallel, each on one processor. A line
 #       for each as it is proved. CPU=x86-64-v3 builds it for processors with AVX2; on any other it ends at once with status 127.
 # test: the merge gate (every proof from nothing, the must-fail edits, the tests), then the built program in real pipes,
 #       and the file lines that the documents name.
@@ -9,14 +9,15 @@
 #       ends at once with status 127.
 # soak: proves and builds the program, and runs live clusters, many sessions and hostile use on this machine for two hours and a half; no part
 #       of the gate, since what a clock brings differs from machine to machine.
+# mutants: has the checker try the mutants that the gate leaves out, those of crates/*/also-must-fail.
 # browser: proves and builds the program, and uses the page of `abft serve --http` in CHROMIUM (Debian's chromium); no part of the gate.
-# prove-NAME: proves a library and what it stands on; what was said is in crates/NAME/out/said.
+# prove-NAME: proves a library and what it depends on; the output is in crates/NAME/out/said.
 # One of them at a time in one tree: the gate sets crates/*/out aside while it runs.
 # What the checker said in the gate is in gate.log; a line for each crate and each edit appears.
 SHELL := bash
 .SHELLFLAGS := -o pipefail -c
 CHROMIUM ?= chromium
-.PHONY: demo prove bench bench-v3 browser soak test
+.PHONY: demo prove bench bench-v3 browser mutants soak test
 
 crates := $(shell sed -n 's/^\([a-z_]*\)\( [^:]*\)\?:.*/\1/p' crates.txt)
 below = $(filter $(crates),$(shell sed -n 's/^$(1)\( [^:]*\)\?://p' crates.txt))
@@ -54,6 +55,9 @@ bench-v3:
 soak:
 	@cd crates/abft && rt run -- --version </dev/null >/dev/null
 	@tests/soak.sh
+
+mutants:
+	@tests/mutants.sh try
 
 browser:
 	@cd crates/abft && rt run -- --version </dev/null >/dev/null

@@ -143,8 +143,8 @@ def main(words):
     wall, processor = (time.monotonic() - began) / 60, (used.ru_utime + used.ru_stime) / 60
     processors, rows = len(os.sched_getaffinity(0)), sampler.minutes()
     said = (
-        f"{wall:.0f} minutes by the clock on {processors} processors, {processor:.0f} processor minutes, and "
-        f"{(stolen() - taken) / 60:.0f} more that the machine's host gave to others; at most {sampler.memory / 2**30:.1f} GiB at once "
+        f"{wall:.0f} minutes of wall-clock time on {processors} processors, {processor:.0f} processor minutes, and "
+        f"{(stolen() - taken) / 60:.0f} more that the machine's host gave to others; at most {sampler.memory / 2**30:.1f} GiB "
         f"in the prover\n\n"
         f"{speed_of(rows)}"
         f"Processor minutes by crate:\n\n{table_of(rows)}"

@@ -1,12 +1,12 @@
 #!/usr/bin/env bash
-# The scripts that try what `rt ci` has just built, and the documents, side by side: one of them mostly waits for the rounds of
+# The scripts that try what `rt ci` has just built, and the documents, in parallel: one of them mostly waits for the rounds of
 # a live cluster. What each printed comes in turn. The status is 1 if one of them failed.
 set -u
 cd "$(dirname "$0")/.." || exit 1
 export ABFT=$PWD/crates/abft/out/abft LMS_SPEED=$PWD/crates/lms_speed/out/lms_speed
 room=$(mktemp -d)
 trap 'rm -rf "$room"' EXIT
-scripts=(end_to_end scenarios audits pictures hostile http benchmark documents dependencies)
+scripts=(end_to_end scenarios audits pictures hostile http benchmark documents dependencies mutants)
 for script in "${scripts[@]}"; do
     "tests/$script.sh" >"$room/$script" 2>&1 && : >"$room/$script.well" &
 done

@@ -5,9 +5,11 @@ use Rattle.std.specs.Prelude.{nat_eq, nat_le, filter, All, Any, Option, Some, No
 use Rattle.std.specs.List.{filter_map, list_any, range_with_len}
 use Rattle.std.proofs.Math.Seq.{drop-cons}
 use Rattle.std.proofs.lemmas.Bool.{cases_Bool, or_cases, eqb-true, eq-eqb, ne_eqb, leb-true, leb-false}
-use Rattle.std.proofs.lemmas.Option.{slice_get-map}
+use Rattle.std.proofs.lemmas.Option.{slice_get-map, same_Some}
 use Rattle.std.proofs.lemmas.List.FromFn.{length-map-range_with_len}
 use Rattle.std.proofs.lemmas.List.Elements.{All-head, All-same, All-rest}
+use Rattle.std.proofs.lemmas.List.{take_all}
+use Rattle.std.proofs.iter.Rest.{range_with_len_first}
 use Rattle.ledger_model.specs.declared.config.Config.{Config}
 use Rattle.ledger_model.specs.declared.history.History.{History}
 use Rattle.ledger_model.specs.Applications.{Machine, run}
@@ -18,7 +20,7 @@ use Rattle.ledger_model.specs.Rounds.{count_from}
 use Rattle.ledger_model.specs.Rules.{Ring}
 use Rattle.ledger_model.specs.Timelines.{AreReplicas}
 use Rattle.ledger_model.specs.Worlds.{no_entries, beginning, Runs}
-use Rattle.ledger_model.proofs.Lists.{any_has, has_any, filter_has, has_filter, same_some}
+use Rattle.ledger_model.proofs.Lists.{any_has, has_any, filter_has, has_filter}
 use Rattle.lms_tree.specs.Trees.{Secret}
 use Rattle.key_ring.specs.Signers.{leaves_of}
 use Rattle.cluster_keys.specs.Keys.{ring_with}
@@ -26,7 +28,6 @@ use Rattle.replica_core.proofs.SpentLeaves.{account_none}
 use Rattle.locked_replica.specs.States.{StateView}
 use Rattle.adversary_net.specs.declared.party.Party.{Party}
 use Rattle.adversary_net.specs.WorldViews.{WorldView, IsCluster, IsMemberAt, state_in, state_at, correct_of, history_in, world_of}
-use Rattle.adversary_net.proofs.Members.{take_all}
 use Rattle.adversary_net.specs.Openings.{different, is_liar, correct_from, correct_without, new_replica, new_party, new_cluster, IsSupply}
 
 -- ---- numbers from a on
@@ -49,7 +50,7 @@ range_has a (suc n) r low high =
 
 pub get_range : (a n i x : ℕ) → slice_get (range_with_len a n) i ≡ Some x → (x ≡ a + i) × (i < n)
 get_range a zero i x at = cc
-get_range a (suc n) zero x at = (let e : a ≡ x = same_some a x at in omega (arith, e), omega arith)
+get_range a (suc n) zero x at = (let e : a ≡ x = same_Some a x at in omega (arith, e), omega arith)
 get_range a (suc n) (suc i) x at = let e = get_range (a + 1) n i x at in (omega (arith, e.0), omega (arith, e.1))
 
 -- ---- how many lie
@@ -163,7 +164,7 @@ module _ (config : Config) (ring : Ring) (secrets : ℕ → Secret) (liars : Lis
   new_state r s is =
       elim (cases_Bool (is_liar liars r)) [
         | inl lies ↦ absurd (let no = rw lies at is in cc)
-        | inr honest ↦ sym (same_some (new_replica config ring secrets r) s (rw honest at is))
+        | inr honest ↦ sym (same_Some (new_replica config ring secrets r) s (rw honest at is))
       ]
 
 pub new_world : (config : Config) (secrets : ℕ → Secret) (liars : List ℕ)
@@ -184,7 +185,7 @@ new_member config secrets liars r =
 
 mapped : {X Y : Type 0} (f : X → Y) (o : Option X) (y : Y) → option_map f o ≡ Some y → (x : X) × ((o ≡ Some x) × (f x ≡ y))
 mapped f None y is = cc
-mapped f (Some x) y is = (x, (refl, same_some (f x) y is))
+mapped f (Some x) y is = (x, (refl, same_Some (f x) y is))
 
 some_party : (o : Option (Party StateView)) (s : StateView) → option_and_then state_in o ≡ Some s
     → (p : Party StateView) × ((o ≡ Some p) × (state_in p ≡ Some s))
@@ -249,17 +250,11 @@ all_below config liars none = λ k d lt. elim (cases_Bool (nat_le config.replica
     index_any (x ∷ xs) zero d lt = refl
     index_any (x ∷ xs) (suc k) d lt = index_any xs k d (omega arith)
 
--- the numbers that are left once one is taken
-range_left : (a n : ℕ) → a < n → range_with_len a (n - a) ≡ a ∷ range_with_len (a + 1) (n - (a + 1))
-range_left a n lt =
-    let size : n - a ≡ suc (n - (a + 1)) = omega arith in
-    ap (range_with_len a) size
-
 -- how many correct ones are left then
 pub correct_left : (liars : List ℕ) (a n : ℕ) → a < n
     → length (correct_from liars a (n - a)) ≡ cond (is_liar liars a) 0 1 + length (correct_from liars (a + 1) (n - (a + 1)))
 correct_left liars a n lt =
-    let parts = range_left a n lt in
+    let parts = range_with_len_first a n lt in
     elim (cases_Bool (is_liar liars a)) [
       | inl lies ↦ ap (λ l. length (filter (λ r. not (is_liar liars r)) l)) parts ∙ rw lies (omega arith)
       | inr honest ↦ ap (λ l. length (filter (λ r. not (is_liar liars r)) l)) parts ∙ rw honest (omega arith)
@@ -300,7 +295,7 @@ new_is config secrets liars ring parties order keys made none =
 
 -- the rest of a list is all of it
 pub rest_whole : (xs : List ℕ) (i : ℕ) → take (length xs - i) (drop i xs) ≡ drop i xs
-rest_whole xs i = take_all (drop i xs) (length xs - i) (omega (arith, length-drop i xs))
+rest_whole xs i = take_all (length xs - i) (drop i xs) (omega (arith, length-drop i xs))
 
 -- one replica more is counted, if it is correct
 pub correct_more : (liars : List ℕ) (a n : ℕ)

@@ -183,10 +183,3 @@ take_next (y ∷ ys) zero x lt is = ap (λ z. z ∷ []) (sym is)
 take_next (y ∷ ys) (suc i) x lt is =
     let more : suc i + 1 ≡ suc (i + 1) = omega arith in
     ap (λ k. take k (y ∷ ys)) more ∙ ap (λ l. y ∷ l) (take_next ys i x (omega arith) is)
-
--- all of a list
-pub take_all : {X : Type 0} (xs : List X) (i : ℕ) → length xs ≤ i → take i xs ≡ xs
-take_all [] zero le = refl
-take_all [] (suc i) le = refl
-take_all (x ∷ xs) zero le = absurd (omega arith)
-take_all (x ∷ xs) (suc i) le = ap (λ l. x ∷ l) (take_all xs i (omega arith))

@@ -26,6 +26,7 @@ use Rattle.ledger_model.specs.Rules.{Ring}
 use Rattle.ledger_model.specs.Timelines.{AreReplicas}
 use Rattle.ledger_model.specs.Worlds.{World, beginning, entries_in, frames_sent, with_entry, asks, passes, event_of, StepsBy, Adds, Refuses}
 use Rattle.ledger_model.specs.Worlds.{Runs}
+use Rattle.ledger_laws.proofs.Unforged.{asks_only}
 use Rattle.ledger_laws.proofs.WorldRuns.{names_correct, runs_append}
 use Rattle.key_ring.specs.Signers.{leaves_of}
 use Rattle.replica_core.proofs.SpentLeaves.{account_still}
@@ -85,24 +86,9 @@ found c s r e cluster ready =
 
 -- ---- the leaves that it may lose
 
-abbrev number_in : Result (ℕ × Event) WorldRefusal → ℕ
-number_in (Ok p) = p.0
-number_in (Err f) = 0
-
 abbrev event_in : Result (ℕ × Event) WorldRefusal → Event
 event_in (Ok p) = p.1
 event_in (Err f) = event.RoundEnd
-
--- an event that is asked is at the replica that is named
-asked : (config : Config) (w : World) (x r : ℕ) (d e : Event) → asks config w x d ≡ Ok (r, e) → (x ≡ r) × (d ≡ e)
-asked config w x r d e ok =
-    elim (cases_Bool (nat_lt x config.replicas)) [
-      | inr far ↦ absurd (let no = simp far at ok in cc)
-      | inl near ↦ elim (cases_Bool (is_correct w.histories x)) [
-        | inl is ↦ (let same = simp (near, is) at ok in (ap number_in same, ap event_in same))
-        | inr liar ↦ absurd (let no = simp (near, liar) at ok in cc)
-      ]
-    ]
 
 abbrev delivered_to : ℕ → Option (List ℕ) → Result (ℕ × Event) WorldRefusal
 delivered_to to None = Err refused.NoSuchFrame
@@ -128,16 +114,16 @@ passed config w from index to r e ok s =
 loss_here : (config : Config) (w : World) (s : WorldStep) (r : ℕ) (e : Event) → event_of config w s ≡ Ok (r, e) → (x : StateView)
     → loss_at s r x ≡ may_lose x e
 unfolding event_of
-loss_here config w (step.Submit q bytes) r e ok x = ap (may_lose x) (asked config w q r (event.Submit bytes) e ok).1
-loss_here config w (step.Propose q h) r e ok x = ap (may_lose x) (asked config w q r (event.Propose h) e ok).1
+loss_here config w (step.Submit q bytes) r e ok x = ap (may_lose x) (asks_only config w q r (event.Submit bytes) e ok).1
+loss_here config w (step.Propose q h) r e ok x = ap (may_lose x) (asks_only config w q r (event.Propose h) e ok).1
 loss_here config w (step.RoundEnd q) r e ok x =
-    let is = asked config w q r event.RoundEnd e ok in
+    let is = asks_only config w q r event.RoundEnd e ok in
     ap (λ b. cond b (may_lose x event.RoundEnd) 0) (eq-eqb r q (sym is.0)) ∙ ap (may_lose x) is.1
-loss_here config w (step.Execute q) r e ok x = ap (may_lose x) (asked config w q r event.Execute e ok).1
-loss_here config w (step.Query q key h) r e ok x = ap (may_lose x) (asked config w q r (event.Query key h) e ok).1
-loss_here config w (step.Retire q floor) r e ok x = ap (may_lose x) (asked config w q r (event.Retire floor) e ok).1
+loss_here config w (step.Execute q) r e ok x = ap (may_lose x) (asks_only config w q r event.Execute e ok).1
+loss_here config w (step.Query q key h) r e ok x = ap (may_lose x) (asks_only config w q r (event.Query key h) e ok).1
+loss_here config w (step.Retire q floor) r e ok x = ap (may_lose x) (asks_only config w q r (event.Retire floor) e ok).1
 loss_here config w (step.Pass from index to) r e ok x = sym (passed config w from index to r e ok x)
-loss_here config w (step.Inject q bytes) r e ok x = ap (may_lose x) (asked config w q r (event.Deliver bytes) e ok).1
+loss_here config w (step.Inject q bytes) r e ok x = ap (may_lose x) (asks_only config w q r (event.Deliver bytes) e ok).1
 
 -- ---- the cluster with another party in the place of one
 

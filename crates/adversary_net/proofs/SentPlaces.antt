@@ -5,6 +5,7 @@ use Rattle.std.specs.Prelude.{nat_eq, nat_le, Some, None, slice_get, slice_index
 use Rattle.std.specs.List.Sorted.{IsNonDecreasingBy, IsPartitionPoint}
 use Rattle.std.proofs.lemmas.List.{append-nil, nil_from_length}
 use Rattle.std.proofs.lemmas.Bool.{cases_Bool, eqb-true, eqb-false, leb-true, leb-false}
+use Rattle.std.proofs.iter.runs.Lists.{nth_left}
 use Rattle.ledger_model.specs.declared.history.Entry.{Entry}
 use Rattle.ledger_model.specs.Worlds.{frames_in, frames_sent}
 use Rattle.adversary_net.specs.declared.sent_index.SendingEntry.{SendingEntry}
@@ -141,11 +142,6 @@ indexed_rises sending total entries indexed = subst Rises (sym indexed.places) (
 
 -- ---- the frame of an index
 
-get_left : {X : Type 0} (xs ys : List X) (i : ℕ) → i < length xs → slice_get (xs ++ ys) i ≡ slice_get xs i
-get_left [] ys i lt = absurd (omega arith)
-get_left (x ∷ xs) ys zero lt = refl
-get_left (x ∷ xs) ys (suc i) lt = get_left xs ys i (omega arith)
-
 get_right : {X : Type 0} (xs ys : List X) (i : ℕ) → length xs ≤ i → slice_get (xs ++ ys) i ≡ slice_get ys (i - length xs)
 get_right [] ys i le = ap (slice_get ys) (omega arith)
 get_right (x ∷ xs) ys zero le = absurd (omega arith)
@@ -232,7 +228,7 @@ stands i before (x ∷ xs) index k p le last =
               omega (arith, eqb-false (length (sending_from (i + 1) (before + sent_by x) xs)) 0 more_sent) in
               let next = last.next p (omega (arith, some_more)) in
               let first = sending_begins (i + 1) (before + sent_by x) xs p some_more in
-              get_left (frames_in x.reply) (frames_sent xs) (index - before) (omega (arith, next, first, le))
+              nth_left (frames_in x.reply) (frames_sent xs) (index - before) (omega (arith, next, first, le))
         ] in
         record { behind = 0; place = omega (arith, entry); frame = here ∙ ap (λ b. slice_get (frames_in x.reply) (index - b)) (sym at) }
     sends rest_stands (suc k) last =
@@ -299,10 +295,6 @@ parts_of sending lent index k same point =
       (λ j d low lt. leb-true (slice_index_or lent j d).before index (point.0 j d low lt)),
       (λ j d low lt. leb-false (slice_index_or lent j d).before index (point.1 j d low lt)),
     )
-
-pub get_last : (entries : List Entry) (e : Entry) → slice_get (entries ++ e ∷ []) (length entries) ≡ Some e
-get_last [] e = refl
-get_last (x ∷ xs) e = get_last xs e
 
 -- a history with one entry more is indexed by what counts that entry
 pub indexed_after : (sending room new : List SendingEntry) (total room_total new_total count index : ℕ) (entries after : List Entry)

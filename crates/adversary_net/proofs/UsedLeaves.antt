@@ -3,7 +3,7 @@ use Rattle.std.proofs.Common.{◌≡◌, ℕ, zero, suc, inl, inr, Bool, true, f
 use Rattle.std.proofs.Common.{subst, ◌∙◌, arith}
 use Rattle.std.specs.Prelude.{nat_eq, Option, Some, slice_get, slice_set, option_and_then}
 use Rattle.std.specs.List.{list_any}
-use Rattle.std.proofs.lemmas.Bool.{cases_Bool, eqb-true, eq-eqb}
+use Rattle.std.proofs.lemmas.Bool.{cases_Bool, eqb-true, eq-eqb, or_parts}
 use Rattle.std.proofs.lemmas.List.Folds.{list_any-append}
 use Rattle.ledger_model.specs.declared.world.WorldReply.{WorldReply}
 use Rattle.ledger_model.specs.declared.world.WorldStep.{WorldStep}
@@ -82,18 +82,14 @@ module _ (parties : List (Party StateView)) (r : ℕ) (old new : StateView) (at 
 
 -- ---- answers
 
-either_false : (a b : Bool) → (a || b) ≡ false → (a ≡ false) × (b ≡ false)
-either_false true b h = cc
-either_false false b h = (refl, h)
-
 -- if memory ran out at none of these answers, it did at none but the last, and not at the last
 pub none_out : (answers : List WorldReply) (a : WorldReply) → list_any is_out_of_memory (answers ++ a ∷ []) ≡ false
     → (list_any is_out_of_memory answers ≡ false) × (list_any is_out_of_memory (a ∷ []) ≡ false)
-none_out answers a none = either_false (list_any is_out_of_memory answers) (list_any is_out_of_memory (a ∷ []))
+none_out answers a none = or_parts (list_any is_out_of_memory answers) (list_any is_out_of_memory (a ∷ []))
     (sym (list_any-append is_out_of_memory answers (a ∷ [])) ∙ none)
 
 pub one_out : (a : WorldReply) → list_any is_out_of_memory (a ∷ []) ≡ false → is_out_of_memory a ≡ false
-one_out a none = (either_false (is_out_of_memory a) false none).0
+one_out a none = (or_parts (is_out_of_memory a) false none).0
 
 -- nothing happened
 pub uses_none : (c : WorldView) (answers : List WorldReply) → UsesAsAnswered c answers c

@@ -18,8 +18,3 @@ each_way P R Q S (Err e) well ill so = ill e so
 pub passed : {T E : Type 0} (r : Result T E) (e : E) (P : E → Type 0) → IsErrAnd r (λ y. y ≡ e) → P e → IfErr r P
 passed (Ok x) e P is p = tt
 passed (Err y) e P is p = subst P (sym is) p
-
--- what follows from a fact about each error
-pub of_each : {T E : Type 0} (r : Result T E) (P Q : E → Type 0) → ((e : E) → P e → Q e) → IfErr r P → IfErr r Q
-of_each (Ok x) P Q so p = tt
-of_each (Err e) P Q so p = so e p

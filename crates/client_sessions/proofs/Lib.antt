@@ -1,7 +1,6 @@
 mod Exchanging
 pub mod Filling
 mod PrefixLemmas
-pub mod Results
 pub mod RisingHeights
 mod Sizes
 mod UnderWay

@@ -2,7 +2,7 @@
 use ledger_model::{Batch, Height, QueryAnswer, ReplicaId, SubmitRefusal};
 use thiserror::Error;
 
-/// Why a replica took no event. The replica is unchanged.
+/// Why a replica gave no answer. After `NoMemory` a query may be in its history; else the replica is unchanged.
 #[derive(Clone, Copy, Debug, PartialEq, Eq, Error)]
 pub enum TargetFault {
     /// Its history is full.

@@ -4,6 +4,7 @@ use Rattle.std.proofs.Common.{refl, sym, ap, subst, ◌∙◌, cond, arith}
 use Rattle.std.specs.Prelude.{nat_eq, nat_lt, nat_le, Some, Result, Ok, Err}
 use Rattle.std.specs.List.{list_any, list_all}
 use Rattle.std.proofs.lemmas.Bool.{both_ways, cases_Bool, eqb-true}
+use Rattle.std.proofs.lemmas.Option.{same_Some}
 use Rattle.ledger_model.specs.declared.config.Config.{Config}
 use Rattle.ledger_model.specs.declared.history.History.{History}
 use Rattle.ledger_model.specs.Audits.{all_differ, are_of_a_quorum, AreReplays}
@@ -11,7 +12,6 @@ use Rattle.ledger_model.specs.Groups.{history_of}
 use Rattle.ledger_model.specs.Lawful.{Replay}
 use Rattle.ledger_model.specs.Rules.{Ring}
 use Rattle.ledger_model.specs.Values.{Value}
-use Rattle.ledger_model.proofs.Lists.{same_some}
 use Rattle.ledger_laws.proofs.AuditFindings.{no_break}
 use Rattle.history_audit.specs.Findings.{IsFinding}
 use Rattle.history_audit.specs.declared.fault.AuditFault.{AuditFault}
@@ -84,7 +84,7 @@ module _ (config : Config) (ring : Ring) where
   replays first (x ∷ xs) (h ∷ hs) all r m is = elim (cases_Bool (nat_eq x.replica r)) [
     | inl here ↦
         let found : history_of (x ∷ xs) r ≡ Some x = ap (λ b. cond b (Some x) (history_of xs r)) here in
-        let is_m : x ≡ m = same_some x m (sym found ∙ is) in
+        let is_m : x ≡ m = same_Some x m (sym found ∙ is) in
         let is_r : first ≡ r = sym all.0.own ∙ eqb-true x.replica r here in
         subst (λ (k : History). Replay config ring r k.entries) is_m
         (subst (λ q. Replay config ring q x.entries) is_r all.0.replay)

@@ -1,5 +1,5 @@
--- What a running replica answers to HTTP alone, by that replica as it was then.
-use Rattle.std.specs.Prelude.{◌≡◌, ℕ, ◌+◌, ◌-◌, ◌^◌, ⊤, List, length, min, sum_by}
+-- What is answered to HTTP alone: some replica with a lawful history answers so. No clause says which replica it is.
+use Rattle.std.specs.Prelude.{◌≡◌, ℕ, ◌+◌, ◌-◌, ◌^◌, ⊤, List, length, min, sum_by, Some, slice_get}
 use Rattle.http_replies.specs.FrameCounts.{ignored_for}
 use Rattle.http_replies.specs.declared.metrics.ReplicaMetrics.{ReplicaMetrics}
 use Rattle.http_sessions.specs.declared.targets.AppInfo.{AppInfo}
@@ -8,19 +8,22 @@ use Rattle.http_sessions.specs.declared.targets.Delivery.TheVariants.{Committed,
 use Rattle.http_sessions.specs.declared.targets.PoolSize.{PoolSize}
 use Rattle.http_sessions.specs.declared.targets.Progress.{Progress}
 use Rattle.http_sessions.specs.Exchanges.{Inquiry, Shows, Progresses, Pools, Infos, Spreads, Waits}
-use Rattle.key_ring.specs.Signers.{leaves_of}
+use Rattle.key_ring.specs.Signers.{key_of, leaves_of}
 use Rattle.ledger_model.specs.Commits.{commits_of, pool_of}
 use Rattle.ledger_model.specs.Lawful.{Replay, clock_at}
 use Rattle.ledger_model.specs.declared.reply.Ignored.{Ignored}
-use Rattle.locked_replica.specs.States.{StateView}
+use Rattle.locked_replica.specs.States.{StateView, AccountsForLeaves}
 use Rattle.replica_core.specs.Facts.{info_reply}
 use Rattle.cluster_service.specs.Deliveries.{IsDelivery}
 use Rattle.cluster_service.specs.FrameCounting.{accepted_in, ignored_in}
 
--- a replica with a lawful history showed these numbers; how many frames its inbox lost isn't in it
+-- A replica with a lawful history showed these numbers. The history doesn't say how many frames its inbox lost, nor how many signatures
+-- were lost at round ends that found no memory.
 pub record IsShown (m : ReplicaMetrics) : Type 0 where
   pub state : StateView
   pub replay : Replay state.config state.ring state.id state.entries
+  pub account : AccountsForLeaves state
+  pub own_key : slice_get state.ring state.id ≡ Some (key_of state.secret)
   pub rounds : m.rounds ≡ clock_at state.entries
   pub height : m.height ≡ length (commits_of state.config state.id state.entries)
   pub signatures : state.used + m.signatures_left ≡ leaves_of state.secret
@@ -57,7 +60,7 @@ AnswersWait tx index (Committed height code) = IsDelivery tx index height code
 AnswersWait tx index TimedOut = ⊤
 AnswersWait tx index Stopping = ⊤
 
--- the inquiry is of a running cluster; that a transaction was spread says nothing
+-- what an inquiry says; that a transaction was spread says nothing
 abbrev pub IsInquiry : Inquiry → Type 0
 IsInquiry (Shows r m) = IsShown m
 IsInquiry (Progresses r progress) = IsProgress progress

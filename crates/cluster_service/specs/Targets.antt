@@ -1,4 +1,4 @@
--- What an exchange of a session with a running replica is, by that replica as it was then.
+-- What an exchange of a session says: some replica with a lawful history answers so. No clause says which replica it is.
 use Rattle.std.specs.Prelude.{◌≡◌, ℕ, ◌<◌, ◌≤◌, ⊤, true, List, [], ◌∷◌, length, Option, None, Result, Ok, Err}
 use Rattle.ledger_model.specs.declared.event.Event.TheVariants as event
 use Rattle.ledger_model.specs.declared.reply.QueryAnswer.{QueryAnswer}
@@ -14,8 +14,8 @@ use Rattle.locked_replica.specs.States.{StateView}
 use Rattle.replica_turns.specs.Clients.{IsReceipt, is_tx_len, submit_events, with_index}
 use Rattle.replica_turns.specs.Turns.{GoesOn, Takes}
 
--- a replica took the transaction: its history grew by that event and no other, and the answer is its pool's, by the history before;
--- if the pool took the transaction, the answer is the index of its entry, which is the length of the history before
+-- a replica took the transaction: its history grew by that event and no other, it used no signature, and the answer is its pool's, by
+-- the history before; if the pool took the transaction, the answer is the index of its entry, which is the length of the history before
 pub record IsSubmitted (tx : List ℕ) (answer : Result ℕ SubmitRefusal) : Type 0 where
   pub old : StateView
   pub new : StateView
@@ -23,6 +23,7 @@ pub record IsSubmitted (tx : List ℕ) (answer : Result ℕ SubmitRefusal) : Typ
   pub took : Takes old.entries (submit_events tx) new.entries
   pub answered : answer ≡ with_index (length old.entries) (submit_reply old.config old.id old.entries tx)
   pub receipt : IsReceipt new.entries tx answer
+  pub unsigned : new.used ≡ old.used
 
 -- a replica took the query: its history grew by that event and no other, and the answer is its application's, as of the last block;
 -- a key that is too long has no value, and is no event
@@ -34,6 +35,7 @@ pub record IsQueried (key : List ℕ) (answer : QueryAnswer) : Type 0 where
   pub answered : length key ≤ 64 → Ok answer ≡ query_reply old.config.kind (commits_of old.config old.id old.entries) key 0
   pub long_same : 64 < length key → new ≡ old
   pub long : 64 < length key → answer ≡ record { height = length (commits_of old.config old.id old.entries); value = None }
+  pub unsigned : new.used ≡ old.used
 
 -- a replica with a lawful history had committed this batch at the height, or none
 pub record IsCommitted (height : ℕ) (answer : Option Value) : Type 0 where

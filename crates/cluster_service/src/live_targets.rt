@@ -46,6 +46,8 @@ impl<'a, A: Application, R: Wait> LiveTargets<'a, A, R> {
     ) -> Self
         requires seat { seat.board ≡ cluster.now.board }
         requires entries { length entries.now ≡ cluster.now.replicas }
+        ensures seat { result.seat ≡ seat }
+        ensures cluster { result.cluster.now ≡ cluster.now }
     {
         let _ = cluster.len();
         LiveTargets {

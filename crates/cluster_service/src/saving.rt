@@ -55,7 +55,7 @@ impl<W: Write> Model for HistoriesFile<W> {
 }
 
 impl<W: Write> HistoriesFile<W> {
-    ghost use Rattle.std.specs.Prelude.{IfErr, Some};
+    ghost use Rattle.std.specs.Prelude.{◌≡◌, IfErr, OnOk, Some};
     ghost use Rattle.std.specs.List.{flat_map};
     ghost use Rattle.history_bytes.specs.Histories.{history_bytes};
     ghost use Rattle.byte_streams.specs.Writing.{Writes};
@@ -66,6 +66,7 @@ impl<W: Write> HistoriesFile<W> {
     pub fn save(&mut self, alloc: Global, histories: &[History]) -> Result<(), ProgramFault>
         ensures written { Writes result self.old.bytes self.new.bytes (flat_map history_bytes histories.now) }
         ensures fault { IfErr result (IsSaveFault (Some self.old.path)) }
+        ensures path { OnOk result (self.new.path ≡ self.old.path) }
     {
         match write_histories(alloc, histories, &mut self.file) {
             Ok(()) => Ok(()),

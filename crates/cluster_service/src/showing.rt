@@ -5,6 +5,7 @@ ghost use Rattle.ledger_model.specs.Commits.{commits_of, pool_of};
 ghost use Rattle.ledger_model.specs.Lawful.{clock_at};
 ghost use Rattle.ledger_model.specs.declared.reply.Ignored.{Ignored};
 ghost use Rattle.http_replies.specs.FrameCounts.{ignored_for};
+ghost use Rattle.replica_core.specs.Facts.{info_reply};
 ghost use Rattle.cluster_service.specs.FrameCounting.{accepted_in, ignored_in};
 ghost use Rattle.cluster_service.specs.Inquiries.{IsInfo, IsPooled, IsProgress, IsShown};
 
@@ -35,6 +36,8 @@ pub(crate) fn metrics_of<A: Application>(
     // The result as HTTP sees it.
     ensures shown { IsShown result }
 {
+    // Used leaves are accounted for, and the key is its own: both are read for the proof.
+    let _ = (state.is_mute(), state.id());
     ReplicaMetrics {
         replica,
         rounds: state.clock(),
@@ -91,6 +94,8 @@ pub(crate) fn pool_size<A: Application>(state: &State<A>) -> PoolSize
 /// What a replica's application says of itself.
 pub(crate) fn app_info<A: Application>(state: &State<A>) -> AppInfo
     ensures kind { result.kind ≡ state.now.config.kind }
+    ensures reply { record { height = result.height; hash = result.hash }
+        ≡ info_reply state.now.config.kind (commits_of state.now.config state.now.id state.now.entries) }
     // The result as HTTP sees it.
     ensures shown { IsInfo result }
 {

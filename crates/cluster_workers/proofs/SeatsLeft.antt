@@ -47,13 +47,6 @@ all_reading board n seats few dealt k d within =
     let here : k < n = omega arith in
     ap (λ (s : ReaderSeatView). s.board) (get_or_from_slice_get seats k (new_reader board) d (dealt k here))
 
--- what is taken of a list is there as it was
-pub get_take : {X : Type 0} (n k : ℕ) (xs : List X) → k < n → slice_get (take n xs) k ≡ slice_get xs k
-get_take zero k xs lt = absurd (omega arith)
-get_take (suc n) k [] lt = refl
-get_take (suc n) zero (x ∷ xs) lt = refl
-get_take (suc n) (suc k) (x ∷ xs) lt = get_take n k xs (omega arith)
-
 -- the seat that is taken is of the board
 pub first_reading : (board : BoardId) (x : ReaderSeatView) (rest : List ReaderSeatView)
     → All (λ (s : ReaderSeatView). s.board ≡ board) (x ∷ rest) → x.board ≡ board

@@ -2,6 +2,7 @@
 use Rattle.std.specs.Prelude.{◌≡◌, ℕ, ◌≤◌, List, [], ◌∷◌, length, map}
 use Rattle.std.specs.List.{All, range_with_len}
 use Rattle.ledger_model.specs.Rules.{Ring}
+use Rattle.ledger_model.specs.declared.version.Version.{Version}
 use Rattle.locked_replica.specs.States.{StateView}
 use Rattle.commit_board.specs.Seats.{BoardId, WriterSeatView, ReaderSeatView, new_writer}
 
@@ -19,14 +20,15 @@ pub record AreReadersOf (board : BoardId) (count : ℕ) (seats : List ReaderSeat
   pub enough : count ≤ length seats
   pub all : All (λ s. s.board ≡ board) seats
 
--- a worker: its replica's number, and the number of rounds that it ends
+-- a worker: its replica's number, the version of its cluster's frames, and the number of rounds that it ends
 pub record WorkerView : Type 0 where
   pub replica : ℕ
+  pub version : Version
   pub rounds : ℕ
 
 -- a worker for each of n replicas, by number
-abbrev pub all_workers : ℕ → ℕ → List WorkerView
-all_workers replicas rounds = map (λ r. record { replica = r; rounds = rounds }) (range_with_len 0 replicas)
+abbrev pub all_workers : ℕ → Version → ℕ → List WorkerView
+all_workers replicas version rounds = map (λ r. record { replica = r; version = version; rounds = rounds }) (range_with_len 0 replicas)
 
 -- the keys of a cluster, as its first replica has them
 abbrev pub first_ring : List StateView → Ring

@@ -16,8 +16,12 @@ pub struct Progress {
 }
 
 impl Progress {
+    ghost use Rattle.std.specs.Prelude.{◌≡◌, ◌==◌, ◌&&◌};
+
     /// Whether it did nothing.
-    pub fn is_idle(&self) -> bool {
+    pub fn is_idle(&self) -> bool
+        ensures { result ≡ ((self.now.taken == 0) && (self.now.sent == 0) && (self.now.events == 0)) }
+    {
         self.taken == 0 && self.sent == 0 && self.events == 0
     }
 }

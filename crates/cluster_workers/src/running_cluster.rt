@@ -124,7 +124,7 @@ fn workers_of<A: Application>(
     requires seats { AreDealt (arc_value board.now) 0 count seats.items }
     requires looking { AreReadersOf (arc_value board.now) count looking.items }
     requires replicas { length replicas.now ≡ count }
-    ensures { IfOk result (λ workers. workers.items ≡ all_workers count rounds) }
+    ensures { IfOk result (λ workers. workers.items ≡ all_workers count version rounds) }
 {
     let Inboxes { receivers, senders } = inboxes_of(alloc, count, losses)?;
     let mut seats = seats.into_iter();
@@ -170,7 +170,7 @@ impl<A: Application> RunningCluster<A> {
         requires { vec_len states ≡ config.now.replicas }
         ensures replicas { IfOk result (λ r. r.0.replicas ≡ config.now.replicas) }
         // The worker of each replica, by number.
-        ensures workers { IfOk result (λ r. r.1.items ≡ all_workers config.now.replicas rounds) }
+        ensures workers { IfOk result (λ r. r.1.items ≡ all_workers config.now.replicas config.now.frames rounds) }
         ensures reader_count { IfOk result (λ r. vec_len r.2 ≡ readers) }
         ensures readers { IfOk result (λ r. (k : ℕ) → k < readers → slice_get r.2.items k ≡ Some (new_reader r.0.board)) }
     {

@@ -1,10 +1,10 @@
 //! Takes the turns of a worker, publishes its replica's height, and reads which heights all replicas committed.
-ghost use Rattle.std.specs.Prelude.{◌≡◌, ◌≤◌, ◌+◌, length, MatchOption};
+ghost use Rattle.std.specs.Prelude.{◌≡◌, ◌≤◌, ◌+◌, max, length, MatchOption};
 ghost use Rattle.std.specs.Arc.{arc_value};
 ghost use Rattle.ledger_model.specs.Lawful.{clock_at};
 ghost use Rattle.ledger_model.specs.Limits.{max_history_len};
 ghost use Rattle.commit_board.specs.Seats.{IsLeastRead};
-ghost use Rattle.replica_turns.specs.Turns.{Takes, TakesSome};
+ghost use Rattle.replica_turns.specs.Turns.{Takes, TakesSome, height_in};
 ghost use Rattle.cluster_workers.specs.Looks.{IsNextByBoard};
 
 use abci::Application;
@@ -62,7 +62,8 @@ impl TurnTaker {
 
     /// The least height that it reads of all replicas. A replica's `turn` publishes only what it committed.
     fn least(&mut self) -> Height
-        ensures { IsLeastRead self.old.reader self.new.reader (arc_value self.old.board) result }
+        ensures read { IsLeastRead self.old.reader self.new.reader (arc_value self.old.board) result }
+        ensures seat { self.new.seat ≡ self.old.seat }
     {
         self.board.least(&mut self.reader)
     }
@@ -76,6 +77,7 @@ impl TurnTaker {
     ) -> (u32, OwnEvents)
         ensures round { result.0 ≡ clock_at state.now.entries }
         ensures own { IsNextByBoard self.old.reader self.new.reader (arc_value self.old.board) state.now proposed result.1 }
+        ensures seat { self.new.seat ≡ self.old.seat }
     {
         let least = self.least();
         (state.clock(), own_of(state, proposed, least))
@@ -91,6 +93,10 @@ impl TurnTaker {
             (λ _. TakesSome state.old.entries events.items state.new.entries) }
         ensures other { (state.old.id ≡ self.old.seat.replica → ⊥) → state.new ≡ state.old }
         ensures grows { length state.old.entries ≤ length state.new.entries }
+        // The replica's committed height is published, and nothing else.
+        ensures seat { state.old.id ≡ self.old.seat.replica
+            → self.new.seat ≡ record self.old.seat { height = max self.old.seat.height (height_in state.new) } }
+        ensures idle { (state.old.id ≡ self.old.seat.replica → ⊥) → self.new.seat ≡ self.old.seat }
     {
         if state.id() != self.seat.replica() {
             return None;
@@ -114,6 +120,12 @@ impl TurnTaker {
         ensures events { state.old.id ≡ self.old.seat.replica → MatchOption result.fault (Takes state.old.entries events.items state.new.entries)
             (λ _. TakesSome state.old.entries events.items state.new.entries) }
         ensures other { (state.old.id ≡ self.old.seat.replica → ⊥) → state.new ≡ state.old }
+        // The replica's committed height is published, and nothing else.
+        ensures seat { state.old.id ≡ self.old.seat.replica
+            → self.new.seat ≡ record self.old.seat { height = max self.old.seat.height (height_in state.new) } }
+        ensures idle { (state.old.id ≡ self.old.seat.replica → ⊥) → self.new.seat ≡ self.old.seat }
+        ensures height { result.status.height ≡ height_in state.new }
+        ensures rounds { result.status.rounds ≡ clock_at state.new.entries }
     {
         let first = state.len();
         let count = events.len();

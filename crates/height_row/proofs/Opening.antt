@@ -2,13 +2,13 @@
 use Rattle.std.proofs.Common.{◌≡◌, ℕ, ◌≤◌, Bool, true, false, List, [], ◌∷◌, ◌+◌, refl, arith}
 use Rattle.std.specs.Prelude.{◌==◌, ◌||◌, nat_lt, None, is_some, Ok}
 use Rattle.std.proofs.lemmas.Bool.{eqb-false, ltb-false, or_parts}
+use Rattle.std.proofs.option.Match.{None-if_not_some}
 use Rattle.ledger_model.specs.declared.reply.ProposeRefusal.{ProposeRefusal}
 use Rattle.ledger_model.specs.declared.reply.ProposeRefusal.TheVariants as refusal
 use Rattle.ledger_model.specs.Limits.{max_height, max_ahead}
 use Rattle.ledger_model.specs.Commits.{first_fault}
 use Rattle.instance.specs.Instances.{InstanceView}
 use Rattle.height_row.specs.Heights.{row_at, open_answer}
-use Rattle.ledger_model.proofs.Lists.{none_if_not_some}
 
 -- it is one of the heights, not below the floor, and not open
 pub record MayBeOpened (floor : ℕ) (rows : List InstanceView) (h : ℕ) : Type 0 where
@@ -34,4 +34,4 @@ may_be_opened floor rows committed h is =
     let bounds = or_parts (h == 0) (nat_lt max_height h) parts.0 in
     let low = eqb-false h 0 bounds.0 in
     let high = ltb-false max_height h bounds.1 in
-    record { low = omega (arith, low); high = high; kept = ltb-false h floor parts.1; none = none_if_not_some (row_at rows h) parts.2 }
+    record { low = omega (arith, low); high = high; kept = ltb-false h floor parts.1; none = None-if_not_some (row_at rows h) parts.2 }

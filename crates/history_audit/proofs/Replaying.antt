@@ -7,8 +7,8 @@ use Rattle.std.specs.Prelude.{IsTrue, nat_lt, nat_le, nat_eq, slice_get, ◌*◌
 use Rattle.std.proofs.lemmas.Bool.{cases_Bool, and_parts, eqb-true, eq-eqb, ltb-true}
 use Rattle.std.proofs.lemmas.List.{nil_from_length}
 use Rattle.replica_core.specs.Facts.{block_at}
-use Rattle.ledger_model.proofs.Lists.{same_some}
 use Rattle.std.proofs.lemmas.List.{append-nil}
+use Rattle.std.proofs.lemmas.Option.{same_Some}
 use Rattle.ledger_model.specs.declared.config.Config.{Config}
 use Rattle.ledger_model.specs.declared.event.Event.{Event}
 use Rattle.ledger_model.specs.declared.reply.Reply.{Reply}
@@ -139,7 +139,7 @@ module _ (config : Config) (ring : Ring) (histories : List History) (n : ℕ) (o
   of_n = eqb-true m.replica n ((found_history histories n m is).1)
 
   is_m : (q : ℕ) (k : History) → q ≡ n → history_of histories q ≡ Some k → m ≡ k
-  is_m q k same at = same_some m k (sym is ∙ ap (history_of histories) (sym same) ∙ at)
+  is_m q k same at = same_Some m k (sym is ∙ ap (history_of histories) (sym same) ∙ at)
 
   by_last : {X : Type 0} (q : ℕ) (k : History) → q < n + 1 → history_of histories q ≡ Some k → (q < n → X) → (q ≡ n → X) → X
   by_last q k less at lesser equal = elim (cases_Bool (nat_lt q n)) [

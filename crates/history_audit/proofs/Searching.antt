@@ -7,6 +7,7 @@ use Rattle.std.specs.Prelude.{Ok, Err, nat_eq, nat_lt, nat_le, slice_get, Option
 use Rattle.std.specs.List.{list_any, list_all}
 use Rattle.std.proofs.lemmas.Bool.{and_parts, cases_Bool, eqb-true, eq-eqb, ltb-true, le-leb}
 use Rattle.std.proofs.lemmas.List.{append-nil}
+use Rattle.std.proofs.lemmas.Option.{same_Some}
 use Rattle.ledger_model.specs.declared.config.Config.{Config}
 use Rattle.ledger_model.specs.declared.history.Entry.{Entry}
 use Rattle.ledger_model.specs.declared.event.Event.{Event}
@@ -24,8 +25,7 @@ use Rattle.ledger_model.specs.Pools.{is_among}
 use Rattle.ledger_model.specs.Groups.{history_of}
 use Rattle.ledger_model.specs.Audits.{all_differ, are_of_a_quorum, own_sent, lacks, statements_in, accepts, is_unsent, unsent_in, IsUnsent}
 use Rattle.ledger_model.specs.Audits.{IsFirstUnsent, is_not_after}
-use Rattle.ledger_laws.proofs.Audits.{found_has}
-use Rattle.ledger_model.proofs.Lists.{has_left, has_right, has_cases, all_has, any_mapped, same_some}
+use Rattle.ledger_model.proofs.Lists.{has_left, has_right, has_cases, all_has, any_mapped, found_has}
 use Rattle.signed_frames.specs.Lending.{SignedPartView, lent_of, own_part, proof_of}
 use Rattle.history_audit.specs.declared.sent_table.SentStatement.{SentStatement}
 use Rattle.history_audit.specs.Tables.{is_sent_in, IsTableOf, has_sent, lacks_part}
@@ -65,7 +65,7 @@ sent_found (x ∷ xs) r bytes m different is =
       | inl here ↦
           let same : x.replica ≡ r = eqb-true x.replica r here in
           let found : history_of (x ∷ xs) r ≡ Some x = ap (λ b. cond b (Some x) (history_of xs r)) here in
-          let is_m : x ≡ m = same_some x m (sym found ∙ is) in
+          let is_m : x ≡ m = same_Some x m (sym found ∙ is) in
           let others : list_any (λ y. y == x.replica) (replicas_of xs) ≡ false = not-true (parts.0) in
           let none : is_sent_in xs r bytes ≡ false = none_sends xs r bytes (subst (λ n. list_any (λ y. y == n) (replicas_of xs)
           ≡ false) same others) in
@@ -274,11 +274,11 @@ is_first histories r i x m is before first = record {
     between a b one other = grind (arith)
 
     entry_is : (j : ℕ) (e f : Entry) → slice_get m.entries j ≡ Some e → slice_get m.entries j ≡ Some f → e ≡ f
-    entry_is j e f one other = same_some e f (sym one ∙ other)
+    entry_is j e f one other = same_Some e f (sym one ∙ other)
 
     here : (j y : ℕ) → IsUnsent histories r j y → IsTrue (nat_lt i j || ((i == j) && nat_le x y))
     here j y unsent =
-        let same : unsent.history ≡ m = same_some unsent.history m (sym unsent.of ∙ is) in
+        let same : unsent.history ≡ m = same_Some unsent.history m (sym unsent.of ∙ is) in
         let at : slice_get m.entries j ≡ Some unsent.entry = subst (λ (n : History). slice_get n.entries j
         ≡ Some unsent.entry) same unsent.at in
         elim (cases_Bool (nat_lt i j)) [

@@ -151,15 +151,6 @@ nothing_reader = record {
 
 -- ---- refusals by their number
 
--- what is found passes the test
-pub find_passes : {X : Type 0} (test : X → Bool) (xs : List X) (x : X) → find test xs ≡ Some x → test x ≡ true
-find_passes test [] x e = absurd cc
-find_passes {X = X} test (y ∷ xs) x e = at (test y) refl e (find_passes test xs x)
-  where
-    at : (b : Bool) → test y ≡ b → cond b (Some y) (find test xs) ≡ Some x → (find test xs ≡ Some x → test x ≡ true) → test x ≡ true
-    at true passes f later = subst (λ (z : X). test z ≡ true) (some_is y x f) passes
-    at false fails f later = later f
-
 -- a refusal that is its number alone
 pub numbered_tagged : {E : Type 0} (number : E → ℕ) (of : ℕ → Option E) → ((n : ℕ) (r : E) → of n ≡ Some r → number r ≡ n)
     → ((r : E) → of (number r) ≡ Some r) → IsTagged number (λ _. []) (λ _. Unit {0}) (numbered of)

@@ -17,12 +17,13 @@ use Rattle.ledger_model.specs.Causes.{submit_refusal_number, propose_refusal_num
 use Rattle.ledger_model.specs.GrammarLaws.{IsBytes}
 use Rattle.ledger_model.specs.Reading.{◌>>=◌, number_at}
 use Rattle.ledger_model.proofs.Readers.{bind_some, some_is}
+use Rattle.ledger_model.proofs.Lists.{found_has}
 use Rattle.history_bytes.specs.Histories.{code_bytes}
 use Rattle.history_bytes.specs.HistorySpelling.{IsRefusal}
 use Rattle.history_bytes.specs.HistoryReading.{propose_refusal_of, retire_refusal_of, cause_of, submit_refusal_of}
 use Rattle.history_bytes.specs.HistoryReading.{numbered, propose_refusals, retire_refusals, causes, pool_refusals}
 use Rattle.history_reading.proofs.Combined.{if_some, IsTagged}
-use Rattle.history_reading.proofs.Combined.{as_kind, branch_takes, find_passes, numbered_tagged}
+use Rattle.history_reading.proofs.Combined.{as_kind, branch_takes, numbered_tagged}
 use Rattle.history_reading.proofs.FieldReaders.{word_reader}
 
 propose_back : (r : ProposeRefusal) → propose_refusal_of (propose_refusal_number r) ≡ Some r
@@ -35,7 +36,7 @@ propose_back propose.Retired = refl
 pub propose_tagged : IsTagged propose_refusal_number (λ _. []) (λ _. Unit {0}) (numbered propose_refusal_of)
 unfolding propose_refusal_of
 propose_tagged = numbered_tagged propose_refusal_number propose_refusal_of
-    (λ n r e. eqb-true _ _ (find_passes (λ x. eqb (propose_refusal_number x) n) propose_refusals r e)) propose_back
+    (λ n r e. eqb-true _ _ ((found_has (λ x. eqb (propose_refusal_number x) n) propose_refusals r e).1)) propose_back
 
 pub propose_some : (r : ProposeRefusal) → eqb (propose_refusal_number r) 0 ≡ false
 propose_some propose.TooFar = refl
@@ -51,7 +52,7 @@ retire_back retire.NotAbove = refl
 pub retire_tagged : IsTagged retire_refusal_number (λ _. []) (λ _. Unit {0}) (numbered retire_refusal_of)
 unfolding retire_refusal_of
 retire_tagged = numbered_tagged retire_refusal_number retire_refusal_of
-    (λ n r e. eqb-true _ _ (find_passes (λ x. eqb (retire_refusal_number x) n) retire_refusals r e)) retire_back
+    (λ n r e. eqb-true _ _ ((found_has (λ x. eqb (retire_refusal_number x) n) retire_refusals r e).1)) retire_back
 
 pub retire_some : (r : RetireRefusal) → eqb (retire_refusal_number r) 0 ≡ false
 retire_some retire.NotCommitted = refl
@@ -74,7 +75,7 @@ cause_back cause.NotMine = refl
 pub cause_tagged : IsTagged cause_number (λ _. []) (λ _. Unit {0}) (numbered cause_of)
 unfolding cause_of
 cause_tagged = numbered_tagged cause_number cause_of
-    (λ n c e. eqb-true _ _ (find_passes (λ x. eqb (cause_number x) n) causes c e)) cause_back
+    (λ n c e. eqb-true _ _ ((found_has (λ x. eqb (cause_number x) n) causes c e).1)) cause_back
 
 pub cause_some : (c : Ignored) → eqb (cause_number c) 0 ≡ false
 cause_some cause.Malformed = refl
@@ -107,7 +108,7 @@ submit_takes n bytes r rest fits e =
     (λ x. refl) (λ x i. i) bytes r rest fits f)
     (λ other f.
     let a = bind_some found (λ x. Some (x, bytes)) (r, rest) f in
-    let number : submit_refusal_number a.0 ≡ n = eqb-true _ _ (find_passes (λ x. eqb (submit_refusal_number x) n) pool_refusals a.0 a.1) in
+    let number : submit_refusal_number a.0 ≡ n = eqb-true _ _ ((found_has (λ x. eqb (submit_refusal_number x) n) pool_refusals a.0 a.1).1) in
     let plainly = no_code a.0 n bytes number other in
     let made : SubmitRefusal × List ℕ = (a.0, bytes) in
     subst (λ (p : SubmitRefusal × List ℕ). (bytes ≡ code_bytes p.0 ++ p.1) × IsRefusal p.0 × IsBytes p.1 × (submit_refusal_number p.0 ≡ n))

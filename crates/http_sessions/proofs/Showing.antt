@@ -3,16 +3,10 @@ use Rattle.std.proofs.Common.{◌≡◌, ℕ, ◌+◌, List, [], ◌∷◌, ◌+
 use Rattle.std.proofs.lemmas.List.{map-append}
 use Rattle.std.specs.List.{FoldsTo, range_with_len}
 use Rattle.std.proofs.lemmas.Fn.{FoldsTo-push}
+use Rattle.ledger_model.proofs.Lists.{range_more}
 use Rattle.http_replies.specs.declared.metrics.ReplicaMetrics.{ReplicaMetrics}
 use Rattle.http_sessions.specs.Exchanges.{HttpExchange, Inquired, Shows}
 use Rattle.http_sessions.specs.Answering.{shown}
-
--- one number more
-pub range_more : (a n : ℕ) → range_with_len a (suc n) ≡ range_with_len a n ++ (a + n) ∷ []
-range_more a zero = let same : a ≡ a + 0 = omega arith in ap (λ k. k ∷ []) same
-range_more a (suc n) =
-    let same : (a + 1) + n ≡ a + suc n = omega arith in
-    ap (λ l. a ∷ l) (range_more (a + 1) n) ∙ ap (λ k. a ∷ (range_with_len (a + 1) n ++ k ∷ [])) same
 
 -- the numbers of one replica more
 pub each_more : (all : List ReplicaMetrics) (m : ReplicaMetrics) (n : ℕ) → map (λ x. x.replica) all ≡ range_with_len 0 n → m.replica ≡ n

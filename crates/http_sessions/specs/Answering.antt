@@ -129,7 +129,7 @@ AnswersCommit r tx (Asked (Submits q t (Ok (Ok index))) ∷ Inquired (Spreads p 
 AnswersCommit r tx _ a = ⊥
 
 abbrev pub AnswersMetrics : ℕ → List HttpExchange → AnswerView → Type 0
-AnswersMetrics r (Inquired (Shows q m) ∷ []) a = (q ≡ r) × (a ≡ Metrics (m ∷ []))
+AnswersMetrics r (Inquired (Shows q m) ∷ []) a = (q ≡ r) × (m.replica ≡ r) × (a ≡ Metrics (m ∷ []))
 AnswersMetrics r _ a = ⊥
 
 -- the exchanges by which replicas showed these metrics

@@ -6,6 +6,8 @@ use Rattle.std.specs.Option.{option_map_or}
 use Rattle.std.specs.List.{filter_map, find, flat_map}
 use Rattle.std.proofs.lemmas.Bool.{and_parts, cases_Bool, both_ways, and_from, eq-eqb}
 use Rattle.std.proofs.lemmas.Bool.Decides.{nat_tests}
+use Rattle.std.proofs.lemmas.Option.{same_Some}
+use Rattle.std.proofs.option.Match.{None-if_not_some}
 use Rattle.ledger_model.specs.declared.config.Config.{Config}
 use Rattle.ledger_model.specs.declared.statement.Ack.{Ack}
 use Rattle.ledger_model.specs.declared.statement.Statement.{Statement}
@@ -22,7 +24,7 @@ use Rattle.phase_core.specs.Choices.{is_decided_by}
 use Rattle.ledger_model.specs.Rules.{Ring, is_signed}
 use Rattle.tally.specs.Tallies.{all_read, read_of}
 use Rattle.ledger_model.proofs.Goodness.{clock_of-append}
-use Rattle.ledger_model.proofs.Lists.{same_value-refl, same_value-equal, find_only, same_some, none_if_not_some}
+use Rattle.ledger_model.proofs.Lists.{same_value-refl, same_value-equal, find_only}
 use Rattle.ledger_model.proofs.Staying.{find_none, acked_known}
 use Rattle.lock_proofs.proofs.KeptLocks.{keeps_locks}
 use Rattle.phase_core.proofs.Logs.{decided_is_acked}
@@ -256,7 +258,7 @@ module _ (ring : Ring) (row : InstanceView) (log : List Note) (old : MatchesLog 
       ∙ unread log (round_at ack_place j) _ old.timely (omega arith) in
       joined _ (own_ack_read ring _ _ (opens_acks place) c clock_now (own_ack_of row k v) signature
       (record { some = omega arith; place = rw place refl; phase = eq-eqb k k refl }) refl
-      (none_if_not_some (read_of row.acks row.id) none))
+      (None-if_not_some (read_of row.acks row.id) none))
 
   -- ---- by place
 
@@ -266,7 +268,7 @@ module _ (ring : Ring) (row : InstanceView) (log : List Note) (old : MatchesLog 
   at_first place made.Unsent may signed frame = opens_reports place
   at_first place (made.Sent f) may signed frame =
       subst (λ s. IsTrue (is_signed ring (with_other f s)) → IsFrame (with_other f s) → Closing reports_row (with_other f s ∷ []))
-      (sym (same_some _ _ (rw place at may))) (own_reported place f.signature) signed frame
+      (sym (same_Some _ _ (rw place at may))) (own_reported place f.signature) signed frame
 
   at_second : place_of c ≡ lock_place → (m : RoundStatement) → MayMakeOf row c m → IsSignedMade ring m → IsFrameMade m
       → Closing lock_row (made_by None m)

@@ -7,6 +7,7 @@ use Rattle.std.specs.Cmp.Lexicographic.{pointwise}
 use Rattle.std.specs.Option.{is_none, option_map_or}
 use Rattle.std.proofs.lemmas.Bool.{cases_Bool, and_parts}
 use Rattle.std.proofs.lemmas.Bool.Decides.{Decides-eqb, Decides-and, Decides-like}
+use Rattle.std.proofs.lemmas.Option.{same_Some}
 use Rattle.ledger_model.specs.declared.statement.Ack.{Ack}
 use Rattle.ledger_model.specs.declared.statement.Lock.{Lock}
 use Rattle.ledger_model.specs.declared.statement.Report.{Report}
@@ -19,7 +20,7 @@ use Rattle.ledger_model.specs.Rounds.{phase_of, place_of, owner_of, lock_place}
 use Rattle.tally.specs.Readings.{reports_of}
 use Rattle.phase_core.specs.Choices.{chosen}
 use Rattle.tally.specs.Tallies.{all_read, read_of}
-use Rattle.ledger_model.proofs.Lists.{all_has, all_from, pointwise_refl, pointwise_equal, same_value-refl, same_value-equal, same_some}
+use Rattle.ledger_model.proofs.Lists.{all_has, all_from, pointwise_refl, pointwise_equal, same_value-refl, same_value-equal}
 use Rattle.instance.specs.Instances.{InstanceView}
 use Rattle.phase_core.proofs.Choosing.{chosen_found, none_chosen}
 use Rattle.instance.specs.Plans.{own_report, own_ack_of, sent_ack, unsent_ack, MaySend}
@@ -156,7 +157,7 @@ module _ (row : InstanceView) (k : ℕ) where
 
   -- the lock that is sent
   of_lock : (s : Statement) → MaySendLock row k (Some s) → (l : Lock) × (s ≡ statement.Lock l) × IsOwnLockOf row k l
-  of_lock s (inl own) = (own.0, same_some _ _ own.1, own.2)
+  of_lock s (inl own) = (own.0, same_Some _ _ own.1, own.2)
   of_lock s (inr none) = cc (none.0)
 
   lock_sent : (sent : Option Statement)

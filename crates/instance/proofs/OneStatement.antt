@@ -6,6 +6,7 @@ use Rattle.std.specs.List.{filter_map}
 use Rattle.std.proofs.lemmas.List.{length-set}
 use Rattle.std.proofs.lemmas.Bool.{cases_Bool, and_from, and_left, and_right, eq-eqb, eqb-true, ne_eqb, not-false, or_right}
 use Rattle.std.proofs.lemmas.Bool.Decides.{nat_tests}
+use Rattle.std.proofs.option.Match.{None-if_not_some}
 use Rattle.ledger_model.specs.declared.reply.Ignored.TheVariants as cause
 use Rattle.ledger_model.specs.declared.statement.Ack.{Ack}
 use Rattle.ledger_model.specs.declared.statement.Lock.{Lock}
@@ -23,7 +24,7 @@ use Rattle.ledger_model.specs.Lawful.{held_locks}
 use Rattle.lock_proofs.specs.LockTables.{SignedLock, as_statement, with_lock, released, has_four_others}
 use Rattle.ledger_model.specs.Spelling.{IsFrameIn, IsSignedReport}
 use Rattle.tally.specs.Tallies.{Places, all_read, read_of}
-use Rattle.ledger_model.proofs.Lists.{has_right, has_filter_map, same_value-refl, same_value-equal, any_mapped, find_only, none_if_not_some}
+use Rattle.ledger_model.proofs.Lists.{has_right, has_filter_map, same_value-refl, same_value-equal, any_mapped, find_only}
 use Rattle.ledger_model.proofs.LockSafety.{has_read, took_tells}
 use Rattle.ledger_model.proofs.Steps.{none_fits}
 use Rattle.lock_proofs.proofs.GrowingLogs.{same_clock}
@@ -228,10 +229,10 @@ read_one : (ring : Ring) (row : InstanceView) (log : List Note) (m : MatchesLog 
     (more log (Read (clock_of log) (record { statement = s; signature = signature })))
 read_one ring row log m signature (statement.Report r) t new member height frame signed sound =
     reads_report ring row log m (record { report = r; signature = signature }) t member
-    (none_if_not_some (read_of row.reports r.signer) new)
+    (None-if_not_some (read_of row.reports r.signer) new)
     height signed (record { read = frame.read; report = frame.statement; signature = frame.signature })
 read_one ring row log m signature (statement.Ack a) t new member height frame signed sound =
-    reads_ack ring row log m a signature t member (none_if_not_some (read_of row.acks a.signer) new)
+    reads_ack ring row log m a signature t member (None-if_not_some (read_of row.acks a.signer) new)
 read_one ring row log m signature (statement.Lock l) t new member height frame signed sound =
     elim (cases_Bool (nat_eq (place_of (clock_of log)) lock_place)) [
       | inl second ↦ rw second (takes_lock ring row log m (record { lock = l; signature = signature }) t (eqb-true _ 2 second)

@@ -2,17 +2,14 @@
 use Rattle.std.proofs.Common.{◌≡◌, true, false, ◌||◌, List, [], ◌∷◌, ◌++◌, refl, ◌∙◌}
 use Rattle.std.specs.Prelude.{Some, None}
 use Rattle.std.proofs.lemmas.Bool.{or_left, or_right}
-use Rattle.std.proofs.lemmas.List.Folds.{list_any-append}
 use Rattle.ledger_model.specs.Notes.{Note, Proposed, Round, OwnStatement, Read, Retired, initial_of, retires, is_retired, open_of, is_open}
 use Rattle.ledger_model.specs.Values.{Value}
 use Rattle.ledger_model.specs.Lawful.{held_locks, locks_sent_on}
+use Rattle.ledger_model.proofs.Floors.{is_retired-append}
 use Rattle.ledger_model.proofs.Goodness.{initial_of-append, open_value}
 use Rattle.instance.specs.Matching.{only_rounds}
 
 -- ---- retired
-
-pub is_retired-append : (xs ys : List Note) → is_retired (xs ++ ys) ≡ (is_retired xs || is_retired ys)
-is_retired-append xs ys = list_any-append retires xs ys
 
 -- a retired height isn't open
 pub closed : (log : List Note) → is_retired log ≡ true → open_of log ≡ None

@@ -22,9 +22,10 @@ use Rattle.instance.specs.Laws.{Opens}
 use Rattle.ledger_model.proofs.Lists.{all_has, has_cases}
 use Rattle.ledger_model.proofs.LockSafety.{read_has, made_has}
 use Rattle.ledger_model.proofs.Staying.{any_append}
+use Rattle.ledger_model.proofs.Floors.{is_retired-append}
 use Rattle.instance.proofs.OneNote.{no_reports, no_acks, no_lock}
 use Rattle.tally.proofs.Puts.{none_there}
-use Rattle.instance.proofs.OpenLogs.{is_retired-append, only_rounds_kept, open_from}
+use Rattle.instance.proofs.OpenLogs.{only_rounds_kept, open_from}
 use Rattle.instance.proofs.ProperStays.{proper_at-stays}
 
 -- ---- nothing was read or made

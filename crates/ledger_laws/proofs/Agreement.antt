@@ -19,20 +19,12 @@ use Rattle.ledger_model.specs.Validity.{ValidLock, signers_of, ascends_within}
 use Rattle.ledger_model.specs.Logs.{height_of}
 use Rattle.ledger_model.specs.Rules.{Ring, with_signature}
 use Rattle.ledger_model.specs.Groups.{history_of, is_correct, log_if, log_in, Backed, AreCorrect, ReadsBacked}
-use Rattle.ledger_model.proofs.Lists.{all_has, same_value-equal}
+use Rattle.ledger_model.proofs.Lists.{all_has, same_value-equal, found_has}
 use Rattle.ledger_model.proofs.Counting.{count_from-mono, count_split}
 use Rattle.ledger_model.proofs.LockSafety.{Conduct, lock_stays, one_value, took_tells, has_read, read_has, lock_has, of_lock, made_has}
-use Rattle.ledger_model.proofs.LockSafety.{Backed as BackedBy}
+use Rattle.ledger_model.proofs.LockSafety.{Backed as BackedBy, ack_has}
 use Rattle.ledger_model.proofs.Goodness.{Good, made_cases, report_made, lock_made, ack_made, is_only, lock_is}
 use Rattle.ledger_model.proofs.Steps.{follows_good}
-
-pub find_passes : {X : Type 0} (p : X → Bool) → (xs : List X) (x : X) → find p xs ≡ Some x → p x ≡ true
-find_passes p [] x h = cc
-find_passes p (y ∷ ys) x h =
-    elim (cases_Bool (p y)) [
-      | inl here ↦ let e : Some y ≡ Some x = simp here at h in let same : y ≡ x = cc in subst (λ z. p z ≡ true) same here
-      | inr later ↦ find_passes p ys x (simp later at h)
-    ]
 
 pub or_else_cases : (a b : Option Value) (v : Value) → or_else a b ≡ Some v → (a ≡ Some v) ⊎ (b ≡ Some v)
 or_else_cases (Some w) b v e = inl e
@@ -44,13 +36,8 @@ decided_tells config log zero v e = cc
 decided_tells config log (suc n) v e =
     elim (or_else_cases (decided_by config log n) (find (is_acked config log (suc n)) (filter_map value_made log)) v e) [
       | inl before ↦ decided_tells config log n v before
-      | inr now ↦ (suc n, (omega arith, find_passes (is_acked config log (suc n)) (filter_map value_made log) v now))
+      | inr now ↦ (suc n, (omega arith, (found_has (is_acked config log (suc n)) (filter_map value_made log) v now).1))
     ]
-
-pub ack_has : (test : Ack → Bool) (s : Statement) → is_ack test s ≡ true → (a : Ack) × ((s ≡ statement.Ack a) × (test a ≡ true))
-ack_has test (statement.Ack a) h = (a, (refl, h))
-ack_has test (statement.Report r) h = cc
-ack_has test (statement.Lock l) h = cc
 
 -- a lock that its owner decided
 pub record Settled (config : Config) (histories : List History) (h : ℕ) (v : Value) : Type 0 where
@@ -168,7 +155,7 @@ module _ (config : Config) (ring : Ring) (histories : List History) (correct : A
       let m = (good_in config ring histories correct h x also).made (made.0) (statement.Ack a) made_x in
       let told = ack_made config x h (m.front) (made.0) (m.made) a (made_cases config x h (m.front) (made.0) (m.mute) (m.made) (m.may))
       (m.has) in
-      let took_front = find_passes (λ w. took (m.front) w (a.phase)) (filter_map value_read (m.front)) (a.value) (told.1) in
+      let took_front = (found_has (λ w. took (m.front) w (a.phase)) (filter_map value_read (m.front)) (a.value) (told.1)).1 in
       let t = took_tells (m.front) (a.value) (a.phase) took_front in
       let in_log = (m.opened.past (round_at lock_place (a.phase)) (t.signed) (t.read)).0 in
       let took_log = has_read (log_in config histories h x) (round_at lock_place (a.phase))

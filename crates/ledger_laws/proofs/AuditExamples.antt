@@ -3,6 +3,7 @@ use Rattle.std.proofs.Common.{◌≡◌, ℕ, zero, suc, ◌≤◌, inl, inr, Li
 use Rattle.std.specs.Prelude.{IsTrue, Some, slice_get}
 use Rattle.std.specs.List.{AllByRecursion}
 use Rattle.std.proofs.lemmas.Bool.{cases_lt, lt-ltb}
+use Rattle.std.proofs.lemmas.Option.{same_Some}
 use Rattle.ledger_model.specs.declared.config.AppKind.TheVariants.{KvStore}
 use Rattle.ledger_model.specs.declared.history.Entry.{Entry}
 use Rattle.ledger_model.specs.declared.history.History.{History}
@@ -14,7 +15,6 @@ use Rattle.ledger_model.specs.Spelling.{statement_bytes, body_bytes, frame_bytes
 use Rattle.ledger_model.specs.Reading.{reading_in, body_reading, statement_at, report_at, lock_at, ack_at, proof_at, signed_at, place_at}
 use Rattle.ledger_model.specs.Reading.{positive_at, flag_at, value_at, tx_at, txs_at, list_at, values_at, signature_at}
 use Rattle.ledger_model.specs.Audits.{own_sent, unsent_in, is_not_after, NothingUnsent}
-use Rattle.ledger_model.proofs.Lists.{same_some}
 use Rattle.ledger_laws.specs.Examples.{four, a, b, signed_report, quiet_end, round_entries}
 use Rattle.ledger_laws.specs.Vacuity.{proposes, sends, accepts, ack_on, commits, first_result, three, forked}
 use Rattle.ledger_laws.specs.Audits.{CaughtForkExample, QuietHistoriesPass, ReportExample, LockExample}
@@ -31,7 +31,7 @@ of_2 = commits b b (first_result b)
 
 -- an unsent statement of the entry at a place is one of the entry that is given for the place
 at_place : (x e : Entry) (y : ℕ) → Some x ≡ Some e → Has (unsent_in forked e) y → Has (unsent_in forked x) y
-at_place x e y at has = subst (λ z. Has (unsent_in forked z) y) (sym (same_some x e at)) has
+at_place x e y at has = subst (λ z. Has (unsent_in forked z) y) (sym (same_Some x e at)) has
 
 first_of_1 : (j y : ℕ) (e : Entry) → slice_get of_1 j ≡ Some e → Has (unsent_in forked e) y → IsTrue (is_not_after 1 4 0 1 j y)
 unfolding own_sent unsent_in statement_bytes body_bytes frame_bytes reading_in body_reading statement_at report_at lock_at ack_at proof_at
@@ -71,7 +71,7 @@ none_of : (histories : List History) (es : List Entry) → AllByRecursion (λ e.
     → (i x : ℕ) (e : Entry) → slice_get es i ≡ Some e → Has (unsent_in histories e) x → ⊥
 none_of histories [] each i x e at has = cc
 none_of histories (d ∷ es) each zero x e at has =
-    subst (λ xs. Has xs x) (ap (unsent_in histories) (sym (same_some d e at)) ∙ each.0) has
+    subst (λ xs. Has xs x) (ap (unsent_in histories) (sym (same_Some d e at)) ∙ each.0) has
 none_of histories (d ∷ es) each (suc i) x e at has = none_of histories es each.1 i x e at has
 
 nothing_of_three : (of_0 of_1 of_2 : List Entry)

@@ -4,6 +4,7 @@ use Rattle.std.proofs.Common.{refl, sym, subst, ◌∙◌, arith}
 use Rattle.std.specs.Prelude.{nat_eq, nat_lt, nat_le, Some}
 use Rattle.std.proofs.lemmas.List.{take-take}
 use Rattle.std.proofs.lemmas.Bool.{cases_Bool, both_ways, eqb-true, ltb-true}
+use Rattle.std.proofs.lemmas.Option.{same_Some}
 use Rattle.ledger_model.specs.declared.config.Config.{Config}
 use Rattle.ledger_model.specs.declared.history.Entry.{Entry}
 use Rattle.ledger_model.specs.declared.history.History.{History}
@@ -11,7 +12,6 @@ use Rattle.ledger_model.specs.Rules.{Ring}
 use Rattle.ledger_model.specs.Lawful.{Replay, ReplaysFrom}
 use Rattle.ledger_model.specs.Groups.{history_of}
 use Rattle.ledger_model.specs.Audits.{AreReplays, BreaksAt, IsFirstBreak, IsFirstUnsent}
-use Rattle.ledger_model.proofs.Lists.{same_some}
 
 -- ---- the first break
 
@@ -44,7 +44,7 @@ no_break config ring histories r i replays first = breaks_no_replay config ring 
 no_earlier : (config : Config) (ring : Ring) (histories : List History) (r i j : ℕ) → BreaksAt config ring histories r i
     → BreaksAt config ring histories r j → i < j → ⊥
 no_earlier config ring histories r i j first other less =
-    let same : other.history ≡ first.history = same_some other.history first.history (sym other.of ∙ first.of) in
+    let same : other.history ≡ first.history = same_Some other.history first.history (sym other.of ∙ first.of) in
     let before : Replay config ring r (take j first.history.entries) =
     subst (λ (m : History). Replay config ring r (take j m.entries)) same other.before in
     first.broken (subst (Replay config ring r) (take-take (i + 1) j first.history.entries (omega (arith, less)))

@@ -2,15 +2,16 @@
 use Rattle.std.proofs.Common.{◌≡◌, ℕ, zero, suc, ◌+◌, ◌⊎◌, inl, inr, List, [], ◌∷◌, map, refl, sym, ap, subst, ◌∙◌, arith}
 use Rattle.std.specs.Prelude.{nat_eq, Option, Some, None, slice_get}
 use Rattle.std.proofs.lemmas.Bool.{eqb-true}
+use Rattle.std.proofs.lemmas.Option.{same_Some}
 use Rattle.ledger_model.specs.declared.history.Entry.{Entry}
 use Rattle.ledger_model.specs.declared.history.History.{History}
 use Rattle.ledger_model.specs.Notes.{Has}
 use Rattle.ledger_model.specs.Groups.{history_of}
 use Rattle.ledger_model.specs.Audits.{unsent_in, IsUnsent, NothingUnsent}
-use Rattle.ledger_model.proofs.Lists.{same_some}
 use Rattle.ledger_model.proofs.Steps.{map_has}
+use Rattle.ledger_model.proofs.Lists.{found_has}
 use Rattle.ledger_laws.specs.Audits.{SomeUnsent, ForkIsCaught}
-use Rattle.ledger_laws.proofs.Audits.{found_has, audited_histories_have_ledger}
+use Rattle.ledger_laws.proofs.Audits.{audited_histories_have_ledger}
 use Rattle.ledger_laws.proofs.Refuted.{fork_has_no_ledger}
 
 list_cases : {X : Type 0} (xs : List X) → ((x : X) × Has xs x) ⊎ ((x : X) → Has xs x → ⊥)
@@ -39,7 +40,7 @@ module _ (histories : List History) where
       none_of : (e : Entry) (es : List Entry) → ((x : ℕ) → Has (unsent_in histories e) x → ⊥)
           → ((j x : ℕ) (d : Entry) → slice_get es j ≡ Some d → Has (unsent_in histories d) x → ⊥)
           → (j x : ℕ) (d : Entry) → slice_get (e ∷ es) j ≡ Some d → Has (unsent_in histories d) x → ⊥
-      none_of e es none others zero x d is has = none x (subst (λ y. Has (unsent_in histories y) x) (sym (same_some e d is)) has)
+      none_of e es none others zero x d is has = none x (subst (λ y. Has (unsent_in histories y) x) (sym (same_Some e d is)) has)
       none_of e es none others (suc j) x d is has = others j x d is has
 
   -- the search in a replica's history, if it has one
@@ -51,7 +52,7 @@ module _ (histories : List History) where
       ap (slice_get m.entries) (sym same) ∙ is)) [
         | inl some ↦ inl some
         | inr none ↦ inr (λ i x is.
-            let same : is.history ≡ m = same_some is.history m (sym is.of ∙ found) in
+            let same : is.history ≡ m = same_Some is.history m (sym is.of ∙ found) in
             none i x is.entry (ap (λ (n : History). slice_get n.entries i) (sym same) ∙ is.at) is.unsent)
       ]
 

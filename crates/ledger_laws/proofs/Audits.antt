@@ -5,6 +5,7 @@ use Rattle.std.specs.Prelude.{nat_eq, nat_lt, nat_le, find, Some, Ok, is_some, s
 use Rattle.std.specs.List.{list_any, list_all}
 use Rattle.std.proofs.lemmas.List.{append-nil}
 use Rattle.std.proofs.lemmas.Bool.{and_parts, cases_Bool, both_ways, eqb-true, eq-eqb, leb-true, ltb-true, not-true}
+use Rattle.std.proofs.lemmas.Option.{same_Some}
 use Rattle.ledger_model.specs.declared.config.Config.{Config}
 use Rattle.ledger_model.specs.declared.event.Event.{Event}
 use Rattle.ledger_model.specs.declared.event.Event.TheVariants as event
@@ -31,7 +32,7 @@ use Rattle.ledger_model.specs.Applications.{same_bytes}
 use Rattle.ledger_model.specs.Audits.{all_differ, are_of_a_quorum, AreReplays, own_sent, statements_in, accepts, is_unsent, unsent_in}
 use Rattle.ledger_model.specs.Audits.{NothingUnsent, AuditedHistoriesHaveLedger}
 use Rattle.ledger_model.proofs.Counting.{count_with}
-use Rattle.ledger_model.proofs.Lists.{any_has, all_has, any_mapped, each_has, has_cases, has_right, has_filter, pointwise_equal, same_some}
+use Rattle.ledger_model.proofs.Lists.{any_has, all_has, any_mapped, each_has, has_cases, has_right, has_filter, pointwise_equal, found_has}
 use Rattle.ledger_model.proofs.Goodness.{made_cases, lock_made, height_made}
 use Rattle.ledger_model.proofs.Steps.{made_note, note_read, map_has, log_of-snoc, replays_follow}
 use Rattle.ledger_model.proofs.Staying.{count_same}
@@ -48,15 +49,6 @@ use Rattle.ledger_laws.proofs.SentStatements.{accepted_fits, note_stays, own_not
 some_found : {X : Type 0} (p : X → Bool) (xs : List X) → is_some (find p xs) ≡ list_any p xs
 some_found p [] = refl
 some_found p (x ∷ xs) = elim (cases_Bool (p x)) [ inl passes ↦ simp passes | inr fails ↦ simp fails (some_found p xs) ]
-
--- what is found is an element that passes
-pub found_has : {X : Type 0} (p : X → Bool) (xs : List X) (x : X) → find p xs ≡ Some x → Has xs x × (p x ≡ true)
-found_has p [] x e = cc
-found_has p (y ∷ ys) x e =
-    elim (cases_Bool (p y)) [
-      | inl passes ↦ (let same : y ≡ x = same_some y x (simp passes at e) in (inl same, ap p (sym same) ∙ passes))
-      | inr fails ↦ (let rest = found_has p ys x (simp fails at e) in (inr rest.0, rest.1))
-    ]
 
 -- histories of different replicas leave n minus their number without a history
 lacking : (n : ℕ) (histories : List History) → list_all (λ (m : History). nat_lt m.replica n) histories ≡ true

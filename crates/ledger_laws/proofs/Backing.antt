@@ -5,6 +5,7 @@ use Rattle.std.specs.Prelude.{nat_eq, nat_lt, Option, Some, None, Ok, is_some}
 use Rattle.std.specs.List.{list_any, list_all, flat_map}
 use Rattle.std.proofs.lemmas.List.{append-nil}
 use Rattle.std.proofs.lemmas.Bool.{and_parts, cases_Bool, eqb-true, eq-eqb, not-false}
+use Rattle.std.proofs.lemmas.Option.{same_Some}
 use Rattle.ledger_model.specs.declared.config.Config.{Config}
 use Rattle.ledger_model.specs.declared.event.Event.{Event}
 use Rattle.ledger_model.specs.declared.event.Event.TheVariants as event
@@ -30,7 +31,7 @@ use Rattle.ledger_model.specs.declared.reply.RoundEnded.{RoundEnded}
 use Rattle.ledger_model.specs.Lawful.{Lawful, LawfulRoundEnd, answer, FollowsFrom, Follows}
 use Rattle.ledger_model.specs.Groups.{history_of, is_correct, log_if, log_in, Backed, BackedWhole, AreCorrect, ReadsBacked}
 use Rattle.ledger_model.specs.Timelines.{Added, entries_at, histories_at, AcceptsUnforged, RunsFrom, UnforgedFrom, AreReplicas}
-use Rattle.ledger_model.proofs.Lists.{all_has, has_cases, has_left, has_right, same_some}
+use Rattle.ledger_model.proofs.Lists.{all_has, has_cases, has_left, has_right}
 use Rattle.ledger_model.proofs.Goodness.{Made_by, Of_nothing, Of_ack, Of_report, Of_lock, made_cases, lock_made, height_made, is_only}
 use Rattle.ledger_model.proofs.Goodness.{has_none}
 use Rattle.ledger_model.proofs.Steps.{none_fits, made_note, note_read, map_has, log_of-snoc, follows_snoc}
@@ -370,7 +371,7 @@ module _ (config : Config) (ring : Ring) (correct : List ℕ) (replicas : AreRep
   pub are_correct : (front : List Added) → Reached front → AreCorrect config ring (histories_at correct front)
   are_correct front r = record {
     follows = λ x m at.
-        let same : its_history front x ≡ m = same_some (its_history front x) m (sym (history_is correct front x (ap is_some at)) ∙ at) in
+        let same : its_history front x ≡ m = same_Some (its_history front x) m (sym (history_is correct front x (ap is_some at)) ∙ at) in
         subst (λ (n : History). Follows config ring x n.entries) same (r.follows x);
     below = λ x is. replicas.below x (sym (correct_at correct front x) ∙ is);
     enough = subst (λ n. n ≤ config.faults)
@@ -390,7 +391,7 @@ module _ (config : Config) (ring : Ring) (correct : List ℕ) (replicas : AreRep
         let x = from.0 in
         let m = from.1.0 in
         let is_x : is_correct (histories_at correct front) x ≡ true = ap is_some (from.1.1.0) in
-        let before : its_history front x ≡ m = same_some (its_history front x) m (sym (history_is correct front x is_x) ∙ from.1.1.0) in
+        let before : its_history front x ≡ m = same_Some (its_history front x) m (sym (history_is correct front x is_x) ∙ from.1.1.0) in
         let ledger_x : ledger ≡ commits_of config x (entries_at front x) =
         from.1.1.1 ∙ ap (λ (n : History). commits_of config x n.entries) (sym before) in
         let es = entries_at-append front (a ∷ []) x in

@@ -6,6 +6,7 @@ use Rattle.std.specs.List.{filter_map, range_with_len}
 use Rattle.std.proofs.Math.Dec.{leb, ltb}
 use Rattle.std.proofs.lemmas.List.{append-nil, take-take, length-take}
 use Rattle.std.proofs.lemmas.Bool.{cases_lt}
+use Rattle.std.proofs.lemmas.Option.{same_Some}
 use Rattle.ledger_model.specs.declared.config.Config.{Config}
 use Rattle.ledger_model.specs.declared.event.Event.{Event}
 use Rattle.ledger_model.specs.declared.event.Event.TheVariants as event
@@ -30,8 +31,8 @@ use Rattle.ledger_model.proofs.Counting.{some_of}
 use Rattle.ledger_laws.proofs.Proposals.{decided_common}
 use Rattle.ledger_model.proofs.Staying.{some_value, executed-append, AllDecided, all_decided, length-commits, decision_stays, commits_grow}
 use Rattle.ledger_model.proofs.Staying.{follows_front, begins_range}
+use Rattle.ledger_model.proofs.Lists.{get_take}
 use Rattle.ledger_laws.proofs.Agreement.{one_decision}
-use Rattle.ledger_model.proofs.Lists.{same_some}
 
 -- of two correct replicas, what the one committed begins what the other did
 pub commits_agree : (config : Config) (ring : Ring) (histories : List History) (r q : ℕ) (m n : History)
@@ -56,13 +57,6 @@ commits_agree config ring histories r q m n correct backed is_m is_n shorter =
     let same : v.0 ≡ w.0 = one_decision config ring histories correct i (backed i) r q (ap is_some is_m) (ap is_some is_n) (v.0) (w.0)
     decided_r decided_q in
     (v.0, (v.1, w.1 ∙ ap Some (sym same))))
-
--- an element within the beginning
-pub get_take : {X : Type 0} (n i : ℕ) (xs : List X) → i < n → slice_get (take n xs) i ≡ slice_get xs i
-get_take zero i xs lt = absurd (omega arith)
-get_take (suc n) i [] lt = refl
-get_take (suc n) zero (x ∷ xs) lt = refl
-get_take (suc n) (suc i) (x ∷ xs) lt = get_take n i xs (omega arith)
 
 pub get_lt : (xs : List Value) (i : ℕ) (v : Value) → slice_get xs i ≡ Some v → i < length xs
 get_lt [] i v e = cc
@@ -268,7 +262,7 @@ longer config histories n best (Some new) is =
         → length (commits_of config q m.entries) ≤ length (commits_of config n new.entries)
     newest q m same at =
         let here : history_of histories n ≡ Some m = ap (history_of histories) (sym same) ∙ at in
-        let one : m ≡ new = same_some m new (sym here ∙ is) in
+        let one : m ≡ new = same_Some m new (sym here ∙ is) in
         omega (
           arith,
           ap (λ (x : History). length (commits_of config q x.entries)) one,

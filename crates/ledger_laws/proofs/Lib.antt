@@ -7,7 +7,7 @@ pub mod WorldRuns
 pub mod Computed
 pub mod UniqueLedgers
 mod Refuted
-mod Unforged
+pub mod Unforged
 pub mod Floors
 mod Encodings
 mod SentStatements

@@ -3,6 +3,7 @@ use Rattle.std.proofs.Common.{◌≡◌, ℕ, zero, suc, ◌+◌, true, false, i
 use Rattle.std.proofs.Common.{arith}
 use Rattle.std.proofs.lemmas.Bool.{cases_Bool, eqb-true}
 use Rattle.std.specs.Prelude.{nat_eq, Some, Result, is_some, slice_get}
+use Rattle.std.proofs.lemmas.Option.{same_Some}
 use Rattle.ledger_model.specs.declared.config.AppKind.TheVariants.{KvStore}
 use Rattle.ledger_model.specs.declared.history.History.{History}
 use Rattle.ledger_model.specs.declared.reply.QueryAnswer.{QueryAnswer}
@@ -30,7 +31,6 @@ use Rattle.ledger_laws.proofs.Backing.{correct_at}
 use Rattle.ledger_laws.proofs.WorldRuns.{runs_refine}
 use Rattle.ledger_laws.proofs.Ledgers.{begins_get, get_lt}
 use Rattle.ledger_laws.proofs.UniqueLedgers.{ledger_is_unique}
-use Rattle.ledger_model.proofs.Lists.{same_some}
 
 -- what a correct replica committed is at the same place of the ledger
 committed_in : (xs ledger : List Value) (i : ℕ) (v : Value) → Begins xs ledger → slice_get xs i ≡ Some v → slice_get ledger i ≡ Some v
@@ -40,7 +40,7 @@ pub fork_has_no_ledger : ForkHasNoLedger
 fork_has_no_ledger config histories r q i m n v w found_m found_n at_v at_w differ ledger is =
     let of_r = committed_in (commits_of config r m.entries) ledger i v (is.each r m found_m) at_v in
     let of_q = committed_in (commits_of config q n.entries) ledger i w (is.each q n found_n) at_w in
-    differ (same_some v w (sym of_r ∙ of_q))
+    differ (same_Some v w (sym of_r ∙ of_q))
 
 pub unproposed_batch_has_no_ledger : UnproposedBatchHasNoLedger
 unproposed_batch_has_no_ledger config histories r h m v w found at_w proposed differ ledger is =
@@ -97,9 +97,9 @@ pub each_of_three : (of_0 of_1 of_2 : List Entry) (P : ℕ → History → Type 
 each_of_three of_0 of_1 of_2 P at_0 at_1 at_2 r m found =
     let histories : List History = three of_0 of_1 of_2 in
     elim (replica_of_three of_0 of_1 of_2 r (ap is_some found)) [
-      | Is_0 at ↦ subst (λ x. P x m) at (subst (P 0) (same_some _ m (subst (λ x. history_of histories x ≡ Some m) (sym at) found)) at_0)
-      | Is_1 at ↦ subst (λ x. P x m) at (subst (P 1) (same_some _ m (subst (λ x. history_of histories x ≡ Some m) (sym at) found)) at_1)
-      | Is_2 at ↦ subst (λ x. P x m) at (subst (P 2) (same_some _ m (subst (λ x. history_of histories x ≡ Some m) (sym at) found)) at_2)
+      | Is_0 at ↦ subst (λ x. P x m) at (subst (P 0) (same_Some _ m (subst (λ x. history_of histories x ≡ Some m) (sym at) found)) at_0)
+      | Is_1 at ↦ subst (λ x. P x m) at (subst (P 1) (same_Some _ m (subst (λ x. history_of histories x ≡ Some m) (sym at) found)) at_1)
+      | Is_2 at ↦ subst (λ x. P x m) at (subst (P 2) (same_Some _ m (subst (λ x. history_of histories x ≡ Some m) (sym at) found)) at_2)
     ]
 
 -- ---- runs
@@ -159,7 +159,7 @@ wrong_block_has_no_ledger result wrong ledger is =
     let there : slice_get ledger 0 ≡ Some a =
     committed_in (commits_of (four KvStore) 1 (commits a a result)) ledger 0 a
     (is.each 1 (record { replica = 1; entries = commits a a result }) refl) (ap (λ vs. slice_get vs 0) (commits_a result)) in
-    let same : ran.0 ≡ a = same_some (ran.0) a (sym (ran.1) ∙ there) in
+    let same : ran.0 ≡ a = same_Some (ran.0) a (sym (ran.1) ∙ there) in
     wrong (ran.2 ∙ ap (block_reply KvStore []) same)
 
 pub wrong_query_has_no_ledger : WrongQueryHasNoLedger
@@ -192,9 +192,9 @@ unproposed_batch_example = (
 
     proposed : AllProposed (four KvStore) histories 1 a
     proposed r w is began = elim (replica_of_three _ _ _ r is) [
-      | Is_0 at ↦ sym (same_some a w (subst (λ x. initial_of (log_in (four KvStore) histories 1 x) ≡ Some w) (sym at) began))
-      | Is_1 at ↦ sym (same_some a w (subst (λ x. initial_of (log_in (four KvStore) histories 1 x) ≡ Some w) (sym at) began))
-      | Is_2 at ↦ sym (same_some a w (subst (λ x. initial_of (log_in (four KvStore) histories 1 x) ≡ Some w) (sym at) began))
+      | Is_0 at ↦ sym (same_Some a w (subst (λ x. initial_of (log_in (four KvStore) histories 1 x) ≡ Some w) (sym at) began))
+      | Is_1 at ↦ sym (same_Some a w (subst (λ x. initial_of (log_in (four KvStore) histories 1 x) ≡ Some w) (sym at) began))
+      | Is_2 at ↦ sym (same_Some a w (subst (λ x. initial_of (log_in (four KvStore) histories 1 x) ≡ Some w) (sym at) began))
     ]
 
 -- ---- without a fault
@@ -228,7 +228,7 @@ module _ (key : List ℕ) where
       → IsReplyOn (four KvStore) (a ∷ []) (committed r entries i) x.event x.reply
       → IsReplyOn (four KvStore) (a ∷ []) (committed r entries i) e.event e.reply
   same_reply r entries i x e at is =
-      subst (λ (y : Entry). IsReplyOn (four KvStore) (a ∷ []) (committed r entries i) y.event y.reply) (same_some x e at) is
+      subst (λ (y : Entry). IsReplyOn (four KvStore) (a ∷ []) (committed r entries i) y.event y.reply) (same_Some x e at) is
 
   abbrev Replies : ℕ → List Entry → Type 0
   Replies r entries = (i : ℕ) (e : Entry) → slice_get entries i ≡ Some e
@@ -268,7 +268,7 @@ module _ (key : List ℕ) where
 
   proposed_a : (h : ℕ) (v w : Value) → AllProposed (four KvStore) agreed (h + 1) v → slice_get (a ∷ []) h ≡ Some w → w ≡ v
   unfolding log_of log_after notes_of
-  proposed_a zero v w proposed at = sym (same_some a w at) ∙ proposed 1 a refl refl
+  proposed_a zero v w proposed at = sym (same_Some a w at) ∙ proposed 1 a refl refl
   proposed_a (suc h) v w proposed at = cc
 
   is_agreed : IsLedger (four KvStore) agreed (a ∷ [])

@@ -36,14 +36,14 @@ use Rattle.ledger_model.specs.Commits.{commits_of, floor_of, pool_of, propose_re
 use Rattle.ledger_model.specs.Rules.{Ring, MayMake, MayMakeOpen, phase_in, has_phase, causes, answer_to}
 use Rattle.ledger_model.specs.Lawful.{Lawful, Follows, clock_at, is_opened}
 use Rattle.ledger_model.specs.Audits.{sends, sent_from, own_sent}
-use Rattle.ledger_model.proofs.Lists.{all_has, each_from, each_has, has_cases, has_left, has_right, has_map, has_filter}
+use Rattle.ledger_model.proofs.Lists.{all_has, each_from, each_has, has_cases, has_left, has_right, has_map, has_filter, filter_map_has}
 use Rattle.ledger_model.proofs.Goodness.{clock_of-append, open_value, may_cases, has_none, Made_by, made_cases, report_made}
 use Rattle.ledger_model.proofs.Goodness.{lock_made, ack_made}
 use Rattle.ledger_model.proofs.Steps.{none_fits, accepted_reads, clock_of-made, map_has, log_of-snoc}
 use Rattle.ledger_model.proofs.Staying.{some_value, log_after-append, grown}
 use Rattle.ledger_model.proofs.Floors.{each_entry}
 use Rattle.ledger_laws.proofs.Backing.{has_made_note}
-use Rattle.ledger_laws.proofs.Unforged.{mapped_from, sent_made}
+use Rattle.ledger_laws.proofs.Unforged.{sent_made}
 use Rattle.ledger_laws.proofs.Encodings.{IsShort, FitsPlace, FitsSigned, FitsWidths, HasShortProof, read_short}
 
 -- ---- widths
@@ -309,7 +309,7 @@ module _ (config : Config) (ring : Ring) (id : ℕ) where
             let among : Has (map (λ (x : SignedStatement). x.statement) (filter_map (λ (f : Sent). reading f.frame) ended.frames)) s =
             simp not_4 at has in
             let signed = has_map (λ (x : SignedStatement). x.statement) (filter_map (λ (f : Sent). reading f.frame) ended.frames) s among in
-            let frame = mapped_from (λ (f : Sent). reading f.frame) ended.frames signed.0 signed.1.0 in
+            let frame = filter_map_has (λ (f : Sent). reading f.frame) ended.frames signed.0 signed.1.0 in
             let h : ℕ = height_of signed.0.statement in
             let log : List Note = log_of config id h front in
             let c : ℕ = clock_of log + 1 in

@@ -4,7 +4,7 @@ use Rattle.std.proofs.Common.{refl, sym, ap, subst, ◌∙◌, append_assoc, ari
 use Rattle.std.specs.Prelude.{nat_eq, nat_lt, Option, Some, None, Result, Ok, Err, slice_get}
 use Rattle.std.specs.List.{filter_map, cons_option}
 use Rattle.std.proofs.lemmas.List.{append-nil, length-map, length-take}
-use Rattle.std.proofs.lemmas.Option.{slice_get_within}
+use Rattle.std.proofs.lemmas.Option.{slice_get_within, same_Some}
 use Rattle.std.proofs.lemmas.Bool.{cases_Bool, and_parts, eq-eqb}
 use Rattle.ledger_model.specs.declared.config.Config.{Config}
 use Rattle.ledger_model.specs.declared.event.Event.{Event}
@@ -30,7 +30,8 @@ use Rattle.ledger_model.specs.Lawful.{Lawful, first_some, lock_read, held_locks,
 use Rattle.ledger_model.specs.Groups.{is_correct, log_in, BackedWhole, ReadsBacked}
 use Rattle.ledger_model.specs.Worlds.{World, entries_in, frames_in, frames_sent, asks, passes, event_of, world_at, IsUnforged, NoForgery}
 use Rattle.ledger_model.specs.Timelines.{Added, entries_at, histories_at, AcceptsUnforged, RunsFrom, UnforgedFrom}
-use Rattle.ledger_model.proofs.Lists.{has_cases, has_left, has_map, has_filter, has_filter_map, flat_map_has, has_flat_map, same_some}
+use Rattle.ledger_model.proofs.Lists.{has_cases, has_left, has_map, has_filter, has_filter_map, flat_map_has, has_flat_map, filter_map_has}
+use Rattle.ledger_model.proofs.LockSafety.{first_has}
 use Rattle.ledger_laws.specs.Vacuity.{NoInjectedForgery, OnlyInjectionsForge, SilentRunsForgeNothing, SilentRunsRefine}
 use Rattle.ledger_laws.proofs.Backing.{same_correct, log_at, entries_at-append, whole_later, made_whole, backed_step}
 use Rattle.ledger_laws.proofs.WorldRuns.{replicas_of, world_of, entries_told, frame_to, IsCaused, AreCaused, told, next_at, entry_place}
@@ -38,28 +39,10 @@ use Rattle.ledger_laws.proofs.WorldRuns.{runs_refine}
 
 -- ---- lists
 
-cons_cases : {Y : Type 0} (o : Option Y) (ys : List Y) (y : Y) → Has (cons_option o ys) y → (o ≡ Some y) ⊎ Has ys y
-cons_cases None ys y has = inr has
-cons_cases (Some x) ys y (inl same) = inl (ap Some same)
-cons_cases (Some x) ys y (inr later) = inr later
-
--- an element of what a function gives comes from one of its arguments
-pub mapped_from : {X Y : Type 0} (f : X → Option Y) (xs : List X) (y : Y) → Has (filter_map f xs) y → (x : X) × (Has xs x × (f x ≡ Some y))
-mapped_from f [] y has = absurd has
-mapped_from f (x ∷ xs) y has =
-    elim (cons_cases (f x) (filter_map f xs) y has) [
-      | inl is ↦ (x, (inl refl, is))
-      | inr later ↦ let r = mapped_from f xs y later in (r.0, (inr (r.1.0), r.1.1))
-    ]
-
 get_has : {X : Type 0} (xs : List X) (i : ℕ) (x : X) → slice_get xs i ≡ Some x → Has xs x
 get_has [] i x at = cc
 get_has (y ∷ ys) zero x at = inl cc
 get_has (y ∷ ys) (suc i) x at = inr (get_has ys i x at)
-
-first_has : (ss : List SignedStatement) (s : SignedStatement) → first_some ss ≡ Some s → Has ss s
-first_has [] s is = cc
-first_has (x ∷ xs) s is = inl cc
 
 -- ---- a lock that is sent on at place 4 was read
 
@@ -77,10 +60,10 @@ lock_was_read v c (Retired f) s is = cc
 held_was_read : (log : List Note) (s : SignedStatement) → Has (held_locks log) s → (d : ℕ) × Has log (Read d s)
 unfolding held_locks
 held_was_read log s has =
-    let by_value = mapped_from (λ v. first_some (filter_map (lock_read v (round_at lock_place (phase_taken log v))) log)) (held_values log)
+    let by_value = filter_map_has (λ v. first_some (filter_map (lock_read v (round_at lock_place (phase_taken log v))) log)) (held_values log)
     s has in
     let v = by_value.0 in
-    let by_note = mapped_from (lock_read v (round_at lock_place (phase_taken log v))) log s
+    let by_note = filter_map_has (lock_read v (round_at lock_place (phase_taken log v))) log s
     (first_has (filter_map (lock_read v (round_at lock_place (phase_taken log v))) log) s (by_value.1.1)) in
     let read = lock_was_read v (round_at lock_place (phase_taken log v)) (by_note.0) s (by_note.1.1) in
     (read.0, subst (Has log) (read.1) (by_note.1.0))
@@ -135,7 +118,7 @@ asked_in (Ok p) other = p
 asked_in (Err f) other = other
 
 -- a step that names one replica is its own event there
-asks_only : (config : Config) (w : World) (x r : ℕ) (d e : Event) → asks config w x d ≡ Ok (r, e) → (x ≡ r) × (d ≡ e)
+pub asks_only : (config : Config) (w : World) (x r : ℕ) (d e : Event) → asks config w x d ≡ Ok (r, e) → (x ≡ r) × (d ≡ e)
 asks_only config w x r d e ok =
     elim (cases_Bool (nat_lt x config.replicas)) [
       | inr far ↦ absurd (let no = simp far at ok in cc)
@@ -346,10 +329,10 @@ module _ (config : Config) (ring : Ring) (correct : List ℕ) where
   unforged_at mid a rest at = λ r bytes u s order entry spelled.
       let w : World = world_of correct (mid ++ a ∷ rest) in
       let there = entry_place config ring correct mid rest a (at.is) in
-      let its : r ≡ a.replica = same_some r (a.replica) (sym order ∙ there.order) in
+      let its : r ≡ a.replica = same_Some r (a.replica) (sym order ∙ there.order) in
       let given : Entry = record { event = event.Deliver bytes; reply = reply.Delivered (Ok u) } in
       let same : a.entry ≡ given =
-      same_some (a.entry) given (sym there.entry
+      same_Some (a.entry) given (sym there.entry
       ∙ subst (λ x. slice_get (entries_in w x) (length (entries_in (world_at w (length mid)) x)) ≡ Some given) its entry) in
       let fine : AcceptsUnforged config ring (histories_at correct mid) given.event given.reply =
       subst (λ (x : Entry). AcceptsUnforged config ring (histories_at correct mid) x.event x.reply) same (at.unforged) in

@@ -4,6 +4,7 @@ use Rattle.std.proofs.Common.{sym, ap, subst, ◌∙◌, append_assoc, arith}
 use Rattle.std.specs.Prelude.{nat_eq, nat_lt, nat_le, Option, Some, None, Ok}
 use Rattle.std.specs.List.{flat_map}
 use Rattle.std.proofs.lemmas.List.{append-nil}
+use Rattle.std.proofs.lemmas.List.Folds.{list_any-append}
 use Rattle.std.proofs.lemmas.Bool.{cases_lt, lt-ltb, le-ltb, ltb-false, leb-false}
 use Rattle.ledger_model.specs.declared.config.Config.{Config}
 use Rattle.ledger_model.specs.declared.event.Event.{Event}
@@ -75,13 +76,8 @@ abbrev pub raises_above : ℕ → Reply → Bool
 raises_above h (reply.Retired (Ok floor)) = nat_lt h floor
 raises_above h _ = false
 
-any_both : (xs ys : List Note) → is_retired (xs ++ ys) ≡ (is_retired xs || is_retired ys)
-any_both [] ys = refl
-any_both (x ∷ xs) ys = both (retires x) (is_retired xs) (is_retired ys) (is_retired (xs ++ ys)) (any_both xs ys)
-  where
-    both : (a b c d : Bool) → d ≡ (b || c) → (a || d) ≡ ((a || b) || c)
-    both true b c d e = refl
-    both false b c d e = e
+pub is_retired-append : (xs ys : List Note) → is_retired (xs ++ ys) ≡ (is_retired xs || is_retired ys)
+is_retired-append xs ys = list_any-append retires xs ys
 
 proposed_keeps : (b : Bool) (v : Value) → is_retired (cond b (Proposed v ∷ []) []) ≡ false
 proposed_keeps true v = refl
@@ -160,7 +156,7 @@ module _ (config : Config) (ring : Ring) (id h : ℕ) where
       let log : List Note = log_after config id h [] front in
       let notes = notes_retire front log (e.event) (e.reply) lawful in
       ap is_retired (log_of-snoc config ring id h [] front e)
-      ∙ any_both log (notes_of config id h log e.event e.reply)
+      ∙ is_retired-append log (notes_of config id h log e.event e.reply)
       ∙ ap (λ b. b || is_retired (notes_of config id h log e.event e.reply)) is
       ∙ ap (λ b. nat_lt h (floor_of front) || b) notes
       ∙ sym (below_step front (e.event) (e.reply) lawful)

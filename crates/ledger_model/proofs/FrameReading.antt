@@ -1,12 +1,13 @@
 -- Frames are read back from their encoding, and a stream of frames splits in one way.
 use Rattle.std.proofs.Common.{◌≡◌, ℕ, ◌+◌, ◌^◌, ◌≤◌, true, ◌&&◌, IsTrue, inl, inr}
-use Rattle.std.proofs.Common.{List, [], ◌∷◌, ◌++◌, length, take, drop, Option, Some, None}
+use Rattle.std.proofs.Common.{List, [], ◌∷◌, ◌++◌, length, take, drop, Option, Some}
 use Rattle.std.proofs.Common.{refl, sym, ap, subst, ◌∙◌, append_assoc, arith, leb, eqb}
 use Rattle.std.specs.List.{flat_map}
 use Rattle.std.specs.Int.{w32, to_be_bytes, from_be_bytes}
-use Rattle.std.proofs.lemmas.Bool.{and_parts, and_from, leb-true, le-leb, eqb-true, eq-eqb}
+use Rattle.std.proofs.lemmas.Bool.{and_parts, leb-true, le-leb, eqb-true, eq-eqb}
 use Rattle.std.proofs.lemmas.List.{append-nil, nil_from_length, length-append, take_at, drop_at}
 use Rattle.std.proofs.lemmas.Nat.{from_be_bytes-to_be_bytes_4}
+use Rattle.std.proofs.lemmas.Option.{none-some}
 use Rattle.ledger_model.specs.declared.statement.SignedStatement.{SignedStatement}
 use Rattle.ledger_model.specs.declared.statement.Statement.{Statement}
 use Rattle.ledger_model.specs.Spelling.{IsStatement, IsFrame, IsFrameIn, statement_bytes, signature_bytes, body_bytes, frame_bytes}
@@ -263,10 +264,7 @@ too_long_begins_no_frame version rest long s more is e = let f = subst (HasFrame
 
 pub malformed_begins_no_frame : (version : Version) (rest : List ℕ) → BeginsMalformed version rest → BeginsNoFrame version rest
 malformed_begins_no_frame version rest bad s more is e = let f =
-    subst (HasFrame version s) (sym e) (has_frame version s more is) in absurd (both (sym bad.3 ∙ f.body))
-  where
-    both : {A : Type 0} {x : A} → None ≡ Some x → ⊥
-    both g = cc
+    subst (HasFrame version s) (sym e) (has_frame version s more is) in absurd (none-some s (sym bad.3 ∙ f.body))
 
 -- a stream splits in one way, where what is after its frames begins with none
 pub frames_once : (version : Version) (frames others : List SignedStatement) (bytes rest more : List ℕ) → Frames version bytes frames rest

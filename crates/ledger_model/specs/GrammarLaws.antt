@@ -3,7 +3,7 @@ use Rattle.std.specs.Prelude.{◌≡◌, ◌⊎◌, ℕ, ◌<◌, List, ◌++◌
 use Rattle.ledger_model.specs.declared.statement.SignedStatement.{SignedStatement}
 use Rattle.ledger_model.specs.declared.statement.Statement.{Statement}
 use Rattle.ledger_model.specs.Spelling.{IsStatement, IsFrame, IsFrameIn, statement_bytes, body_bytes, frame_bytes, Spells, SpellsFrame}
-use Rattle.ledger_model.specs.Reading.{reading_in, statement_reading, body_reading, is_carried}
+use Rattle.ledger_model.specs.Reading.{reading_in, statement_reading, body_reading}
 use Rattle.ledger_model.specs.Versions.{reads}
 use Rattle.ledger_model.specs.Notes.{version_of}
 use Rattle.ledger_model.specs.declared.version.Version.{Version}

@@ -23,16 +23,12 @@ use Rattle.lock_proofs.specs.LockTables.{SignedLock, as_statement, with_lock}
 use Rattle.ledger_model.proofs.Lists.{any_has, has_cases, has_right, has_with, has_with_other, with_value_has, same_value-refl}
 use Rattle.ledger_model.proofs.Lists.{same_value-equal}
 use Rattle.ledger_model.proofs.Below.{with_value_ascends, one_list}
-use Rattle.ledger_model.proofs.LockSafety.{has_read, lock_has}
+use Rattle.ledger_model.proofs.LockSafety.{has_read, lock_has, last_taken-now}
 use Rattle.lock_proofs.specs.Laws.{IsTimely, TakesALock}
 use Rattle.lock_proofs.proofs.ValueLists.{with_lock-values, with_lock_has}
 use Rattle.lock_proofs.proofs.HeldLocks.{Stands, is_lock_on, lock_taken, held_has, has_held, held_ascends, stands_held, stands_from}
 use Rattle.lock_proofs.proofs.HeldLocks.{stands_to}
 use Rattle.lock_proofs.proofs.GrowingLogs.{with_note, Passes, read_passes, same_clock, lock_more, holds_more}
-
-last_taken-now : (log : List Note) (v : Value) (n : ℕ) → 1 ≤ n → took log v n ≡ true → last_taken log v n ≡ n
-last_taken-now log v zero some h = absurd (omega arith)
-last_taken-now log v (suc n) some h = rw h refl
 
 -- where no lock was read in a round, none on v was
 no_lock_on : (v : Value) (s : Statement) → is_lock (λ l. true) s ≡ false → is_lock_on v s ≡ false

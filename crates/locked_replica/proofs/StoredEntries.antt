@@ -4,7 +4,7 @@ use Rattle.std.specs.Prelude.{Ok, Err, Some, slice_get}
 use Rattle.std.specs.List.{AllByRecursion}
 use Rattle.std.proofs.lemmas.List.{map-append}
 use Rattle.std.proofs.lemmas.Option.{slice_get_read}
-use Rattle.ledger_model.proofs.Lists.{each_append, each_weaker, take_item}
+use Rattle.ledger_model.proofs.Lists.{each_append, each_weaker, take_item, each_at}
 use Rattle.ledger_model.specs.declared.event.Event.{Event}
 use Rattle.ledger_model.specs.declared.event.Event.TheVariants as event
 use Rattle.ledger_model.specs.declared.history.Entry.{Entry}
@@ -22,13 +22,7 @@ use Rattle.locked_replica.specs.StoredEntries.{sent_of, entry_of, entries_of, Ar
 use Rattle.locked_replica.specs.StoredEntries.{AreStored}
 use Rattle.locked_replica.proofs.Strings.{extends_one, within_still, string_still, put_within, put_at, with_strings-append, strings_of-snoc}
 
--- what holds of each element holds at an index
-pub each_at : {X : Type 0} (P : X → Type 0) (xs : List X) (i : ℕ) (x : X) → AllByRecursion P xs → slice_get xs i ≡ Some x → P x
-each_at P [] i x all there = absurd cc
-each_at P (y ∷ ys) zero x all there = let same : y ≡ x = cc in subst P same all.0
-each_at P (y ∷ ys) (suc i) x all there = each_at P ys i x all.1 there
-
--- and of the element that is read there
+-- what holds of each element holds of the one that is read
 pub each_read : {X : Type 0} (P : X → Type 0) (xs : List X) (i : ℕ) (x : X) → AllByRecursion P xs → i < length xs → x ≡ get_or xs i x → P x
 each_read P xs i x all below is = each_at P xs i x all (slice_get_read xs (length xs) i x refl below is)
 

@@ -124,7 +124,8 @@ fn write_fault<W: Write, F: Write>(
 
 /// Writes why the words of the command line could not be read, and returns the exit status.
 pub fn refuse_words<F: Write>(alloc: Global, error: io::Error, faults: &mut F) -> u8
-    ensures { ((error_kind error ≡ ErrorKind.InvalidData) × (result ≡ 2)) ⊎ (result ≡ 3) }
+    ensures usage { error_kind error ≡ ErrorKind.InvalidData → result ≡ 2 }
+    ensures stopped { (error_kind error ≡ ErrorKind.InvalidData → ⊥) → result ≡ 3 }
 {
     if error.kind() == ErrorKind::InvalidData {
         let _ = write_whole(faults, b"error: a word of the command line is not UTF-8\n");

@@ -18,6 +18,7 @@ use Rattle.ledger_model.specs.Lawful.{Lawful}
 use Rattle.ledger_model.specs.Replies.{query_reply}
 use Rattle.ledger_model.specs.Values.{Value}
 use Rattle.ledger_model.specs.declared.config.AppKind.{AppKind}
+use Rattle.ledger_model.proofs.Lists.{get_last}
 use Rattle.replica_turns.specs.Clients.{IsReceipt, query_reply_in, query_reply_at, with_index}
 
 -- as of the last block a key is always answered
@@ -37,12 +38,6 @@ lawful_query config ring id entries key h (reply.Delivered r) law = absurd law
 lawful_query config ring id entries key h (reply.RoundEnded r) law = absurd law
 lawful_query config ring id entries key h (reply.Executed r) law = absurd law
 lawful_query config ring id entries key h (reply.Retired r) law = absurd law
-
--- the last entry
-get_last : (entries : List Entry) (e : Entry) → slice_get (entries ++ e ∷ []) (length entries) ≡ Some e
-get_last entries e =
-    let within : length entries < length (entries ++ e ∷ []) = omega (arith, length-append entries (e ∷ [])) in
-    slice_get_read (entries ++ e ∷ []) _ (length entries) e refl within (sym (get_or-append_seam entries e [] e))
 
 -- what an entry that was just added answers to a query as of the last block
 pub query_added : (config : Config) (ring : Ring) (id : ℕ) (old new : List Entry) (key : List ℕ) (h : ℕ) (r : Reply) (i : ℕ)

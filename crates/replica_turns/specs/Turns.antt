@@ -1,11 +1,12 @@
 -- What a turn adds to a replica's history, and the events that deliver frames.
-use Rattle.std.specs.Prelude.{◌≡◌, ◌≤◌, ℕ, List, ◌∷◌, ◌++◌, map, length}
+use Rattle.std.specs.Prelude.{◌≡◌, ◌≤◌, ◌+◌, ℕ, List, ◌∷◌, ◌++◌, map, length}
 use Rattle.ledger_model.specs.declared.event.Event.{Event}
 use Rattle.ledger_model.specs.declared.event.Event.TheVariants as event
 use Rattle.ledger_model.specs.declared.history.Entry.{Entry}
 use Rattle.ledger_model.specs.Commits.{commits_of}
 use Rattle.ledger_model.specs.Lawful.{Replay}
-use Rattle.locked_replica.specs.States.{StateView}
+use Rattle.locked_replica.specs.States.{StateView, due_next}
+use Rattle.replica_core.specs.Leaves.{signed_by}
 
 -- the new entries are the old ones, followed by one entry for each of these events, in order
 pub record Takes (old : List Entry) (events : List Event) (new : List Entry) : Type 0 where
@@ -26,6 +27,11 @@ pub record GoesOn (old new : StateView) : Type 0 where
   pub same : new ≡ record old { used = new.used; entries = new.entries; machine = new.machine }
   pub leaves : old.used ≤ new.used
   pub replay : Replay new.config new.ring new.id new.entries
+
+-- Each of its own statements that was added to its history used one leaf. Besides, at most as many leaves were used as the next round
+-- end has statements to sign.
+abbrev pub LosesAtMostDue : StateView → StateView → Type 0
+LosesAtMostDue old new = new.used + signed_by old.entries ≤ old.used + signed_by new.entries + due_next new
 
 -- the committed height of a replica
 abbrev pub height_in : StateView → ℕ

@@ -1,8 +1,8 @@
 //! One turn: a replica takes events, and then publishes its height.
 ghost use Rattle.std.specs.Prelude.{◌≡◌, ◌≤◌, ◌↔◌, max, length, IfOk, OnOk, OnErr, IsErrOf};
 ghost use Rattle.ledger_model.specs.Lawful.{Replay};
-ghost use Rattle.locked_replica.specs.States.{RunsAlone};
-ghost use Rattle.replica_turns.specs.Turns.{Takes, TakesSome, GoesOn, height_in};
+ghost use Rattle.locked_replica.specs.States.{RunsAlone, UsesAsSigned};
+ghost use Rattle.replica_turns.specs.Turns.{Takes, TakesSome, GoesOn, LosesAtMostDue, height_in};
 ghost use Rattle.ledger_model.specs.Limits.{max_history_len};
 
 use abci::Application;
@@ -21,6 +21,9 @@ fn take_all<A: Application>(state: &mut State<A>, events: Vec<Event>) -> Result<
     ensures some { OnErr result (TakesSome state.old.entries events.items state.new.entries) }
     ensures full { OnErr result (IsErrOf result ApplyFault.HistoryFull ↔ (max_history_len ≤ length state.new.entries)) }
     ensures on { GoesOn state.old state.new }
+    ensures signed { OnOk result (UsesAsSigned state.old state.new) }
+    ensures lost { OnErr result (LosesAtMostDue state.old state.new) }
+    ensures spared { IsErrOf result ApplyFault.HistoryFull → UsesAsSigned state.old state.new }
 {
     let index = state.len();
     for event in events {
@@ -33,7 +36,8 @@ fn take_all<A: Application>(state: &mut State<A>, events: Vec<Event>) -> Result<
 /// Returns the previous length of the history, which is the index of the first new entry, or why an event was refused.
 ///
 /// `HistoryFull` comes if the history had 65,536 entries at the refused event. After a fault, the events before the
-/// refused one were taken; the refused one and those after it were not.
+/// refused one were taken; the refused one and those after it were not. A round end that found no memory may have used
+/// leaves.
 pub fn turn<A: Application>(
     state: &mut State<A>,
     events: Vec<Event>,
@@ -50,6 +54,11 @@ pub fn turn<A: Application>(
     ensures replay { Replay state.new.config state.new.ring state.new.id state.new.entries }
     ensures rest { state.new ≡ record state.old { used = state.new.used; entries = state.new.entries; machine = state.new.machine } }
     ensures leaves { state.old.used ≤ state.new.used }
+    // Each statement of its own that was added used one leaf, and nothing else did.
+    ensures signed { OnOk result (UsesAsSigned state.old state.new) }
+    // The refused event used at most as many as it had statements to sign.
+    ensures lost { OnErr result (LosesAtMostDue state.old state.new) }
+    ensures spared { IsErrOf result ApplyFault.HistoryFull → UsesAsSigned state.old state.new }
     // The application is in the state that it reaches when it runs alone on the committed blocks.
     ensures machine { RunsAlone state.new }
     ensures seat { seat.new ≡ record seat.old { height = max seat.old.height (height_in state.new) } }

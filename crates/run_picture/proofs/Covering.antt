@@ -29,7 +29,7 @@ use Rattle.ledger_model.proofs.FrameReading.{reading-reads}
 use Rattle.ledger_model.specs.Values.{Value}
 use Rattle.ledger_model.proofs.Goodness.{Good, Made_by, Of_nothing, Of_ack, Of_report, Of_lock, ack_is, ack_made, has_none}
 use Rattle.ledger_model.proofs.Goodness.{initial_of-append, is_only, made_cases, may_cases, open_value}
-use Rattle.ledger_model.proofs.Lists.{filter_has, filter_map_has, has_cases, has_filter_map, has_left, has_map, has_right}
+use Rattle.ledger_model.proofs.Lists.{filter_has, filter_map_has, has_cases, has_filter_map, has_left, has_map, has_right, found_has}
 use Rattle.ledger_model.proofs.Steps.{made_note, map_has, note_made, note_read}
 use Rattle.run_picture.specs.declared.deciding.Agreed.{Agreed}
 use Rattle.run_picture.specs.Decisions.{PhaseView, ack_in, ack_of, after_reply, after_round, is_deciding_round, lock_in, lock_of, locks_in}
@@ -61,14 +61,6 @@ any_more p (x ∷ xs) ys h = by (p x) (any_more p xs ys) h
         → (b || list_any p (xs ++ ys)) ≡ true
     by true rest h = refl
     by false rest h = rest h
-
-pub found_passes : {X : Type 0} (p : X → Bool) (xs : List X) (x : X) → find p xs ≡ Some x → p x ≡ true
-found_passes p [] x h = absurd (cc)
-found_passes p (y ∷ ys) x h = by (p y) refl h (found_passes p ys x)
-  where
-    by : (b : Bool) → p y ≡ b → cond b (Some y) (find p ys) ≡ Some x → (find p ys ≡ Some x → p x ≡ true) → p x ≡ true
-    by true is at rest = let same : y ≡ x = cc in ap p (sym same) ∙ is
-    by false is at rest = rest at
 
 -- ---- frames
 
@@ -247,8 +239,8 @@ module _ (config : Config) (ring : Ring) (id : ℕ) (front : List Entry) (next :
         (map (λ (y : SignedStatement). y.statement) (Made h)) a by there in
         let phase : a.phase ≡ phase_of (p.clock + 1) = of_phase (clock_of (log_of config id h front)) a.phase
         (knows.clock h) place told.0 in
-        let taken = found_passes (λ w. took (log_of config id h front) w a.phase)
-        (filter_map value_read (log_of config id h front)) a.value told.1 in
+        let taken = (found_has (λ w. took (log_of config id h front) w a.phase)
+        (filter_map value_read (log_of config id h front)) a.value told.1).1 in
         let began = began_of (may_cases ended.mute (open_of (log_of config id h front))
         (map (λ (y : SignedStatement). y.statement) (Made h))
         (λ own. MayMakeOpen config id h (log_of config id h front) (clock_of (log_of config id h front) + 1) own

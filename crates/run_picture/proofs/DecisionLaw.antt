@@ -4,6 +4,7 @@ use Rattle.std.proofs.Common.{refl, sym, ap, subst, arith}
 use Rattle.std.specs.Prelude.{nat_eq, nat_lt, nat_le, ◌==◌, is_some, Some, None, find, filter}
 use Rattle.std.specs.List.{filter_map, flat_map, list_any}
 use Rattle.std.proofs.lemmas.Bool.{and_parts, and_from, eqb-true, eq-eqb, not-true, or_left, or_right}
+use Rattle.std.proofs.option.Match.{None-if_not_some}
 use Rattle.ledger_model.specs.declared.config.Config.{Config}
 use Rattle.ledger_model.specs.declared.history.Entry.{Entry}
 use Rattle.ledger_model.specs.declared.reply.RoundEnded.{RoundEnded}
@@ -24,26 +25,17 @@ use Rattle.ledger_model.specs.Rules.{MayMake, MayMakeOpen}
 use Rattle.ledger_model.specs.Values.{Value, ascending, same_value}
 use Rattle.ledger_model.proofs.Counting.{count_from-mono}
 use Rattle.ledger_model.proofs.Goodness.{Good, has_none, is_only, lock_is, lock_made, made_cases, may_cases, open_value}
-use Rattle.ledger_model.proofs.Lists.{any_has, filter_map_has, has_any, has_ascending, has_filter, has_filter_map, none_if_not_some}
+use Rattle.ledger_model.proofs.Lists.{any_has, filter_map_has, has_any, has_ascending, has_filter, has_filter_map, found_has}
 use Rattle.ledger_model.proofs.Lists.{same_value-equal, same_value-refl}
-use Rattle.ledger_model.proofs.LockSafety.{lock_has, made_has, read_has, took_tells}
+use Rattle.ledger_model.proofs.LockSafety.{lock_has, made_has, read_has, took_tells, ack_has, last_taken-now, first_has}
 use Rattle.ledger_model.proofs.Staying.{From, acked_known, count_same, decided_stays, from_below, made_stays, read_stays}
 use Rattle.run_picture.specs.Decisions.{PhaseView, is_ack_of, is_acked_by, is_acked_by_itself, is_decided_now, is_same_lock, locks_in}
-use Rattle.run_picture.proofs.Covering.{Covers, found_passes, sent_lock}
+use Rattle.run_picture.proofs.Covering.{Covers, sent_lock}
 use Rattle.run_picture.proofs.Knowing.{Knows, find_there, round_notes}
 use Rattle.run_picture.proofs.LockReads.{LockReads}
-use Rattle.run_picture.proofs.Marked.{acked_by, first_has, lock_note, made_phase}
-
-ack_has : (test : Ack → Bool) (s : Statement) → is_ack test s ≡ true → (a : Ack) × ((s ≡ statement.Ack a) × (test a ≡ true))
-ack_has test (statement.Ack a) h = (a, (refl, h))
-ack_has test (statement.Report r) h = absurd (cc)
-ack_has test (statement.Lock l) h = absurd (cc)
+use Rattle.run_picture.proofs.Marked.{acked_by, lock_note, made_phase}
 
 -- ---- a lock that was taken in the open phase is held, and sent on
-
-taken_now : (log : List Note) (v : Value) (n : ℕ) → 1 ≤ n → took log v n ≡ true → last_taken log v n ≡ n
-taken_now log v zero some taken = absurd (omega arith)
-taken_now log v (suc n) some taken = ap (λ b. cond b (suc n) (last_taken log v n)) taken
 
 first_there : (ss : List SignedStatement) (s : SignedStatement) → Has ss s → (t : SignedStatement) × (first_some ss ≡ Some t)
 first_there [] s has = absurd has
@@ -77,7 +69,7 @@ holds_now : (config : Config) (id h : ℕ) (log : List Note) (v : Value) → Goo
     → took log v (phase_of (clock_of log)) ≡ true → holds log v ≡ true
 unfolding holds
 holds_now config id h log v good place taken =
-    ap (λ n. nat_lt 0 n && not (list_any (releases v n) log)) (taken_now log v (phase_of (clock_of log)) (some (clock_of log) place) taken)
+    ap (λ n. nat_lt 0 n && not (list_any (releases v n) log)) (last_taken-now log v (phase_of (clock_of log)) (some (clock_of log) place) taken)
     ∙ and_from (nat_lt 0 (phase_of (clock_of log))) (not (list_any (releases v (phase_of (clock_of log))) log))
     (is_some_phase (phase_of (clock_of log)) (some (clock_of log) place))
     (kept (list_any (releases v (phase_of (clock_of log))) log) refl)
@@ -107,7 +99,7 @@ unfolding held_locks held_values
 held_frame config id h log v good place taken =
     let k : ℕ = phase_of (clock_of log) in
     let pt : phase_taken log v ≡ phase_of (clock_of log) =
-    taken_now log v (phase_of (clock_of log)) (some (clock_of log) place) taken in
+    last_taken-now log v (phase_of (clock_of log)) (some (clock_of log) place) taken in
     let tells = took_tells log v (phase_of (clock_of log)) taken in
     let same : same_value v tells.lock.value ≡ true = ap (same_value v) (sym tells.value) ∙ same_value-refl v in
     let c : ℕ = round_at lock_place (phase_of (clock_of log)) in
@@ -400,7 +392,7 @@ module _ (config : Config) (id : ℕ) (front : List Entry) (p : PhaseView) (ende
           let parts = and_parts (not (list_any (λ x. x == l.height) p.decided))
           (nat_le (2 * config.faults + 1) (number_of config (is_acked_by id p (locks_in ended.frames) l))) now in
           let none : decided_of config (log_of config id l.height front) ≡ None =
-          none_if_not_some (decided_of config (log_of config id l.height front))
+          None-if_not_some (decided_of config (log_of config id l.height front))
           (sym (noted l.height) ∙ not-true (list_any (λ x. x == l.height) p.decided) parts.0) in
           let d : Decides l.height l.value = record {
             lock = l;
@@ -434,7 +426,7 @@ module _ (config : Config) (id : ℕ) (front : List Entry) (p : PhaseView) (ende
           let finds : find (is_acked config (next h) (phase_of p.clock)) (filter_map value_made (next h)) ≡ Some v =
           sym (decided_next h
           ∙ ap (λ o. or_else o (find (is_acked config (next h) (phase_of p.clock)) (filter_map value_made (next h)))) none) ∙ some in
-          let d = from_acked h v (found_passes (is_acked config (next h) (phase_of p.clock)) (filter_map value_made (next h)) v finds) in
+          let d = from_acked h v ((found_has (is_acked config (next h) (phase_of p.clock)) (filter_map value_made (next h)) v finds).1) in
           let owner = owner_is h d.lock d.made in
           let there = covers.made h d.lock (inr place) d.made in
           let first = began h d.lock d.made in

@@ -4,6 +4,7 @@ use Rattle.std.proofs.Common.{subst, arith}
 use Rattle.std.specs.Prelude.{nat_eq, nat_lt, ◌==◌, is_some, Option, Some, None, Ok, Err, find, option_and_then, option_map}
 use Rattle.std.specs.List.{filter_map, flat_map, list_any}
 use Rattle.std.proofs.lemmas.Bool.{cases_Bool, eq-eqb}
+use Rattle.std.proofs.lemmas.Option.{same_Some}
 use Rattle.ledger_model.specs.declared.config.Config.{Config}
 use Rattle.ledger_model.specs.declared.event.Event.{Event}
 use Rattle.ledger_model.specs.declared.event.Event.TheVariants as event
@@ -29,7 +30,7 @@ use Rattle.ledger_model.specs.Rules as rules
 use Rattle.ledger_model.proofs.FrameReading.{reading-reads}
 use Rattle.ledger_model.specs.Values.{Value, same_value}
 use Rattle.ledger_model.proofs.Goodness.{Good, clock_of-append, has_none, may_cases, open_value}
-use Rattle.ledger_model.proofs.Lists.{filter_map_has, has_cases, has_filter, has_filter_map, has_flat_map, has_left, has_right, same_some}
+use Rattle.ledger_model.proofs.Lists.{filter_map_has, has_cases, has_filter, has_filter_map, has_flat_map, has_left, has_right}
 use Rattle.ledger_model.proofs.LockSafety.{took_tells}
 use Rattle.ledger_model.proofs.Staying.{From, from_below, from_entry, read_stays}
 use Rattle.ledger_model.proofs.Steps.{clock_of-made, made_note, note_made, note_read}
@@ -93,12 +94,12 @@ find_there p (y ∷ ys) x has e = elim (cases_Bool (p y)) [
 -- ---- what bytes encode
 
 ack_is_in : (s : Statement) (a : Ack) → ack_in s ≡ Some a → s ≡ statement.Ack a
-ack_is_in (statement.Ack b) a is = ap (λ (x : Ack). statement.Ack x) (same_some b a is)
+ack_is_in (statement.Ack b) a is = ap (λ (x : Ack). statement.Ack x) (same_Some b a is)
 ack_is_in (statement.Lock l) a is = absurd (cc)
 ack_is_in (statement.Report r) a is = absurd (cc)
 
 lock_is_in : (s : Statement) (l : Lock) → lock_in s ≡ Some l → s ≡ statement.Lock l
-lock_is_in (statement.Lock m) l is = ap (λ (x : Lock). statement.Lock x) (same_some m l is)
+lock_is_in (statement.Lock m) l is = ap (λ (x : Lock). statement.Lock x) (same_Some m l is)
 lock_is_in (statement.Ack a) l is = absurd (cc)
 lock_is_in (statement.Report r) l is = absurd (cc)
 

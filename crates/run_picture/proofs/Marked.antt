@@ -4,6 +4,7 @@ use Rattle.std.proofs.Common.{arith}
 use Rattle.std.specs.Prelude.{nat_eq, nat_lt, ◌==◌, is_some, Some, None}
 use Rattle.std.specs.List.{filter_map, list_any}
 use Rattle.std.proofs.lemmas.Bool.{and_parts, and_from, eqb-true, eq-eqb, not-true, or_cases}
+use Rattle.std.proofs.lemmas.Option.{same_Some}
 use Rattle.ledger_model.specs.declared.config.Config.{Config}
 use Rattle.ledger_model.specs.declared.history.Entry.{Entry}
 use Rattle.ledger_model.specs.declared.reply.RoundEnded.{RoundEnded}
@@ -19,8 +20,8 @@ use Rattle.ledger_model.specs.Notes.{is_open, is_retired, reads_in, was_read}
 use Rattle.ledger_model.specs.Rounds.{ack_place, lock_place, release_place, owner_of, phase_of, place_of, round_at}
 use Rattle.ledger_model.specs.Values.{Value, ascending, same_value}
 use Rattle.ledger_model.proofs.Goodness.{Good, lock_made, made_cases}
-use Rattle.ledger_model.proofs.Lists.{any_has, filter_has, filter_map_has, same_some, same_value-refl}
-use Rattle.ledger_model.proofs.LockSafety.{has_read}
+use Rattle.ledger_model.proofs.Lists.{any_has, filter_has, filter_map_has, same_value-refl}
+use Rattle.ledger_model.proofs.LockSafety.{has_read, first_has}
 use Rattle.ledger_model.specs.Rules as rules
 use Rattle.run_picture.specs.Decisions.{PhaseView, is_ack_of, is_acked_by, is_acked_by_itself, is_same_lock, locks_in}
 use Rattle.run_picture.proofs.Knowing.{Knows, lock_sent, own_ack_of}
@@ -28,12 +29,8 @@ use Rattle.run_picture.proofs.LockReads.{LockReads}
 
 -- ---- a held lock was read
 
-pub first_has : (ss : List SignedStatement) (s : SignedStatement) → first_some ss ≡ Some s → Has ss s
-first_has [] s is = absurd (cc)
-first_has (x ∷ xs) s is = inl (same_some x s is)
-
 kept_if : (b : Bool) (u s : SignedStatement) → cond b (Some u) None ≡ Some s → (b ≡ true) × (u ≡ s)
-kept_if true u s is = (refl, same_some u s is)
+kept_if true u s is = (refl, same_Some u s is)
 kept_if false u s is = absurd (cc)
 
 pub lock_note : (v : Value) (c : ℕ) (n : Note) (s : SignedStatement) → lock_read v c n ≡ Some s

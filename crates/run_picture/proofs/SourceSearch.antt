@@ -6,13 +6,14 @@ use Rattle.std.specs.List.{AllByRecursion, Contains, IsDistinct, list_any, posit
 use Rattle.std.proofs.lemmas.Bool.{and_parts, and_from, eqb-true, eq-eqb, or_left, or_right}
 use Rattle.std.proofs.lemmas.List.Elements.{All-contains}
 use Rattle.std.proofs.lemmas.List.Sums.{position_or_len_is}
-use Rattle.std.proofs.lemmas.Option.{slice_get-get_or, slice_get_within, get_or_from_slice_get}
+use Rattle.std.proofs.lemmas.Option.{slice_get-get_or, slice_get_within, get_or_from_slice_get, same_Some}
+use Rattle.std.proofs.lemmas.Map.Keys.{any_passes_from_place}
 use Rattle.history_parts.specs.Addressing.{goes_to}
 use Rattle.history_parts.proofs.Found.{bytes_equal}
 use Rattle.ledger_model.specs.Applications.{same_bytes}
 use Rattle.ledger_model.specs.Notes.{Has}
 use Rattle.ledger_model.specs.Pools.{is_among}
-use Rattle.ledger_model.proofs.Lists.{pointwise_refl, has_map, filter_has, same_some, has_index}
+use Rattle.ledger_model.proofs.Lists.{pointwise_refl, has_map, filter_has, has_index, each_at}
 use Rattle.run_picture.specs.declared.sent_frames.SentFrame.{SentFrame}
 use Rattle.run_picture.specs.declared.deliveries.Delivery.{Delivery}
 use Rattle.run_picture.specs.declared.incoming.IncomingFrame.{IncomingFrame}
@@ -25,16 +26,6 @@ same_itself : (xs : List ℕ) → same_bytes xs xs ≡ true
 same_itself xs = pointwise_refl nat_eq (λ n. eq-eqb n n refl) xs
 
 -- ---- elements by their index
-
-all_at : {X : Type 0} (P : X → Type 0) (xs : List X) (j : ℕ) (x : X) → AllByRecursion P xs → slice_get xs j ≡ Some x → P x
-all_at P [] j x all at = absurd (cc)
-all_at P (y ∷ ys) zero x all at = subst P (same_some y x at) all.0
-all_at P (y ∷ ys) (suc j) x all at = all_at P ys j x all.1 at
-
-any_at : {X : Type 0} (p : X → Bool) (xs : List X) (j : ℕ) (x : X) → slice_get xs j ≡ Some x → p x ≡ true → list_any p xs ≡ true
-any_at p [] j x at h = absurd (cc)
-any_at p (y ∷ ys) zero x at h = or_left (p y) (list_any p ys) (ap p (same_some y x at) ∙ h)
-any_at p (y ∷ ys) (suc j) x at h = or_right (p y) (list_any p ys) (any_at p ys j x at h)
 
 -- the first element that passes a test
 position_is : {X : Type 0} (p : X → Bool) (xs : List X) (i : ℕ) (x : X) → slice_get xs i ≡ Some x → p x ≡ true
@@ -59,12 +50,12 @@ unfolding IsDistinct
 distinct_same [] i j a b distinct at_i at_j same = absurd (cc)
 distinct_same (x ∷ xs) zero zero a b distinct at_i at_j same = refl
 distinct_same (x ∷ xs) zero (suc j) a b distinct at_i at_j same =
-    absurd (differ (all_at (λ y. same_bytes x y ≡ false) xs j b distinct.0 at_j) (same_some x a at_i ∙ same))
+    absurd (differ (each_at (λ y. same_bytes x y ≡ false) xs j b distinct.0 at_j) (same_Some x a at_i ∙ same))
   where
     differ : same_bytes x b ≡ false → x ≡ b → ⊥
     differ not is = let both : same_bytes x b ≡ true = ap (same_bytes x) (sym is) ∙ same_itself x in cc
 distinct_same (x ∷ xs) (suc i) zero a b distinct at_i at_j same =
-    absurd (differ (all_at (λ y. same_bytes x y ≡ false) xs i a distinct.0 at_i) (same_some x b at_j ∙ sym same))
+    absurd (differ (each_at (λ y. same_bytes x y ≡ false) xs i a distinct.0 at_i) (same_Some x b at_j ∙ sym same))
   where
     differ : same_bytes x a ≡ false → x ≡ a → ⊥
     differ not is = let both : same_bytes x a ≡ true = ap (same_bytes x) (sym is) ∙ same_itself x in cc
@@ -76,7 +67,7 @@ rounds_from : (sent : List SentFrame) (d : Delivery) (j : ℕ) (s : SentFrame) �
     → Has (source_rounds sent d) s.at.round
 rounds_from [] d j s at may = absurd (cc)
 rounds_from (t ∷ ts) d zero s at may =
-    subst (λ (x : SentFrame). Has (source_rounds (x ∷ ts) d) s.at.round) (sym (same_some t s at)) (rw may (inl refl))
+    subst (λ (x : SentFrame). Has (source_rounds (x ∷ ts) d) s.at.round) (sym (same_Some t s at)) (rw may (inl refl))
 rounds_from (t ∷ ts) d (suc j) s at may = by (rounds_from ts d j s at may) (may_come_from d t)
   where
     by : Has (source_rounds ts d) s.at.round → (b : Bool) → Has
@@ -113,7 +104,7 @@ module _ (sent : List SentFrame) (strings : List (List ℕ)) (numbers : List ℕ
       let is = All-contains (IsIncoming sent numbers d.at.replica) frames x incoming.are.each among in
       let here : get_or numbers x.sent 0 ≡ number = sym (ap (λ (y : IncomingFrame). y.number) is.is) ∙ has in
       let bytes : is.frame.bytes ≡ d.bytes =
-      same_some is.frame.bytes d.bytes (sym (numbering.bytes_at x.sent is.frame is.at) ∙ ap (slice_get strings) here ∙ known) in (
+      same_Some is.frame.bytes d.bytes (sym (numbering.bytes_at x.sent is.frame is.at) ∙ ap (slice_get strings) here ∙ known) in (
         is.frame,
         is.at,
         and_from (same_bytes is.frame.bytes d.bytes) (goes_to is.frame.addressee is.frame.at.replica d.at.replica)
@@ -128,7 +119,7 @@ module _ (sent : List SentFrame) (strings : List (List ℕ)) (numbers : List ℕ
       let one = rounds_to sent d r h in
       let parts = and_parts (same_bytes one.1.0.bytes d.bytes) (goes_to one.1.0.addressee one.1.0.at.replica d.at.replica) one.1.2 in
       let same : d.bytes ≡ one.1.0.bytes = sym (bytes_equal one.1.0.bytes d.bytes parts.0) in
-      let known = any_at (same_bytes d.bytes) strings (get_or numbers one.0 0) one.1.0.bytes (numbering.bytes_at one.0 one.1.0 one.1.1)
+      let known = any_passes_from_place (same_bytes d.bytes) strings (get_or numbers one.0 0) one.1.0.bytes (numbering.bytes_at one.0 one.1.0 one.1.1)
       (ap (same_bytes d.bytes) (sym same) ∙ same_itself d.bytes) in
       absurd (cc))))
 

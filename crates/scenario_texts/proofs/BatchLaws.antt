@@ -6,6 +6,7 @@ use Rattle.std.proofs.lemmas.Bool.{and_parts, leb-true, eqb-true}
 use Rattle.std.proofs.lemmas.Bool.Decides.{nat_tests}
 use Rattle.std.proofs.lemmas.List.Elements.{All-nil, All-cons, All-append}
 use Rattle.std.proofs.lemmas.List.Splits.{join_with_byte-slice_split}
+use Rattle.std.proofs.lemmas.Option.{cond_some}
 use Rattle.ledger_model.specs.Limits.{max_tx_len}
 use Rattle.ledger_model.specs.Versions.{batch_limit}
 use Rattle.ledger_model.specs.declared.version.Version.{Version}
@@ -13,7 +14,7 @@ use Rattle.ledger_model.specs.Values.{Value, IsTx, IsValueIn}
 use Rattle.plain_text.specs.Transactions.{bytes_text}
 use Rattle.scenario_texts.specs.Reading.{bytes_of, tx_of, txs_of, without_first, without_last, bracketed, elements, batch_of}
 use Rattle.scenario_texts.specs.Texts.{batch_text}
-use Rattle.scenario_texts.proofs.Options.{bind_some, if_some, map_some}
+use Rattle.scenario_texts.proofs.Options.{bind_some, map_some}
 use Rattle.scenario_texts.proofs.BytesReading.{bytes_of-sound, bytes_of-again}
 use Rattle.scenario_texts.proofs.BatchReading.{without_last-end, followed}
 use Rattle.scenario_texts.proofs.Splits.{Lacks, slice_split-join}
@@ -25,7 +26,7 @@ unfolding tx_of
 tx_of-sound word tx e =
     let (bytes, (read, fits)) = bind_some (λ bytes. cond (nat_le 1 (length bytes) && nat_le (length bytes) max_tx_len) (Some bytes) None)
     (bytes_of word) tx e in
-    let (test, same) = if_some (nat_le 1 (length bytes) && nat_le (length bytes) max_tx_len) bytes tx fits in
+    let (test, same) = cond_some (nat_le 1 (length bytes) && nat_le (length bytes) max_tx_len) bytes tx fits in
     let parts = and_parts (nat_le 1 (length bytes)) (nat_le (length bytes) max_tx_len) test in
     let spelled = bytes_of-sound word bytes read in
     let is : IsTx bytes = record {
@@ -69,7 +70,7 @@ txs_of-again (tx ∷ v) (first, all) = rw (tx_of-again tx first, txs_of-again v 
 last_whole : (c : ℕ) (word front : List ℕ) → without_last c word ≡ Some front → word ≡ front ++ c ∷ []
 last_whole c [] front e = absurd cc
 last_whole c (b ∷ []) front e =
-    let (test, same) = if_some (b == c) [] front e in
+    let (test, same) = cond_some (b == c) [] front e in
     let equal : b ≡ c = eqb-true b c test in
     subst (λ (f : List ℕ). b ∷ [] ≡ f ++ c ∷ []) same (ap (λ x. x ∷ []) equal)
 last_whole c (b ∷ d ∷ more) front e =
@@ -79,7 +80,7 @@ last_whole c (b ∷ d ∷ more) front e =
 -- what follows the first byte
 first_whole : (c : ℕ) (word rest : List ℕ) → without_first c word ≡ Some rest → word ≡ c ∷ rest
 first_whole c [] rest e = absurd cc
-first_whole c (b ∷ more) rest e = let (test, same) = if_some (b == c) more rest e in let equal : b ≡ c = eqb-true b c test in cc
+first_whole c (b ∷ more) rest e = let (test, same) = cond_some (b == c) more rest e in let equal : b ≡ c = eqb-true b c test in cc
 
 -- what is in brackets
 bracketed-sound : (word inner : List ℕ) → bracketed word ≡ Some inner → word ≡ codes "[" ++ inner ++ codes "]"
@@ -142,7 +143,7 @@ batch_of-sound version word v e =
     let (txs, (read, fits)) = bind_some (λ txs. cond (nat_le (length txs) (batch_limit version)) (Some txs) None)
     (txs_of (elements inner)) v more
     in
-    let (test, same) = if_some (nat_le (length txs) (batch_limit version)) txs v fits in
+    let (test, same) = cond_some (nat_le (length txs) (batch_limit version)) txs v fits in
     let spelled = txs_of-sound (elements inner) txs read in
     let whole : inner ≡ join_with_byte 44 (map bytes_text txs) = sym (join-elements inner) ∙ ap (join_with_byte 44) spelled.0 in
     let is : IsValueIn version txs = record { few = leb-true (length txs) (batch_limit version) test; each = spelled.1 } in

@@ -7,6 +7,7 @@ use Rattle.std.specs.Str.{bytes_eq}
 use Rattle.std.proofs.Math.Bridge.{le_prop, no_suc-le-zero}
 use Rattle.std.proofs.lemmas.Bool.{leb-true}
 use Rattle.std.proofs.lemmas.Slice.Eq.{bytes_eq-Decides}
+use Rattle.std.proofs.lemmas.Option.{cond_some}
 use Rattle.ledger_model.specs.Limits.{max_key_len}
 use Rattle.ledger_model.specs.Versions.{batch_limit}
 use Rattle.ledger_model.specs.declared.version.Version.{Version}
@@ -26,7 +27,7 @@ use Rattle.scenario_texts.specs.declared.command.Towards.{Towards}
 use Rattle.scenario_texts.specs.declared.command.Lie.{Lie}
 use Rattle.scenario_texts.specs.declared.command.Command.{Command}
 use Rattle.scenario_texts.specs.declared.command.Command.TheVariants as command
-use Rattle.scenario_texts.proofs.Options.{bind_some, map_some, if_some}
+use Rattle.scenario_texts.proofs.Options.{bind_some, map_some}
 use Rattle.scenario_texts.proofs.Numbers.{number_of-sound}
 use Rattle.scenario_texts.proofs.FieldReading.{positive_of-sound, positive_of-again, one_number-sound, two_numbers-sound}
 use Rattle.scenario_texts.proofs.FieldReading.{three_numbers-sound, optional_bytes-sound, optional_hex-sound, towards_of-sound}
@@ -236,7 +237,7 @@ query_of-sound version liars (r ∷ rest) c e =
     (optional_bytes rest)) (number_of r) c e in
     let (key, (second, fits)) = bind_some (λ b. cond (nat_le (length b) max_key_len) (Some (command.Query replica b)) None)
     (optional_bytes rest) c more in
-    let (test, equal) = if_some (nat_le (length key) max_key_len) (command.Query replica key) c fits in
+    let (test, equal) = cond_some (nat_le (length key) max_key_len) (command.Query replica key) c fits in
     let number = number_of-sound r replica first in
     let spelled = optional_bytes-sound rest key second in
     subst (λ (x : Command). Says version liars (codes "query") (r ∷ rest) x) equal

@@ -7,6 +7,7 @@ use Rattle.std.proofs.lemmas.Bool.{eqb-true}
 use Rattle.std.proofs.lemmas.List.{append-nil, length-append}
 use Rattle.std.proofs.lemmas.List.Concat.{flat_map-append}
 use Rattle.std.proofs.lemmas.List.Elements.{All-head, All-tail, filter-append}
+use Rattle.std.proofs.SliceLists.{all_by_recursion_push}
 use Rattle.scenario_texts.specs.Plans.{Plan}
 use Rattle.scenario_texts.specs.Lawful.{IsPlan}
 use Rattle.scenario_texts.specs.Texts.{plan_lines}
@@ -47,11 +48,6 @@ at_limit : (text left : List ℕ) (number : ℕ) (s : Option Plan) (going : Goin
 at_limit text left number s going line short =
     subst (λ (limit : ℕ). length line ≤ limit) (sym (limit_is s going.lines going.shows)) short
 
--- one of which each holds more
-pub each_more : (P : List ℕ → Type 0) (xs : List (List ℕ)) (x : List ℕ) → AllByRecursion P xs → P x → AllByRecursion P (xs ++ x ∷ [])
-each_more P [] x all one = (one, tt)
-each_more P (y ∷ xs) x (first, all) one = (first, each_more P xs x all one)
-
 -- the text with a line more
 pub whole_more : (text : List ℕ) (lines : List (List ℕ)) (left line rest : List ℕ) → text ≡ flat_map ended lines ++ left
     → left ≡ line ++ 10 ∷ rest → text ≡ flat_map ended (lines ++ line ∷ []) ++ rest
@@ -76,7 +72,7 @@ pub goes_over : (text left : List ℕ) (number : ℕ) (s : Option Plan) (line re
 goes_over text left number s line rest going cut unbroken few short over = record {
   lines = going.lines ++ line ∷ [];
   whole = whole_more text going.lines left line rest going.whole cut;
-  unbroken = each_more IsUnbroken going.lines line going.unbroken unbroken;
+  unbroken = all_by_recursion_push IsUnbroken going.lines line going.unbroken unbroken;
   numbered = omega (arith, going.numbered, length-append going.lines (line ∷ []));
   few = omega (arith, going.numbered, length-append going.lines (line ∷ []));
   short = short_more going.lines line going.short (at_limit text left number s going line short);
@@ -95,7 +91,7 @@ goes_further text left number s line rest p going cut unbroken few short is next
     record {
       lines = going.lines ++ line ∷ [];
       whole = whole_more text going.lines left line rest going.whole cut;
-      unbroken = each_more IsUnbroken going.lines line going.unbroken unbroken;
+      unbroken = all_by_recursion_push IsUnbroken going.lines line going.unbroken unbroken;
       numbered = omega (arith, going.numbered, length-append going.lines (line ∷ []));
       few = omega (arith, going.numbered, length-append going.lines (line ∷ []));
       short = short_more going.lines line going.short (at_limit text left number s going line short);

@@ -15,6 +15,8 @@ use Rattle.std.proofs.lemmas.List.{map_push, append-nil, length-append}
 use Rattle.std.proofs.lemmas.Map.Keys.{IsDistinct-push}
 use Rattle.std.proofs.lemmas.List.Elements.{All-from_recursion, All-contains, All-weaker}
 use Rattle.std.proofs.lemmas.List.Splits.{join_with_byte-slice_split}
+use Rattle.std.proofs.lemmas.Option.{cond_some}
+use Rattle.std.proofs.SliceLists.{all_by_recursion_push}
 use Rattle.ledger_model.specs.declared.config.AppKind.{AppKind}
 use Rattle.ledger_model.specs.declared.version.Version.{Version}
 use Rattle.ledger_model.specs.declared.version.Version.TheVariants as version
@@ -32,7 +34,7 @@ use Rattle.scenario_texts.specs.Reading.{next_by_keyword, next_by_words, next_of
 use Rattle.scenario_texts.specs.declared.keyword.Keyword.{Keyword}
 use Rattle.scenario_texts.specs.declared.keyword.Keyword.TheVariants as keyword
 use Rattle.scenario_texts.specs.declared.command.Command.{Command}
-use Rattle.scenario_texts.proofs.Options.{bind_some, if_some}
+use Rattle.scenario_texts.proofs.Options.{bind_some}
 use Rattle.scenario_texts.proofs.Splits.{slice_split-join}
 use Rattle.scenario_texts.proofs.Visible.{IsWords, IsWord-number_text, Lacks-word, Lacks-words, small_words}
 use Rattle.scenario_texts.proofs.CommandReading.{keyword_of-sound, keyword_of-again, command_of-sound}
@@ -66,11 +68,6 @@ unfolding plan_lines
 plan_lines-command p c = ap (λ ls. setup_lines p ++ ls) (map_push command_text p.commands c)
     ∙ sym (append_assoc (setup_lines p) (map command_text p.commands) (command_text c ∷ []))
 
--- one more of which each holds
-each_more : {A : Type 0} (P : A → Type 0) (xs : List A) (x : A) → AllByRecursion P xs → P x → AllByRecursion P (xs ++ x ∷ [])
-each_more P [] x all one = (one, tt)
-each_more P (y ∷ xs) x (first, all) one = (first, each_more P xs x all one)
-
 with_command_shows : (p : Plan) (k : Keyword) (fields : List (List ℕ)) (q : Plan) (lines : List (List ℕ))
     → with_command p k fields ≡ Some q → Shows (Some p) lines → ShowsMore lines (keyword_text k ∷ fields) q
 unfolding with_command command_text
@@ -91,7 +88,7 @@ with_command_shows p k fields q lines e (spelled, is) =
                 is.setup.replicas;
             different = is.setup.different;
           };
-      commands = each_more (IsCommand p.frames p.liars) p.commands c is.commands said.1;
+      commands = all_by_recursion_push (IsCommand p.frames p.liars) p.commands c is.commands said.1;
     } in
     subst (λ (x : Plan). ShowsMore lines (keyword_text k ∷ fields) x) same (record {
       spelled = ap (λ ls. ls ++ words_text (keyword_text k ∷ fields) ∷ []) spelled ∙ ap (λ ws. plan_lines p ++ words_text ws ∷ []) said.0
@@ -137,7 +134,7 @@ liar_lawful p n is may = record {
     bounded = is.setup.bounded;
     tolerant = is.setup.tolerant;
     few = omega (arith, length-append p.liars (n ∷ []), may.few);
-    replicas = each_more (λ liar. liar < p.replicas) p.liars n is.setup.replicas may.within;
+    replicas = all_by_recursion_push (λ liar. liar < p.replicas) p.liars n is.setup.replicas may.within;
     different = IsDistinct-push nat_eq_equiv p.liars n is.setup.different (turned n p.liars may.fresh);
   };
   commands = subst (λ (cs : List Command). AllByRecursion (IsCommand p.frames (p.liars ++ n ∷ [])) cs) (sym may.no_steps) tt;
@@ -325,7 +322,7 @@ line_of_words line = join_with_byte-slice_split 32 line
 -- a line that was read is ASCII
 ascii_line : (line text : List ℕ) → ascii_of line ≡ Some text → line ≡ text
 unfolding ascii_of
-ascii_line line text e = (if_some (list_all is_ascii line) line text e).1
+ascii_line line text e = (cond_some (list_all is_ascii line) line text e).1
 
 -- what is ASCII is read
 ascii_again : (line : List ℕ) → All (λ b. b < 128) line → ascii_of line ≡ Some line

@@ -6,6 +6,7 @@ use Rattle.std.proofs.lemmas.Bool.{and_parts, leb-true, ltb-true, eqb-true}
 use Rattle.std.proofs.lemmas.Bool.Decides.{nat_tests}
 use Rattle.std.proofs.lemmas.Slice.Eq.{bytes_eq-Decides}
 use Rattle.std.specs.Str.{bytes_eq}
+use Rattle.std.proofs.lemmas.Option.{cond_some}
 use Rattle.ledger_model.specs.declared.config.AppKind.{AppKind}
 use Rattle.ledger_model.specs.declared.config.AppKind.TheVariants.{KvStore, Counter, Purse}
 use Rattle.ledger_model.specs.declared.version.Version.{Version}
@@ -23,7 +24,7 @@ use Rattle.scenario_texts.specs.Texts.{kind_number, config_words, params_words}
 use Rattle.scenario_texts.specs.Reading.{is_size, kind_of, config_of, begun_of, params_from, is_first, is_early, with_keys, with_frames}
 use Rattle.scenario_texts.specs.Reading.{is_new_liar, with_liar, one_number}
 use Rattle.scenario_texts.specs.Reading.{two_numbers, three_numbers}
-use Rattle.scenario_texts.proofs.Options.{bind_some, map_some, if_some}
+use Rattle.scenario_texts.proofs.Options.{bind_some, map_some}
 use Rattle.scenario_texts.proofs.FieldReading.{one_number-sound, one_number-again, two_numbers-sound, two_numbers-again}
 use Rattle.scenario_texts.proofs.FieldReading.{three_numbers-sound, three_numbers-again}
 
@@ -135,7 +136,7 @@ begun_of-sound fields p e =
     let (n, (read, more)) = bind_some (λ (n : ℕ × ℕ × ℕ). option_and_then (sized n) (kind_of n.2)) (three_numbers fields) c made in
     let (kind, (named, fits)) = bind_some (sized n) (kind_of n.2) c more in
     let triple : ℕ × ℕ × AppKind = (n.0, n.1, kind) in
-    let (test, same) = if_some (is_size n.0 n.1) triple c fits in
+    let (test, same) = cond_some (is_size n.0 n.1) triple c fits in
     let spelled = three_numbers-sound fields n.0 n.1 n.2 read in
     let number : n.2 ≡ kind_number kind = kind_of-sound n.2 kind named in
     (n.0, (n.1, (kind, (cc (spelled.0, number), (sym equal ∙ sym (ap plan same), is_size-sound n.0 n.1 kind test)))))
@@ -263,7 +264,7 @@ with_keys-sound p fields q e =
     let (n, (read, more)) = bind_some (λ (n : ℕ × ℕ). option_and_then make (params_from n)) (two_numbers fields) q e in
     let (keys, (set, fits)) = bind_some make (params_from n) q more in
     let next : Plan = record p { keys = Some keys } in
-    let (test, same) = if_some (not (is_some p.keys) && is_early p) next q fits in
+    let (test, same) = cond_some (not (is_some p.keys) && is_early p) next q fits in
     let tests = and_parts (not (is_some p.keys)) (is_early p) test in
     let numbers = params_from-sound n keys set in
     let spelled = two_numbers-sound fields n.0 n.1 read in
@@ -299,7 +300,7 @@ unfolding with_frames
 with_frames-sound p [] q e = absurd cc
 with_frames-sound p (word ∷ []) q e =
     let next : Plan = record p { frames = version.Two } in
-    let (test, same) = if_some (bytes_eq word (codes "2") && is_early p) next q e in
+    let (test, same) = cond_some (bytes_eq word (codes "2") && is_early p) next q e in
     let tests = and_parts (bytes_eq word (codes "2")) (is_early p) test in
     record {
       spelled = ap (λ (w : List ℕ). w ∷ []) ((bytes_eq-Decides word (codes "2")).0 tests.0);
@@ -326,7 +327,7 @@ with_liar-sound p fields q e =
     let make : ℕ → Option Plan = λ n. cond (is_new_liar p n) (Some (record p { liars = p.liars ++ n ∷ [] })) None in
     let (n, (read, fits)) = bind_some make (one_number fields) q e in
     let next : Plan = record p { liars = p.liars ++ n ∷ [] } in
-    let (test, same) = if_some (is_new_liar p n) next q fits in
+    let (test, same) = cond_some (is_new_liar p n) next q fits in
     let spelled = one_number-sound fields n read in
     record { liar = n; spelled = spelled.0; small = spelled.1; may = is_new_liar-sound p n test; taken = sym same }
 

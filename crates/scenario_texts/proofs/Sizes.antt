@@ -8,13 +8,14 @@ use Rattle.std.proofs.Math.Seq.{take-suc}
 use Rattle.std.proofs.lemmas.List.{length-append, take-append-drop}
 use Rattle.std.proofs.lemmas.List.Concat.{flat_map-append}
 use Rattle.std.proofs.lemmas.List.Elements.{All-append, All-cons, All-head, All-nil, All-push, All-tail}
+use Rattle.std.proofs.SliceLists.{all_by_recursion_push}
 use Rattle.scenario_texts.specs.declared.line_count.LineCount.{LineCount}
 use Rattle.scenario_texts.specs.Lines.{max_lines, max_line_len, line_limit, ended, IsUnbroken, AreShort, Spells, GoesOn, FollowsBad}
 use Rattle.scenario_texts.specs.Lines.{EndsBadly, IsBadAt}
 use Rattle.scenario_texts.specs.Lines.{HasLines, IsTooLarge, IsCounted}
 use Rattle.scenario_texts.specs.Plans.{Plan}
 use Rattle.scenario_texts.proofs.LineLimits.{limit_most}
-use Rattle.scenario_texts.proofs.Endings.{each_more, first_same, not_ended, whole_more}
+use Rattle.scenario_texts.proofs.Endings.{first_same, not_ended, whole_more}
 
 -- no byte is a line feed
 none_unbroken : IsUnbroken []
@@ -66,7 +67,7 @@ line_ended text old new b feed more none has = record {
   rest = [];
   whole = whole_more (text ++ b ∷ []) has.lines (has.rest ++ b ∷ []) has.rest [] (behind has.lines text has.rest (b ∷ []) has.whole)
       (ap (λ c. has.rest ++ c ∷ []) feed);
-  unbroken = each_more IsUnbroken has.lines has.rest has.unbroken has.under_way;
+  unbroken = all_by_recursion_push IsUnbroken has.lines has.rest has.unbroken has.under_way;
   under_way = none_unbroken;
   ended = omega (arith, length-append has.lines (has.rest ∷ []), has.ended, more);
   long = sym none;
@@ -319,7 +320,7 @@ each_short before (l ∷ lines) rest u (p, v) small = (
     begun = p;
     bad = inl long;
   })),
-  each_short (before ++ l ∷ []) lines rest (each_more IsUnbroken before l u p) v (λ large. small (subst IsTooLarge same large)),
+  each_short (before ++ l ∷ []) lines rest (all_by_recursion_push IsUnbroken before l u p) v (λ large. small (subst IsTooLarge same large)),
 )
   where
     same : flat_map ended (before ++ l ∷ []) ++ (flat_map ended lines ++ rest) ≡ flat_map ended before
@@ -351,9 +352,9 @@ module _ (text : List ℕ) (old : LineCount) (has : HasLines text old) (small : 
       none (large_under_way (text ++ b ∷ []) (has.lines ++ has.rest ∷ []) [] large
       (whole_more (text ++ b ∷ []) has.lines (has.rest ++ b ∷ []) has.rest [] (behind has.lines text has.rest (b ∷ []) has.whole)
       (ap (λ c. has.rest ++ c ∷ []) feed))
-      (each_more IsUnbroken has.lines has.rest has.unbroken has.under_way) none_unbroken
+      (all_by_recursion_push IsUnbroken has.lines has.rest has.unbroken has.under_way) none_unbroken
       (omega (arith, few, has.ended, length-append has.lines (has.rest ∷ [])))
-      (each_more IsShort has.lines has.rest lines_short rest_short))
+      (all_by_recursion_push IsShort has.lines has.rest lines_short rest_short))
     where
       none : (max_line_len < 0) ⊎ ((max_lines ≤ length (has.lines ++ has.rest ∷ [])) × (1 ≤ 0)) → ⊥
       none (inl long) = omega (arith, long)

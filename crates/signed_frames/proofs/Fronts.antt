@@ -12,6 +12,7 @@ use Rattle.ledger_model.specs.Streams.{announced, BeginsMalformed}
 use Rattle.signed_frames.proofs.FrameParts.{frame_length}
 use Rattle.ledger_model.specs.Versions.{body_limit}
 use Rattle.ledger_model.specs.declared.version.Version.{Version}
+use Rattle.ledger_model.proofs.Lists.{each_append}
 
 -- the reading of a whole frame is that of its body
 pub reading_front : (version : Version) (bytes : List ℕ) (len : ℕ) → 4 + len ≤ length bytes → announced bytes ≡ len
@@ -46,17 +47,12 @@ is_front bytes n s fits e =
     let size : length (frame_bytes s) ≡ n = ap length (sym e) ∙ length-take-le n bytes fits in
     sym (take-append-drop n bytes) ∙ ap (λ (x : List ℕ). x ++ drop n bytes) e ∙ ap (λ (k : ℕ). frame_bytes s ++ drop k bytes) (sym size)
 
--- what holds of both lists holds of the two joined
-all_join : {X : Type 0} (P : X → Type 0) (xs ys : List X) → AllByRecursion P xs → AllByRecursion P ys → AllByRecursion P (xs ++ ys)
-all_join P [] ys a b = b
-all_join P (x ∷ xs) ys a b = (a.0, all_join P xs ys a.1 b)
-
 -- frames, and then more of them
 pub frames_join : (version : Version) (bytes mid rest : List ℕ) (frames more : List SignedStatement) → Frames version bytes frames mid
     → Frames version mid more rest
     → Frames version bytes (frames ++ more) rest
 frames_join version bytes mid rest frames more f g = (
-  all_join (IsFrameIn version) frames more f.0 g.0,
+  each_append (IsFrameIn version) frames more f.0 g.0,
   f.1 ∙ ap (λ (x : List ℕ). flat_map frame_bytes frames ++ x) g.1
       ∙ sym (append_assoc (flat_map frame_bytes frames) (flat_map frame_bytes more) rest)
       ∙ ap (λ (x : List ℕ). x ++ rest) (sym (flat_map-append frame_bytes frames more)),

@@ -8,15 +8,16 @@ use Rattle.std.proofs.lemmas.Grind.{flat_map-append}
 use Rattle.std.proofs.lemmas.List.{append-nil, map-append, take_more}
 use Rattle.std.proofs.lemmas.List.Elements.{filter_map-append, filter-append}
 use Rattle.std.proofs.lemmas.Option.{none-some, slice_get_cases, slice_get_within, get_or_from_slice_get}
+use Rattle.std.proofs.option.Match.{None-if_not_some}
 use Rattle.ledger_model.specs.declared.history.Entry.{Entry}
 use Rattle.ledger_model.specs.declared.reply.Sent.{Sent}
 use Rattle.ledger_model.specs.declared.statement.SignedReport.{SignedReport}
 use Rattle.ledger_model.specs.declared.statement.SignedStatement.{SignedStatement}
 use Rattle.ledger_model.specs.Reading.{reading}
 use Rattle.ledger_model.specs.Worlds.{frames_in, frames_sent}
+use Rattle.ledger_model.proofs.Lists.{take-next}
 use Rattle.scenario_texts.specs.declared.command.Lie.{Lie}
 use Rattle.simulation.specs.Lies.{report_of, report_in, serves, if_serves, first_serving, frames_of}
-use Rattle.ledger_model.proofs.Lists.{none_if_not_some}
 
 -- ---- one frame
 
@@ -87,7 +88,7 @@ pub none_here : (l : Lie) (k r : ℕ) (front here frames : List (List ℕ)) (fou
     → first_serving l k r front ≡ None
     → found ≡ first_serving l k r here → is_some found ≡ false → first_serving l k r frames ≡ None
 none_here l k r front here frames found whole none is nothing =
-    ap (first_serving l k r) whole ∙ behind l k r front here none ∙ sym is ∙ none_if_not_some found nothing
+    ap (first_serving l k r) whole ∙ behind l k r front here none ∙ sym is ∙ None-if_not_some found nothing
 
 -- ---- one place after the other
 
@@ -95,10 +96,6 @@ none_here l k r front here frames found whole none is nothing =
 pub among_none : (l : Lie) (k r : ℕ) → first_serving l k r [] ≡ None
 unfolding first_serving
 among_none l k r = refl
-
--- the items up to and with this one
-pub next_item : {X : Type 0} (xs : List X) (i : ℕ) (x : X) → slice_get xs i ≡ Some x → take (i + 1) xs ≡ take i xs ++ x ∷ []
-next_item xs i x is = take_more xs i x (slice_get_within xs i x is) ∙ ap (λ y. take i xs ++ y ∷ []) (get_or_from_slice_get xs i x x is)
 
 -- an item stands at each place within
 pub some_within : {X : Type 0} (xs : List X) (i : ℕ) → i < length xs → slice_get xs i ≡ None → ⊥
@@ -113,7 +110,7 @@ frames_among sent = map (λ f. f.frame) sent
 
 pub next_frame : (sent : List Sent) (i : ℕ) (s : Sent) → slice_get sent i ≡ Some s
     → frames_among (take (i + 1) sent) ≡ frames_among (take i sent) ++ s.frame ∷ []
-next_frame sent i s is = ap frames_among (next_item sent i s is) ∙ map-append (λ (f : Sent). f.frame) (take i sent) (s ∷ [])
+next_frame sent i s is = ap frames_among (take-next sent i s is) ∙ map-append (λ (f : Sent). f.frame) (take i sent) (s ∷ [])
 
 -- the frames of the entries up to and with this one
 pub next_sent : (entries : List Entry) (i : ℕ) → i < length entries
@@ -121,7 +118,7 @@ pub next_sent : (entries : List Entry) (i : ℕ) → i < length entries
 unfolding frames_sent
 next_sent entries i below = elim ((slice_get_cases entries i).1) [
   | inl (e, lt, is, at) ↦
-      ap frames_sent (next_item entries i e is) ∙ flat_map-append (λ (x : Entry). frames_in x.reply) (take i entries) (e ∷ [])
+      ap frames_sent (take-next entries i e is) ∙ flat_map-append (λ (x : Entry). frames_in x.reply) (take i entries) (e ∷ [])
       ∙ ap (λ fs. frames_sent (take i entries) ++ fs) (append-nil (frames_in e.reply))
       ∙ ap (λ o. frames_sent (take i entries) ++ frames_of o) (sym is)
   | inr (past, nothing) ↦ absurd (omega arith)

@@ -10,7 +10,7 @@ use Rattle.std.proofs.lemmas.List.Folds.{list_any-append}
 use Rattle.ledger_model.specs.declared.statement.SignedReport.{SignedReport}
 use Rattle.ledger_model.specs.Notes.{Has}
 use Rattle.ledger_model.specs.Values.{Value, same_value}
-use Rattle.ledger_model.proofs.Lists.{any_has, has_any, has_cases, has_left, has_right, has_map, any_mapped, same_value-refl}
+use Rattle.ledger_model.proofs.Lists.{any_has, has_any, has_cases, has_left, has_right, has_map, any_mapped, same_value-refl, found_has}
 use Rattle.ledger_model.proofs.Lists.{same_value-equal, has_index}
 use Rattle.tally.specs.Tallies.{Places, read_of, count_where}
 use Rattle.tally.specs.Masks.{mask_of}
@@ -269,14 +269,6 @@ module _ (old : Places SignedReport) (r : ℕ) (s : SignedReport) (below : r < l
 
 -- ---- looking a value up
 
-found : {X : Type 0} (p : X → Bool) (xs : List X) (x : X) → find p xs ≡ Some x → Has xs x × (p x ≡ true)
-found p [] x e = cc
-found p (y ∷ ys) x e =
-    elim (cases_Bool (p y)) [
-      | inl here ↦ (let same : y ≡ x = let first : Some y ≡ Some x = simp here at e in cc in (inl same, subst (λ z. p z ≡ true) same here))
-      | inr other ↦ (let later : find p ys ≡ Some x = simp other at e in let rest = found p ys x later in (inr rest.0, rest.1))
-    ]
-
 not_found : {X : Type 0} (p : X → Bool) (xs : List X) → find p xs ≡ None → list_any p xs ≡ false
 not_found p [] e = refl
 not_found p (y ∷ ys) e =
@@ -289,7 +281,7 @@ not_found p (y ∷ ys) e =
 pub found_masks : (places : Places SignedReport) (values : List ReportedValue) (v : Value) (e : ReportedValue) → AreValuesOf places values
     → find (is_of places v) values ≡ Some e → AreMasksOf places v e.masks
 found_masks places values v e h is =
-    let there = found (is_of places v) values e is in
+    let there = found_has (is_of places v) values e is in
     let k = h.each e there.0 in
     let same : k.value ≡ v = let one = k.is_there in let other = there-is_of places v e there.1 in cc in
     subst (λ w. AreMasksOf places w e.masks) same k.masks

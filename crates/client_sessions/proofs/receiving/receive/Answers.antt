@@ -1,5 +1,5 @@
 use Rattle.std.proofs.Common.{rules}
-use Rattle.client_sessions.proofs.Results.{on_error}
+use Rattle.byte_streams.proofs.Faults.{on_error}
 use Rattle.client_sessions.proofs.PrefixLemmas.{broken_off, cut_off, whole}
 use Rattle.client_sessions.proofs.receiving.receive.Goals as goal
 

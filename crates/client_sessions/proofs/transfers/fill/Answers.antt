@@ -2,7 +2,7 @@ use Rattle.std.proofs.Common.{rules, ◌-◌, length, sym, subst}
 use Rattle.std.specs.Io.KnownBytes.{Consumes}
 use Rattle.std.proofs.KnownBytes.{Consumes-trans}
 use Rattle.client_sessions.proofs.Filling.{broken, drained, grown}
-use Rattle.client_sessions.proofs.Results.{on_error}
+use Rattle.byte_streams.proofs.Faults.{on_error}
 use Rattle.client_sessions.proofs.transfers.fill.Goals as goal
 
 pub loop-count-preserved : goal.loop-count-preserved

@@ -22,6 +22,7 @@ returns-in-Ok-query-clause-outcome g c = record {
   answered = returns-in-Ok-query-clause-answer g c;
   long_same = returns-in-Ok-query-clause-long_same g c;
   long = returns-in-Ok-query-clause-long g c;
+  unsigned = c.query.ensures.leaves;
 }
 
 pub returns-in_default-key-clause-answer : goal.returns-in_default-key-clause-answer
@@ -42,4 +43,5 @@ returns-in_default-key-clause-outcome g c = record {
   answered = returns-in_default-key-clause-answer g c;
   long_same = λ far. refl;
   long = returns-in_default-key-clause-long g c;
+  unsigned = refl;
 }

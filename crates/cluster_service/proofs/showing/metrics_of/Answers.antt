@@ -5,6 +5,8 @@ pub returns-clause-shown : goal.returns-clause-shown
 returns-clause-shown g c = record {
   state = c.args.state.now;
   replay = c.len.ensures.replay;
+  account = c.is_mute.ensures.account;
+  own_key = c.id.ensures.own_key;
   rounds = c.clock.ensures;
   height = c.new.ensures ∙ c.height.ensures.height;
   signatures = c.leaves_left.ensures;

@@ -1,6 +1,7 @@
 use Rattle.std.proofs.Common.{inl, inr, refl}
 use Rattle.std.proofs.KnownBytes.{Keeps-refl}
-use Rattle.byte_streams.proofs.Faults.{of_each, passed}
+use Rattle.std.proofs.lemmas.Result.{IfErr-weaker}
+use Rattle.byte_streams.proofs.Faults.{passed}
 use Rattle.cluster_service.specs.HistoriesFiles.{bytes_in}
 use Rattle.cluster_service.specs.RunFaults.{EndsCluster, IsReportFault}
 use Rattle.cluster_service.proofs.ReportingLemmas.{failed_with, nothing_ran, ran}
@@ -34,6 +35,6 @@ returns-clause-reports g c = ran c.args.settings.now c.report.result _ _ _ _ c.r
 pub returns-clause-fault : goal.returns-clause-fault
 returns-clause-fault g c =
     let empty = c.args.file.now in
-    of_each c.report.result (IsReportFault empty)
+    IfErr-weaker c.report.result (IsReportFault empty)
     (EndsCluster empty c.report.new.file (g.W.Write.contents c.args.writer.now) (g.W.Write.contents c.report.new.writer)) (λ e is. inl is)
     c.report.ensures.fault

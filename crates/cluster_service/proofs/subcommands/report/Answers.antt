@@ -1,9 +1,10 @@
 use Rattle.std.proofs.Common.{subst}
 use Rattle.std.specs.Io.KnownBytes.{Appends}
 use Rattle.std.specs.List.{flat_map}
+use Rattle.std.proofs.lemmas.Result.{IfErr-weaker}
 use Rattle.history_bytes.specs.Histories.{history_bytes}
 use Rattle.byte_streams.specs.Writing.{AppendsSome}
-use Rattle.byte_streams.proofs.Faults.{of_each, passed}
+use Rattle.byte_streams.proofs.Faults.{passed}
 use Rattle.cluster_service.specs.HistoriesFiles.{bytes_in, path_of}
 use Rattle.cluster_service.specs.Reporting.{WritesFinding}
 use Rattle.cluster_service.specs.RunFaults.{IsLineFault, IsReportFault}
@@ -51,4 +52,4 @@ returns-in_err-save_histories-clause-fault g c =
 pub returns-clause-fault : goal.returns-clause-fault
 returns-clause-fault g c =
     let file = c.args.file.now in
-    of_each c.write_lines-written.result IsLineFault (IsReportFault file) (line_fault file) c.write_lines-written.ensures.fault
+    IfErr-weaker c.write_lines-written.result IsLineFault (IsReportFault file) (line_fault file) c.write_lines-written.ensures.fault

@@ -1,6 +1,7 @@
 use Rattle.std.proofs.Common.{inl, inr, refl}
 use Rattle.std.specs.Prelude.{option_map}
-use Rattle.byte_streams.proofs.Faults.{of_each, passed}
+use Rattle.std.proofs.lemmas.Result.{IfErr-weaker}
+use Rattle.byte_streams.proofs.Faults.{passed}
 use Rattle.byte_streams.proofs.WritingLemmas.{all_some, nothing_some}
 use Rattle.cluster_service.specs.HistoriesFiles.{bytes_in}
 use Rattle.cluster_service.specs.Lines.{port_lines}
@@ -70,7 +71,7 @@ returns-in_err-left-clause-fault g c =
 pub returns-clause-fault : goal.returns-clause-fault
 returns-clause-fault g c =
     let empty = c.args.file.now in
-    of_each c.report.result (IsReportFault empty)
+    IfErr-weaker c.report.result (IsReportFault empty)
     (EndsServer (port_lines c.args.port (option_map (λ h. h.port) c.args.http)) empty c.report.new.file
     (g.W.Write.contents c.args.writer.now) (g.W.Write.contents c.report.new.writer))
     (λ e is. inl is) c.report.ensures.fault

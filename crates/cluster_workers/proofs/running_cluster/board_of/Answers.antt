@@ -1,8 +1,9 @@
 use Rattle.std.proofs.Common.{◌≡◌, ◌≤◌, ◌∙◌, sym, arith}
 use Rattle.std.proofs.lemmas.Grind.{common_steps}
 use Rattle.std.proofs.lemmas.List.Elements.{All-drop}
+use Rattle.ledger_model.proofs.Lists.{get_take}
 use Rattle.commit_board.specs.Seats.{ReaderSeatView}
-use Rattle.cluster_workers.proofs.SeatsLeft.{all_dealt, all_reading, get_take}
+use Rattle.cluster_workers.proofs.SeatsLeft.{all_dealt, all_reading}
 use Rattle.cluster_workers.proofs.running_cluster.board_of.Goals as goal
 
 pub returns-clause-writers : goal.returns-clause-writers

@@ -10,7 +10,7 @@ use Rattle.cluster_workers.proofs.running_cluster.workers_of.Given as goal
 
 abbrev pub invariant-loop-number : goal.invariant-loop-number
 invariant-loop-number g l = record {
-  workers : l.workers.items ≡ all_workers l.number l.rounds;
+  workers : l.workers.items ≡ all_workers l.number l.version l.rounds;
   seats : into_iter_items l.seats ≡ seats_from (arc_value l.board) l.count l.number;
   enough : l.count ≤ length (into_iter_items l.looking) + l.number;
   looking : All (λ (s : ReaderSeatView). s.board ≡ arc_value l.board) (into_iter_items l.looking);

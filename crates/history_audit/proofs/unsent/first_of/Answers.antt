@@ -1,9 +1,9 @@
 use Rattle.std.proofs.Common.{sym, ap, subst, ◌∙◌}
 use Rattle.std.specs.Prelude.{Some}
 use Rattle.std.proofs.lemmas.Option.{slice_get-get_or}
-use Rattle.ledger_laws.proofs.Ledgers.{get_take}
 use Rattle.history_audit.specs.Searches.{IsLeast}
 use Rattle.ledger_model.specs.Audits.{unsent_in}
+use Rattle.ledger_model.proofs.Lists.{get_take}
 use Rattle.history_audit.proofs.unsent.first_of.Goals as goal
 
 pub returns-in-Some : goal.returns-in-Some

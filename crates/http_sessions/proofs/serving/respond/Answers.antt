@@ -1,4 +1,4 @@
-use Rattle.client_sessions.proofs.Results.{on_error}
+use Rattle.byte_streams.proofs.Faults.{on_error}
 use Rattle.http_sessions.specs.declared.request_end.RequestEnd.TheVariants.{OutOfMemory}
 use Rattle.http_sessions.proofs.serving.respond.Goals as goal
 

@@ -29,5 +29,14 @@ returns-clause-rest g c = c.take_all-taken.ensures.on.same
 pub returns-clause-leaves : goal.returns-clause-leaves
 returns-clause-leaves g c = c.take_all-taken.ensures.on.leaves
 
+pub returns-clause-signed : goal.returns-clause-signed
+returns-clause-signed g c = c.take_all-taken.ensures.signed
+
+pub returns-clause-lost : goal.returns-clause-lost
+returns-clause-lost g c = c.take_all-taken.ensures.lost
+
+pub returns-clause-spared : goal.returns-clause-spared
+returns-clause-spared g c = c.take_all-taken.ensures.spared
+
 pub returns-clause-machine : goal.returns-clause-machine
 returns-clause-machine g c = c.height.ensures.machine

@@ -1,6 +1,6 @@
 use Rattle.std.proofs.Common.{◌+◌, ◌<◌, ◌∷◌, [], length, take, refl, arith}
 use Rattle.std.proofs.lemmas.Option.{slice_get_read}
-use Rattle.simulation.proofs.FirstServing.{next_item}
+use Rattle.ledger_model.proofs.Lists.{take-next}
 use Rattle.simulation.proofs.Indexing.{reports_next}
 use Rattle.simulation.proofs.report_list.add_frames.Goals as goal
 
@@ -12,4 +12,4 @@ loop-index-preserved c =
     let below : i < length frames = omega arith in
     reports_next c.loop-index.reports.items _ (take i frames) (item ∷ []) (take (i + 1) frames)
     c.loop-index.invariant c.in_ok-add_frame.ensures
-    (next_item frames i item (slice_get_read frames _ i item refl below c.index-frames-index.is))
+    (take-next frames i item (slice_get_read frames _ i item refl below c.index-frames-index.is))

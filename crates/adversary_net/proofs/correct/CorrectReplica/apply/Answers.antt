@@ -1,7 +1,8 @@
 use Rattle.std.proofs.Common.{◌≡◌, ◌<◌, ◌++◌, ◌∷◌, [], length, sym, ap, ◌∙◌}
 use Rattle.std.specs.Prelude.{Some, slice_get}
 use Rattle.ledger_model.specs.declared.history.Entry.{Entry}
-use Rattle.adversary_net.proofs.SentPlaces.{sent_by, indexed_after, get_last}
+use Rattle.ledger_model.proofs.Lists.{get_last}
+use Rattle.adversary_net.proofs.SentPlaces.{sent_by, indexed_after}
 use Rattle.adversary_net.proofs.Staying.{stays}
 use Rattle.adversary_net.proofs.correct.CorrectReplica.apply.Goals as goal
 

@@ -1,9 +1,10 @@
 use Rattle.std.proofs.Common.{[], take, sym, subst, rules, arith}
+use Rattle.std.proofs.lemmas.List.{take_all}
 use Rattle.ledger_model.specs.Worlds.{Runs}
 use Rattle.adversary_net.specs.WorldViews.{world_of}
 use Rattle.adversary_net.specs.Leaves.{AreAnswered}
 use Rattle.adversary_net.specs.Steps.{Went}
-use Rattle.adversary_net.proofs.Members.{take_next, take_all}
+use Rattle.adversary_net.proofs.Members.{take_next}
 use Rattle.adversary_net.proofs.UsedLeaves.{uses_none, uses_more, answered_none, answered_more}
 use Rattle.adversary_net.proofs.Running.{run_more, no_steps, same_still, same_as}
 use Rattle.adversary_net.proofs.world.World.run_each.Goals as goal
@@ -51,9 +52,9 @@ pub returns-clause-runs : goal.returns-clause-runs
 returns-clause-runs g c =
     subst (λ steps. Runs c.args.self.now.config c.args.self.now.ring (world_of c.args.self.now) steps c.loop-step.answers.items
     (world_of c.loop-step.self))
-    (take_all c.args.steps.now c.loop-step.step-index c.loop-step-test.false) c.loop-step.invariant.runs
+    (take_all c.loop-step.step-index c.args.steps.now c.loop-step-test.false) c.loop-step.invariant.runs
 
 pub returns-clause-each : goal.returns-clause-each
 returns-clause-each g c =
     subst (λ steps. AreAnswered c.args.self.now steps c.loop-step.answers.items c.loop-step.self)
-    (take_all c.args.steps.now c.loop-step.step-index c.loop-step-test.false) c.loop-step.invariant.each
+    (take_all c.loop-step.step-index c.args.steps.now c.loop-step-test.false) c.loop-step.invariant.each

@@ -1,8 +1,9 @@
 use Rattle.std.proofs.Common.{◌≡◌, ◌+◌, ◌++◌, ◌∷◌, [], true, take, drop, refl, sym, ap, subst, ◌∙◌}
 use Rattle.std.proofs.lemmas.Option.{slice_get_read}
+use Rattle.ledger_model.proofs.Lists.{take-next}
 use Rattle.simulation.specs.Indexes.{frames_at, is_at}
 use Rattle.simulation.specs.Lies.{first_serving}
-use Rattle.simulation.proofs.FirstServing.{among_none, found_here, next_item, none_here}
+use Rattle.simulation.proofs.FirstServing.{among_none, found_here, none_here}
 use Rattle.simulation.proofs.Indexing.{at_kept, at_left, at_whole}
 use Rattle.simulation.proofs.report_list.ReportList.first_serving.Goals as goal
 use Rattle.simulation.proofs.report_list.ReportList.first_serving.Goals.{then-is_at+in_ok-found+else-is_some+in-Some-1, else-is_at}
@@ -21,7 +22,7 @@ returns-then-is_some-clause-found c =
     let item = c.report-item.result in
     let upto : take (i + 1) items ≡ take i items ++ item ∷ [] =
     subst (λ ys. take (i + 1) ys ≡ take i ys ++ item ∷ []) c.deref-report-items.ensures.value
-    (next_item c.deref-report-items.result.now i item
+    (take-next c.deref-report-items.result.now i item
     (slice_get_read c.deref-report-items.result.now _ i item refl c.loop-report-test.true c.report-item.is)) in
     let at : is_at l k r item ≡ true = sym c.is_at.ensures ∙ c.if-is_at.true in
     found_here l k r (frames_at l k r (take i items)) (item.frame ∷ []) (frames_at l k r (drop (i + 1) items)) (frames_at l k r items)
@@ -37,7 +38,7 @@ loop-report-preserved c =
     let item = c.report-item.result in
     let upto : take (i + 1) items ≡ take i items ++ item ∷ [] =
     subst (λ ys. take (i + 1) ys ≡ take i ys ++ item ∷ []) c.deref-report-items.ensures.value
-    (next_item c.deref-report-items.result.now i item
+    (take-next c.deref-report-items.result.now i item
     (slice_get_read c.deref-report-items.result.now _ i item refl c.loop-report-test.true c.report-item.is)) in
     elim c.if-is_at.branch [
       | then-is_at+in_ok-found+else-is_some+in-Some-1 w ↦
