@@ -1,6 +1,6 @@
 -- The histories of a cluster by the numbers of its replicas, and the effect of one more entry.
 use Rattle.std.proofs.Common.{◌≡◌, ℕ, zero, suc, ◌+◌, ◌<◌, ◌≤◌, ◌⊎◌, inl, inr, Bool, true, false, cond, List, [], ◌∷◌, ◌++◌, length, map}
-use Rattle.std.proofs.Common.{take, refl, sym, ap, ◌∙◌, arith}
+use Rattle.std.proofs.Common.{take, refl, sym, ap, ◌∙◌, arith, zero-add}
 use Rattle.std.specs.Prelude.{nat_eq, Option, Some, None, slice_get, slice_set, slice_index_or, option_map, option_and_then}
 use Rattle.std.specs.List.{filter_map}
 use Rattle.std.proofs.lemmas.Bool.{ne_eqb, eq-eqb}
@@ -57,15 +57,12 @@ history_from k (suc j) (party.Liar keys ∷ parties) numbered =
     let there : k + suc j ≡ (k + 1) + j = omega arith in
     ap (history_of (histories parties)) there ∙ history_from (k + 1) j parties (rest_numbered k (party.Liar keys) parties numbered)
 
-from_zero : (j : ℕ) → 0 + j ≡ j
-from_zero j = omega arith
-
 -- a number has the history of the correct replica of that number, if there is one
 pub history_at : (parties : List (Party StateView)) (r : ℕ)
     → ((j : ℕ) (s : StateView) → option_and_then state_in (slice_get parties j) ≡ Some s → s.id ≡ j)
     → history_of (histories parties) r ≡ option_map history_in (option_and_then state_in (slice_get parties r))
 history_at parties r numbered =
-    ap (history_of (histories parties)) (sym (from_zero r)) ∙ history_from 0 r parties (λ j s is. numbered j s is ∙ sym (from_zero j))
+    ap (history_of (histories parties)) (sym (zero-add r)) ∙ history_from 0 r parties (λ j s is. numbered j s is ∙ sym (zero-add j))
 
 -- ---- one replica changes
 
@@ -114,8 +111,8 @@ pub histories_added : (parties : List (Party StateView)) (r : ℕ) (s new : Stat
     → slice_get parties r ≡ Some (party.Correct s) → new.id ≡ s.id → new.entries ≡ s.entries ++ e ∷ []
     → histories (slice_set parties r (party.Correct new)) ≡ map (entry_added r e) (histories parties)
 histories_added parties r s new e numbered at id entries =
-    added_from 0 r parties s new e (λ j s is. numbered j s is ∙ sym (from_zero j)) at id entries
-    ∙ ap (λ k. map (entry_added k e) (histories parties)) (from_zero r)
+    added_from 0 r parties s new e (λ j s is. numbered j s is ∙ sym (zero-add j)) at id entries
+    ∙ ap (λ k. map (entry_added k e) (histories parties)) (zero-add r)
 
 -- the histories where a replica stays as long
 pub histories_same : (parties : List (Party StateView)) (r : ℕ) (s new : StateView) → slice_get parties r ≡ Some (party.Correct s)

@@ -5,7 +5,7 @@ use Rattle.std.proofs.Common.{length, map, filter, refl, sym, ap, subst, ◌∙�
 use Rattle.std.proofs.Common.{append_assoc}
 use Rattle.std.specs.Prelude.{Ok, Err, nat_eq, nat_lt, nat_le, slice_get, Option, Some, None, is_some, IsTrue}
 use Rattle.std.specs.List.{list_any, list_all}
-use Rattle.std.proofs.lemmas.Bool.{and_parts, cases_Bool, eqb-true, eq-eqb, ltb-true, le-leb}
+use Rattle.std.proofs.lemmas.Bool.{and_parts, cases_Bool, eqb-true, eq-eqb, ltb-true, le-leb, not-true}
 use Rattle.std.proofs.lemmas.List.{append-nil}
 use Rattle.std.proofs.lemmas.Option.{same_Some}
 use Rattle.ledger_model.specs.declared.config.Config.{Config}
@@ -26,6 +26,7 @@ use Rattle.ledger_model.specs.Groups.{history_of}
 use Rattle.ledger_model.specs.Audits.{all_differ, are_of_a_quorum, own_sent, lacks, statements_in, accepts, is_unsent, unsent_in, IsUnsent}
 use Rattle.ledger_model.specs.Audits.{IsFirstUnsent, is_not_after}
 use Rattle.ledger_model.proofs.Lists.{has_left, has_right, has_cases, all_has, any_mapped, found_has}
+use Rattle.std.proofs.Math.Bool.{or-false}
 use Rattle.signed_frames.specs.Lending.{SignedPartView, lent_of, own_part, proof_of}
 use Rattle.history_audit.specs.declared.sent_table.SentStatement.{SentStatement}
 use Rattle.history_audit.specs.Tables.{is_sent_in, IsTableOf, has_sent, lacks_part}
@@ -66,12 +67,12 @@ sent_found (x ∷ xs) r bytes m different is =
           let same : x.replica ≡ r = eqb-true x.replica r here in
           let found : history_of (x ∷ xs) r ≡ Some x = ap (λ b. cond b (Some x) (history_of xs r)) here in
           let is_m : x ≡ m = same_Some x m (sym found ∙ is) in
-          let others : list_any (λ y. y == x.replica) (replicas_of xs) ≡ false = not-true (parts.0) in
+          let others : list_any (λ y. y == x.replica) (replicas_of xs) ≡ false = not-true _ (parts.0) in
           let none : is_sent_in xs r bytes ≡ false = none_sends xs r bytes (subst (λ n. list_any (λ y. y == n) (replicas_of xs)
           ≡ false) same others) in
           ap (λ b. (b && is_among (own_sent x.entries) bytes) || is_sent_in xs r bytes) (eq-eqb r x.replica (sym same))
           ∙ ap (λ b. is_among (own_sent x.entries) bytes || b) none
-          ∙ or_false (is_among (own_sent x.entries) bytes)
+          ∙ or-false (is_among (own_sent x.entries) bytes)
           ∙ ap (λ (n : History). is_among (own_sent n.entries) bytes) is_m
       | inr other ↦
           let found : history_of xs r ≡ Some m = sym (ap (λ b. cond b (Some x) (history_of xs r)) other) ∙ is in
@@ -79,14 +80,6 @@ sent_found (x ∷ xs) r bytes m different is =
           ∙ sent_found xs r bytes m (parts.1) found
     ]
   where
-    not-true : {b : Bool} → not b ≡ true → b ≡ false
-    not-true {b = true} e = cc
-    not-true {b = false} e = refl
-
-    or_false : (b : Bool) → (b || false) ≡ b
-    or_false true = refl
-    or_false false = refl
-
     not_same : (a b : ℕ) → nat_eq a b ≡ false → nat_eq b a ≡ false
     not_same a b other = elim (cases_Bool (nat_eq b a)) [
       | inl is ↦ let e : nat_eq a b ≡ true = eq-eqb a b (sym (eqb-true b a is)) in cc

@@ -23,6 +23,7 @@ use Rattle.ledger_model.specs.declared.reply.Reply.TheVariants as reply
 use Rattle.ledger_model.specs.declared.reply.Sent.{Sent}
 use Rattle.ledger_model.specs.declared.statement.Statement.{Statement}
 use Rattle.ledger_model.specs.declared.statement.SignedStatement.{SignedStatement}
+use Rattle.std.proofs.Math.Bool.{or-false}
 use Rattle.history_audit.specs.declared.sent_table.SentStatement.{SentStatement}
 use Rattle.history_audit.specs.Tables.{sent_of, same_sent, has_sent, Gains, bytes_of, statements_of}
 
@@ -68,16 +69,12 @@ gains_one table r statement q bytes =
             let has : has_sent table q bytes ≡ true = ap (λ s. list_any (same_sent s) table) is ∙ there in
             has ∙ sym (ap (λ b. b || (nat_eq q r && is_among (statement ∷ []) bytes)) has)
         | inr other ↦ sym (ap (λ b. has_sent table q bytes || b) (no_more (nat_eq q r) (same_bytes bytes statement) other)
-            ∙ or_false (has_sent table q bytes))
+            ∙ or-false (has_sent table q bytes))
       ])
       | inr new ↦ simp new (list_any-append (same_sent (sent_of q bytes)) table (sent_of r statement ∷ [])
           ∙ ap (λ b. has_sent table q bytes || b) (one (nat_eq q r) (same_bytes bytes statement)))
     ]
   where
-    or_false : (b : Bool) → (b || false) ≡ b
-    or_false true = refl
-    or_false false = refl
-
     no_more : (e b : Bool) → (e && b) ≡ false → (e && (b || false)) ≡ false
     no_more true true none = none
     no_more true false none = refl

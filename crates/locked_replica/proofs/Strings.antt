@@ -11,6 +11,7 @@ use Rattle.std.proofs.lemmas.Option.{get_or_from_slice_get, slice_get_within}
 use Rattle.ledger_model.specs.Applications.{same_bytes}
 use Rattle.ledger_model.specs.Pools.{is_among}
 use Rattle.ledger_model.specs.declared.history.Entry.{Entry}
+use Rattle.std.proofs.Math.Bool.{or-false}
 use Rattle.history_parts.proofs.Found.{bytes_equal}
 use Rattle.locked_replica.specs.Strings.{with_string, with_strings, strings_in, strings_of, all_strings, string_at, Extends, HaveSame}
 
@@ -79,23 +80,15 @@ among_with strings s x =
         | inl same ↦
             let has : is_among strings x ≡ true = ap (is_among strings) (bytes_equal x s same) ∙ there in
             has ∙ sym (ap (λ b. b || same_bytes x s) has)
-        | inr other ↦ sym (ap (λ b. is_among strings x || b) other ∙ or_false (is_among strings x))
+        | inr other ↦ sym (ap (λ b. is_among strings x || b) other ∙ or-false (is_among strings x))
       ])
       | inr new ↦ simp new (list_any-append (same_bytes x) strings (s ∷ [])
-          ∙ ap (λ b. is_among strings x || b) (or_false (same_bytes x s)))
+          ∙ ap (λ b. is_among strings x || b) (or-false (same_bytes x s)))
     ]
-  where
-    or_false : (b : Bool) → (b || false) ≡ b
-    or_false true = refl
-    or_false false = refl
 
 -- with more, it has those and what it had
 among_all : (strings ss : List (List ℕ)) (x : List ℕ) → is_among (with_strings strings ss) x ≡ (is_among strings x || is_among ss x)
-among_all strings [] x = sym (or_false (is_among strings x))
-  where
-    or_false : (b : Bool) → (b || false) ≡ b
-    or_false true = refl
-    or_false false = refl
+among_all strings [] x = sym (or-false (is_among strings x))
 among_all strings (s ∷ ss) x =
     among_all (with_string strings s) ss x ∙ ap (λ b. b || is_among ss x) (among_with strings s x)
     ∙ regroup (is_among strings x) (same_bytes x s) (is_among ss x)

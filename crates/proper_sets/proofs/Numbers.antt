@@ -5,7 +5,7 @@ use Rattle.std.specs.Prelude.{◌==◌, Option, Some, None, filter}
 use Rattle.std.specs.List.{list_any, list_all, filter_map, flat_map, cons_option}
 use Rattle.std.specs.Cmp.{both_ways}
 use Rattle.std.specs.Option.{option_map_or}
-use Rattle.std.proofs.lemmas.Bool.{cases_Bool, and_parts, and_from, false≢true}
+use Rattle.std.proofs.lemmas.Bool.{cases_Bool, and_parts, and_from, false≢true, not-true}
 use Rattle.std.proofs.lemmas.List.Elements.{filter_map-append}
 use Rattle.std.proofs.lemmas.List.Folds.{list_any-append}
 use Rattle.ledger_model.specs.declared.config.Config.{Config}
@@ -29,10 +29,6 @@ use Rattle.proper_sets.specs.Numbers.{if_of_other, of_other, if_named, named, is
 use Rattle.proper_sets.specs.Propriety.{is_named_by, named_values}
 use Rattle.proper_sets.specs.Puts.{with_values}
 use Rattle.proper_sets.proofs.Orders.{ascending_same, with_values-append, with_values-ascending}
-
-not_true : (b : Bool) → not b ≡ true → b ≡ false
-not_true true e = absurd (false≢true e)
-not_true false e = refl
 
 module _ (places : Places SignedReport) (values : List ReportedValue) (h : AreValuesOf places values) (id : ℕ) where
   -- another's report passes the test
@@ -145,7 +141,7 @@ module _ (places : Places SignedReport) (values : List ReportedValue) (h : AreVa
       let e = filter_map_has (named config id places) values v has in
       let parts = named_parts config v (of_other id lists_proper places e.0) e.1.1 in
       let s = of_other_from lists_proper e.0 v parts.0 in
-      let other : (s.0.report.signer == id) ≡ false = not_true (s.0.report.signer == id) s.1.1.0 in
+      let other : (s.0.report.signer == id) ≡ false = not-true (s.0.report.signer == id) s.1.1.0 in
       let listed : Has (listed_by_other id s.0.report) v = rw other (among s.0.report.proper v s.1.1.1) in
       has_filter (is_named_by config id (reports_of (all_read places))) (flat_map (listed_by_other id) (reports_of (all_read places))) v
       (has_flat_map (listed_by_other id) (reports_of (all_read places)) s.0.report v

@@ -6,6 +6,7 @@ use Rattle.std.specs.Str.{bytes_eq}
 use Rattle.std.proofs.lemmas.Slice.Eq.{bytes_eq-Decides}
 use Rattle.ledger_model.specs.declared.version.Version.{Version}
 use Rattle.ledger_model.specs.declared.version.Version.TheVariants as version
+use Rattle.std.proofs.Math.Bool.{or-false}
 use Rattle.lm_ots.specs.declared.params.Params.{Params}
 use Rattle.plain_text.specs.Numbers.{number_text}
 use Rattle.scenario_texts.specs.Plans.{Plan}
@@ -166,11 +167,7 @@ plan_sets p =
       front,
       no_liars p.liars,
       no_commands p.commands,
-    ) (or_false _ ∙ or_false _)
-  where
-    or_false : (t : Bool) → (t || false) ≡ t
-    or_false true = refl
-    or_false false = refl
+    ) (or-false _ ∙ or-false _)
 
 -- the most bytes of a line after these lines, by the plan that they show
 pub limit_is : (s : Option Plan) (lines : List (List ℕ)) → Shows s (counted lines) → line_limit lines ≡ limit_after s

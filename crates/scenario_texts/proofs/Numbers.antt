@@ -2,15 +2,11 @@
 use Rattle.std.proofs.Common.{◌≡◌, ◌∙◌, ℕ, ◌<◌, ◌^◌, Bool, true, false, cond, List, refl, sym, ap, arith}
 use Rattle.std.specs.Prelude.{nat_lt, not, ◌&&◌, Option, Some, None, IfSome}
 use Rattle.std.specs.Str.Parse.{digits_value}
-use Rattle.std.proofs.lemmas.Bool.{and_parts, ltb-true}
+use Rattle.std.proofs.lemmas.Bool.{and_parts, ltb-true, not-true}
 use Rattle.std.proofs.lemmas.Bool.Decides.{nat_tests}
 use Rattle.plain_text.specs.Numbers.{is_decimal, has_needless_zero, number_text}
 use Rattle.plain_text.proofs.NumberLemmas.{number_text_of, number_text-bare, is_decimal-number_text, digits_value-number_text}
 use Rattle.scenario_texts.specs.Reading.{number_of}
-
-not_true : (b : Bool) → not b ≡ true → b ≡ false
-not_true true h = absurd cc
-not_true false h = refl
 
 -- a number is read
 pub number_of-again : (n : ℕ) → n < 2 ^ 32 → number_of (number_text n) ≡ Some n
@@ -36,7 +32,7 @@ number_of-sound word n e = by_test (is_decimal word && not (has_needless_zero wo
         let value : digits_value 10 word ≡ n = cc in
         let fits : digits_value 10 word < 2 ^ 32 = ltb-true (digits_value 10 word) (2 ^ 32) tests.1 in
         let small : n < 2 ^ 32 = omega (arith, fits) in
-        (number_text_of word n (not_true (has_needless_zero word) words.1) words.0 value small, small)
+        (number_text_of word n (not-true (has_needless_zero word) words.1) words.0 value small, small)
     by_test false is e = absurd cc
 
 -- a reader of numbers reads them as this one does

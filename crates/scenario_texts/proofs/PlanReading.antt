@@ -2,7 +2,7 @@
 use Rattle.std.proofs.Common.{◌≡◌, ◌∙◌, ℕ, ◌+◌, ◌*◌, ◌<◌, Bool, true, false, cond, List, [], ◌∷◌, ◌++◌, length, refl, sym, ap, arith}
 use Rattle.std.specs.Prelude.{◌==◌, nat_lt, nat_le, not, ◌&&◌, codes, Option, Some, None, is_some, option_and_then}
 use Rattle.std.specs.List.{list_any, IsDistinct}
-use Rattle.std.proofs.lemmas.Bool.{and_parts, leb-true, ltb-true, eqb-true}
+use Rattle.std.proofs.lemmas.Bool.{and_parts, leb-true, ltb-true, eqb-true, not-true}
 use Rattle.std.proofs.lemmas.Bool.Decides.{nat_tests}
 use Rattle.std.proofs.lemmas.Slice.Eq.{bytes_eq-Decides}
 use Rattle.std.specs.Str.{bytes_eq}
@@ -49,10 +49,6 @@ none_left : {A : Type 0} (xs : List A) → (length xs == 0) ≡ true → xs ≡ 
 none_left [] e = refl
 none_left (x ∷ xs) e = absurd (omega (arith, eqb-true (length (x ∷ xs)) 0 e))
 
-not_true : (b : Bool) → not b ≡ true → b ≡ false
-not_true true h = absurd cc
-not_true false h = refl
-
 is_new_liar-sound : (p : Plan) (n : ℕ) → is_new_liar p n ≡ true → MayLie p n
 unfolding is_new_liar
 is_new_liar-sound p n e =
@@ -64,7 +60,7 @@ is_new_liar-sound p n e =
       no_steps = none_left p.commands c.0;
       few = ltb-true (length p.liars) p.faults c.1;
       within = ltb-true n p.replicas b.1;
-      fresh = not_true (list_any (λ liar. liar == n) p.liars) a.1;
+      fresh = not-true (list_any (λ liar. liar == n) p.liars) a.1;
     }
 
 -- an application
