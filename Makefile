@@ -2,8 +2,8 @@
 # prove: proves the crates below the program, and the program, and builds it: crates/abft/out/abft. First the three crates that
 #       depend on no other, since most wait for the largest of them; then those above in parallel, each on one processor. A line
 #       for each as it is proved. CPU=x86-64-v3 builds it for processors with AVX2; on any other it ends at once with status 127.
-# test: the merge gate (every proof from nothing, the must-fail edits, the tests), then the built program in real pipes,
-#       and the file lines that the documents name.
+# test: the merge gate (every proof from nothing, the edits in must-fail, the tests), then the built program in real pipes, whether
+#       the other edits apply, and the file lines that the documents name.
 # bench: proves and builds the benchmark, and prints what keys and signatures cost on this machine.
 # bench-v3: the same, of a program for processors with AVX2 (x86-64-v3), which the gate doesn't build; on any other the program
 #       ends at once with status 127.

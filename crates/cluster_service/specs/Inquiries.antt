@@ -32,7 +32,7 @@ pub record IsShown (m : ReplicaMetrics) : Type 0 where
   pub accepted : m.frames.accepted ≡ accepted_in state.entries
   pub ignored : (cause : Ignored) → ignored_for m.frames cause ≡ ignored_in cause state.entries
 
--- a replica with a lawful history had ended this number of rounds, and committed this height
+-- the open round of a replica with a lawful history, and the height that it had committed
 pub record IsProgress (progress : Progress) : Type 0 where
   pub state : StateView
   pub replay : Replay state.config state.ring state.id state.entries

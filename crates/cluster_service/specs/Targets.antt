@@ -25,8 +25,8 @@ pub record IsSubmitted (tx : List ℕ) (answer : Result ℕ SubmitRefusal) : Typ
   pub receipt : IsReceipt new.entries tx answer
   pub unsigned : new.used ≡ old.used
 
--- a replica took the query: its history grew by that event and no other, and the answer is its application's, as of the last block;
--- a key that is too long has no value, and is no event
+-- a replica took the query: its history grew by that event and no other, it used no signature, and the answer is its application's, as
+-- of the last block; a key that is too long has no value, and is no event
 pub record IsQueried (key : List ℕ) (answer : QueryAnswer) : Type 0 where
   pub old : StateView
   pub new : StateView

@@ -1,7 +1,7 @@
 //! How a running cluster stands, for its operator: on a terminal by one line that is written over and over, else by a line for
 //! each thing that happens. A thread of its own writes these lines, and the fault that ended the cluster; nobody waits for it for long.
-ghost use Rattle.std.specs.Prelude.{IfErr};
-ghost use Rattle.cluster_service.specs.RunFaults.{IsRunFault};
+ghost use Rattle.std.specs.Prelude.{◌≡◌, ◌⊎◌, IfErr};
+ghost use Rattle.program_streams.specs.declared.program_fault.ProgramFault.TheVariants.{NoMemory, NoThread};
 
 use crate::cluster_status::{FIRST_NOTICES, unknown};
 use crate::notice::Notice;
@@ -238,7 +238,7 @@ pub fn start_reporter<R, P>(
 where
     R: Copy + Send + Threads + Wait + 'static,
     P: Write + Drop + Send + 'static,
-    ensures { IfErr result IsRunFault }
+    ensures { IfErr result (λ fault. (fault ≡ NoMemory) ⊎ (fault ≡ NoThread)) }
 {
     let replicas = settings.cluster.config.replicas;
     let watcher = watcher.for_level(settings.log);

@@ -55,7 +55,7 @@ impl<W: Write> Model for HistoriesFile<W> {
 }
 
 impl<W: Write> HistoriesFile<W> {
-    ghost use Rattle.std.specs.Prelude.{◌≡◌, IfErr, OnOk, Some};
+    ghost use Rattle.std.specs.Prelude.{◌≡◌, [], IfErr, OnErr, OnOk, Some};
     ghost use Rattle.std.specs.List.{flat_map};
     ghost use Rattle.history_bytes.specs.Histories.{history_bytes};
     ghost use Rattle.byte_streams.specs.Writing.{Writes};
@@ -67,6 +67,7 @@ impl<W: Write> HistoriesFile<W> {
         ensures written { Writes result self.old.bytes self.new.bytes (flat_map history_bytes histories.now) }
         ensures fault { IfErr result (IsSaveFault (Some self.old.path)) }
         ensures path { OnOk result (self.new.path ≡ self.old.path) }
+        ensures taken { OnErr result (self.new.path ≡ []) }
     {
         match write_histories(alloc, histories, &mut self.file) {
             Ok(()) => Ok(()),

@@ -1,10 +1,13 @@
 //! Takes the turns of a worker, publishes its replica's height, and reads which heights all replicas committed.
-ghost use Rattle.std.specs.Prelude.{◌≡◌, ◌≤◌, ◌+◌, max, length, MatchOption};
+ghost use Rattle.std.specs.Prelude.{◌≡◌, ◌≤◌, ◌+◌, ◌↔◌, ⊤, None, max, length, MatchOption};
 ghost use Rattle.std.specs.Arc.{arc_value};
 ghost use Rattle.ledger_model.specs.Lawful.{clock_at};
 ghost use Rattle.ledger_model.specs.Limits.{max_history_len};
 ghost use Rattle.commit_board.specs.Seats.{IsLeastRead};
-ghost use Rattle.replica_turns.specs.Turns.{Takes, TakesSome, height_in};
+ghost use Rattle.key_ring.specs.Signers.{leaves_of};
+ghost use Rattle.ledger_model.specs.Logs.{is_mute};
+ghost use Rattle.locked_replica.specs.States.{UsesAsSigned};
+ghost use Rattle.replica_turns.specs.Turns.{Takes, TakesSome, LosesAtMostDue, height_in};
 ghost use Rattle.cluster_workers.specs.Looks.{IsNextByBoard};
 
 use abci::Application;
@@ -93,10 +96,14 @@ impl TurnTaker {
             (λ _. TakesSome state.old.entries events.items state.new.entries) }
         ensures other { (state.old.id ≡ self.old.seat.replica → ⊥) → state.new ≡ state.old }
         ensures grows { length state.old.entries ≤ length state.new.entries }
-        // The replica's committed height is published, and nothing else.
+        ensures full { state.old.id ≡ self.old.seat.replica → MatchOption result ⊤
+            (λ fault. (fault ≡ ApplyFault.HistoryFull) ↔ (max_history_len ≤ length state.new.entries)) }
+        ensures signed { state.old.id ≡ self.old.seat.replica → MatchOption result (UsesAsSigned state.old state.new)
+            (λ _. LosesAtMostDue state.old state.new) }
+        // The replica's committed height is published.
         ensures seat { state.old.id ≡ self.old.seat.replica
             → self.new.seat ≡ record self.old.seat { height = max self.old.seat.height (height_in state.new) } }
-        ensures idle { (state.old.id ≡ self.old.seat.replica → ⊥) → self.new.seat ≡ self.old.seat }
+        ensures idle { (state.old.id ≡ self.old.seat.replica → ⊥) → (self.new.seat ≡ self.old.seat) × (result ≡ None) }
     {
         if state.id() != self.seat.replica() {
             return None;
@@ -120,12 +127,19 @@ impl TurnTaker {
         ensures events { state.old.id ≡ self.old.seat.replica → MatchOption result.fault (Takes state.old.entries events.items state.new.entries)
             (λ _. TakesSome state.old.entries events.items state.new.entries) }
         ensures other { (state.old.id ≡ self.old.seat.replica → ⊥) → state.new ≡ state.old }
-        // The replica's committed height is published, and nothing else.
+        ensures full { state.old.id ≡ self.old.seat.replica → MatchOption result.fault ⊤
+            (λ fault. (fault ≡ ApplyFault.HistoryFull) ↔ (max_history_len ≤ length state.new.entries)) }
+        ensures signed { state.old.id ≡ self.old.seat.replica → MatchOption result.fault (UsesAsSigned state.old state.new)
+            (λ _. LosesAtMostDue state.old state.new) }
+        // The replica's committed height is published.
         ensures seat { state.old.id ≡ self.old.seat.replica
             → self.new.seat ≡ record self.old.seat { height = max self.old.seat.height (height_in state.new) } }
-        ensures idle { (state.old.id ≡ self.old.seat.replica → ⊥) → self.new.seat ≡ self.old.seat }
+        ensures idle { (state.old.id ≡ self.old.seat.replica → ⊥) → (self.new.seat ≡ self.old.seat) × (result.fault ≡ None) }
         ensures height { result.status.height ≡ height_in state.new }
         ensures rounds { result.status.rounds ≡ clock_at state.new.entries }
+        ensures entries { result.status.entries ≡ length state.new.entries }
+        ensures signatures { state.new.used + result.status.signatures ≡ leaves_of state.new.secret }
+        ensures mute { result.status.is_mute ≡ is_mute state.new.entries }
     {
         let first = state.len();
         let count = events.len();

@@ -108,7 +108,8 @@ submit_takes n bytes r rest fits e =
     (λ x. refl) (λ x i. i) bytes r rest fits f)
     (λ other f.
     let a = bind_some found (λ x. Some (x, bytes)) (r, rest) f in
-    let number : submit_refusal_number a.0 ≡ n = eqb-true _ _ ((found_has (λ x. eqb (submit_refusal_number x) n) pool_refusals a.0 a.1).1) in
+    let number : submit_refusal_number a.0 ≡ n =
+    eqb-true _ _ ((found_has (λ x. eqb (submit_refusal_number x) n) pool_refusals a.0 a.1).1) in
     let plainly = no_code a.0 n bytes number other in
     let made : SubmitRefusal × List ℕ = (a.0, bytes) in
     subst (λ (p : SubmitRefusal × List ℕ). (bytes ≡ code_bytes p.0 ++ p.1) × IsRefusal p.0 × IsBytes p.1 × (submit_refusal_number p.0 ≡ n))

@@ -60,8 +60,8 @@ lock_was_read v c (Retired f) s is = cc
 held_was_read : (log : List Note) (s : SignedStatement) → Has (held_locks log) s → (d : ℕ) × Has log (Read d s)
 unfolding held_locks
 held_was_read log s has =
-    let by_value = filter_map_has (λ v. first_some (filter_map (lock_read v (round_at lock_place (phase_taken log v))) log)) (held_values log)
-    s has in
+    let by_value = filter_map_has (λ v. first_some (filter_map (lock_read v (round_at lock_place (phase_taken log v))) log))
+    (held_values log) s has in
     let v = by_value.0 in
     let by_note = filter_map_has (lock_read v (round_at lock_place (phase_taken log v))) log s
     (first_has (filter_map (lock_read v (round_at lock_place (phase_taken log v))) log) s (by_value.1.1)) in

@@ -122,7 +122,7 @@ fn write_fault<W: Write, F: Write>(
     }
 }
 
-/// Writes why the words of the command line could not be read, and returns the exit status.
+/// Writes why the words of the command line could not be read, and returns the exit status. No clause says what is written.
 pub fn refuse_words<F: Write>(alloc: Global, error: io::Error, faults: &mut F) -> u8
     ensures usage { error_kind error ≡ ErrorKind.InvalidData → result ≡ 2 }
     ensures stopped { (error_kind error ≡ ErrorKind.InvalidData → ⊥) → result ≡ 3 }

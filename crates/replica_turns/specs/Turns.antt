@@ -31,7 +31,8 @@ pub record GoesOn (old new : StateView) : Type 0 where
 -- Each of its own statements that was added to its history used one leaf. Besides, at most as many leaves were used as the next round
 -- end has statements to sign.
 abbrev pub LosesAtMostDue : StateView → StateView → Type 0
-LosesAtMostDue old new = new.used + signed_by old.entries ≤ old.used + signed_by new.entries + due_next new
+LosesAtMostDue old new = (old.used + signed_by new.entries ≤ new.used + signed_by old.entries)
+    × (new.used + signed_by old.entries ≤ old.used + signed_by new.entries + due_next new)
 
 -- the committed height of a replica
 abbrev pub height_in : StateView → ℕ

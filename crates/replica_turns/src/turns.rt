@@ -56,7 +56,7 @@ pub fn turn<A: Application>(
     ensures leaves { state.old.used ≤ state.new.used }
     // Each statement of its own that was added used one leaf, and nothing else did.
     ensures signed { OnOk result (UsesAsSigned state.old state.new) }
-    // The refused event used at most as many as it had statements to sign.
+    // After a fault at most as many more were used as the next round end has statements to sign.
     ensures lost { OnErr result (LosesAtMostDue state.old state.new) }
     ensures spared { IsErrOf result ApplyFault.HistoryFull → UsesAsSigned state.old state.new }
     // The application is in the state that it reaches when it runs alone on the committed blocks.

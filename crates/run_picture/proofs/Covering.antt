@@ -157,40 +157,40 @@ module _ (config : Config) (ring : Ring) (id : ℕ) (front : List Entry) (next :
     ∷ flat_map (made_notes (log_of config id h front) (clock_of (log_of config id h front) + 1))
     (statements_made config id h (log_of config id h front) (clock_of (log_of config id h front) + 1) ended))) where
   -- a note of the new log is an old one, or of what is made as the round opens
-  abbrev Made : ℕ → List SignedStatement
-  Made h = statements_made config id h (log_of config id h front) (clock_of (log_of config id h front) + 1) ended
+  abbrev EndsWith : ℕ → List SignedStatement
+  EndsWith h = statements_made config id h (log_of config id h front) (clock_of (log_of config id h front) + 1) ended
 
   made_cases_of : (h d : ℕ) (u : Statement) → Has (next h) (OwnStatement d u)
       → (Has (log_of config id h front) (OwnStatement d u) × (d ≤ p.clock))
-      ⊎ ((d ≡ p.clock + 1) × Has (map (λ (s : SignedStatement). s.statement) (Made h)) u)
+      ⊎ ((d ≡ p.clock + 1) × Has (map (λ (s : SignedStatement). s.statement) (EndsWith h)) u)
   made_cases_of h d u has =
       let clock : clock_of (log_of config id h front) ≡ p.clock = knows.clock h in
       elim (has_cases (log_of config id h front) (Round (clock_of (log_of config id h front) + 1)
-      ∷ flat_map (made_notes (log_of config id h front) (clock_of (log_of config id h front) + 1)) (Made h)) (OwnStatement d u)
+      ∷ flat_map (made_notes (log_of config id h front) (clock_of (log_of config id h front) + 1)) (EndsWith h)) (OwnStatement d u)
       (subst (λ log. Has log (OwnStatement d u)) (grows h) has)) [
         | inl old ↦ inl (old, subst (λ c. d ≤ c) clock ((good h).made_past d u old))
         | inr new ↦ elim new [
           | inl e ↦ absurd (cc)
           | inr y ↦
-              let r = note_made (clock_of (log_of config id h front) + 1) (Made h) d u
-              (made_note (log_of config id h front) (clock_of (log_of config id h front) + 1) (Made h) (OwnStatement d u) y) in
+              let r = note_made (clock_of (log_of config id h front) + 1) (EndsWith h) d u
+              (made_note (log_of config id h front) (clock_of (log_of config id h front) + 1) (EndsWith h) (OwnStatement d u) y) in
               inr (r.0 ∙ ap (λ c. c + 1) clock, r.1)
         ]
       ]
 
   read_cases_of : (h d : ℕ) (s : SignedStatement) → Has (next h) (Read d s)
-      → (Has (log_of config id h front) (Read d s) × (d ≤ p.clock)) ⊎ ((d ≡ p.clock + 1) × Has (Made h) s)
+      → (Has (log_of config id h front) (Read d s) × (d ≤ p.clock)) ⊎ ((d ≡ p.clock + 1) × Has (EndsWith h) s)
   read_cases_of h d s has =
       let clock : clock_of (log_of config id h front) ≡ p.clock = knows.clock h in
       elim (has_cases (log_of config id h front) (Round (clock_of (log_of config id h front) + 1)
-      ∷ flat_map (made_notes (log_of config id h front) (clock_of (log_of config id h front) + 1)) (Made h)) (Read d s)
+      ∷ flat_map (made_notes (log_of config id h front) (clock_of (log_of config id h front) + 1)) (EndsWith h)) (Read d s)
       (subst (λ log. Has log (Read d s)) (grows h) has)) [
         | inl old ↦ inl (old, subst (λ c. d ≤ c) clock ((good h).past d s old))
         | inr new ↦ elim new [
           | inl e ↦ absurd (cc)
           | inr y ↦
-              let r = note_read (clock_of (log_of config id h front) + 1) (Made h) d s
-              (made_note (log_of config id h front) (clock_of (log_of config id h front) + 1) (Made h) (Read d s) y) in
+              let r = note_read (clock_of (log_of config id h front) + 1) (EndsWith h) d s
+              (made_note (log_of config id h front) (clock_of (log_of config id h front) + 1) (EndsWith h) (Read d s) y) in
               inr (r.0 ∙ ap (λ c. c + 1) clock, r.1)
         ]
       ]
@@ -201,7 +201,7 @@ module _ (config : Config) (ring : Ring) (id : ℕ) (front : List Entry) (next :
   made_lock h l place has = elim (made_cases_of h (round_at lock_place (phase_of (p.clock + 1))) (statement.Lock l) has) [
     | inl old ↦ absurd (omega (arith, place, old.1))
     | inr new ↦
-        let found = has_map (λ (s : SignedStatement). s.statement) (Made h) (statement.Lock l) new.1 in
+        let found = has_map (λ (s : SignedStatement). s.statement) (EndsWith h) (statement.Lock l) new.1 in
         sent_lock ended h found.0 l
         (made_is_sent config id h (log_of config id h front) (clock_of (log_of config id h front) + 1) ended found.0
         (ap (λ c. place_of (c + 1)) (knows.clock h) ∙ place) found.1.0) found.1.1
@@ -230,26 +230,26 @@ module _ (config : Config) (ring : Ring) (id : ℕ) (front : List Entry) (next :
     | inl old ↦ absurd (omega (arith, old.1))
     | inr new ↦
         let log : List Note = log_of config id h front in
-        let made : List Statement = map (λ (x : SignedStatement). x.statement) (Made h) in
-        let there = subst (λ x. Has (map (λ (y : SignedStatement). y.statement) (Made h)) x) is
-        (map_has (λ (y : SignedStatement). y.statement) (Made h) s new.1) in
+        let made : List Statement = map (λ (x : SignedStatement). x.statement) (EndsWith h) in
+        let there = subst (λ x. Has (map (λ (y : SignedStatement). y.statement) (EndsWith h)) x) is
+        (map_has (λ (y : SignedStatement). y.statement) (EndsWith h) s new.1) in
         let by = made_cases config id h (log_of config id h front) (clock_of (log_of config id h front) + 1) ended.mute
-        (map (λ (y : SignedStatement). y.statement) (Made h)) (lawful.makes h) in
+        (map (λ (y : SignedStatement). y.statement) (EndsWith h)) (lawful.makes h) in
         let told = ack_made config id h (log_of config id h front) (clock_of (log_of config id h front) + 1)
-        (map (λ (y : SignedStatement). y.statement) (Made h)) a by there in
+        (map (λ (y : SignedStatement). y.statement) (EndsWith h)) a by there in
         let phase : a.phase ≡ phase_of (p.clock + 1) = of_phase (clock_of (log_of config id h front)) a.phase
         (knows.clock h) place told.0 in
         let taken = (found_has (λ w. took (log_of config id h front) w a.phase)
         (filter_map value_read (log_of config id h front)) a.value told.1).1 in
         let began = began_of (may_cases ended.mute (open_of (log_of config id h front))
-        (map (λ (y : SignedStatement). y.statement) (Made h))
+        (map (λ (y : SignedStatement). y.statement) (EndsWith h))
         (λ own. MayMakeOpen config id h (log_of config id h front) (clock_of (log_of config id h front) + 1) own
-        (map (λ (y : SignedStatement). y.statement) (Made h)))
+        (map (λ (y : SignedStatement). y.statement) (EndsWith h)))
         (lawful.makes h)) there in
         record {
-          loud = loud_of ended.mute (map (λ (y : SignedStatement). y.statement) (Made h)) _ (lawful.makes h) there;
+          loud = loud_of ended.mute (map (λ (y : SignedStatement). y.statement) (EndsWith h)) _ (lawful.makes h) there;
           signer = ack_signer config id h (log_of config id h front) (clock_of (log_of config id h front) + 1)
-              (map (λ (y : SignedStatement). y.statement) (Made h)) a by there;
+              (map (λ (y : SignedStatement). y.statement) (EndsWith h)) a by there;
           phase = phase;
           taken = ap (λ l. took l a.value (phase_of (p.clock + 1))) (grows h)
               ∙ any_more _ (log_of config id h front) _ (subst (λ k. took (log_of config id h front) a.value k ≡ true) phase taken);
@@ -265,11 +265,11 @@ module _ (config : Config) (ring : Ring) (id : ℕ) (front : List Entry) (next :
       loud_of true made P may has = absurd (has_none made (statement.Ack a) may has)
       loud_of false made P may has = refl
 
-      began_of : {F : Value → Type 0} → (map (λ (y : SignedStatement). y.statement) (Made h) ≡ [])
+      began_of : {F : Value → Type 0} → (map (λ (y : SignedStatement). y.statement) (EndsWith h) ≡ [])
           ⊎ ((own : Value) × ((open_of (log_of config id h front) ≡ Some own) × F own))
-          → Has (map (λ (y : SignedStatement). y.statement) (Made h)) (statement.Ack a)
+          → Has (map (λ (y : SignedStatement). y.statement) (EndsWith h)) (statement.Ack a)
           → (own : Value) × (initial_of (log_of config id h front) ≡ Some own)
-      began_of (inl none) has = absurd (has_none (map (λ (y : SignedStatement). y.statement) (Made h)) (statement.Ack a) none has)
+      began_of (inl none) has = absurd (has_none (map (λ (y : SignedStatement). y.statement) (EndsWith h)) (statement.Ack a) none has)
       began_of (inr some) has = (some.0, (open_value (log_of config id h front) some.0 some.1.0).1)
 
   covers_next : Covers config id next (after_round p ended agreed)

@@ -69,7 +69,8 @@ holds_now : (config : Config) (id h : ℕ) (log : List Note) (v : Value) → Goo
     → took log v (phase_of (clock_of log)) ≡ true → holds log v ≡ true
 unfolding holds
 holds_now config id h log v good place taken =
-    ap (λ n. nat_lt 0 n && not (list_any (releases v n) log)) (last_taken-now log v (phase_of (clock_of log)) (some (clock_of log) place) taken)
+    ap (λ n. nat_lt 0 n && not (list_any (releases v n) log))
+    (last_taken-now log v (phase_of (clock_of log)) (some (clock_of log) place) taken)
     ∙ and_from (nat_lt 0 (phase_of (clock_of log))) (not (list_any (releases v (phase_of (clock_of log))) log))
     (is_some_phase (phase_of (clock_of log)) (some (clock_of log) place))
     (kept (list_any (releases v (phase_of (clock_of log))) log) refl)

@@ -47,7 +47,7 @@ lock_note v c (OwnStatement d u) s is = absurd (cc)
 lock_note v c (Retired f) s is = absurd (cc)
 
 -- what a held lock shows
-pub record Held (log : List Note) (s : SignedStatement) (l : Lock) : Type 0 where
+pub record HeldSince (log : List Note) (s : SignedStatement) (l : Lock) : Type 0 where
   pub phase : ℕ
   pub some : 1 ≤ phase
   pub read : Has log (Read (round_at lock_place phase) s)
@@ -55,7 +55,8 @@ pub record Held (log : List Note) (s : SignedStatement) (l : Lock) : Type 0 wher
 some_phase : (k : ℕ) → nat_lt 0 k ≡ true → 1 ≤ k
 some_phase k h = grind (arith)
 
-pub held_tells : (log : List Note) (s : SignedStatement) (l : Lock) → Has (held_locks log) s → s.statement ≡ statement.Lock l → Held log s l
+pub held_tells : (log : List Note) (s : SignedStatement) (l : Lock) → Has (held_locks log) s → s.statement ≡ statement.Lock l
+    → HeldSince log s l
 unfolding held_locks held_values holds
 held_tells log s l has is =
     let by_value = filter_map_has (λ v. first_some (filter_map (lock_read v (round_at lock_place (phase_taken log v))) log))

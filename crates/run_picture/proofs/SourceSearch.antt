@@ -119,7 +119,8 @@ module _ (sent : List SentFrame) (strings : List (List ℕ)) (numbers : List ℕ
       let one = rounds_to sent d r h in
       let parts = and_parts (same_bytes one.1.0.bytes d.bytes) (goes_to one.1.0.addressee one.1.0.at.replica d.at.replica) one.1.2 in
       let same : d.bytes ≡ one.1.0.bytes = sym (bytes_equal one.1.0.bytes d.bytes parts.0) in
-      let known = any_passes_from_place (same_bytes d.bytes) strings (get_or numbers one.0 0) one.1.0.bytes (numbering.bytes_at one.0 one.1.0 one.1.1)
+      let known = any_passes_from_place (same_bytes d.bytes) strings (get_or numbers one.0 0) one.1.0.bytes
+      (numbering.bytes_at one.0 one.1.0 one.1.1)
       (ap (same_bytes d.bytes) (sym same) ∙ same_itself d.bytes) in
       absurd (cc))))
 
