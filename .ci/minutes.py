@@ -15,8 +15,8 @@ import threading
 import time
 
 PARTS = ("proof", "tests", "edits")
-# Crates that depend on no other and hardly change: what their proofs take shows how fast the machine is.
-YARDSTICK = ("octets", "plain_text", "sha_lanes")
+# Crates that hardly change: what their proofs take shows how fast the machine is.
+YARDSTICK = ("app_kinds", "client_sessions", "lm_ots", "reply_lines")
 PAGE = """# What the gate costs
 
 One run of the gate, as `.ci/run` wrote it down: every crate proved from nothing, the tests proved and run, each must-fail
