@@ -584,7 +584,7 @@ check 'a cluster whose input ends' 0 "'$abft' cluster --seed $ones --rounds 4000
 runs 'what it is told with --log off' 0 "$none" "'$abft' cluster --rounds 0 --log off"
 runs 'and with --quiet, whatever --log says' 0 "$none" "'$abft' cluster --rounds 0 --quiet --log debug"
 runs 'each round of each replica with --log debug' 0 "$(for r in 0 1 2 3; do
-    printf 'replica %d ended round 1: blocks 0\nreplica %d ended round 2: blocks 0\n' "$r" "$r"; done)"$'\n' \
+    printf 'replica %d opened round 1: blocks 0\nreplica %d opened round 2: blocks 0\n' "$r" "$r"; done)"$'\n' \
     "'$abft' cluster --rounds 2 --log debug 2>&1 >/dev/null | sed -nE 's/^(replica .*), signatures [0-9]+$/\1/p' | sort"
 faults 'an input of a cluster that is a folder' 3 "$folder" "'$abft' cluster --rounds 0 --stop-at-eof </"
 faults 'an input of a cluster that is closed' 3 "$no_input" "'$abft' cluster --rounds 0 --stop-at-eof <&-"
@@ -632,6 +632,8 @@ faults 'a port that is taken' 3 "error: can't listen at 127.0.0.1:$port: Address
 runs 'an earlier file of histories is as it was' 0 'earlier' "cat '$room/earlier'"
 runs 'what live clusters do at their limits' 0 \
     'entries: 11 12 0000 13 000000000000 0000 04 04 11 0000000000 00 0001 13 00 0002, in order; 4 lines, status 0
+asked: query 0 2 1 1, submit 1 1 2 1, waiting 1 1 2 1; 4 lines, status 0
+left behind: 03 same same 500, 00 more more more, 00 more more more, 00 more more more; 4 lines, status 0
 flood: 12: 100000; 00: 32768 04: 67232; bounded; all commit; 4 lines, status 0
 one full: 04; 4 lines, status 0
 all full: 04 04 04 04; 4 lines, status 0
@@ -643,6 +645,7 @@ unread fault: status 3
 unread datagrams: status 0
 stopped terminal: status 0
 terminal kinds: xterm erased, dumb lines, none lines
+terminal warnings: mute 0 1 2 3; status 0
 background: status 0
 zeros: rests
 ' "tests/live_limits.py '$abft'"

@@ -3,15 +3,24 @@
 its name, and what came. Three are run at once; without names those that the gate runs."""
 import concurrent.futures
 import fcntl
+import json
 import os
 import pty
+import re
 import resource
+import select
 import socket
 import struct
 import subprocess
 import sys
+import tempfile
 import termios
 import time
+import urllib.error
+import urllib.request
+
+sys.dont_write_bytecode = True
+from records import read_histories  # noqa: E402
 
 ABFT = sys.argv[1]
 
@@ -27,9 +36,21 @@ class Server:
         self.process = subprocess.Popen([ABFT, "serve", *words], stdin=input, stdout=subprocess.PIPE, stderr=errors,
                                         preexec_fn=limit)
         self.port = int(self.process.stdout.readline().split()[1])
+        self.http = int(self.process.stdout.readline().split()[1]) if "--http" in words else None
 
     def connect(self):
         return Session(socket.create_connection(("127.0.0.1", self.port), timeout=60))
+
+    def get(self, path, *fields):
+        """What these fields of HTTP's answer have, or the number of the answer if it is an error."""
+        try:
+            with urllib.request.urlopen(f"http://127.0.0.1:{self.http}{path}", timeout=60) as answer:
+                found = json.load(answer)["result"]
+        except urllib.error.HTTPError as fault:
+            return fault.code
+        for field in fields:
+            found = found[field]
+        return found
 
     def peak_memory(self):
         """The most memory that it has had, in MB."""
@@ -105,6 +126,53 @@ def entries():
     # Between the two submits that replica 0 takes it takes one that it refuses, and a query.
     order = "in order" if 1 <= first and second - first in (3, 4) else f"{first} and {second}"
     return f"{told}, {order}; " + server.ends(30)[0]
+
+
+def asked():
+    """Each event of a client is in the history of the replica that the client asked, and in no other."""
+    with tempfile.TemporaryDirectory() as room:
+        saved = os.path.join(room, "histories")
+        server = Server("--rounds", "0", "--http", "0", "--histories", saved)
+        session = server.connect()
+        for body in [b"\x05\x01", QUERY, QUERY, b"\x05\x03", QUERY, b"\x05\x02", b"\x01b=2"]:
+            session.ask(body)
+        server.get("/abci_query?data=%22a%22&replica=2")
+        waiting = [str(server.get(f"/num_unconfirmed_txs?replica={replica}", "n_txs")) for replica in range(4)]
+        session.stream.close()
+        end = server.ends(30)[0]
+        with open(saved, "rb") as file:
+            histories = read_histories(file.read())
+    told = [f"{kind} {' '.join(str(sum(entry.kind == kind for entry in histories[replica])) for replica in range(4))}"
+            for kind in ("query", "submit")]
+    return f"{', '.join(told)}, waiting {' '.join(waiting)}; {end}"
+
+
+def left_behind():
+    """Replica 0, whose history is full, commits nothing more. It answers with what it has committed, and the others with more."""
+    server = Server("--rounds", "4000000000", "--base-ms", "150", "--tree", "10", "--http", "0", "--client-entries", "65536",
+                    "--stop-at-eof")
+    session = server.connect()
+    session.ask_often(QUERY, 66_000)
+
+    def height_of(replica):
+        return int(server.get(f"/status?replica={replica}", "sync_info", "latest_block_height"))
+
+    def compared(found):
+        return found if isinstance(found, int) else "same" if int(found) == height else "more" if int(found) > height else "less"
+
+    height, latest = height_of(0), time.monotonic() + 60
+    while min(map(height_of, range(1, 4))) <= height and time.monotonic() < latest:
+        time.sleep(0.05)
+    told = []
+    for replica in range(4):
+        session.ask(bytes([5, replica]))
+        block = session.ask(b"\x04" + struct.pack(">I", height + 1))[:2]
+        heights = [server.get(f"/status?replica={replica}", "sync_info", "latest_block_height"),
+                   server.get(f"/abci_info?replica={replica}", "response", "last_block_height"),
+                   server.get(f"/block?replica={replica}&height={height + 1}", "block", "header", "height")]
+        told.append(" ".join([block, *map(str, map(compared, heights))]))
+    server.process.stdin.close()
+    return ", ".join(told) + "; " + server.ends(30)[0]
 
 
 def flood():
@@ -278,6 +346,28 @@ def terminal_kinds():
     return ", ".join(told)
 
 
+def terminal_warnings():
+    """On a terminal a replica that becomes mute has a line of its own, and progress goes on below it."""
+    master, terminal = pty.openpty()
+    cluster = subprocess.Popen([ABFT, "cluster", "--rounds", "4000000000", "--base-ms", "10", "--stop-at-eof"], stdin=subprocess.PIPE,
+                               stdout=subprocess.DEVNULL, stderr=terminal, env={"TERM": "xterm"})
+    line = re.compile(rb"\rreplica (\d) is mute from round \d+ on: [^\r\n]*\x1b\[K\r*\n(?=\r)")
+    told, latest = b"", time.monotonic() + 60
+    while len(line.findall(told)) < 4 or told.rfind(b"\rround ") < told.rfind(b" is mute "):
+        if not select.select([master], [], [], max(0, latest - time.monotonic()))[0]:
+            break
+        told += os.read(master, 4096)
+    cluster.stdin.close()
+    try:
+        status = f"status {cluster.wait(20)}"
+    except subprocess.TimeoutExpired:
+        cluster.kill()
+        status = "doesn't end"
+    os.close(terminal)
+    os.close(master)
+    return f"mute {' '.join(sorted(number.decode() for number in line.findall(told)))}; {status}"
+
+
 def background():
     """A job in the background of a terminal that stops such jobs where they write: a quiet one isn't stopped."""
     child, terminal = pty.fork()
@@ -309,6 +399,8 @@ def zeros():
 
 SCENARIOS = {
     "entries": entries,
+    "asked": asked,
+    "left behind": left_behind,
     "flood": flood,
     "one full": lambda: full([0]),
     "all full": lambda: full([0, 1, 2, 3]),
@@ -324,6 +416,7 @@ SCENARIOS = {
     "unread datagrams": unread_datagrams,
     "stopped terminal": stopped_terminal,
     "terminal kinds": terminal_kinds,
+    "terminal warnings": terminal_warnings,
     "background": background,
     "zeros": zeros,
 }

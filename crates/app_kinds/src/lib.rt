@@ -4,7 +4,7 @@
 //! say for the whole list of accepted transactions. [`KvStore`] has values by key, [`Counter`] accepts numbers in
 //! order, and [`Purse`] moves amounts between accounts; each is one [`StateMachine`] over a state of its own.
 //! [`AnyKind`] is one of them, chosen at run time. [`Counted`] counts the transactions that are delivered to another
-//! application, and [`Refusing`] lets one delivery fail with allocation failure.
+//! application, and [`Refusing`] lets a chosen delivery fail with allocation failure.
 #![tactic(auto)]
 
 mod account;

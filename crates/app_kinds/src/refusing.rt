@@ -1,4 +1,4 @@
-//! A wrapper in which one delivery of a transaction fails with allocation failure.
+//! A wrapper in which a chosen delivery of a transaction fails with allocation failure.
 use abci::{Application, CheckKind, Info, QueryFault};
 use ledger_model::{Height, Tx};
 use std::alloc::AllocError;

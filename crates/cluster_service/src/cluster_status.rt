@@ -40,7 +40,7 @@ pub(crate) struct ClusterStatus {
     height: u32,
     /// Which notices are added.
     filter: LevelFilter,
-    /// Whether what changes at a replica gets notices. If not, each round of replica 0 is news.
+    /// Whether rounds and blocks get notices. If not, each round of replica 0 is news.
     has_log: bool,
     /// Whether no more notices will come.
     is_over: bool,
@@ -100,7 +100,7 @@ impl ClusterStatus {
         true
     }
 
-    /// Adds a notice of the round that a replica has ended, unless too many notices wait.
+    /// Adds a notice of the round that a replica has opened, unless too many notices wait.
     fn add_round(&mut self, replica: ReplicaId, status: &ReplicaStatus) {
         if self.notices.len() < MOST_NOTICES {
             self.add(Notice::Round {
@@ -124,12 +124,16 @@ impl ClusterStatus {
         self.height = self.height.max(status.height);
     }
 
-    /// Adds notices for what changed at a replica since `before`.
-    fn add_changes(&mut self, replica: ReplicaId, before: &ReplicaStatus, after: &ReplicaStatus) {
+    /// Adds notices of how a replica went on since `before`.
+    fn add_progress(&mut self, replica: ReplicaId, before: &ReplicaStatus, after: &ReplicaStatus) {
         if after.rounds > before.rounds {
             self.add_round(replica, after);
         }
         self.add_blocks(replica, after);
+    }
+
+    /// Adds notices of what needs attention at a replica and didn't at `before`.
+    fn add_warnings(&mut self, replica: ReplicaId, before: &ReplicaStatus, after: &ReplicaStatus) {
         if after.is_mute && !before.is_mute {
             self.add(Notice::Mute {
                 replica,
@@ -151,11 +155,13 @@ impl ClusterStatus {
             return false;
         };
         let before = mem::replace(known, status);
-        if !self.has_log {
-            return replica.number() == 0 && status.rounds > before.rounds;
+        let waiting = self.notices.len();
+        if self.has_log {
+            self.add_progress(replica, &before, &status);
         }
-        self.add_changes(replica, &before, &status);
-        !self.notices.is_empty()
+        self.add_warnings(replica, &before, &status);
+        let has_progress = !self.has_log && replica.number() == 0 && status.rounds > before.rounds;
+        self.notices.len() > waiting || has_progress
     }
 
     /// Moves the waiting notices into `notices`, and copies the status of each replica. Returns whether no more notices will

@@ -10,7 +10,7 @@ pub(crate) enum Notice {
     DefaultSeed,
     /// The keys of this many replicas are being made.
     Keys(u8),
-    /// A replica has ended this round, and has this many blocks and signatures.
+    /// A replica has opened this round, and has this many blocks and signatures.
     Round {
         replica: ReplicaId,
         round: u32,
@@ -119,7 +119,7 @@ fn show_round<W: fmt::Write>(
     let replica = replica.number();
     write!(
         f,
-        "replica {replica} ended round {round}: blocks {blocks}, signatures {signatures}"
+        "replica {replica} opened round {round}: blocks {blocks}, signatures {signatures}"
     )
 }
 

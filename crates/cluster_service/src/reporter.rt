@@ -143,10 +143,10 @@ impl<P: Write + Drop> Reporter<P> {
         }
     }
 
-    /// The line of progress, at most 80 columns wide: the round that replica 0 ended, the least and the greatest number
-    /// of blocks and of signatures left among the replicas, and how many replicas are mute.
+    /// The line of progress, at most 80 columns wide: replica 0's open round, the least and the greatest number of
+    /// blocks and of signatures left among the replicas, and how many replicas are mute.
     fn progress_line(&self) -> Result<String, AllocError> {
-        let ended = self.reported;
+        let round = self.reported;
         let rounds = self.rounds;
         let mut blocks = Range::NONE;
         let mut signatures = Range::NONE;
@@ -157,14 +157,14 @@ impl<P: Write + Drop> Reporter<P> {
             mute = mute.saturating_add(u32::from(status.is_mute));
         }
         format!(in self.alloc;
-            "\rround {ended} of {rounds}, blocks {blocks}, signatures {signatures}, {mute} mute{ERASE}"
+            "\rround {round} of {rounds}, blocks {blocks}, signatures {signatures}, {mute} mute{ERASE}"
         )
     }
 
-    /// Whether replica 0 ended a round that was not reported yet. Counts it as reported.
+    /// Whether replica 0 opened a round that was not reported yet. Counts it as reported.
     fn has_progress(&mut self) -> bool {
-        let ended = self.replicas.first().map_or(0, |status| status.rounds);
-        ended > mem::replace(&mut self.reported, ended)
+        let round = self.replicas.first().map_or(0, |status| status.rounds);
+        round > mem::replace(&mut self.reported, round)
     }
 
     /// Reports a notice, unless memory runs out. A log skips notices of progress.
@@ -181,14 +181,16 @@ impl<P: Write + Drop> Reporter<P> {
         }
     }
 
-    /// Reports everything that it took.
+    /// Reports everything that it took. On a terminal it then writes the line of progress, if there is news, or if a notice took
+    /// the place of that line.
     fn tell_all(&mut self) {
         let notices = mem::replace(&mut self.notices, Vec::new(self.alloc));
+        let covers = self.reported > 0 && notices.iter().any(|notice| !notice.is_progress());
         for notice in &notices {
             self.tell(*notice);
         }
         self.notices = notices;
-        if !self.watcher.is_log() && !self.is_ended && self.has_progress() {
+        if !self.watcher.is_log() && !self.is_ended && (self.has_progress() || covers) {
             if let Ok(line) = self.progress_line() {
                 self.write(&line);
             }

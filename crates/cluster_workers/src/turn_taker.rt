@@ -6,8 +6,8 @@ ghost use Rattle.ledger_model.specs.Limits.{max_history_len};
 ghost use Rattle.commit_board.specs.Seats.{IsLeastRead};
 ghost use Rattle.key_ring.specs.Signers.{leaves_of};
 ghost use Rattle.ledger_model.specs.Logs.{is_mute};
-ghost use Rattle.locked_replica.specs.States.{UsesAsSigned};
-ghost use Rattle.replica_turns.specs.Turns.{Takes, TakesSome, LosesAtMostDue, height_in};
+ghost use Rattle.locked_replica.specs.States.{RunsAlone, UsesAsSigned};
+ghost use Rattle.replica_turns.specs.Turns.{Takes, TakesSome, SignsOn, GoesOn, height_in};
 ghost use Rattle.cluster_workers.specs.Looks.{IsNextByBoard};
 
 use abci::Application;
@@ -93,13 +93,18 @@ impl TurnTaker {
         events: Vec<Event>,
     ) -> Option<ApplyFault>
         ensures events { state.old.id ≡ self.old.seat.replica → MatchOption result (Takes state.old.entries events.items state.new.entries)
-            (λ _. TakesSome state.old.entries events.items state.new.entries) }
+            (λ _. TakesSome state.old events.items state.new) }
         ensures other { (state.old.id ≡ self.old.seat.replica → ⊥) → state.new ≡ state.old }
         ensures grows { length state.old.entries ≤ length state.new.entries }
         ensures full { state.old.id ≡ self.old.seat.replica → MatchOption result ⊤
             (λ fault. (fault ≡ ApplyFault.HistoryFull) ↔ (max_history_len ≤ length state.new.entries)) }
         ensures signed { state.old.id ≡ self.old.seat.replica → MatchOption result (UsesAsSigned state.old state.new)
-            (λ _. LosesAtMostDue state.old state.new) }
+            (λ fault. fault ≡ ApplyFault.HistoryFull → UsesAsSigned state.old state.new) }
+        ensures in_order { state.old.id ≡ self.old.seat.replica → MatchOption result (SignsOn state.old state.new) (λ _. ⊤) }
+        // Nothing else about the replica changes, and its history is a replay.
+        ensures on { state.old.id ≡ self.old.seat.replica → GoesOn state.old state.new }
+        ensures machine { state.old.id ≡ self.old.seat.replica → RunsAlone state.new }
+        ensures reader { self.new.reader ≡ self.old.reader }
         // The replica's committed height is published.
         ensures seat { state.old.id ≡ self.old.seat.replica
             → self.new.seat ≡ record self.old.seat { height = max self.old.seat.height (height_in state.new) } }
@@ -114,7 +119,7 @@ impl TurnTaker {
         }
     }
 
-    /// A turn of this replica. If `state` is another replica, no event is taken.
+    /// A turn of this replica. If `state` is another replica, it takes no event, and all count as offered.
     pub(crate) fn turn<A: Application>(
         &mut self,
         state: &mut State<A>,
@@ -125,12 +130,17 @@ impl TurnTaker {
         ensures offered { MatchOption result.fault (result.offered ≡ length events.items) (λ _. result.offered ≡ result.taken + 1) }
         // The events are taken in order: all, or those before the one that was refused.
         ensures events { state.old.id ≡ self.old.seat.replica → MatchOption result.fault (Takes state.old.entries events.items state.new.entries)
-            (λ _. TakesSome state.old.entries events.items state.new.entries) }
+            (λ _. TakesSome state.old events.items state.new) }
         ensures other { (state.old.id ≡ self.old.seat.replica → ⊥) → state.new ≡ state.old }
         ensures full { state.old.id ≡ self.old.seat.replica → MatchOption result.fault ⊤
             (λ fault. (fault ≡ ApplyFault.HistoryFull) ↔ (max_history_len ≤ length state.new.entries)) }
         ensures signed { state.old.id ≡ self.old.seat.replica → MatchOption result.fault (UsesAsSigned state.old state.new)
-            (λ _. LosesAtMostDue state.old state.new) }
+            (λ fault. fault ≡ ApplyFault.HistoryFull → UsesAsSigned state.old state.new) }
+        ensures in_order { state.old.id ≡ self.old.seat.replica → MatchOption result.fault (SignsOn state.old state.new) (λ _. ⊤) }
+        // Nothing else about the replica changes, and its history is a replay.
+        ensures on { state.old.id ≡ self.old.seat.replica → GoesOn state.old state.new }
+        ensures machine { state.old.id ≡ self.old.seat.replica → RunsAlone state.new }
+        ensures reader { self.new.reader ≡ self.old.reader }
         // The replica's committed height is published.
         ensures seat { state.old.id ≡ self.old.seat.replica
             → self.new.seat ≡ record self.old.seat { height = max self.old.seat.height (height_in state.new) } }

@@ -22,7 +22,7 @@ metric_name metric.FramesAccepted = codes "abft_frames_accepted_total"
 
 -- what a metric is, in words
 abbrev pub metric_help : Metric → List ℕ
-metric_help metric.Rounds = codes "Rounds that the replica ended."
+metric_help metric.Rounds = codes "The open round of the replica."
 metric_help metric.Height = codes "The last height that the replica committed."
 metric_help metric.SignaturesLeft = codes "One-time signatures that its key pair has left."
 metric_help metric.PoolTransactions = codes "Transactions that wait for a block."

@@ -12,7 +12,7 @@ use std::alloc::{AllocError, Global};
 #[derive(Clone, Copy, Debug)]
 pub struct ReplicaMetrics {
     pub replica: ReplicaId,
-    /// The number of rounds that it ended.
+    /// Its open round, 0 before the first.
     pub rounds: u32,
     /// The last height that it committed.
     pub height: Height,
@@ -61,7 +61,7 @@ impl Metric {
         ensures { result.now ≡ metric_help self }
     {
         match self {
-            Metric::Rounds => "Rounds that the replica ended.",
+            Metric::Rounds => "The open round of the replica.",
             Metric::Height => "The last height that the replica committed.",
             Metric::SignaturesLeft => "One-time signatures that its key pair has left.",
             Metric::PoolTransactions => "Transactions that wait for a block.",

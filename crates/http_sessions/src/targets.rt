@@ -6,7 +6,7 @@ use ledger_model::{AppKind, Height, ReplicaId};
 /// How far a replica is.
 #[derive(Clone, Copy, Debug, PartialEq, Eq)]
 pub struct Progress {
-    /// The number of rounds that it ended.
+    /// Its open round, 0 before the first.
     pub rounds: u32,
     /// The last height that it committed.
     pub height: Height,

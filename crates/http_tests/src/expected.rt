@@ -270,7 +270,7 @@ pub(crate) const METRICS: &str = "\
     Content-Length: 2678\r\n\
     Connection: close\r\n\
     \r\n\
-    # HELP abft_rounds Rounds that the replica ended.\n\
+    # HELP abft_rounds The open round of the replica.\n\
     # TYPE abft_rounds gauge\n\
     abft_rounds{replica=\"0\"} 17\n\
     abft_rounds{replica=\"3\"} 4000000000\n\
@@ -330,7 +330,7 @@ pub(crate) const ALL_METRICS: &str = "\
     Content-Length: 4395\r\n\
     Connection: close\r\n\
     \r\n\
-    # HELP abft_rounds Rounds that the replica ended.\n\
+    # HELP abft_rounds The open round of the replica.\n\
     # TYPE abft_rounds gauge\n\
     abft_rounds{replica=\"0\"} 345\n\
     abft_rounds{replica=\"1\"} 345\n\

@@ -38,6 +38,7 @@ impl Read for SlowReader<'_> {
 #[derive(Drop)]
 pub(crate) struct SlowWriter {
     pub(crate) bytes: Vec<u8>,
+    pub(crate) flushes: u32,
     room: usize,
 }
 
@@ -45,6 +46,7 @@ impl SlowWriter {
     pub(crate) fn new(alloc: Global, room: usize) -> Self {
         SlowWriter {
             bytes: Vec::new(alloc),
+            flushes: 0,
             room,
         }
     }
@@ -64,6 +66,7 @@ impl Write for SlowWriter {
     }
 
     fn flush(&mut self) -> io::Result<()> {
+        self.flushes = self.flushes.saturating_add(1);
         Ok(())
     }
 }

@@ -57,6 +57,7 @@ fn is_reply(alloc: Global, targets: &mut Fake, input: &[u8], calls: &[u8], text:
     targets.calls.clear();
     ends(alloc, &mut reader, &mut output, targets) == End::Answered
         && output.bytes.as_slice() == text.as_bytes()
+        && output.flushes == 1
         && targets.calls.as_slice() == calls
 }
 

@@ -1,24 +1,24 @@
-//! Faults of the program: each has a status, and a text that is written with one write.
+//! Faults of the program: each has a status, and a text that is written with one write. What is printed is flushed.
 use crate::streams::{Sink, Source};
 use program::{Outcome, refuse_words, run};
 use std::alloc::Global;
 use std::io::{self, ErrorKind};
 use std::random::RandomSource;
 
-/// The outcome of the program on these words, if reading fails at once. Appends what it writes to standard error.
+/// The outcome of the program on these words, if reading fails at once.
 fn outcome_of<S: RandomSource>(
     source: &S,
     alloc: Global,
     words: &[&str],
+    output: &mut Sink,
     faults: &mut Sink,
 ) -> Outcome {
-    let mut output = Sink::new(alloc, 99);
     run(
         source,
         alloc,
         words,
         &mut Source::new(b"", true),
-        &mut output,
+        output,
         faults,
     )
 }
@@ -31,7 +31,8 @@ fn ends_at_once<S: RandomSource>(
     status: u8,
     faults: &mut Sink,
 ) -> bool {
-    let outcome = outcome_of(source, alloc, &["abft", subcommand], faults);
+    let mut output = Sink::new(alloc, 99);
+    let outcome = outcome_of(source, alloc, &["abft", subcommand], &mut output, faults);
     matches!(outcome, Outcome::Ended(found) if found == status) && faults.writes == 1
 }
 
@@ -52,6 +53,21 @@ fn bad_usage_is_printed_at_once(rt: HostRuntime) {
     let mut faults = Sink::new(alloc, usize::MAX);
     let is_printed = ends_at_once(&rt, alloc, "vote", 2, &mut faults);
     assert!(rt; is_printed && faults.text.ends_with(b"\n"));
+}
+
+/// Whether the program ends with status 0 on these words, writes something, and flushes it once.
+fn prints<S: RandomSource>(source: &S, alloc: Global, words: &[&str]) -> bool {
+    let mut output = Sink::new(alloc, usize::MAX);
+    let mut faults = Sink::new(alloc, 99);
+    let outcome = outcome_of(source, alloc, words, &mut output, &mut faults);
+    matches!(outcome, Outcome::Ended(0)) && output.flushes == 1 && !output.text.is_empty()
+}
+
+#[test]
+fn what_is_printed_is_flushed(rt: HostRuntime) {
+    let alloc = rt.alloc();
+    assert!(rt; prints(&rt, alloc, &["abft", "--version"]));
+    assert!(rt; prints(&rt, alloc, &["abft", "sign", "report"]));
 }
 
 /// Whether the program refuses words that this error keeps it from reading, with this status and text.

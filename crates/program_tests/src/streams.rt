@@ -28,13 +28,14 @@ impl Read for Source<'_> {
     }
 }
 
-/// A stream that has room for a number of bytes, and counts the writes, and how many of them end a line.
+/// A stream that has room for a number of bytes, and counts the writes, how many of them end a line, and the flushes.
 #[derive(Drop)]
 pub(crate) struct Sink {
     room: usize,
     pub(crate) text: Vec<u8>,
     pub(crate) writes: u32,
     pub(crate) ends: u32,
+    pub(crate) flushes: u32,
 }
 
 impl Sink {
@@ -45,6 +46,7 @@ impl Sink {
             text: Vec::new(alloc),
             writes: 0,
             ends: 0,
+            flushes: 0,
         }
     }
 }
@@ -62,6 +64,7 @@ impl Write for Sink {
     }
 
     fn flush(&mut self) -> io::Result<()> {
+        self.flushes = self.flushes.saturating_add(1);
         Ok(())
     }
 }

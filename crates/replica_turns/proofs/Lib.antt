@@ -1,3 +1,4 @@
 mod Clients
 mod Cutting
 mod Putting
+mod Signing

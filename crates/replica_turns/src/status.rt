@@ -5,7 +5,7 @@ use locked_replica::{MAX_ENTRIES, State};
 /// The status of a replica after a turn.
 #[derive(Clone, Copy, Debug, PartialEq, Eq)]
 pub struct ReplicaStatus {
-    /// The number of rounds that it ended.
+    /// Its open round, 0 before the first.
     pub rounds: u32,
     /// The number of blocks that it committed.
     pub height: u32,

@@ -51,6 +51,7 @@ pub(crate) struct FailingWriter {
     is_whole: bool,
     is_interrupted: bool,
     writes: u32,
+    flushes: u32,
 }
 
 impl FailingWriter {
@@ -61,6 +62,7 @@ impl FailingWriter {
             is_whole: false,
             is_interrupted: false,
             writes: 0,
+            flushes: 0,
         }
     }
 
@@ -72,6 +74,7 @@ impl FailingWriter {
             is_whole: true,
             is_interrupted: false,
             writes: 0,
+            flushes: 0,
         }
     }
 
@@ -81,6 +84,11 @@ impl FailingWriter {
 
     pub(crate) fn writes(&self) -> u32 {
         self.writes
+    }
+
+    /// How many flushes were not interrupted.
+    pub(crate) fn flushes(&self) -> u32 {
+        self.flushes
     }
 }
 
@@ -109,6 +117,11 @@ impl Write for FailingWriter {
     }
 
     fn flush(&mut self) -> io::Result<()> {
+        self.is_interrupted = !self.is_whole && !self.is_interrupted;
+        if self.is_interrupted {
+            return Err(io::Error::from(ErrorKind::Interrupted));
+        }
+        self.flushes = self.flushes.saturating_add(1);
         Ok(())
     }
 }

@@ -338,11 +338,22 @@ fn a_write_that_fails_ends_the_session(rt: HostRuntime) {
 }
 
 #[test]
-fn each_reply_is_one_write(rt: HostRuntime) {
+fn each_reply_is_one_write_and_is_flushed(rt: HostRuntime) {
     let alloc = rt.alloc();
     let mut targets = Fake::new(alloc, [3, 3, 1, 3]);
     let mut output = FailingWriter::whole(alloc);
     let mut input = REQUESTS;
     let found = ends(alloc, &mut input, &mut output, &mut targets);
-    assert!(rt; found == End::Clean && output.written() == REPLIES && output.writes() == 4);
+    assert!(rt; found == End::Clean && output.written() == REPLIES);
+    assert_eq!(rt; (output.writes(), output.flushes()), (4, 4));
+}
+
+#[test]
+fn an_interrupted_flush_is_repeated(rt: HostRuntime) {
+    let alloc = rt.alloc();
+    let mut targets = Fake::new(alloc, [3, 3, 1, 3]);
+    let mut output = FailingWriter::new(alloc, usize::MAX);
+    let mut input = REQUESTS;
+    let found = ends(alloc, &mut input, &mut output, &mut targets);
+    assert!(rt; found == End::Clean && output.flushes() == 4);
 }

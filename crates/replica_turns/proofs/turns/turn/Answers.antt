@@ -32,8 +32,8 @@ returns-clause-leaves g c = c.take_all-taken.ensures.on.leaves
 pub returns-clause-signed : goal.returns-clause-signed
 returns-clause-signed g c = c.take_all-taken.ensures.signed
 
-pub returns-clause-lost : goal.returns-clause-lost
-returns-clause-lost g c = c.take_all-taken.ensures.lost
+pub returns-clause-in_order : goal.returns-clause-in_order
+returns-clause-in_order g c = c.take_all-taken.ensures.in_order
 
 pub returns-clause-spared : goal.returns-clause-spared
 returns-clause-spared g c = c.take_all-taken.ensures.spared
