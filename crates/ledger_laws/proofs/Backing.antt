@@ -25,7 +25,7 @@ use Rattle.ledger_model.specs.Locks.{value_taken}
 use Rattle.ledger_model.specs.Validity.{is_quorate, is_supporting}
 use Rattle.ledger_model.specs.Logs.{height_of, if_some, made_notes, statements_made, notes_of, log_after, log_of}
 use Rattle.ledger_model.proofs.FrameReading.{reading-reads}
-use Rattle.ledger_model.specs.Reading.{reading, reading_in}
+use Rattle.ledger_model.specs.Reading.{reading_in}
 use Rattle.ledger_model.specs.Rules.{Ring, report_of, ack_of, acks_of, causes, answer_to, is_signed, is_proved, with_signature}
 use Rattle.ledger_model.specs.declared.reply.RoundEnded.{RoundEnded}
 use Rattle.ledger_model.specs.Lawful.{Lawful, LawfulRoundEnd, answer, FollowsFrom, Follows}

@@ -126,6 +126,30 @@ rejected_code config id entries tx code e =
     first_code_is code (nat_eq (length tx) 0) (ltb 64 (length tx)) (is_among (pool_of config id entries) tx)
     (leb 1024 (length (pool_of config id entries))) (check_reply config.kind (commits_of config id entries) tx) e
 
+-- the code of a taken transaction is 0
+last_code_taken : (u : Unit {0}) (c : ℕ) (b : Bool) → not (nat_eq c 0) ≡ b
+    → ◌≡◌ {A = Result (Unit {0}) SubmitRefusal} (Ok u) (cond b (Err (refusal.Rejected c)) (Ok tt)) → c ≡ 0
+last_code_taken u c true is e = cc
+last_code_taken u zero false is e = refl
+last_code_taken u (suc c) false is e = grind (arith, is)
+
+first_code_taken : (u : Unit {0}) (b1 b2 b3 b4 : Bool) (c : ℕ)
+    → ◌≡◌ {A = Result (Unit {0}) SubmitRefusal} (Ok u)
+    (first_fault ((b1, refusal.Empty) ∷ (b2, refusal.TooLong) ∷ (b3, refusal.Duplicate) ∷ (b4, refusal.Full)
+    ∷ (not (nat_eq c 0), refusal.Rejected c) ∷ []) tt) → c ≡ 0
+first_code_taken u true b2 b3 b4 c e = cc
+first_code_taken u false true b3 b4 c e = cc
+first_code_taken u false false true b4 c e = cc
+first_code_taken u false false false true c e = cc
+first_code_taken u false false false false c e = last_code_taken u c (not (nat_eq c 0)) refl e
+
+pub taken_code : (config : Config) (id : ℕ) (entries : List Entry) (tx : List ℕ) (u : Unit {0})
+    → Ok u ≡ submit_reply config id entries tx → check_reply config.kind (commits_of config id entries) tx ≡ 0
+unfolding submit_reply
+taken_code config id entries tx u e =
+    first_code_taken u (nat_eq (length tx) 0) (ltb 64 (length tx)) (is_among (pool_of config id entries) tx)
+    (leb 1024 (length (pool_of config id entries))) (check_reply config.kind (commits_of config id entries) tx) e
+
 pub ran_block : (config : Config) (batches : List Value) (o : Option Value) (b : BlockResult) → Ok b ≡ block_of config batches o
     → (v : Value) × ((o ≡ Some v) × (b ≡ block_reply config.kind batches v))
 ran_block config batches None b e = cc
@@ -203,6 +227,11 @@ module _ (config : Config) (ring : Ring) (id : ℕ) (entries : List Entry) (foll
       let same = begins_trans (commits_of config id (take i entries)) (commits_of config id entries) ledger (before_entry i entry p) begins
       in
       subst (λ vs. code ≡ check_reply config.kind vs tx) (sym same) (rejected_code config id (take i entries) tx code (p.lawful))
+  reply_on ledger begins i (event.Submit tx) (reply.Submitted (Ok u)) p =
+      let entry : Entry = record { event = event.Submit tx; reply = reply.Submitted (Ok u) } in
+      let same = begins_trans (commits_of config id (take i entries)) (commits_of config id entries) ledger (before_entry i entry p) begins
+      in
+      subst (λ vs. check_reply config.kind vs tx ≡ 0) (sym same) (taken_code config id (take i entries) tx u (p.lawful))
   reply_on ledger begins i e r p = tt
 
 -- the correct replica that committed most

@@ -24,9 +24,9 @@ use Rattle.ledger_model.specs.Timelines.{AreReplicas}
 use Rattle.ledger_model.specs.Worlds.{World, world_at, Refines, Begins, IsReplyOn, IsLedger}
 use Rattle.ledger_laws.specs.Examples.{four, a, b}
 use Rattle.ledger_laws.specs.Vacuity.{NoLedger, NoRunWithoutLedger, NoRunThatRewrites, forked, forked_world}
-use Rattle.ledger_laws.specs.Vacuity.{ForkHasNoLedger, ForkExample, WrongBlockHasNoLedger, WrongQueryHasNoLedger, WrongCodeHasNoLedger}
+use Rattle.ledger_laws.specs.Vacuity.{ForkHasNoLedger, ForkExample, WrongBlockHasNoLedger, WrongQueryHasNoLedger, WrongCodeHasNoLedger, TakenRefusalHasNoLedger}
 use Rattle.ledger_laws.specs.Vacuity.{UnproposedBatchHasNoLedger, UnproposedBatchExample, AgreementHasLedger, proposes, commits, runs_block}
-use Rattle.ledger_laws.specs.Vacuity.{answers_query, rejects, first_result, three, FloorExample}
+use Rattle.ledger_laws.specs.Vacuity.{answers_query, rejects, takes, first_result, three, FloorExample}
 use Rattle.ledger_laws.proofs.Backing.{correct_at}
 use Rattle.ledger_laws.proofs.WorldRuns.{runs_refine}
 use Rattle.ledger_laws.proofs.Ledgers.{begins_get, get_lt}
@@ -72,12 +72,12 @@ differ e = let apart : true ≡ false = ap (same_value a) e in cc
 -- ---- the three replicas
 
 -- a replica among the three
-data ReplicaOfThree (r : ℕ) : Type 0 where
+pub data ReplicaOfThree (r : ℕ) : Type 0 where
   Is_0 : 0 ≡ r → ReplicaOfThree r
   Is_1 : 1 ≡ r → ReplicaOfThree r
   Is_2 : 2 ≡ r → ReplicaOfThree r
 
-replica_of_three : (of_0 of_1 of_2 : List Entry) (r : ℕ) → is_correct (three of_0 of_1 of_2) r ≡ true → ReplicaOfThree r
+pub replica_of_three : (of_0 of_1 of_2 : List Entry) (r : ℕ) → is_correct (three of_0 of_1 of_2) r ≡ true → ReplicaOfThree r
 replica_of_three of_0 of_1 of_2 r is =
     elim (cases_Bool (nat_eq 0 r)) [
       | inl at_0 ↦ Is_0 (eqb-true 0 r at_0)
@@ -176,6 +176,11 @@ pub wrong_code_has_no_ledger : WrongCodeHasNoLedger
 unfolding commits_of
 wrong_code_has_no_ledger config tx code wrong ledger is =
     wrong (is.replies 2 0 (record { replica = 2; entries = rejects tx code ∷ [] }) (rejects tx code) refl refl)
+
+pub taken_refusal_has_no_ledger : TakenRefusalHasNoLedger
+unfolding commits_of
+taken_refusal_has_no_ledger config tx wrong ledger is =
+    wrong (is.replies 2 0 (record { replica = 2; entries = takes tx ∷ [] }) (takes tx) refl refl)
 
 -- ---- another value than the common proposal
 

@@ -176,6 +176,15 @@ WrongCodeHasNoLedger =
     (config : Config) (tx : List ℕ) (code : ℕ) → (code ≡ check_reply config.kind [] tx → ⊥)
     → NoLedger config (three [] [] (rejects tx code ∷ []))
 
+-- a transaction joins the pool
+abbrev pub takes : List ℕ → Entry
+takes tx = record { event = event.Submit tx; reply = reply.Submitted (Ok tt) }
+
+-- replica 2 takes a transaction that the application run alone refuses
+abbrev pub TakenRefusalHasNoLedger : Type 0
+TakenRefusalHasNoLedger =
+    (config : Config) (tx : List ℕ) → (check_reply config.kind [] tx ≡ 0 → ⊥) → NoLedger config (three [] [] (takes tx ∷ []))
+
 -- ---- another value than the common proposal
 
 -- a committed batch that differs from the one that all correct replicas proposed for its height excludes every ledger

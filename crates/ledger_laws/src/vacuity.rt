@@ -1,7 +1,7 @@
 //! The laws are not vacuous. They exclude something: histories that no ledger explains. Their premises can be met:
 //! there are histories without a fault, runs in which nothing is forged, and histories that pass an audit.
 ghost use Rattle.ledger_laws.specs.Audits.{ForkIsCaught, CaughtForkExample, QuietHistoriesPass, ReportExample, LockExample};
-ghost use Rattle.ledger_laws.specs.Vacuity.{NoRunWithoutLedger, NoRunThatRewrites, LedgerIsUnique, ForkHasNoLedger, ForkExample, WrongBlockHasNoLedger, WrongQueryHasNoLedger, WrongCodeHasNoLedger, UnproposedBatchHasNoLedger, UnproposedBatchExample, AgreementHasLedger, FloorExample, OnlyInjectionsForge, SilentRunsForgeNothing, SilentRunsRefine};
+ghost use Rattle.ledger_laws.specs.Vacuity.{NoRunWithoutLedger, NoRunThatRewrites, LedgerIsUnique, ForkHasNoLedger, ForkExample, WrongBlockHasNoLedger, WrongQueryHasNoLedger, WrongCodeHasNoLedger, TakenRefusalHasNoLedger, UnproposedBatchHasNoLedger, UnproposedBatchExample, AgreementHasLedger, FloorExample, OnlyInjectionsForge, SilentRunsForgeNothing, SilentRunsRefine};
 
 /// If the histories of a world have no ledger, the world is not the run of a ledger.
 pub fn no_run_without_ledger()
@@ -42,6 +42,12 @@ pub fn wrong_query_has_no_ledger()
 /// the histories have no ledger.
 pub fn wrong_code_has_no_ledger()
     ensures { WrongCodeHasNoLedger }
+{}
+
+/// If a correct replica that committed nothing takes a transaction that the application run alone refuses, the histories
+/// have no ledger.
+pub fn taken_refusal_has_no_ledger()
+    ensures { TakenRefusalHasNoLedger }
 {}
 
 /// If a correct replica committed a batch at a height for which all correct replicas proposed another, the histories
