@@ -15,3 +15,4 @@ pub mod Audits
 pub mod AuditFindings
 mod AuditedForks
 mod AuditExamples
+mod PlainRun

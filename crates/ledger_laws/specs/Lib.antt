@@ -2,3 +2,4 @@ pub mod Examples
 pub mod Vacuity
 pub mod Floors
 pub mod Audits
+pub mod PlainRun

@@ -3,4 +3,5 @@
 
 pub mod examples;
 pub mod laws;
+pub mod plain_run;
 pub mod vacuity;
