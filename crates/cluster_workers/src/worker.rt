@@ -192,7 +192,7 @@ impl<A: Application> Worker<A> {
             return;
         };
         let mut state = self.replica.lock(rt);
-        let _ = state.prime(ring, parts, &answers);
+        state.prime(ring, parts, &answers);
     }
 
     /// Checks the signatures of the frames, and then those in the proofs of the frames that are signed, as the replica would

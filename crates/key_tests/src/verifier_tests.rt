@@ -140,9 +140,7 @@ fn asks_primed(
 ) -> Option<(bool, u64)> {
     let signer = ReplicaId::new(1);
     let answer = ring.verifies(signer, message, signature);
-    verifier
-        .prime(ring, signer, message, signature, answer)
-        .ok()?;
+    verifier.prime(ring, signer, message, signature, answer);
     Some(asks(verifier, 1, message, signature))
 }
 

@@ -136,20 +136,12 @@ impl<A: Application> State<A> {
 
     /// Takes in what was computed elsewhere: whether each of these parts of frames is signed under this ring's keys, in
     /// order. A delivery of a frame that has one of them then doesn't hash it again. It is no event. Answers under other keys
-    /// than this replica's ring has are left out.
-    ///
-    /// The only error is allocation failure. The replica then took in the answers for the parts before the first one for
-    /// which memory was refused.
-    pub fn prime(
-        &mut self,
-        ring: &KeyRing,
-        parts: &[SignedPart<'_>],
-        answers: &[bool],
-    ) -> Result<(), AllocError>
+    /// than this replica's ring has are left out, and so are those for which memory is refused.
+    pub fn prime(&mut self, ring: &KeyRing, parts: &[SignedPart<'_>], answers: &[bool])
         requires { answers.now ≡ map (is_part_signed ring.now) parts.now }
         ensures { self.new ≡ self.old }
     {
-        self.core.prime(ring, parts, answers)
+        self.core.prime(ring, parts, answers);
     }
 
     /// The first cause for which the replica ignores the frame before it checks the signature, if one applies: the signer,

@@ -5,7 +5,6 @@ use abci::Application;
 use key_ring::KeyRing;
 use ledger_model::Ignored;
 use signed_frames::{Frame, SignedPart};
-use std::alloc::AllocError;
 use std::mem;
 use verify_cache::Verifier;
 
@@ -14,16 +13,11 @@ impl<A: Application> ReplicaState<A> {
     ghost use Rattle.verify_cache.specs.Checks.{is_part_signed};
 
     /// Takes in which of the parts are signed, without any effect that contracts see.
-    fn prime(
-        &mut self,
-        ring: &KeyRing,
-        parts: &[SignedPart<'_>],
-        answers: &[bool],
-    ) -> Result<(), AllocError>
+    fn prime(&mut self, ring: &KeyRing, parts: &[SignedPart<'_>], answers: &[bool])
         requires { answers.now ≡ map (is_part_signed ring.now) parts.now }
         ensures { self.new ≡ self.old }
     {
-        self.verifier.prime_all(ring, parts, answers)
+        self.verifier.prime_all(ring, parts, answers);
     }
 
     /// Swaps the verifier for another one that has the same keys, without any effect that contracts see.
@@ -44,20 +38,13 @@ impl<A: Application> Core<A> {
     ghost use Rattle.replica_core.specs.Placing.{answer_before_signature};
 
     /// Takes in what was computed elsewhere: whether each of these parts of frames is signed under this ring's keys, in
-    /// order. A later step then doesn't hash what it finds among them. Answers under other keys than the core's are left out.
-    ///
-    /// The only error is allocation failure. The core then took in the answers for the parts before the first one for which
-    /// memory was refused.
-    pub fn prime(
-        &mut self,
-        ring: &KeyRing,
-        parts: &[SignedPart<'_>],
-        answers: &[bool],
-    ) -> Result<(), AllocError>
+    /// order. A later step then doesn't hash what it finds among them. Answers under other keys than the core's are left out,
+    /// and so are those for which memory is refused.
+    pub fn prime(&mut self, ring: &KeyRing, parts: &[SignedPart<'_>], answers: &[bool])
         requires { answers.now ≡ map (is_part_signed ring.now) parts.now }
         ensures { self.new ≡ self.old }
     {
-        self.kept.prime(ring, parts, answers)
+        self.kept.prime(ring, parts, answers);
     }
 
     /// The first cause for which the replica ignores the frame before it checks the signature, if one applies: the signer,

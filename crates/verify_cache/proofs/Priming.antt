@@ -1,41 +1,38 @@
 -- Answers that were computed elsewhere are taken in one after the other.
-use Rattle.std.proofs.Common.{◌≡◌, ℕ, ◌<◌, ◌⊎◌, Bool, true, false, List, [], ◌∷◌, ◌++◌, length, map, take, refl, sym, ap, ◌∙◌}
-use Rattle.std.proofs.Common.{inl, inr, arith}
-use Rattle.std.specs.Prelude.{Result, Ok, Err, OnErr}
-use Rattle.std.proofs.lemmas.List.{append_assoc, append-nil, length-append}
-use Rattle.std.proofs.Math.Seq.{take-append_seam}
+use Rattle.std.proofs.Common.{◌≡◌, ◌⊎◌, Bool, true, false, List, [], ◌∷◌, ◌++◌, map, refl, sym, ap, subst, ◌∙◌}
+use Rattle.std.proofs.Common.{inl, inr}
+use Rattle.std.proofs.lemmas.List.{append_assoc, append-nil}
 use Rattle.ledger_model.specs.Rules.{Ring}
 use Rattle.signed_frames.specs.Lending.{SignedPartView}
 use Rattle.verify_cache.specs.Checks.{is_part_signed}
-use Rattle.verify_cache.specs.Verifiers.{VerifierView, check_of, has_same_key, primed, primed_all}
-
--- what holds, holds after an error
-pub after_err : {T E : Type 0} {P : Type 0} (r : Result T E) → P → OnErr r P
-after_err (Ok t) p = tt
-after_err (Err e) p = p
+use Rattle.verify_cache.specs.Verifiers.{VerifierView, check_of, has_same_key, primed, Primes, PrimesAll}
 
 -- of these parts, those that aren't left were taken in
 pub record IsPriming (ring : Ring) (parts : List SignedPartView) (old : VerifierView) (left : List SignedPartView) (answers : List Bool)
     (now : VerifierView) : Type 0 where
   pub done : List SignedPartView
   pub split : parts ≡ done ++ left
-  pub taken : now ≡ primed_all ring done old
+  pub taken : PrimesAll ring done old now
   pub right : answers ≡ map (is_part_signed ring) left
 
 -- one more part
-primed_all-append : (ring : Ring) (ps : List SignedPartView) (p : SignedPartView) (v : VerifierView)
-    → primed_all ring (ps ++ p ∷ []) v ≡ primed ring (check_of p) (primed_all ring ps v)
-primed_all-append ring [] p v = refl
-primed_all-append ring (q ∷ ps) p v = primed_all-append ring ps p (primed ring (check_of q) v)
+primes_more : (ring : Ring) (ps : List SignedPartView) (p : SignedPartView) (old now next : VerifierView)
+    → PrimesAll ring ps old now → Primes ring (check_of p) now next → PrimesAll ring (ps ++ p ∷ []) old next
+primes_more ring [] p old now next is more = (next, (subst (λ v. Primes ring (check_of p) v next) is more, refl))
+primes_more ring (q ∷ ps) p old now next (mid, (first, rest)) more = (mid, (first, primes_more ring ps p mid now next rest more))
 
 -- the keys are the same
-ring_stays : (ring : Ring) (ps : List SignedPartView) (v : VerifierView) → (primed_all ring ps v).ring ≡ v.ring
-ring_stays ring [] v = refl
-ring_stays ring (p ∷ ps) v = ring_stays ring ps (primed ring (check_of p) v) ∙ one (has_same_key ring v.ring p.signer) refl
+ring_stays : (ring : Ring) (ps : List SignedPartView) (old new : VerifierView) → PrimesAll ring ps old new → new.ring ≡ old.ring
+ring_stays ring [] old new is = ap (λ (v : VerifierView). v.ring) is
+ring_stays ring (p ∷ ps) old new (mid, (first, rest)) = ring_stays ring ps mid new rest ∙ either first
   where
-    one : (same : Bool) → has_same_key ring v.ring p.signer ≡ same → (primed ring (check_of p) v).ring ≡ v.ring
+    one : (same : Bool) → has_same_key ring old.ring p.signer ≡ same → (primed ring (check_of p) old).ring ≡ old.ring
     one true h = rw h refl
     one false h = rw h refl
+
+    either : Primes ring (check_of p) old mid → mid.ring ≡ old.ring
+    either (inl is) = ap (λ (v : VerifierView). v.ring) is ∙ one (has_same_key ring old.ring p.signer) refl
+    either (inr is) = ap (λ (v : VerifierView). v.ring) is
 
 module _ (ring : Ring) (parts : List SignedPartView) (old : VerifierView) where
   pub priming_begins : (answers : List Bool) → answers ≡ map (is_part_signed ring) parts → IsPriming ring parts old parts answers old
@@ -47,20 +44,20 @@ module _ (ring : Ring) (parts : List SignedPartView) (old : VerifierView) where
     priming_answer p ps a bs left_is answers_is = let right = is.right in cc
 
     pub priming_next : (p : SignedPartView) (ps : List SignedPartView) (a : Bool) (bs : List Bool) (next : VerifierView)
-        → left ≡ p ∷ ps → answers ≡ a ∷ bs → next ≡ primed ring (check_of p) now → IsPriming ring parts old ps bs next
-    priming_next p ps a bs next left_is answers_is next_is = record {
+        → left ≡ p ∷ ps → answers ≡ a ∷ bs → Primes ring (check_of p) now next → IsPriming ring parts old ps bs next
+    priming_next p ps a bs next left_is answers_is more = record {
       done = is.done ++ p ∷ [];
       split = is.split ∙ ap (λ l. is.done ++ l) left_is ∙ sym (append_assoc is.done (p ∷ []) ps);
-      taken = next_is ∙ ap (primed ring (check_of p)) is.taken ∙ sym (primed_all-append ring is.done p old);
+      taken = primes_more ring is.done p old now next is.taken more;
       right = let right = is.right in cc;
     }
 
     pub priming_keeps : now.ring ≡ old.ring
-    priming_keeps = ap (λ (v : VerifierView). v.ring) is.taken ∙ ring_stays ring is.done old
+    priming_keeps = ring_stays ring is.done old now is.taken
 
-    pub priming_ends : (left ≡ []) ⊎ (answers ≡ []) → now ≡ primed_all ring parts old
+    pub priming_ends : (left ≡ []) ⊎ (answers ≡ []) → PrimesAll ring parts old now
     priming_ends none =
-        is.taken ∙ ap (λ ps. primed_all ring ps old) (sym (is.split ∙ ap (λ l. is.done ++ l) (empty none) ∙ append-nil is.done))
+        subst (λ ps. PrimesAll ring ps old now) (sym (is.split ∙ ap (λ l. is.done ++ l) (empty none) ∙ append-nil is.done)) is.taken
       where
         no_more : (ps : List SignedPartView) → [] ≡ map (is_part_signed ring) ps → ps ≡ []
         no_more [] h = refl
@@ -69,16 +66,3 @@ module _ (ring : Ring) (parts : List SignedPartView) (old : VerifierView) where
         empty : (left ≡ []) ⊎ (answers ≡ []) → left ≡ []
         empty (inl h) = h
         empty (inr h) = no_more left (sym h ∙ is.right)
-
-    pub priming_fails : (p : SignedPartView) (ps : List SignedPartView) (next : VerifierView) → left ≡ p ∷ ps → next ≡ now
-        → (count : ℕ) × (count < length parts) × (next ≡ primed_all ring (take count parts) old)
-    priming_fails p ps next left_is next_is = (length is.done, below, next_is ∙ is.taken ∙ ap (λ qs. primed_all ring qs old) (sym before))
-      where
-        split : parts ≡ is.done ++ p ∷ ps
-        split = is.split ∙ ap (λ l. is.done ++ l) left_is
-
-        before : take (length is.done) parts ≡ is.done
-        before = ap (take (length is.done)) split ∙ take-append_seam is.done (p ∷ ps)
-
-        below : length is.done < length parts
-        below = let all = ap length split ∙ length-append is.done (p ∷ ps) in omega (arith, all)

@@ -80,7 +80,11 @@ primed ring m v = if has_same_key ring v.ring m.signer then with_answer m (answe
 abbrev pub check_of : SignedPartView → SignedMessage
 check_of p = signed_of p.signer p.message p.signature
 
--- the verifier takes in what this ring answers to each of these parts, one after the other
-abbrev pub primed_all : Ring → List SignedPartView → VerifierView → VerifierView
-primed_all ring [] v = v
-primed_all ring (p ∷ ps) v = primed_all ring ps (primed ring (check_of p) v)
+-- the verifier takes in what this ring answers to the check, or leaves it out, if memory for it is refused
+abbrev pub Primes : Ring → SignedMessage → VerifierView → VerifierView → Type 0
+Primes ring m old new = (new ≡ primed ring m old) ⊎ (new ≡ old)
+
+-- it does so with each of these parts, one after the other
+abbrev pub PrimesAll : Ring → List SignedPartView → VerifierView → VerifierView → Type 0
+PrimesAll ring [] old new = new ≡ old
+PrimesAll ring (p ∷ ps) old new = (next : VerifierView) × (Primes ring (check_of p) old next × PrimesAll ring ps next new)

@@ -1,5 +1,5 @@
 //! The verifier: the ring, and the answers of its last checks.
-ghost use Rattle.std.specs.Prelude.{◌≡◌, ◌<◌, ◌⊎◌, ℕ, false, true, None, is_some, slice_get, map, length, take, IfOk, IfSome, OnOk, OnErr};
+ghost use Rattle.std.specs.Prelude.{◌≡◌, false, true, None, is_some, slice_get, map, IfOk, IfSome, OnOk, OnErr};
 ghost use Rattle.std.specs.Map.{lookup};
 ghost use Rattle.std.specs.NonZero.{non_zero_usize_get};
 ghost use Rattle.lru.specs.LruCache.{promoted};
@@ -7,7 +7,7 @@ ghost use Rattle.ledger_model.specs.Rules.{is_signed_by};
 ghost use Rattle.verify_cache.specs.Checks.{is_part_signed};
 ghost use Rattle.verify_cache.specs.Same.{same, signed_of};
 ghost use Rattle.verify_cache.specs.Verifiers.{new_verifier, max_known, answer_by, answer_in, is_known, one_more, added};
-ghost use Rattle.verify_cache.specs.Verifiers.{check_of, has_same_key, primed, primed_all, Recalls, Learns};
+ghost use Rattle.verify_cache.specs.Verifiers.{check_of, has_same_key, Primes, PrimesAll, Recalls, Learns};
 
 use crate::SignedMessage;
 use bytes::Bytes;
@@ -136,9 +136,8 @@ impl Verifier {
     }
 
     /// Takes in what was computed elsewhere: whether the signature is valid under this ring's keys, as `KeyRing::verifies`
-    /// answers. The verifier leaves the answer out if this ring has another key of the signer than its own ring.
-    ///
-    /// The only error is allocation failure. It changes nothing.
+    /// answers. The verifier leaves the answer out if this ring has another key of the signer than its own ring, and if
+    /// memory for it is refused. Then nothing changes.
     pub fn prime(
         &mut self,
         ring: &KeyRing,
@@ -146,59 +145,41 @@ impl Verifier {
         message: &Bytes,
         signature: &Bytes,
         answer: bool,
-    ) -> Result<(), AllocError>
+    )
         requires { answer ≡ is_signed_by (slice_get ring.now signer) message.now signature.now }
-        ensures primed { OnOk result (self.new ≡ primed ring.now (signed_of signer message.now signature.now) self.old) }
-        ensures err { OnErr result (self.new ≡ self.old) }
+        ensures { Primes ring.now (signed_of signer message.now signature.now) self.old self.new }
     {
         if !have_same_key(ring, &self.ring, signer) {
-            return Ok(());
+            return;
         }
-        let signed = SignedMessage::sharing(signer, message, signature)?;
-        if self.recall(&signed).is_some() {
-            return Ok(());
+        if let Ok(signed) = SignedMessage::sharing(signer, message, signature) {
+            if self.recall(&signed).is_none() {
+                let _ = self.keep(signed, answer);
+            }
         }
-        self.keep(signed, answer)
     }
 
     /// Does what [`Verifier::prime`] does, for a part of a frame: what is kept of it shares the frame's bytes.
-    pub fn prime_part(
-        &mut self,
-        ring: &KeyRing,
-        part: &SignedPart<'_>,
-        answer: bool,
-    ) -> Result<(), AllocError>
+    pub fn prime_part(&mut self, ring: &KeyRing, part: &SignedPart<'_>, answer: bool)
         requires { answer ≡ is_part_signed ring.now part.now }
-        ensures primed { OnOk result (self.new ≡ primed ring.now (check_of part.now) self.old) }
-        ensures err { OnErr result (self.new ≡ self.old) }
+        ensures { Primes ring.now (check_of part.now) self.old self.new }
     {
-        let message = part.share_message()?;
-        let signature = part.share_signature()?;
-        self.prime(ring, part.signer(), &message, &signature, answer)
+        let (Ok(message), Ok(signature)) = (part.share_message(), part.share_signature()) else {
+            return;
+        };
+        self.prime(ring, part.signer(), &message, &signature, answer);
     }
 
-    /// Takes in what was computed elsewhere: whether each of these parts of frames is signed under this ring's keys, in
-    /// order. The verifier leaves out the answers for signers of which this ring has another key than its own ring.
-    ///
-    /// The only error is allocation failure. The verifier then took in the answers for the parts before the first one for
-    /// which memory was refused.
-    pub fn prime_all(
-        &mut self,
-        ring: &KeyRing,
-        parts: &[SignedPart<'_>],
-        answers: &[bool],
-    ) -> Result<(), AllocError>
+    /// Does what [`Verifier::prime`] does, for each of these parts of frames, in order.
+    pub fn prime_all(&mut self, ring: &KeyRing, parts: &[SignedPart<'_>], answers: &[bool])
         requires { answers.now ≡ map (is_part_signed ring.now) parts.now }
-        ensures primed { OnOk result (self.new ≡ primed_all ring.now parts.now self.old) }
-        ensures some { OnErr result ((count : ℕ) × (count < length parts.now)
-            × (self.new ≡ primed_all ring.now (take count parts.now) self.old)) }
+        ensures primed { PrimesAll ring.now parts.now self.old self.new }
         // The keys are the same.
         ensures ring { self.new.ring ≡ self.old.ring }
     {
         for (part, answer) in parts.iter().zip(answers) {
-            self.prime_part(ring, part, *answer)?;
+            self.prime_part(ring, part, *answer);
         }
-        Ok(())
     }
 
     /// The answer, if it is known. It becomes the most recent.
