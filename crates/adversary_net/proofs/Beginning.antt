@@ -25,6 +25,7 @@ use Rattle.lms_tree.specs.Trees.{Secret}
 use Rattle.key_ring.specs.Signers.{leaves_of}
 use Rattle.cluster_keys.specs.Keys.{ring_with}
 use Rattle.replica_core.proofs.SpentLeaves.{account_none}
+use Rattle.replica_core.proofs.LeafOrder.{once_none}
 use Rattle.locked_replica.specs.States.{StateView}
 use Rattle.adversary_net.specs.declared.party.Party.{Party}
 use Rattle.adversary_net.specs.WorldViews.{WorldView, IsCluster, IsMemberAt, state_in, state_at, correct_of, history_in, world_of}
@@ -181,7 +182,15 @@ new_member : (config : Config) (secrets : ℕ → Secret) (liars : List ℕ) (r 
     → IsMemberAt (new_cluster config secrets liars) r (new_replica config (ring_with config secrets) secrets r)
 unfolding Replay ReplaysFrom commits_of
 new_member config secrets liars r =
-    record { config = refl; ring = refl; id = refl; replay = tt; machine = refl; account = account_none config r (leaves_of (secrets r)) 0 }
+    record {
+      config = refl;
+      ring = refl;
+      id = refl;
+      replay = tt;
+      machine = refl;
+      account = account_none config r (leaves_of (secrets r)) 0;
+      once = once_none (secrets r) 0;
+    }
 
 mapped : {X Y : Type 0} (f : X → Y) (o : Option X) (y : Y) → option_map f o ≡ Some y → (x : X) × ((o ≡ Some x) × (f x ≡ y))
 mapped f None y is = cc

@@ -30,7 +30,8 @@ use Rattle.ledger_laws.proofs.Unforged.{asks_only}
 use Rattle.ledger_laws.proofs.WorldRuns.{names_correct, runs_append}
 use Rattle.key_ring.specs.Signers.{leaves_of}
 use Rattle.replica_core.proofs.SpentLeaves.{account_still}
-use Rattle.locked_replica.specs.States.{StateView, RunsAlone, AccountsForLeaves, may_lose}
+use Rattle.replica_core.proofs.LeafOrder.{once_still}
+use Rattle.locked_replica.specs.States.{StateView, RunsAlone, AccountsForLeaves, SignsEachOnce, may_lose}
 use Rattle.adversary_net.specs.declared.party.Party.{Party}
 use Rattle.adversary_net.specs.declared.party.Party.TheVariants as party
 use Rattle.adversary_net.specs.WorldViews.{WorldView, IsCluster, IsMemberAt, IsSameCluster, state_in, state_at, correct_of, history_in}
@@ -140,6 +141,7 @@ member_still c d r s config ring member = record {
       (subst (λ (l : Ring). Replay c.config l r s.entries) (sym ring) member.replay);
   machine = subst (λ (k : Config). s.machine ≡ run k.kind (commits_of k r s.entries)) (sym config) member.machine;
   account = member.account;
+  once = member.once;
 }
 
 members_set : (c : WorldView) (r : ℕ) (new : StateView) (order : List ℕ) → IsCluster c → IsMemberAt c r new
@@ -214,6 +216,7 @@ added_member c r index e new at applied =
       replay = rw (sym config, sym ring, sym id) applied.replay;
       machine = rw (sym config, sym id) applied.machine;
       account = applied.account;
+      once = applied.once;
     }
 
 -- with one entry more
@@ -261,6 +264,8 @@ stayed c r new s e cluster ready at stays =
       account = subst (λ (t : StateView). AccountsForLeaves t) (sym is)
           (account_still at.state.config at.state.id (leaves_of at.state.secret) at.state.used new.used at.state.entries stays.least
           at.member.account);
+      once = subst (λ (t : StateView). SignsEachOnce t) (sym is)
+          (once_still at.state.secret at.state.used new.used at.state.entries stays.least at.member.once);
     } in
     let by : StepsBy c.config c.ring (world_of c) (event_of c.config (world_of c) s) (answer.Refused refused.NoMemory) (world_of d) =
     subst (λ o. StepsBy c.config c.ring (world_of c) o (answer.Refused refused.NoMemory) (world_of d)) (sym ready.is)

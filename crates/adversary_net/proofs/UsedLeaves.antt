@@ -11,7 +11,7 @@ use Rattle.replica_core.specs.Leaves.{signed_by}
 use Rattle.locked_replica.specs.States.{StateView, UsesAsSigned}
 use Rattle.adversary_net.specs.declared.party.Party.{Party}
 use Rattle.adversary_net.specs.declared.party.Party.TheVariants as party
-use Rattle.adversary_net.specs.WorldViews.{WorldView, IsCluster, AllAccountForLeaves, AllReplay, UsesAsAnswered, is_out_of_memory, state_in}
+use Rattle.adversary_net.specs.WorldViews.{WorldView, IsCluster, AllAccountForLeaves, EachSignsOnce, AllReplay, UsesAsAnswered, is_out_of_memory, state_in}
 use Rattle.adversary_net.specs.Leaves.{UsesButFor, EachUses, IsAnswered, AreAnswered, loss_at, lost_at}
 
 -- ---- one party in the place of another
@@ -141,3 +141,7 @@ replays c cluster r s is = (cluster.members r s is).replay
 -- each member accounts for its leaves
 pub accounts : (c : WorldView) → IsCluster c → AllAccountForLeaves c
 accounts c cluster r s is = (cluster.members r s is).account
+
+-- each member signs with each leaf once
+pub once : (c : WorldView) → IsCluster c → EachSignsOnce c
+once c cluster r s is = (cluster.members r s is).once

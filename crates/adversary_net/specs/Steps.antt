@@ -10,7 +10,7 @@ use Rattle.ledger_model.specs.declared.world.WorldRefusal.{WorldRefusal}
 use Rattle.ledger_model.specs.declared.world.WorldRefusal.TheVariants as refused
 use Rattle.ledger_model.specs.Lawful.{Lawful, Replay}
 use Rattle.ledger_model.specs.Worlds.{entries_in, event_of, StepsBy}
-use Rattle.locked_replica.specs.States.{StateView, RunsAlone, AccountsForLeaves, UsesAsSigned, may_lose}
+use Rattle.locked_replica.specs.States.{StateView, RunsAlone, AccountsForLeaves, SignsEachOnce, UsesAsSigned, may_lose}
 use Rattle.adversary_net.specs.declared.party.Party.{Party}
 use Rattle.adversary_net.specs.declared.party.Party.TheVariants as party
 use Rattle.adversary_net.specs.WorldViews.{WorldView, IsCluster, world_of}
@@ -52,6 +52,7 @@ pub record Applies (old : StateView) (event : Event) (index : ℕ) (new : StateV
   pub machine : RunsAlone new
   pub signed : UsesAsSigned old new
   pub account : AccountsForLeaves new
+  pub once : SignsEachOnce new
 
 -- the party is the correct replica, with one more lawful entry
 abbrev pub AppliesTo : StateView → Event → ℕ → Party StateView → Type 0

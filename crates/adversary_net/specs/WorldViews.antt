@@ -19,7 +19,7 @@ use Rattle.ledger_model.specs.Worlds.{World, beginning, Runs, IsReplyOn}
 use Rattle.lms_tree.specs.Trees.{Secret}
 use Rattle.key_ring.specs.Signers.{SignerView, SignsAs}
 use Rattle.key_ring.specs.declared.fault.SignFault.{SignFault}
-use Rattle.locked_replica.specs.States.{StateView, AccountsForLeaves, UsesAsSigned}
+use Rattle.locked_replica.specs.States.{StateView, AccountsForLeaves, SignsEachOnce, UsesAsSigned}
 use Rattle.adversary_net.specs.declared.party.Party.{Party}
 use Rattle.adversary_net.specs.declared.party.Party.TheVariants as party
 
@@ -79,7 +79,7 @@ world_of c = record { histories = map history_in (states_of c); order = c.order 
 -- ---- the invariants of a running cluster
 
 -- The correct replica with this number belongs to the cluster. Its history is a replay, its machine is the application
--- run alone on what it committed, and it is mute only if too few leaves were left.
+-- run alone on what it committed, it is mute only if too few leaves were left, and none of its leaves signs two statements.
 pub record IsMemberAt (c : WorldView) (r : ℕ) (s : StateView) : Type 0 where
   pub config : s.config ≡ c.config
   pub ring : s.ring ≡ c.ring
@@ -87,6 +87,7 @@ pub record IsMemberAt (c : WorldView) (r : ℕ) (s : StateView) : Type 0 where
   pub replay : Replay c.config c.ring r s.entries
   pub machine : s.machine ≡ run c.config.kind (commits_of c.config r s.entries)
   pub account : AccountsForLeaves s
+  pub once : SignsEachOnce s
 
 -- the reply is that memory ran out
 abbrev pub is_out_of_memory : WorldReply → Bool
@@ -135,6 +136,10 @@ AllReplay c = (r : ℕ) (s : StateView) → state_at c r ≡ Some s → Replay c
 -- each leaf of each correct replica is accounted for, and the replica is mute only if too few were left
 abbrev pub AllAccountForLeaves : WorldView → Type 0
 AllAccountForLeaves c = (r : ℕ) (s : StateView) → state_at c r ≡ Some s → AccountsForLeaves s
+
+-- no leaf of a correct replica signs two statements
+abbrev pub EachSignsOnce : WorldView → Type 0
+EachSignsOnce c = (r : ℕ) (s : StateView) → state_at c r ≡ Some s → SignsEachOnce s
 
 -- each correct replica is still there; each statement of its own that was added to its history used one leaf, and
 -- nothing else used one

@@ -43,7 +43,7 @@ impl<A: Application> World<A> {
     ghost use Rattle.ledger_model.specs.declared.event.Event.{Event};
     ghost use Rattle.ledger_model.specs.Timelines.{AreReplicas};
     ghost use Rattle.ledger_model.specs.Worlds.{entries_in, asks, passes, fault_of_two, Runs, OwnMachines};
-    ghost use Rattle.adversary_net.specs.WorldViews.{world_of, correct_of, machine_in, AllAccountForLeaves, AllReplay, HasRun, IsCluster, IsSameCluster, OwnReplies, UsesAsAnswered};
+    ghost use Rattle.adversary_net.specs.WorldViews.{world_of, correct_of, machine_in, AllAccountForLeaves, AllReplay, HasRun, IsCluster, IsSameCluster, EachSignsOnce, OwnReplies, UsesAsAnswered};
     ghost use Rattle.adversary_net.specs.Headline.{IsUnforged, IsOneLedger};
     ghost use Rattle.adversary_net.specs.Leaves.{AreAnswered};
     ghost use Rattle.adversary_net.specs.Steps.{Refused, IsReady, Asks, Went};
@@ -201,6 +201,8 @@ impl<A: Application> World<A> {
         ensures replay { AllReplay self.new }
         // A correct replica is mute only if too few leaves were left.
         ensures account { AllAccountForLeaves self.new }
+        // No leaf of a correct replica signs two statements, in any run.
+        ensures once { EachSignsOnce self.new }
         // If memory didn't run out, each replica used one leaf for each statement of its own that it sent, and no other.
         ensures leaves { IfOk result (λ answers. UsesAsAnswered self.old answers.items self.new) }
         // Step by step: if memory ran out, the replica whose round was to end may have lost as many leaves as it was to sign then,

@@ -16,7 +16,7 @@ use std::marker::Model;
 ///
 /// The invariants of the type: what happened is a run in the sense of the definitions; each correct replica's
 /// application is what it is when it runs alone on the replica's blocks; a correct replica is mute only if too few
-/// leaves were left; and no more replicas lie than the cluster tolerates.
+/// leaves were left; none of its leaves signs two statements; and no more replicas lie than the cluster tolerates.
 pub struct World<A: Application> {
     pub(crate) config: Config,
     pub(crate) ring: KeyRing,
@@ -71,7 +71,7 @@ impl<A: Application> World<A> {
     ghost use Rattle.ledger_model.specs.Groups.{is_correct};
     ghost use Rattle.ledger_model.specs.Worlds.{entries_in, fault_at, frames_sent};
     ghost use Rattle.replica_core.specs.Facts.{info_reply};
-    ghost use Rattle.adversary_net.specs.WorldViews.{world_of, state_at, AllAccountForLeaves, AllReplay, HasRun, IsMemberAt, IsCluster};
+    ghost use Rattle.adversary_net.specs.WorldViews.{world_of, state_at, AllAccountForLeaves, AllReplay, HasRun, IsMemberAt, IsCluster, EachSignsOnce};
     ghost use Rattle.adversary_net.specs.Headline.{IsUnforged, IsOneLedger};
     ghost use Rattle.ledger_model.specs.Limits.{max_history_len};
 
@@ -93,6 +93,8 @@ impl<A: Application> World<A> {
         ensures replay { AllReplay self.now }
         // A correct replica is mute only if too few leaves were left.
         ensures account { AllAccountForLeaves self.now }
+        // No leaf of a correct replica signed two statements.
+        ensures once { EachSignsOnce self.now }
     {
         &self.order
     }

@@ -32,10 +32,11 @@ named s leaf message small =
     ∙ ap (from_be_bytes w32) (take_at head (ots ++ code ++ way) 4 refl)
     ∙ from_be_bytes-to_be_bytes_4 leaf small
 
-weaker : (least more : ℕ) (ns : List ℕ) → least ≤ more → AscendFrom more ns → AscendFrom least ns
+-- leaves that ascend from a number ascend from every lower one
+pub ascend_lower : (least more : ℕ) (ns : List ℕ) → least ≤ more → AscendFrom more ns → AscendFrom least ns
 unfolding AscendFrom
-weaker least more [] le a = tt
-weaker least more (n ∷ ns) le a = let first = a.0 in (omega arith, a.1)
+ascend_lower least more [] le a = tt
+ascend_lower least more (n ∷ ns) le a = let first = a.0 in (omega arith, a.1)
 
 -- what one call adds to the leaves of those after it
 one_call : (old next : SignerView) (message : List ℕ) (answer : Result (List ℕ) SignFault) (ns : List ℕ)
@@ -51,7 +52,7 @@ one_call old next message (Err fault.Exhausted) ns step rest =
     subst (λ (k : SignerView). AscendFrom k.used ns) (step.1) rest
 one_call old next message (Err fault.NoMemory) ns step rest =
     let used : next.used ≡ old.used + 1 = ap (λ (k : SignerView). k.used) (step.1) in
-    weaker old.used next.used ns (omega arith) rest
+    ascend_lower old.used next.used ns (omega arith) rest
 
 pub no_leaf_twice : NoLeafTwice
 unfolding SignsAll AscendFrom

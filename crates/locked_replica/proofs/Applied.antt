@@ -19,7 +19,9 @@ use Rattle.replica_core.specs.ReplicaStates.{ReplicaStateView, MatchesHistory}
 use Rattle.replica_core.specs.Leaves.{signed_at, signed_by, due_by, LeafAccount}
 use Rattle.replica_core.specs.Cores.{CoreView as Core, IsSameReplica, due_then, is_mute_then}
 use Rattle.replica_core.specs.Steps.{IsStep, UsesLeaves}
+use Rattle.replica_core.specs.LeafOrder.{SignsOnce}
 use Rattle.replica_core.proofs.SpentLeaves.{signed_more, uses_signed, account_more, account_still}
+use Rattle.replica_core.proofs.LeafOrder.{once_more, once_still}
 use Rattle.locked_replica.specs.declared.stored_entry.StoredEntry.{StoredEntry}
 use Rattle.locked_replica.specs.Strings.{Extends, with_strings, strings_at}
 use Rattle.locked_replica.specs.StoredEntries.{entry_of, entries_of, AreStored, IsTakenAs, LeavesCore}
@@ -137,6 +139,13 @@ module _ (old new : Core) (before after : List Entry) (e : Entry) (taken : IsTak
       old.keys.used new.keys.used before e was
       used_on (sym (ap is_mute taken.grown) ∙ mute_on) (lacks_few (replica_of old.held old.keys before) e.event)))
 
+  -- and none signs twice
+  pub once_on : SignsOnce old.keys.secret old.keys.used before → SignsOnce new.keys.secret new.keys.used after
+  once_on was =
+      rw (taken.same.secret, taken.grown)
+      (once_more old.keys new.keys before e (subst (λ clock. UsesLeaves old.keys clock e.reply new.keys) (sym taken.matches.clock) taken.leaves)
+      was)
+
 -- after a fault all is as before, but leaves may be used
 pub left_replica : (old new : Core) (entries : List Entry) → IsReplica old.held old.keys entries → new.held ≡ old.held
     → IsSameReplica old new → old.keys.used ≤ new.keys.used
@@ -148,6 +157,7 @@ left_replica old new entries was held same least = record {
   account =
       rw (same.config, same.id, same.secret)
       (account_still old.held.config old.held.id (leaves_of old.keys.secret) old.keys.used new.keys.used entries least was.account);
+  once = rw same.secret (once_still old.keys.secret old.keys.used new.keys.used entries least was.once);
 }
 
 -- ---- entries that are stored with their strings in a table
@@ -208,6 +218,7 @@ module _ {old new : Core} {before after : List (List ℕ)} {event : Event} {entr
     matches = matches_on old.held new.held (entries_of before entries) (entries_of after news) (entry_of after stored) facts.was.0.matches
         step_on longer;
     account = account_on old new (entries_of before entries) (entries_of after news) (entry_of after stored) taken_on facts.was.0.account;
+    once = once_on old new (entries_of before entries) (entries_of after news) (entry_of after stored) taken_on facts.was.0.once;
   }
 
   -- and its table has each string of the longer history

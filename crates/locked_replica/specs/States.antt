@@ -15,6 +15,7 @@ use Rattle.lms_tree.specs.Trees.{Secret}
 use Rattle.key_ring.specs.Signers.{SignerView, key_of, leaves_of}
 use Rattle.replica_core.specs.ReplicaStates.{ReplicaStateView, MatchesHistory}
 use Rattle.replica_core.specs.Leaves.{due_by, signed_by, LeafAccount}
+use Rattle.replica_core.specs.LeafOrder.{SignsOnce}
 
 -- a replica as contracts see it; `used` is the number of leaves that it used
 pub record StateView : Type 0 where
@@ -60,12 +61,13 @@ replica_of held keys entries = record {
 }
 
 -- The history has at most 65,536 entries, each lawful after those before it; the core state is what the history makes
--- of it; and each used leaf is accounted for.
+-- of it; each used leaf is accounted for; and no leaf signs two of its statements.
 pub record IsReplica (held : ReplicaStateView) (keys : SignerView) (entries : List Entry) : Type 0 where
   pub few : length entries ≤ max_history_len
   pub replay : Replay held.config held.ring held.id entries
   pub matches : MatchesHistory held entries
   pub account : LeafAccount held.config held.id (leaves_of keys.secret) keys.used entries
+  pub once : SignsOnce keys.secret keys.used entries
 
 -- its application is in the state that it reaches when it runs alone on the committed blocks
 unfoldable pub RunsAlone : StateView → Type 0
@@ -77,6 +79,10 @@ RunsAlone r = r.machine ≡ run r.config.kind (commits_of r.config r.id r.entrie
 -- the others. If the replica is mute, too few leaves were left.
 abbrev pub AccountsForLeaves : StateView → Type 0
 AccountsForLeaves r = LeafAccount r.config r.id (leaves_of r.secret) r.used r.entries
+
+-- The statements of its own that its history sends are signed with leaves that ascend: no leaf signs two of them.
+abbrev pub SignsEachOnce : StateView → Type 0
+SignsEachOnce r = SignsOnce r.secret r.used r.entries
 
 -- the number of its own statements that it sends as the next round opens, unless it is mute
 abbrev pub due_next : StateView → ℕ

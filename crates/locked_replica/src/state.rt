@@ -76,7 +76,7 @@ impl<A: Application> State<A> {
     ghost use Rattle.replica_core.specs.Placing.{answer_before_signature};
     ghost use Rattle.replica_core.specs.Facts.{block_at, info_reply, AreClosed};
     ghost use Rattle.locked_replica.specs.Strings.{HaveSame, all_strings, strings_of};
-    ghost use Rattle.locked_replica.specs.States.{StateView, IsMember, AccountsForLeaves, RunsAlone, UsesAsSigned, due_next, is_mute_after, keys_in, new_state, signs_at};
+    ghost use Rattle.locked_replica.specs.States.{StateView, IsMember, AccountsForLeaves, RunsAlone, SignsEachOnce, UsesAsSigned, due_next, is_mute_after, keys_in, new_state, signs_at};
 
     /// A replica with an empty history. The application must be in its opening state, of the configured kind. The ring
     /// has the public keys of the replicas by number. The pool hashes with the first of the random keys, the verifier and
@@ -252,6 +252,8 @@ impl<A: Application> State<A> {
         ensures mute { result ≡ is_mute self.now.entries }
         // It is mute only because too few leaves were left.
         ensures account { AccountsForLeaves self.now }
+        // No leaf signed two statements.
+        ensures once { SignsEachOnce self.now }
     {
         self.core.is_mute()
     }
@@ -332,6 +334,8 @@ impl<A: Application> State<A> {
         // Each statement of its own that the reply sends used one leaf, and nothing else did.
         ensures signed { OnOk result (UsesAsSigned self.old self.new) }
         ensures account { AccountsForLeaves self.new }
+        // No leaf signs two statements.
+        ensures once { SignsEachOnce self.new }
         ensures replay { Replay self.new.config self.new.ring self.new.id self.new.entries }
         // The application is in the state that it reaches when it runs alone on the committed blocks.
         ensures machine { RunsAlone self.new }

@@ -37,3 +37,4 @@ pub mod EventsFollowed
 pub mod ShownRounds
 pub mod DueLeaves
 pub mod SpentLeaves
+pub mod LeafOrder

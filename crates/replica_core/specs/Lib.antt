@@ -11,3 +11,4 @@ pub mod Following
 pub mod ShownEnds
 pub mod Leaves
 pub mod Placing
+pub mod LeafOrder

@@ -1,7 +1,7 @@
 use Rattle.std.proofs.Common.{subst}
 use Rattle.adversary_net.specs.WorldViews.{IsCluster}
 use Rattle.adversary_net.proofs.Headline.{one_ledger}
-use Rattle.adversary_net.proofs.UsedLeaves.{accounts, replays}
+use Rattle.adversary_net.proofs.UsedLeaves.{accounts, once, replays}
 use Rattle.adversary_net.proofs.world.World.order.Goals as goal
 
 pub returns-clause-one_ledger : goal.returns-clause-one_ledger
@@ -12,3 +12,6 @@ returns-clause-account g c = accounts c.args.self.now (subst IsCluster c.self.vi
 
 pub returns-clause-replay : goal.returns-clause-replay
 returns-clause-replay g c = replays c.args.self.now (subst IsCluster c.self.view_is c.self.invariant)
+
+pub returns-clause-once : goal.returns-clause-once
+returns-clause-once g c = once c.args.self.now (subst IsCluster c.self.view_is c.self.invariant)

@@ -1,7 +1,7 @@
 use Rattle.std.proofs.Common.{sym, subst, rules}
 use Rattle.adversary_net.specs.WorldViews.{IsCluster}
 use Rattle.adversary_net.proofs.Headline.{one_ledger}
-use Rattle.adversary_net.proofs.UsedLeaves.{accounts, replays}
+use Rattle.adversary_net.proofs.UsedLeaves.{accounts, once, replays}
 use Rattle.adversary_net.proofs.AppAnswers.{own_machines, own_replies}
 use Rattle.adversary_net.proofs.world.World.run.Goals as goal
 
@@ -55,3 +55,12 @@ returns-in_err-reserve-clause-replay g c = replays _ c.self.invariant
 
 pub returns-clause-replay : goal.returns-clause-replay
 returns-clause-replay g c = replays c.run_each.new.self c.run_each.ensures.cluster
+
+pub returns-in_err-answers-clause-once : goal.returns-in_err-answers-clause-once
+returns-in_err-answers-clause-once g c = once c.args.self.now (subst IsCluster c.self.view_is c.self.invariant)
+
+pub returns-in_err-reserve-clause-once : goal.returns-in_err-reserve-clause-once
+returns-in_err-reserve-clause-once g c = once _ c.self.invariant
+
+pub returns-clause-once : goal.returns-clause-once
+returns-clause-once g c = once c.run_each.new.self c.run_each.ensures.cluster

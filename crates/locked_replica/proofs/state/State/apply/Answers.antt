@@ -44,6 +44,9 @@ returns-clause-signed g c =
 pub returns-clause-account : goal.returns-clause-account
 returns-clause-account g c = (invariant_of-self-2 g c).0.account
 
+pub returns-clause-once : goal.returns-clause-once
+returns-clause-once g c = (invariant_of-self-2 g c).0.once
+
 pub returns-then-index-ge-MAX_ENTRIES-clause-full : goal.returns-then-index-ge-MAX_ENTRIES-clause-full
 returns-then-index-ge-MAX_ENTRIES-clause-full g c =
     let s = c.self.inside in
@@ -59,3 +62,6 @@ invariant_of-self-in_err-entry g c =
 
 pub returns-in_err-entry-clause-account : goal.returns-in_err-entry-clause-account
 returns-in_err-entry-clause-account g c = (invariant_of-self-in_err-entry g c).0.account
+
+pub returns-in_err-entry-clause-once : goal.returns-in_err-entry-clause-once
+returns-in_err-entry-clause-once g c = (invariant_of-self-in_err-entry g c).0.once

@@ -3,7 +3,9 @@ use Rattle.ledger_model.specs.Lawful.{Replay, ReplaysFrom}
 use Rattle.key_ring.specs.Signers.{leaves_of}
 use Rattle.replica_core.specs.ReplicaStates.{MatchesHistory}
 use Rattle.replica_core.specs.Leaves.{LeafAccount}
+use Rattle.replica_core.specs.LeafOrder.{SignsOnce}
 use Rattle.replica_core.proofs.SpentLeaves.{account_none}
+use Rattle.replica_core.proofs.LeafOrder.{once_none}
 use Rattle.locked_replica.specs.StoredEntries.{AreStored, entries_of}
 use Rattle.locked_replica.proofs.state.State.new.Goals as goal
 use Rattle.ledger_model.specs.Limits.{max_history_len}
@@ -22,6 +24,7 @@ invariant_of-result g c =
         matches = subst (MatchesHistory held) (sym none) c.in_ok-new.ensures.matches;
         account = subst (LeafAccount held.config held.id (leaves_of keys.secret) keys.used) (sym none)
             (account_none held.config held.id (leaves_of keys.secret) keys.used);
+        once = subst (SignsOnce keys.secret keys.used) (sym none) (once_none keys.secret keys.used);
       },
       subst (AreStored strings) (sym c.new-3.ensures.items)
           (subst (λ t. AreStored t []) (sym c.new-2.ensures) (record { within = tt; exact = refl })),
