@@ -48,6 +48,11 @@ fn shows(frame: Option<Frame>, statement: &[u8], bytes: &[u8], signer: u8) -> bo
     is_whole(&frame, statement, bytes, signer)
 }
 
+// A copy of the frame.
+fn copied(frame: Option<Frame>) -> Option<Frame> {
+    frame?.copy().ok()
+}
+
 // The frame of a statement with these bytes, whose signature consists of bytes 7. The statement is encoded to these
 // bytes before it is signed.
 fn signed(alloc: Global, statement: &[u8]) -> Option<Frame> {
@@ -58,7 +63,8 @@ fn signed(alloc: Global, statement: &[u8]) -> Option<Frame> {
     unsigned.with_signature(&[7; 2348]).ok()
 }
 
-// Whether the frame that was built has `len` bytes, is parsed as the frame of the statement by this signer, and is made from it.
+// Whether the frame that was built has `len` bytes, is parsed as the frame of the statement by this signer, is copied whole, and is made
+// from it.
 fn is_frame(
     alloc: Global,
     built: Result<Vec<u8>, AllocError>,
@@ -71,6 +77,7 @@ fn is_frame(
     };
     bytes.len() == len
         && shows(parsed(alloc, &bytes), statement, &bytes, signer)
+        && shows(copied(parsed(alloc, &bytes)), statement, &bytes, signer)
         && shows(signed(alloc, statement), statement, &bytes, signer)
 }
 

@@ -243,7 +243,7 @@ impl Model for LockProof {
 }
 
 impl LockProof {
-    ghost use Rattle.std.specs.Prelude.{◌≡◌};
+    ghost use Rattle.std.specs.Prelude.{◌≡◌, IfOk};
 
     /// A proof of these reports, in order.
     pub fn new(reports: Vec<SignedReport>) -> Self
@@ -258,6 +258,25 @@ impl LockProof {
     {
         self.reports.as_slice()
     }
+
+    /// A copy of the proof. The only error is allocation failure.
+    pub fn copy(&self) -> Result<Self, AllocError>
+        ensures { IfOk result (λ proof. proof ≡ self.now) }
+    {
+        let alloc = *self.reports.allocator();
+        let reports = copy_reports(alloc, self.reports.as_slice())?;
+        Ok(LockProof { reports })
+    }
+}
+
+fn copy_reports(alloc: Global, reports: &[SignedReport]) -> Result<Vec<SignedReport>, AllocError>
+    ensures { IfOk result (λ copied. copied.items ≡ reports.now) }
+{
+    let mut copied = Vec::with_capacity(alloc, reports.len())?;
+    for report in reports {
+        copied.push(report.copy()?)?;
+    }
+    Ok(copied)
 }
 
 /// A lock: the value that a phase's owner chose, with the reports that allow it.
@@ -285,6 +304,24 @@ impl Drop for Lock {
     }
 }
 
+impl Lock {
+    ghost use Rattle.std.specs.Prelude.{◌≡◌, IfOk};
+
+    /// A copy of the lock. The only error is allocation failure.
+    pub fn copy(&self) -> Result<Self, AllocError>
+        ensures { IfOk result (λ lock. lock ≡ self.now) }
+    {
+        Ok(Lock {
+            version: self.version,
+            height: self.height,
+            phase: self.phase,
+            signer: self.signer,
+            value: self.value.copy()?,
+            proof: self.proof.copy()?,
+        })
+    }
+}
+
 /// A replica's acknowledgement that it took the lock of a phase.
 #[derive(Debug, Drop)]
 pub struct Ack {
@@ -293,6 +330,23 @@ pub struct Ack {
     pub phase: Phase,
     pub signer: ReplicaId,
     pub value: Batch,
+}
+
+impl Ack {
+    ghost use Rattle.std.specs.Prelude.{◌≡◌, IfOk};
+
+    /// A copy of the acknowledgement. The only error is allocation failure.
+    pub fn copy(&self) -> Result<Self, AllocError>
+        ensures { IfOk result (λ ack. ack ≡ self.now) }
+    {
+        Ok(Ack {
+            version: self.version,
+            height: self.height,
+            phase: self.phase,
+            signer: self.signer,
+            value: self.value.copy()?,
+        })
+    }
 }
 
 /// A statement, as replicas sign and send it.
@@ -304,10 +358,21 @@ pub enum Statement {
 }
 
 impl Statement {
-    ghost use Rattle.std.specs.Prelude.{◌≡◌};
+    ghost use Rattle.std.specs.Prelude.{◌≡◌, IfOk};
     ghost use Rattle.ledger_model.specs.Notes.{signer_of, version_of};
     ghost use Rattle.ledger_model.specs.Logs.{height_of};
     ghost use Rattle.ledger_model.specs.Rules.{phase_in};
+
+    /// A copy of the statement. The only error is allocation failure.
+    pub fn copy(&self) -> Result<Self, AllocError>
+        ensures { IfOk result (λ statement. statement ≡ self.now) }
+    {
+        match self {
+            Statement::Report(report) => Ok(Statement::Report(report.copy()?)),
+            Statement::Lock(lock) => Ok(Statement::Lock(lock.copy()?)),
+            Statement::Ack(ack) => Ok(Statement::Ack(ack.copy()?)),
+        }
+    }
 
     /// The replica that made the statement.
     pub fn signer(&self) -> ReplicaId

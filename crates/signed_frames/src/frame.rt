@@ -150,6 +150,17 @@ impl Frame {
         self.bytes.clone()
     }
 
+    /// A copy of the frame, which shares its bytes. The only error is allocation failure.
+    pub fn copy(&self) -> Result<Self, AllocError>
+        ensures { IfOk result (λ frame. frame ≡ self.now) }
+    {
+        Ok(Frame {
+            bytes: self.share()?,
+            statement: self.statement.copy()?,
+            signature_len: self.signature_len,
+        })
+    }
+
     /// The bytes of the whole frame.
     pub fn into_bytes(self) -> Bytes
         ensures { SpellsFrame Two result self }
