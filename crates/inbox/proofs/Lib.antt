@@ -3,3 +3,4 @@ pub mod Lists
 pub mod Laws
 pub mod PassEnds
 pub mod Moves
+pub mod Fitting

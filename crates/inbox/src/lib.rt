@@ -8,12 +8,14 @@
 //! those in the inbox, and the inbox has at most 1024 items (`IsInbox`). So each item is taken at most once, in the
 //! order of its pass. `take` returns `None` only if everything was taken of each pass that was handed back.
 //!
-//! Only tested: `put` returns the item only if the inbox is full, and `take` returns `None` only if it is empty.
+//! Only tested: `put` returns the item only if the inbox is full, and `take` returns `None` only if it is empty. No clause can
+//! say so: see [`full_or_empty`].
 //!
 //! Not promised: an order between passes, fairness, and progress of a call. `put` and `take` may wait for a thread that
 //! is within such a call, and after 2^62 puts they wait forever.
 #![tactic(auto)]
 
+pub mod full_or_empty;
 mod item;
 mod log;
 mod passes;
