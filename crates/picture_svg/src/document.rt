@@ -16,6 +16,7 @@ use run_picture::{Arrival, Picture, SentFrame};
 use std::alloc::{AllocError, Global};
 
 /// How classes look: the colours are those of Okabe and Ito, which colour-blind people can tell apart, and no colour stands alone.
+/// The white background keeps the text readable on a dark page.
 const STYLE: &str = "<style>
 text{font:11px sans-serif;text-anchor:middle;fill:#000}
 .name{text-anchor:start}
@@ -41,6 +42,7 @@ g:hover>.arrow,g:hover>.stub{stroke-width:4}
 <marker id=\"ignored\" viewBox=\"0 0 8 8\" refX=\"4\" refY=\"4\" markerWidth=\"8\" markerHeight=\"8\" markerUnits=\"userSpaceOnUse\" orient=\"auto\"><path d=\"M0 0L8 8M0 8L8 0\" style=\"stroke:#d55e00;stroke-width:2\"/></marker>
 <marker id=\"outside\" viewBox=\"0 0 8 8\" refX=\"4\" refY=\"4\" markerWidth=\"6\" markerHeight=\"6\" markerUnits=\"userSpaceOnUse\"><circle cx=\"4\" cy=\"4\" r=\"3\" style=\"fill:#fff;stroke:#000\"/></marker>
 </defs>
+<rect width=\"100%\" height=\"100%\" fill=\"#fff\"/>
 ";
 
 /// What each shape means, from the top of the legend.
