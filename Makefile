@@ -1,7 +1,7 @@
 # demo: a first look, in minutes: compiles the program without any proof, and plays a scenario: what was decided and run.
-# prove: proves the crates below the program, and the program, and builds it: crates/abft/out/abft. First the three crates that
-#       depend on no other, since most wait for the largest of them; then those above in parallel, each on one processor. A line
-#       for each as it is proved. CPU=x86-64-v3 builds it for processors with AVX2; on any other it ends at once with status 127.
+# prove: proves the crates below the program, and the program, and builds it: crates/abft/out/abft. One crate after the other, the
+#       lowest first, each on all processors: two runs of rt in one tree wait for each other. A line for each as it is proved, and what
+#       all of them took. CPU=x86-64-v3 builds it for processors with AVX2; on any other it ends at once with status 127.
 # test: the merge gate (every proof from nothing, the edits in must-fail, the tests), then the built program in real pipes, whether
 #       the other edits apply, and the file lines that the documents name.
 # bench: proves and builds the benchmark, and prints what keys and signatures cost on this machine.
@@ -37,10 +37,7 @@ demo:
 
 prove:
 	@echo "proving the crates below the program, and the program, on $$(nproc) processors:"
-	@$(MAKE) --no-print-directory -j3 prove-ledger_model prove-octets prove-plain_text
-	@cd crates/abft && mkdir -p out && rt all check --jobs $$((2 * $$(nproc))) 2>&1 | tee out/said | while read -r line; do \
-	    case $$line in "== "*) crate=$${line#== };; logic=proved*) echo "$$crate: proved after $$SECONDS s";; esac; done \
-	    || { grep -E 'error|not proved|no proof|failed' out/said | tail -n 40; exit 1; }
+	@TIMEFORMAT='proved after %0R s, with %0U s of processor time'; time $(MAKE) --no-print-directory $(addprefix prove-,$(call below,abft))
 	@cd crates/abft && mkdir -p out && { rt run $(if $(CPU),--cpu $(CPU)) --jobs $$(nproc) -- --version >out/said 2>&1 || { tail -n 20 out/said; exit 1; }; }
 
 bench:
