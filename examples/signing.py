@@ -1,5 +1,5 @@
-"""Signatures by RFC 8554 (`keys 4 5`) and the bytes of statements and frames that docs/FORMATS.md tells of, written once more. The seed is 32
-zero bytes."""
+"""An independent implementation of the RFC 8554 signatures (`keys 4 5`) and of the statements and frames in docs/FORMATS.md.
+The seed is 32 zero bytes."""
 import functools
 import hashlib
 import struct

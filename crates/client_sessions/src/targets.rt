@@ -5,7 +5,7 @@ use thiserror::Error;
 /// Why a replica gave no answer. After `NoMemory` a query may be in its history; else the replica is unchanged.
 #[derive(Clone, Copy, Debug, PartialEq, Eq, Error)]
 pub enum TargetFault {
-    /// Its history is full.
+    /// Its history is full, or its clients have used up the entries that they share.
     #[error("the history is full")]
     HistoryFull,
     /// Memory ran out.

@@ -33,7 +33,8 @@ new_writer board replica = record { board = board; replica = replica; height = 0
 abbrev pub new_reader : BoardId → ReaderSeatView
 new_reader board = record { board = board; seen = []; closed = [] }
 
--- in one atomic step a reader that had read `before` read the height of r
+-- Some board, by the rule, allows this step: a reader that had read `before` reads the height of r. A clause can't name the
+-- board that the step really met, so it constrains the height only by what the seats know.
 pub record ReadAtOnce (before : List (ℕ × ℕ)) (r height : ℕ) (after : List (ℕ × ℕ)) : Type 0 where
   pub old : Board
   pub new : Board
@@ -44,7 +45,7 @@ pub record ReadAtOnce (before : List (ℕ × ℕ)) (r height : ℕ) (after : Lis
   pub is : IsBoard new
   pub has : slice_get new.readers reader ≡ Some after
 
--- in one atomic step the word of r, of which `before` had been published, was raised to the height
+-- Some board, by the rule, allows this step: the word of r, to which `before` had been published, is raised to the height.
 pub record RaisedAtOnce (before r height after : ℕ) : Type 0 where
   pub old : Board
   pub new : Board
@@ -58,7 +59,7 @@ pub record RaisedAtOnce (before r height after : ℕ) : Type 0 where
 abbrev pub IsLast : List (ℕ × ℕ) → ℕ → ℕ → Type 0
 IsLast closed r height = (k last : ℕ) → slice_get closed k ≡ Some (r, last) → height ≡ last
 
--- each of these (replica, height) pairs was read in one atomic step, in order, by a reader that had read `before`
+-- each of these (replica, height) pairs is such a read, in order, by a reader that had read `before`, each on some board
 abbrev pub ReadOneByOne : List (ℕ × ℕ) → List (ℕ × ℕ) → Type 0
 ReadOneByOne before [] = Unit {0}
 ReadOneByOne before (p ∷ ps) = ReadAtOnce before p.0 p.1 (before ++ p ∷ []) × ReadOneByOne (before ++ p ∷ []) ps

@@ -6,8 +6,9 @@
 //! returns the least. [`Board::hand_back`] hands a writer's seat back to a reader. No call waits or allocates memory,
 //! except `new`, which allocates.
 //!
-//! Proved for every schedule of the threads: each word is the greatest height that was published through its replica's
-//! seat; the heights that a reader reads of one replica never fall, and the last is at most the word (`IsBoard`).
+//! Proved for every schedule of the threads: `own` returns the greatest height that was published through its seat; the heights
+//! that a reader reads of one replica never fall; once a writer's seat is handed back to a reader, the reader reads exactly
+//! what was published through that seat. Only tested: that a height which is read before then was published.
 //!
 //! Not promised: when a reader sees a published height, and an order between the words of two replicas.
 #![tactic(auto)]

@@ -1,4 +1,4 @@
-//! An answer to a question to the bytes of an HTTP/1.1 reply: JSON in the shapes of CometBFT's URI calls, Prometheus' text, or a page.
+//! Turns an answer into the bytes of an HTTP/1.1 reply: JSON in the shapes of CometBFT's URI calls, Prometheus' text, or a page.
 //!
 //! [`put_reply`] appends the whole reply for an [`Answer`]. `docs/HTTP.md` has an example of each.
 #![tactic(auto)]
