@@ -275,7 +275,7 @@ Commands:
   deliver   Delivers the frames of standard input to a replica, and prints what it answers
   simulate  Plays the scenario of standard input on a whole cluster, and prints what its replicas answer
   cluster   Runs a whole cluster in one process, a thread for each replica, and prints what each committed
-  serve     Runs such a cluster beside a listener on 127.0.0.1, whose clients speak to its replicas
+  serve     Runs a whole cluster in one process, and listens on 127.0.0.1 for clients of its replicas
   audit     Audits the histories of standard input, and prints their one ledger, or the first fault
   draw      Draws the run of the histories of standard input, as an SVG document
   help      Print this message or the help of the given subcommand(s)
@@ -308,15 +308,14 @@ EOT
   -h, --help               Print help
 
 Output: one frame, as bytes. A report has the batch of --value as its initial and only proper value,
-says no ALL and has no locks; an acknowledgement is on that batch.
+no flag ALL and no locks; an acknowledgement is on that batch.
 
 Exit status:
   0  the frame was written
   2  a fault of usage
   3  out of memory, or a failed write
 
-Each call signs with leaf 0 of the replica's key pair, so one-time keys are used again and again.
-That is no way to use them but for trying things out: use the seed for nothing else.
+Every call reuses leaf 0, which makes the key forgeable. Use this seed only for experiments.
 EOT
 } >"$room/wanted-out"
 check 'help of sign' 0 "'$abft' sign --help"
@@ -340,7 +339,7 @@ Lines, one for each frame:
   accepted         the frame was read
   ignored N CAUSE  it was ignored: the cause's number and name, as in 'ignored 7 Repeated'
 
-The last line, where the stream is wrong:
+The last line, if the stream is wrong:
   fault 1 TooLong    a frame longer than 150000 bytes was announced, or than 600000 with --frames 2
   fault 2 Malformed  a frame is not spelled as one, or has version 2 without --frames 2
   cut                the stream ends within a frame
@@ -366,10 +365,16 @@ Options:
 Input, a scenario: the cluster (n, t and the kind of application), liars if any, and the steps:
   config 4 1 1
   submit 0 a=1
+  submit 1 a=1
+  submit 2 a=1
   propose 0 1
+  propose 1 1
+  propose 2 1
   round
   round
-  execute 0
+  round
+  round
+  execute 1
 
 Lines, of replica R at height H; docs/SCENARIOS.md has all of them:
   submit R ok                  R's pool took the transaction; or 'submit R refused K'
@@ -383,7 +388,8 @@ Lines, of replica R at height H; docs/SCENARIOS.md has all of them:
   retire R H ok                R gave up the heights below H; or 'retire R H refused K'
   info R H HASH                the height and the hash of R's application
   refused K                    the step was refused, for reason K
-  lie-lock cannot, exhausted   the liar could not sign
+  lie-lock cannot              too few reports for that lock's proof; or 'lie-stale cannot'
+  exhausted                    the liar's key has no leaf left
 Of the frames that a 'round' passes, only those that are ignored have a line.
 With --histories the histories of the correct replicas are written, as bytes, in place of the lines.
 A text with a bad line prints 'line N bad' alone, with the number of the first bad line.
@@ -398,10 +404,10 @@ check 'help of simulate' 0 "'$abft' simulate --help"
 cat >"$room/running" <<'EOT'
       --tx <tx>            The transaction that each pool is given [default: a=1]
       --rounds <rounds>    How many rounds each replica ends, 0 to 4000000000 [default: 40]
-      --base-ms <base-ms>  Milliseconds of the first round, 1 to 60000; each later round has one more [default: 200]
-      --log <log>          What standard error shows: off, warn, info or debug [default: info]
+      --base-ms <base-ms>  Round end R comes this many milliseconds, 1 to 60000, and R more after the one before it [default: 200]
+      --log <log>          What standard error shows, in letters of any case: off, error, warn, info, debug or trace [default: info]
       --quiet              The same as --log off
-      --stop-at-eof        Ends the rounds, and the listener, where standard input ends
+      --stop-at-eof        Stops the cluster, and its listener, when standard input ends
 EOT
 {
     cat <<'EOT'
@@ -416,7 +422,7 @@ EOT
       --histories <histories>  The file to which the histories are written at the end
   -h, --help                   Print help
 
-Lines, one for each replica:
+Lines at the end, one for each replica:
   commits R C  replica R committed C blocks
 
 Then the lines of an audit over the histories of all replicas, as 'abft audit --help' says:
@@ -424,10 +430,10 @@ Then the lines of an audit over the histories of all replicas, as 'abft audit --
   H BATCH      its block at height H, one line for each
 
 With --histories FILE the histories are written to FILE, for 'abft audit <FILE' with the options of the cluster.
-Standard error shows how it stands, as much of it as --log says.
+Standard error shows progress; --log sets how much.
 
 Exit status:
-  0  the rounds are over, and the audit found a ledger
+  0  the rounds are over, or the cluster was asked to stop, and the audit found a ledger
   1  the audit found a fault
   2  a fault of usage
   3  out of memory, a thread that can't be made, a file that can't be written, or a failed write
@@ -437,7 +443,7 @@ check 'help of cluster' 0 "'$abft' cluster --help"
 # The longer name of --client-entries moves the text of each option to a line of its own.
 {
     cat <<'EOT'
-Runs such a cluster beside a listener on 127.0.0.1, whose clients speak to its replicas
+Runs a whole cluster in one process, and listens on 127.0.0.1 for clients of its replicas
 
 Usage: abft serve [OPTIONS]
 
@@ -452,7 +458,7 @@ EOT
       --http <http>
           The port for HTTP requests, 0 to 65535; 0 for one that is free; without it there is no HTTP
       --sessions <sessions>
-          How many connections are taken, 1 to 1000 [default: 1]
+          How many connections are taken before further ones are refused, 1 to 1000 [default: 1]
       --client-entries <client-entries>
           How many entries of each replica's history its clients may use, 0 to 65536 [default: 32768]
   -h, --help
@@ -462,21 +468,21 @@ The first line, and with --http the second:
   listening PORT  clients can connect to this port
   http PORT       this port answers HTTP requests
 
-Then lines as of 'abft cluster', one for each replica:
+At the end, one line for each replica:
   commits R C  replica R committed C blocks
 
 Then the lines of an audit over the histories of all replicas, as 'abft audit --help' says:
   ledger C     the histories are those of one ledger of C blocks
   H BATCH      its block at height H, one line for each
 
-It ends when the rounds are over and as many connections as --sessions says have ended,
-or where standard input ends if --stop-at-eof is there.
+The server ends when the rounds are over and as many connections as --sessions says have opened and closed,
+or, with --stop-at-eof, when standard input ends.
 With --histories FILE the histories are written to FILE, for 'abft audit <FILE' with the options of the cluster.
-Standard error shows how it stands, as much of it as --log says.
+Standard error shows progress; --log sets how much.
 docs/OPERATING.md has the rest.
 
 Exit status:
-  0  the rounds are over, and the audit found a ledger
+  0  the rounds are over, or the cluster was asked to stop, and the audit found a ledger
   1  the audit found a fault
   2  a fault of usage
   3  out of memory, a thread that can't be made, a port that can't be listened at, a file that can't be written,
@@ -500,14 +506,14 @@ EOT
 Input: the histories of N-t replicas or more, as bytes, one after another. 'abft simulate --histories' prints such bytes,
 and 'abft cluster --histories FILE' writes them. The options are those of the cluster.
 
-Lines, where the histories are those of one ledger:
+Lines, if the histories are those of one ledger:
   ledger C  the ledger has C blocks
   H BATCH   its block at height H, one line for each
 
 Otherwise one line:
   fault 1 Count          fewer than N-t histories, two of one replica, or one of a replica that the cluster doesn't have
   fault 2 NotReplay R I  entry I of R's history has a reply that the protocol doesn't allow there, or sends what R didn't sign
-  fault 3 Unsent R I S   at entry I of its history R accepted a statement of S that S's history doesn't send
+  fault 3 Unsent A I S   replica A accepted, as entry I of its history, a statement of S that S's history doesn't send
   bad history            the input is not spelled as histories, or those of version 2 need --frames 2
 After a fault, standard error has one more sentence about it.
 
@@ -554,19 +560,36 @@ EOT
 } >"$room/wanted-out"
 check 'help of draw' 0 "'$abft' draw --help"
 runs 'the scenario in the help of simulate' 0 'submit 0 ok
+submit 1 ok
+submit 2 ok
 propose 0 1 [a=1]
+propose 1 1 [a=1]
+propose 2 1 [a=1]
 end 0 1 sent 1
-end 1 1 sent 0
-end 2 1 sent 0
+end 1 1 sent 1
+end 2 1 sent 1
 end 3 1 sent 0
-deliver 1 ignored 3 NoRow
-deliver 2 ignored 3 NoRow
+deliver 3 ignored 3 NoRow
+deliver 3 ignored 3 NoRow
 deliver 3 ignored 3 NoRow
 end 0 2 sent 0
-end 1 2 sent 0
+end 1 2 sent 1
 end 2 2 sent 0
 end 3 2 sent 0
-execute 0 nothing
+deliver 3 ignored 3 NoRow
+end 0 3 sent 1
+end 1 3 sent 0
+end 2 3 sent 1
+end 3 3 sent 0
+end 0 4 sent 1
+end 1 4 sent 1
+decided 1 1 [a=1]
+end 2 4 sent 1
+end 3 4 sent 0
+deliver 3 ignored 3 NoRow
+deliver 3 ignored 3 NoRow
+deliver 3 ignored 3 NoRow
+execute 1 1 [a=1] codes 0
 ' "'$abft' simulate --help | sed -n '/^Input/,/^$/s/^  //p' | '$abft' simulate"
 
 # Live clusters, by the machine's clock.

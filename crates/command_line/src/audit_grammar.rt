@@ -7,14 +7,14 @@ const FINDINGS: &str = "\
 Input: the histories of N-t replicas or more, as bytes, one after another. 'abft simulate --histories' prints such bytes,
 and 'abft cluster --histories FILE' writes them. The options are those of the cluster.
 
-Lines, where the histories are those of one ledger:
+Lines, if the histories are those of one ledger:
   ledger C  the ledger has C blocks
   H BATCH   its block at height H, one line for each
 
 Otherwise one line:
   fault 1 Count          fewer than N-t histories, two of one replica, or one of a replica that the cluster doesn't have
   fault 2 NotReplay R I  entry I of R's history has a reply that the protocol doesn't allow there, or sends what R didn't sign
-  fault 3 Unsent R I S   at entry I of its history R accepted a statement of S that S's history doesn't send
+  fault 3 Unsent A I S   replica A accepted, as entry I of its history, a statement of S that S's history doesn't send
   bad history            the input is not spelled as histories, or those of version 2 need --frames 2
 After a fault, standard error has one more sentence about it.
 

@@ -21,15 +21,14 @@ const EXAMPLE: &str = "Example:
 /// The end of `abft sign --help`.
 const SIGNED: &str = "\
 Output: one frame, as bytes. A report has the batch of --value as its initial and only proper value,
-says no ALL and has no locks; an acknowledgement is on that batch.
+no flag ALL and no locks; an acknowledgement is on that batch.
 
 Exit status:
   0  the frame was written
   2  a fault of usage
   3  out of memory, or a failed write
 
-Each call signs with leaf 0 of the replica's key pair, so one-time keys are used again and again.
-That is no way to use them but for trying things out: use the seed for nothing else.";
+Every call reuses leaf 0, which makes the key forgeable. Use this seed only for experiments.";
 
 /// The end of `abft deliver --help`.
 const LINES: &str = "\
@@ -37,7 +36,7 @@ Lines, one for each frame:
   accepted         the frame was read
   ignored N CAUSE  it was ignored: the cause's number and name, as in 'ignored 7 Repeated'
 
-The last line, where the stream is wrong:
+The last line, if the stream is wrong:
   fault 1 TooLong    a frame longer than 150000 bytes was announced, or than 600000 with --frames 2
   fault 2 Malformed  a frame is not spelled as one, or has version 2 without --frames 2
   cut                the stream ends within a frame
@@ -53,10 +52,16 @@ const SCENARIO: &str = "\
 Input, a scenario: the cluster (n, t and the kind of application), liars if any, and the steps:
   config 4 1 1
   submit 0 a=1
+  submit 1 a=1
+  submit 2 a=1
   propose 0 1
+  propose 1 1
+  propose 2 1
   round
   round
-  execute 0
+  round
+  round
+  execute 1
 
 Lines, of replica R at height H; docs/SCENARIOS.md has all of them:
   submit R ok                  R's pool took the transaction; or 'submit R refused K'
@@ -70,7 +75,8 @@ Lines, of replica R at height H; docs/SCENARIOS.md has all of them:
   retire R H ok                R gave up the heights below H; or 'retire R H refused K'
   info R H HASH                the height and the hash of R's application
   refused K                    the step was refused, for reason K
-  lie-lock cannot, exhausted   the liar could not sign
+  lie-lock cannot              too few reports for that lock's proof; or 'lie-stale cannot'
+  exhausted                    the liar's key has no leaf left
 Of the frames that a 'round' passes, only those that are ignored have a line.
 With --histories the histories of the correct replicas are written, as bytes, in place of the lines.
 A text with a bad line prints 'line N bad' alone, with the number of the first bad line.

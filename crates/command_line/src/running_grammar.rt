@@ -7,7 +7,7 @@ use crate::subcommand::{Argument, Kind, Subcommand};
 
 /// The end of `abft cluster --help`.
 const COMMITS: &str = "\
-Lines, one for each replica:
+Lines at the end, one for each replica:
   commits R C  replica R committed C blocks
 
 Then the lines of an audit over the histories of all replicas, as 'abft audit --help' says:
@@ -15,10 +15,10 @@ Then the lines of an audit over the histories of all replicas, as 'abft audit --
   H BATCH      its block at height H, one line for each
 
 With --histories FILE the histories are written to FILE, for 'abft audit <FILE' with the options of the cluster.
-Standard error shows how it stands, as much of it as --log says.
+Standard error shows progress; --log sets how much.
 
 Exit status:
-  0  the rounds are over, and the audit found a ledger
+  0  the rounds are over, or the cluster was asked to stop, and the audit found a ledger
   1  the audit found a fault
   2  a fault of usage
   3  out of memory, a thread that can't be made, a file that can't be written, or a failed write";
@@ -29,21 +29,21 @@ The first line, and with --http the second:
   listening PORT  clients can connect to this port
   http PORT       this port answers HTTP requests
 
-Then lines as of 'abft cluster', one for each replica:
+At the end, one line for each replica:
   commits R C  replica R committed C blocks
 
 Then the lines of an audit over the histories of all replicas, as 'abft audit --help' says:
   ledger C     the histories are those of one ledger of C blocks
   H BATCH      its block at height H, one line for each
 
-It ends when the rounds are over and as many connections as --sessions says have ended,
-or where standard input ends if --stop-at-eof is there.
+The server ends when the rounds are over and as many connections as --sessions says have opened and closed,
+or, with --stop-at-eof, when standard input ends.
 With --histories FILE the histories are written to FILE, for 'abft audit <FILE' with the options of the cluster.
-Standard error shows how it stands, as much of it as --log says.
+Standard error shows progress; --log sets how much.
 docs/OPERATING.md has the rest.
 
 Exit status:
-  0  the rounds are over, and the audit found a ledger
+  0  the rounds are over, or the cluster was asked to stop, and the audit found a ledger
   1  the audit found a fault
   2  a fault of usage
   3  out of memory, a thread that can't be made, a port that can't be listened at, a file that can't be written,
@@ -79,7 +79,7 @@ const HTTP_PORT: Argument = Argument {
 const SESSIONS: Argument = Argument {
     name: "sessions",
     kind: Kind::Value("1"),
-    help: "How many connections are taken, 1 to 1000",
+    help: "How many connections are taken before further ones are refused, 1 to 1000",
 };
 
 /// The entries that clients may use.
@@ -92,7 +92,7 @@ const ENTRIES: Argument = Argument {
 /// `abft serve`.
 pub(crate) const SERVE: Subcommand = Subcommand {
     name: "serve",
-    about: "Runs such a cluster beside a listener on 127.0.0.1, whose clients speak to its replicas",
+    about: "Runs a whole cluster in one process, and listens on 127.0.0.1 for clients of its replicas",
     usage: None,
     arguments: &[
         REPLICAS, FAULTS, APP_KIND, WIDTH, TREE, FRAMES, SEED, FIRST_TX, ROUNDS, BASE_MS, LOG,

@@ -64,18 +64,18 @@ pub(crate) const ROUNDS: Argument = Argument {
     help: "How many rounds each replica ends, 0 to 4000000000",
 };
 
-/// How long the first round of a run lasts.
+/// The time before a round end of a run.
 pub(crate) const BASE_MS: Argument = Argument {
     name: "base-ms",
     kind: Kind::Value("200"),
-    help: "Milliseconds of the first round, 1 to 60000; each later round has one more",
+    help: "Round end R comes this many milliseconds, 1 to 60000, and R more after the one before it",
 };
 
 /// How much a run shows of itself.
 pub(crate) const LOG: Argument = Argument {
     name: "log",
     kind: Kind::Value("info"),
-    help: "What standard error shows: off, warn, info or debug",
+    help: "What standard error shows, in letters of any case: off, error, warn, info, debug or trace",
 };
 
 /// Whether a run is quiet.
@@ -89,7 +89,7 @@ pub(crate) const QUIET: Argument = Argument {
 pub(crate) const STOP_EARLY: Argument = Argument {
     name: "stop-at-eof",
     kind: Kind::Flag,
-    help: "Ends the rounds, and the listener, where standard input ends",
+    help: "Stops the cluster, and its listener, when standard input ends",
 };
 
 /// The file to which a run writes its histories.
