@@ -104,23 +104,25 @@ lawful_at config ring id front (x ∷ xs) (suc i) e follows at =
     )
 
 -- the code of a refused transaction is the application's
-last_code : (code : ℕ) (b : Bool) (c : ℕ)
-    → ◌≡◌ {A = Result (Unit {0}) SubmitRefusal} (Err (refusal.Rejected code)) (cond b (Err (refusal.Rejected c)) (Ok tt)) → code ≡ c
-last_code code true c e = cc
-last_code code false c e = cc
+last_code : (code : ℕ) (b : Bool) (c : ℕ) → not (nat_eq c 0) ≡ b
+    → ◌≡◌ {A = Result (Unit {0}) SubmitRefusal} (Err (refusal.Rejected code)) (cond b (Err (refusal.Rejected c)) (Ok tt))
+    → (code ≡ c) × (not (nat_eq code 0) ≡ true)
+last_code code true c is e = let same : code ≡ c = cc in (same, ap (λ n. not (nat_eq n 0)) same ∙ is)
+last_code code false c is e = absurd (cc)
 
 first_code_is : (code : ℕ) (b1 b2 b3 b4 : Bool) (c : ℕ)
     → ◌≡◌ {A = Result (Unit {0}) SubmitRefusal} (Err (refusal.Rejected code))
     (first_fault ((b1, refusal.Empty) ∷ (b2, refusal.TooLong) ∷ (b3, refusal.Duplicate) ∷ (b4, refusal.Full)
-    ∷ (not (nat_eq c 0), refusal.Rejected c) ∷ []) tt) → code ≡ c
-first_code_is code true b2 b3 b4 c e = cc
-first_code_is code false true b3 b4 c e = cc
-first_code_is code false false true b4 c e = cc
-first_code_is code false false false true c e = cc
-first_code_is code false false false false c e = last_code code (not (nat_eq c 0)) c e
+    ∷ (not (nat_eq c 0), refusal.Rejected c) ∷ []) tt) → (code ≡ c) × (not (nat_eq code 0) ≡ true)
+first_code_is code true b2 b3 b4 c e = absurd (cc)
+first_code_is code false true b3 b4 c e = absurd (cc)
+first_code_is code false false true b4 c e = absurd (cc)
+first_code_is code false false false true c e = absurd (cc)
+first_code_is code false false false false c e = last_code code (not (nat_eq c 0)) c refl e
 
 pub rejected_code : (config : Config) (id : ℕ) (entries : List Entry) (tx : List ℕ) (code : ℕ)
-    → Err (refusal.Rejected code) ≡ submit_reply config id entries tx → code ≡ check_reply config.kind (commits_of config id entries) tx
+    → Err (refusal.Rejected code) ≡ submit_reply config id entries tx
+    → (code ≡ check_reply config.kind (commits_of config id entries) tx) × (not (nat_eq code 0) ≡ true)
 unfolding submit_reply
 rejected_code config id entries tx code e =
     first_code_is code (nat_eq (length tx) 0) (ltb 64 (length tx)) (is_among (pool_of config id entries) tx)
@@ -226,7 +228,8 @@ module _ (config : Config) (ring : Ring) (id : ℕ) (entries : List Entry) (foll
       let entry : Entry = record { event = event.Submit tx; reply = reply.Submitted (Err (refusal.Rejected code)) } in
       let same = begins_trans (commits_of config id (take i entries)) (commits_of config id entries) ledger (before_entry i entry p) begins
       in
-      subst (λ vs. code ≡ check_reply config.kind vs tx) (sym same) (rejected_code config id (take i entries) tx code (p.lawful))
+      subst (λ vs. (code ≡ check_reply config.kind vs tx) × (not (nat_eq code 0) ≡ true)) (sym same)
+      (rejected_code config id (take i entries) tx code (p.lawful))
   reply_on ledger begins i (event.Submit tx) (reply.Submitted (Ok u)) p =
       let entry : Entry = record { event = event.Submit tx; reply = reply.Submitted (Ok u) } in
       let same = begins_trans (commits_of config id (take i entries)) (commits_of config id entries) ledger (before_entry i entry p) begins

@@ -4,6 +4,7 @@ use Rattle.std.proofs.Common.{append-nil, lit≤, lit<, arith, Result, is_some}
 use Rattle.std.specs.Prelude.{nat_eq, Some, None, Ok, map, IsTrue, filter, if◌then◌else◌}
 use Rattle.std.specs.List.{filter_map, flat_map, AllByRecursion, cons_option}
 use Rattle.std.proofs.lemmas.Bool.{cases_Bool, eqb-true}
+use Rattle.std.proofs.lemmas.Option.{same_Some}
 use Rattle.ledger_model.specs.Limits.{last_round}
 use Rattle.ledger_model.specs.declared.config.Config.{Config}
 use Rattle.ledger_model.specs.declared.config.AppKind.TheVariants.{KvStore}
@@ -16,13 +17,14 @@ use Rattle.ledger_model.specs.declared.history.Entry.{Entry}
 use Rattle.ledger_model.specs.declared.statement.SignedStatement.{SignedStatement}
 use Rattle.ledger_model.specs.declared.statement.Statement.{Statement}
 use Rattle.ledger_model.specs.declared.statement.Statement.TheVariants as statement
+use Rattle.ledger_model.specs.Values.{Value}
 use Rattle.ledger_model.specs.Spelling.{frame_bytes, IsFrameIn}
 use Rattle.ledger_model.specs.Reading.{reading, reading_in}
 use Rattle.ledger_model.specs.declared.statement.SignedReport.{SignedReport}
 use Rattle.ledger_model.specs.Commits.{commits_of, pool_of, pool_after, floor_of, submit_reply, propose_reply, execute_reply, block_of}
 use Rattle.ledger_model.specs.Replies.{check_reply}
 use Rattle.ledger_model.specs.Applications.{check_after}
-use Rattle.ledger_model.specs.Notes.{Has, is_lock, Note, Proposed, Round, OwnStatement, Read, clock_of, open_of, version_of}
+use Rattle.ledger_model.specs.Notes.{Has, initial_of, is_lock, Note, Proposed, Round, OwnStatement, Read, clock_of, open_of, version_of}
 use Rattle.ledger_model.specs.Logs.{is_mute, height_of, if_some, made_notes, statements_sent, statements_made, own_ack, notes_of, log_of, log_after}
 use Rattle.ledger_model.specs.Rules.{Ring, with_signature, MayMake, report_of, causes, answer_to}
 use Rattle.ledger_model.specs.Proper.{is_all_proper, proper_values}
@@ -33,14 +35,14 @@ use Rattle.ledger_model.specs.declared.reply.Ignored.{Ignored}
 use Rattle.ledger_model.specs.declared.reply.Addressee.TheVariants as addressee
 use Rattle.ledger_model.specs.declared.statement.Lock.{Lock}
 use Rattle.ledger_model.specs.declared.history.History.{History}
-use Rattle.ledger_model.specs.Groups.{AreCorrect, Backed, BackedWhole, is_correct, log_in}
+use Rattle.ledger_model.specs.Groups.{AreCorrect, AllProposed, Backed, BackedWhole, is_correct, log_in}
 use Rattle.ledger_laws.proofs.Refuted.{Is_0, Is_1, Is_2, replica_of_three, each_of_three}
 use Rattle.ledger_model.specs.Lawful.{Lawful, Follows, FollowsFrom, LawfulRoundEnd, IsSentRight, never_falls, locks_sent_on, held_locks, clock_at, answer}
 use Rattle.ledger_model.proofs.FrameReading.{reading-again}
 use Rattle.ledger_model.proofs.Staying.{log_after-append}
 use Rattle.ledger_laws.specs.Examples.{four, a, tx_a, quiet_end}
 use Rattle.ledger_laws.specs.Vacuity.{takes, proposes, sends, accepts, runs_block, first_result}
-use Rattle.ledger_laws.specs.PlainRun.{Signing, PlainRunCommits, report_shown, owner_entries, other_entries, plain_histories, AreSendable, report_sent, lock_sent, ack_sent}
+use Rattle.ledger_laws.specs.PlainRun.{IsSendable, Signing, PlainRunCommits, report_shown, owner_entries, other_entries, plain_histories, AreSendable, report_sent, lock_sent, ack_sent}
 
 abbrev K : Config
 K = four KvStore
@@ -375,8 +377,8 @@ module _ (ring : Ring) (sign : Signing) (are : AreSendable ring sign) where
   read_acks : Logs 1 O9 L9 (Round 1 ∷ Round 2 ∷ Round 3 ∷ [])
   read_acks =
       accepted 1 (O7 ++ accepts (ack_sent sign 0) ∷ []) (ack_sent sign 2) (L7 ++ Read 3 (ack_sent sign 0) ∷ [])
-      (Round 1 ∷ Round 2 ∷ Round 3 ∷ []) (are.ack 2 (lit≤ tt)).frame refl
-      (accepted 1 O7 (ack_sent sign 0) L7 (Round 1 ∷ Round 2 ∷ Round 3 ∷ []) (are.ack 0 (lit≤ tt)).frame refl acked)
+      (Round 1 ∷ Round 2 ∷ Round 3 ∷ []) are.ack_2.frame refl
+      (accepted 1 O7 (ack_sent sign 0) L7 (Round 1 ∷ Round 2 ∷ Round 3 ∷ []) are.ack_0.frame refl acked)
 
   -- it sends its lock on
   makes_none : Makes 1 L9 (Round 1 ∷ Round 2 ∷ Round 3 ∷ []) (to_all lock ∷ []) []
@@ -415,11 +417,11 @@ module _ (ring : Ring) (sign : Signing) (are : AreSendable ring sign) where
 
   accepts_ack_0 : ◌≡◌ {A = Result (Unit {0}) Ignored} (Ok tt) (answer_to K ring L7 (ack_sent sign 0))
   unfolding causes
-  accepts_ack_0 = rw (are.ack 0 (lit≤ tt)).signed refl
+  accepts_ack_0 = rw are.ack_0.signed refl
 
   accepts_ack_2 : ◌≡◌ {A = Result (Unit {0}) Ignored} (Ok tt) (answer_to K ring (L7 ++ Read 3 (ack_sent sign 0) ∷ []) (ack_sent sign 2))
   unfolding causes
-  accepts_ack_2 = rw (are.ack 2 (lit≤ tt)).signed refl
+  accepts_ack_2 = rw are.ack_2.signed refl
 
   -- ---- the owner's history is lawful
 
@@ -453,11 +455,11 @@ module _ (ring : Ring) (sign : Signing) (are : AreSendable ring sign) where
               (
                 lawful_end 1 O6 L6 (Round 1 ∷ Round 2 ∷ []) [] end_3 locked,
                 (
-                  lawful_accept ring 1 O7 (ack_sent sign 0) L7 (Round 1 ∷ Round 2 ∷ Round 3 ∷ []) (are.ack 0 (lit≤ tt)).frame refl acked accepts_ack_0,
+                  lawful_accept ring 1 O7 (ack_sent sign 0) L7 (Round 1 ∷ Round 2 ∷ Round 3 ∷ []) are.ack_0.frame refl acked accepts_ack_0,
                   (
                     lawful_accept ring 1 (O7 ++ accepts (ack_sent sign 0) ∷ []) (ack_sent sign 2) (L7 ++ Read 3 (ack_sent sign 0) ∷ [])
-                        (Round 1 ∷ Round 2 ∷ Round 3 ∷ []) (are.ack 2 (lit≤ tt)).frame refl
-                        (accepted 1 O7 (ack_sent sign 0) L7 (Round 1 ∷ Round 2 ∷ Round 3 ∷ []) (are.ack 0 (lit≤ tt)).frame refl acked) accepts_ack_2,
+                        (Round 1 ∷ Round 2 ∷ Round 3 ∷ []) are.ack_2.frame refl
+                        (accepted 1 O7 (ack_sent sign 0) L7 (Round 1 ∷ Round 2 ∷ Round 3 ∷ []) are.ack_0.frame refl acked) accepts_ack_2,
                     (
                       lawful_end 1 O9 L9 (Round 1 ∷ Round 2 ∷ Round 3 ∷ []) (to_all lock ∷ []) end_4 read_acks,
                       (runs_a, tt),
@@ -474,7 +476,7 @@ module _ (ring : Ring) (sign : Signing) (are : AreSendable ring sign) where
 
   -- ---- the other two
 
-  module _ (r : ℕ) (le : r ≤ 2) (not_1 : nat_eq 1 r ≡ false) where
+  module _ (r : ℕ) (le : r ≤ 2) (not_1 : nat_eq 1 r ≡ false) (ack : IsSendable ring (ack_sent sign r)) where
     abbrev M3 : List Note
     M3 = Proposed a ∷ Round 1 ∷ OwnStatement 1 (rep r).statement ∷ Read 1 (rep r) ∷ []
 
@@ -528,7 +530,7 @@ module _ (ring : Ring) (sign : Signing) (are : AreSendable ring sign) where
     ack_frame = record { addressee = addressee.One 1; frame = frame_bytes (ack_sent sign r) }
 
     ack_read : filter_map (λ f. reading f.frame) (ack_frame ∷ []) ≡ ack_sent sign r ∷ []
-    ack_read = ap (λ o. cons_option o []) (sent_frame (ack_sent sign r) refl (are.ack r le).frame)
+    ack_read = ap (λ o. cons_option o []) (sent_frame (ack_sent sign r) refl ack.frame)
 
     makes_ack : Makes r M5 (Round 1 ∷ Round 2 ∷ []) (ack_frame ∷ []) (ack_sent sign r ∷ [])
     unfolding statements_made statements_sent own_ack
@@ -543,7 +545,7 @@ module _ (ring : Ring) (sign : Signing) (are : AreSendable ring sign) where
     other_end_3 = record {
       few = lit< tt;
       loud = refl;
-      right = (record { signed = ack_sent sign r; spelled = sent_frame (ack_sent sign r) refl (are.ack r le).frame; addressed = refl }, tt);
+      right = (record { signed = ack_sent sign r; spelled = sent_frame (ack_sent sign r) refl ack.frame; addressed = refl }, tt);
       statements = ack_sent sign r ∷ [];
       read = ack_read;
       order = refl;
@@ -589,16 +591,16 @@ module _ (ring : Ring) (sign : Signing) (are : AreSendable ring sign) where
   unfolding notes_of
   owner_logs = no_note 1 O10 (runs_block (first_result a)) L10 (Round 1 ∷ Round 2 ∷ Round 3 ∷ Round 4 ∷ []) (λ h l. refl) decided
 
-  logs_0 : Logs 0 (other_entries sign 0) (M6 0 (lit≤ tt) refl) (Round 1 ∷ Round 2 ∷ Round 3 ∷ [])
-  logs_0 = acknowledged 0 (lit≤ tt) refl
+  logs_0 : Logs 0 (other_entries sign 0) (M6 0 (lit≤ tt) refl are.ack_0) (Round 1 ∷ Round 2 ∷ Round 3 ∷ [])
+  logs_0 = acknowledged 0 (lit≤ tt) refl are.ack_0
 
-  logs_2 : Logs 2 (other_entries sign 2) (M6 2 (lit≤ tt) refl) (Round 1 ∷ Round 2 ∷ Round 3 ∷ [])
-  logs_2 = acknowledged 2 (lit≤ tt) refl
+  logs_2 : Logs 2 (other_entries sign 2) (M6 2 (lit≤ tt) refl are.ack_2) (Round 1 ∷ Round 2 ∷ Round 3 ∷ [])
+  logs_2 = acknowledged 2 (lit≤ tt) refl are.ack_2
 
   correct : AreCorrect K ring H
   correct = record {
     follows = each_of_three (other_entries sign 0) (owner_entries sign) (other_entries sign 2) (λ r m. Follows K ring r m.entries)
-        (other_follows 0 (lit≤ tt) refl) owner_follows (other_follows 2 (lit≤ tt) refl);
+        (other_follows 0 (lit≤ tt) refl are.ack_0) owner_follows (other_follows 2 (lit≤ tt) refl are.ack_2);
     below = λ r is. elim (replica_of_three (other_entries sign 0) (owner_entries sign) (other_entries sign 2) r is) [
       | Is_0 at ↦ omega (arith, at)
       | Is_1 at ↦ omega (arith, at)
@@ -614,13 +616,13 @@ module _ (ring : Ring) (sign : Signing) (are : AreSendable ring sign) where
   backed_report r log other is has correct_r = (1, subst (λ l. Has l (OwnStatement 1 (rep r).statement)) (sym is) has)
 
   report_0 : Backed K H (rep 0).statement
-  report_0 = backed_report 0 (M6 0 (lit≤ tt) refl) [] logs_0.here (inr (inr (inl refl)))
+  report_0 = backed_report 0 (M6 0 (lit≤ tt) refl are.ack_0) [] logs_0.here (inr (inr (inl refl)))
 
   report_1 : Backed K H (rep 1).statement
   report_1 = backed_report 1 L10 [] owner_logs.here (inr (inr (inl refl)))
 
   report_2 : Backed K H (rep 2).statement
-  report_2 = backed_report 2 (M6 2 (lit≤ tt) refl) [] logs_2.here (inr (inr (inl refl)))
+  report_2 = backed_report 2 (M6 2 (lit≤ tt) refl are.ack_2) [] logs_2.here (inr (inr (inl refl)))
 
   no_lock : (s : Statement) → is_lock (λ l. true) s ≡ false → Backed K H s → BackedWhole K H s
   no_lock s free own = record { own = own; reports = λ l p is has. absurd (let lock_is = ap (is_lock (λ m. true)) is in cc) }
@@ -716,11 +718,24 @@ module _ (ring : Ring) (sign : Signing) (are : AreSendable ring sign) where
 
   -- ---- what came of it
 
+  same_proposal : (r : ℕ) (log : List Note) → log_in K H 1 r ≡ log → initial_of log ≡ Some a → (w : Value)
+      → initial_of (log_in K H 1 r) ≡ Some w → w ≡ a
+  same_proposal r log is own w began = sym (same_Some a w (sym own ∙ ap initial_of (sym is) ∙ began))
+
+  proposed_a : AllProposed K H 1 a
+  proposed_a r w is began = elim (replica_of_three (other_entries sign 0) (owner_entries sign) (other_entries sign 2) r is) [
+    | Is_0 at ↦ same_proposal 0 (M6 0 (lit≤ tt) refl are.ack_0) logs_0.here refl w
+        (subst (λ x. initial_of (log_in K H 1 x) ≡ Some w) (sym at) began)
+    | Is_1 at ↦ same_proposal 1 L10 owner_logs.here refl w (subst (λ x. initial_of (log_in K H 1 x) ≡ Some w) (sym at) began)
+    | Is_2 at ↦ same_proposal 2 (M6 2 (lit≤ tt) refl are.ack_2) logs_2.here refl w
+        (subst (λ x. initial_of (log_in K H 1 x) ≡ Some w) (sym at) began)
+  ]
+
   took_at : (r : ℕ) (log : List Note) → log_in K H 1 r ≡ log → took log a 1 ≡ true → took (log_in K H 1 r) a 1 ≡ true
   took_at r log is took_it = ap (λ l. took l a 1) is ∙ took_it
 
   all_took : 3 ≤ number_of K (λ r. is_correct H r && took (log_in K H 1 r) a 1)
-  all_took = rw (took_at 0 (M6 0 (lit≤ tt) refl) logs_0.here refl, took_at 1 L10 owner_logs.here refl, took_at 2 (M6 2 (lit≤ tt) refl) logs_2.here refl)
+  all_took = rw (took_at 0 (M6 0 (lit≤ tt) refl are.ack_0) logs_0.here refl, took_at 1 L10 owner_logs.here refl, took_at 2 (M6 2 (lit≤ tt) refl are.ack_2) logs_2.here refl)
       (lit≤ tt)
 
   decides_a : decided_of K (log_in K H 1 1) ≡ Some a
@@ -735,6 +750,7 @@ pub plain_run_commits : PlainRunCommits
 plain_run_commits ring sign are = (
   correct ring sign are,
   λ h r c s is has. each_read ring sign are _ (reads_at ring sign are h r is) c s has,
+  proposed_a ring sign are,
   all_took ring sign are,
   decides_a ring sign are,
   commits_a ring sign are,

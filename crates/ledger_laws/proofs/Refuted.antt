@@ -175,7 +175,7 @@ wrong_query_has_no_ledger key given wrong ledger is =
 pub wrong_code_has_no_ledger : WrongCodeHasNoLedger
 unfolding commits_of
 wrong_code_has_no_ledger config tx code wrong ledger is =
-    wrong (is.replies 2 0 (record { replica = 2; entries = rejects tx code ∷ [] }) (rejects tx code) refl refl)
+    wrong (is.replies 2 0 (record { replica = 2; entries = rejects tx code ∷ [] }) (rejects tx code) refl refl).0
 
 pub taken_refusal_has_no_ledger : TakenRefusalHasNoLedger
 unfolding commits_of

@@ -1,4 +1,4 @@
--- A run that locks, decides and commits: of four replicas, 0, 1 and 2 are correct. Each proposes [a=1]. Replica 1 owns phase 1: it reads
+-- Histories that lock, decide and commit: of four replicas, 0, 1 and 2 are correct. Each proposes [a=1]. Replica 1 owns phase 1: it reads
 -- the reports of 0 and 2, locks [a=1], reads their acknowledgements, decides, and runs the block.
 use Rattle.std.specs.Prelude.{◌≡◌, ℕ, ◌≤◌, ◌&&◌, true, false, List, [], ◌∷◌, Some, Ok}
 use Rattle.ledger_model.specs.declared.config.AppKind.TheVariants.{KvStore}
@@ -18,7 +18,7 @@ use Rattle.ledger_model.specs.Spelling.{frame_bytes, IsFrameIn}
 use Rattle.ledger_model.specs.Locks.{took, decided_of}
 use Rattle.ledger_model.specs.Rules.{Ring, is_signed}
 use Rattle.ledger_model.specs.Commits.{commits_of}
-use Rattle.ledger_model.specs.Groups.{AreCorrect, ReadsBacked, is_correct, log_in}
+use Rattle.ledger_model.specs.Groups.{AreCorrect, ReadsBacked, AllProposed, is_correct, log_in}
 use Rattle.ledger_laws.specs.Examples.{four, a, tx_a, first_report, quiet_end}
 use Rattle.ledger_laws.specs.Vacuity.{takes, proposes, sends, accepts, runs_block, first_result, three}
 
@@ -66,7 +66,8 @@ pub record IsSendable (ring : Ring) (s : SignedStatement) : Type 0 where
 pub record AreSendable (ring : Ring) (sign : Signing) : Type 0 where
   pub report : (r : ℕ) → r ≤ 2 → IsSendable ring (report_sent sign r)
   pub lock : IsSendable ring (lock_sent sign)
-  pub ack : (r : ℕ) → r ≤ 2 → IsSendable ring (ack_sent sign r)
+  pub ack_0 : IsSendable ring (ack_sent sign 0)
+  pub ack_2 : IsSendable ring (ack_sent sign 2)
 
 -- a round ends, and the replica sends its acknowledgement to replica 1
 abbrev pub acknowledges : SignedStatement → Entry
@@ -75,7 +76,7 @@ acknowledges s = record {
   reply = reply.RoundEnded (Ok (record { mute = false; frames = record { addressee = addressee.One 1; frame = frame_bytes s } ∷ [] }));
 }
 
--- the history of replica 1: at the end of round 3 its own acknowledgement is in no frame, and as round 4 opens it sends its lock on
+-- the history of replica 1: as round 3 opens it makes its own acknowledgement, which is in no frame; as round 4 opens it sends its lock on
 abbrev pub owner_entries : Signing → List Entry
 owner_entries sign =
     takes tx_a ∷ proposes a ∷ sends (report_sent sign 1) ∷ accepts (report_sent sign 0) ∷ accepts (report_sent sign 2)
@@ -91,14 +92,15 @@ other_entries sign r =
 abbrev pub plain_histories : Signing → List History
 plain_histories sign = three (other_entries sign 0) (owner_entries sign) (other_entries sign 2)
 
--- Under every ring whose keys verify the run's signatures, the three histories are lawful, and what they read was sent. More than t
--- correct replicas took the lock of a correct owner, which decided and committed. So the laws of locks, decisions, proposals and
--- ledgers have premises that some histories meet.
+-- Under every ring whose keys verify the signatures of these histories, they are lawful, what they read was made, and they proposed
+-- one batch. More than t correct replicas took the lock of a correct owner, which decided and committed. So they meet the premises of
+-- the laws `one_lock`, `one_decision`, `common_proposal` and `one_ledger`, if a ring verifies such signatures.
 abbrev pub PlainRunCommits : Type 0
 PlainRunCommits =
     (ring : Ring) (sign : Signing) → AreSendable ring sign
     → AreCorrect (four KvStore) ring (plain_histories sign)
     × ((h : ℕ) → ReadsBacked (four KvStore) (plain_histories sign) h)
+    × AllProposed (four KvStore) (plain_histories sign) 1 a
     × (3 ≤ number_of (four KvStore) (λ r. is_correct (plain_histories sign) r && took (log_in (four KvStore) (plain_histories sign) 1 r) a 1))
     × (decided_of (four KvStore) (log_in (four KvStore) (plain_histories sign) 1 1) ≡ Some a)
     × (commits_of (four KvStore) 1 (owner_entries sign) ≡ a ∷ [])
