@@ -1,10 +1,15 @@
 //! Why no clause says that a refused `put` met a full inbox, or that `None` met an empty one.
-ghost use Rattle.inbox.specs.Fits.{FitsFull, FitsEmpty};
+ghost use Rattle.inbox.specs.Fits.{FitsFull, FitsEmpty, FitsAnItem};
 
-/// What a pass put into an inbox agrees with a full inbox and with an empty one, since other passes put items, too. A
-/// refused [`put`](crate::Inbox::put) leaves the pass as it was. So whatever a clause says of the pass and the queue after
-/// a refusal, it holds whether the queue was full or empty.
-pub fn passes_fit_full_and_empty()
+/// What a pass put into an inbox agrees with a full inbox, which another pass filled, and with an empty one: a putting pass
+/// doesn't know how many others there are. A refused [`put`](crate::Inbox::put) leaves the pass as it was.
+pub fn putting_passes_fit_full_and_empty()
     ensures full { FitsFull }
     ensures empty { FitsEmpty }
+{}
+
+/// While a putting pass isn't handed back, whatever the taking pass knows of an empty inbox agrees with an inbox in which an
+/// item of that pass waits. [`take`](crate::Inbox::take) leaves the taking pass as it was if it returns `None`.
+pub fn taking_pass_fits_an_item()
+    ensures { FitsAnItem }
 {}
