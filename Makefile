@@ -37,7 +37,7 @@ demo:
 
 prove:
 	@echo "proving the crates below the program, and the program, on $$(nproc) processors:"
-	@TIMEFORMAT='proved after %0R s, with %0U s of processor time'; time $(MAKE) --no-print-directory $(addprefix prove-,$(call below,abft))
+	@TIMEFORMAT='these took %0R s, and %0U s of processor time'; time $(MAKE) --no-print-directory -j1 $(addprefix prove-,$(call below,abft))
 	@cd crates/abft && mkdir -p out && { rt run $(if $(CPU),--cpu $(CPU)) --jobs $$(nproc) -- --version >out/said 2>&1 || { tail -n 20 out/said; exit 1; }; }
 
 bench:

@@ -79,7 +79,7 @@ world_of c = record { histories = map history_in (states_of c); order = c.order 
 -- ---- the invariants of a running cluster
 
 -- The correct replica with this number belongs to the cluster. Its history is a replay, its machine is the application
--- run alone on what it committed, it is mute only if too few leaves were left, and none of its leaves signs two statements.
+-- run alone on what it committed, it is mute only if too few leaves were left, and no leaf signs two of its statements.
 pub record IsMemberAt (c : WorldView) (r : ℕ) (s : StateView) : Type 0 where
   pub config : s.config ≡ c.config
   pub ring : s.ring ≡ c.ring
@@ -137,7 +137,7 @@ AllReplay c = (r : ℕ) (s : StateView) → state_at c r ≡ Some s → Replay c
 abbrev pub AllAccountForLeaves : WorldView → Type 0
 AllAccountForLeaves c = (r : ℕ) (s : StateView) → state_at c r ≡ Some s → AccountsForLeaves s
 
--- no leaf of a correct replica signs two statements
+-- no leaf signs two of the statements that a correct replica sends
 abbrev pub EachSignsOnce : WorldView → Type 0
 EachSignsOnce c = (r : ℕ) (s : StateView) → state_at c r ≡ Some s → SignsEachOnce s
 

@@ -201,7 +201,7 @@ impl<A: Application> World<A> {
         ensures replay { AllReplay self.new }
         // A correct replica is mute only if too few leaves were left.
         ensures account { AllAccountForLeaves self.new }
-        // No leaf of a correct replica signs two statements, in any run.
+        // In any run, no leaf signs two of the statements that a correct replica sends.
         ensures once { EachSignsOnce self.new }
         // If memory didn't run out, each replica used one leaf for each statement of its own that it sent, and no other.
         ensures leaves { IfOk result (λ answers. UsesAsAnswered self.old answers.items self.new) }

@@ -16,7 +16,7 @@ use std::marker::Model;
 ///
 /// The invariants of the type: what happened is a run in the sense of the definitions; each correct replica's
 /// application is what it is when it runs alone on the replica's blocks; a correct replica is mute only if too few
-/// leaves were left; none of its leaves signs two statements; and no more replicas lie than the cluster tolerates.
+/// leaves were left; no leaf signs two of the statements that it sends; and no more replicas lie than the cluster tolerates.
 pub struct World<A: Application> {
     pub(crate) config: Config,
     pub(crate) ring: KeyRing,
@@ -93,7 +93,7 @@ impl<A: Application> World<A> {
         ensures replay { AllReplay self.now }
         // A correct replica is mute only if too few leaves were left.
         ensures account { AllAccountForLeaves self.now }
-        // No leaf of a correct replica signed two statements.
+        // No leaf signed two of the statements that a correct replica sent.
         ensures once { EachSignsOnce self.now }
     {
         &self.order

@@ -252,7 +252,7 @@ impl<A: Application> State<A> {
         ensures mute { result ≡ is_mute self.now.entries }
         // It is mute only because too few leaves were left.
         ensures account { AccountsForLeaves self.now }
-        // No leaf signed two statements.
+        // No leaf signed two of the statements that the history sends.
         ensures once { SignsEachOnce self.now }
     {
         self.core.is_mute()
@@ -334,7 +334,7 @@ impl<A: Application> State<A> {
         // Each statement of its own that the reply sends used one leaf, and nothing else did.
         ensures signed { OnOk result (UsesAsSigned self.old self.new) }
         ensures account { AccountsForLeaves self.new }
-        // No leaf signs two statements.
+        // No leaf signs two of the statements that the history sends.
         ensures once { SignsEachOnce self.new }
         ensures replay { Replay self.new.config self.new.ring self.new.id self.new.entries }
         // The application is in the state that it reaches when it runs alone on the committed blocks.

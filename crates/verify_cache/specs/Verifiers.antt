@@ -80,7 +80,7 @@ primed ring m v = if has_same_key ring v.ring m.signer then with_answer m (answe
 abbrev pub check_of : SignedPartView → SignedMessage
 check_of p = signed_of p.signer p.message p.signature
 
--- the verifier takes in what this ring answers to the check, or leaves it out, if memory for it is refused
+-- the verifier takes in what this ring answers to the check, or leaves it out: no clause says that memory was refused then
 abbrev pub Primes : Ring → SignedMessage → VerifierView → VerifierView → Type 0
 Primes ring m old new = (new ≡ primed ring m old) ⊎ (new ≡ old)
 
