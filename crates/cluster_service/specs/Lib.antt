@@ -7,3 +7,4 @@ pub mod HistoriesFiles
 pub mod Lines
 pub mod RunFaults
 pub mod Reporting
+pub mod Ports

@@ -1,5 +1,6 @@
 //! The connections of HTTP, each served in a thread of its own: one request and its reply.
-ghost use Rattle.std.specs.Prelude.{IfErr, IfSome};
+ghost use Rattle.std.specs.Prelude.{IfErr, IfOk, IfSome, option_map};
+ghost use Rattle.cluster_service.specs.Ports.{IsAskedIfAny};
 ghost use Rattle.cluster_service.specs.RunFaults.{IsPortFault};
 
 use crate::http_door::{HttpDoor, LOOK_MS};
@@ -42,7 +43,8 @@ pub fn listen_for_http<R: Net<Listener = TcpListener, Stream = TcpStream>>(
     rt: &R,
     port: Option<u16>,
 ) -> Result<Option<HttpListener>, ProgramFault>
-    ensures { IfErr result (λ fault. IfSome port (λ p. IsPortFault p fault)) }
+    ensures asked { IfOk result (λ http. IsAskedIfAny port (option_map (λ h. h.port) http)) }
+    ensures fault { IfErr result (λ fault. IfSome port (λ p. IsPortFault p fault)) }
 {
     match port {
         Some(port) => {

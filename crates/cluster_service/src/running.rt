@@ -1,7 +1,8 @@
 //! Clusters that run in threads of this process, on wall-clock time, and listen at ports of this machine.
-ghost use Rattle.std.specs.Prelude.{◌≡◌, ◌⊎◌, ◌<◌, ℕ, Some, length, slice_get, vec_len, IfErr, IfOk, All};
+ghost use Rattle.std.specs.Prelude.{◌≡◌, ◌<◌, ℕ, Some, length, slice_get, vec_len, IfErr, IfOk, All};
 ghost use Rattle.cluster_keys.specs.Keys.{ring_of};
 ghost use Rattle.commit_board.specs.Seats.{new_reader};
+ghost use Rattle.cluster_service.specs.Ports.{IsAskedPort};
 ghost use Rattle.cluster_service.specs.Reporting.{AreTaken};
 ghost use Rattle.cluster_service.specs.RunFaults.{IsPortFault, IsRunFault};
 ghost use denote.Param.Send.{IsSend, IsSync};
@@ -38,7 +39,7 @@ pub fn listen_at<R: Net<Listener = TcpListener, Stream = TcpStream>>(
     rt: &R,
     port: u16,
 ) -> Result<(TcpListener, u16), ProgramFault>
-    ensures asked { IfOk result (λ r. (port ≡ 0) ⊎ (r.1 ≡ port)) }
+    ensures asked { IfOk result (λ r. IsAskedPort port r.1) }
     ensures fault { IfErr result (IsPortFault port) }
 {
     match TcpListener::bind(rt, (Ipv4Addr::LOCALHOST, port)) {
