@@ -1,6 +1,7 @@
 #!/usr/bin/env bash
-# Hostile use of the built program: scenarios made from seeds, and frames that are cut and changed. Clients that do their worst, refused
-# memory, and reads and writes that fail are in soak.sh, with what takes longer. The last line is `N passed, M failed`.
+# Hostile use of the built program: scenarios made from seeds, frames that are cut and changed, and events whose allocations are refused.
+# Clients that do their worst, whole runs without memory, and reads and writes that fail are in soak.sh, with what takes longer. The last line
+# is `N passed, M failed`.
 set -u
 cd "$(dirname "$0")/.." || exit 1
 . tests/harness.sh
@@ -43,4 +44,12 @@ a lock with this proof itself: deliver 0 accepted: 1
 for version in 1 2; do
     runs "frames of version $version that are cut and changed" 0 "$answers" "tests/hostile_frames.py '$abft' 97 $version"
 done
+
+cases='9489 bytes of a lock, each prefix: 9491 cases
+2377 bytes of a report, each place changed: 2378 cases
+'
+runs 'a lock that is cut and a report that is changed, at each place' 0 "$cases" "tests/frame_places.py '$abft'"
+
+goes 'round ends without memory' tests/refused_round_ends.py "$abft" "$(nproc)"
+goes 'each event without memory' tests/refused_events.py "$abft" "$(nproc)" short
 finish

@@ -1,5 +1,5 @@
 #!/usr/bin/env python3
-"""Each event of a replica with each of its allocations refused in turn: tests/refused_events.py ABFT [JOBS].
+"""Each event of a replica with each of its allocations refused in turn: tests/refused_events.py ABFT [JOBS [short]].
 
 A scenario is a setup, the line of an event, and a rest in which all heights are decided. It is played with one allocation of the line
 refused, and with the line a second time. Of each allocation whose refusal the line prints as `refused 5`:
@@ -10,6 +10,8 @@ refused, and with the line a second time. Of each allocation whose refusal the l
   that it signs. So of that replica's signatures those made later may have a leaf later by so many, or contain such a signature; all else is
   compared byte by byte.
 - `conclusions.py` follows these histories, and `abft audit` answers their ledger.
+
+With `short` there is no rest: what is compared is what the second line prints, and the histories after it.
 
 Prints for each event how many allocations its line has, how many of them refuse the step, and after how many a leaf or more was used. A
 refused allocation of the verifier's cache leaves the answer as with memory. One of what isn't the step's own, as the text of the line, ends
@@ -29,6 +31,7 @@ from refused_calls import Refusing  # noqa: E402
 
 ABFT = sys.argv[1]
 JOBS = int(sys.argv[2]) if len(sys.argv) > 2 else os.cpu_count()
+IS_SHORT = sys.argv[3:] == ["short"]
 REPLICAS = range(4)
 
 # As examples/plain-run.txt, but with as much as a block and a row of heights have: sixteen transactions, four open heights.
@@ -51,7 +54,7 @@ class Case:
         # The last line of the setup prints `refused 2`: with what a refused step of a round before it prints, that isn't the next line.
         self.setup = [*setup, "info 9"]
         # A replica that ended its round alone is one ahead: the others catch up.
-        self.rest = [f"end {r}" for r in REPLICAS if r != replica and line.startswith("end")] + REST
+        self.rest = [] if IS_SHORT else [f"end {r}" for r in REPLICAS if r != replica and line.startswith("end")] + REST
         self.once = [*self.setup, line, *self.rest]
         self.twice = [*self.setup, line, line, *self.rest]
 
@@ -139,7 +142,7 @@ class Trial:
         self.begins, self.ends = len(before), len(self.lines([*case.setup, case.line]))
         self.told = before + b"refused 5\n" + whole[len(before):]
         self.whole, self.before, self.at_end = whole, self.histories(case.setup), self.histories(case.once)
-        self.repeated = self.lines(case.twice)
+        self.repeated, self.at_repeated_end = self.lines(case.twice), self.histories(case.twice)
         self.check_ledger(self.at_end)
 
     def run(self, words, lines, **limits):
@@ -181,10 +184,10 @@ class Trial:
             return "not the step's"
         require(done.returncode == 0, "status", done.returncode, done.stderr)
         if done.stdout == self.repeated:
-            require(self.histories(self.case.twice, at) == self.histories(self.case.twice), "changes a history")
+            require(self.histories(self.case.twice, at) == self.at_repeated_end, "changes a history")
             return "as with memory"
         require(done.stdout == self.told, "prints", done.stdout[self.begins:self.begins + 200])
-        require(self.histories([*self.case.setup, self.case.line], at) == self.before, "changes a history")
+        require(IS_SHORT or self.histories([*self.case.setup, self.case.line], at) == self.before, "changes a history")
         data = self.histories(self.case.twice, at)
         if data == self.at_end:
             return "refused"
@@ -193,10 +196,10 @@ class Trial:
         return f"refused, {used} leaves used"
 
     def check_ledger(self, data):
-        """The histories are those of a ledger of four blocks, for `conclusions.py` and for `abft audit`."""
+        """The histories are those of a ledger, after the rest of four blocks, for `conclusions.py` and for `abft audit`."""
         _, ledger = follow(read_histories(data), len(REPLICAS), 1, 1)
         audited = subprocess.run([ABFT, "audit"], input=data, stdout=subprocess.PIPE).stdout
-        require(len(ledger) == 4 and audited.decode() == ledger_lines(ledger), "the audit answers", audited[:200])
+        require((IS_SHORT or len(ledger) == 4) and audited.decode() == ledger_lines(ledger), "the audit answers", audited[:200])
 
 
 def try_one(trial, at):

@@ -1,14 +1,18 @@
 #!/usr/bin/env python3
-"""Round ends without memory: tests/refused_round_ends.py ABFT. A replica that is refused memory as it ends its first round has used its
+"""Round ends without memory: tests/refused_round_ends.py ABFT [JOBS]. A replica that is refused memory as it ends its first round has used its
 first leaf, or none; one that uses a leaf at each of 32 refused ends is mute at the next. Prints how often which leaf signed."""
 import collections
+import concurrent.futures
+import os
 import sys
+import threading
 
 sys.dont_write_bytecode = True
 from records import read_frame, read_histories  # noqa: E402
 from refused_calls import Refusing  # noqa: E402
 
 ABFT = sys.argv[1]
+JOBS = int(sys.argv[2]) if len(sys.argv) > 2 else os.cpu_count()
 LEAVES = 32
 
 
@@ -16,7 +20,8 @@ def first_end(refusing, *refused):
     """Replica 0 opens a height, and is to end its round 33 times. The reply to the first end that happened, how many didn't, and how many
     allocations there were."""
     text = "config 4 1 1\npropose 0 1\n" + "end 0\n" * (LEAVES + 1)
-    done, (allocations, _, _) = refusing.run([ABFT, "simulate", "--histories"], text.encode(), REFUSED=",".join(map(str, refused)))
+    counts = os.path.join(refusing.room.name, str(threading.get_ident()))
+    done, (allocations, _, _) = refusing.run([ABFT, "simulate", "--histories"], text.encode(), counts, REFUSED=",".join(map(str, refused)))
     ends = [entry.reply for entry in read_histories(done.stdout)[0] if entry.kind == "end"] if done.returncode == 0 else []
     return ends[0] if ends else None, LEAVES + 1 - len(ends), allocations
 
@@ -41,7 +46,9 @@ def next_refused(refusing, refused, gap):
 def main():
     refusing = Refusing()
     allocations = first_end(refusing)[2]
-    leaves = {at: leaf_after(refusing, at) for at in range(1, allocations + 1)}
+    places = range(1, allocations + 1)
+    with concurrent.futures.ThreadPoolExecutor(JOBS) as pool:
+        leaves = dict(zip(places, pool.map(lambda at: leaf_after(refusing, at), places)))
     refused, gap = [next(at for at, leaf in leaves.items() if leaf == 1)], 1
     counts = collections.Counter(leaf for at, leaf in leaves.items() if leaf is not None and at < refused[0] + 10)
     print("one refused end: " + "; ".join(f"leaf {leaf} signs: {count}" for leaf, count in sorted(counts.items())))

@@ -135,6 +135,20 @@ fn counter_counts_in_turn(rt: HostRuntime) {
     );
 }
 
+// Whether two blocks of one number each count to 2.
+fn counts_two_blocks(alloc: Global, counter: &mut Counter) -> bool {
+    plays(alloc, counter, &[b"\x00"], &[0])
+        && plays(alloc, counter, &[b"\x01"], &[0])
+        && has_info(counter, 2, COUNT_OF_TWO)
+        && holds(counter, b"count", Some(&[0, 0, 0, 0, 0, 0, 0, 2]))
+}
+
+#[test]
+fn counter_counts_two_blocks(rt: HostRuntime) {
+    let mut counter = Counter::new(rt.alloc());
+    assert!(rt; counts_two_blocks(rt.alloc(), &mut counter));
+}
+
 // Whether account 0 paid 5 to account 1, and no other key has a value.
 fn has_five_paid(purse: &Purse) -> bool {
     holds(purse, b"\x00", Some(&[0, 0, 3, 0xe3, 0, 0, 0, 1]))

@@ -1,13 +1,14 @@
-//! Audits of histories that were taken while a cluster ran.
+//! Audits of histories that were taken while a cluster ran, and after its rounds.
 ghost use Rattle.std.specs.Prelude.{◌≡◌, [], All, vec_len, IfOk};
 ghost use Rattle.ledger_model.specs.Applications.{run};
 ghost use Rattle.app_kinds.specs.Chosen.{machine_of};
 
+use crate::cluster_tests::{first_behind, reader_of};
 use crate::history_gate::{HistoryGate, SETS, histories};
 use crate::quiet_clock::QuietClock;
 use crate::replicas::{four, replicas};
 use app_kinds::AnyKind;
-use cluster_workers::{RunningCluster, Stop, Worker, run_all};
+use cluster_workers::{NoGate, RunningCluster, Stop, Worker, run_all};
 use history_audit::{AuditFault, audit};
 use key_ring::KeyRing;
 use ledger_model::{AppKind, Config, History, ReplicaId};
@@ -17,7 +18,11 @@ use std::sync::Wait;
 use std::test::Fail;
 use std::thread::Threads;
 
+/// The rounds in which the sets of histories are taken.
 const ROUNDS: u32 = 32;
+
+/// The rounds of four phases, in which each replica decides the block of height 1.
+const FIRST_ROUNDS: u32 = 16;
 
 /// What an audit returned.
 #[derive(Clone, Copy, Debug, PartialEq, Eq)]
@@ -143,5 +148,34 @@ fn histories_of_a_running_cluster_are_replays(rt: HostRuntime) -> Result<(), Fai
     let [after, wanted] = outcomes_after(&rt, alloc, &cluster, &auditor)?;
     assert_eq!(rt; after, wanted);
     assert!(rt; after != Outcome::Ledger(0));
+    Ok(())
+}
+
+#[test]
+fn sixteen_rounds_commit_one_ledger(rt: HostRuntime) -> Result<(), Fail> {
+    let alloc = rt.alloc();
+    let keys = four()?;
+    let states = replicas(&rt, alloc, &keys)?;
+    let (cluster, workers, reading) = RunningCluster::new(
+        alloc,
+        &keys.config,
+        states,
+        FIRST_ROUNDS,
+        1,
+    )?;
+    let reader = reader_of(&cluster, reading)?;
+    let clock = QuietClock::new(&rt, alloc, 4)?;
+    assert!(rt; run_all(&rt, workers, &clock, &NoGate, &Stop::new()) && !clock.has_note());
+    assert_eq!(rt;
+        first_behind(&rt, &cluster, reader, keys.config.replicas, 1),
+        None
+    );
+    let auditor = Auditor {
+        config: keys.config,
+        ring: ring_of(&rt, &cluster)?,
+        random: RandomState::new(&rt)?,
+    };
+    let [after, wanted] = outcomes_after(&rt, alloc, &cluster, &auditor)?;
+    assert_eq!(rt; after, wanted);
     Ok(())
 }

@@ -17,6 +17,7 @@ use std::random::RandomSource;
 use std::sync::Wait;
 use std::test::Fail;
 
+/// Rounds enough for each replica to give up a height.
 const ROUNDS: u32 = 32;
 
 /// Whether the first block is `[a=1]`.
@@ -30,13 +31,18 @@ fn has_first_block(state: &State<AnyKind>) -> bool {
     }
 }
 
-/// Whether the replica committed that block, up to the height that it published, and gave up height 1.
-fn has_committed<R: Wait>(rt: &R, replica: &LockedReplica<AnyKind>, published: u32) -> bool {
+/// Whether the replica committed that block, up to the height that it published, and gave up the heights below `floor`.
+fn has_committed<R: Wait>(
+    rt: &R,
+    replica: &LockedReplica<AnyKind>,
+    published: u32,
+    floor: u32,
+) -> bool {
     let state = replica.lock(rt);
     published >= 1
         && state.height() == published
         && has_first_block(&*state)
-        && state.floor().number() > 1
+        && state.floor().number() >= floor
 }
 
 /// Whether this replica did so, up to the height that this reader reads.
@@ -45,27 +51,29 @@ fn is_done<R: Wait>(
     cluster: &RunningCluster<AnyKind>,
     reader: &mut ReaderSeat,
     id: ReplicaId,
+    floor: u32,
 ) -> bool
     requires board { reader.old.board ≡ cluster.now.board }
     requires below { id < cluster.now.replicas }
     ensures { reader.new.board ≡ reader.old.board }
 {
     let published = cluster.board().read(reader, id);
-    has_committed(rt, cluster.replica(id), published)
+    has_committed(rt, cluster.replica(id), published, floor)
 }
 
 /// The first of the replicas that did not do so, if there is one.
-fn first_behind<R: Wait>(
+pub(crate) fn first_behind<R: Wait>(
     rt: &R,
     cluster: &RunningCluster<AnyKind>,
     mut reader: ReaderSeat,
     replicas: u8,
+    floor: u32,
 ) -> Option<u8>
     requires board { reader.board ≡ cluster.now.board }
     requires count { replicas ≡ cluster.now.replicas }
 {
     for id in 0..replicas {
-        if !is_done(rt, cluster, &mut reader, ReplicaId::new(id)) {
+        if !is_done(rt, cluster, &mut reader, ReplicaId::new(id), floor) {
             return Some(id);
         }
     }
@@ -73,7 +81,7 @@ fn first_behind<R: Wait>(
 }
 
 /// The reader's seat of a cluster that has exactly one.
-fn reader_of(
+pub(crate) fn reader_of(
     cluster: &RunningCluster<AnyKind>,
     mut reading: Vec<ReaderSeat>,
 ) -> Result<ReaderSeat, Fail>
@@ -110,7 +118,7 @@ fn four_replicas_commit_and_two_workers_meet(rt: HostRuntime) -> Result<(), Fail
     assert!(rt; run_all(&rt, workers, &clock, &gate, &Stop::new()));
     assert!(rt; !clock.has_note() && !gate.has_note() && gate.have_met());
     assert_eq!(rt;
-        first_behind(&rt, &cluster, reader, keys.config.replicas),
+        first_behind(&rt, &cluster, reader, keys.config.replicas, 2),
         None
     );
     assert!(rt; is_first_followed(&rt, alloc, &cluster)?);

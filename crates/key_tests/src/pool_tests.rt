@@ -10,6 +10,9 @@ use std::thread::Threads;
 use test_support::{TestCluster, report_bytes};
 use verify_pool::{Gate, NoGate, verify_all};
 
+/// How often a check that waits looks for the end of the other one. After each look it yields the processor.
+const MAX_TURNS: u32 = 1_000_000;
+
 /// The check of one part starts only after the check of another part has ended, or after this number of looks for its end.
 #[derive(Drop)]
 struct OrderGate {
@@ -164,8 +167,8 @@ fn both_in_order<R: Threads + Sync>(
     Ok((are_valid, gate.has_note()))
 }
 
-// Two checks run at the same time: whichever must wait for the other does, and both end. With one worker the one that
-// comes first would wait for ever, so it looks once.
+// Two checks run at the same time: whichever must wait for the other does, and both end without a note. With one worker the
+// check that waits would run first, so it looks once and leaves a note.
 #[test]
 fn two_frames_are_checked_at_the_same_time(rt: HostRuntime) -> Result<(), Fail> {
     let alloc = rt.alloc();
@@ -174,7 +177,7 @@ fn two_frames_are_checked_at_the_same_time(rt: HostRuntime) -> Result<(), Fail> 
     let mut results = [(false, false); 3];
     for (result, (first, second, workers, looks)) in results
         .iter_mut()
-        .zip([(1, 0, 2, u32::MAX), (0, 1, 2, u32::MAX), (1, 0, 1, 1)])
+        .zip([(1, 0, 2, MAX_TURNS), (0, 1, 2, MAX_TURNS), (1, 0, 1, 1)])
     {
         let gate = OrderGate::new(first, second, looks);
         *result = both_in_order(&rt, alloc, &cluster, &frames, workers, &gate)?;

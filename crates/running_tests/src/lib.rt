@@ -17,3 +17,5 @@ mod session_streams;
 mod session_targets;
 #[cfg(test)]
 mod session_tests;
+#[cfg(test)]
+mod tcp_tests;

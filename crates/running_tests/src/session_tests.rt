@@ -84,7 +84,7 @@ const FAULTS: [(TargetFault, &[u8]); 2] = [
 
 /// How a session ended.
 #[derive(Clone, Copy, PartialEq, Eq)]
-enum End {
+pub(crate) enum End {
     Clean,
     Cut,
     Read,
@@ -104,7 +104,7 @@ fn end_of(served: &Result<SessionEnd, SessionFault>) -> End {
 }
 
 /// Serves a session from its start, and returns how it ended.
-fn ends<R: Read, W: Write>(
+pub(crate) fn ends<R: Read, W: Write>(
     alloc: Global,
     input: &mut R,
     output: &mut W,
