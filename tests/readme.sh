@@ -75,6 +75,14 @@ for line in "${lines[@]}"; do
     fi
 done
 
+# The audit of the saved histories finds as many blocks as the cluster's own.
+if [ "$(grep -E '^ledger [0-9]+$' "$room/said" | sort -u | wc -l)" = 1 ]; then
+    passed=$((passed + 1))
+else
+    failed=$((failed + 1))
+    printf 'failed: the two audits found different ledgers:\n%s\n' "$(grep -E '^ledger ' "$room/said")"
+fi
+
 # Each line of README that shows a prompt was typed, and none printed anything after its time.
 prompts=$(grep -cE '^[[:space:]]*(\$|%|>) ' README.md)
 if [ "$typed" -gt 0 ] && [ "$typed" = "$prompts" ]; then
