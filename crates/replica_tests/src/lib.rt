@@ -21,8 +21,6 @@ mod frame_tests;
 #[cfg(test)]
 mod frames;
 #[cfg(test)]
-mod full_history_tests;
-#[cfg(test)]
 mod history_tests;
 #[cfg(test)]
 mod memory_tests;

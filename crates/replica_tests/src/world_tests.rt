@@ -14,7 +14,7 @@ use std::slice;
 use std::test::Fail;
 
 /// Four replicas, of which one lies.
-pub(crate) fn new_world(alloc: Global, random: RandomState) -> Result<World<AnyKind>, Fault> {
+fn new_world(alloc: Global, random: RandomState) -> Result<World<AnyKind>, Fault> {
     let cluster = ClusterSeed {
         config: Config::new(4, 1, AppKind::KvStore)?,
         params: Params {
@@ -167,7 +167,7 @@ fn order_numbers(alloc: Global, world: &World<AnyKind>) -> Result<Vec<u8>, Alloc
 }
 
 /// The histories as bytes, one after the other.
-pub(crate) fn histories(alloc: Global, world: &World<AnyKind>) -> Result<Vec<Vec<u8>>, AllocError> {
+fn histories(alloc: Global, world: &World<AnyKind>) -> Result<Vec<Vec<u8>>, AllocError> {
     let mut spelled = Vec::new(alloc);
     for history in world.histories()? {
         spelled.push(history_bytes(alloc, &history)?)?;
