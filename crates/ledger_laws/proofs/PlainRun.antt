@@ -113,19 +113,24 @@ may_none : (id h c : ℕ) (log : List Note) (made : List Statement) → open_of 
 unfolding MayMake
 may_none id h c log made shut none = rw shut none
 
--- what is to be shown of a round end
-record IsEnd (id : ℕ) (front : List Entry) (log other : List Note) (frames : List Sent) : Type 0 where
-  few : clock_at front < last_round
-  loud : is_mute front ≡ false
+-- what is to be shown of the frames that a round end sends
+record IsSending (frames : List Sent) : Type 0 where
   right : AllByRecursion (IsSentRight K) frames
   statements : List SignedStatement
   read : filter_map (λ f. reading f.frame) frames ≡ statements
   order : IsTrue (never_falls (map (λ s. height_of s.statement) statements))
   own_height : (h : ℕ) → nat_eq 1 h ≡ false → filter (λ s. nat_eq (height_of s.statement) h) statements ≡ []
+
+-- what is to be shown of a round end
+record IsEnd (id : ℕ) (front : List Entry) (log other : List Note) (frames : List Sent) : Type 0 where
+  few : clock_at front < last_round
+  loud : is_mute front ≡ false
+  sends : IsSending frames
   made : List SignedStatement
   makes : Makes id log other frames made
   may : MayMake K id 1 log (clock_of log + 1) false (map (λ s. s.statement) made)
-  on : IsTrue (nat_eq (place_of (clock_of log + 1)) release_place) → statements_sent 1 (record { mute = false; frames = frames }) ≡ locks_sent_on log
+  on : IsTrue (nat_eq (place_of (clock_of log + 1)) release_place) → statements_sent 1
+      (record { mute = false; frames = frames }) ≡ locks_sent_on log
   shut : open_of other ≡ None
 
 -- what a replica may make at one height, by the log there
@@ -154,7 +159,7 @@ module _ (id : ℕ) (front : List Entry) (log other : List Note) (frames : List 
   sends_nothing : (h : ℕ) → nat_eq 1 h ≡ false → SendsRight h E other
   unfolding statements_sent
   sends_nothing h not place =
-      ap (filter (λ s. nat_eq (height_of s.statement) h)) end.read ∙ end.own_height h not
+      ap (filter (λ s. nat_eq (height_of s.statement) h)) end.sends.read ∙ end.sends.own_height h not
       ∙ sym (ap (λ o. if is_some o then held_locks other else []) end.shut)
 
   sends_right : (h : ℕ) → SendsRight h E (log_of K id h front)
@@ -168,8 +173,8 @@ module _ (id : ℕ) (front : List Entry) (log other : List Note) (frames : List 
     end.few,
     record {
       mute = λ mute. subst IsTrue end.loud mute;
-      frames = end.right;
-      order = subst (λ ss. IsTrue (never_falls (map (λ s. height_of s.statement) ss))) (sym end.read) end.order;
+      frames = end.sends.right;
+      order = subst (λ ss. IsTrue (never_falls (map (λ s. height_of s.statement) ss))) (sym end.sends.read) end.sends.order;
       makes = makes_right;
       sends_on = sends_right;
     },
@@ -199,12 +204,27 @@ sent_frame s version is = reading-again Two s (record {
 })
 
 -- a frame of a statement of height 1, to all
-sent_one : (s : SignedStatement) → version_of s.statement ≡ One → IsFrameIn One s → filter_map (λ f. reading f.frame) (to_all s ∷ []) ≡ s ∷ []
+sent_one : (s : SignedStatement) → version_of s.statement ≡ One → IsFrameIn One s → filter_map (λ f. reading f.frame)
+    (to_all s ∷ []) ≡ s ∷ []
 sent_one s version is = ap (λ o. cons_option o []) (sent_frame s version is)
 
 not_own : (s : SignedStatement) → height_of s.statement ≡ 1 → (h : ℕ) → nat_eq 1 h ≡ false
     → filter (λ t. nat_eq (height_of t.statement) h) (s ∷ []) ≡ []
 not_own s height h not = ap (λ n. if nat_eq n h then s ∷ [] else []) height ∙ ap (λ b. if b then s ∷ [] else []) not
+
+-- no frame is sent
+sends_none : IsSending []
+sends_none = record { right = tt; statements = []; read = refl; order = refl; own_height = λ h not. refl }
+
+-- one frame is sent, of a statement of height 1
+sends_one : (f : Sent) (right : IsSentRight K f) → height_of right.signed.statement ≡ 1 → IsSending (f ∷ [])
+sends_one f right height = record {
+  right = (right, tt);
+  statements = right.signed ∷ [];
+  read = ap (λ o. cons_option o []) right.spelled;
+  order = refl;
+  own_height = not_own right.signed height;
+}
 
 module _ (ring : Ring) (sign : Signing) (are : AreSendable ring sign) where
   abbrev rep : ℕ → SignedStatement
@@ -220,45 +240,45 @@ module _ (ring : Ring) (sign : Signing) (are : AreSendable ring sign) where
   report_frame r le = (are.report r le).frame
 
   -- ---- the owner's logs
-  abbrev L3 : List Note
-  L3 = Proposed a ∷ Round 1 ∷ OwnStatement 1 (rep 1).statement ∷ Read 1 (rep 1) ∷ []
+  abbrev log_after_report : List Note
+  log_after_report = Proposed a ∷ Round 1 ∷ OwnStatement 1 (rep 1).statement ∷ Read 1 (rep 1) ∷ []
 
-  abbrev L5 : List Note
-  L5 = L3 ++ Read 1 (rep 0) ∷ Read 1 (rep 2) ∷ []
+  abbrev log_after_reports : List Note
+  log_after_reports = log_after_report ++ Read 1 (rep 0) ∷ Read 1 (rep 2) ∷ []
 
-  abbrev L6 : List Note
-  L6 = L5 ++ Round 2 ∷ OwnStatement 2 lock.statement ∷ Read 2 lock ∷ []
+  abbrev log_after_lock : List Note
+  log_after_lock = log_after_reports ++ Round 2 ∷ OwnStatement 2 lock.statement ∷ Read 2 lock ∷ []
 
-  abbrev L7 : List Note
-  L7 = L6 ++ Round 3 ∷ OwnStatement 3 own_ack_1.statement ∷ Read 3 own_ack_1 ∷ []
+  abbrev log_after_ack : List Note
+  log_after_ack = log_after_lock ++ Round 3 ∷ OwnStatement 3 own_ack_1.statement ∷ Read 3 own_ack_1 ∷ []
 
-  abbrev L9 : List Note
-  L9 = L7 ++ Read 3 (ack_sent sign 0) ∷ Read 3 (ack_sent sign 2) ∷ []
+  abbrev log_after_acks : List Note
+  log_after_acks = log_after_ack ++ Read 3 (ack_sent sign 0) ∷ Read 3 (ack_sent sign 2) ∷ []
 
   -- ---- the owner's entries, up to each
-  abbrev O2 : List Entry
-  O2 = takes tx_a ∷ proposes a ∷ []
+  abbrev entries_after_start : List Entry
+  entries_after_start = takes tx_a ∷ proposes a ∷ []
 
-  abbrev O3 : List Entry
-  O3 = O2 ++ sends (rep 1) ∷ []
+  abbrev entries_after_report : List Entry
+  entries_after_report = entries_after_start ++ sends (rep 1) ∷ []
 
-  abbrev O5 : List Entry
-  O5 = O3 ++ accepts (rep 0) ∷ accepts (rep 2) ∷ []
+  abbrev entries_after_reports : List Entry
+  entries_after_reports = entries_after_report ++ accepts (rep 0) ∷ accepts (rep 2) ∷ []
 
-  abbrev O6 : List Entry
-  O6 = O5 ++ sends lock ∷ []
+  abbrev entries_after_lock : List Entry
+  entries_after_lock = entries_after_reports ++ sends lock ∷ []
 
-  abbrev O7 : List Entry
-  O7 = O6 ++ quiet_end ∷ []
+  abbrev entries_after_ack : List Entry
+  entries_after_ack = entries_after_lock ++ quiet_end ∷ []
 
-  abbrev O9 : List Entry
-  O9 = O7 ++ accepts (ack_sent sign 0) ∷ accepts (ack_sent sign 2) ∷ []
+  abbrev entries_after_acks : List Entry
+  entries_after_acks = entries_after_ack ++ accepts (ack_sent sign 0) ∷ accepts (ack_sent sign 2) ∷ []
 
-  abbrev O10 : List Entry
-  O10 = O9 ++ sends lock ∷ []
+  abbrev entries_after_end : List Entry
+  entries_after_end = entries_after_acks ++ sends lock ∷ []
 
   -- what a replica has noted once it opened the height
-  begun : (id : ℕ) → Logs id O2 (Proposed a ∷ []) []
+  begun : (id : ℕ) → Logs id entries_after_start (Proposed a ∷ []) []
   unfolding log_of log_after notes_of
   begun id = record { here = refl; there = λ h not. ap (λ b. if b then Proposed a ∷ [] else []) not }
 
@@ -273,16 +293,13 @@ module _ (ring : Ring) (sign : Signing) (are : AreSendable ring sign) where
             ∙ ap (λ ss. ss ++ []) (not_own (rep id) refl h not);
       }
 
-  end_1 : (id : ℕ) → id ≤ 2 → IsEnd id O2 (Proposed a ∷ []) [] (to_all (rep id) ∷ [])
+  end_1 : (id : ℕ) → id ≤ 2 → IsEnd id entries_after_start (Proposed a ∷ []) [] (to_all (rep id) ∷ [])
   unfolding MayMake report_of is_all_proper proper_values held_values holds
   end_1 id le = record {
     few = lit< tt;
     loud = refl;
-    right = (record { signed = rep id; spelled = sent_frame (rep id) refl (report_frame id le); addressed = refl }, tt);
-    statements = rep id ∷ [];
-    read = sent_one (rep id) refl (report_frame id le);
-    order = refl;
-    own_height = not_own (rep id) refl;
+    sends = sends_one (to_all (rep id))
+        (record { signed = rep id; spelled = sent_frame (rep id) refl (report_frame id le); addressed = refl }) refl;
     made = rep id ∷ [];
     makes = makes_report id le;
     may = refl;
@@ -290,17 +307,19 @@ module _ (ring : Ring) (sign : Signing) (are : AreSendable ring sign) where
     shut = refl;
   }
 
-  reported : (id : ℕ) → id ≤ 2 → Logs id (O2 ++ sends (rep id) ∷ [])
+  reported : (id : ℕ) → id ≤ 2 → Logs id (entries_after_start ++ sends (rep id) ∷ [])
       (Proposed a ∷ Round 1 ∷ OwnStatement 1 (rep id).statement ∷ Read 1 (rep id) ∷ []) (Round 1 ∷ [])
-  reported id le = round_ended id O2 (to_all (rep id) ∷ []) (rep id ∷ []) (Proposed a ∷ []) [] (makes_report id le) (begun id)
+  reported id le = round_ended id entries_after_start (to_all (rep id) ∷ []) (rep id ∷ []) (Proposed a ∷ []) [] (makes_report id le)
+      (begun id)
 
-  pub read_reports : Logs 1 O5 L5 (Round 1 ∷ [])
+  pub read_reports : Logs 1 entries_after_reports log_after_reports (Round 1 ∷ [])
   read_reports =
-      accepted 1 (O3 ++ accepts (rep 0) ∷ []) (rep 2) (L3 ++ Read 1 (rep 0) ∷ []) (Round 1 ∷ []) (report_frame 2 (lit≤ tt)) refl
-      (accepted 1 O3 (rep 0) L3 (Round 1 ∷ []) (report_frame 0 (lit≤ tt)) refl (reported 1 (lit≤ tt)))
+      accepted 1 (entries_after_report ++ accepts (rep 0) ∷ []) (rep 2) (log_after_report ++ Read 1 (rep 0) ∷ []) (Round 1 ∷ [])
+      (report_frame 2 (lit≤ tt)) refl
+      (accepted 1 entries_after_report (rep 0) log_after_report (Round 1 ∷ []) (report_frame 0 (lit≤ tt)) refl (reported 1 (lit≤ tt)))
 
   -- the owner locks
-  makes_lock : Makes 1 L5 (Round 1 ∷ []) (to_all lock ∷ []) (lock ∷ [])
+  makes_lock : Makes 1 log_after_reports (Round 1 ∷ []) (to_all lock ∷ []) (lock ∷ [])
   unfolding statements_made statements_sent own_ack
   makes_lock =
       let sent = sent_one lock refl are.lock.frame in
@@ -310,22 +329,20 @@ module _ (ring : Ring) (sign : Signing) (are : AreSendable ring sign) where
             ∙ ap (λ ss. ss ++ []) (not_own lock refl h not);
       }
 
-  proof_read : (p : SignedReport) → Has (report_shown sign 0 ∷ report_shown sign 1 ∷ report_shown sign 2 ∷ []) p → Has L5 (Read 1 (with_signature p))
-  proof_read p (inl is) = subst (λ x. Has L5 (Read 1 (with_signature x))) is (inr (inr (inr (inr (inl refl)))))
-  proof_read p (inr (inl is)) = subst (λ x. Has L5 (Read 1 (with_signature x))) is (inr (inr (inr (inl refl))))
-  proof_read p (inr (inr (inl is))) = subst (λ x. Has L5 (Read 1 (with_signature x))) is (inr (inr (inr (inr (inr (inl refl))))))
+  proof_read : (p : SignedReport) → Has (report_shown sign 0 ∷ report_shown sign 1 ∷ report_shown sign 2 ∷ []) p → Has log_after_reports
+      (Read 1 (with_signature p))
+  proof_read p (inl is) = subst (λ x. Has log_after_reports (Read 1 (with_signature x))) is (inr (inr (inr (inr (inl refl)))))
+  proof_read p (inr (inl is)) = subst (λ x. Has log_after_reports (Read 1 (with_signature x))) is (inr (inr (inr (inl refl))))
+  proof_read p (inr (inr (inl is))) = subst (λ x. Has log_after_reports (Read 1 (with_signature x))) is
+      (inr (inr (inr (inr (inr (inl refl))))))
   proof_read p (inr (inr (inr none))) = absurd none
 
-  end_2 : IsEnd 1 O5 L5 (Round 1 ∷ []) (to_all lock ∷ [])
+  end_2 : IsEnd 1 entries_after_reports log_after_reports (Round 1 ∷ []) (to_all lock ∷ [])
   unfolding MayMake
   end_2 = record {
     few = lit< tt;
     loud = refl;
-    right = (record { signed = lock; spelled = sent_frame lock refl are.lock.frame; addressed = refl }, tt);
-    statements = lock ∷ [];
-    read = sent_one lock refl are.lock.frame;
-    order = refl;
-    own_height = not_own lock refl;
+    sends = sends_one (to_all lock) (record { signed = lock; spelled = sent_frame lock refl are.lock.frame; addressed = refl }) refl;
     made = lock ∷ [];
     makes = makes_lock;
     may = inl (
@@ -345,25 +362,21 @@ module _ (ring : Ring) (sign : Signing) (are : AreSendable ring sign) where
     shut = refl;
   }
 
-  locked : Logs 1 O6 L6 (Round 1 ∷ Round 2 ∷ [])
+  locked : Logs 1 entries_after_lock log_after_lock (Round 1 ∷ Round 2 ∷ [])
   unfolding held_values holds
-  locked = round_ended 1 O5 (to_all lock ∷ []) (lock ∷ []) L5 (Round 1 ∷ []) makes_lock read_reports
+  locked = round_ended 1 entries_after_reports (to_all lock ∷ []) (lock ∷ []) log_after_reports (Round 1 ∷ []) makes_lock read_reports
 
   -- the owner acknowledges its own lock, and sends nothing
-  makes_own_ack : Makes 1 L6 (Round 1 ∷ Round 2 ∷ []) [] (own_ack_1 ∷ [])
+  makes_own_ack : Makes 1 log_after_lock (Round 1 ∷ Round 2 ∷ []) [] (own_ack_1 ∷ [])
   unfolding statements_made statements_sent own_ack
   makes_own_ack = record { here = refl; there = λ h not. refl }
 
-  end_3 : IsEnd 1 O6 L6 (Round 1 ∷ Round 2 ∷ []) []
+  end_3 : IsEnd 1 entries_after_lock log_after_lock (Round 1 ∷ Round 2 ∷ []) []
   unfolding MayMake
   end_3 = record {
     few = lit< tt;
     loud = refl;
-    right = tt;
-    statements = [];
-    read = refl;
-    order = refl;
-    own_height = λ h not. refl;
+    sends = sends_none;
     made = own_ack_1 ∷ [];
     makes = makes_own_ack;
     may = refl;
@@ -371,30 +384,26 @@ module _ (ring : Ring) (sign : Signing) (are : AreSendable ring sign) where
     shut = refl;
   }
 
-  acked : Logs 1 O7 L7 (Round 1 ∷ Round 2 ∷ Round 3 ∷ [])
-  acked = round_ended 1 O6 [] (own_ack_1 ∷ []) L6 (Round 1 ∷ Round 2 ∷ []) makes_own_ack locked
+  acked : Logs 1 entries_after_ack log_after_ack (Round 1 ∷ Round 2 ∷ Round 3 ∷ [])
+  acked = round_ended 1 entries_after_lock [] (own_ack_1 ∷ []) log_after_lock (Round 1 ∷ Round 2 ∷ []) makes_own_ack locked
 
-  read_acks : Logs 1 O9 L9 (Round 1 ∷ Round 2 ∷ Round 3 ∷ [])
+  read_acks : Logs 1 entries_after_acks log_after_acks (Round 1 ∷ Round 2 ∷ Round 3 ∷ [])
   read_acks =
-      accepted 1 (O7 ++ accepts (ack_sent sign 0) ∷ []) (ack_sent sign 2) (L7 ++ Read 3 (ack_sent sign 0) ∷ [])
+      accepted 1 (entries_after_ack ++ accepts (ack_sent sign 0) ∷ []) (ack_sent sign 2) (log_after_ack ++ Read 3 (ack_sent sign 0) ∷ [])
       (Round 1 ∷ Round 2 ∷ Round 3 ∷ []) are.ack_2.frame refl
-      (accepted 1 O7 (ack_sent sign 0) L7 (Round 1 ∷ Round 2 ∷ Round 3 ∷ []) are.ack_0.frame refl acked)
+      (accepted 1 entries_after_ack (ack_sent sign 0) log_after_ack (Round 1 ∷ Round 2 ∷ Round 3 ∷ []) are.ack_0.frame refl acked)
 
   -- it sends its lock on
-  makes_none : Makes 1 L9 (Round 1 ∷ Round 2 ∷ Round 3 ∷ []) (to_all lock ∷ []) []
+  makes_none : Makes 1 log_after_acks (Round 1 ∷ Round 2 ∷ Round 3 ∷ []) (to_all lock ∷ []) []
   unfolding statements_made
   makes_none = record { here = refl; there = λ h not. refl }
 
-  end_4 : IsEnd 1 O9 L9 (Round 1 ∷ Round 2 ∷ Round 3 ∷ []) (to_all lock ∷ [])
+  end_4 : IsEnd 1 entries_after_acks log_after_acks (Round 1 ∷ Round 2 ∷ Round 3 ∷ []) (to_all lock ∷ [])
   unfolding MayMake statements_sent held_locks held_values holds
   end_4 = record {
     few = lit< tt;
     loud = refl;
-    right = (record { signed = lock; spelled = sent_frame lock refl are.lock.frame; addressed = refl }, tt);
-    statements = lock ∷ [];
-    read = sent_one lock refl are.lock.frame;
-    order = refl;
-    own_height = not_own lock refl;
+    sends = sends_one (to_all lock) (record { signed = lock; spelled = sent_frame lock refl are.lock.frame; addressed = refl }) refl;
     made = [];
     makes = makes_none;
     may = refl;
@@ -402,30 +411,31 @@ module _ (ring : Ring) (sign : Signing) (are : AreSendable ring sign) where
     shut = refl;
   }
 
-  decided : Logs 1 O10 (L9 ++ Round 4 ∷ []) (Round 1 ∷ Round 2 ∷ Round 3 ∷ Round 4 ∷ [])
-  decided = round_ended 1 O9 (to_all lock ∷ []) [] L9 (Round 1 ∷ Round 2 ∷ Round 3 ∷ []) makes_none read_acks
+  decided : Logs 1 entries_after_end (log_after_acks ++ Round 4 ∷ []) (Round 1 ∷ Round 2 ∷ Round 3 ∷ Round 4 ∷ [])
+  decided = round_ended 1 entries_after_acks (to_all lock ∷ []) [] log_after_acks (Round 1 ∷ Round 2 ∷ Round 3 ∷ []) makes_none read_acks
 
   -- ---- what the owner accepts
 
-  accepts_0 : ◌≡◌ {A = Result (Unit {0}) Ignored} (Ok tt) (answer_to K ring L3 (rep 0))
+  accepts_0 : ◌≡◌ {A = Result (Unit {0}) Ignored} (Ok tt) (answer_to K ring log_after_report (rep 0))
   unfolding causes
   accepts_0 = rw (are.report 0 (lit≤ tt)).signed refl
 
-  accepts_2 : ◌≡◌ {A = Result (Unit {0}) Ignored} (Ok tt) (answer_to K ring (L3 ++ Read 1 (rep 0) ∷ []) (rep 2))
+  accepts_2 : ◌≡◌ {A = Result (Unit {0}) Ignored} (Ok tt) (answer_to K ring (log_after_report ++ Read 1 (rep 0) ∷ []) (rep 2))
   unfolding causes
   accepts_2 = rw (are.report 2 (lit≤ tt)).signed refl
 
-  accepts_ack_0 : ◌≡◌ {A = Result (Unit {0}) Ignored} (Ok tt) (answer_to K ring L7 (ack_sent sign 0))
+  accepts_ack_0 : ◌≡◌ {A = Result (Unit {0}) Ignored} (Ok tt) (answer_to K ring log_after_ack (ack_sent sign 0))
   unfolding causes
   accepts_ack_0 = rw are.ack_0.signed refl
 
-  accepts_ack_2 : ◌≡◌ {A = Result (Unit {0}) Ignored} (Ok tt) (answer_to K ring (L7 ++ Read 3 (ack_sent sign 0) ∷ []) (ack_sent sign 2))
+  accepts_ack_2 : ◌≡◌ {A = Result (Unit {0}) Ignored} (Ok tt)
+      (answer_to K ring (log_after_ack ++ Read 3 (ack_sent sign 0) ∷ []) (ack_sent sign 2))
   unfolding causes
   accepts_ack_2 = rw are.ack_2.signed refl
 
   -- ---- the owner's history is lawful
 
-  runs_a : Lawful K ring 1 O10 event.Execute (reply.Executed (Ok (first_result a)))
+  runs_a : Lawful K ring 1 entries_after_end event.Execute (reply.Executed (Ok (first_result a)))
   unfolding execute_reply commits_of decided_of
   runs_a = ap (λ l. block_of K [] (decided_of K l)) (sym decided.here)
 
@@ -444,24 +454,30 @@ module _ (ring : Ring) (sign : Signing) (are : AreSendable ring sign) where
     (
       proposes_a 1,
       (
-        lawful_end 1 O2 (Proposed a ∷ []) [] (to_all (rep 1) ∷ []) (end_1 1 (lit≤ tt)) (begun 1),
+        lawful_end 1 entries_after_start (Proposed a ∷ []) [] (to_all (rep 1) ∷ []) (end_1 1 (lit≤ tt)) (begun 1),
         (
-          lawful_accept ring 1 O3 (rep 0) L3 (Round 1 ∷ []) (report_frame 0 (lit≤ tt)) refl (reported 1 (lit≤ tt)) accepts_0,
+          lawful_accept ring 1 entries_after_report (rep 0) log_after_report (Round 1 ∷ []) (report_frame 0 (lit≤ tt)) refl
+              (reported 1 (lit≤ tt)) accepts_0,
           (
-            lawful_accept ring 1 (O3 ++ accepts (rep 0) ∷ []) (rep 2) (L3 ++ Read 1 (rep 0) ∷ []) (Round 1 ∷ []) (report_frame 2 (lit≤ tt)) refl
-                (accepted 1 O3 (rep 0) L3 (Round 1 ∷ []) (report_frame 0 (lit≤ tt)) refl (reported 1 (lit≤ tt))) accepts_2,
+            lawful_accept ring 1 (entries_after_report ++ accepts (rep 0) ∷ []) (rep 2) (log_after_report ++ Read 1 (rep 0) ∷ [])
+                (Round 1 ∷ []) (report_frame 2 (lit≤ tt)) refl
+                (accepted 1 entries_after_report (rep 0) log_after_report (Round 1 ∷ []) (report_frame 0 (lit≤ tt)) refl
+                (reported 1 (lit≤ tt))) accepts_2,
             (
-              lawful_end 1 O5 L5 (Round 1 ∷ []) (to_all lock ∷ []) end_2 read_reports,
+              lawful_end 1 entries_after_reports log_after_reports (Round 1 ∷ []) (to_all lock ∷ []) end_2 read_reports,
               (
-                lawful_end 1 O6 L6 (Round 1 ∷ Round 2 ∷ []) [] end_3 locked,
+                lawful_end 1 entries_after_lock log_after_lock (Round 1 ∷ Round 2 ∷ []) [] end_3 locked,
                 (
-                  lawful_accept ring 1 O7 (ack_sent sign 0) L7 (Round 1 ∷ Round 2 ∷ Round 3 ∷ []) are.ack_0.frame refl acked accepts_ack_0,
+                  lawful_accept ring 1 entries_after_ack (ack_sent sign 0) log_after_ack
+                      (Round 1 ∷ Round 2 ∷ Round 3 ∷ []) are.ack_0.frame refl acked accepts_ack_0,
                   (
-                    lawful_accept ring 1 (O7 ++ accepts (ack_sent sign 0) ∷ []) (ack_sent sign 2) (L7 ++ Read 3 (ack_sent sign 0) ∷ [])
+                    lawful_accept ring 1 (entries_after_ack ++ accepts (ack_sent sign 0) ∷ []) (ack_sent sign 2)
+                        (log_after_ack ++ Read 3 (ack_sent sign 0) ∷ [])
                         (Round 1 ∷ Round 2 ∷ Round 3 ∷ []) are.ack_2.frame refl
-                        (accepted 1 O7 (ack_sent sign 0) L7 (Round 1 ∷ Round 2 ∷ Round 3 ∷ []) are.ack_0.frame refl acked) accepts_ack_2,
+                        (accepted 1 entries_after_ack (ack_sent sign 0) log_after_ack
+                        (Round 1 ∷ Round 2 ∷ Round 3 ∷ []) are.ack_0.frame refl acked) accepts_ack_2,
                     (
-                      lawful_end 1 O9 L9 (Round 1 ∷ Round 2 ∷ Round 3 ∷ []) (to_all lock ∷ []) end_4 read_acks,
+                      lawful_end 1 entries_after_acks log_after_acks (Round 1 ∷ Round 2 ∷ Round 3 ∷ []) (to_all lock ∷ []) end_4 read_acks,
                       (runs_a, tt),
                     ),
                   ),
@@ -477,36 +493,32 @@ module _ (ring : Ring) (sign : Signing) (are : AreSendable ring sign) where
   -- ---- the other two
 
   module _ (r : ℕ) (le : r ≤ 2) (not_1 : nat_eq 1 r ≡ false) (ack : IsSendable ring (ack_sent sign r)) where
-    abbrev M3 : List Note
-    M3 = Proposed a ∷ Round 1 ∷ OwnStatement 1 (rep r).statement ∷ Read 1 (rep r) ∷ []
+    abbrev other_log_after_report : List Note
+    other_log_after_report = Proposed a ∷ Round 1 ∷ OwnStatement 1 (rep r).statement ∷ Read 1 (rep r) ∷ []
 
-    abbrev M5 : List Note
-    M5 = M3 ++ Round 2 ∷ Read 2 lock ∷ []
+    abbrev other_log_after_lock : List Note
+    other_log_after_lock = other_log_after_report ++ Round 2 ∷ Read 2 lock ∷ []
 
-    abbrev M6 : List Note
-    M6 = M5 ++ Round 3 ∷ OwnStatement 3 (ack_sent sign r).statement ∷ Read 3 (ack_sent sign r) ∷ []
+    abbrev other_log_after_ack : List Note
+    other_log_after_ack = other_log_after_lock ++ Round 3 ∷ OwnStatement 3 (ack_sent sign r).statement ∷ Read 3 (ack_sent sign r) ∷ []
 
-    abbrev P3 : List Entry
-    P3 = O2 ++ sends (rep r) ∷ []
+    abbrev other_entries_after_report : List Entry
+    other_entries_after_report = entries_after_start ++ sends (rep r) ∷ []
 
-    abbrev P5 : List Entry
-    P5 = P3 ++ quiet_end ∷ accepts lock ∷ []
+    abbrev other_entries_after_lock : List Entry
+    other_entries_after_lock = other_entries_after_report ++ quiet_end ∷ accepts lock ∷ []
 
     -- it makes no lock
-    makes_nothing : Makes r M3 (Round 1 ∷ []) [] []
+    makes_nothing : Makes r other_log_after_report (Round 1 ∷ []) [] []
     unfolding statements_made statements_sent own_ack
     makes_nothing = record { here = refl; there = λ h not. refl }
 
-    other_end_2 : IsEnd r P3 M3 (Round 1 ∷ []) []
+    other_end_2 : IsEnd r other_entries_after_report other_log_after_report (Round 1 ∷ []) []
     unfolding MayMake
     other_end_2 = record {
       few = lit< tt;
       loud = refl;
-      right = tt;
-      statements = [];
-      read = refl;
-      order = refl;
-      own_height = λ h not. refl;
+      sends = sends_none;
       made = [];
       makes = makes_nothing;
       may = rw not_1 refl;
@@ -514,16 +526,22 @@ module _ (ring : Ring) (sign : Signing) (are : AreSendable ring sign) where
       shut = refl;
     }
 
-    waited : Logs r (P3 ++ quiet_end ∷ []) (M3 ++ Round 2 ∷ []) (Round 1 ∷ Round 2 ∷ [])
-    waited = round_ended r P3 [] [] M3 (Round 1 ∷ []) makes_nothing (reported r le)
+    waited : Logs r (other_entries_after_report ++ quiet_end ∷ []) (other_log_after_report ++ Round 2 ∷ []) (Round 1 ∷ Round 2 ∷ [])
+    waited = round_ended r other_entries_after_report [] [] other_log_after_report (Round 1 ∷ []) makes_nothing (reported r le)
 
     -- it takes the lock
-    takes_lock : ◌≡◌ {A = Result (Unit {0}) Ignored} (Ok tt) (answer_to K ring (M3 ++ Round 2 ∷ []) lock)
+    takes_lock : ◌≡◌ {A = Result (Unit {0}) Ignored} (Ok tt) (answer_to K ring (other_log_after_report ++ Round 2 ∷ []) lock)
     unfolding causes held_values holds
-    takes_lock = rw (are.lock.signed, (are.report 0 (lit≤ tt)).signed, (are.report 1 (lit≤ tt)).signed, (are.report 2 (lit≤ tt)).signed) refl
+    takes_lock = rw (
+      are.lock.signed,
+      (are.report 0 (lit≤ tt)).signed,
+      (are.report 1 (lit≤ tt)).signed,
+      (are.report 2 (lit≤ tt)).signed,
+    ) refl
 
-    took_lock : Logs r P5 M5 (Round 1 ∷ Round 2 ∷ [])
-    took_lock = accepted r (P3 ++ quiet_end ∷ []) lock (M3 ++ Round 2 ∷ []) (Round 1 ∷ Round 2 ∷ []) are.lock.frame refl waited
+    took_lock : Logs r other_entries_after_lock other_log_after_lock (Round 1 ∷ Round 2 ∷ [])
+    took_lock = accepted r (other_entries_after_report ++ quiet_end ∷ []) lock (other_log_after_report ++ Round 2 ∷ [])
+        (Round 1 ∷ Round 2 ∷ []) are.lock.frame refl waited
 
     -- and acknowledges it
     abbrev ack_frame : Sent
@@ -532,7 +550,7 @@ module _ (ring : Ring) (sign : Signing) (are : AreSendable ring sign) where
     ack_read : filter_map (λ f. reading f.frame) (ack_frame ∷ []) ≡ ack_sent sign r ∷ []
     ack_read = ap (λ o. cons_option o []) (sent_frame (ack_sent sign r) refl ack.frame)
 
-    makes_ack : Makes r M5 (Round 1 ∷ Round 2 ∷ []) (ack_frame ∷ []) (ack_sent sign r ∷ [])
+    makes_ack : Makes r other_log_after_lock (Round 1 ∷ Round 2 ∷ []) (ack_frame ∷ []) (ack_sent sign r ∷ [])
     unfolding statements_made statements_sent own_ack
     makes_ack = record {
       here = rw not_1 (ap (λ ss. filter (λ s. nat_eq (height_of s.statement) 1) ss ++ []) ack_read);
@@ -540,16 +558,13 @@ module _ (ring : Ring) (sign : Signing) (are : AreSendable ring sign) where
           ∙ ap (λ ss. ss ++ []) (not_own (ack_sent sign r) refl h not);
     }
 
-    other_end_3 : IsEnd r P5 M5 (Round 1 ∷ Round 2 ∷ []) (ack_frame ∷ [])
+    other_end_3 : IsEnd r other_entries_after_lock other_log_after_lock (Round 1 ∷ Round 2 ∷ []) (ack_frame ∷ [])
     unfolding MayMake
     other_end_3 = record {
       few = lit< tt;
       loud = refl;
-      right = (record { signed = ack_sent sign r; spelled = sent_frame (ack_sent sign r) refl ack.frame; addressed = refl }, tt);
-      statements = ack_sent sign r ∷ [];
-      read = ack_read;
-      order = refl;
-      own_height = not_own (ack_sent sign r) refl;
+      sends = sends_one ack_frame
+          (record { signed = ack_sent sign r; spelled = sent_frame (ack_sent sign r) refl ack.frame; addressed = refl }) refl;
       made = ack_sent sign r ∷ [];
       makes = makes_ack;
       may = refl;
@@ -557,8 +572,9 @@ module _ (ring : Ring) (sign : Signing) (are : AreSendable ring sign) where
       shut = refl;
     }
 
-    acknowledged : Logs r (other_entries sign r) M6 (Round 1 ∷ Round 2 ∷ Round 3 ∷ [])
-    acknowledged = round_ended r P5 (ack_frame ∷ []) (ack_sent sign r ∷ []) M5 (Round 1 ∷ Round 2 ∷ []) makes_ack took_lock
+    acknowledged : Logs r (other_entries sign r) other_log_after_ack (Round 1 ∷ Round 2 ∷ Round 3 ∷ [])
+    acknowledged = round_ended r other_entries_after_lock (ack_frame ∷ []) (ack_sent sign r ∷ []) other_log_after_lock
+        (Round 1 ∷ Round 2 ∷ []) makes_ack took_lock
 
     pub other_follows : Follows K ring r (other_entries sign r)
     unfolding Follows FollowsFrom
@@ -567,12 +583,17 @@ module _ (ring : Ring) (sign : Signing) (are : AreSendable ring sign) where
       (
         proposes_a r,
         (
-          lawful_end r O2 (Proposed a ∷ []) [] (to_all (rep r) ∷ []) (end_1 r le) (begun r),
+          lawful_end r entries_after_start (Proposed a ∷ []) [] (to_all (rep r) ∷ []) (end_1 r le) (begun r),
           (
-            lawful_end r P3 M3 (Round 1 ∷ []) [] other_end_2 (reported r le),
+            lawful_end r other_entries_after_report other_log_after_report (Round 1 ∷ []) [] other_end_2 (reported r le),
             (
-              lawful_accept ring r (P3 ++ quiet_end ∷ []) lock (M3 ++ Round 2 ∷ []) (Round 1 ∷ Round 2 ∷ []) are.lock.frame refl waited takes_lock,
-              (lawful_end r P5 M5 (Round 1 ∷ Round 2 ∷ []) (ack_frame ∷ []) other_end_3 took_lock, tt),
+              lawful_accept ring r (other_entries_after_report ++ quiet_end ∷ []) lock (other_log_after_report ++ Round 2 ∷ [])
+                  (Round 1 ∷ Round 2 ∷ []) are.lock.frame refl waited takes_lock,
+              (
+                lawful_end r other_entries_after_lock other_log_after_lock (Round 1 ∷ Round 2 ∷ [])
+                    (ack_frame ∷ []) other_end_3 took_lock,
+                tt,
+              ),
             ),
           ),
         ),
@@ -584,17 +605,18 @@ module _ (ring : Ring) (sign : Signing) (are : AreSendable ring sign) where
   abbrev H : List History
   H = plain_histories sign
 
-  abbrev L10 : List Note
-  L10 = L9 ++ Round 4 ∷ []
+  abbrev log_after_end : List Note
+  log_after_end = log_after_acks ++ Round 4 ∷ []
 
-  owner_logs : Logs 1 (owner_entries sign) L10 (Round 1 ∷ Round 2 ∷ Round 3 ∷ Round 4 ∷ [])
+  owner_logs : Logs 1 (owner_entries sign) log_after_end (Round 1 ∷ Round 2 ∷ Round 3 ∷ Round 4 ∷ [])
   unfolding notes_of
-  owner_logs = no_note 1 O10 (runs_block (first_result a)) L10 (Round 1 ∷ Round 2 ∷ Round 3 ∷ Round 4 ∷ []) (λ h l. refl) decided
+  owner_logs = no_note 1 entries_after_end (runs_block (first_result a)) log_after_end (Round 1 ∷ Round 2 ∷ Round 3 ∷ Round 4 ∷ [])
+      (λ h l. refl) decided
 
-  logs_0 : Logs 0 (other_entries sign 0) (M6 0 (lit≤ tt) refl are.ack_0) (Round 1 ∷ Round 2 ∷ Round 3 ∷ [])
+  logs_0 : Logs 0 (other_entries sign 0) (other_log_after_ack 0 (lit≤ tt) refl are.ack_0) (Round 1 ∷ Round 2 ∷ Round 3 ∷ [])
   logs_0 = acknowledged 0 (lit≤ tt) refl are.ack_0
 
-  logs_2 : Logs 2 (other_entries sign 2) (M6 2 (lit≤ tt) refl are.ack_2) (Round 1 ∷ Round 2 ∷ Round 3 ∷ [])
+  logs_2 : Logs 2 (other_entries sign 2) (other_log_after_ack 2 (lit≤ tt) refl are.ack_2) (Round 1 ∷ Round 2 ∷ Round 3 ∷ [])
   logs_2 = acknowledged 2 (lit≤ tt) refl are.ack_2
 
   correct : AreCorrect K ring H
@@ -616,13 +638,13 @@ module _ (ring : Ring) (sign : Signing) (are : AreSendable ring sign) where
   backed_report r log other is has correct_r = (1, subst (λ l. Has l (OwnStatement 1 (rep r).statement)) (sym is) has)
 
   report_0 : Backed K H (rep 0).statement
-  report_0 = backed_report 0 (M6 0 (lit≤ tt) refl are.ack_0) [] logs_0.here (inr (inr (inl refl)))
+  report_0 = backed_report 0 (other_log_after_ack 0 (lit≤ tt) refl are.ack_0) [] logs_0.here (inr (inr (inl refl)))
 
   report_1 : Backed K H (rep 1).statement
-  report_1 = backed_report 1 L10 [] owner_logs.here (inr (inr (inl refl)))
+  report_1 = backed_report 1 log_after_end [] owner_logs.here (inr (inr (inl refl)))
 
   report_2 : Backed K H (rep 2).statement
-  report_2 = backed_report 2 (M6 2 (lit≤ tt) refl are.ack_2) [] logs_2.here (inr (inr (inl refl)))
+  report_2 = backed_report 2 (other_log_after_ack 2 (lit≤ tt) refl are.ack_2) [] logs_2.here (inr (inr (inl refl)))
 
   no_lock : (s : Statement) → is_lock (λ l. true) s ≡ false → Backed K H s → BackedWhole K H s
   no_lock s free own = record { own = own; reports = λ l p is has. absurd (let lock_is = ap (is_lock (λ m. true)) is in cc) }
@@ -692,14 +714,33 @@ module _ (ring : Ring) (sign : Signing) (are : AreSendable ring sign) where
   rep_whole_2 = no_lock _ refl report_2
 
   reads_here_0 : ReadsAt 1 0
-  reads_here_0 = subst (AllByRecursion IsReadBacked) (sym logs_0.here) (tt, (tt, (tt, (rep_whole_0, (tt, (lock_whole, (tt, (tt, (ack_0, tt)))))))))
+  reads_here_0 = subst (AllByRecursion IsReadBacked) (sym logs_0.here)
+      (tt, (tt, (tt, (rep_whole_0, (tt, (lock_whole, (tt, (tt, (ack_0, tt)))))))))
 
   reads_here_2 : ReadsAt 1 2
-  reads_here_2 = subst (AllByRecursion IsReadBacked) (sym logs_2.here) (tt, (tt, (tt, (rep_whole_2, (tt, (lock_whole, (tt, (tt, (ack_2, tt)))))))))
+  reads_here_2 = subst (AllByRecursion IsReadBacked) (sym logs_2.here)
+      (tt, (tt, (tt, (rep_whole_2, (tt, (lock_whole, (tt, (tt, (ack_2, tt)))))))))
 
   reads_here_1 : ReadsAt 1 1
-  reads_here_1 = subst (AllByRecursion IsReadBacked) (sym owner_logs.here)
-      (tt, (tt, (tt, (rep_whole_1, (rep_whole_0, (rep_whole_2, (tt, (tt, (lock_whole, (tt, (tt, (ack_1, (ack_0, (ack_2, (tt, tt)))))))))))))))
+  reads_here_1 = subst (AllByRecursion IsReadBacked) (sym owner_logs.here) (
+    tt,
+    (
+      tt,
+      (
+        tt,
+        (
+          rep_whole_1,
+          (
+            rep_whole_0,
+            (
+              rep_whole_2,
+              (tt, (tt, (lock_whole, (tt, (tt, (ack_1, (ack_0, (ack_2, (tt, tt))))))))),
+            ),
+          ),
+        ),
+      ),
+    ),
+  )
 
   reads_at : (h r : ℕ) → is_correct H r ≡ true → ReadsAt h r
   reads_at h r is = elim (cases_Bool (nat_eq 1 h)) [
@@ -724,10 +765,10 @@ module _ (ring : Ring) (sign : Signing) (are : AreSendable ring sign) where
 
   proposed_a : AllProposed K H 1 a
   proposed_a r w is began = elim (replica_of_three (other_entries sign 0) (owner_entries sign) (other_entries sign 2) r is) [
-    | Is_0 at ↦ same_proposal 0 (M6 0 (lit≤ tt) refl are.ack_0) logs_0.here refl w
+    | Is_0 at ↦ same_proposal 0 (other_log_after_ack 0 (lit≤ tt) refl are.ack_0) logs_0.here refl w
         (subst (λ x. initial_of (log_in K H 1 x) ≡ Some w) (sym at) began)
-    | Is_1 at ↦ same_proposal 1 L10 owner_logs.here refl w (subst (λ x. initial_of (log_in K H 1 x) ≡ Some w) (sym at) began)
-    | Is_2 at ↦ same_proposal 2 (M6 2 (lit≤ tt) refl are.ack_2) logs_2.here refl w
+    | Is_1 at ↦ same_proposal 1 log_after_end owner_logs.here refl w (subst (λ x. initial_of (log_in K H 1 x) ≡ Some w) (sym at) began)
+    | Is_2 at ↦ same_proposal 2 (other_log_after_ack 2 (lit≤ tt) refl are.ack_2) logs_2.here refl w
         (subst (λ x. initial_of (log_in K H 1 x) ≡ Some w) (sym at) began)
   ]
 
@@ -735,7 +776,7 @@ module _ (ring : Ring) (sign : Signing) (are : AreSendable ring sign) where
   took_at r log is took_it = ap (λ l. took l a 1) is ∙ took_it
 
   all_took : 3 ≤ number_of K (λ r. is_correct H r && took (log_in K H 1 r) a 1)
-  all_took = rw (took_at 0 (M6 0 (lit≤ tt) refl are.ack_0) logs_0.here refl, took_at 1 L10 owner_logs.here refl, took_at 2 (M6 2 (lit≤ tt) refl are.ack_2) logs_2.here refl)
+  all_took = rw (took_at 0 (other_log_after_ack 0 (lit≤ tt) refl are.ack_0) logs_0.here refl, took_at 1 log_after_end owner_logs.here refl, took_at 2 (other_log_after_ack 2 (lit≤ tt) refl are.ack_2) logs_2.here refl)
       (lit≤ tt)
 
   decides_a : decided_of K (log_in K H 1 1) ≡ Some a
