@@ -11,7 +11,7 @@ use lib.ListN.{get_elem?}
 use Rattle.crossbeam_queue.proofs.Lists.{at_set}
 use Rattle.ledger_model.proofs.SeatLists.{to_elem, from_elem}
 use Rattle.ledger_model.specs.Inboxes.{Put, Inbox, of_pass, IsInbox}
-use Rattle.inbox.specs.Fits.{IsLawfulInbox, FitsInbox, FitsFull, FitsEmpty, FitsWaiting, FitsAnItem}
+use Rattle.inbox.specs.Fits.{IsLawfulInbox, FitsInbox, FitsFull, FitsEmpty, WaitingFit, FitsAnItem}
 use Rattle.inbox.proofs.Lists.{of_both, of_own, of_other, last_other}
 use Rattle.inbox.proofs.Laws.{after_put, put_keeps}
 

@@ -23,7 +23,7 @@ abbrev pub FitsEmpty : Type 0
 FitsEmpty = (b : Inbox) (p : ℕ) (items : List Put) → IsInbox b → slice_get b.put p ≡ Some items → FitsInbox p items 0
 
 -- some inbox in which an item waits agrees with what was taken, with the number of passes, and with what every pass but p put
-pub record FitsWaiting (b : Inbox) (p : ℕ) : Type 0 where
+pub record WaitingFit (b : Inbox) (p : ℕ) : Type 0 where
   pub inbox : Inbox
   pub lawful : IsLawfulInbox inbox
   pub taken : inbox.taken ≡ b.taken
@@ -33,4 +33,4 @@ pub record FitsWaiting (b : Inbox) (p : ℕ) : Type 0 where
 
 -- while one pass isn't handed back, whatever the taking pass knows of an empty inbox agrees with one in which an item waits
 abbrev pub FitsAnItem : Type 0
-FitsAnItem = (b : Inbox) (p : ℕ) → IsLawfulInbox b → b.held ≡ [] → p < length b.put → FitsWaiting b p
+FitsAnItem = (b : Inbox) (p : ℕ) → IsLawfulInbox b → b.held ≡ [] → p < length b.put → WaitingFit b p
