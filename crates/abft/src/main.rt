@@ -2,8 +2,8 @@
 #![tactic(auto)]
 
 use cluster_service::{
-    SharedStatus, Watcher, cluster, listen_at, listen_for_http, open_histories, serve,
-    start_reporter,
+    ClusterOutcome, ServerOutcome, SharedStatus, Watcher, cluster, open_histories, open_listeners,
+    serve, start_reporter,
 };
 use program::{Outcome, finish, refuse_words, run};
 use program_streams::{ProgramFault, Resource, require_open};
@@ -86,7 +86,11 @@ where
 {
     require_open(&output, Resource::Output)?;
     let mut file = open_histories(rt, settings)?;
-    cluster(rt, alloc, settings, status, input, &mut output, &mut file)
+    let ClusterOutcome {
+        status: ended,
+        run: _run,
+    } = cluster(rt, alloc, settings, status, input, &mut output, &mut file)?;
+    Ok(ended)
 }
 
 /// `abft serve`, if standard output is open, and the file for the histories. The file is emptied only once there are the listeners, so a port
@@ -112,21 +116,23 @@ where
         + 'static,
 {
     require_open(&output, Resource::Output)?;
-    let (listener, port) = listen_at(rt, settings.port)?;
-    let http = listen_for_http(rt, settings.http)?;
+    let listeners = open_listeners(rt, settings)?;
     let mut file = open_histories(rt, &settings.cluster)?;
-    serve(
+    let ServerOutcome {
+        status: ended,
+        run: _run,
+        service: _service,
+    } = serve(
         rt,
         alloc,
         settings,
-        listener,
-        port,
-        http,
+        listeners,
         status,
         input,
         &mut output,
         &mut file,
-    )
+    )?;
+    Ok(ended)
 }
 
 /// Runs the program on the words and streams of the process. An `Err` means that the words could not be read.

@@ -1,14 +1,17 @@
 -- The first block among the entries of a history that has a transaction, entry by entry.
 use Rattle.std.proofs.Common.{◌≡◌, ℕ, ◌+◌, ◌≤◌, List, ◌∷◌, suc, length, drop, ap, sym, ◌∙◌, arith}
 use Rattle.std.specs.Option.{option_or}
-use Rattle.std.specs.Prelude.{Some, None, slice_get}
+use Rattle.std.specs.Prelude.{Option, Some, None, slice_get}
 use Rattle.std.proofs.Math.ListN.{drop_of_length-le}
 use Rattle.std.proofs.Math.Seq.{drop-cons}
 use Rattle.std.proofs.lemmas.Option.{get_or_from_slice_get, slice_get_within}
 use Rattle.ledger_model.specs.Values.{Value}
 use Rattle.ledger_model.specs.declared.history.Entry.{Entry}
 use Rattle.ledger_model.specs.declared.reply.Reply.{Reply}
+use Rattle.locked_replica.specs.States.{StateView}
+use Rattle.cluster_workers.specs.RunningClusters.{RunningClusterView}
 use Rattle.cluster_service.specs.Deliveries.{IsDelivery, delivered_by, delivered_in}
+use Rattle.cluster_service.specs.Inquiries.{SeesOwn}
 
 module _ (batches : List Value) (es : List Entry) (tx : List ℕ) (i : ℕ) where
   -- no entries are left
@@ -34,12 +37,17 @@ module _ (batches : List Value) (es : List Entry) (tx : List ℕ) (i : ℕ) wher
         ∙ ap (λ o. option_or o (delivered_in batches (drop (suc i) es) tx)) (sym (by ∙ ap (λ s. delivered_by batches s tx) same)))
 
 -- what was run by an entry or a later one was run by an earlier entry or a later one
-pub from_earlier : (tx : List ℕ) (index next height code : ℕ) → index ≤ next
-    → IsDelivery tx next height code → IsDelivery tx index height code
-from_earlier tx index next height code before is = record {
-  state = is.state;
+from_earlier : (tx : List ℕ) (index next height code : ℕ) (state : StateView) → index ≤ next
+    → IsDelivery tx next height code state → IsDelivery tx index height code state
+from_earlier tx index next height code state before is = record {
   replay = is.replay;
   after = is.after;
   later = omega (arith, before, is.later);
   found = is.found;
 }
+
+pub seen_earlier : (cluster : RunningClusterView) (r : ℕ) (seen : Option StateView) (tx : List ℕ) (index next height code : ℕ) → index ≤ next
+    → SeesOwn cluster r seen (IsDelivery tx next height code) → SeesOwn cluster r seen (IsDelivery tx index height code)
+seen_earlier cluster r (Some state) tx index next height code before sees =
+    (sees.0, from_earlier tx index next height code state before sees.1)
+seen_earlier cluster r None tx index next height code before sees = absurd sees

@@ -4,3 +4,4 @@ mod FrameCountLemmas
 mod Taken
 mod RunFaultLemmas
 pub mod ReportingLemmas
+pub mod Crossing

@@ -1,5 +1,5 @@
 -- The faults of what a cluster does at its end are faults of its end.
-use Rattle.std.proofs.Common.{◌≡◌, refl, sym, subst}
+use Rattle.std.proofs.Common.{refl, sym, subst}
 use Rattle.std.specs.Prelude.{IsTrue, Option}
 use Rattle.program_streams.specs.Faults.{IsMemoryOrRandom}
 use Rattle.program_streams.specs.declared.program_fault.ProgramFault.{ProgramFault}

@@ -1,5 +1,5 @@
 -- Histories that were taken of all replicas, by number: they are of a quorum, and each is a replay. So an audit finds neither fault.
-use Rattle.std.proofs.Common.{◌≡◌, ℕ, ◌+◌, ◌<◌, ◌≤◌, Bool, true, false, not, ◌&&◌, ◌||◌, inl, inr, List, [], ◌∷◌, length, map, suc}
+use Rattle.std.proofs.Common.{◌≡◌, ℕ, ◌+◌, ◌<◌, ◌≤◌, true, false, not, ◌&&◌, ◌||◌, inl, inr, List, [], ◌∷◌, length, map, suc}
 use Rattle.std.proofs.Common.{refl, sym, ap, subst, ◌∙◌, cond, arith}
 use Rattle.std.specs.Prelude.{nat_eq, nat_lt, nat_le, Some, Result, Ok, Err}
 use Rattle.std.specs.List.{list_any, list_all}

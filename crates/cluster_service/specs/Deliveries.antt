@@ -30,10 +30,9 @@ abbrev pub delivered_in : List Value → List Entry → List ℕ → Option (ℕ
 delivered_in batches [] tx = None
 delivered_in batches (e ∷ es) tx = option_or (delivered_by batches e.reply tx) (delivered_in batches es tx)
 
--- a replica with a lawful history had run a block at this height, by the entry with this index or a later one; the block has the
+-- the state, whose history is lawful, has run a block at this height, by the entry with this index or a later one; the block has the
 -- transaction, and the application returned this code for it
-pub record IsDelivery (tx : List ℕ) (index height code : ℕ) : Type 0 where
-  pub state : StateView
+pub record IsDelivery (tx : List ℕ) (index height code : ℕ) (state : StateView) : Type 0 where
   pub replay : Replay state.config state.ring state.id state.entries
   pub after : ℕ
   pub later : index ≤ after

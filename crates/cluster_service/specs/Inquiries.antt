@@ -1,5 +1,5 @@
--- What is answered to HTTP alone: some replica with a lawful history answers so. No clause says which replica it is.
-use Rattle.std.specs.Prelude.{◌≡◌, ℕ, ◌+◌, ◌-◌, ◌^◌, ⊤, List, length, min, sum_by, Some, slice_get}
+-- What is answered to HTTP alone: the state that was seen under the replica's lock is that replica's, and the answer follows from it.
+use Rattle.std.specs.Prelude.{◌≡◌, ℕ, ◌+◌, ◌^◌, ◌-◌, ⊤, List, drop, length, min, sum_by, Option, Some, None, slice_get}
 use Rattle.http_replies.specs.FrameCounts.{ignored_for}
 use Rattle.http_replies.specs.declared.metrics.ReplicaMetrics.{ReplicaMetrics}
 use Rattle.http_sessions.specs.declared.targets.AppInfo.{AppInfo}
@@ -14,13 +14,13 @@ use Rattle.ledger_model.specs.Lawful.{Replay, clock_at}
 use Rattle.ledger_model.specs.declared.reply.Ignored.{Ignored}
 use Rattle.locked_replica.specs.States.{StateView, AccountsForLeaves}
 use Rattle.replica_core.specs.Facts.{info_reply}
-use Rattle.cluster_service.specs.Deliveries.{IsDelivery}
+use Rattle.cluster_workers.specs.RunningClusters.{RunningClusterView, IsStateOf}
+use Rattle.cluster_service.specs.Deliveries.{IsDelivery, delivered_in}
 use Rattle.cluster_service.specs.FrameCounting.{accepted_in, ignored_in}
 
--- A replica with a lawful history showed these numbers. The history doesn't say how many frames its inbox lost, nor how many signatures
--- were lost at round ends that found no memory.
-pub record IsShown (m : ReplicaMetrics) : Type 0 where
-  pub state : StateView
+-- These numbers are of this state, whose history is lawful. The history doesn't say how many frames its inbox lost, nor how many
+-- signatures were lost at round ends that found no memory.
+pub record IsShown (m : ReplicaMetrics) (state : StateView) : Type 0 where
   pub replay : Replay state.config state.ring state.id state.entries
   pub account : AccountsForLeaves state
   pub own_key : slice_get state.ring state.id ≡ Some (key_of state.secret)
@@ -32,39 +32,56 @@ pub record IsShown (m : ReplicaMetrics) : Type 0 where
   pub accepted : m.frames.accepted ≡ accepted_in state.entries
   pub ignored : (cause : Ignored) → ignored_for m.frames cause ≡ ignored_in cause state.entries
 
--- the open round of a replica with a lawful history, and the height that it had committed
-pub record IsProgress (progress : Progress) : Type 0 where
-  pub state : StateView
+-- the open round of the state, whose history is lawful, and the height that it has committed
+pub record IsProgress (progress : Progress) (state : StateView) : Type 0 where
   pub replay : Replay state.config state.ring state.id state.entries
   pub rounds : progress.rounds ≡ clock_at state.entries
   pub height : progress.height ≡ length (commits_of state.config state.id state.entries)
 
--- a replica with a lawful history had this number of transactions in its pool, and they have this number of bytes
-pub record IsPooled (size : PoolSize) : Type 0 where
-  pub state : StateView
+-- the state, whose history is lawful, has this number of transactions in its pool, and they have this number of bytes
+pub record IsPooled (size : PoolSize) (state : StateView) : Type 0 where
   pub replay : Replay state.config state.ring state.id state.entries
   pub transactions : size.transactions ≡ length (pool_of state.config state.id state.entries)
   pub bytes : size.bytes ≡ min (sum_by length (pool_of state.config state.id state.entries)) (2 ^ 64 - 1)
 
--- the application of a replica with a lawful history said this of itself
-pub record IsInfo (info : AppInfo) : Type 0 where
-  pub state : StateView
+-- the application of the state, whose history is lawful, says this of itself
+pub record IsInfo (info : AppInfo) (state : StateView) : Type 0 where
   pub replay : Replay state.config state.ring state.id state.entries
   pub kind : info.kind ≡ state.config.kind
   pub reply : record { height = info.height; hash = info.hash }
       ≡ info_reply state.config.kind (commits_of state.config state.id state.entries)
 
--- what became of a transaction that the entry with this index submitted; that the wait ended says nothing
-abbrev pub AnswersWait : List ℕ → ℕ → Delivery → Type 0
-AnswersWait tx index (Committed height code) = IsDelivery tx index height code
-AnswersWait tx index TimedOut = ⊤
-AnswersWait tx index Stopping = ⊤
+-- no block of the state, whose history is lawful, has the transaction, from the entry with this index on
+pub record IsUndelivered (tx : List ℕ) (index : ℕ) (state : StateView) : Type 0 where
+  pub replay : Replay state.config state.ring state.id state.entries
+  pub none : delivered_in (commits_of state.config state.id state.entries) (drop index state.entries) tx ≡ None
 
--- what an inquiry says; that a transaction was spread says nothing
-abbrev pub IsInquiry : Inquiry → Type 0
-IsInquiry (Shows r m) = IsShown m
-IsInquiry (Progresses r progress) = IsProgress progress
-IsInquiry (Pools r size) = IsPooled size
-IsInquiry (Infos r info) = IsInfo info
-IsInquiry (Spreads r tx) = ⊤
-IsInquiry (Waits r tx index delivery) = AnswersWait tx index delivery
+-- the state that was seen last is this replica's, and this holds of it
+abbrev pub SeesOwn : RunningClusterView → ℕ → Option StateView → (StateView → Type 0) → Type 0
+SeesOwn cluster r (Some state) P = IsStateOf cluster r state × P state
+SeesOwn cluster r None P = ⊥
+
+-- the state that was seen last isn't this replica's
+abbrev pub SeesStranger : RunningClusterView → ℕ → Option StateView → Type 0
+SeesStranger cluster r (Some state) = IsStateOf cluster r state → ⊥
+SeesStranger cluster r None = ⊥
+
+-- what became of a transaction that the entry with this index submitted; that the server is to stop says nothing
+abbrev pub AnswersWait : RunningClusterView → ℕ → Option StateView → List ℕ → ℕ → Option Delivery → Type 0
+AnswersWait cluster r seen tx index (Some (Committed height code)) = SeesOwn cluster r seen (IsDelivery tx index height code)
+AnswersWait cluster r seen tx index (Some TimedOut) = SeesOwn cluster r seen (IsUndelivered tx index)
+AnswersWait cluster r seen tx index (Some Stopping) = ⊤
+AnswersWait cluster r seen tx index None = SeesStranger cluster r seen
+
+-- what an inquiry says, by the state that was seen last in it; that a transaction was spread says nothing
+abbrev pub IsInquiry : RunningClusterView → Option StateView → Inquiry → Type 0
+IsInquiry cluster seen (Shows r (Some m)) = SeesOwn cluster r seen (IsShown m)
+IsInquiry cluster seen (Shows r None) = SeesStranger cluster r seen
+IsInquiry cluster seen (Progresses r (Some progress)) = SeesOwn cluster r seen (IsProgress progress)
+IsInquiry cluster seen (Progresses r None) = SeesStranger cluster r seen
+IsInquiry cluster seen (Pools r (Some size)) = SeesOwn cluster r seen (IsPooled size)
+IsInquiry cluster seen (Pools r None) = SeesStranger cluster r seen
+IsInquiry cluster seen (Infos r (Some info)) = SeesOwn cluster r seen (IsInfo info)
+IsInquiry cluster seen (Infos r None) = SeesStranger cluster r seen
+IsInquiry cluster seen (Spreads r tx) = ⊤
+IsInquiry cluster seen (Waits r tx index delivery) = AnswersWait cluster r seen tx index delivery

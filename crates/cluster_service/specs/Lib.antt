@@ -8,3 +8,5 @@ pub mod Lines
 pub mod RunFaults
 pub mod Reporting
 pub mod Ports
+pub mod Waiting
+pub mod Services

@@ -4,7 +4,6 @@ use Rattle.std.specs.List.{range_with_len}
 use Rattle.ledger_model.specs.declared.event.Event.TheVariants as event
 use Rattle.ledger_model.specs.declared.history.Entry.{Entry}
 use Rattle.ledger_model.specs.declared.reply.Reply.TheVariants as reply
-use Rattle.ledger_model.specs.Applications.{run}
 use Rattle.ledger_model.specs.Commits.{submit_reply}
 use Rattle.cluster_keys.specs.declared.cluster_seed.ClusterSeed.{ClusterSeed}
 use Rattle.cluster_keys.specs.Keys.{ring_of, secret_of, unused}

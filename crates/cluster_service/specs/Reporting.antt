@@ -103,7 +103,7 @@ ServesSome s ports fault lines file =
 
 -- Such lines were written, and such bytes into the file. After a fault, prefixes of others were: of the file's bytes only if the fault is
 -- the file's own.
-abbrev pub WritesSuch : Result ℕ ProgramFault → (ℕ → List ℕ → List ℕ → Type 0) → (ProgramFault → List ℕ → List ℕ → Type 0)
+abbrev pub WritesSuch : {A : Type 0} → Result A ProgramFault → (A → List ℕ → List ℕ → Type 0) → (ProgramFault → List ℕ → List ℕ → Type 0)
     → Option (List ℕ) → Option (List ℕ) → Option (List ℕ) → Option (List ℕ) → Type 0
 WritesSuch result Whole Part before after empty full = MatchResult result
     (λ status. (lines : List ℕ) × ((file : List ℕ) × (Whole status lines file × (Appends before after lines × Appends empty full file))))

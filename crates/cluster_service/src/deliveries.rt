@@ -1,8 +1,9 @@
 //! Finds the block that has a transaction, among the entries of a history from one on.
-ghost use Rattle.std.specs.Prelude.{◌≡◌, drop, position, IfSome};
+ghost use Rattle.std.specs.Prelude.{◌≡◌, drop, position, IfNone, IfSome};
 ghost use Rattle.std.specs.Str.{bytes_eq};
 ghost use Rattle.ledger_model.specs.Commits.{commits_of};
 ghost use Rattle.locked_replica.specs.Views.{reply_lent};
+ghost use Rattle.cluster_service.specs.Inquiries.{IsUndelivered};
 ghost use Rattle.cluster_service.specs.Deliveries.{IsDelivery, code_for, code_in, delivered_by, delivered_in};
 
 use abci::Application;
@@ -60,8 +61,9 @@ pub(crate) fn delivered_after<A: Application>(
     tx: &[u8],
 ) -> Option<(Height, u32)>
     ensures found { result ≡ delivered_in (commits_of state.now.config state.now.id state.now.entries) (drop first state.now.entries) tx.now }
-    // The result as HTTP sees it.
-    ensures delivery { IfSome result (λ found. IsDelivery tx.now first found.0 found.1) }
+    // The results as HTTP sees them.
+    ensures undelivered { IfNone result (IsUndelivered tx.now first state.now) }
+    ensures delivery { IfSome result (λ found. IsDelivery tx.now first found.0 found.1 state.now) }
 {
     for index in first..state.len() {
         let Some(entry) = state.entry(index) else {

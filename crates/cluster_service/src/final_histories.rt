@@ -1,12 +1,12 @@
 //! What a cluster leaves when its workers have ended: the history of each replica.
-ghost use Rattle.std.specs.Prelude.{◌≡◌, ◌<◌, true, vec_len, IfErr, IfOk};
+ghost use Rattle.std.specs.Prelude.{◌≡◌, ◌<◌, vec_len, IfErr, IfOk};
 ghost use Rattle.cluster_service.specs.Reporting.{AreTaken, IsTaken};
 ghost use Rattle.cluster_service.specs.RunFaults.{IsRunFault};
 
 use abci::Application;
 use cluster_workers::RunningCluster;
 use key_ring::KeyRing;
-use ledger_model::{Config, History, ReplicaId};
+use ledger_model::{History, ReplicaId};
 use locked_replica::State;
 use program_streams::ProgramFault;
 use std::alloc::Global;
@@ -37,38 +37,17 @@ struct Taken {
     height: u32,
 }
 
-/// Whether two configurations are the same.
-fn are_same(one: &Config, other: &Config) -> bool
-    ensures { result ≡ true → one.now ≡ other.now }
-{
-    one.replicas == other.replicas
-        && one.faults == other.faults
-        && one.kind == other.kind
-        && one.frames == other.frames
-}
-
-/// Whether two rings have the same keys.
-fn have_same_keys(one: &KeyRing, other: &KeyRing) -> bool
-    ensures { result ≡ true → one.now ≡ other.now }
-{
-    one == other
-}
-
-/// What the replica with this number has by now, if this state is that replica's. A lock doesn't tell which state it guards, so this
-/// compares.
+/// What the replica with this number has by now, if this state is that replica's.
 fn taken_of<A: Application>(
     state: &State<A>,
-    config: &Config,
-    ring: &KeyRing,
+    cluster: &RunningCluster<A>,
     id: ReplicaId,
 ) -> Result<Taken, ProgramFault>
-    ensures taken { IfOk result (λ taken. IsTaken config.now ring.now id taken.history taken.height) }
+    ensures taken { IfOk result (λ taken. IsTaken cluster.now.config cluster.now.ring id taken.history taken.height) }
+    ensures entries { IfOk result (λ taken. taken.history.entries ≡ state.now.entries) }
     ensures fault { IfErr result IsRunFault }
 {
-    if state.id() != id
-        || !are_same(state.config(), config)
-        || !have_same_keys(state.ring(), ring)
-    {
+    if !cluster.is_state_of(id, state) {
         return Err(ProgramFault::Stranger(id.number()));
     }
     let height = state.height();
@@ -80,39 +59,37 @@ fn taken_of<A: Application>(
 fn take<A: Application, R: Wait>(
     rt: &R,
     cluster: &RunningCluster<A>,
-    config: &Config,
-    ring: &KeyRing,
     id: u8,
 ) -> Result<Taken, ProgramFault>
     requires { id < cluster.now.replicas }
-    ensures taken { IfOk result (λ taken. IsTaken config.now ring.now id taken.history taken.height) }
+    ensures taken { IfOk result (λ taken. IsTaken cluster.now.config cluster.now.ring id taken.history taken.height) }
     ensures fault { IfErr result IsRunFault }
 {
     let id = ReplicaId::new(id);
     let state = cluster.replica(id).lock(rt);
-    taken_of(&*state, config, ring, id)
+    taken_of(&*state, cluster, id)
 }
 
-/// The histories of the replicas, by number, each as of some moment of this call. The errors are NoMemory, and Stranger
-/// if a state has another number, configuration or key ring.
+/// The histories of the replicas, by number, each as of some moment of this call. The ring is that of the cluster. The errors are
+/// NoMemory, and Stranger if a state has another number, configuration or key ring.
 pub(crate) fn take_all<A: Application, R: Wait>(
     rt: &R,
     alloc: Global,
     cluster: &RunningCluster<A>,
-    config: &Config,
     ring: KeyRing,
 ) -> Result<FinalHistories, ProgramFault>
-    requires { config.now.replicas ≡ cluster.now.replicas }
-    ensures each { IfOk result (λ all. vec_len all.heights ≡ config.now.replicas) }
-    ensures taken { IfOk result (λ all. AreTaken config.now all.ring 0 all.histories.items all.heights.items) }
+    requires ring { ring ≡ cluster.now.ring }
+    requires replicas { cluster.now.config.replicas ≡ cluster.now.replicas }
+    ensures each { IfOk result (λ all. vec_len all.heights ≡ cluster.now.config.replicas) }
+    ensures taken { IfOk result (λ all. AreTaken cluster.now.config all.ring 0 all.histories.items all.heights.items) }
     ensures ring { IfOk result (λ all. all.ring ≡ ring) }
     ensures fault { IfErr result IsRunFault }
 {
-    let replicas = config.replicas;
+    let replicas = cluster.config().replicas;
     let mut histories = Vec::with_capacity(alloc, usize::from(replicas))?;
     let mut heights = Vec::with_capacity(alloc, usize::from(replicas))?;
     for id in 0..replicas {
-        let Taken { history, height } = take(rt, cluster, config, &ring, id)?;
+        let Taken { history, height } = take(rt, cluster, id)?;
         histories.push(history)?;
         heights.push(height)?;
     }

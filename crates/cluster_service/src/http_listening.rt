@@ -6,7 +6,7 @@ ghost use Rattle.cluster_service.specs.RunFaults.{IsPortFault};
 use crate::http_door::{HttpDoor, LOOK_MS};
 use crate::listening::{next_stream, pause};
 use crate::live_targets::LiveTargets;
-use crate::running::listen_at;
+use crate::ports::listen_at;
 use abci::Application;
 use counted_streams::CountedStream;
 use http_sessions::serve_request;

@@ -6,11 +6,15 @@
 //! replica's lock, and heights are those of the commit board. Each connection is served in a thread of its own, so a client that
 //! disappears or sends no request harms no other session. All clients together use no more of a replica's history than the settings say.
 //!
-//! Five things are tested, not proved: that the workers run concurrently, that a target is the replica with the number that was asked
-//! for, that clients share one count of entries, what TCP delivers, and what the watcher gets.
+//! What ran is what the settings say: [`EndedCluster`] and [`EndedServer`] keep which workers, clock and sessions threads were given, and
+//! their contracts compare that with the settings.
+//!
+//! Five things are tested, not proved: that the workers run concurrently, that a submit, a query or a block is answered by the replica
+//! with the number that was asked for, that clients share one count of entries, what TCP delivers, and what the watcher gets.
 #![tactic(auto)]
 
 mod asking;
+mod budgets;
 mod cluster_status;
 mod deliveries;
 mod door;
@@ -22,25 +26,30 @@ mod lines;
 mod listening;
 mod live_targets;
 mod notice;
+mod ports;
 mod replicas;
 mod reporter;
 mod reporting;
 mod running;
 mod saving;
+mod serving;
 mod showing;
 mod stopping;
 mod subcommands;
 mod waiting;
 mod writing;
 
+pub use budgets::ClientBudget;
 pub use final_histories::FinalHistories;
 pub use http_listening::{HttpListener, listen_for_http};
 pub use live_targets::LiveTargets;
+pub use ports::listen_at;
 pub use replicas::new_replicas;
 pub use reporter::{Watcher, start_reporter};
 pub use reporting::SharedStatus;
-pub use running::{listen_at, run_cluster, serve_cluster};
+pub use running::{EndedCluster, run_cluster};
 pub use saving::{HistoriesFile, open_histories};
+pub use serving::{EndedServer, EndedService, Listeners, open_listeners, serve_cluster};
 pub use stopping::stop_at_end;
-pub use subcommands::{cluster, serve};
+pub use subcommands::{ClusterOutcome, ServerOutcome, cluster, serve};
 pub use writing::{write_commits, write_ports};

@@ -1,6 +1,7 @@
 //! The connections of clients, each served in a thread of its own.
-ghost use Rattle.std.specs.Prelude.{◌≡◌, All, length};
+ghost use Rattle.std.specs.Prelude.{◌≡◌, All, IfOk, length, vec_len};
 
+use crate::budgets::ClientBudget;
 use crate::door::Door;
 use crate::live_targets::LiveTargets;
 use abci::Application;
@@ -8,10 +9,9 @@ use client_sessions::{Session, serve};
 use cluster_workers::{RunningCluster, Stop};
 use commit_board::ReaderSeat;
 use counted_streams::CountedStream;
-use replica_turns::ClientEntries;
 use std::alloc::{AllocError, Global};
 use std::net::{TcpListener, TcpStream};
-use std::sync::{Arc, Mutex, Wait};
+use std::sync::{Arc, Wait};
 use std::thread;
 use std::thread::Threads;
 use std::time::{Clock, Duration};
@@ -85,21 +85,23 @@ impl<A: Application, R: Wait> Connection<'_, '_, A, R> {
     }
 }
 
-/// Targets for one session or connection per seat. The clients of all share these entries of each replica's history.
+/// Targets for one session or connection per seat. The clients of all share these budgets of entries.
 pub(crate) fn targets_of<'a, A: Application, R: Wait>(
     rt: &'a R,
     alloc: Global,
     cluster: &'a RunningCluster<A>,
-    entries: &'a [Mutex<ClientEntries>],
+    budgets: &'a [ClientBudget],
     seats: Vec<ReaderSeat>,
     stop: &'a Stop,
 ) -> Result<Vec<LiveTargets<'a, A, R>>, AllocError>
     requires seats { All (λ seat. seat.board ≡ cluster.now.board) seats.items }
-    requires entries { length entries.now ≡ cluster.now.replicas }
+    requires budgets { length budgets.now ≡ cluster.now.replicas }
+    ensures count { IfOk result (λ targets. vec_len targets ≡ vec_len seats) }
+    ensures budgets { IfOk result (λ targets. All (λ t. t.budgets.now ≡ budgets.now) targets.items) }
 {
     let mut targets = Vec::with_capacity(alloc, seats.len())?;
     for seat in seats {
-        targets.push(LiveTargets::new(rt, alloc, cluster, entries, seat, stop))?;
+        targets.push(LiveTargets::new(rt, alloc, cluster, budgets, seat, stop))?;
     }
     Ok(targets)
 }

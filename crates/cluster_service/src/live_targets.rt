@@ -1,11 +1,13 @@
 //! The replicas of a running cluster, as targets of a session, and of a request of HTTP.
-ghost use Rattle.std.specs.Prelude.{◌≡◌, ◌<◌, length};
+ghost use Rattle.std.specs.Prelude.{◌≡◌, ◌<◌, true, false, Some, length, option_map};
 ghost use Rattle.client_sessions.specs.Asking.{outcome_of};
 ghost use Rattle.cluster_service.specs.Targets.{AnswersSubmit};
+ghost use Rattle.cluster_workers.specs.RunningClusters.{IsStateOf};
 
 use crate::asking::{block, query, submit};
+use crate::budgets::ClientBudget;
 use crate::showing::{app_info, metrics_of, pool_size, progress_of};
-use crate::waiting::wait_for;
+use crate::waiting::{Awaited, wait_for};
 use abci::Application;
 use client_sessions::{TargetFault, Targets};
 use cluster_workers::{RunningCluster, Stop};
@@ -13,9 +15,10 @@ use commit_board::ReaderSeat;
 use http_replies::ReplicaMetrics;
 use http_sessions::{AppInfo, Delivery, HttpTargets, PoolSize, Progress};
 use ledger_model::{Batch, Height, QueryAnswer, ReplicaId, SubmitRefusal};
-use replica_turns::ClientEntries;
+use locked_replica::State;
 use std::alloc::Global;
-use std::sync::{Mutex, Wait};
+use std::snapshot::Snapshot;
+use std::sync::Wait;
 use std::time::Clock;
 
 /// The replicas of a running cluster, for one session. The session reads heights through a seat of its own. It shares
@@ -25,40 +28,59 @@ pub struct LiveTargets<'a, A: Application, R: Wait> {
     rt: &'a R,
     alloc: Global,
     cluster: &'a RunningCluster<A>,
-    entries: &'a [Mutex<ClientEntries>],
+    budgets: &'a [ClientBudget],
     seat: ReaderSeat,
     stop: &'a Stop,
+    /// The state that an inquiry saw last under a replica's lock, which only contracts read.
+    seen: Option<Snapshot<State<A>>>,
     ghost tied: { seat.board ≡ cluster.now.board },
     ghost some: { 0 < cluster.now.replicas },
-    ghost each: { length entries.now ≡ cluster.now.replicas },
+    ghost each: { length budgets.now ≡ cluster.now.replicas },
 }
 
 impl<'a, A: Application, R: Wait> LiveTargets<'a, A, R> {
     /// The replicas of the cluster, whose heights are read through this seat of its board. Clients may use as many
-    /// entries of a replica's history as its item in the list allows. What waits for a block ends once `stop` is asked.
+    /// entries of a replica's history as its budget allows. What waits for a block ends once `stop` is asked.
     pub fn new(
         rt: &'a R,
         alloc: Global,
         cluster: &'a RunningCluster<A>,
-        entries: &'a [Mutex<ClientEntries>],
+        budgets: &'a [ClientBudget],
         seat: ReaderSeat,
         stop: &'a Stop,
     ) -> Self
         requires seat { seat.board ≡ cluster.now.board }
-        requires entries { length entries.now ≡ cluster.now.replicas }
+        requires budgets { length budgets.now ≡ cluster.now.replicas }
         ensures seat { result.seat ≡ seat }
         ensures cluster { result.cluster.now ≡ cluster.now }
+        ensures budgets { result.budgets.now ≡ budgets.now }
     {
         let _ = cluster.len();
         LiveTargets {
             rt,
             alloc,
             cluster,
-            entries,
+            budgets,
             seat,
             stop,
+            seen: None,
         }
     }
+}
+
+/// Notes the state that was seen under the lock of the replica with this number, and returns whether it is that replica's.
+pub(crate) fn see<A: Application>(
+    cluster: &RunningCluster<A>,
+    replica: ReplicaId,
+    state: &State<A>,
+    seen: &mut Option<Snapshot<State<A>>>,
+) -> bool
+    ensures seen { option_map (λ s. s.value) seen.new ≡ Some state.now }
+    ensures own { result ≡ true → IsStateOf cluster.now replica state.now }
+    ensures other { result ≡ false → IsStateOf cluster.now replica state.now → ⊥ }
+{
+    *seen = Some(Snapshot::of(state));
+    cluster.is_state_of(replica, state)
 }
 
 impl<A: Application, R: Wait> LiveTargets<'_, A, R> {
@@ -71,7 +93,7 @@ impl<A: Application, R: Wait> LiveTargets<'_, A, R> {
         requires { replica < self.now.cluster.now.replicas }
         ensures { AnswersSubmit tx.now (outcome_of result) }
     {
-        let mut entries = self.entries[usize::from(replica.number())].lock(self.rt);
+        let mut entries = self.budgets[usize::from(replica.number())].lock(self.rt);
         let mut state = self.cluster.replica(replica).lock(self.rt);
         submit(self.alloc, &mut *state, &mut *entries, tx)
     }
@@ -97,7 +119,7 @@ impl<A: Application, R: Wait> Targets for LiveTargets<'_, A, R> {
     }
 
     fn query(&mut self, replica: ReplicaId, key: &[u8]) -> Result<QueryAnswer, TargetFault> {
-        let mut entries = self.entries[usize::from(replica.number())].lock(self.rt);
+        let mut entries = self.budgets[usize::from(replica.number())].lock(self.rt);
         let mut state = self.cluster.replica(replica).lock(self.rt);
         query(self.alloc, &mut *state, &mut *entries, key)
     }
@@ -113,31 +135,48 @@ impl<A: Application, R: Wait> Targets for LiveTargets<'_, A, R> {
 }
 
 impl<A: Application, R: Clock + Wait> HttpTargets for LiveTargets<'_, A, R> {
+    ghost use Rattle.std.specs.Prelude.{option_map};
     ghost use Rattle.cluster_service.specs.Inquiries.{IsInquiry};
 
-    ghost inquires = { λ _ inquiry _. IsInquiry inquiry };
+    ghost inquires = { λ old inquiry new. IsInquiry old.cluster.now (option_map (λ s. s.value) new.seen) inquiry };
 
-    fn metrics(&mut self, replica: ReplicaId) -> ReplicaMetrics {
+    fn metrics(&mut self, replica: ReplicaId) -> Option<ReplicaMetrics> {
+        let cluster = self.cluster;
         // One client at a time walks a history, so a replica waits for one walk, not for those of all clients.
-        let _turn = self.entries[usize::from(replica.number())].lock(self.rt);
-        let lost = self.cluster.lost(replica);
-        let state = self.cluster.replica(replica).lock(self.rt);
-        metrics_of(replica, lost, &*state)
+        let _turn = self.budgets[usize::from(replica.number())].lock(self.rt);
+        let lost = cluster.lost(replica);
+        let state = cluster.replica(replica).lock(self.rt);
+        if !see(cluster, replica, &*state, &mut self.seen) {
+            return None;
+        }
+        Some(metrics_of(replica, lost, &*state))
     }
 
-    fn progress(&mut self, replica: ReplicaId) -> Progress {
-        let state = self.cluster.replica(replica).lock(self.rt);
-        progress_of(&*state)
+    fn progress(&mut self, replica: ReplicaId) -> Option<Progress> {
+        let cluster = self.cluster;
+        let state = cluster.replica(replica).lock(self.rt);
+        if !see(cluster, replica, &*state, &mut self.seen) {
+            return None;
+        }
+        Some(progress_of(&*state))
     }
 
-    fn pool(&mut self, replica: ReplicaId) -> PoolSize {
-        let state = self.cluster.replica(replica).lock(self.rt);
-        pool_size(&*state)
+    fn pool(&mut self, replica: ReplicaId) -> Option<PoolSize> {
+        let cluster = self.cluster;
+        let state = cluster.replica(replica).lock(self.rt);
+        if !see(cluster, replica, &*state, &mut self.seen) {
+            return None;
+        }
+        Some(pool_size(&*state))
     }
 
-    fn info(&mut self, replica: ReplicaId) -> AppInfo {
-        let state = self.cluster.replica(replica).lock(self.rt);
-        app_info(&*state)
+    fn info(&mut self, replica: ReplicaId) -> Option<AppInfo> {
+        let cluster = self.cluster;
+        let state = cluster.replica(replica).lock(self.rt);
+        if !see(cluster, replica, &*state, &mut self.seen) {
+            return None;
+        }
+        Some(app_info(&*state))
     }
 
     fn spread(&mut self, replica: ReplicaId, tx: &[u8]) {
@@ -151,15 +190,15 @@ impl<A: Application, R: Clock + Wait> HttpTargets for LiveTargets<'_, A, R> {
         }
     }
 
-    fn wait(&mut self, replica: ReplicaId, tx: &[u8], index: u32) -> Delivery {
+    fn wait(&mut self, replica: ReplicaId, tx: &[u8], index: u32) -> Option<Delivery> {
+        let awaited = Awaited { replica, tx, index };
         wait_for(
             self.rt,
             self.cluster,
             &mut self.seat,
+            &mut self.seen,
             self.stop,
-            replica,
-            tx,
-            index,
+            &awaited,
         )
     }
 }

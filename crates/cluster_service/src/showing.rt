@@ -34,7 +34,7 @@ pub(crate) fn metrics_of<A: Application>(
     ensures ignored { (cause : Ignored) → ignored_for result.frames cause ≡ ignored_in cause state.now.entries }
     ensures lost { result.frames_lost ≡ lost }
     // The result as HTTP sees it.
-    ensures shown { IsShown result }
+    ensures shown { IsShown result state.now }
 {
     // Used leaves are accounted for, and the key is its own: both are read for the proof.
     let _ = (state.is_mute(), state.id());
@@ -55,7 +55,7 @@ pub(crate) fn progress_of<A: Application>(state: &State<A>) -> Progress
     ensures rounds { result.rounds ≡ clock_at state.now.entries }
     ensures height { result.height ≡ length (commits_of state.now.config state.now.id state.now.entries) }
     // The result as HTTP sees it.
-    ensures shown { IsProgress result }
+    ensures shown { IsProgress result state.now }
 {
     // The history is a replay: its length is read for the proof.
     let _ = state.len();
@@ -81,7 +81,7 @@ pub(crate) fn pool_size<A: Application>(state: &State<A>) -> PoolSize
     ensures transactions { result.transactions ≡ length (pool_of state.now.config state.now.id state.now.entries) }
     ensures bytes { result.bytes ≡ min (sum_by length (pool_of state.now.config state.now.id state.now.entries)) (2 ^ 64 - 1) }
     // The result as HTTP sees it.
-    ensures shown { IsPooled result }
+    ensures shown { IsPooled result state.now }
 {
     // The history is a replay: its length is read for the proof.
     let _ = state.len();
@@ -97,7 +97,7 @@ pub(crate) fn app_info<A: Application>(state: &State<A>) -> AppInfo
     ensures reply { record { height = result.height; hash = result.hash }
         ≡ info_reply state.now.config.kind (commits_of state.now.config state.now.id state.now.entries) }
     // The result as HTTP sees it.
-    ensures shown { IsInfo result }
+    ensures shown { IsInfo result state.now }
 {
     // The history is a replay: its length is read for the proof.
     let _ = state.len();

@@ -1,17 +1,21 @@
 //! `abft cluster` and `abft serve`: runs a cluster, and writes its lines.
-ghost use Rattle.std.specs.Prelude.{◌≡◌, length, option_map, IfErr};
+ghost use Rattle.std.specs.Prelude.{◌≡◌, length, option_map, IfErr, IfOk};
 ghost use Rattle.cluster_keys.specs.Keys.{ring_of};
 ghost use Rattle.cluster_service.specs.HistoriesFiles.{bytes_in};
 ghost use Rattle.cluster_service.specs.Lines.{port_lines};
 ghost use Rattle.cluster_service.specs.Reporting.{AreTaken, Reports, ReportsEnd, ReportsSome, Serves, ServesSome, WritesSuch};
+ghost use Rattle.cluster_service.specs.Ports.{IsAskedIfAny, IsAskedPort};
 ghost use Rattle.cluster_service.specs.RunFaults.{EndsCluster, EndsServer, IsReportFault, IsRunFault};
+ghost use Rattle.cluster_service.specs.Services.{IsRunOf, IsServiceOf};
 
 use crate::final_histories::FinalHistories;
-use crate::http_listening::HttpListener;
+use crate::running::{EndedCluster, run_cluster};
 use crate::saving::{HistoriesFile, save_histories};
+use crate::serving::{EndedServer, EndedService, Listeners, serve_cluster};
 use crate::writing::{write_lines, write_ports};
-use crate::{SharedStatus, run_cluster, serve_cluster, stop_at_end};
-use cluster_workers::Stop;
+use crate::{SharedStatus, stop_at_end};
+use app_kinds::AnyKind;
+use cluster_workers::{EndedRun, Stop};
 use program_streams::ProgramFault;
 use settings::{ClusterSettings, ServeSettings};
 use std::alloc::Global;
@@ -63,9 +67,15 @@ fn report<S: RandomSource, W: Write, H: Write>(
     written
 }
 
+/// What `abft cluster` ends with: the exit status, and what ran.
+pub struct ClusterOutcome {
+    pub status: u8,
+    pub run: EndedRun<AnyKind>,
+}
+
 /// `abft cluster`: runs a cluster, and writes a line for each replica with the number of blocks that it committed, and then what the
 /// audit of their histories finds. Then, whatever became of the lines, it writes the histories to the file, if there is one. How it
-/// stands is stored in `status`. Returns the exit status: 1 if the audit finds a fault.
+/// stands is stored in `status`. The exit status is 1 if the audit finds a fault.
 pub fn cluster<R, I, W: Write, H: Write>(
     rt: &R,
     alloc: Global,
@@ -74,35 +84,44 @@ pub fn cluster<R, I, W: Write, H: Write>(
     input: I,
     writer: &mut W,
     file: &mut Option<HistoriesFile<H>>,
-) -> Result<u8, ProgramFault>
+) -> Result<ClusterOutcome, ProgramFault>
 where
     R: Clock + Copy + RandomSource + Send + Sync + Threads + Wait + 'static,
     I: Read + Drop + Send + 'static,
-    ensures reports { WritesSuch result (Reports settings.now) (ReportsSome settings.now)
+    ensures reports { WritesSuch result (λ outcome. Reports settings.now outcome.status) (ReportsSome settings.now)
         (W.contents writer.old) (W.contents writer.new) (bytes_in file.old) (bytes_in file.new) }
+    // What ran is what the settings say.
+    ensures run { IfOk result (λ outcome. IsRunOf settings.now outcome.run) }
     // A cluster that isn't run to its end writes nothing. After that it ends by its audit, whatever that finds, unless memory,
     // random bytes, standard output or the file is refused.
     ensures fault { IfErr result (EndsCluster file.old file.new (W.contents writer.old) (W.contents writer.new)) }
 {
     let stop = new_stop(rt, alloc, settings, input)?;
     let left = run_cluster(rt, alloc, settings, status, &stop)?;
-    report(rt, alloc, settings, &left, writer, file)
+    let EndedCluster { histories, run } = left;
+    let ended = report(rt, alloc, settings, &histories, writer, file)?;
+    Ok(ClusterOutcome { status: ended, run })
+}
+
+/// What `abft serve` ends with: the exit status, what ran, and how clients were served.
+pub struct ServerOutcome {
+    pub status: u8,
+    pub run: EndedRun<AnyKind>,
+    pub service: EndedService,
 }
 
 /// `abft serve`: writes the port of the listener, and that of HTTP, at once; then runs a cluster and serves clients in parallel; at the end writes what
-/// [`cluster`] writes. The listeners come from [`listen_at`](crate::listen_at), so no port is refused here.
+/// [`cluster`] writes. The listeners come from [`open_listeners`](crate::open_listeners), so no port is refused here.
 pub fn serve<R, I, W: Write, H: Write>(
     rt: &R,
     alloc: Global,
     settings: &ServeSettings,
-    listener: TcpListener,
-    port: u16,
-    http: Option<HttpListener>,
+    listeners: Listeners,
     status: &SharedStatus,
     input: I,
     writer: &mut W,
     file: &mut Option<HistoriesFile<H>>,
-) -> Result<u8, ProgramFault>
+) -> Result<ServerOutcome, ProgramFault>
 where
     R: Clock
         + Copy
@@ -114,15 +133,31 @@ where
         + Wait
         + 'static,
     I: Read + Drop + Send + 'static,
-    ensures serves { WritesSuch result (λ status. Serves (port_lines port (option_map (λ h. h.port) http)) (Reports settings.now.cluster status))
-        (ServesSome settings.now.cluster (port_lines port (option_map (λ h. h.port) http)))
+    requires port { IsAskedPort settings.now.port listeners.port }
+    requires http { IsAskedIfAny settings.now.http (option_map (λ h. h.port) listeners.http) }
+    ensures serves { WritesSuch result
+        (λ outcome. Serves (port_lines listeners.port (option_map (λ h. h.port) listeners.http)) (Reports settings.now.cluster outcome.status))
+        (ServesSome settings.now.cluster (port_lines listeners.port (option_map (λ h. h.port) listeners.http)))
         (W.contents writer.old) (W.contents writer.new) (bytes_in file.old) (bytes_in file.new) }
+    // What ran is what the settings say, and clients were served as they say.
+    ensures run { IfOk result (λ outcome. IsRunOf settings.now.cluster outcome.run) }
+    ensures service { IfOk result (λ outcome. IsServiceOf settings.now outcome.service) }
     // A server that isn't run to its end writes at most its ports.
-    ensures fault { IfErr result (EndsServer (port_lines port (option_map (λ h. h.port) http)) file.old file.new
+    ensures fault { IfErr result (EndsServer (port_lines listeners.port (option_map (λ h. h.port) listeners.http)) file.old file.new
         (W.contents writer.old) (W.contents writer.new)) }
 {
     let stop = new_stop(rt, alloc, &settings.cluster, input)?;
-    write_ports(alloc, port, &http, writer)?;
-    let left = serve_cluster(rt, alloc, settings, listener, port, http, status, &stop)?;
-    report(rt, alloc, &settings.cluster, &left, writer, file)
+    write_ports(alloc, listeners.port, &listeners.http, writer)?;
+    let left = serve_cluster(rt, alloc, settings, listeners, status, &stop)?;
+    let EndedServer {
+        histories,
+        run,
+        service,
+    } = left;
+    let ended = report(rt, alloc, &settings.cluster, &histories, writer, file)?;
+    Ok(ServerOutcome {
+        status: ended,
+        run,
+        service,
+    })
 }

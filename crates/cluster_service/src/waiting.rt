@@ -1,14 +1,17 @@
 //! Waits until a block of a replica has a transaction.
-ghost use Rattle.std.specs.Prelude.{◌≡◌, ◌<◌, ◌≤◌, IfSome};
-ghost use Rattle.cluster_service.specs.Deliveries.{IsDelivery};
+ghost use Rattle.std.specs.Prelude.{◌≡◌, ◌<◌, option_map};
 ghost use Rattle.cluster_service.specs.Inquiries.{AnswersWait};
+ghost use Rattle.cluster_service.specs.Waiting.{Finds};
 
 use crate::deliveries::delivered_after;
+use crate::live_targets::see;
 use abci::Application;
 use cluster_workers::{RunningCluster, Stop};
 use commit_board::ReaderSeat;
 use http_sessions::Delivery;
 use ledger_model::{Height, ReplicaId};
+use locked_replica::State;
+use std::snapshot::Snapshot;
 use std::sync::Wait;
 use std::thread;
 use std::time::{Clock, Duration, Instant};
@@ -34,59 +37,104 @@ fn is_over<R: Clock>(rt: &R, start: &Option<Instant>) -> bool {
     }
 }
 
-/// What a replica's history from the entry `next` on says of the transaction. Then `next` is the entry after the last that was looked at.
+/// A transaction that waits for a block of a replica. The entry with this index of the replica's history submitted it.
+#[derive(Drop)]
+pub(crate) struct Awaited<'a> {
+    pub(crate) replica: ReplicaId,
+    pub(crate) tx: &'a [u8],
+    pub(crate) index: u32,
+}
+
+/// What a look at a replica's history found.
+#[derive(Drop)]
+pub(crate) enum LookOutcome {
+    /// A block that has the transaction: its height, and the application's code for the transaction.
+    Block { height: Height, code: u32 },
+    /// No such block. The history has this many entries.
+    Nothing { entries: usize },
+    /// The state isn't the replica's.
+    Stranger,
+}
+
+/// Looks for the transaction in the replica's history from the entry `next` on.
 fn look<A: Application, R: Wait>(
     rt: &R,
     cluster: &RunningCluster<A>,
-    replica: ReplicaId,
-    tx: &[u8],
-    next: &mut usize,
-) -> Option<(Height, u32)>
-    requires { replica < cluster.now.replicas }
-    ensures delivery { IfSome result (λ found. IsDelivery tx.now next.old found.0 found.1) }
-    ensures next { next.old ≤ next.new }
+    seen: &mut Option<Snapshot<State<A>>>,
+    awaited: &Awaited<'_>,
+    next: usize,
+) -> LookOutcome
+    requires { awaited.now.replica < cluster.now.replicas }
+    ensures { Finds cluster.now awaited.now.replica (option_map (λ s. s.value) seen.new) awaited.now.tx.now next result }
 {
-    let state = cluster.replica(replica).lock(rt);
-    let found = delivered_after(&*state, *next, tx);
-    *next = state.len().max(*next);
-    found
+    let state = cluster.replica(awaited.replica).lock(rt);
+    if !see(cluster, awaited.replica, &*state, seen) {
+        return LookOutcome::Stranger;
+    }
+    match delivered_after(&*state, next, awaited.tx) {
+        Some((height, code)) => LookOutcome::Block { height, code },
+        None => LookOutcome::Nothing {
+            entries: state.len(),
+        },
+    }
 }
 
-/// Waits until a block of the replica has the transaction, at most for ninety seconds, or until it is asked to stop. The entry of the submit
-/// has this index, so only entries from there on are looked at, and each of them once: after the committed height has risen. No lock is
-/// held in between.
+/// Looks once more at all entries from the submit's on, when the time is over.
+fn last_look<A: Application, R: Wait>(
+    rt: &R,
+    cluster: &RunningCluster<A>,
+    seen: &mut Option<Snapshot<State<A>>>,
+    awaited: &Awaited<'_>,
+) -> Option<Delivery>
+    requires { awaited.now.replica < cluster.now.replicas }
+    ensures { AnswersWait cluster.now awaited.now.replica (option_map (λ s. s.value) seen.new) awaited.now.tx.now awaited.now.index result }
+{
+    match look(rt, cluster, seen, awaited, awaited.index as usize) {
+        LookOutcome::Block { height, code } => Some(Delivery::Committed { height, code }),
+        LookOutcome::Nothing { .. } => Some(Delivery::TimedOut),
+        LookOutcome::Stranger => None,
+    }
+}
+
+/// Waits until a block of the replica has the transaction, at most for ninety seconds, or until it is asked to stop. Only entries from the
+/// submit's on are looked at, and each of them once after the committed height has risen; once more at the end, if no block had it. No
+/// lock is held in between. `None` if the state that the replica's lock guards isn't the replica's.
 pub(crate) fn wait_for<A: Application, R: Clock + Wait>(
     rt: &R,
     cluster: &RunningCluster<A>,
     seat: &mut ReaderSeat,
+    seen: &mut Option<Snapshot<State<A>>>,
     stop: &Stop,
-    replica: ReplicaId,
-    tx: &[u8],
-    index: u32,
-) -> Delivery
+    awaited: &Awaited<'_>,
+) -> Option<Delivery>
     requires board { seat.old.board ≡ cluster.now.board }
-    requires replica { replica < cluster.now.replicas }
+    requires replica { awaited.now.replica < cluster.now.replicas }
     ensures board { seat.new.board ≡ seat.old.board }
-    ensures delivery { AnswersWait tx.now index result }
+    ensures delivery { AnswersWait cluster.now awaited.now.replica (option_map (λ s. s.value) seen.new) awaited.now.tx.now awaited.now.index result }
 {
     let start = Instant::now(rt).ok();
-    let mut next = index as usize;
+    let mut next = awaited.index as usize;
     let mut height = 0;
     for _look in 0..MOST_LOOKS {
         if stop.is_asked() {
-            return Delivery::Stopping;
+            return Some(Delivery::Stopping);
         }
         if is_over(rt, &start) {
             break;
         }
-        let committed = cluster.board().read(seat, replica);
+        let committed = cluster.board().read(seat, awaited.replica);
         if committed > height {
             height = committed;
-            if let Some((height, code)) = look(rt, cluster, replica, tx, &mut next) {
-                return Delivery::Committed { height, code };
+            match look(rt, cluster, seen, awaited, next) {
+                LookOutcome::Block { height, code } => return Some(Delivery::Committed {
+                    height,
+                    code,
+                }),
+                LookOutcome::Nothing { entries } => next = entries.max(next),
+                LookOutcome::Stranger => return None,
             }
         }
         let _ = thread::sleep(rt, Duration::from_millis(LOOK_MS));
     }
-    Delivery::TimedOut
+    last_look(rt, cluster, seen, awaited)
 }

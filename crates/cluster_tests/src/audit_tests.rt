@@ -107,7 +107,8 @@ fn run<R: Threads + Wait + Sync>(
 ) -> Result<Vec<Vec<History>>, Fail> {
     let clock = QuietClock::new(rt, alloc, cluster.len())?;
     let gate = HistoryGate::new(rt, alloc, cluster);
-    if run_all(rt, workers, &clock, &gate, &Stop::new()) && !clock.has_note() {
+    let ran = run_all(rt, cluster, workers, &clock, &gate, &Stop::new());
+    if ran.is_some() && !clock.has_note() {
         Ok(gate.sets())
     } else {
         Err(Fail::from("the cluster did not run to its end"))
@@ -165,7 +166,8 @@ fn sixteen_rounds_commit_one_ledger(rt: HostRuntime) -> Result<(), Fail> {
     )?;
     let reader = reader_of(&cluster, reading)?;
     let clock = QuietClock::new(&rt, alloc, 4)?;
-    assert!(rt; run_all(&rt, workers, &clock, &NoGate, &Stop::new()) && !clock.has_note());
+    let ran = run_all(&rt, &cluster, workers, &clock, &NoGate, &Stop::new());
+    assert!(rt; ran.is_some() && !clock.has_note());
     assert_eq!(rt;
         first_behind(&rt, &cluster, reader, keys.config.replicas, 1),
         None

@@ -115,7 +115,7 @@ fn four_replicas_commit_and_two_workers_meet(rt: HostRuntime) -> Result<(), Fail
     let reader = reader_of(&cluster, reading)?;
     let clock = QuietClock::new(&rt, alloc, 4)?;
     let gate = MeetingGate::new();
-    assert!(rt; run_all(&rt, workers, &clock, &gate, &Stop::new()));
+    assert!(rt; run_all(&rt, &cluster, workers, &clock, &gate, &Stop::new()).is_some());
     assert!(rt; !clock.has_note() && !gate.has_note() && gate.have_met());
     assert_eq!(rt;
         first_behind(&rt, &cluster, reader, keys.config.replicas, 2),

@@ -22,6 +22,8 @@ mod replicas;
 #[cfg(test)]
 mod seated;
 #[cfg(test)]
+mod state_tests;
+#[cfg(test)]
 mod turn_tests;
 #[cfg(test)]
 mod verifier_tests;

@@ -86,6 +86,12 @@ impl<'a, R: Wait> QuietClock<'a, R> {
 }
 
 impl<R: Wait> RoundClock for QuietClock<'_, R> {
+    ghost base_ms = { λ _. 0 };
+
+    fn base_ms(&self) -> u32 {
+        0
+    }
+
     fn is_due(&self, replica: ReplicaId, ended: u32, progress: Progress) -> bool {
         self.counts
             .lock(self.rt)

@@ -1,1 +1,2 @@
 mod SeatsLeft
+pub mod Crossing

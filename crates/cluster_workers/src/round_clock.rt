@@ -2,6 +2,7 @@
 use ledger_model::ReplicaId;
 use round_pacer::{due, until_due};
 use std::io;
+use std::marker::Model;
 use std::time::{Clock, Duration, Instant};
 
 /// What a worker did since it last asked whether a round is due.
@@ -28,6 +29,14 @@ impl Progress {
 
 /// Decides when rounds end. All workers share it.
 pub trait RoundClock {
+    ghost use Rattle.std.specs.Prelude.{◌≡◌, ℕ};
+
+    ghost base_ms: { Self → ℕ };
+
+    /// How long a round lasts at least, in milliseconds; 0 if rounds don't end by time.
+    fn base_ms(&self) -> u32
+        ensures { result ≡ base_ms self.now };
+
     /// Whether the next round of this replica is to end; `ended` rounds ended before.
     fn is_due(&self, replica: ReplicaId, ended: u32, progress: Progress) -> bool;
 
@@ -46,9 +55,21 @@ pub struct MachineClock<'a, R: Clock> {
     base_ms: u32,
 }
 
+impl<'a, R: Clock> Model for MachineClock<'a, R> {
+    ghost use Rattle.std.specs.Prelude.{ℕ};
+
+    ghost Value = { ℕ };
+
+    ghost view = { λ c. c.base_ms };
+}
+
 impl<'a, R: Clock> MachineClock<'a, R> {
-    /// A clock that starts now. An `Err` means that the machine's clock can't be read.
-    pub fn start(rt: &'a R, base_ms: u32) -> io::Result<Self> {
+    ghost use Rattle.std.specs.Prelude.{◌≡◌, IfOk};
+
+    /// A clock with this base time that starts now. An `Err` means that the machine's clock can't be read.
+    pub fn start(rt: &'a R, base_ms: u32) -> io::Result<Self>
+        ensures { IfOk result (λ clock. clock ≡ base_ms) }
+    {
         Ok(MachineClock {
             rt,
             start: Instant::now(rt)?,
@@ -67,6 +88,12 @@ impl<'a, R: Clock> MachineClock<'a, R> {
 }
 
 impl<R: Clock> RoundClock for MachineClock<'_, R> {
+    ghost base_ms = { λ clock. clock };
+
+    fn base_ms(&self) -> u32 {
+        self.base_ms
+    }
+
     fn is_due(&self, _replica: ReplicaId, ended: u32, _progress: Progress) -> bool {
         due(0, self.now_ms(), self.base_ms, ended) > 0
     }

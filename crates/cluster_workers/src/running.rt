@@ -1,29 +1,59 @@
-//! The threads of a cluster's workers.
+//! The threads of a cluster's workers, and what a contract knows of a run that has ended.
+ghost use Rattle.std.specs.Prelude.{◌≡◌, IfSome};
+
 use crate::gate::TurnGate;
 use crate::round_clock::RoundClock;
+use crate::running_cluster::RunningCluster;
 use crate::stop::Stop;
 use crate::worker::Worker;
 use abci::Application;
+use std::marker::Model;
+use std::snapshot::Snapshot;
 use std::sync::Wait;
 use std::thread;
 use std::thread::Threads;
 
-/// Runs each worker in a thread of its own, and returns when all have ended. If a thread can't be made, the cluster is
-/// asked to stop and the result is false; that worker and those after it did nothing.
+/// A cluster whose workers ran in threads of their own, until all had ended. Only contracts read which cluster and which workers those
+/// were; [`run_all`] alone makes one.
+#[derive(Drop)]
+pub struct EndedRun<A: Application> {
+    cluster: Snapshot<RunningCluster<A>>,
+    workers: Snapshot<Vec<Worker<A>>>,
+    base_ms: u32,
+}
+
+impl<A: Application> Model for EndedRun<A> {
+    ghost use Rattle.cluster_workers.specs.RunningClusters.{EndedRunView};
+
+    ghost Value = { EndedRunView };
+
+    ghost view = { λ r. record { cluster = r.cluster.value; workers = r.workers.value.items; base_ms = r.base_ms } };
+}
+
+/// Runs each worker of the cluster in a thread of its own, and returns when all have ended. If a thread can't be made, the cluster is
+/// asked to stop and the result is `None`; that worker and those after it did nothing.
 pub fn run_all<A, R, C, G>(
     rt: &R,
+    cluster: &RunningCluster<A>,
     workers: Vec<Worker<A>>,
     clock: &C,
     gate: &G,
     stop: &Stop,
-) -> bool
+) -> Option<EndedRun<A>>
 where
     A: Application + Send,
     R: Threads + Wait + Sync,
     C: RoundClock + Sync,
     G: TurnGate + Sync,
+    ensures { IfSome result (λ ran. ran
+        ≡ record { cluster = cluster.now; workers = workers.items; base_ms = C.base_ms clock.now }) }
 {
-    thread::scope(thread::scope_env(), rt, move |scope| {
+    let ran = EndedRun {
+        cluster: Snapshot::of(cluster),
+        workers: Snapshot::of(&workers),
+        base_ms: clock.base_ms(),
+    };
+    let all_ran = thread::scope(thread::scope_env(), rt, move |scope| {
         for worker in workers {
             if scope
                 .spawn(move || worker.run(rt, clock, gate, stop))
@@ -34,5 +64,6 @@ where
             }
         }
         true
-    })
+    });
+    if all_ran { Some(ran) } else { None }
 }

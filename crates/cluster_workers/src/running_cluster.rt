@@ -1,11 +1,12 @@
 //! A running cluster: what its workers share.
-ghost use Rattle.std.specs.Prelude.{◌≡◌, ℕ, ◌<◌, Some, length, slice_get, vec_len, IfOk};
+ghost use Rattle.std.specs.Prelude.{◌≡◌, ℕ, ◌<◌, true, false, Some, length, slice_get, vec_len, IfOk};
 ghost use Rattle.std.specs.Arc.{arc_value};
 ghost use Rattle.commit_board.specs.Seats.{replicas_of, new_reader};
-ghost use Rattle.cluster_workers.specs.RunningClusters.{AreDealt, AreReadersOf, all_workers, first_ring};
+ghost use Rattle.cluster_workers.specs.RunningClusters.{AreDealt, AreReadersOf, IsStateOf, all_workers, first_ring};
 
 use crate::inboxes::{Inboxes, inboxes_of};
 use crate::losses::Losses;
+use crate::same_cluster::{are_same, have_same_keys};
 use crate::turn_taker::TurnTaker;
 use crate::worker::Worker;
 use abci::Application;
@@ -16,22 +17,31 @@ use locked_replica::State;
 use replica_turns::LockedReplica;
 use std::alloc::{AllocError, Global};
 use std::marker::Model;
+use std::snapshot::Snapshot;
 use std::sync::{Arc, Mutex};
 
-/// The replicas of a running cluster by number, the board of their heights, and how many frames their inboxes lost. Threads share it by `&`.
+/// The replicas of a running cluster by number, the configuration and keys that each has, the board of their heights, and how many frames
+/// their inboxes lost. Threads share it by `&`.
 pub struct RunningCluster<A: Application> {
+    config: Config,
+    ring: Arc<KeyRing>,
     replicas: Vec<Arc<LockedReplica<A>>>,
     board: Arc<Board>,
     losses: Arc<Losses>,
+    /// The states with which the replicas began, which only contracts read.
+    begun: Snapshot<Vec<State<A>>>,
 }
 
 // An own `Drop` keeps proofs short: an owner drops it by one call. See docs/WORKING.md.
 impl<A: Application> Drop for RunningCluster<A> {
     fn drop(self) {
         let RunningCluster {
+            config: _config,
+            ring: _ring,
             replicas: _replicas,
             board: _board,
             losses: _losses,
+            begun: _begun,
         } = self;
     }
 }
@@ -44,7 +54,13 @@ impl<A: Application> Model for RunningCluster<A> {
 
     ghost Value = { RunningClusterView };
 
-    ghost view = { λ c. record { replicas = vec_len c.replicas; board = arc_value c.board } };
+    ghost view = { λ c. record {
+      replicas = vec_len c.replicas;
+      board = arc_value c.board;
+      config = c.config;
+      ring = arc_value c.ring;
+      begun = c.begun.value.items;
+    } };
 
     ghost invariant = { λ c. (vec_len c.replicas ≡ replicas_of (arc_value c.board)) × (0 < vec_len c.replicas) };
 }
@@ -156,7 +172,7 @@ fn workers_of<A: Application>(
 }
 
 impl<A: Application> RunningCluster<A> {
-    /// The cluster of these replicas, a worker for each, which ends `rounds` rounds, and `readers` readers' seats of
+    /// The cluster of these replicas, which have this configuration and the keys of the first of them; a worker for each, which ends `rounds` rounds, and `readers` readers' seats of
     /// the board, besides those of the workers. The replicas must be in ascending order of their numbers, from 0 on; a
     /// worker drops its events if its replica has another number. The only error is allocation failure, which is also
     /// answered if the readers' seats, with one for each worker, are more than 2^32 - 1.
@@ -169,6 +185,10 @@ impl<A: Application> RunningCluster<A> {
     ) -> Result<(RunningCluster<A>, Vec<Worker<A>>, Vec<ReaderSeat>), AllocError>
         requires { vec_len states ≡ config.now.replicas }
         ensures replicas { IfOk result (λ r. r.0.replicas ≡ config.now.replicas) }
+        ensures config { IfOk result (λ r. r.0.config ≡ config.now) }
+        ensures ring { IfOk result (λ r. r.0.ring ≡ first_ring states.items) }
+        // The cluster begins with these states.
+        ensures begun { IfOk result (λ r. r.0.begun ≡ states.items) }
         // The worker of each replica, by number.
         ensures workers { IfOk result (λ r. r.1.items ≡ all_workers config.now.replicas config.now.frames rounds) }
         ensures reader_count { IfOk result (λ r. vec_len r.2 ≡ readers) }
@@ -176,6 +196,7 @@ impl<A: Application> RunningCluster<A> {
     {
         let (board, seats, looking, reading) = board_of(alloc, config, readers)?;
         let board = Arc::new(alloc, board)?;
+        let begun = Snapshot::of(&states);
         let (replicas, ring) = share_all(alloc, states)?;
         let losses = Arc::new(alloc, Losses::new(alloc, config.replicas)?)?;
         let workers = workers_of(
@@ -192,9 +213,12 @@ impl<A: Application> RunningCluster<A> {
         )?;
         Ok((
             RunningCluster {
+                config: *config,
+                ring,
                 replicas,
                 board,
                 losses,
+                begun,
             },
             workers,
             reading,
@@ -209,11 +233,29 @@ impl<A: Application> RunningCluster<A> {
         self.replicas.len()
     }
 
+    /// The configuration that each replica has.
+    pub fn config(&self) -> &Config
+        ensures { result.now ≡ self.now.config }
+    {
+        &self.config
+    }
+
     /// The replica with this number. Locking it waits until no other thread has it locked.
     pub fn replica(&self, id: ReplicaId) -> &LockedReplica<A>
         requires { id < self.now.replicas }
     {
         &self.replicas[usize::from(id.number())]
+    }
+
+    /// Whether the state is that of the replica with this number. A lock doesn't tell which state it guards, so this compares the number,
+    /// the configuration and the keys.
+    pub fn is_state_of(&self, id: ReplicaId, state: &State<A>) -> bool
+        ensures own { result ≡ true → IsStateOf self.now id state.now }
+        ensures other { result ≡ false → IsStateOf self.now id state.now → ⊥ }
+    {
+        state.id() == id
+            && are_same(state.config(), &self.config)
+            && have_same_keys(state.ring(), &self.ring)
     }
 
     /// How many frames the full inbox of this replica has lost; 0 if there is no such replica.

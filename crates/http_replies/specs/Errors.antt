@@ -52,6 +52,7 @@ service_status service.NotLastHeight = 400
 service_status service.HistoryFull = 503
 service_status service.TimedOut = 500
 service_status service.Stopping = 503
+service_status service.Stranger = 500
 
 abbrev pub service_kind : ServiceFault → ErrorKind
 service_kind service.NoReplica = kind.InvalidParams
@@ -60,6 +61,7 @@ service_kind service.NotLastHeight = kind.InvalidParams
 service_kind service.HistoryFull = kind.Internal
 service_kind service.TimedOut = kind.Internal
 service_kind service.Stopping = kind.Internal
+service_kind service.Stranger = kind.Internal
 
 abbrev pub service_text : ServiceFault → List ℕ
 service_text service.NoReplica = codes "the cluster has no such replica"
@@ -68,6 +70,7 @@ service_text service.NotLastHeight = codes "the application answers as of its la
 service_text service.HistoryFull = codes "the replica's history has no entries left for clients"
 service_text service.TimedOut = codes "timed out waiting for tx to be included in a block"
 service_text service.Stopping = codes "the cluster was asked to stop"
+service_text service.Stranger = codes "the state of this replica is not its own"
 
 -- ---- why the pool refused a transaction; if the application refused it, that is an answer and no error
 

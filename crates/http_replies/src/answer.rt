@@ -44,6 +44,8 @@ pub enum ServiceFault {
     TimedOut,
     /// The cluster was asked to stop.
     Stopping,
+    /// The state that the replica's lock guards is another replica's.
+    Stranger,
 }
 
 /// What is answered. Byte strings are written in base64 or as a hash, so they may have any bytes.

@@ -86,7 +86,7 @@ pub(crate) fn service_status(fault: ServiceFault) -> u16
 {
     match fault {
         ServiceFault::NoReplica | ServiceFault::NotLastHeight => 400,
-        ServiceFault::NotCommitted | ServiceFault::TimedOut => 500,
+        ServiceFault::NotCommitted | ServiceFault::TimedOut | ServiceFault::Stranger => 500,
         ServiceFault::HistoryFull | ServiceFault::Stopping => 503,
     }
 }
@@ -110,6 +110,7 @@ fn service_text(fault: ServiceFault) -> &'static str
         ServiceFault::HistoryFull => "the replica's history has no entries left for clients",
         ServiceFault::TimedOut => "timed out waiting for tx to be included in a block",
         ServiceFault::Stopping => "the cluster was asked to stop",
+        ServiceFault::Stranger => "the state of this replica is not its own",
     }
 }
 

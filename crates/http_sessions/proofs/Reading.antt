@@ -1,5 +1,5 @@
 -- Bytes that are read into a buffer after others, until they are a head.
-use Rattle.std.proofs.Common.{◌≡◌, ℕ, ◌+◌, ◌<◌, ◌≤◌, List, [], ◌++◌, length, take, ap, subst, sym, ◌∙◌, append-nil, arith, inl, inr}
+use Rattle.std.proofs.Common.{◌≡◌, ℕ, ◌+◌, ◌<◌, ◌≤◌, List, ◌++◌, length, take, ap, subst, sym, ◌∙◌, append-nil, arith, inl, inr}
 use Rattle.std.proofs.Common.{length-append, length-take-le}
 use Rattle.std.specs.Prelude.{Option, Result, Err}
 use Rattle.std.specs.Io.KnownBytes.{Consumes, IsAtEnd}

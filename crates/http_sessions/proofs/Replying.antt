@@ -1,5 +1,5 @@
 -- Exchanges with the reply to them, or that memory ran out.
-use Rattle.std.proofs.Common.{◌≡◌, ℕ, ◌<◌, List, [], ◌∷◌, zero, suc, refl, inl, inr, arith}
+use Rattle.std.proofs.Common.{◌≡◌, ℕ, ◌<◌, List, [], zero, suc, inl, inr, arith}
 use Rattle.std.specs.Prelude.{◌⊎◌, Some, Result, Ok, Err, IfOk, MatchResult}
 use Rattle.std.specs.List.{FoldsTo}
 use Rattle.http_replies.specs.Answers.{AnswerView}

@@ -1,5 +1,6 @@
 -- The metrics of replicas, one after the other.
-use Rattle.std.proofs.Common.{◌≡◌, ℕ, ◌+◌, List, [], ◌∷◌, ◌++◌, zero, suc, refl, ap, sym, subst, ◌∙◌, map, arith}
+use Rattle.std.proofs.Common.{◌≡◌, ℕ, ◌+◌, List, [], ◌∷◌, ◌++◌, suc, ap, sym, subst, ◌∙◌, length, map, arith}
+use Rattle.std.specs.Prelude.{Some, None}
 use Rattle.std.proofs.lemmas.List.{map-append}
 use Rattle.std.specs.List.{FoldsTo, range_with_len}
 use Rattle.std.proofs.lemmas.Fn.{FoldsTo-push}
@@ -19,9 +20,17 @@ each_more all m n each is =
 
 -- one exchange more
 pub shown_more : {T : Type 0} (makes : T → HttpExchange → T → Type 0) (before now after : T) (all : List ReplicaMetrics)
-    (m : ReplicaMetrics) (r : ℕ) → FoldsTo makes before (shown all) now → m.replica ≡ r → makes now (Inquired (Shows r m)) after
+    (m : ReplicaMetrics) (r : ℕ) → FoldsTo makes before (shown all) now → m.replica ≡ r → makes now (Inquired (Shows r (Some m))) after
     → FoldsTo makes before (shown (all ++ m ∷ [])) after
 shown_more makes before now after all m r made is asked =
-    subst (λ l. FoldsTo makes before l after) (sym (map-append (λ x. Inquired (Shows x.replica x)) all (m ∷ [])))
-    (FoldsTo-push makes before (shown all) now (Inquired (Shows m.replica m)) after made
-    (subst (λ k. makes now (Inquired (Shows k m)) after) (sym is) asked))
+    subst (λ l. FoldsTo makes before l after) (sym (map-append (λ x. Inquired (Shows x.replica (Some x))) all (m ∷ [])))
+    (FoldsTo-push makes before (shown all) now (Inquired (Shows m.replica (Some m))) after made
+    (subst (λ k. makes now (Inquired (Shows k (Some m))) after) (sym is) asked))
+
+-- the next replica showed none
+pub stranger_met : {T : Type 0} (makes : T → HttpExchange → T → Type 0) (before now after : T) (all : List ReplicaMetrics) (r : ℕ)
+    → FoldsTo makes before (shown all) now → length all ≡ r → makes now (Inquired (Shows r None)) after
+    → FoldsTo makes before (shown all ++ Inquired (Shows (length all) None) ∷ []) after
+stranger_met makes before now after all r made is asked =
+    FoldsTo-push makes before (shown all) now (Inquired (Shows (length all) None)) after made
+    (subst (λ k. makes now (Inquired (Shows k None)) after) (sym is) asked)

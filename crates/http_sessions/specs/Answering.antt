@@ -1,13 +1,13 @@
 -- How a request is answered: the exchanges that it makes, and the answer by what the replicas answered.
 use Rattle.std.specs.Prelude.{◌≡◌, ◌⊎◌, ◌≢◌, ℕ, zero, suc, ◌<◌, ◌≤◌, ◌==◌, min}
-use Rattle.std.specs.Prelude.{List, [], ◌∷◌, map, Option, Some, None, unwrap_or, Result, Ok, Err, MatchResult, Vec}
+use Rattle.std.specs.Prelude.{List, [], ◌∷◌, ◌++◌, map, Option, Some, None, IfSome, unwrap_or, Result, Ok, Err, MatchResult, Vec}
 use Rattle.std.specs.Prelude.{if◌then◌else◌}
 use Rattle.std.specs.declared.alloc.Global.{Global}
 use Rattle.std.specs.List.{FoldsTo, range_with_len}
 use Rattle.ledger_model.specs.Values.{Value}
 use Rattle.ledger_model.specs.declared.reply.QueryAnswer.{QueryAnswer}
 use Rattle.ledger_model.specs.declared.reply.SubmitRefusal.{SubmitRefusal}
-use Rattle.ledger_model.specs.Sessions.{Exchange, Submits, Queries, Heights, Blocks, Fault as ReplicaFault, Full, Want_of_memory}
+use Rattle.ledger_model.specs.Sessions.{Submits, Queries, Heights, Blocks, Fault as ReplicaFault, Full, Want_of_memory}
 use Rattle.http_requests.specs.declared.fault.RequestFault.{RequestFault}
 use Rattle.http_requests.specs.declared.fault.RequestFault.TheVariants as fault
 use Rattle.http_requests.specs.declared.request.Request.{Request}
@@ -20,11 +20,34 @@ use Rattle.http_replies.specs.declared.metrics.ReplicaMetrics.{ReplicaMetrics}
 use Rattle.http_replies.specs.Answers.{AnswerView, Page, Health, Status, AbciInfo, AbciQuery, Block, UnconfirmedTxs, BroadcastSync}
 use Rattle.http_replies.specs.Answers.{BroadcastCommit, Metrics, Fault, Unanswered}
 use Rattle.http_replies.specs.Replies.{reply_bytes}
+use Rattle.http_sessions.specs.declared.targets.AppInfo.{AppInfo}
 use Rattle.http_sessions.specs.declared.targets.Delivery.{Delivery}
 use Rattle.http_sessions.specs.declared.targets.Delivery.TheVariants as delivery
+use Rattle.http_sessions.specs.declared.targets.PoolSize.{PoolSize}
+use Rattle.http_sessions.specs.declared.targets.Progress.{Progress}
 use Rattle.http_sessions.specs.Exchanges.{HttpExchange, Asked, Inquired, Shows, Progresses, Pools, Infos, Spreads, Waits}
 
--- ---- answers by what a replica answered
+-- ---- answers by what a replica answered; if it showed nothing, its lock guards another replica's state
+
+-- how far the replica is
+abbrev pub status_answer : ℕ → Option Progress → AnswerView
+status_answer r (Some progress) = Status r progress.rounds progress.height
+status_answer r None = Unanswered service.Stranger
+
+-- what its application says of itself
+abbrev pub info_answer : Option AppInfo → AnswerView
+info_answer (Some info) = AbciInfo info.kind info.height info.hash
+info_answer None = Unanswered service.Stranger
+
+-- how many transactions wait in its pool
+abbrev pub pool_answer : Option PoolSize → AnswerView
+pool_answer (Some size) = UnconfirmedTxs size.transactions size.bytes
+pool_answer None = Unanswered service.Stranger
+
+-- its metrics
+abbrev pub metrics_answer : Option ReplicaMetrics → AnswerView
+metrics_answer (Some m) = Metrics (m ∷ [])
+metrics_answer None = Unanswered service.Stranger
 
 -- a replica took no event
 abbrev pub fault_answer : ReplicaFault → AnswerView
@@ -43,11 +66,12 @@ unpooled_answer tx (Ok refusal) = BroadcastCommit tx (commitment.Refused refusal
 unpooled_answer tx (Err f) = fault_answer f
 
 -- that of a submit which the pool took, by what became of the transaction
-abbrev pub delivery_answer : ℕ → List ℕ → ℕ → Delivery → AnswerView
-delivery_answer r tx index (delivery.Committed height code) =
+abbrev pub delivery_answer : ℕ → List ℕ → ℕ → Option Delivery → AnswerView
+delivery_answer r tx index (Some (delivery.Committed height code)) =
     BroadcastCommit tx (commitment.Committed (record { replica = r; index = index }) height code)
-delivery_answer r tx index delivery.TimedOut = Unanswered service.TimedOut
-delivery_answer r tx index delivery.Stopping = Unanswered service.Stopping
+delivery_answer r tx index (Some delivery.TimedOut) = Unanswered service.TimedOut
+delivery_answer r tx index (Some delivery.Stopping) = Unanswered service.Stopping
+delivery_answer r tx index None = Unanswered service.Stranger
 
 -- a query's
 abbrev pub query_answer : List ℕ → Result QueryAnswer ReplicaFault → AnswerView
@@ -68,11 +92,11 @@ block_answer h (Err f) = fault_answer f
 -- ---- the exchanges with replica `r` by which a question is answered, and the answer
 
 abbrev pub AnswersStatus : ℕ → List HttpExchange → AnswerView → Type 0
-AnswersStatus r (Inquired (Progresses q progress) ∷ []) a = (q ≡ r) × (a ≡ Status r progress.rounds progress.height)
+AnswersStatus r (Inquired (Progresses q progress) ∷ []) a = (q ≡ r) × (a ≡ status_answer r progress)
 AnswersStatus r _ a = ⊥
 
 abbrev pub AnswersInfo : ℕ → List HttpExchange → AnswerView → Type 0
-AnswersInfo r (Inquired (Infos q info) ∷ []) a = (q ≡ r) × (a ≡ AbciInfo info.kind info.height info.hash)
+AnswersInfo r (Inquired (Infos q info) ∷ []) a = (q ≡ r) × (a ≡ info_answer info)
 AnswersInfo r _ a = ⊥
 
 -- a query at no height: as of the last block
@@ -109,7 +133,7 @@ AnswersBlockQuestion r (Some h) exchanges a = AnswersBlockAt r h exchanges a
 AnswersBlockQuestion r None exchanges a = AnswersLastBlock r exchanges a
 
 abbrev pub AnswersPool : ℕ → List HttpExchange → AnswerView → Type 0
-AnswersPool r (Inquired (Pools q size) ∷ []) a = (q ≡ r) × (a ≡ UnconfirmedTxs size.transactions size.bytes)
+AnswersPool r (Inquired (Pools q size) ∷ []) a = (q ≡ r) × (a ≡ pool_answer size)
 AnswersPool r _ a = ⊥
 
 -- only a transaction that the pool took is submitted to the other replicas, too
@@ -129,19 +153,32 @@ AnswersCommit r tx (Asked (Submits q t (Ok (Ok index))) ∷ Inquired (Spreads p 
 AnswersCommit r tx _ a = ⊥
 
 abbrev pub AnswersMetrics : ℕ → List HttpExchange → AnswerView → Type 0
-AnswersMetrics r (Inquired (Shows q m) ∷ []) a = (q ≡ r) × (m.replica ≡ r) × (a ≡ Metrics (m ∷ []))
+AnswersMetrics r (Inquired (Shows q metrics) ∷ []) a = (q ≡ r) × IfSome metrics (λ m. m.replica ≡ r) × (a ≡ metrics_answer metrics)
 AnswersMetrics r _ a = ⊥
 
 -- the exchanges by which replicas showed these metrics
 abbrev pub shown : List ReplicaMetrics → List HttpExchange
-shown all = map (λ m. Inquired (Shows m.replica m)) all
+shown all = map (λ m. Inquired (Shows m.replica (Some m))) all
 
--- the metrics of this number of replicas, from 0 on
-pub record AnswersAllMetrics (count : ℕ) (exchanges : List HttpExchange) (a : AnswerView) : Type 0 where
+-- this number of replicas, from 0 on, showed their metrics, which are the answer
+pub record ShowsAll (count : ℕ) (exchanges : List HttpExchange) (a : AnswerView) : Type 0 where
   pub all : List ReplicaMetrics
   pub each : map (λ m. m.replica) all ≡ range_with_len 0 count
   pub asked : exchanges ≡ shown all
   pub answer : a ≡ Metrics all
+
+-- of this number of replicas, those before `stranger` showed their metrics, and `stranger` didn't: no further replica was asked
+pub record MeetsStranger (count : ℕ) (exchanges : List HttpExchange) (a : AnswerView) : Type 0 where
+  pub stranger : ℕ
+  pub below : stranger < count
+  pub before : List ReplicaMetrics
+  pub each : map (λ m. m.replica) before ≡ range_with_len 0 stranger
+  pub asked : exchanges ≡ shown before ++ Inquired (Shows stranger None) ∷ []
+  pub answer : a ≡ Unanswered service.Stranger
+
+-- the metrics of this number of replicas, if all showed theirs
+abbrev pub AnswersAllMetrics : ℕ → List HttpExchange → AnswerView → Type 0
+AnswersAllMetrics count exchanges a = ShowsAll count exchanges a ⊎ MeetsStranger count exchanges a
 
 -- ---- a whole request
 

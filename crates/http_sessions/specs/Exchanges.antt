@@ -1,5 +1,5 @@
 -- Exchanges with a replica: those of a client session, and those that HTTP alone has.
-use Rattle.std.specs.Prelude.{ℕ, List}
+use Rattle.std.specs.Prelude.{ℕ, List, Option}
 use Rattle.ledger_model.specs.Sessions.{Exchange}
 use Rattle.http_replies.specs.declared.metrics.ReplicaMetrics.{ReplicaMetrics}
 use Rattle.http_sessions.specs.declared.targets.AppInfo.{AppInfo}
@@ -7,14 +7,14 @@ use Rattle.http_sessions.specs.declared.targets.Delivery.{Delivery}
 use Rattle.http_sessions.specs.declared.targets.PoolSize.{PoolSize}
 use Rattle.http_sessions.specs.declared.targets.Progress.{Progress}
 
--- what HTTP alone asks a replica, and the answer
+-- what HTTP alone asks a replica, and the answer: none if the state that the replica's lock guards is another replica's
 pub data Inquiry : Type 0 where
-  Shows : (replica : ℕ) (metrics : ReplicaMetrics) → Inquiry
-  Progresses : (replica : ℕ) (progress : Progress) → Inquiry
-  Pools : (replica : ℕ) (size : PoolSize) → Inquiry
-  Infos : (replica : ℕ) (info : AppInfo) → Inquiry
+  Shows : (replica : ℕ) (metrics : Option ReplicaMetrics) → Inquiry
+  Progresses : (replica : ℕ) (progress : Option Progress) → Inquiry
+  Pools : (replica : ℕ) (size : Option PoolSize) → Inquiry
+  Infos : (replica : ℕ) (info : Option AppInfo) → Inquiry
   Spreads : (replica : ℕ) (tx : List ℕ) → Inquiry
-  Waits : (replica : ℕ) (tx : List ℕ) (index : ℕ) (delivery : Delivery) → Inquiry
+  Waits : (replica : ℕ) (tx : List ℕ) (index : ℕ) (delivery : Option Delivery) → Inquiry
 
 -- an exchange with a replica: as in a client session, or an inquiry
 pub data HttpExchange : Type 0 where

@@ -6,7 +6,7 @@ use Rattle.http_requests.specs.Limits.{max_head_len}
 use Rattle.http_requests.specs.declared.fault.RequestFault.{RequestFault}
 use Rattle.http_requests.specs.declared.fault.RequestFault.TheVariants as request_fault
 use Rattle.http_requests.specs.declared.request.Request.{Request}
-use Rattle.http_replies.specs.Answers.{AnswerView, Fault}
+use Rattle.http_replies.specs.Answers.{Fault}
 use Rattle.http_replies.specs.Replies.{reply_bytes}
 use Rattle.http_sessions.specs.declared.request_end.RequestEnd.{RequestEnd}
 use Rattle.http_sessions.specs.declared.request_end.RequestEnd.TheVariants.{Answered, OutOfMemory, Silent}

@@ -1,13 +1,13 @@
 //! Answers a request by what the replicas answer.
-ghost use Rattle.std.specs.Prelude.{◌≡◌, ◌<◌, ◌≤◌, min, [], map, vec_capacity};
+ghost use Rattle.std.specs.Prelude.{◌≡◌, ◌<◌, ◌≤◌, ◌++◌, ◌∷◌, min, true, false, None, [], length, map, vec_capacity};
 ghost use Rattle.std.specs.List.{FoldsTo, range_with_len};
 ghost use Rattle.http_requests.specs.Questions.{question_view};
-ghost use Rattle.http_sessions.specs.Exchanges.{Makes};
+ghost use Rattle.http_sessions.specs.Exchanges.{Makes, Inquired, Shows};
 ghost use Rattle.http_sessions.specs.Answering.{RepliesOrLoses, AnswersRequest, AnswersQuestion, AnswersIf, AnswersAt, AnswersStatus, AnswersInfo, AnswersQueryNow, AnswersQueryAt, AnswersQueryIf, AnswersBlockAt, AnswersLastBlock, AnswersBlockQuestion, AnswersPool, AnswersSync, AnswersCommit, AnswersMetrics, AnswersAllMetrics, most_replicas, shown};
 
 use crate::answers::{
-    block_answer, delivery_answer, fault_answer, query_answer, query_answer_at, reply_to,
-    sync_answer,
+    block_answer, delivery_answer, fault_answer, info_answer, pool_answer, query_answer,
+    query_answer_at, reply_to, status_answer, sync_answer,
 };
 use crate::targets::HttpTargets;
 use http_replies::{Answer, Commitment, ReplicaMetrics, ServiceFault};
@@ -28,14 +28,7 @@ fn status<T: HttpTargets>(alloc: Global, targets: &mut T, replica: ReplicaId) ->
     ensures count { T.replicas targets.new ≡ T.replicas targets.old }
 {
     let progress = targets.progress(replica);
-    reply_to(
-        alloc,
-        &Answer::Status {
-            replica,
-            round: progress.rounds,
-            height: progress.height,
-        },
-    )
+    reply_to(alloc, &status_answer(replica, progress))
 }
 
 /// What a replica's application says of itself.
@@ -45,14 +38,7 @@ fn app_info<T: HttpTargets>(alloc: Global, targets: &mut T, replica: ReplicaId) 
     ensures count { T.replicas targets.new ≡ T.replicas targets.old }
 {
     let info = targets.info(replica);
-    reply_to(
-        alloc,
-        &Answer::AbciInfo {
-            kind: info.kind,
-            height: info.height,
-            hash: &info.hash,
-        },
-    )
+    reply_to(alloc, &info_answer(&info))
 }
 
 /// What a replica's application has under a key, as of its last block.
@@ -153,13 +139,7 @@ fn pool<T: HttpTargets>(alloc: Global, targets: &mut T, replica: ReplicaId) -> R
     ensures count { T.replicas targets.new ≡ T.replicas targets.old }
 {
     let size = targets.pool(replica);
-    reply_to(
-        alloc,
-        &Answer::UnconfirmedTxs {
-            count: size.transactions,
-            bytes: size.bytes,
-        },
-    )
+    reply_to(alloc, &pool_answer(size))
 }
 
 /// Submits a transaction to a replica and, if its pool takes it, to the others.
@@ -207,26 +187,36 @@ fn metrics<T: HttpTargets>(alloc: Global, targets: &mut T, replica: ReplicaId) -
     ensures replies { RepliesOrLoses result (Makes T.asks T.inquires) targets.old targets.new (AnswersMetrics replica) }
     ensures count { T.replicas targets.new ≡ T.replicas targets.old }
 {
-    let shown = [targets.metrics(replica)];
-    reply_to(alloc, &Answer::Metrics(&shown))
+    match targets.metrics(replica) {
+        Some(metrics) => reply_to(alloc, &Answer::Metrics(&[metrics])),
+        None => reply_to(alloc, &Answer::Unanswered(ServiceFault::Stranger)),
+    }
 }
 
-/// Appends the metrics of the first `count` replicas, for which there is room.
-fn add_metrics<T: HttpTargets>(targets: &mut T, count: usize, all: &mut Vec<ReplicaMetrics>)
+/// Appends the metrics of the first `count` replicas, for which there is room, and returns whether all showed theirs. If one doesn't, no
+/// further replica is asked.
+fn add_metrics<T: HttpTargets>(targets: &mut T, count: usize, all: &mut Vec<ReplicaMetrics>) -> bool
     requires few { count ≤ 256 }
     requires known { count ≤ T.replicas targets.old }
     requires empty { all.old.items ≡ [] }
     requires room { count ≤ vec_capacity all.old }
-    ensures each { map (λ m. m.replica) all.new.items ≡ range_with_len 0 count }
-    ensures made { FoldsTo (Makes T.asks T.inquires) targets.old (shown all.new.items) targets.new }
+    ensures each { map (λ m. m.replica) all.new.items ≡ range_with_len 0 (length all.new.items) }
+    ensures shown { result ≡ true → (length all.new.items ≡ count)
+        × FoldsTo (Makes T.asks T.inquires) targets.old (shown all.new.items) targets.new }
+    ensures stranger { result ≡ false → (length all.new.items < count)
+        × FoldsTo (Makes T.asks T.inquires) targets.old (shown all.new.items ++ Inquired (Shows (length all.new.items) None) ∷ []) targets.new }
     ensures count { T.replicas targets.new ≡ T.replicas targets.old }
 {
     for number in 0..count {
-        all.push_reserved(targets.metrics(ReplicaId::new(number as u8)));
+        let Some(metrics) = targets.metrics(ReplicaId::new(number as u8)) else {
+            return false;
+        };
+        all.push_reserved(metrics);
     }
+    true
 }
 
-/// The metrics of all replicas, in order.
+/// The metrics of all replicas, in order, if each shows its own.
 fn all_metrics<T: HttpTargets>(alloc: Global, targets: &mut T) -> Reply
     ensures replies { RepliesOrLoses result (Makes T.asks T.inquires) targets.old targets.new
         (AnswersAllMetrics (min (T.replicas targets.old) most_replicas)) }
@@ -234,7 +224,9 @@ fn all_metrics<T: HttpTargets>(alloc: Global, targets: &mut T) -> Reply
 {
     let count = targets.count().min(MOST_REPLICAS);
     let mut all = Vec::with_capacity(alloc, count)?;
-    add_metrics(targets, count, &mut all);
+    if !add_metrics(targets, count, &mut all) {
+        return reply_to(alloc, &Answer::Unanswered(ServiceFault::Stranger));
+    }
     reply_to(alloc, &Answer::Metrics(&all))
 }
 
@@ -303,7 +295,8 @@ fn answer_question<T: HttpTargets>(
 /// The reply to what was asked, as [`parse`](http_requests::parse) returns it.
 ///
 /// A request asks one replica: the one that it names, else replica 0; metrics, if it names none, of all. If there is no such replica, or
-/// what was asked is a fault, no replica is asked. The only error is allocation failure: then the reply is
+/// what was asked is a fault, no replica is asked. If the state that a replica's lock guards is another replica's, that is the reply, and
+/// no further replica is asked. The only error is allocation failure: then the reply is
 /// [`out_of_memory_reply`](http_replies::out_of_memory_reply), and either nothing was asked, or all that the request asks was done.
 pub fn answer<T: HttpTargets>(
     alloc: Global,

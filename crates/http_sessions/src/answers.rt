@@ -4,9 +4,9 @@ ghost use Rattle.ledger_model.specs.Sessions.{Fault as ReplicaFault};
 ghost use Rattle.client_sessions.specs.Asking.{fault_of, outcome_of};
 ghost use Rattle.http_replies.specs.Answers.{answer_view};
 ghost use Rattle.http_replies.specs.Replies.{reply_bytes};
-ghost use Rattle.http_sessions.specs.Answering.{fault_answer, sync_answer, unpooled_answer, delivery_answer, query_answer, query_answer_at, block_answer};
+ghost use Rattle.http_sessions.specs.Answering.{status_answer, info_answer, pool_answer, fault_answer, sync_answer, unpooled_answer, delivery_answer, query_answer, query_answer_at, block_answer};
 
-use crate::targets::Delivery;
+use crate::targets::{AppInfo, Delivery, PoolSize, Progress};
 use client_sessions::TargetFault;
 use http_replies::{Answer, Commitment, Receipt, ServiceFault, Submission, put_reply};
 use http_requests::RequestFault;
@@ -20,6 +20,47 @@ pub(crate) fn reply_to(alloc: Global, answer: &Answer<'_>) -> Result<Vec<u8>, Al
     let mut reply = Vec::new(alloc);
     put_reply(&mut reply, answer)?;
     Ok(reply)
+}
+
+/// How far a replica is.
+pub(crate) fn status_answer(replica: ReplicaId, progress: Option<Progress>) -> Answer<'static>
+    ensures { answer_view result ≡ status_answer replica progress }
+{
+    match progress {
+        Some(progress) => Answer::Status {
+            replica,
+            round: progress.rounds,
+            height: progress.height,
+        },
+        None => Answer::Unanswered(ServiceFault::Stranger),
+    }
+}
+
+/// What a replica's application says of itself.
+pub(crate) fn info_answer<'a>(info: &'a Option<AppInfo>) -> Answer<'a>
+    ensures { answer_view result ≡ info_answer info.now }
+{
+    match info {
+        Some(info) => Answer::AbciInfo {
+            kind: info.kind,
+            height: info.height,
+            hash: &info.hash,
+        },
+        None => Answer::Unanswered(ServiceFault::Stranger),
+    }
+}
+
+/// How many transactions wait in a replica's pool.
+pub(crate) fn pool_answer(size: Option<PoolSize>) -> Answer<'static>
+    ensures { answer_view result ≡ pool_answer size }
+{
+    match size {
+        Some(size) => Answer::UnconfirmedTxs {
+            count: size.transactions,
+            bytes: size.bytes,
+        },
+        None => Answer::Unanswered(ServiceFault::Stranger),
+    }
 }
 
 /// That a replica took no event.
@@ -58,10 +99,13 @@ pub(crate) fn delivery_answer<'a>(
     replica: ReplicaId,
     tx: &'a [u8],
     index: u32,
-    delivery: Delivery,
+    delivery: Option<Delivery>,
 ) -> Answer<'a>
     ensures { answer_view result ≡ delivery_answer replica tx.now index delivery }
 {
+    let Some(delivery) = delivery else {
+        return Answer::Unanswered(ServiceFault::Stranger);
+    };
     match delivery {
         Delivery::Committed { height, code } => Answer::BroadcastCommit {
             tx,

@@ -46,33 +46,35 @@ pub enum Delivery {
 ///
 /// Each call is one exchange, and but for `spread` it adds no entry to a history. `inquires` relates the targets before a call to the
 /// targets after it, as `asks` of [`Targets`] does.
+///
+/// A lock doesn't tell which state it guards. Each call but `spread` returns `None` if it finds another replica's state.
 pub trait HttpTargets: Targets {
-    ghost use Rattle.std.specs.Prelude.{◌≡◌, ◌<◌};
+    ghost use Rattle.std.specs.Prelude.{◌≡◌, ◌<◌, IfSome};
     ghost use Rattle.http_sessions.specs.Exchanges.{Inquiry, Shows, Progresses, Pools, Infos, Spreads, Waits};
 
     ghost inquires: { Self → Inquiry → Self → Type 0 };
 
-    /// What a replica shows of itself at one moment.
-    fn metrics(&mut self, replica: ReplicaId) -> ReplicaMetrics
+    /// What a replica shows of itself at one moment; `None` if the state that the replica's lock guards is another replica's.
+    fn metrics(&mut self, replica: ReplicaId) -> Option<ReplicaMetrics>
         requires { replica < Self.replicas self.old }
         ensures asked { inquires self.old (Shows replica result) self.new }
-        ensures replica { result.replica ≡ replica }
+        ensures replica { IfSome result (λ m. m.replica ≡ replica) }
         ensures count { Self.replicas self.new ≡ Self.replicas self.old };
 
-    /// How far a replica is.
-    fn progress(&mut self, replica: ReplicaId) -> Progress
+    /// How far a replica is; `None` if the state that the replica's lock guards is another replica's.
+    fn progress(&mut self, replica: ReplicaId) -> Option<Progress>
         requires { replica < Self.replicas self.old }
         ensures asked { inquires self.old (Progresses replica result) self.new }
         ensures count { Self.replicas self.new ≡ Self.replicas self.old };
 
-    /// How many transactions wait in a replica's pool.
-    fn pool(&mut self, replica: ReplicaId) -> PoolSize
+    /// How many transactions wait in a replica's pool; `None` if the state that the replica's lock guards is another replica's.
+    fn pool(&mut self, replica: ReplicaId) -> Option<PoolSize>
         requires { replica < Self.replicas self.old }
         ensures asked { inquires self.old (Pools replica result) self.new }
         ensures count { Self.replicas self.new ≡ Self.replicas self.old };
 
-    /// What a replica's application says of itself.
-    fn info(&mut self, replica: ReplicaId) -> AppInfo
+    /// What a replica's application says of itself; `None` if the state that the replica's lock guards is another replica's.
+    fn info(&mut self, replica: ReplicaId) -> Option<AppInfo>
         requires { replica < Self.replicas self.old }
         ensures asked { inquires self.old (Infos replica result) self.new }
         ensures count { Self.replicas self.new ≡ Self.replicas self.old };
@@ -85,8 +87,9 @@ pub trait HttpTargets: Targets {
         ensures count { Self.replicas self.new ≡ Self.replicas self.old };
 
     /// Waits until a block of a replica has the transaction that its pool took, or until it has waited for too long or is to stop. The
-    /// index is that of the submit's entry in the replica's history.
-    fn wait(&mut self, replica: ReplicaId, tx: &[u8], index: u32) -> Delivery
+    /// index is that of the submit's entry in the replica's history. `None` if the state that the replica's lock guards is another
+    /// replica's.
+    fn wait(&mut self, replica: ReplicaId, tx: &[u8], index: u32) -> Option<Delivery>
         requires { replica < Self.replicas self.old }
         ensures asked { inquires self.old (Waits replica tx.now index result) self.new }
         ensures count { Self.replicas self.new ≡ Self.replicas self.old };

@@ -211,6 +211,15 @@ pub(crate) const STOPPING: &str = "\
     {\"jsonrpc\":\"2.0\",\"id\":-1,\"error\":{\"code\":-32603,\"message\":\"Internal error\",\
     \"data\":\"the cluster was asked to stop\"}}";
 
+pub(crate) const STRANGER: &str = "\
+    HTTP/1.1 500 Internal Server Error\r\n\
+    Content-Type: application/json\r\n\
+    Content-Length: 126\r\n\
+    Connection: close\r\n\
+    \r\n\
+    {\"jsonrpc\":\"2.0\",\"id\":-1,\"error\":{\"code\":-32603,\"message\":\"Internal error\",\
+    \"data\":\"the state of this replica is not its own\"}}";
+
 pub(crate) const HISTORY_FULL: &str = "\
     HTTP/1.1 503 Service Unavailable\r\n\
     Content-Type: application/json\r\n\

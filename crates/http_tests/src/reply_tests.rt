@@ -186,6 +186,7 @@ fn each_fault_is_answered(rt: HostRuntime) {
         (Answer::Unanswered(ServiceFault::HistoryFull), HISTORY_FULL),
         (Answer::Unanswered(ServiceFault::TimedOut), TIMED_OUT),
         (Answer::Unanswered(ServiceFault::Stopping), STOPPING),
+        (Answer::Unanswered(ServiceFault::Stranger), STRANGER),
     ] {
         assert!(rt; is_reply(rt.alloc(), answer, text), "{text}");
     }

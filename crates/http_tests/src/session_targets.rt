@@ -24,6 +24,8 @@ pub(crate) struct Fake {
     pub(crate) found_height: u32,
     /// The answer to each query and block, if it is a fault.
     pub(crate) fault: Option<TargetFault>,
+    /// The replica whose lock guards another's state, if there is one.
+    pub(crate) stranger: Option<ReplicaId>,
     /// The calls: a letter and the number of the replica for each.
     pub(crate) calls: Vec<u8>,
 }
@@ -37,6 +39,7 @@ impl Fake {
             height: 12,
             found_height: 12,
             fault: None,
+            stranger: None,
             calls: Vec::new(alloc),
         }
     }
@@ -51,6 +54,14 @@ impl Fake {
         match self.fault {
             Some(fault) => Err(fault),
             None => Ok(()),
+        }
+    }
+
+    fn note_unless_stranger(&mut self, letter: u8, replica: ReplicaId) -> Option<()> {
+        self.note(letter, replica);
+        match self.stranger {
+            Some(stranger) if stranger.number() == replica.number() => None,
+            _ => Some(()),
         }
     }
 }
@@ -107,9 +118,9 @@ impl Targets for Fake {
 impl HttpTargets for Fake {
     ghost inquires = { λ _ _ _. Unit {0} };
 
-    fn metrics(&mut self, replica: ReplicaId) -> ReplicaMetrics {
-        self.note(b'M', replica);
-        ReplicaMetrics {
+    fn metrics(&mut self, replica: ReplicaId) -> Option<ReplicaMetrics> {
+        self.note_unless_stranger(b'M', replica)?;
+        Some(ReplicaMetrics {
             replica,
             rounds: 345,
             height: Height::new(12),
@@ -121,40 +132,40 @@ impl HttpTargets for Fake {
                 ignored: [0, 0, 3, 0, 0, 0, 17, 0, 0, 0, 1],
             },
             frames_lost: 2,
-        }
+        })
     }
 
-    fn progress(&mut self, replica: ReplicaId) -> Progress {
-        self.note(b'G', replica);
-        Progress {
+    fn progress(&mut self, replica: ReplicaId) -> Option<Progress> {
+        self.note_unless_stranger(b'G', replica)?;
+        Some(Progress {
             rounds: 345,
             height: Height::new(12),
-        }
+        })
     }
 
-    fn pool(&mut self, replica: ReplicaId) -> PoolSize {
-        self.note(b'P', replica);
-        PoolSize {
+    fn pool(&mut self, replica: ReplicaId) -> Option<PoolSize> {
+        self.note_unless_stranger(b'P', replica)?;
+        Some(PoolSize {
             transactions: 31,
             bytes: 19_974,
-        }
+        })
     }
 
-    fn info(&mut self, replica: ReplicaId) -> AppInfo {
-        self.note(b'I', replica);
-        AppInfo {
+    fn info(&mut self, replica: ReplicaId) -> Option<AppInfo> {
+        self.note_unless_stranger(b'I', replica)?;
+        Some(AppInfo {
             kind: AppKind::KvStore,
             height: Height::new(12),
             hash: [0; 32],
-        }
+        })
     }
 
     fn spread(&mut self, replica: ReplicaId, _tx: &[u8]) {
         self.note(b'A', replica);
     }
 
-    fn wait(&mut self, replica: ReplicaId, _tx: &[u8], _index: u32) -> Delivery {
-        self.note(b'W', replica);
-        self.delivery
+    fn wait(&mut self, replica: ReplicaId, _tx: &[u8], _index: u32) -> Option<Delivery> {
+        self.note_unless_stranger(b'W', replica)?;
+        Some(self.delivery)
     }
 }

@@ -6,7 +6,7 @@ use crate::session_targets::Fake;
 use client_sessions::TargetFault;
 use counted_streams::CountedStream;
 use http_sessions::{ConnectionFault, Delivery, RequestEnd, serve_request};
-use ledger_model::{Height, SubmitRefusal};
+use ledger_model::{Height, ReplicaId, SubmitRefusal};
 use std::alloc::{AllocError, Global};
 
 /// How a connection ended.
@@ -287,6 +287,39 @@ fn first_wrong_fault(alloc: Global, targets: &mut Fake) -> Option<&'static str> 
 fn the_fault_of_a_replica_is_a_reply(rt: HostRuntime) {
     let mut targets = Fake::new(rt.alloc());
     assert_eq!(rt; first_wrong_fault(rt.alloc(), &mut targets), None);
+}
+
+/// Questions to replica 2, whose lock guards another's state, and one to all replicas, with the calls that they make.
+const OF_A_STRANGER: [(&str, &str); 6] = [
+    ("/status?replica=2", "G2"),
+    ("/abci_info?replica=2", "I2"),
+    ("/num_unconfirmed_txs?replica=2", "P2"),
+    ("/broadcast_tx_commit?tx=\"a\"&replica=2", "S2A2W2"),
+    ("/metrics?replica=2", "M2"),
+    ("/metrics", "M0M1M2"),
+];
+
+/// The first of these questions that has another reply than that about a stranger, or other calls.
+fn first_wrong_stranger(alloc: Global, targets: &mut Fake) -> Option<&'static str> {
+    for (target, calls) in OF_A_STRANGER {
+        if !is_answer(
+            alloc,
+            targets,
+            target.as_bytes(),
+            calls.as_bytes(),
+            STRANGER,
+        ) {
+            return Some(target);
+        }
+    }
+    None
+}
+
+#[test]
+fn a_stranger_shows_nothing_and_no_replica_after_it_is_asked(rt: HostRuntime) {
+    let mut targets = Fake::new(rt.alloc());
+    targets.stranger = Some(ReplicaId::new(2));
+    assert_eq!(rt; first_wrong_stranger(rt.alloc(), &mut targets), None);
 }
 
 #[test]

@@ -1,4 +1,4 @@
-use Rattle.std.proofs.Common.{sym, ◌∙◌, ◌≤◌, length, subst}
+use Rattle.std.proofs.Common.{sym, ◌∙◌, ◌≤◌, subst}
 use Rattle.std.proofs.Math.Nat.{le_refl}
 use Rattle.ledger_model.specs.Commits.{commits_of}
 use Rattle.locked_replica.specs.Views.{reply_lent}
@@ -14,7 +14,6 @@ returns-in-Some-delivered_at-clause-found g c =
 
 pub returns-in-Some-delivered_at-clause-delivery : goal.returns-in-Some-delivered_at-clause-delivery
 returns-in-Some-delivered_at-clause-delivery g c = record {
-  state = c.args.state.now;
   replay = c.len-index-end.ensures.replay;
   after = c.args.first;
   later = le_refl c.args.first;
@@ -34,3 +33,6 @@ returns-clause-found g c =
     sym (none_left (commits_of s.config s.id s.entries) s.entries c.args.tx.now c.loop-index.index
     (subst (λ n. n ≤ c.loop-index.index) c.len-index-end.ensures.len c.loop-index-test.false))
     ∙ c.loop-index.invariant
+
+pub returns-clause-undelivered : goal.returns-clause-undelivered
+returns-clause-undelivered g c = record { replay = c.len-index-end.ensures.replay; none = sym (returns-clause-found g c) }

@@ -6,7 +6,6 @@ returns-clause-reply g c = ap (λ h. record { height = h; hash = c.info-info.res
 
 pub returns-clause-shown : goal.returns-clause-shown
 returns-clause-shown g c = record {
-  state = c.args.state.now;
   replay = c.len.ensures.replay;
   kind = ap (λ config. config.kind) c.config.ensures;
   reply = ap (λ h. record { height = h; hash = c.info-info.result.hash }) c.new.ensures ∙ c.info-info.ensures;

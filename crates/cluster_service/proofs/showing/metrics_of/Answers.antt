@@ -3,7 +3,6 @@ use Rattle.cluster_service.proofs.showing.metrics_of.Goals as goal
 
 pub returns-clause-shown : goal.returns-clause-shown
 returns-clause-shown g c = record {
-  state = c.args.state.now;
   replay = c.len.ensures.replay;
   account = c.is_mute.ensures.account;
   own_key = c.id.ensures.own_key;

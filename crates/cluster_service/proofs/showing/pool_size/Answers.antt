@@ -4,7 +4,6 @@ use Rattle.cluster_service.proofs.showing.pool_size.Goals as goal
 
 pub returns-clause-shown : goal.returns-clause-shown
 returns-clause-shown g c = record {
-  state = c.args.state.now;
   replay = c.len.ensures.replay;
   transactions = c.waiting.ensures;
   bytes = c.bytes_in.ensures ∙ ap (λ l. min (sum_by length l) _) c.pool.ensures;

@@ -3,7 +3,6 @@ use Rattle.cluster_service.proofs.showing.progress_of.Goals as goal
 
 pub returns-clause-shown : goal.returns-clause-shown
 returns-clause-shown g c = record {
-  state = c.args.state.now;
   replay = c.len.ensures.replay;
   rounds = c.clock.ensures;
   height = c.new.ensures ∙ c.height.ensures.height;

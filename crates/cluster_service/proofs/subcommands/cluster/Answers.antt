@@ -1,9 +1,9 @@
 use Rattle.std.proofs.Common.{inl, inr, refl}
 use Rattle.std.proofs.KnownBytes.{Keeps-refl}
-use Rattle.std.proofs.lemmas.Result.{IfErr-weaker}
+use Rattle.std.specs.Prelude.{Ok, Err}
 use Rattle.byte_streams.proofs.Faults.{passed}
 use Rattle.cluster_service.specs.HistoriesFiles.{bytes_in}
-use Rattle.cluster_service.specs.RunFaults.{EndsCluster, IsReportFault}
+use Rattle.cluster_service.specs.RunFaults.{EndsCluster}
 use Rattle.cluster_service.proofs.ReportingLemmas.{failed_with, nothing_ran, ran}
 use Rattle.cluster_service.proofs.subcommands.cluster.Goals as goal
 
@@ -29,12 +29,16 @@ returns-in_err-left-clause-fault g c =
     passed _ c.in_err-left.field-0.0 (EndsCluster empty empty a a) c.from_residual-in_err-left.ensures.1
     (inr (c.in_err-left.ensures.fault, (Keeps-refl a, refl)))
 
-pub returns-clause-reports : goal.returns-clause-reports
-returns-clause-reports g c = ran c.args.settings.now c.report.result _ _ _ _ c.report.ensures.reports
+pub returns-in_err-ended-clause-reports : goal.returns-in_err-ended-clause-reports
+returns-in_err-ended-clause-reports g c = failed_with _ _ _ _ c.from_residual-in_err-ended.ensures.1
+    (ran c.args.settings.now (Err c.in_err-ended.field-0.0) _ _ _ _ c.in_err-ended.ensures.reports)
 
-pub returns-clause-fault : goal.returns-clause-fault
-returns-clause-fault g c =
+pub returns-in_err-ended-clause-fault : goal.returns-in_err-ended-clause-fault
+returns-in_err-ended-clause-fault g c =
     let empty = c.args.file.now in
-    IfErr-weaker c.report.result (IsReportFault empty)
-    (EndsCluster empty c.report.new.file (g.W.Write.contents c.args.writer.now) (g.W.Write.contents c.report.new.writer)) (λ e is. inl is)
-    c.report.ensures.fault
+    passed _ c.in_err-ended.field-0.0
+    (EndsCluster empty c.report.new.file (g.W.Write.contents c.args.writer.now) (g.W.Write.contents c.report.new.writer))
+    c.from_residual-in_err-ended.ensures.1 (inl c.in_err-ended.ensures.fault)
+
+pub returns-clause-reports : goal.returns-clause-reports
+returns-clause-reports g c = ran c.args.settings.now (Ok c.in_ok-ended.ended) _ _ _ _ c.in_ok-ended.ensures.reports

@@ -3,4 +3,4 @@ use Rattle.std.proofs.Common.{◌≡◌, ◌≤◌}
 use Rattle.cluster_service.proofs.waiting.wait_for.Given as goal
 
 abbrev pub invariant-loop-look : goal.invariant-loop-look
-invariant-loop-look g l = (l.seat.board ≡ l.initial.seat.board) × (l.fn.index ≤ l.next)
+invariant-loop-look g l = (l.seat.board ≡ l.initial.seat.board) × (l.awaited.index ≤ l.next)

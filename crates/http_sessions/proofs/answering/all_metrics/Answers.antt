@@ -1,18 +1,36 @@
-use Rattle.std.proofs.Common.{refl, ap, subst, ◌∙◌, min}
+use Rattle.std.proofs.Common.{refl, ap, subst, ◌∙◌, ◌<◌, ◌++◌, ◌∷◌, [], length, min, inl, inr, None}
+use Rattle.std.specs.List.{range_with_len}
 use Rattle.http_replies.specs.Answers.{Metrics}
-use Rattle.http_sessions.specs.Answering.{AnswersAllMetrics, shown}
+use Rattle.http_sessions.specs.Exchanges.{Inquired, Shows}
+use Rattle.http_sessions.specs.Answering.{shown}
 use Rattle.http_sessions.proofs.Replying.{replied}
 use Rattle.http_sessions.proofs.answering.all_metrics.Goals as goal
 
+pub returns-then-not-add_metrics-clause-replies : goal.returns-then-not-add_metrics-clause-replies
+returns-then-not-add_metrics-clause-replies g c =
+    let before = c.add_metrics.new.all.items in
+    let met = c.add_metrics.ensures.stranger c.if-not-add_metrics.true in
+    replied _ _ _ _ _ _ (shown before ++ Inquired (Shows (length before) None) ∷ []) _ met.1
+    (inr (record {
+      stranger = length before;
+      below = subst (λ n. length before < n) (c.min-count.ensures ∙ ap (λ n. min n 256) c.count.ensures) met.0;
+      before = before;
+      each = c.add_metrics.ensures.each;
+      asked = refl;
+      answer = refl;
+    }))
+    c.reply_to.ensures
+
 pub returns-clause-replies : goal.returns-clause-replies
 returns-clause-replies g c =
-    replied _ _ _ _ _ _ (shown c.add_metrics.new.all.items) _ c.add_metrics.ensures.made
-    (subst (λ n. AnswersAllMetrics n (shown c.add_metrics.new.all.items) (Metrics c.deref.result.now))
-    (c.min-count.ensures ∙ ap (λ n. min n 256) c.count.ensures)
-    (record {
-      all = c.add_metrics.new.all.items;
-      each = c.add_metrics.ensures.each;
+    let all = c.add_metrics.new.all.items in
+    let showed = c.add_metrics.ensures.shown c.if-not-add_metrics.false in
+    replied _ _ _ _ _ _ (shown all) _ showed.1
+    (inl (record {
+      all = all;
+      each = c.add_metrics.ensures.each
+          ∙ ap (range_with_len 0) (showed.0 ∙ c.min-count.ensures ∙ ap (λ n. min n 256) c.count.ensures);
       asked = refl;
       answer = ap Metrics c.deref.ensures.value;
     }))
-    c.reply_to.ensures
+    c.reply_to-2.ensures
