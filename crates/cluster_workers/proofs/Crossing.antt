@@ -17,5 +17,15 @@ module _ (A : RattleType) (g : Ghosts A.Denot) where
   pub cluster_sync : IsSend A → IsSync (cluster.the_row A g)
   cluster_sync s = view_sync (inside.the_row A g) _ _ _ _ (recorded_sync (inside.the_field A g).row _ _ (inside.the_type A g).to_one
       (struct_sync (shape (inside.the_type A g))
-      (search (state.the_send, board.the_send, board.the_sync, key_ring.the_send, key_ring.the_sync, losses.the_send, losses.the_sync,
-      config.the_sync, sendable, crosses) depth 14)))
+      (search (
+        state.the_send,
+        board.the_send,
+        board.the_sync,
+        key_ring.the_send,
+        key_ring.the_sync,
+        losses.the_send,
+        losses.the_sync,
+        config.the_sync,
+        sendable,
+        crosses,
+      ) depth 14)))
