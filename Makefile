@@ -1,7 +1,7 @@
 # demo: a first look, in minutes: compiles the program without any proof, and plays a scenario: what was decided and run.
-# prove: proves the crates below the program, and the program, and builds it: crates/abft/out/abft. One crate after the other, the
-#       lowest first, each on all processors: two runs of rt in one tree wait for each other. A line for each as it is proved, and what
-#       all of them took. CPU=x86-64-v3 builds it for processors with AVX2; on any other it ends at once with status 127.
+# prove: proves the crates below the program, and the program, and builds it: crates/abft/out/abft. Each crate after those below it,
+#       several at a time (tests/prove.py). A line for each as it is proved, and what all of them took. CPU=x86-64-v3 builds it for
+#       processors with AVX2; on any other it ends at once with status 127.
 # test: the merge gate (every proof from nothing, the edits in must-fail, the tests), then the built program in real pipes, whether
 #       the other edits apply, and the file lines that the documents name.
 # bench: proves and builds the benchmark, and prints what keys and signatures cost on this machine.
@@ -19,17 +19,6 @@ SHELL := bash
 CHROMIUM ?= chromium
 .PHONY: demo prove bench bench-v3 browser mutants soak test
 
-crates := $(shell sed -n 's/^\([a-z_]*\)\( [^:]*\)\?:.*/\1/p' crates.txt)
-below = $(filter $(crates),$(shell sed -n 's/^$(1)\( [^:]*\)\?://p' crates.txt))
-
-define library
-.PHONY: prove-$(1)
-prove-$(1): $(addprefix prove-,$(call below,$(1)))
-	@cd crates/$(1) && mkdir -p out && began=$$$$(date +%s) && { rt lib --jobs $$$$(nproc) >out/said 2>&1 || { tail -n 20 out/said; exit 1; }; } \
-	    && echo "$(1): proved in $$$$(($$$$(date +%s) - began)) s"
-endef
-$(foreach crate,$(crates),$(eval $(call library,$(crate))))
-
 demo:
 	@echo "compiling the program, of which nothing is proved by this (make prove does that): abft simulate <examples/plain-run.txt"
 	@cd crates/abft && mkdir -p out && { rt try --seconds 600 -- simulate <../../examples/plain-run.txt >out/played 2>out/said || { tail -n 20 out/said; exit 1; }; } \
@@ -37,8 +26,11 @@ demo:
 
 prove:
 	@echo "proving the crates below the program, and the program, on $$(nproc) processors:"
-	@TIMEFORMAT='these took %0R s, and %0U s of processor time'; time $(MAKE) --no-print-directory -j1 $(addprefix prove-,$(call below,abft))
+	@tests/prove.py abft
 	@cd crates/abft && mkdir -p out && { rt run $(if $(CPU),--cpu $(CPU)) --jobs $$(nproc) -- --version >out/said 2>&1 || { tail -n 20 out/said; exit 1; }; }
+
+prove-%:
+	@tests/prove.py --also $*
 
 bench:
 	@cd crates/lms_speed && rt run </dev/null >/dev/null
