@@ -2,8 +2,8 @@
 #![tactic(auto)]
 
 use cluster_service::{
-    ClusterOutcome, ServerOutcome, SharedStatus, Watcher, cluster, open_histories, open_listeners,
-    serve, start_reporter,
+    ClusterOutcome, Operator, ServerOutcome, SharedStatus, Watcher, cluster, open_histories,
+    open_listeners, serve, start_reporter,
 };
 use program::{Outcome, finish, refuse_words, run};
 use program_streams::{ProgramFault, Resource, require_open};
@@ -86,10 +86,11 @@ where
 {
     require_open(&output, Resource::Output)?;
     let mut file = open_histories(rt, settings)?;
+    let operator = Operator { status, input };
     let ClusterOutcome {
         status: ended,
         run: _run,
-    } = cluster(rt, alloc, settings, status, input, &mut output, &mut file)?;
+    } = cluster(rt, alloc, settings, operator, &mut output, &mut file)?;
     Ok(ended)
 }
 
@@ -118,17 +119,17 @@ where
     require_open(&output, Resource::Output)?;
     let listeners = open_listeners(rt, settings)?;
     let mut file = open_histories(rt, &settings.cluster)?;
+    let operator = Operator { status, input };
     let ServerOutcome {
         status: ended,
         run: _run,
-        service: _service,
+        services: _services,
     } = serve(
         rt,
         alloc,
         settings,
         listeners,
-        status,
-        input,
+        operator,
         &mut output,
         &mut file,
     )?;

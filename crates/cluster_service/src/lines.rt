@@ -2,7 +2,7 @@
 ghost use Rattle.std.specs.Prelude.{◌≡◌, option_map, IfOk, string_bytes};
 ghost use Rattle.cluster_service.specs.Lines.{commit_lines, port_lines};
 
-use crate::http_listening::HttpListener;
+use crate::ports::PortListener;
 use std::alloc::{AllocError, Global};
 
 /// A line for each replica, by number, with the number of blocks that it committed.
@@ -38,7 +38,7 @@ fn two_lines(alloc: Global, port: u16, http: u16) -> Result<String, AllocError>
 pub(crate) fn port_lines(
     alloc: Global,
     port: u16,
-    http: &Option<HttpListener>,
+    http: &Option<PortListener>,
 ) -> Result<String, AllocError>
     ensures { IfOk result (λ text. string_bytes text ≡ port_lines port (option_map (λ h. h.port) http.now)) }
 {

@@ -6,12 +6,14 @@ ghost use Rattle.cluster_service.specs.Lines.{port_lines};
 ghost use Rattle.cluster_service.specs.Reporting.{AreTaken, Reports, ReportsEnd, ReportsSome, Serves, ServesSome, WritesSuch};
 ghost use Rattle.cluster_service.specs.Ports.{IsAskedIfAny, IsAskedPort};
 ghost use Rattle.cluster_service.specs.RunFaults.{EndsCluster, EndsServer, IsReportFault, IsRunFault};
-ghost use Rattle.cluster_service.specs.Services.{IsRunOf, IsServiceOf};
+ghost use Rattle.cluster_service.specs.Services.{AreServicesOf, IsRunOf};
 
 use crate::final_histories::FinalHistories;
+use crate::ports::Listeners;
 use crate::running::{EndedCluster, run_cluster};
 use crate::saving::{HistoriesFile, save_histories};
-use crate::serving::{EndedServer, EndedService, Listeners, serve_cluster};
+use crate::servers::EndedServices;
+use crate::serving::{EndedServer, serve_cluster};
 use crate::writing::{write_lines, write_ports};
 use crate::{SharedStatus, stop_at_end};
 use app_kinds::AnyKind;
@@ -25,6 +27,13 @@ use std::random::RandomSource;
 use std::sync::{Arc, Wait};
 use std::thread::Threads;
 use std::time::Clock;
+
+/// What the operator of a cluster has: the status, which a reporter writes to him, and the input whose end asks the cluster to stop, if the
+/// settings say so.
+pub struct Operator<'a, I> {
+    pub status: &'a SharedStatus,
+    pub input: I,
+}
 
 /// What can ask a cluster to stop: nothing or, if the settings say so, the end of the input.
 fn new_stop<R, I>(
@@ -75,13 +84,12 @@ pub struct ClusterOutcome {
 
 /// `abft cluster`: runs a cluster, and writes a line for each replica with the number of blocks that it committed, and then what the
 /// audit of their histories finds. Then, whatever became of the lines, it writes the histories to the file, if there is one. How it
-/// stands is stored in `status`. The exit status is 1 if the audit finds a fault.
+/// stands is stored in the operator's status. The exit status is 1 if the audit finds a fault.
 pub fn cluster<R, I, W: Write, H: Write>(
     rt: &R,
     alloc: Global,
     settings: &ClusterSettings,
-    status: &SharedStatus,
-    input: I,
+    operator: Operator<'_, I>,
     writer: &mut W,
     file: &mut Option<HistoriesFile<H>>,
 ) -> Result<ClusterOutcome, ProgramFault>
@@ -96,6 +104,7 @@ where
     // random bytes, standard output or the file is refused.
     ensures fault { IfErr result (EndsCluster file.old file.new (W.contents writer.old) (W.contents writer.new)) }
 {
+    let Operator { status, input } = operator;
     let stop = new_stop(rt, alloc, settings, input)?;
     let left = run_cluster(rt, alloc, settings, status, &stop)?;
     let EndedCluster { histories, run } = left;
@@ -107,7 +116,7 @@ where
 pub struct ServerOutcome {
     pub status: u8,
     pub run: EndedRun<AnyKind>,
-    pub service: EndedService,
+    pub services: EndedServices,
 }
 
 /// `abft serve`: writes the port of the listener, and that of HTTP, at once; then runs a cluster and serves clients in parallel; at the end writes what
@@ -117,8 +126,7 @@ pub fn serve<R, I, W: Write, H: Write>(
     alloc: Global,
     settings: &ServeSettings,
     listeners: Listeners,
-    status: &SharedStatus,
-    input: I,
+    operator: Operator<'_, I>,
     writer: &mut W,
     file: &mut Option<HistoriesFile<H>>,
 ) -> Result<ServerOutcome, ProgramFault>
@@ -133,31 +141,32 @@ where
         + Wait
         + 'static,
     I: Read + Drop + Send + 'static,
-    requires port { IsAskedPort settings.now.port listeners.port }
+    requires port { IsAskedPort settings.now.port listeners.sessions.port }
     requires http { IsAskedIfAny settings.now.http (option_map (λ h. h.port) listeners.http) }
     ensures serves { WritesSuch result
-        (λ outcome. Serves (port_lines listeners.port (option_map (λ h. h.port) listeners.http)) (Reports settings.now.cluster outcome.status))
-        (ServesSome settings.now.cluster (port_lines listeners.port (option_map (λ h. h.port) listeners.http)))
+        (λ outcome. Serves (port_lines listeners.sessions.port (option_map (λ h. h.port) listeners.http)) (Reports settings.now.cluster outcome.status))
+        (ServesSome settings.now.cluster (port_lines listeners.sessions.port (option_map (λ h. h.port) listeners.http)))
         (W.contents writer.old) (W.contents writer.new) (bytes_in file.old) (bytes_in file.new) }
     // What ran is what the settings say, and clients were served as they say.
     ensures run { IfOk result (λ outcome. IsRunOf settings.now.cluster outcome.run) }
-    ensures service { IfOk result (λ outcome. IsServiceOf settings.now outcome.service) }
+    ensures services { IfOk result (λ outcome. AreServicesOf settings.now outcome.services) }
     // A server that isn't run to its end writes at most its ports.
-    ensures fault { IfErr result (EndsServer (port_lines listeners.port (option_map (λ h. h.port) listeners.http)) file.old file.new
+    ensures fault { IfErr result (EndsServer (port_lines listeners.sessions.port (option_map (λ h. h.port) listeners.http)) file.old file.new
         (W.contents writer.old) (W.contents writer.new)) }
 {
+    let Operator { status, input } = operator;
     let stop = new_stop(rt, alloc, &settings.cluster, input)?;
-    write_ports(alloc, listeners.port, &listeners.http, writer)?;
+    write_ports(alloc, listeners.sessions.port, &listeners.http, writer)?;
     let left = serve_cluster(rt, alloc, settings, listeners, status, &stop)?;
     let EndedServer {
         histories,
         run,
-        service,
+        services,
     } = left;
     let ended = report(rt, alloc, &settings.cluster, &histories, writer, file)?;
     Ok(ServerOutcome {
         status: ended,
         run,
-        service,
+        services,
     })
 }

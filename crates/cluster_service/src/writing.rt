@@ -7,8 +7,8 @@ ghost use Rattle.cluster_service.specs.Reporting.{WritesFinding};
 ghost use Rattle.cluster_service.specs.RunFaults.{IsLineFault, IsWriteFault};
 
 use crate::final_histories::FinalHistories;
-use crate::http_listening::HttpListener;
 use crate::lines::{commit_lines, port_lines};
+use crate::ports::PortListener;
 use audit_lines::{add_finding, audited, finding_status};
 use history_audit::AuditFault;
 use ledger_model::{Config, Ledger};
@@ -38,7 +38,7 @@ pub fn write_commits<W: Write>(
 pub fn write_ports<W: Write>(
     alloc: Global,
     port: u16,
-    http: &Option<HttpListener>,
+    http: &Option<PortListener>,
     writer: &mut W,
 ) -> Result<(), ProgramFault>
     ensures written { Writes result (W.contents writer.old) (W.contents writer.new) (port_lines port (option_map (λ h. h.port) http.now)) }

@@ -1,2 +1,3 @@
+mod Peers
 mod SeatsLeft
 pub mod Crossing

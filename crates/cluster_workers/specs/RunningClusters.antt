@@ -1,11 +1,12 @@
 -- A running cluster as contracts see it.
-use Rattle.std.specs.Prelude.{◌≡◌, ℕ, ◌≤◌, List, [], ◌∷◌, length, map}
+use Rattle.std.specs.Prelude.{◌≡◌, ℕ, ◌+◌, ◌≤◌, List, [], ◌∷◌, length, map}
 use Rattle.ledger_model.specs.declared.config.Config.{Config}
 use Rattle.std.specs.List.{All, range_with_len}
 use Rattle.ledger_model.specs.Rules.{Ring}
 use Rattle.ledger_model.specs.declared.version.Version.{Version}
 use Rattle.locked_replica.specs.States.{StateView}
 use Rattle.commit_board.specs.Seats.{BoardId, WriterSeatView, ReaderSeatView, new_writer}
+use Rattle.inbox.specs.Passes.{InboxId}
 
 -- the number of its replicas, the board of their heights, the configuration and the keys that each replica has, and the states with
 -- which the replicas began
@@ -31,15 +32,35 @@ pub record AreReadersOf (board : BoardId) (count : ℕ) (seats : List ReaderSeat
   pub enough : count ≤ length seats
   pub all : All (λ s. s.board ≡ board) seats
 
--- a worker: its replica's number, the version of its cluster's frames, and the number of rounds that it ends
+-- the inbox of a replica
+pub record PeerInbox : Type 0 where
+  pub replica : ℕ
+  pub inbox : InboxId
+
+-- these inboxes, as those of the replicas from this number on
+abbrev pub peers_from : ℕ → List InboxId → List PeerInbox
+peers_from first [] = []
+peers_from first (inbox ∷ rest) = record { replica = first; inbox = inbox } ∷ peers_from (first + 1) rest
+
+-- a worker: its replica's number, the version of its cluster's frames, the number of rounds that it ends, the inbox that it takes from,
+-- and the inboxes that it puts into
 pub record WorkerView : Type 0 where
   pub replica : ℕ
   pub version : Version
   pub rounds : ℕ
+  pub inbox : InboxId
+  pub peers : List PeerInbox
 
--- a worker for each of n replicas, by number
-abbrev pub all_workers : ℕ → Version → ℕ → List WorkerView
-all_workers replicas version rounds = map (λ r. record { replica = r; version = version; rounds = rounds }) (range_with_len 0 replicas)
+-- the worker of a replica, which takes from the replica's own inbox and puts into all
+abbrev pub worker_of : Version → ℕ → List PeerInbox → PeerInbox → WorkerView
+worker_of version rounds peers own =
+    record { replica = own.replica; version = version; rounds = rounds; inbox = own.inbox; peers = peers }
+
+-- These are the workers of n replicas, by number. Each takes from its replica's own inbox, and puts into the inboxes of all replicas.
+pub record AreWorkersOf (replicas : ℕ) (version : Version) (rounds : ℕ) (workers : List WorkerView) : Type 0 where
+  pub inboxes : List InboxId
+  pub count : length inboxes ≡ replicas
+  pub are : workers ≡ map (worker_of version rounds (peers_from 0 inboxes)) (peers_from 0 inboxes)
 
 -- a cluster whose workers ran in threads of their own, until all had ended: which cluster, which workers, and the base time of the clock
 -- that ended their rounds

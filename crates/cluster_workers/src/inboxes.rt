@@ -1,6 +1,7 @@
 //! The ends of inboxes that a worker holds: it takes from its own inbox, and puts into those of all replicas.
-ghost use Rattle.std.specs.Prelude.{◌≡◌, length, vec_len, IfOk};
+ghost use Rattle.std.specs.Prelude.{◌≡◌, ◌++◌, ◌∷◌, [], All, List, length, vec_len, IfOk};
 ghost use Rattle.std.specs.Arc.{arc_value};
+ghost use Rattle.cluster_workers.specs.RunningClusters.{PeerInbox, peers_from};
 
 use crate::bell::Bell;
 use crate::losses::Losses;
@@ -8,6 +9,7 @@ use bytes::Bytes;
 use inbox::{Inbox, Item, PuttingPass, TakingPass};
 use ledger_model::ReplicaId;
 use std::alloc::{AllocError, Global};
+use std::marker::Model;
 use std::sync::{Arc, Wait};
 use std::time::Duration;
 
@@ -20,6 +22,15 @@ pub(crate) struct Receiver {
     ghost tied: { pass.inbox ≡ arc_value inbox },
 }
 
+impl Model for Receiver {
+    ghost use Rattle.std.specs.Arc.{arc_value};
+    ghost use Rattle.inbox.specs.Passes.{InboxId};
+
+    ghost Value = { InboxId };
+
+    ghost view = { λ r. arc_value r.inbox };
+}
+
 /// The inbox of a replica, with a right to put into it.
 #[derive(Drop)]
 pub(crate) struct Sender {
@@ -29,6 +40,15 @@ pub(crate) struct Sender {
     losses: Arc<Losses>,
     pass: PuttingPass,
     ghost tied: { pass.inbox ≡ arc_value inbox },
+}
+
+impl Model for Sender {
+    ghost use Rattle.std.specs.Arc.{arc_value};
+    ghost use Rattle.cluster_workers.specs.RunningClusters.{PeerInbox};
+
+    ghost Value = { PeerInbox };
+
+    ghost view = { λ s. record { replica = s.to; inbox = arc_value s.inbox } };
 }
 
 impl Receiver {
@@ -50,9 +70,11 @@ impl Receiver {
 }
 
 impl Sender {
+    ghost use Rattle.std.specs.Prelude.{◌≡◌};
+
     /// The replica whose inbox it is.
     pub(crate) fn to(&self) -> ReplicaId
-        ensures { result ≡ self.now.to }
+        ensures { result ≡ self.now.replica }
     {
         self.to
     }
@@ -80,7 +102,10 @@ fn new_inbox(
     to: ReplicaId,
     owners: u8,
     losses: &Arc<Losses>,
-) -> Result<(Receiver, Vec<Sender>), AllocError> {
+) -> Result<(Receiver, Vec<Sender>), AllocError>
+    ensures count { IfOk result (λ r. vec_len r.1 ≡ owners) }
+    ensures peers { IfOk result (λ r. All (λ s. s ≡ record { replica = to; inbox = r.0 }) r.1.items) }
+{
     let (inbox, taking, putting) = Inbox::new(alloc, u32::from(owners))?;
     let inbox = Arc::new(alloc, inbox)?;
     let bell = Arc::new(alloc, Bell::new())?;
@@ -104,14 +129,30 @@ fn new_inbox(
     ))
 }
 
-/// Appends the next sender to each owner's senders, in order.
-fn add_row(owners: &mut [Vec<Sender>], row: Vec<Sender>) -> Result<(), AllocError>
-    ensures { length owners.new ≡ length owners.old }
+/// Each owner's senders with the next sender at their end, in order.
+fn with_row(
+    alloc: Global,
+    owners: Vec<Vec<Sender>>,
+    row: Vec<Sender>,
+) -> Result<Vec<Vec<Sender>>, AllocError>
+    requires { vec_len owners ≡ vec_len row }
+    ensures count { IfOk result (λ longer. vec_len longer ≡ vec_len owners) }
+    // If all owners had senders to the same inboxes, all have one to this inbox, too.
+    ensures peers { IfOk result (λ longer. (peers : List PeerInbox) (peer : PeerInbox)
+        → All (λ senders. senders.items ≡ peers) owners.items
+        → All (λ s. s ≡ peer) row.items
+        → All (λ senders. senders.items ≡ peers ++ peer ∷ []) longer.items) }
 {
-    for (senders, sender) in owners.iter_mut().zip(row) {
+    let mut row = row.into_iter();
+    let mut longer = Vec::with_capacity(alloc, owners.len())?;
+    for mut senders in owners {
+        let Some(sender) = row.next() else {
+            unreachable!();
+        };
         senders.push(sender)?;
+        longer.push(senders)?;
     }
-    Ok(())
+    Ok(longer)
 }
 
 /// The inboxes of all replicas: the end that each replica takes from, and the ends that each replica puts into.
@@ -123,7 +164,8 @@ pub(crate) struct Inboxes {
 
 /// `owners` owners with no sender.
 fn no_senders(alloc: Global, owners: u8) -> Result<Vec<Vec<Sender>>, AllocError>
-    ensures { IfOk result (λ senders. vec_len senders ≡ owners) }
+    ensures count { IfOk result (λ senders. vec_len senders ≡ owners) }
+    ensures none { IfOk result (λ senders. All (λ s. s.items ≡ []) senders.items) }
 {
     let mut senders = Vec::with_capacity(alloc, usize::from(owners))?;
     for _owner in 0..owners {
@@ -140,13 +182,15 @@ pub(crate) fn inboxes_of(
 ) -> Result<Inboxes, AllocError>
     ensures receivers { IfOk result (λ inboxes. vec_len inboxes.receivers ≡ replicas) }
     ensures senders { IfOk result (λ inboxes. vec_len inboxes.senders ≡ replicas) }
+    // Each replica puts into the inboxes from which the replicas take, by number.
+    ensures peers { IfOk result (λ inboxes. All (λ s. s.items ≡ peers_from 0 inboxes.receivers.items) inboxes.senders.items) }
 {
     let mut receivers = Vec::with_capacity(alloc, usize::from(replicas))?;
     let mut senders = no_senders(alloc, replicas)?;
     for to in 0..replicas {
         let (receiver, row) = new_inbox(alloc, ReplicaId::new(to), replicas, losses)?;
         receivers.push(receiver)?;
-        add_row(&mut senders, row)?;
+        senders = with_row(alloc, senders, row)?;
     }
     Ok(Inboxes { receivers, senders })
 }

@@ -2,7 +2,7 @@
 ghost use Rattle.std.specs.Prelude.{◌≡◌, ℕ, ◌<◌, true, false, Some, length, slice_get, vec_len, IfOk};
 ghost use Rattle.std.specs.Arc.{arc_value};
 ghost use Rattle.commit_board.specs.Seats.{replicas_of, new_reader};
-ghost use Rattle.cluster_workers.specs.RunningClusters.{AreDealt, AreReadersOf, IsStateOf, all_workers, first_ring};
+ghost use Rattle.cluster_workers.specs.RunningClusters.{AreDealt, AreReadersOf, AreWorkersOf, IsStateOf, first_ring};
 
 use crate::inboxes::{Inboxes, inboxes_of};
 use crate::losses::Losses;
@@ -140,7 +140,7 @@ fn workers_of<A: Application>(
     requires seats { AreDealt (arc_value board.now) 0 count seats.items }
     requires looking { AreReadersOf (arc_value board.now) count looking.items }
     requires replicas { length replicas.now ≡ count }
-    ensures { IfOk result (λ workers. workers.items ≡ all_workers count version rounds) }
+    ensures { IfOk result (λ workers. AreWorkersOf count version rounds workers.items) }
 {
     let Inboxes { receivers, senders } = inboxes_of(alloc, count, losses)?;
     let mut seats = seats.into_iter();
@@ -189,8 +189,8 @@ impl<A: Application> RunningCluster<A> {
         ensures ring { IfOk result (λ r. r.0.ring ≡ first_ring states.items) }
         // The cluster begins with these states.
         ensures begun { IfOk result (λ r. r.0.begun ≡ states.items) }
-        // The worker of each replica, by number.
-        ensures workers { IfOk result (λ r. r.1.items ≡ all_workers config.now.replicas config.now.frames rounds) }
+        // The worker of each replica, by number, with its own inbox and those of all replicas.
+        ensures workers { IfOk result (λ r. AreWorkersOf config.now.replicas config.now.frames rounds r.1.items) }
         ensures reader_count { IfOk result (λ r. vec_len r.2 ≡ readers) }
         ensures readers { IfOk result (λ r. (k : ℕ) → k < readers → slice_get r.2.items k ≡ Some (new_reader r.0.board)) }
     {

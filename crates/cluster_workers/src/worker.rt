@@ -60,7 +60,13 @@ impl<A: Application> Model for Worker<A> {
 
     ghost Value = { WorkerView };
 
-    ghost view = { λ w. record { replica = w.turn_taker.seat.replica; version = w.version; rounds = w.rounds } };
+    ghost view = { λ w. record {
+      replica = w.turn_taker.seat.replica;
+      version = w.version;
+      rounds = w.rounds;
+      inbox = w.receiver;
+      peers = w.senders.items;
+    } };
 }
 
 // An own `Drop` keeps proofs short: an owner drops it by one call. See docs/WORKING.md.
@@ -120,7 +126,13 @@ impl<A: Application> Worker<A> {
         ring: Arc<KeyRing>,
         rounds: u32,
     ) -> Self
-        ensures { result ≡ record { replica = turn_taker.seat.replica; version = version; rounds = rounds } }
+        ensures { result ≡ record {
+          replica = turn_taker.seat.replica;
+          version = version;
+          rounds = rounds;
+          inbox = receiver;
+          peers = senders.items;
+        } }
     {
         Worker {
             alloc,

@@ -1,11 +1,11 @@
-use Rattle.std.proofs.Common.{◌≡◌, ◌++◌, ◌∷◌, [], length, sym, ap, ◌∙◌, rules, arith}
+use Rattle.std.proofs.Common.{◌≡◌, ℕ, ◌++◌, ◌∷◌, [], List, length, ap, ◌∙◌, rules, arith}
 use Rattle.std.specs.Arc.{arc_value}
 use Rattle.std.specs.Vec.Iter.{into_iter_items}
 use Rattle.std.proofs.lemmas.Grind.{common_steps}
-use Rattle.std.proofs.lemmas.List.FromFn.{map-range_with_len_more}
-use Rattle.std.proofs.lemmas.List.Elements.{All-tail}
+use Rattle.std.proofs.lemmas.List.Elements.{All-head, All-tail}
 use Rattle.commit_board.specs.Seats.{WriterSeatView, ReaderSeatView}
-use Rattle.cluster_workers.specs.RunningClusters.{WorkerView, all_workers}
+use Rattle.cluster_workers.specs.RunningClusters.{PeerInbox, WorkerView, peers_from, worker_of}
+use Rattle.cluster_workers.proofs.Peers.{AreLinked, all_linked, linked_more}
 use Rattle.cluster_workers.proofs.SeatsLeft.{some_left, one_taken, first_reading}
 use Rattle.cluster_workers.proofs.running_cluster.workers_of.Goals as goal
 
@@ -29,6 +29,16 @@ unreachable-requires g c =
     c.loop-number-test.true c.loop-number.invariant.seats in
     omega (arith, some, c.in_default.ensures.cases.0, c.loop-number.seats.rest.ok)
 
+pub loop-number-init : goal.loop-number-init
+loop-number-init g c = record {
+  workers = (c.in_ok-receivers.receivers.items, (search rules, search rules, search rules));
+  seats = search rules;
+  enough = grind (arith, common_steps);
+  looking = search rules;
+  receivers = grind (arith, common_steps);
+  senders = grind (arith, common_steps);
+}
+
 pub loop-number-preserved : goal.loop-number-preserved
 loop-number-preserved g c =
     let rounds = c.args.rounds in
@@ -37,16 +47,33 @@ loop-number-preserved g c =
     let taken = one_taken (arc_value c.args.board.now) c.args.count number (into_iter_items c.loop-number.seats) c.in-Some.seat
     (into_iter_items c.next.new.self) c.loop-number-test.true
     c.loop-number.invariant.seats c.in-Some.ensures.cases.0 in
+    let was = c.loop-number.invariant.workers in
+    let peers = peers_from 0 was.0 in
+    let inbox = c.in-Some-next-2.receiver in
     let worker : WorkerView = c.new.result in
     let grown : c.push.new.self.items ≡ c.loop-number.workers.items ++ worker ∷ [] = search rules in
     let own = ap (λ (w : WriterSeatView). w.replica) taken.0 in
     let turn_taker = ap (λ (w : WriterSeatView). w.replica) c.new-turn_taker.ensures in
-    let is : worker ≡ record { replica = number; version = version; rounds = rounds } =
-    c.new.ensures ∙ ap (λ k. record { replica = k; version = version; rounds = rounds }) (turn_taker ∙ own) in
+    let others = rw c.in-Some-next-3.ensures.cases.0 at was.1.1 in
+    let all : c.in-Some-next-3.senders.items ≡ peers =
+    All-head (λ s. s.items ≡ peers) c.in-Some-next-3.senders (into_iter_items c.next-in-loop-number-3.new.self) others in
+    let linked : AreLinked version rounds number peers c.loop-number.workers.items (inbox ∷ into_iter_items c.next-in-loop-number-2.new.self) =
+    rw c.in-Some-next-2.ensures.cases.0 at was.1.2 in
+    let is : worker ≡ worker_of version rounds peers (record { replica = number; inbox = inbox }) =
+    c.new.ensures
+    ∙ ap (λ (k : ℕ). record { replica = k; version = version; rounds = rounds; inbox = inbox; peers = c.in-Some-next-3.senders.items })
+    (turn_taker ∙ own)
+    ∙ ap (λ (l : List PeerInbox). record { replica = number; version = version; rounds = rounds; inbox = inbox; peers = l }) all in
     record {
-      workers = grown ∙ ap (λ l. l ++ worker ∷ []) c.loop-number.invariant.workers
-          ∙ ap (λ k. all_workers number version rounds ++ k ∷ []) is
-          ∙ sym (map-range_with_len_more (λ r. record { replica = r; version = version; rounds = rounds }) 0 number number (omega arith));
+      workers = (
+        was.0,
+        (
+          was.1.0,
+          All-tail (λ s. s.items ≡ peers) c.in-Some-next-3.senders (into_iter_items c.next-in-loop-number-3.new.self) others,
+          rw grown (linked_more version rounds number peers c.loop-number.workers.items inbox
+              (into_iter_items c.next-in-loop-number-2.new.self) worker is linked),
+        ),
+      );
       seats = taken.1;
       enough = omega (arith, ap length c.in-Some-next.ensures.cases.0, c.loop-number.invariant.enough);
       looking = All-tail (λ (s : ReaderSeatView). s.board ≡ arc_value c.args.board.now) c.in-Some-next.reader
@@ -54,4 +81,16 @@ loop-number-preserved g c =
           (rw c.in-Some-next.ensures.cases.0 at c.loop-number.invariant.looking);
       receivers = grind (arith, common_steps);
       senders = grind (arith, common_steps);
+    }
+
+pub returns : goal.returns
+returns g c =
+    let was = c.loop-number.invariant.workers in
+    let left = into_iter_items c.loop-number.receivers in
+    let none : length left ≡ 0 = omega (arith, c.loop-number.invariant.receivers, c.loop-number-test.false) in
+    record {
+      inboxes = was.0;
+      count = was.1.0;
+      are = all_linked c.args.version c.args.rounds c.loop-number.number (peers_from 0 was.0) c.loop-number.workers.items left none
+          was.1.2;
     }
