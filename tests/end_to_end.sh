@@ -546,14 +546,14 @@ EOT
   -h, --help             Print help
 
 Input: the histories of replicas, as bytes, one after another. 'abft simulate --histories' prints such bytes, and
-'abft cluster --histories FILE' writes them. The options are those of the cluster: histories of version 2 need --frames 2,
-and only --n and --t change the picture.
+'abft cluster --histories FILE' writes them. The options are those of the cluster: histories of version 2 need --frames 2.
+A history is drawn up to its first entry that is not lawful after those before it, or sends what is not signed.
 
 Output: an SVG document, or 'bad history' if the input is not spelled as histories. docs/PICTURES.md says how to read it.
 
 Exit status:
   0  the picture was written
-  1  'bad history' was printed
+  1  'bad history' was printed, or a history has such an entry, which standard error names
   2  a fault of usage
   3  out of memory, or a failed read or write
 EOT

@@ -67,6 +67,12 @@ counts 'rounds past the last are empty' 0 '<title>round ' --first 20 --last 30
 runs 'frames of version 2 have the same picture' 0 '' \
     "awk '{ print } /^config / { print \"frames 2\" }' examples/plain-run.txt | '$abft' simulate --histories | '$abft' draw --frames 2 |
     cmp - docs/pictures/plain-run.svg"
+# Under another seed the first statement that a replica sends isn't signed: an audit and a picture name the same entry.
+seed=00000000000000000000000000000000000000000000000000000000000000ff
+"$abft" audit --seed "$seed" <"$room/plain-run.histories" 2>"$room/wanted-err" >/dev/null
+printf 0 >"$room/wanted-out"
+check 'a history that is no replay is drawn as far as it is one' 1 \
+    "'$abft' draw --seed $seed <'$room/plain-run.histories' | grep -c '<title>height 1 decided: ' | tr -d '\n'"
 runs 'an empty input has rows' 0 4 "'$abft' draw </dev/null | grep -c 'no history was handed in' | tr -d '\n'"
 runs 'what is no histories is told' 1 $'bad history\n' "printf x | '$abft' draw"
 finish

@@ -1,94 +1,28 @@
--- A history that is followed entry by entry: how far it is a replay.
-use Rattle.std.specs.Prelude.{◌↔◌, ◌⊎◌}
-use Rattle.std.proofs.Common.{◌≡◌, ℕ, ◌+◌, ◌<◌, ◌≤◌, Bool, true, false, List, [], ◌∷◌, ◌++◌, length, take, refl, sym, ap, subst, ◌∙◌, inl}
-use Rattle.std.proofs.Common.{inr, arith, cond}
-use Rattle.std.proofs.Common.{append_assoc}
-use Rattle.std.specs.Prelude.{IsTrue, nat_lt, nat_le, nat_eq, slice_get, ◌*◌, ◌-◌, ◌&&◌, Some, None, Ok, Err}
+-- Histories that are followed one after the other, and the longest list of blocks among them.
+use Rattle.std.specs.Prelude.{◌⊎◌}
+use Rattle.std.proofs.Common.{◌≡◌, ℕ, ◌+◌, ◌<◌, ◌≤◌, Bool, true, false, List, [], ◌∷◌, length, take, refl, sym, ap, subst, ◌∙◌}
+use Rattle.std.proofs.Common.{inl, inr, arith, cond}
+use Rattle.std.specs.Prelude.{nat_lt, nat_le, nat_eq, slice_get, ◌*◌, ◌-◌, ◌&&◌, Some, None, Ok, Err}
 use Rattle.std.proofs.lemmas.Bool.{cases_Bool, and_parts, eqb-true, eq-eqb, ltb-true}
 use Rattle.std.proofs.lemmas.List.{nil_from_length}
 use Rattle.replica_core.specs.Facts.{block_at}
-use Rattle.std.proofs.lemmas.List.{append-nil}
 use Rattle.std.proofs.lemmas.Option.{same_Some}
 use Rattle.ledger_model.specs.declared.config.Config.{Config}
-use Rattle.ledger_model.specs.declared.event.Event.{Event}
-use Rattle.ledger_model.specs.declared.reply.Reply.{Reply}
-use Rattle.ledger_model.specs.declared.history.Entry.{Entry}
 use Rattle.ledger_model.specs.declared.history.History.{History}
 use Rattle.ledger_model.specs.Values.{Value}
 use Rattle.ledger_model.specs.Commits.{commits_of}
 use Rattle.ledger_model.specs.Groups.{history_of}
 use Rattle.ledger_model.specs.Rules.{Ring}
-use Rattle.ledger_model.specs.Lawful.{Lawful, Replay, ReplaysFrom, is_signed_reply}
-use Rattle.ledger_model.proofs.Steps.{replays_snoc}
-use Rattle.replica_core.specs.ReplicaStates.{ReplicaStateView}
-use Rattle.replica_core.specs.Following.{KeepsReplay, IsSameReplicaState}
+use Rattle.ledger_model.specs.Lawful.{Replay}
+use Rattle.replica_core.specs.Following.{StopsAt}
 use Rattle.history_audit.proofs.Searching.{found_history, last, is_member}
-use Rattle.history_audit.specs.Followed.{StopsAt, FollowsOne, FollowsAll, LongestBelow, IsLongest}
+use Rattle.history_audit.specs.Followed.{FollowsOne, FollowsAll, LongestBelow, IsLongest}
 use Rattle.history_audit.specs.declared.fault.AuditFault.{AuditFault}
 use Rattle.history_audit.specs.declared.fault.AuditFault.TheVariants as fault
 use Rattle.ledger_model.specs.Audits.{are_of_a_quorum, AreReplays, IsFirstBreak, NothingUnsent}
 use Rattle.ledger_model.specs.Worlds.{IsLedger}
 use Rattle.ledger_laws.proofs.Audits.{audited_histories_have_ledger}
 use Rattle.ledger_laws.proofs.UniqueLedgers.{ledger_is_longest}
-
--- an entry that continues the replay of one state continues that of another of the same replica
-pub keeps_as : (a b : ReplicaStateView) (xs : List Entry) (event : Event) (reply : Reply) → IsSameReplicaState a b
-    → KeepsReplay b xs event reply → KeepsReplay a xs event reply
-keeps_as a b xs event reply same keeps = record {
-  lawful = subst (λ c. Lawful c a.ring a.id xs event reply) same.config
-      (subst (λ r. Lawful b.config r a.id xs event reply) same.ring
-      (subst (λ i. Lawful b.config b.ring i xs event reply) same.id keeps.lawful));
-  signed = subst (λ r. IsTrue (is_signed_reply r reply)) same.ring keeps.signed;
-}
-
-pub keeps_from : (a b : ReplicaStateView) (xs : List Entry) (event : Event) (reply : Reply) → IsSameReplicaState a b
-    → KeepsReplay a xs event reply → KeepsReplay b xs event reply
-keeps_from a b xs event reply same keeps =
-    keeps_as b a xs event reply (record { config = sym same.config; id = sym same.id; ring = sym same.ring }) keeps
-
--- the same replica, one step later
-pub same_later : (a b c : ReplicaStateView) → IsSameReplicaState a b → IsSameReplicaState b c → IsSameReplicaState a c
-same_later a b c first second = record {
-  config = second.config ∙ first.config;
-  id = second.id ∙ first.id;
-  ring = second.ring ∙ first.ring;
-}
-
--- one entry more
-pub replay_more : (a b : ReplicaStateView) (xs : List Entry) (e : Entry) → IsSameReplicaState a b
-    → Replay a.config a.ring a.id xs → KeepsReplay b xs e.event e.reply → Replay a.config a.ring a.id (xs ++ e ∷ [])
-unfolding Replay
-replay_more a b xs e same replay keeps =
-    let kept = keeps_as a b xs e.event e.reply same keeps in
-    replays_snoc a.config a.ring a.id [] xs e replay kept.lawful kept.signed
-
--- the last entry of a replay continues it
-last_kept : (config : Config) (ring : Ring) (id : ℕ) (front xs : List Entry) (e : Entry) → ReplaysFrom config ring id front (xs ++ e ∷ [])
-    → Lawful config ring id (front ++ xs) e.event e.reply × IsTrue (is_signed_reply ring e.reply)
-unfolding ReplaysFrom
-last_kept config ring id front [] e replays =
-    (subst (λ es. Lawful config ring id es e.event e.reply) (sym (append-nil front)) (replays.0), replays.1)
-last_kept config ring id front (x ∷ xs) e replays =
-    let later = last_kept config ring id (front ++ x ∷ []) xs e (replays.2) in
-    (subst (λ es. Lawful config ring id es e.event e.reply) (append_assoc front (x ∷ []) xs) (later.0), later.1)
-
--- an entry that wasn't taken ends the replay
-pub replay_ends : (a b : ReplicaStateView) (entries : List Entry) (i : ℕ) (e : Entry) (kept : Bool) → IsSameReplicaState a b
-    → i < length entries → take (i + 1) entries ≡ take i entries ++ e ∷ []
-    → Replay a.config a.ring a.id (take i entries)
-    → kept ≡ true ↔ KeepsReplay b (take i entries) e.event e.reply → kept ≡ false → StopsAt a.config a.ring a.id entries i
-unfolding Replay
-replay_ends a b entries i e kept same inside split replay exact lost = record {
-  inside = inside;
-  before = replay;
-  broken = λ whole.
-      let last = last_kept a.config a.ring a.id [] (take i entries) e (subst (ReplaysFrom a.config a.ring a.id []) split whole) in
-      let keeps = keeps_from a b (take i entries) e.event e.reply same (record { lawful = last.0; signed = last.1 }) in
-      let taken : kept ≡ true = exact.1 keeps in
-      cc;
-}
-
--- ---- many histories
 
 -- a longer list replaces the one so far
 pub longer_one : (old commits : List Value) (n : ℕ) → length old < n → n ≡ length commits

@@ -1,8 +1,6 @@
 -- What following a history finds.
-use Rattle.std.specs.Prelude.{◌≡◌, ◌⊎◌, [], ℕ, ◌+◌, ◌<◌, ◌≤◌, nat_lt, if◌then◌else◌, List, length, take, Option, Some, None, Result, Ok}
-use Rattle.std.specs.Prelude.{Err, ⊤}
+use Rattle.std.specs.Prelude.{◌≡◌, ◌⊎◌, [], ℕ, ◌<◌, ◌≤◌, nat_lt, if◌then◌else◌, List, length, Some, Result, Ok, Err, ⊤}
 use Rattle.ledger_model.specs.declared.config.Config.{Config}
-use Rattle.ledger_model.specs.declared.history.Entry.{Entry}
 use Rattle.ledger_model.specs.declared.history.History.{History}
 use Rattle.ledger_model.specs.Values.{Value}
 use Rattle.ledger_model.specs.Rules.{Ring}
@@ -10,20 +8,9 @@ use Rattle.ledger_model.specs.Commits.{commits_of}
 use Rattle.ledger_model.specs.Lawful.{Replay}
 use Rattle.ledger_model.specs.Groups.{history_of}
 use Rattle.ledger_model.specs.Audits.{AreReplays, IsFirstBreak}
-use Rattle.replica_core.specs.Following.{FollowerView}
+use Rattle.replica_core.specs.Following.{FollowerView, StopsAt}
 use Rattle.history_audit.specs.declared.fault.AuditFault.{AuditFault}
 use Rattle.history_audit.specs.declared.fault.AuditFault.TheVariants as fault
-
--- entry i is the first that doesn't continue the replay of replica id
-pub record StopsAt (config : Config) (ring : Ring) (id : ℕ) (entries : List Entry) (i : ℕ) : Type 0 where
-  pub inside : i < length entries
-  pub before : Replay config ring id (take i entries)
-  pub broken : Replay config ring id (take (i + 1) entries) → ⊥
-
--- what following a whole history answers: nothing, where it is a replay, or where it stops being one
-abbrev pub AnswersFollowing : Config → Ring → ℕ → List Entry → Option ℕ → Type 0
-AnswersFollowing config ring id entries None = Replay config ring id entries
-AnswersFollowing config ring id entries (Some i) = StopsAt config ring id entries i
 
 -- what following a whole history gives: a follower with the blocks that the history commits, or the first entry that doesn't
 -- continue the replay

@@ -15,25 +15,9 @@ use crate::unsent::look_for_unsent;
 use abci::Application;
 use key_ring::KeyRing;
 use ledger_model::{Config, History, Ledger};
+use replica_core::shared_verifier;
 use std::alloc::Global;
 use std::hash::RandomState;
-use std::num::NonZeroUsize;
-use verify_cache::Verifier;
-
-/// The most answers that an audit remembers.
-const MAX_KNOWN: usize = 131_072;
-
-/// The number of answers to remember: one more than there are entries, at most 131,072.
-fn known_at_most(histories: &[History]) -> NonZeroUsize {
-    let entries = histories
-        .iter()
-        .map(|history| history.entries.as_slice().len());
-    let wanted = entries.fold(1_usize, |sum, len| sum.saturating_add(len));
-    match NonZeroUsize::new(wanted.min(MAX_KNOWN)) {
-        Some(most) => most,
-        None => NonZeroUsize::MIN,
-    }
-}
 
 /// What an audit of a quorum's histories finds.
 fn audit_quorum<A: Application>(
@@ -49,8 +33,7 @@ fn audit_quorum<A: Application>(
     requires opening { All (λ app. A.machine app ≡ run config.now.kind []) apps.items }
     ensures { IsErrOf result AuditFault.NoMemory ⊎ IsFinding config.now ring.now histories.now result }
 {
-    let most = known_at_most(histories);
-    let mut verifier = Verifier::with_capacity(alloc, ring.copy()?, random, most)?;
+    let mut verifier = shared_verifier(alloc, ring, histories, random)?;
     let ledger = follow_all(alloc, config, &mut verifier, histories, apps, random)?;
     let sent = sent_in(alloc, histories, random)?;
     look_for_unsent(alloc, config, histories, &sent)?;

@@ -4,8 +4,8 @@ ghost use Rattle.std.specs.List.{AllByRecursion};
 ghost use Rattle.ledger_model.specs.Applications.{run};
 ghost use Rattle.ledger_model.specs.Audits.{are_of_a_quorum};
 ghost use Rattle.replica_core.specs.ReplicaStates.{MatchesHistory};
-ghost use Rattle.replica_core.specs.Following.{IsSameReplicaState};
-ghost use Rattle.history_audit.specs.Followed.{AnswersFollowing, FollowedTo, FollowsOne, FollowsAll};
+ghost use Rattle.replica_core.specs.Following.{AnswersFollowing, IsSameReplicaState};
+ghost use Rattle.history_audit.specs.Followed.{FollowedTo, FollowsOne, FollowsAll};
 
 use crate::fault::AuditFault;
 use abci::Application;

@@ -3,20 +3,31 @@ use Rattle.std.proofs.Common.{◌≡◌, ℕ, ◌≤◌, List, [], refl, inl, in
 use Rattle.std.specs.Prelude.{Option, Some, None, Result, Ok, Err, IfOk, MatchResult}
 use Rattle.std.specs.Io.KnownBytes.{Consumes}
 use Rattle.ledger_model.specs.declared.history.History.{History}
+use Rattle.cluster_keys.specs.Keys.{ring_of}
 use Rattle.history_bytes.specs.HistoryReading.{histories_reading}
+use Rattle.picture_svg.specs.Documents.{picture_text}
+use Rattle.run_picture.specs.declared.history_break.HistoryBreak.{HistoryBreak}
+use Rattle.run_picture.specs.declared.picture.Picture.{Picture}
+use Rattle.run_picture.specs.Pictures.{IsPictureOf}
 use Rattle.settings.specs.declared.draw.DrawSettings.{DrawSettings}
-use Rattle.byte_streams.specs.Writing.{Writes}
+use Rattle.byte_streams.specs.Writing.{AppendsSome, Writes}
+use Rattle.byte_streams.proofs.Faults.{each_way}
 use Rattle.byte_streams.proofs.WritingLemmas.{nothing_some}
 use Rattle.program.specs.declared.outcome.Conclusion.{Conclusion}
 use Rattle.program.specs.Auditing.{ReadsWhole, bad_history}
-use Rattle.program.specs.Drawing.{Draws, DrawsSome, DrawsWritten, DrawsWrittenSome, IsDrawn, Drawn}
+use Rattle.program.specs.Drawing.{Draws, DrawsSome, DrawsWritten, DrawsWrittenSome, IsDrawn, part_of, picture_status}
 
--- the picture was written, or a prefix of it
-pub drawn_written : {E : Type 0} (s : DrawSettings) (histories : List History) (r : Result (Unit {0}) E) (text : List ℕ)
-    (before after : Option (List ℕ)) → Drawn s histories text → Writes r before after text
-    → MatchResult r (λ _. DrawsWritten s histories before after) (λ _. DrawsWrittenSome s histories before after)
-drawn_written s histories (Ok u) text before after drawn written = (text, (drawn, written))
-drawn_written s histories (Err e) text before after drawn written = (text, (inr drawn, written))
+-- a prefix of the picture was written
+pub part_drawn : (s : DrawSettings) (histories : List History) (picture : Picture) (text : List ℕ) (before after : Option (List ℕ))
+    → IsPictureOf s.cluster.config (ring_of s.cluster) histories (part_of s) picture → text ≡ picture_text picture
+    → AppendsSome before after text → DrawsWrittenSome s histories before after
+part_drawn s histories picture text before after shows prints written = (
+  text,
+  (
+    inr (picture_status picture.first_break, record { picture = picture; shows = shows; ends = refl; prints = prints }),
+    written,
+  ),
+)
 
 module _ (s : DrawSettings) (input : List ℕ) (unread left : Option (List ℕ)) where
   -- nothing was written
@@ -25,24 +36,35 @@ module _ (s : DrawSettings) (input : List ℕ) (unread left : Option (List ℕ))
       record { input = input; text = []; goes_with = inl refl; read = read; written = nothing_some before [] }
 
   -- the input is histories, which were drawn
-  pub draws_histories : {E : Type 0} (r : Result Conclusion E) (histories : List History) (before after : Option (List ℕ))
-      → ReadsWhole unread left input → histories_reading s.cluster.config.frames input ≡ Some histories
-      → MatchResult r (λ ending. (ending.status ≡ 0) × DrawsWritten s histories before after)
-      (λ _. DrawsWrittenSome s histories before after)
-      → MatchResult r (λ ending. Draws s ending.status unread left before after) (λ _. DrawsSome s unread left before after)
-  draws_histories (Ok ending) histories before after (read, to_end) reads (zero, (text, (drawn, written))) = (
+  draws_whole : (histories : List History) (status : ℕ) (before after : Option (List ℕ)) → ReadsWhole unread left input
+      → histories_reading s.cluster.config.frames input ≡ Some histories → DrawsWritten s histories status before after
+      → Draws s status unread left before after
+  draws_whole histories status before after (read, to_end) reads (text, (drawn, written)) = (
     to_end,
-    record { input = input; text = text; goes_with = inr (histories, reads, zero, drawn); read = read; written = written },
+    record { input = input; text = text; goes_with = inr (histories, reads, drawn); read = read; written = written },
   )
-  draws_histories (Err e) histories before after (read, to_end) reads (text, (inl none, written)) =
+
+  draws_part : (histories : List History) (before after : Option (List ℕ)) → ReadsWhole unread left input
+      → histories_reading s.cluster.config.frames input ≡ Some histories → DrawsWrittenSome s histories before after
+      → DrawsSome s unread left before after
+  draws_part histories before after (read, to_end) reads (text, (inl none, written)) =
       record { input = input; text = text; goes_with = inl none; read = read; written = written }
-  draws_histories (Err e) histories before after (read, to_end) reads (text, (inr drawn, written)) = record {
+  draws_part histories before after (read, to_end) reads (text, (inr (status, drawn), written)) = record {
     input = input;
     text = text;
-    goes_with = inr (to_end, (0, inr (histories, reads, refl, drawn)));
+    goes_with = inr (to_end, (status, inr (histories, reads, drawn)));
     read = read;
     written = written;
   }
+
+  pub draws_histories : {E : Type 0} (r : Result Conclusion E) (histories : List History) (before after : Option (List ℕ))
+      → ReadsWhole unread left input → histories_reading s.cluster.config.frames input ≡ Some histories
+      → MatchResult r (λ ending. DrawsWritten s histories ending.status before after)
+      (λ _. DrawsWrittenSome s histories before after)
+      → MatchResult r (λ ending. Draws s ending.status unread left before after) (λ _. DrawsSome s unread left before after)
+  draws_histories r histories before after whole reads done =
+      each_way _ _ _ _ r (λ ending written. draws_whole histories ending.status before after whole reads written)
+      (λ fault part. draws_part histories before after whole reads part) done
 
   -- the input is not spelled as histories, and the program printed so
   pub draws_none : {E : Type 0} (r : Result Conclusion E) (before after : Option (List ℕ)) → ReadsWhole unread left input
@@ -61,13 +83,14 @@ module _ (s : DrawSettings) (input : List ℕ) (unread left : Option (List ℕ))
     written = written;
   }
 
--- what ends with nothing to explain does so whatever its status
-pub plain_ended : {E : Type 0} (r : Result Conclusion E) → IfOk r (λ ending. (ending.explanation ≡ None) × (ending.status ≡ 1))
-    → IfOk r (λ ending. ending.explanation ≡ None)
-plain_ended (Ok ending) is = is.0
-plain_ended (Err fault) is = tt
-
 -- a status of a picture is 0 or 1
+status_small : (first : Option HistoryBreak) → picture_status first ≤ 1
+status_small None = omega arith
+status_small (Some b) = omega arith
+
 pub drawn_small : (s : DrawSettings) (input : List ℕ) (status : ℕ) (text : List ℕ) → IsDrawn s input status text → status ≤ 1
 drawn_small s input status text (inl (none, one, shows)) = omega (arith, one)
-drawn_small s input status text (inr (histories, reads, zero, drawn)) = omega (arith, zero)
+drawn_small s input status text (inr (histories, reads, drawn)) =
+    let small = status_small drawn.picture.first_break in
+    let ends = drawn.ends in
+    omega (arith, small, ends)

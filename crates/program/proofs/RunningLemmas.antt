@@ -35,7 +35,7 @@ use Rattle.program.specs.declared.outcome.Outcome.{Outcome}
 use Rattle.program.specs.declared.outcome.Outcome.TheVariants as outcome
 use Rattle.program.specs.declared.outcome.Piped.{Piped}
 use Rattle.program.specs.declared.outcome.Piped.TheVariants as piped
-use Rattle.program.specs.Doing.{AsksForAudit, Begins, Done, ExplainsAudit, Halted, IfEnded, IfHanded, IsAudit, IsHanded, IsQuiet, Performs}
+use Rattle.program.specs.Doing.{AsksForHistories, Begins, Done, ExplainsHistories, FollowsHistories, Halted, IfEnded, IfHanded, IsHanded, IsQuiet, Performs}
 use Rattle.program.specs.Doing.{settings_of, status_of_stream, status_of_text}
 
 -- the frame was written
@@ -94,9 +94,9 @@ audited_done x s r unread left before after is done =
     (λ _. Halted (settings_of y) unread left before after)) (sym is) done
 
 pub audit_explains : {E : Type 0} (x : Piped) (s : AuditSettings) (r : Result Conclusion E) → x ≡ piped.Audit s
-    → IfOk r (λ ending. (ending.explanation ≡ None) ⊎ (ending.status ≡ 1)) → IfOk r (ExplainsAudit (settings_of x))
+    → IfOk r (λ ending. (ending.explanation ≡ None) ⊎ (ending.status ≡ 1)) → IfOk r (ExplainsHistories (settings_of x))
 audit_explains x s (Ok ending) is (inl none) = inl none
-audit_explains x s (Ok ending) is (inr one) = inr (one, subst (λ y. IsAudit (settings_of y)) (sym is) (s, refl))
+audit_explains x s (Ok ending) is (inr one) = inr (one, subst (λ y. FollowsHistories (settings_of y)) (sym is) tt)
 audit_explains x s (Err fault) is explains = tt
 
 -- histories were drawn
@@ -109,10 +109,11 @@ drawn_done x s r unread left before after is done =
     subst (λ y. MatchResult r (λ ending. Done (settings_of y) ending.status unread left before after)
     (λ _. Halted (settings_of y) unread left before after)) (sym is) done
 
-pub plain_explains : {E : Type 0} (x : Settings) (r : Result Conclusion E) → IfOk r (λ ending. ending.explanation ≡ None)
-    → IfOk r (ExplainsAudit x)
-plain_explains x (Ok ending) none = inl none
-plain_explains x (Err fault) none = tt
+pub draw_explains : {E : Type 0} (x : Piped) (s : DrawSettings) (r : Result Conclusion E) → x ≡ piped.Draw s
+    → IfOk r (λ ending. (ending.explanation ≡ None) ⊎ (ending.status ≡ 1)) → IfOk r (ExplainsHistories (settings_of x))
+draw_explains x s (Ok ending) is (inl none) = inl none
+draw_explains x s (Ok ending) is (inr one) = inr (one, subst (λ y. FollowsHistories (settings_of y)) (sym is) tt)
+draw_explains x s (Err fault) is explains = tt
 
 -- all was written, and then flushed
 responds_kept : (P : List ℕ → List ℕ → Type 0) (unread left before mid after : Option (List ℕ)) → Responds P unread left before mid
@@ -180,7 +181,7 @@ Settled s status unread left before after Quiet =
 pub settled : {E : Type 0} (s x : Settings) (r : Result Conclusion E) (status : ℕ) (unread left before after mute told : Option (List ℕ))
     → s ≡ x
     → MatchResult r (λ ending. Done s ending.status unread left before after) (λ _. Halted s unread left before after)
-    → IfOk r (ExplainsAudit s)
+    → IfOk r (ExplainsHistories s)
     → MatchResult r (λ ending. (status ≡ ending.status) × (ending.explanation ≡ None → Keeps mute told)) (λ _. status ≡ 3)
     → Settled x status unread left before after (IsQuiet x status mute told)
 settled s x (Ok ending) status unread left before after mute told same done explains is =
@@ -189,9 +190,9 @@ settled s x (Ok ending) status unread left before after mute told same done expl
       subst (λ y. Done y status unread left before after) same (subst (λ n. Done s n unread left before after) (sym is.0) done),
     )
   where
-    quiet : ExplainsAudit s ending → IsQuiet x status mute told
+    quiet : ExplainsHistories s ending → IsQuiet x status mute told
     quiet (inl none) = inl (is.1 none)
-    quiet (inr (one, audit)) = inr (is.0 ∙ one, subst IsAudit same audit)
+    quiet (inr (one, follows)) = inr (is.0 ∙ one, subst FollowsHistories same follows)
 settled s x (Err e) status unread left before after mute told same halted explains is =
     inr (is, subst (λ y. Halted y unread left before after) same halted)
 
@@ -206,13 +207,13 @@ module _ (words : List (List ℕ)) (s : Settings) (set : IsSet words s) (taken :
   pub settled_quiet : (mute told : Option (List ℕ)) → Settled s status unread left before after (IsQuiet s status mute told) → status ≡ 0
       → Keeps mute told
   settled_quiet mute told (inl (inl keeps, done)) zero = keeps
-  settled_quiet mute told (inl (inr (one, audit), done)) zero = absurd (omega (arith, zero, one))
+  settled_quiet mute told (inl (inr (one, follows), done)) zero = absurd (omega (arith, zero, one))
   settled_quiet mute told (inr (is, halted)) zero = absurd (omega (arith, zero, is))
 
   pub settled_explains : (mute told : Option (List ℕ)) → Settled s status unread left before after (IsQuiet s status mute told)
-      → status ≡ 1 → Keeps mute told ⊎ AsksForAudit words
+      → status ≡ 1 → Keeps mute told ⊎ AsksForHistories words
   settled_explains mute told (inl (inl keeps, done)) one = inl keeps
-  settled_explains mute told (inl (inr (is, (t, audit)), done)) one = inr (t, subst (IsSet words) audit set)
+  settled_explains mute told (inl (inr (is, follows), done)) one = inr (s, (set, follows))
   settled_explains mute told (inr (is, halted)) one = absurd (omega (arith, one, is))
 
   pub settled_refuses : (Q P : Type 0) → Settled s status unread left before after Q → status ≡ 2 → P

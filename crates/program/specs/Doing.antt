@@ -105,18 +105,20 @@ settings_of (piped.Simulate s) = settings.Simulate s
 settings_of (piped.Audit s) = settings.Audit s
 settings_of (piped.Draw s) = settings.Draw s
 
--- the settings are those of an audit
-abbrev pub IsAudit : Settings → Type 0
-IsAudit x = (s : AuditSettings) × (x ≡ settings.Audit s)
+-- the settings are those of an audit or of a picture, which follow histories
+abbrev pub FollowsHistories : Settings → Type 0
+FollowsHistories (settings.Audit s) = ⊤
+FollowsHistories (settings.Draw s) = ⊤
+FollowsHistories _ = ⊥
 
--- the words ask for an audit
-abbrev pub AsksForAudit : List (List ℕ) → Type 0
-AsksForAudit words = (s : AuditSettings) × IsSet words (settings.Audit s)
+-- the words ask for an audit or for a picture
+abbrev pub AsksForHistories : List (List ℕ) → Type 0
+AsksForHistories words = (s : Settings) × (IsSet words s × FollowsHistories s)
 
--- nothing is explained, but for an audit whose status is 1
-abbrev pub ExplainsAudit : Settings → Conclusion → Type 0
-ExplainsAudit x ending = (ending.explanation ≡ None) ⊎ ((ending.status ≡ 1) × IsAudit x)
+-- nothing is explained, but where histories were followed and the status is 1
+abbrev pub ExplainsHistories : Settings → Conclusion → Type 0
+ExplainsHistories x ending = (ending.explanation ≡ None) ⊎ ((ending.status ≡ 1) × FollowsHistories x)
 
--- standard error was left alone, but for an audit whose status is 1
+-- standard error was left alone, but where histories were followed and the status is 1
 abbrev pub IsQuiet : Settings → ℕ → Option (List ℕ) → Option (List ℕ) → Type 0
-IsQuiet x status before after = Keeps before after ⊎ ((status ≡ 1) × IsAudit x)
+IsQuiet x status before after = Keeps before after ⊎ ((status ≡ 1) × FollowsHistories x)

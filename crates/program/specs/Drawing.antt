@@ -2,7 +2,9 @@
 use Rattle.std.specs.Prelude.{◌≡◌, ◌⊎◌, ℕ, ◌==◌, List, [], Option, Some, None, if◌then◌else◌}
 use Rattle.std.specs.Io.KnownBytes.{Appends, Consumes, IsAtEnd}
 use Rattle.ledger_model.specs.declared.history.History.{History}
+use Rattle.cluster_keys.specs.Keys.{ring_of}
 use Rattle.history_bytes.specs.HistoryReading.{histories_reading}
+use Rattle.run_picture.specs.declared.history_break.HistoryBreak.{HistoryBreak}
 use Rattle.run_picture.specs.declared.part.Part.{Part}
 use Rattle.run_picture.specs.declared.picture.Picture.{Picture}
 use Rattle.run_picture.specs.Pictures.{IsPictureOf}
@@ -20,18 +22,23 @@ wanted_height h = if h == 0 then None else Some h
 abbrev pub part_of : DrawSettings → Part
 part_of s = record { first = s.first; last = s.last; height = wanted_height s.height }
 
--- the text is the picture of what these histories show in the part
-pub record Drawn (s : DrawSettings) (histories : List History) (text : List ℕ) : Type 0 where
+-- the exit status: 0 if each history is a replay
+abbrev pub picture_status : Option HistoryBreak → ℕ
+picture_status None = 0
+picture_status (Some b) = 1
+
+-- the text is the picture of what these histories show in the part, under the keys of the cluster, and this is its status
+pub record Drawn (s : DrawSettings) (histories : List History) (status : ℕ) (text : List ℕ) : Type 0 where
   pub picture : Picture
-  pub shows : IsPictureOf s.cluster.config histories (part_of s) picture
+  pub shows : IsPictureOf s.cluster.config (ring_of s.cluster) histories (part_of s) picture
+  pub ends : status ≡ picture_status picture.first_break
   pub prints : text ≡ picture_text picture
 
 -- the input has this status, and this is written for it: it is no histories, or these are drawn
 abbrev pub IsDrawn : DrawSettings → List ℕ → ℕ → List ℕ → Type 0
 IsDrawn s input status text =
     ((histories_reading s.cluster.config.frames input ≡ None) × (status ≡ 1) × (text ≡ bad_history))
-    ⊎ ((histories : List History) × (histories_reading s.cluster.config.frames input ≡ Some histories) × (status ≡ 0)
-    × Drawn s histories text)
+    ⊎ ((histories : List History) × (histories_reading s.cluster.config.frames input ≡ Some histories) × Drawn s histories status text)
 
 -- the whole input was read, and what is written for it was written
 abbrev pub Draws : DrawSettings → ℕ → Option (List ℕ) → Option (List ℕ) → Option (List ℕ) → Option (List ℕ) → Type 0
@@ -46,9 +53,10 @@ DrawsSome s unread left before after =
 -- ---- the results of calls
 
 -- the picture of these histories was written
-abbrev pub DrawsWritten : DrawSettings → List History → Option (List ℕ) → Option (List ℕ) → Type 0
-DrawsWritten s histories before after = (text : List ℕ) × (Drawn s histories text × Appends before after text)
+abbrev pub DrawsWritten : DrawSettings → List History → ℕ → Option (List ℕ) → Option (List ℕ) → Type 0
+DrawsWritten s histories status before after = (text : List ℕ) × (Drawn s histories status text × Appends before after text)
 
 -- nothing was written, or a prefix of the picture of these histories
 abbrev pub DrawsWrittenSome : DrawSettings → List History → Option (List ℕ) → Option (List ℕ) → Type 0
-DrawsWrittenSome s histories before after = (text : List ℕ) × (((text ≡ []) ⊎ Drawn s histories text) × AppendsSome before after text)
+DrawsWrittenSome s histories before after =
+    (text : List ℕ) × (((text ≡ []) ⊎ ((status : ℕ) × Drawn s histories status text)) × AppendsSome before after text)

@@ -1,20 +1,25 @@
 //! `abft draw`: reads histories, and writes a picture of their run.
-ghost use Rattle.std.specs.Prelude.{◌≡◌, None, MatchResult, IfErr, IfOk};
-ghost use Rattle.program_streams.specs.Faults.{IsMemoryOrAsked};
-ghost use Rattle.program.specs.Drawing.{Draws, DrawsSome, DrawsWritten, DrawsWrittenSome, part_of};
+ghost use Rattle.std.specs.Prelude.{◌≡◌, ◌⊎◌, None, MatchResult, IfErr, IfOk};
+ghost use Rattle.cluster_keys.specs.Keys.{ring_of};
+ghost use Rattle.program_streams.specs.Faults.{IsMemoryOrAsked, IsMemoryOrRandom};
+ghost use Rattle.run_picture.specs.Pictures.{IsPictureOf};
+ghost use Rattle.program.specs.Drawing.{Draws, DrawsSome, DrawsWritten, DrawsWrittenSome, part_of, picture_status};
 
 use crate::auditing::print_bad_history;
 use crate::outcome::Conclusion;
 use crate::reading::read_whole;
-use crate::status::DONE;
+use crate::status::{BAD_INPUT, DONE};
+use audit_lines::{explanation, new_apps};
 use bytes::Bytes;
+use cluster_keys::all_keys;
+use history_audit::AuditFault;
 use history_reading::{HistoryFault, read_histories};
-use ledger_model::{Height, History};
+use ledger_model::{Config, Height, History};
 use picture_svg::svg_of;
 use program_streams::{ProgramFault, new_random_key, write_output};
-use run_picture::{Part, picture_of};
+use run_picture::{Part, Picture, picture_of};
 use settings::DrawSettings;
-use std::alloc::Global;
+use std::alloc::{AllocError, Global};
 use std::io::{Read, Write};
 use std::random::RandomSource;
 
@@ -34,6 +39,56 @@ fn part_of(settings: &DrawSettings) -> Part
     }
 }
 
+/// The picture of histories under the public keys of the cluster.
+fn drawn<S: RandomSource>(
+    source: &S,
+    alloc: Global,
+    settings: &DrawSettings,
+    histories: &[History],
+) -> Result<Picture, ProgramFault>
+    ensures shows { IfOk result (IsPictureOf settings.now.cluster.config (ring_of settings.now.cluster) histories.now (part_of settings.now)) }
+    ensures fault { IfErr result IsMemoryOrRandom }
+{
+    let config = &settings.cluster.config;
+    let part = part_of(settings);
+    let keys = all_keys(alloc, &settings.cluster)?;
+    let apps = new_apps(alloc, config.kind, usize::from(config.replicas))?;
+    let random = new_random_key(source)?;
+    let picture = picture_of(alloc, config, &keys.ring, histories, apps, part, random)?;
+    Ok(picture)
+}
+
+/// The exit status: 0 if each history is a replay.
+fn status_of(picture: &Picture) -> u8
+    ensures { result ≡ picture_status picture.now.first_break }
+{
+    match &picture.first_break {
+        Some(_) => BAD_INPUT,
+        None => DONE,
+    }
+}
+
+/// The sentence about the first history that isn't a replay, as an audit explains it.
+fn explained(
+    alloc: Global,
+    config: &Config,
+    histories: &[History],
+    picture: &Picture,
+) -> Result<Option<String>, AllocError>
+    ensures { IfOk result (λ text. (text ≡ None) ⊎ (picture_status picture.now.first_break ≡ 1)) }
+{
+    match &picture.first_break {
+        Some(first_break) => {
+            let fault = AuditFault::NotReplay {
+                replica: first_break.replica,
+                index: first_break.entry,
+            };
+            Ok(Some(explanation(alloc, config, histories, &fault)?))
+        }
+        None => Ok(None),
+    }
+}
+
 /// Draws histories, and writes the picture.
 fn draw_histories<S: RandomSource, W: Write>(
     source: &S,
@@ -41,39 +96,27 @@ fn draw_histories<S: RandomSource, W: Write>(
     settings: &DrawSettings,
     histories: &[History],
     writer: &mut W,
-) -> Result<(), ProgramFault>
-    ensures draws { MatchResult result
-        (λ _. DrawsWritten settings.now histories.now (W.contents writer.old) (W.contents writer.new))
-        (λ _. DrawsWrittenSome settings.now histories.now (W.contents writer.old) (W.contents writer.new)) }
-    ensures fault { IfErr result IsMemoryOrAsked }
-{
-    let part = part_of(settings);
-    let random = new_random_key(source)?;
-    let picture = picture_of(alloc, &settings.cluster.config, histories, part, random)?;
-    let svg = svg_of(alloc, &picture)?;
-    write_output(writer, &svg)
-}
-
-/// Draws histories, writes the picture, and ends.
-fn draw_and_end<S: RandomSource, W: Write>(
-    source: &S,
-    alloc: Global,
-    settings: &DrawSettings,
-    histories: &[History],
-    writer: &mut W,
 ) -> Result<Conclusion, ProgramFault>
     ensures draws { MatchResult result
-        (λ ending. (ending.status ≡ 0) × DrawsWritten settings.now histories.now (W.contents writer.old) (W.contents writer.new))
+        (λ ending. DrawsWritten settings.now histories.now ending.status (W.contents writer.old) (W.contents writer.new))
         (λ _. DrawsWrittenSome settings.now histories.now (W.contents writer.old) (W.contents writer.new)) }
-    ensures plain { IfOk result (λ ending. ending.explanation ≡ None) }
+    ensures explains { IfOk result (λ ending. (ending.explanation ≡ None) ⊎ (ending.status ≡ 1)) }
     ensures fault { IfErr result IsMemoryOrAsked }
 {
-    draw_histories(source, alloc, settings, histories, writer)?;
-    Ok(Conclusion::plain(DONE))
+    let picture = drawn(source, alloc, settings, histories)?;
+    let svg = svg_of(alloc, &picture)?;
+    let explanation = explained(alloc, &settings.cluster.config, histories, &picture)?;
+    write_output(writer, &svg)?;
+    Ok(Conclusion {
+        status: status_of(&picture),
+        explanation,
+    })
 }
 
-/// Reads the histories of a stream to its end, and writes a picture of their run. If the bytes are no histories, it writes that. The
-/// random bytes are the keys of hashes.
+/// Reads the histories of a stream to its end, follows them under the keys of the settings' cluster, and writes a picture of their run.
+/// Each history is drawn as far as it is a replay. If the bytes are no histories, it writes that. The random bytes are the keys of hashes.
+///
+/// The end has a sentence about the first history that isn't a replay.
 pub fn draw<S: RandomSource, R: Read, W: Write>(
     source: &S,
     alloc: Global,
@@ -84,7 +127,8 @@ pub fn draw<S: RandomSource, R: Read, W: Write>(
     ensures draws { MatchResult result
         (λ ending. Draws settings.now ending.status (R.remaining reader.old) (R.remaining reader.new) (W.contents writer.old) (W.contents writer.new))
         (λ _. DrawsSome settings.now (R.remaining reader.old) (R.remaining reader.new) (W.contents writer.old) (W.contents writer.new)) }
-    ensures plain { IfOk result (λ ending. ending.explanation ≡ None) }
+    // Nothing is explained at status 0.
+    ensures explains { IfOk result (λ ending. (ending.explanation ≡ None) ⊎ (ending.status ≡ 1)) }
     ensures fault { IfErr result IsMemoryOrAsked }
 {
     let bytes = read_whole(alloc, reader)?;
@@ -93,7 +137,7 @@ pub fn draw<S: RandomSource, R: Read, W: Write>(
         alloc,
         Bytes::from_vec(bytes)?,
     ) {
-        Ok(histories) => draw_and_end(source, alloc, settings, &histories, writer),
+        Ok(histories) => draw_histories(source, alloc, settings, &histories, writer),
         Err(HistoryFault::BadHistory) => print_bad_history(writer),
         Err(HistoryFault::NoMemory) => Err(ProgramFault::NoMemory),
     }

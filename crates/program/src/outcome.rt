@@ -23,7 +23,7 @@ pub enum Outcome {
 pub struct Conclusion {
     /// The exit status.
     pub status: u8,
-    /// A sentence for standard error about the fault that an audit found.
+    /// A sentence for standard error about what an audit or a picture found wrong with histories.
     pub explanation: Option<String>,
 }
 

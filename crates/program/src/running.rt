@@ -8,7 +8,7 @@ ghost use Rattle.command_line.specs.Options.{AsksForText, IsRefused, IsSet, Want
 ghost use Rattle.program_streams.specs.Faults.{IsMemoryOrAsked};
 ghost use Rattle.program.specs.Statements.{signed};
 ghost use Rattle.byte_streams.specs.Writing.{Writes};
-ghost use Rattle.program.specs.Doing.{AsksForAudit, Begins, Done, ExplainsAudit, Halted, IfEnded, IfHanded, IsQuiet, Performs, settings_of, status_of_stream, status_of_text};
+ghost use Rattle.program.specs.Doing.{AsksForHistories, Begins, Done, ExplainsHistories, Halted, IfEnded, IfHanded, IsQuiet, Performs, settings_of, status_of_stream, status_of_text};
 
 use crate::auditing::audit;
 use crate::delivering::deliver;
@@ -49,9 +49,9 @@ pub fn run<S: RandomSource, R: Read, W: Write, F: Write>(
         ⊎ (IsRefused (map (λ w. w.now) words.entry.now) × AskForHelp (map (λ w. w.now) words.entry.now)
         × (status ≡ 0) × Keeps (R.remaining reader.old) (R.remaining reader.new))) }
     ensures quiet { IfEnded result (λ status. status ≡ 0 → Keeps (F.contents faults.old) (F.contents faults.new)) }
-    // Only an audit explains what it found.
+    // Only an audit and a picture explain what is wrong with histories.
     ensures explains { IfEnded result (λ status. status ≡ 1
-        → Keeps (F.contents faults.old) (F.contents faults.new) ⊎ AsksForAudit (map (λ w. w.now) words.entry.now)) }
+        → Keeps (F.contents faults.old) (F.contents faults.new) ⊎ AsksForHistories (map (λ w. w.now) words.entry.now)) }
     // The words are no command line, or set nothing, and don't ask for the help or the version.
     ensures refuses { IfEnded result (λ status. status ≡ 2 → IsRefused (map (λ w. w.now) words.entry.now)
         × (AskForHelpAlone (map (λ w. w.now) words.entry.now) → ⊥)
@@ -150,7 +150,7 @@ fn perform<S: RandomSource, R: Read, W: Write>(
     ensures done { MatchResult result
         (λ ending. Done (settings_of settings.now) ending.status (R.remaining reader.old) (R.remaining reader.new) (W.contents writer.old) (W.contents writer.new))
         (λ _. Halted (settings_of settings.now) (R.remaining reader.old) (R.remaining reader.new) (W.contents writer.old) (W.contents writer.new)) }
-    ensures explains { IfOk result (ExplainsAudit (settings_of settings.now)) }
+    ensures explains { IfOk result (ExplainsHistories (settings_of settings.now)) }
 {
     match settings {
         Piped::Sign(settings) => {
@@ -181,7 +181,7 @@ fn perform_whole<S: RandomSource, R: Read, W: Write>(
     ensures done { MatchResult result
         (λ ending. Done (settings_of settings.now) ending.status (R.remaining reader.old) (R.remaining reader.new) (W.contents writer.old) (W.contents writer.new))
         (λ _. Halted (settings_of settings.now) (R.remaining reader.old) (R.remaining reader.new) (W.contents writer.old) (W.contents writer.new)) }
-    ensures explains { IfOk result (ExplainsAudit (settings_of settings.now)) }
+    ensures explains { IfOk result (ExplainsHistories (settings_of settings.now)) }
 {
     let ending = perform(source, alloc, settings, reader, writer)?;
     flush_output(writer)?;

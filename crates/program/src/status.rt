@@ -2,7 +2,8 @@
 
 /// Everything was done.
 pub(crate) const DONE: u8 = 0;
-/// The input was cut, or is no stream of frames, no scenario and no histories, or an audit found a fault or a wrong receipt.
+/// The input was cut, or is no stream of frames, no scenario and no histories; an audit found a fault or a wrong receipt, or a picture a
+/// history that is no replay.
 pub(crate) const BAD_INPUT: u8 = 1;
 /// The words are no command line.
 pub(crate) const BAD_USAGE: u8 = 2;

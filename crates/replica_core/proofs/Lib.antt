@@ -9,6 +9,7 @@ pub mod Placing
 pub mod Executes
 pub mod Machines
 pub mod AscendingRows
+pub mod UndecidedHeights
 pub mod SentHeights
 pub mod SentFrames
 pub mod AllHeights
@@ -33,6 +34,7 @@ pub mod ShownClosings
 pub mod PairedLists
 pub mod JudgedMades
 pub mod Followed
+pub mod FollowedReplays
 pub mod EventsFollowed
 pub mod ShownRounds
 pub mod DueLeaves

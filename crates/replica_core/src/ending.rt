@@ -40,16 +40,6 @@ impl<A: Application> ReplicaState<A> {
         self.rows.plan_ends(alloc, self.clock)
     }
 
-    /// Whether the replica is mute.
-    pub(crate) fn is_mute(&self) -> bool
-        ensures mute { result ≡ self.now.mute }
-        ensures held { IsWithinLimits self.now }
-    {
-        // This call shows the proof that the open heights ascend and are within their limits.
-        let _ = self.rows.instances();
-        self.mute
-    }
-
     /// Whether the last round is open.
     pub(crate) fn is_over(&self) -> bool
         ensures over { result ≡ true → self.now.clock ≡ last_round }

@@ -100,6 +100,13 @@ impl<A: Application> Follower<A> {
         self.kept.swap_verifier(verifier);
     }
 
+    /// What the replica derives from the entries that the follower took.
+    pub fn replay(&self) -> &ReplicaState<A>
+        ensures { result.now ≡ self.now.held }
+    {
+        &self.kept
+    }
+
     /// Whether the follower is lost: some entry was refused.
     pub fn is_lost(&self) -> bool
         ensures { result ≡ self.now.lost }

@@ -1,12 +1,13 @@
 //! The core of a replica, and the one step that changes it: one event, one lawful reply.
 //!
-//! A [`Core`] has its floor and the open heights, the pool, the application and the blocks committed to it, the open round, and the
-//! replica's keys. It stores no history. `specs/ReplicaStates` defines when this state matches a history.
-//! [`Core::step`] ensures that the state then matches the history with one more entry. Whoever keeps the frames of a round end ends it
+//! A [`Replay`] is what a replica derives from its history: its floor and the open heights, the pool, the application and the blocks
+//! committed to it, and the open round. It stores no history. `specs/ReplicaStates` defines when this state matches a history.
+//!
+//! A [`Core`] is a replay with the replica's keys. [`Core::step`] ensures that the state then matches the history with one more entry. Whoever keeps the frames of a round end ends it
 //! by two calls in place of one: [`Core::prepare_end`] builds the reply, and [`Core::finish_end`] takes no memory.
 //!
-//! A [`Follower`] takes the history of another replica, entry by entry and without its secret key, and returns for each
-//! entry whether it continues the replay.
+//! A [`Follower`] is a replay of another replica's history: it takes the entries one by one and without the secret key, and returns for
+//! each whether it continues the replay. Followers of several histories share one verifier ([`shared_verifier`]).
 #![tactic(auto)]
 
 mod closings;
@@ -25,6 +26,7 @@ mod replica;
 mod replica_state;
 mod retiring;
 mod sending;
+mod sharing;
 mod shown_frames;
 mod signing;
 mod submitting;
@@ -33,3 +35,5 @@ mod verifying;
 pub use follower::Follower;
 pub use prepared::Prepared;
 pub use replica::Core;
+pub use replica_state::ReplicaState as Replay;
+pub use sharing::shared_verifier;

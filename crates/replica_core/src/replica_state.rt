@@ -1,4 +1,4 @@
-//! What a replica derives from its history.
+//! What a replica derives from its history: the engine that a core runs with a signer, and a follower with a comparison.
 use abci::Application;
 use abci_executor::Executor;
 use batch_pool::Pool;
@@ -10,9 +10,9 @@ use std::hash::RandomState;
 use std::marker::Model;
 use verify_cache::Verifier;
 
-/// The floor and the open heights, the pool, the application and what was committed to it, the open round, and whether the replica is mute.
-/// Contracts see a `ReplicaStateView`.
-pub(crate) struct ReplicaState<A: Application> {
+/// What a replica derives from its history: the floor and the open heights, the pool, the application and what was committed to it, the open
+/// round, and whether the replica is mute. Contracts see a `ReplicaStateView`.
+pub struct ReplicaState<A: Application> {
     pub(crate) config: Config,
     pub(crate) id: ReplicaId,
     /// The keys, and which signatures are known to be valid under them.
@@ -70,8 +70,7 @@ impl<A: Application> Model for ReplicaState<A> {
 }
 
 impl<A: Application> ReplicaState<A> {
-    ghost use Rattle.std.specs.Prelude.{◌≡◌, ◌<◌, ◌≤◌, [], length, IfOk};
-    ghost use Rattle.ledger_model.specs.Limits.{max_height};
+    ghost use Rattle.std.specs.Prelude.{◌≡◌, ◌<◌, [], IfOk};
     ghost use Rattle.ledger_model.specs.Applications.{run};
     ghost use Rattle.replica_core.specs.ReplicaStates.{new_replica_state};
 
@@ -103,15 +102,5 @@ impl<A: Application> ReplicaState<A> {
             clock: 0,
             mute: false,
         })
-    }
-
-    /// The number of committed blocks.
-    pub(crate) fn height(&self) -> u32
-        ensures height { result ≡ length self.now.commits }
-        ensures most { result ≤ max_height }
-    {
-        // This read opens the invariant for the proof: the application ran as many blocks.
-        let _ = &self.config;
-        self.executor.height()
     }
 }

@@ -8,7 +8,7 @@ use Rattle.run_picture.specs.declared.picture.Shown.{Shown}
 use Rattle.run_picture.specs.Orders.{shown_from, clock_after}
 use Rattle.run_picture.specs.Frames.{sent_at, delivered_at}
 use Rattle.run_picture.specs.Facts.{facts_at}
-use Rattle.run_picture.specs.Collected.{Adds, AddsHistory}
+use Rattle.run_picture.specs.Collected.{Adds, AddsEntries}
 use Rattle.history_parts.proofs.Items.{drop_item}
 use Rattle.run_picture.proofs.Orders.{shown_next, shown_last}
 
@@ -57,7 +57,7 @@ reaches_next part r entries old now next i clock e inside is before adds = recor
 
 -- all entries
 pub reaches_all : (part : Part) (r : ℕ) (entries : List Entry) (old now : Shown) (i clock : ℕ) → length entries ≤ i
-    → Reaches part r entries old now i clock → AddsHistory part r entries old now
+    → Reaches part r entries old now i clock → AddsEntries part r entries old now
 reaches_all part r entries old now i clock over before = record {
   sent = shown_last (sent_at part r) now.sent.items old.sent.items i clock entries over before.sent;
   deliveries = shown_last (delivered_at part r) now.deliveries.items old.deliveries.items i clock entries over before.deliveries;

@@ -1,7 +1,10 @@
 -- Lists that grow by what each element shows.
-use Rattle.std.proofs.Common.{◌≡◌, ◌∙◌, ℕ, ◌+◌, ◌<◌, ◌≤◌, List, [], ◌++◌, length, get_or, drop, sym, ap, append_assoc, append-nil}
+use Rattle.std.proofs.Common.{◌≡◌, ◌∙◌, ℕ, ◌+◌, ◌<◌, ◌≤◌, List, [], ◌++◌, length, get_or, take, drop, sym, ap, append_assoc, append-nil}
+use Rattle.std.specs.List.{flat_map}
+use Rattle.std.proofs.lemmas.List.{flat_map_more}
 use Rattle.std.proofs.Math.ListN.{drop_of_length-le}
 use Rattle.history_parts.proofs.Items.{drop_item}
+use Rattle.ledger_model.proofs.Lists.{take_item}
 use Rattle.ledger_model.specs.declared.history.Entry.{Entry}
 use Rattle.run_picture.specs.Orders.{clock_after, shown_from}
 
@@ -33,3 +36,10 @@ pub shown_last : {X : Type 0} (shown : ℕ → ℕ → Entry → List X) (out st
 shown_last shown out start i clock entries over before =
     no_more out start (shown_from shown i clock (drop i entries)) (shown_from shown 0 0 entries) before
     (ap (shown_from shown i clock) (drop_of_length-le entries over))
+
+-- what one element more gives
+pub flat_next : {X Y : Type 0} (f : X → List Y) (xs : List X) (i : ℕ) (x : X) (before after start : List Y) → i < length xs
+    → x ≡ get_or xs i x → before ≡ start ++ flat_map f (take i xs) → after ≡ before ++ f x
+    → after ≡ start ++ flat_map f (take (i + 1) xs)
+flat_next f xs i x before after start inside is was now =
+    now ∙ ap (λ l. l ++ f x) was ∙ flat_map_more f start (take i xs) x ∙ ap (λ ys. start ++ flat_map f ys) (sym (take_item xs i x inside is))

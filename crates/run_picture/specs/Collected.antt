@@ -1,15 +1,26 @@
--- What is collected of histories, entry by entry.
-use Rattle.std.specs.Prelude.{◌≡◌, ℕ, List, ◌++◌, Option}
+-- What is collected of histories, entry by entry and replica by replica.
+use Rattle.std.specs.Prelude.{◌≡◌, ◌↔◌, ℕ, Bool, true, false, not, List, [], ◌∷◌, ◌++◌, length, take, Option, Some, None}
+use Rattle.ledger_model.specs.declared.config.Config.{Config}
 use Rattle.ledger_model.specs.declared.history.Entry.{Entry}
 use Rattle.ledger_model.specs.declared.history.History.{History}
+use Rattle.ledger_model.specs.Lawful.{clock_at}
+use Rattle.ledger_model.specs.Rules.{Ring}
+use Rattle.replica_core.specs.ReplicaStates.{MatchesHistory}
+use Rattle.replica_core.specs.Following.{FollowerView, KeepsReplay}
 use Rattle.run_picture.specs.declared.part.Part.{Part}
 use Rattle.run_picture.specs.declared.entry_facts.Mark.{Mark}
 use Rattle.run_picture.specs.declared.sent_frames.SentFrame.{SentFrame}
 use Rattle.run_picture.specs.declared.deliveries.Delivery.{Delivery}
+use Rattle.run_picture.specs.declared.following.ReplayMarks.{ReplayMarks}
 use Rattle.run_picture.specs.declared.picture.Shown.{Shown}
-use Rattle.run_picture.specs.Orders.{shown_from, shown_if}
+use Rattle.run_picture.specs.declared.picture.Collected.{Collected}
+use Rattle.run_picture.specs.Orders.{shown_from}
+use Rattle.run_picture.specs.Breaks.{IsLongestReplay, ShowReplays, FindsBreak, break_after}
 use Rattle.run_picture.specs.Frames.{sent_at, delivered_at}
 use Rattle.run_picture.specs.Facts.{facts_at}
+use Rattle.run_picture.specs.Decisions.{decisions_at, decisions_in}
+use Rattle.run_picture.specs.Retiring.{retired_at, retired_in}
+use Rattle.run_picture.specs.Pictures.{rounds_in, sent_in, delivered_in, facts_in, decided_in, all_retired}
 
 -- these frames, deliveries and facts are appended
 pub record Adds (old new : Shown) (ss : List SentFrame) (ds : List Delivery) (fs : List Mark) : Type 0 where
@@ -18,13 +29,70 @@ pub record Adds (old new : Shown) (ss : List SentFrame) (ds : List Delivery) (fs
   pub facts : new.facts.items ≡ old.facts.items ++ fs
 
 -- what replica r's entries show is appended
-abbrev pub AddsHistory : Part → ℕ → List Entry → Shown → Shown → Type 0
-AddsHistory part r entries old new =
+abbrev pub AddsEntries : Part → ℕ → List Entry → Shown → Shown → Type 0
+AddsEntries part r entries old new =
     Adds old new (shown_from (sent_at part r) 0 0 entries) (shown_from (delivered_at part r) 0 0 entries)
     (shown_from (facts_at part r) 0 0 entries)
 
+-- entry e, of this index, is taken exactly if it continues each replay that the follower matches; what it decides and gives up is then
+-- appended, and otherwise nothing is
+pub record FollowsEntry (part : Part) (index : ℕ) (e : Entry) (old new : FollowerView) (before after : ReplayMarks) (kept : Bool) : Type 0
+  where
+    pub exact : (front : List Entry) → MatchesHistory old.held front → kept ≡ true ↔ KeepsReplay old.held front e.event e.reply
+    pub matches : kept ≡ true → (front : List Entry) → MatchesHistory old.held front → MatchesHistory new.held (front ++ e ∷ [])
+    pub lost : new.lost ≡ not kept
+    pub left : kept ≡ false → after ≡ before
+    pub decisions : kept ≡ true → (front : List Entry) → MatchesHistory old.held front → length front ≡ index
+        → after.decisions.items ≡ before.decisions.items ++ decisions_at old.held.config part old.held.id front e
+    pub retired : kept ≡ true → (front : List Entry) → MatchesHistory old.held front → length front ≡ index
+        → after.retired.items ≡ before.retired.items ++ retired_at part old.held.id front e
+
+-- replica r's entries were followed as far as they are a replay: so many are shown, and what they decide and give up is appended
+pub record FollowsHistory (config : Config) (ring : Ring) (part : Part) (r : ℕ) (entries : List Entry) (before after : ReplayMarks)
+    (count : ℕ) : Type 0 where
+  pub longest : IsLongestReplay config ring r entries count
+  pub decisions : after.decisions.items ≡ before.decisions.items ++ decisions_in config part r (take count entries)
+  pub retired : after.retired.items ≡ before.retired.items ++ retired_in part r (take count entries)
+
+-- what replica r's history shows is appended: that of its longest replay
+pub record AddsHistory (config : Config) (ring : Ring) (part : Part) (r : ℕ) (entries : List Entry) (old new : Collected) : Type 0 where
+  pub count : ℕ
+  pub marks : FollowsHistory config ring part r entries old.marks new.marks count
+  pub shown : AddsEntries part r (take count entries) old.shown new.shown
+  pub rounds : new.rounds.items ≡ old.rounds.items ++ Some (clock_at (take count entries)) ∷ []
+  pub breaks : new.first_break ≡ break_after old.first_break r count (length entries)
+
+-- a replica without a history shows nothing
+pub record AddsNothing (old new : Collected) : Type 0 where
+  pub marks : new.marks ≡ old.marks
+  pub shown : new.shown ≡ old.shown
+  pub rounds : new.rounds.items ≡ old.rounds.items ++ None ∷ []
+  pub breaks : new.first_break ≡ old.first_break
+
 -- what replica r's history shows is appended, if it was handed in
-abbrev pub AddsIf : Part → ℕ → Option History → Shown → Shown → Type 0
-AddsIf part r history old new =
-    Adds old new (shown_if (shown_from (sent_at part r) 0 0) history) (shown_if (shown_from (delivered_at part r) 0 0) history)
-    (shown_if (shown_from (facts_at part r) 0 0) history)
+abbrev pub AddsRow : Config → Ring → Part → ℕ → Option History → Collected → Collected → Type 0
+AddsRow config ring part r None old new = AddsNothing old new
+AddsRow config ring part r (Some m) old new = AddsHistory config ring part r m.entries old new
+
+-- nothing was collected yet
+pub record IsNothing (now : Collected) : Type 0 where
+  pub sent : now.shown.sent.items ≡ []
+  pub deliveries : now.shown.deliveries.items ≡ []
+  pub facts : now.shown.facts.items ≡ []
+  pub decisions : now.marks.decisions.items ≡ []
+  pub retired : now.marks.retired.items ≡ []
+  pub rounds : now.rounds.items ≡ []
+  pub breaks : now.first_break ≡ None
+
+-- what the histories of the replicas below n show, each as far as it is a replay, and where the first breaks
+pub record Collects (config : Config) (ring : Ring) (part : Part) (histories : List History) (n : ℕ) (now : Collected) : Type 0 where
+  pub rows : List (Option (List Entry))
+  pub count : length rows ≡ n
+  pub replays : ShowReplays config ring histories 0 rows
+  pub sent : now.shown.sent.items ≡ sent_in part rows
+  pub deliveries : now.shown.deliveries.items ≡ delivered_in part rows
+  pub facts : now.shown.facts.items ≡ facts_in part rows
+  pub decisions : now.marks.decisions.items ≡ decided_in config part rows
+  pub retired : now.marks.retired.items ≡ all_retired part rows
+  pub rounds : now.rounds.items ≡ rounds_in rows
+  pub breaks : FindsBreak config ring histories n now.first_break

@@ -1,5 +1,6 @@
 pub mod Parts
 pub mod Orders
+pub mod Breaks
 pub mod Frames
 pub mod Facts
 pub mod Decisions

@@ -1,8 +1,6 @@
 -- What histories show, in the order of replicas and of their entries.
-use Rattle.std.specs.Prelude.{ℕ, zero, suc, ◌+◌, List, [], ◌∷◌, ◌++◌, Option, Some, None, if◌then◌else◌}
+use Rattle.std.specs.Prelude.{ℕ, ◌+◌, List, [], ◌∷◌, ◌++◌, Option, Some, None, if◌then◌else◌}
 use Rattle.ledger_model.specs.declared.history.Entry.{Entry}
-use Rattle.ledger_model.specs.declared.history.History.{History}
-use Rattle.ledger_model.specs.Groups.{history_of}
 use Rattle.ledger_model.specs.Lawful.{is_opened}
 
 -- the round that is open after an entry, if `clock` was open before it
@@ -14,12 +12,17 @@ abbrev pub shown_from : {X : Type 0} → (ℕ → ℕ → Entry → List X) → 
 shown_from shown i clock [] = []
 shown_from shown i clock (e ∷ es) = shown i clock e ++ shown_from shown (i + 1) (clock_after clock e) es
 
--- what a history shows, if it was handed in
-abbrev pub shown_if : {X : Type 0} → (List Entry → List X) → Option History → List X
-shown_if shown None = []
-shown_if shown (Some m) = shown m.entries
+-- What entries show, each after those before it. `shown` takes the entries before an entry, and the entry.
+abbrev pub shown_after : {X : Type 0} → (List Entry → Entry → List X) → List Entry → List Entry → List X
+shown_after shown front [] = []
+shown_after shown front (e ∷ es) = shown front e ++ shown_after shown (front ++ e ∷ []) es
 
--- what the histories of n replicas show, from replica r on; `shown` takes the replica and the entries of its history
-abbrev pub shown_by : {X : Type 0} → (ℕ → List Entry → List X) → List History → ℕ → ℕ → List X
-shown_by shown histories r zero = []
-shown_by shown histories r (suc n) = shown_if (shown r) (history_of histories r) ++ shown_by shown histories (r + 1) n
+-- what the entries of a replica show, if its history was handed in
+abbrev pub shown_if : {X : Type 0} → (List Entry → List X) → Option (List Entry) → List X
+shown_if shown None = []
+shown_if shown (Some entries) = shown entries
+
+-- what the entries of the replicas from r on show; `shown` takes the replica and its entries
+abbrev pub shown_by : {X : Type 0} → (ℕ → List Entry → List X) → ℕ → List (Option (List Entry)) → List X
+shown_by shown r [] = []
+shown_by shown r (row ∷ rows) = shown_if (shown r) row ++ shown_by shown (r + 1) rows

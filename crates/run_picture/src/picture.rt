@@ -1,26 +1,32 @@
 //! What a picture of a run shows, from the histories of the run's replicas.
-ghost use Rattle.std.specs.Prelude.{◌≡◌, ◌++◌, ◌<◌, ◌-◌, ◌^◌, IfOk, OnOk};
+ghost use Rattle.std.specs.Prelude.{◌≡◌, ◌≤◌, ◌<◌, ◌-◌, ◌^◌, [], List, length, IfOk, OnOk};
+ghost use Rattle.std.specs.List.{All, AllByRecursion};
 ghost use Rattle.std.specs.Option.{option_copied};
+ghost use Rattle.ledger_model.specs.declared.history.History.{History as HistoryValue};
+ghost use Rattle.ledger_model.specs.Applications.{run};
 ghost use Rattle.ledger_model.specs.Lawful.{clock_at};
-ghost use Rattle.run_picture.specs.Orders.{shown_if};
+ghost use Rattle.ledger_model.specs.Rules.{Ring};
 ghost use Rattle.run_picture.specs.Frames.{sent_at, delivered_at};
 ghost use Rattle.run_picture.specs.Facts.{facts_at};
-ghost use Rattle.run_picture.specs.Decisions.{decisions_in};
-ghost use Rattle.run_picture.specs.Pictures.{IsPictureOf, rounds_if, rounds_in, sent_in, delivered_in, facts_in, decided_in};
-ghost use Rattle.run_picture.specs.Collected.{Adds, AddsHistory, AddsIf};
+ghost use Rattle.run_picture.specs.Pictures.{IsPictureOf};
+ghost use Rattle.run_picture.specs.Collected.{Adds, AddsEntries, AddsHistory, AddsRow, Collects, IsNothing};
 
-use crate::deciding::add_decisions;
 use crate::deliveries::{Delivery, add_delivered};
 use crate::entry_facts::{Mark, add_facts};
+use crate::following::{ReplayMarks, Scope, follow_history};
+use crate::history_break::{HistoryBreak, break_after};
 use crate::locks_held::locks_held;
 use crate::part::Part;
-use crate::retiring::retired_heights;
 use crate::sent_frames::{SentFrame, add_sent};
 use crate::sources::{Arrival, arrivals};
+use abci::Application;
 use history_parts::{history_of, is_opened};
+use key_ring::KeyRing;
 use ledger_model::{Config, Entry, History, ReplicaId};
+use replica_core::shared_verifier;
 use std::alloc::{AllocError, Global};
 use std::hash::RandomState;
+use verify_cache::Verifier;
 
 /// What a picture of a run shows. Each list is in the order of replicas, then of their entries.
 pub struct Picture {
@@ -40,6 +46,8 @@ pub struct Picture {
     pub decisions: Vec<Mark>,
     /// The heights that replicas retire.
     pub retired: Vec<Mark>,
+    /// Where the first history that isn't a replay breaks: that of the least replica. The picture shows each history up to its break.
+    pub first_break: Option<HistoryBreak>,
 }
 
 // An own `Drop` keeps proofs short: an owner drops it by one call. See docs/WORKING.md.
@@ -55,6 +63,7 @@ impl Drop for Picture {
             locks: _locks,
             decisions: _decisions,
             retired: _retired,
+            first_break: _first_break,
         } = self;
     }
 }
@@ -65,6 +74,34 @@ struct Shown {
     sent: Vec<SentFrame>,
     deliveries: Vec<Delivery>,
     facts: Vec<Mark>,
+}
+
+/// What the histories of replicas show, up to their breaks.
+#[derive(Drop)]
+struct Collected {
+    shown: Shown,
+    marks: ReplayMarks,
+    rounds: Vec<Option<u64>>,
+    first_break: Option<HistoryBreak>,
+}
+
+/// Nothing, before the first history.
+fn nothing_collected(alloc: Global) -> Collected
+    ensures { IsNothing result }
+{
+    Collected {
+        shown: Shown {
+            sent: Vec::new(alloc),
+            deliveries: Vec::new(alloc),
+            facts: Vec::new(alloc),
+        },
+        marks: ReplayMarks {
+            decisions: Vec::new(alloc),
+            retired: Vec::new(alloc),
+        },
+        rounds: Vec::new(alloc),
+        first_break: None,
+    }
 }
 
 /// Appends what an entry shows. Round `clock` is open before it.
@@ -102,7 +139,7 @@ fn add_entries(
     replica: ReplicaId,
     entries: &[Entry],
 ) -> Result<u64, AllocError>
-    ensures shown { OnOk result (AddsHistory part.now replica entries.now shown.old shown.new) }
+    ensures shown { OnOk result (AddsEntries part.now replica entries.now shown.old shown.new) }
     ensures rounds { IfOk result (λ rounds. rounds ≡ clock_at entries.now) }
 {
     let mut clock = 0;
@@ -115,86 +152,118 @@ fn add_entries(
     Ok(clock)
 }
 
-/// Appends what a replica's history shows, if it was handed in, and returns the number of rounds that it opens.
-fn add_history(
+/// Appends what the longest replay that a replica's history begins with shows.
+fn add_history<A: Application>(
     alloc: Global,
-    shown: &mut Shown,
-    decisions: &mut Vec<Mark>,
-    config: &Config,
-    part: &Part,
+    collected: &mut Collected,
+    verifier: &mut Verifier,
+    scope: &Scope,
+    replica: ReplicaId,
+    entries: &[Entry],
+    app: A,
+) -> Result<(), AllocError>
+    requires member { replica < scope.now.config.replicas }
+    requires opening { A.machine app ≡ run scope.now.config.kind [] }
+    ensures adds { OnOk result (AddsHistory scope.now.config verifier.old.ring scope.now.part replica entries.now collected.old collected.new) }
+    ensures ring { verifier.new.ring ≡ verifier.old.ring }
+{
+    let marks = &mut collected.marks;
+    let count = follow_history(alloc, marks, verifier, scope, replica, entries, app)?;
+    let shown = &mut collected.shown;
+    let rounds = add_entries(alloc, shown, &scope.part, replica, &entries[..count])?;
+    collected.rounds.push(Some(rounds))?;
+    collected.first_break = break_after(collected.first_break, replica, count, entries.len());
+    Ok(())
+}
+
+/// Appends what a replica's history shows, if it was handed in.
+fn add_row<A: Application>(
+    alloc: Global,
+    collected: &mut Collected,
+    verifier: &mut Verifier,
+    scope: &Scope,
     replica: ReplicaId,
     history: Option<&History>,
-) -> Result<Option<u64>, AllocError>
-    ensures shown { OnOk result (AddsIf part.now replica (option_copied history.entry) shown.old shown.new) }
-    ensures decisions { OnOk result (decisions.new.items
-        ≡ decisions.old.items ++ shown_if (decisions_in config.now part.now replica) (option_copied history.entry)) }
-    ensures rounds { IfOk result (λ rounds. rounds ≡ rounds_if (option_copied history.entry)) }
+    app: A,
+) -> Result<(), AllocError>
+    requires member { replica < scope.now.config.replicas }
+    requires opening { A.machine app ≡ run scope.now.config.kind [] }
+    ensures adds { OnOk result (AddsRow scope.now.config verifier.old.ring scope.now.part replica (option_copied history.entry) collected.old collected.new) }
+    ensures ring { verifier.new.ring ≡ verifier.old.ring }
 {
-    let Some(history) = history else {
-        return Ok(None);
-    };
-    let entries = history.entries.as_slice();
-    let rounds = add_entries(alloc, shown, part, replica, entries)?;
-    add_decisions(alloc, decisions, config, part, replica, entries)?;
-    Ok(Some(rounds))
-}
-
-/// Appends what the histories of all replicas of the cluster show, and for each replica the number of rounds that it opened.
-fn add_all(
-    alloc: Global,
-    shown: &mut Shown,
-    decisions: &mut Vec<Mark>,
-    config: &Config,
-    part: &Part,
-    histories: &[History],
-) -> Result<Vec<Option<u64>>, AllocError>
-    ensures shown { OnOk result (Adds shown.old shown.new (sent_in config.now part.now histories.now)
-        (delivered_in config.now part.now histories.now) (facts_in config.now part.now histories.now)) }
-    ensures decisions { OnOk result (decisions.new.items ≡ decisions.old.items ++ decided_in config.now part.now histories.now) }
-    ensures rounds { IfOk result (λ rounds. rounds.items ≡ rounds_in config.now histories.now) }
-{
-    let mut rounds = Vec::with_capacity(alloc, usize::from(config.replicas))?;
-    for number in 0..config.replicas {
-        let replica = ReplicaId::new(number);
-        let history = history_of(histories, replica);
-        rounds.push(add_history(alloc, shown, decisions, config, part, replica, history)?)?;
+    match history {
+        Some(history) => {
+            let entries = history.entries.as_slice();
+            add_history(alloc, collected, verifier, scope, replica, entries, app)
+        }
+        None => {
+            collected.rounds.push(None)?;
+            Ok(())
+        }
     }
-    Ok(rounds)
 }
 
-/// What a picture of the run shows in the part, from the histories of the cluster's replicas, each taken at any moment. Of two
-/// histories of one replica the first counts, and histories of other replicas are left out. Nothing is presumed of the histories, and
-/// no signature is checked.
+/// What the histories of all replicas of the cluster show, each followed with the next application.
 ///
-/// Each entry is read three times, and each frame of the part is parsed once and hashed once under the random keys. The sent frames of
-/// the part are sorted once for each replica. As the third round of an own phase ends, each lock that the owner sent is compared with each
-/// acknowledgement that it accepted in that round, once for each replica. The only error is allocation failure.
-pub fn picture_of(
+/// One verifier serves all followers in turn, so what it remembers of one history serves the next.
+fn collect<A: Application>(
     alloc: Global,
-    config: &Config,
+    verifier: &mut Verifier,
+    scope: &Scope,
     histories: &[History],
-    part: Part,
-    random: RandomState,
-) -> Result<Picture, AllocError>
-    ensures { IfOk result (IsPictureOf config.now histories.now part) }
+    apps: Vec<A>,
+) -> Result<Collected, AllocError>
+    requires enough { scope.now.config.replicas ≤ length apps.items }
+    requires opening { AllByRecursion (λ app. A.machine app ≡ run scope.now.config.kind []) apps.items }
+    ensures { IfOk result (Collects scope.now.config verifier.old.ring scope.now.part histories.now scope.now.config.replicas) }
 {
-    let mut decisions = Vec::new(alloc);
-    let mut shown = Shown {
-        sent: Vec::new(alloc),
-        deliveries: Vec::new(alloc),
-        facts: Vec::new(alloc),
-    };
-    let rounds = add_all(alloc, &mut shown, &mut decisions, config, &part, histories)?;
+    let mut collected = nothing_collected(alloc);
+    let mut apps = apps.into_iter();
+    for number in 0..scope.config.replicas {
+        let replica = ReplicaId::new(number);
+        let Some(app) = apps.next() else {
+            unreachable!()
+        };
+        let history = history_of(histories, replica);
+        add_row(
+            alloc,
+            &mut collected,
+            verifier,
+            scope,
+            replica,
+            history,
+            app,
+        )?;
+    }
+    Ok(collected)
+}
+
+/// The picture of what was collected.
+fn picture_from(alloc: Global, scope: Scope, collected: Collected) -> Result<Picture, AllocError>
+    ensures { IfOk result (λ p. (ring : Ring) (histories : List HistoryValue)
+        → Collects scope.config ring scope.part histories scope.config.replicas collected → IsPictureOf scope.config ring histories scope.part p) }
+{
+    let Scope {
+        config,
+        part,
+        random,
+    } = scope;
+    let Collected {
+        shown,
+        marks,
+        rounds,
+        first_break,
+    } = collected;
     let Shown {
         sent,
         deliveries,
         facts,
     } = shown;
-    let retired = retired_heights(alloc, config, &part, histories)?;
+    let ReplayMarks { decisions, retired } = marks;
     let locks = locks_held(alloc, &sent)?;
     let arrivals = arrivals(alloc, random, &sent, deliveries)?;
     Ok(Picture {
-        config: *config,
+        config,
         part,
         rounds,
         sent,
@@ -203,5 +272,37 @@ pub fn picture_of(
         locks,
         decisions,
         retired,
+        first_break,
     })
+}
+
+/// What a picture of the run shows in the part, from the histories of the cluster's replicas, each taken at any moment. Of two
+/// histories of one replica the first counts, and histories of other replicas are left out. A history that isn't a replay under the
+/// keys of the ring is shown up to its first entry that isn't lawful after those before it, or sends something that isn't signed.
+///
+/// The ring has the replicas' public keys by number. There is an application for each replica, in its opening state and of the
+/// configured kind. Each history is followed as an audit follows it, and read once more; each frame of the part is parsed once more
+/// and hashed once under the random keys. The sent frames of the part are sorted once for each replica. The only error is allocation
+/// failure.
+pub fn picture_of<A: Application>(
+    alloc: Global,
+    config: &Config,
+    ring: &KeyRing,
+    histories: &[History],
+    apps: Vec<A>,
+    part: Part,
+    random: RandomState,
+) -> Result<Picture, AllocError>
+    requires enough { config.now.replicas ≤ length apps.items }
+    requires opening { All (λ app. A.machine app ≡ run config.now.kind []) apps.items }
+    ensures { IfOk result (IsPictureOf config.now ring.now histories.now part) }
+{
+    let mut verifier = shared_verifier(alloc, ring, histories, random)?;
+    let scope = Scope {
+        config: *config,
+        part,
+        random,
+    };
+    let collected = collect(alloc, &mut verifier, &scope, histories, apps)?;
+    picture_from(alloc, scope, collected)
 }

@@ -1,7 +1,6 @@
 use Rattle.std.proofs.Common.{◌∙◌}
 use Rattle.byte_streams.proofs.Faults.{on_error}
-use Rattle.program.proofs.RunningLemmas.{audit_explains, audited_done, drawn_done, plain_explains}
-use Rattle.program.specs.Doing.{settings_of}
+use Rattle.program.proofs.RunningLemmas.{audit_explains, audited_done, draw_explains, drawn_done}
 use Rattle.program.proofs.RunningLemmas.{signed_done, signed_halted, delivered_done, delivered_halted, played_done, played_halted}
 use Rattle.program.proofs.running.perform.Goals as goal
 
@@ -49,4 +48,5 @@ pub returns-in-Draw-clause-done : goal.returns-in-Draw-clause-done
 returns-in-Draw-clause-done g c = drawn_done c.args.settings.now c.in-Draw.settings c.draw.result _ _ _ _ c.in-Draw.is c.draw.ensures.draws
 
 pub returns-in-Draw-clause-explains : goal.returns-in-Draw-clause-explains
-returns-in-Draw-clause-explains g c = plain_explains (settings_of c.args.settings.now) c.draw.result c.draw.ensures.plain
+returns-in-Draw-clause-explains g c = draw_explains c.args.settings.now c.in-Draw.settings c.draw.result c.in-Draw.is
+    c.draw.ensures.explains

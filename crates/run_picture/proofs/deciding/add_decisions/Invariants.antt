@@ -1,10 +1,14 @@
--- what was appended, with what the rest decides, is what all entries decide
-use Rattle.std.proofs.Common.{◌≡◌, ◌++◌, ◌≤◌, drop}
-use Rattle.run_picture.specs.Decisions.{decisions_from, decisions_in}
+-- the marks at the heights so far
+use Rattle.std.proofs.Common.{◌≡◌, ◌++◌, List, take}
+use Rattle.std.specs.List.{flat_map}
+use Rattle.ledger_model.specs.declared.history.Entry.{Entry}
+use Rattle.ledger_model.specs.Commits.{decision_at}
+use Rattle.replica_core.specs.ReplicaStates.{MatchesHistory}
+use Rattle.run_picture.specs.Decisions.{mark_if}
 use Rattle.run_picture.proofs.deciding.add_decisions.Given as goal
 
-abbrev pub invariant-loop-index : goal.invariant-loop-index
-invariant-loop-index l =
-    (l.phase.clock ≤ l.index)
-    × (l.out.items ++ decisions_from l.config l.part l.replica l.phase l.index (drop l.index l.entries)
-    ≡ l.fn.out.items ++ decisions_in l.config l.part l.replica l.entries)
+abbrev pub invariant-loop-height : goal.invariant-loop-height
+invariant-loop-height g l =
+    (entries : List Entry) → MatchesHistory l.replay entries → l.out.items ≡ l.fn.out.items
+    ++ flat_map (λ h. mark_if l.part l.replica l.index l.clock h (decision_at l.replay.config l.replay.id entries h))
+    (take l.height-index l.heights)

@@ -4,7 +4,7 @@ use Rattle.run_picture.specs.declared.entry_facts.Fact.TheVariants.{Retires}
 use Rattle.run_picture.specs.Facts.{mark_in}
 use Rattle.run_picture.specs.Parts.{drawn_round}
 use Rattle.run_picture.specs.Retiring.{retired_marks}
-use Rattle.run_picture.proofs.RetiredSoFar.{heights_next}
+use Rattle.run_picture.proofs.RetiredHeights.{heights_next}
 use Rattle.run_picture.proofs.retiring.add_heights.Goals as goal
 
 pub loop-number-preserved : goal.loop-number-preserved
