@@ -47,7 +47,7 @@ pub record FollowsEntry (part : Part) (index : ℕ) (e : Entry) (old new : Follo
     pub retired : kept ≡ true → (front : List Entry) → MatchesHistory old.held front → length front ≡ index
         → after.retired.items ≡ before.retired.items ++ retired_at part old.held.id front e
 
--- replica r's entries were followed as far as they are a replay: so many are shown, and what they decide and give up is appended
+-- replica r's entries were followed as far as they are a replay: their number is returned, and what they decide and give up is appended
 pub record FollowsHistory (config : Config) (ring : Ring) (part : Part) (r : ℕ) (entries : List Entry) (before after : ReplayMarks)
     (count : ℕ) : Type 0 where
   pub longest : IsLongestReplay config ring r entries count

@@ -17,7 +17,7 @@ returns-clause-most g c =
     (c.self.invariant.3) in
     subst (λ n. n ≤ max_height) (sym height) (c.self.invariant.4)
 
--- and so many batches are committed by each history that it matches
+-- and each history that it matches commits as many batches
 pub returns-clause-same : goal.returns-clause-same
 returns-clause-same g c = rw (sym c.self.view_is) (λ entries matches.
     ap length matches.commits
