@@ -147,6 +147,8 @@ def main(words):
     if not wanted or unknown:
         sys.exit(__doc__ if not wanted else f"no such crate: {unknown[0]}")
     names = set().union(*(all_below(rows, it) for it in wanted)) | (set(wanted) if also else set())
+    # Whoever ends this ends what it started, too, and keeps what was proved.
+    signal.signal(signal.SIGTERM, lambda *_: sys.exit(1))
     began = time.time()
     # Beside the crates, so that a library can be linked and the result moved.
     with tempfile.TemporaryDirectory(prefix=".prove-", dir=".") as scratch:
