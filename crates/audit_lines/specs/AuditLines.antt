@@ -4,7 +4,7 @@ use Rattle.std.specs.List.{list_any}
 use Rattle.ledger_model.specs.declared.history.History.{History}
 use Rattle.ledger_model.specs.Values.{Value}
 use Rattle.ledger_model.specs.Audits.{is_receipt}
-use Rattle.scenario_texts.specs.Texts.{batch_text}
+use Rattle.plain_text.specs.Transactions.{batch_text}
 use Rattle.history_audit.specs.Faults.{audit_fault_number}
 use Rattle.history_audit.specs.declared.fault.AuditFault.{AuditFault}
 use Rattle.history_audit.specs.declared.fault.AuditFault.TheVariants as fault

@@ -18,7 +18,8 @@ use Rattle.lm_ots.specs.declared.params.TreeHeight.{TreeHeight}
 use Rattle.lm_ots.specs.declared.params.TreeHeight.TheVariants.{H5, H10}
 use Rattle.cluster_keys.specs.declared.cluster_seed.ClusterSeed.{ClusterSeed}
 use Rattle.abci.specs.Meaning.{ChecksTo, state_after}
-use Rattle.command_line.specs.Options.{IsNumber, IsWritten, SetsCluster, number_of}
+use Rattle.ledger_model.proofs.Numbers.{one_kind}
+use Rattle.command_line.specs.Options.{IsNumber, IsWritten, SetsCluster}
 use Rattle.plain_text.specs.Transactions.{StandsFor}
 use Rattle.plain_text.proofs.TransactionLemmas.{stands_once}
 
@@ -90,18 +91,6 @@ pub one_transaction : (rows : List Row) (name : Text) (tx tx2 : List ℕ) → Is
 one_transaction rows name tx tx2 i j =
     let same : i.text ≡ j.text = same_Some i.text j.text (sym i.has ∙ j.has) in
     stands_once j.text tx tx2 (subst (λ t. StandsFor t tx) same i.bytes) j.bytes
-
--- a number names one application
-pub one_kind : (a b : AppKind) → number_of a ≡ number_of b → a ≡ b
-one_kind KvStore KvStore same = refl
-one_kind Counter Counter same = refl
-one_kind Purse Purse same = refl
-one_kind KvStore Counter same = absurd (omega (arith, same))
-one_kind KvStore Purse same = absurd (omega (arith, same))
-one_kind Counter KvStore same = absurd (omega (arith, same))
-one_kind Counter Purse same = absurd (omega (arith, same))
-one_kind Purse KvStore same = absurd (omega (arith, same))
-one_kind Purse Counter same = absurd (omega (arith, same))
 
 -- the same options name one application
 pub same_kind : (rows : List Row) (a b : ClusterSeed) → SetsCluster rows a → SetsCluster rows b → a.config.kind ≡ b.config.kind

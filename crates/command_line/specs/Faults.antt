@@ -9,10 +9,11 @@ use Rattle.plain_text.specs.Transactions.{Misspells, StandsFor}
 use Rattle.plain_text.specs.declared.spelling_fault.SpellingFault.{SpellingFault}
 use Rattle.settings.specs.declared.sign.What.{What}
 use Rattle.settings.specs.declared.audit.Receipt.{Receipt}
+use Rattle.ledger_model.specs.Numbers.{kind_number}
 use Rattle.command_line.specs.Grammar.{abft_app}
 use Rattle.command_line.specs.Receipts.{SpellsReceipt}
 use Rattle.command_line.specs.Options.{HasOption, IsNumber, IsSeed, IsWritten, OptionTable, TakesEither, TakesNumber, TakesTransaction}
-use Rattle.command_line.specs.Options.{number_of, options_of, word_of}
+use Rattle.command_line.specs.Options.{options_of, word_of}
 use Rattle.command_line.specs.declared.usage_fault.Input.{Input}
 use Rattle.command_line.specs.declared.usage_fault.Input.TheVariants.{Frames, Scenario, AuditedHistories, DrawnHistories}
 use Rattle.command_line.specs.declared.usage_fault.UsageFault.{UsageFault}
@@ -92,7 +93,7 @@ pub record IsRejected (rows : List Row) (option : Text) (code : ℕ) (word : Tex
   pub tx : List ℕ
   pub written : IsWritten rows option tx
   pub kind : AppKind
-  pub chosen : IsNumber rows (codes "kind") 1 3 (number_of kind)
+  pub chosen : IsNumber rows (codes "kind") 1 3 (kind_number kind)
   pub answer : check_reply kind [] tx ≡ code
   pub refused : code ≢ 0
 

@@ -12,9 +12,8 @@ use Rattle.clap.specs.declared.error.ErrorKind.TheVariants as kind
 use Rattle.clap.specs.declared.parser.matches.ValueSource.TheVariants.{CommandLine}
 use Rattle.ledger_model.specs.declared.config.AppKind.{AppKind}
 use Rattle.ledger_model.specs.Replies.{check_reply}
-use Rattle.ledger_model.specs.declared.config.AppKind.TheVariants.{KvStore, Counter, Purse}
+use Rattle.ledger_model.specs.Numbers.{kind_number, version_number}
 use Rattle.ledger_model.specs.declared.version.Version.{Version}
-use Rattle.ledger_model.specs.declared.version.Version.TheVariants.{One, Two}
 use Rattle.lm_ots.specs.Parameters.{bits_of, levels_of}
 use Rattle.log.specs.Level.{parse_filter}
 use Rattle.log.specs.declared.level.LevelFilter.{LevelFilter}
@@ -239,22 +238,11 @@ pub record SetsLog (rows : List Row) (level : LevelFilter) : Type 0 where
   pub quiet : IsNamed rows (codes "quiet") → level ≡ Off
   pub loud : (IsNamed rows (codes "quiet") → ⊥) → level ≡ named
 
--- the number of an application
-abbrev pub number_of : AppKind → ℕ
-number_of KvStore = 1
-number_of Counter = 2
-number_of Purse = 3
-
--- the number of a version of frames
-abbrev pub version_number : Version → ℕ
-version_number One = 1
-version_number Two = 2
-
 -- the options of a cluster
 pub record SetsCluster (rows : List Row) (cluster : ClusterSeed) : Type 0 where
   pub n : IsNumber rows (codes "n") 0 255 cluster.config.replicas
   pub t : IsNumber rows (codes "t") 0 255 cluster.config.faults
-  pub kind : IsNumber rows (codes "kind") 1 3 (number_of cluster.config.kind)
+  pub kind : IsNumber rows (codes "kind") 1 3 (kind_number cluster.config.kind)
   pub enough : 3 * cluster.config.faults + 1 ≤ cluster.config.replicas
   pub bounded : cluster.config.replicas ≤ 13
   pub tolerant : 1 ≤ cluster.config.faults

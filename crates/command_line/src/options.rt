@@ -3,7 +3,8 @@ ghost use Rattle.std.specs.Prelude.{◌≡◌, ◌↔◌, IsTrue, ℕ, List, [],
 ghost use Rattle.clap.specs.Words.{Row, found_of, rows_of, first_of};
 ghost use Rattle.lm_ots.specs.Parameters.{bits_of, levels_of};
 ghost use Rattle.command_line.specs.Faults.{IsRightOf};
-ghost use Rattle.command_line.specs.Options.{HasCluster, HasOption, IsAccepted, IsNamed, IsNumber, IsSeed, IsWritten, OptionTable, SetsCluster, SetsLog, SetsPort, TakesNumber, TakesTransaction, WantsMemory, number_of, version_number, word_of};
+ghost use Rattle.command_line.specs.Options.{HasCluster, HasOption, IsAccepted, IsNamed, IsNumber, IsSeed, IsWritten, OptionTable, SetsCluster, SetsLog, SetsPort, TakesNumber, TakesTransaction, WantsMemory, word_of};
+ghost use Rattle.ledger_model.specs.Numbers.{kind_number, version_number};
 ghost use Rattle.plain_text.specs.Transactions.{StandsFor};
 ghost use Rattle.ledger_model.specs.Replies.{check_reply};
 ghost use Rattle.ledger_model.specs.declared.config.AppKind.{AppKind};
@@ -153,7 +154,7 @@ pub(crate) fn accepted_transaction<'a>(
 ) -> Result<Tx, UsageFault<'a>>
     ensures some { IfOk result (λ tx. IsAccepted (rows_of (found_of matches.now)) name.now kind tx) }
     ensures none { IfErr result (λ e. (tx : List ℕ) → IsAccepted (rows_of (found_of matches.now)) name.now kind tx → WantsMemory e) }
-    ensures right { (table : OptionTable) → TakesTransaction table name.now → IsNumber (rows_of (found_of matches.now)) (codes "kind") 1 3 (number_of kind)
+    ensures right { (table : OptionTable) → TakesTransaction table name.now → IsNumber (rows_of (found_of matches.now)) (codes "kind") 1 3 (kind_number kind)
         → IfErr result (IsRightOf table (rows_of (found_of matches.now))) }
 {
     let word = text(matches, name)?;
@@ -273,14 +274,13 @@ fn tree_height<'a>(matches: &ArgMatches<'a>) -> Result<TreeHeight, UsageFault<'a
 
 /// The option `--kind`: the number of an application.
 fn kind<'a>(matches: &ArgMatches<'a>) -> Result<AppKind, UsageFault<'a>>
-    ensures some { IfOk result (λ k. IsNumber (rows_of (found_of matches.now)) (codes "kind") 1 3 (number_of k)) }
-    ensures none { OnErr result ((k : AppKind) → IsNumber (rows_of (found_of matches.now)) (codes "kind") 1 3 (number_of k) → ⊥) }
+    ensures some { IfOk result (λ k. IsNumber (rows_of (found_of matches.now)) (codes "kind") 1 3 (kind_number k)) }
+    ensures none { OnErr result ((k : AppKind) → IsNumber (rows_of (found_of matches.now)) (codes "kind") 1 3 (kind_number k) → ⊥) }
     ensures right { (table : OptionTable) → TakesNumber table (rows_of (found_of matches.now)) (codes "kind") 1 3 → IfErr result (IsRightOf table (rows_of (found_of matches.now))) }
 {
-    match number(matches, "kind", 1, 3)? {
-        1 => Ok(AppKind::KvStore),
-        2 => Ok(AppKind::Counter),
-        _ => Ok(AppKind::Purse),
+    match AppKind::from_number(number(matches, "kind", 1, 3)?) {
+        Some(kind) => Ok(kind),
+        None => unreachable!(),
     }
 }
 

@@ -1,5 +1,6 @@
 pub mod Limits
 pub mod Versions
+pub mod Numbers
 pub mod Values
 pub mod Order
 pub mod OrderLaws

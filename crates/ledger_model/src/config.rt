@@ -15,6 +15,24 @@ pub enum AppKind {
     Purse,
 }
 
+impl AppKind {
+    ghost use Rattle.std.specs.Prelude.{◌≡◌};
+    ghost use Rattle.ledger_model.specs.Numbers.{kind_of_number};
+
+    /// The application with this number, which is 1, 2 or 3.
+    #[tactic(auto, unfolding(crate::specs::Numbers::kind_of_number))]
+    pub fn from_number(number: u32) -> Option<AppKind>
+        ensures { result ≡ kind_of_number number }
+    {
+        match number {
+            1 => Some(AppKind::KvStore),
+            2 => Some(AppKind::Counter),
+            3 => Some(AppKind::Purse),
+            _ => None,
+        }
+    }
+}
+
 /// The size of a cluster, how many of its replicas may lie, the application that they run, and the version of their frames.
 #[derive(Clone, Copy)]
 pub struct Config {

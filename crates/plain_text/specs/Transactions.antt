@@ -1,8 +1,8 @@
--- The printed form of transactions.
-use Rattle.std.specs.Prelude.{◌≡◌, ◌≢◌, ℕ, ◌+◌, ◌-◌, ◌*◌, ◌/◌, ◌%◌, ◌==◌, nat_le, false, Bool, not, ◌&&◌, List, [], ◌∷◌, Option, Some, None}
+-- The printed form of transactions, and of batches.
+use Rattle.std.specs.Prelude.{◌≡◌, ◌≢◌, ℕ, ◌+◌, ◌-◌, ◌*◌, ◌/◌, ◌%◌, ◌==◌, nat_le, false, Bool, not, ◌&&◌, List, [], ◌∷◌, ◌++◌, map, codes, Option, Some, None}
 use Rattle.std.specs.Prelude.{if◌then◌else◌}
 use Rattle.std.specs.Fmt.{digit_glyph}
-use Rattle.std.specs.List.{flat_map}
+use Rattle.std.specs.List.{flat_map, join_with_byte}
 use Rattle.plain_text.specs.declared.spelling_fault.SpellingFault.{SpellingFault}
 use Rattle.plain_text.specs.declared.spelling_fault.SpellingFault.TheVariants as fault
 
@@ -72,3 +72,7 @@ byte_text b = if is_plain b then b ∷ [] else 0x5c ∷ digit_glyph false (b / 1
 -- bytes in their printed form
 unfoldable pub bytes_text : List ℕ → List ℕ
 bytes_text bytes = flat_map byte_text bytes
+
+-- a batch of transactions in printed form: in brackets, separated by commas
+unfoldable pub batch_text : List (List ℕ) → List ℕ
+batch_text batch = codes "[" ++ join_with_byte 44 (map bytes_text batch) ++ codes "]"

@@ -6,7 +6,7 @@ use Rattle.std.specs.List.{flat_map, join_with_byte}
 use Rattle.std.proofs.lemmas.List.Concat.{flat_map-cons}
 use Rattle.ledger_model.specs.Values.{Value}
 use Rattle.plain_text.specs.Transactions.{bytes_text}
-use Rattle.scenario_texts.specs.Texts.{batch_text}
+use Rattle.plain_text.specs.Transactions.{batch_text}
 
 -- a transaction, with a comma before it
 abbrev next_text : List ℕ → List ℕ

@@ -33,7 +33,7 @@ use Rattle.abci.specs.declared.info.Info.{Info}
 use Rattle.hex.specs.Hex.{encode_lower}
 use Rattle.replica_core.specs.Facts.{block_at}
 use Rattle.plain_text.specs.Transactions.{bytes_text}
-use Rattle.scenario_texts.specs.Texts.{batch_text}
+use Rattle.plain_text.specs.Transactions.{batch_text}
 use Rattle.ledger_model.specs.Causes.{cause_text, submit_refusal_number, propose_refusal_number, retire_refusal_number}
 
 -- a line, with its line feed

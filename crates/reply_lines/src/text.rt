@@ -22,7 +22,7 @@ impl Text {
     ghost use Rattle.std.specs.Prelude.{◌≡◌, ◌++◌, [], OnOk, codes};
     ghost use Rattle.std.specs.List.{flat_map};
     ghost use Rattle.plain_text.specs.Transactions.{bytes_text};
-    ghost use Rattle.scenario_texts.specs.Texts.{batch_text};
+    ghost use Rattle.plain_text.specs.Transactions.{batch_text};
 
     /// The empty text.
     pub fn new(alloc: Global) -> Self
@@ -73,7 +73,7 @@ impl Text {
     }
 
     /// Appends a batch: its transactions in brackets, separated by commas.
-    #[tactic(auto, unfolding(scenario_texts::specs::Texts::batch_text))]
+    #[tactic(auto, unfolding(plain_text::specs::Transactions::batch_text))]
     pub fn add_batch(&mut self, batch: &Batch) -> Result<(), AllocError>
         ensures { OnOk result (self.new ≡ self.old ++ batch_text batch.now) }
     {

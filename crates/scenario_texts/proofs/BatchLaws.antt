@@ -13,7 +13,7 @@ use Rattle.ledger_model.specs.declared.version.Version.{Version}
 use Rattle.ledger_model.specs.Values.{Value, IsTx, IsValueIn}
 use Rattle.plain_text.specs.Transactions.{bytes_text}
 use Rattle.scenario_texts.specs.Reading.{bytes_of, tx_of, txs_of, without_first, without_last, bracketed, elements, batch_of}
-use Rattle.scenario_texts.specs.Texts.{batch_text}
+use Rattle.plain_text.specs.Transactions.{batch_text}
 use Rattle.scenario_texts.proofs.Options.{bind_some, map_some}
 use Rattle.scenario_texts.proofs.BytesReading.{bytes_of-sound, bytes_of-again}
 use Rattle.scenario_texts.proofs.BatchReading.{without_last-end, followed}

@@ -18,10 +18,12 @@ use Rattle.lm_ots.specs.declared.params.TreeHeight.{TreeHeight}
 use Rattle.lm_ots.specs.declared.params.TreeHeight.TheVariants.{H5, H10}
 use Rattle.lm_ots.specs.declared.params.Params.{Params}
 use Rattle.plain_text.specs.Numbers.{number_text}
+use Rattle.ledger_model.specs.Numbers.{kind_number, kind_of_number}
+use Rattle.ledger_model.proofs.Numbers.{kind_again, kind_of_number-sound}
 use Rattle.scenario_texts.specs.Plans.{Plan}
 use Rattle.scenario_texts.specs.Lawful.{IsNumber, IsSetup}
-use Rattle.scenario_texts.specs.Texts.{kind_number, config_words, params_words}
-use Rattle.scenario_texts.specs.Reading.{is_size, kind_of, config_of, begun_of, params_from, is_first, is_early, with_keys, with_frames}
+use Rattle.scenario_texts.specs.Texts.{config_words, params_words}
+use Rattle.scenario_texts.specs.Reading.{is_size, config_of, begun_of, params_from, is_first, is_early, with_keys, with_frames}
 use Rattle.scenario_texts.specs.Reading.{is_new_liar, with_liar, one_number}
 use Rattle.scenario_texts.specs.Reading.{two_numbers, three_numbers}
 use Rattle.scenario_texts.proofs.Options.{bind_some, map_some}
@@ -63,30 +65,7 @@ is_new_liar-sound p n e =
       fresh = not-true (list_any (λ liar. liar == n) p.liars) a.1;
     }
 
--- an application
-kind_of-sound : (n : ℕ) (kind : AppKind) → kind_of n ≡ Some kind → n ≡ kind_number kind
-unfolding kind_of
-kind_of-sound n kind e = by_first (n == 1) refl e
-  where
-    by_third : (t : Bool) → (n == 3) ≡ t → cond t (Some Purse) None ≡ Some kind → n ≡ kind_number kind
-    by_third true is e = let same : Purse ≡ kind = cc in eqb-true n 3 is ∙ ap kind_number same
-    by_third false is e = absurd cc
-
-    by_second : (t : Bool) → (n == 2) ≡ t → cond t (Some Counter) (cond (n == 3) (Some Purse) None) ≡ Some kind → n ≡ kind_number kind
-    by_second true is e = let same : Counter ≡ kind = cc in eqb-true n 2 is ∙ ap kind_number same
-    by_second false is e = by_third (n == 3) refl e
-
-    by_first : (t : Bool) → (n == 1) ≡ t
-        → cond t (Some KvStore) (cond (n == 2) (Some Counter) (cond (n == 3) (Some Purse) None)) ≡ Some kind → n ≡ kind_number kind
-    by_first true is e = let same : KvStore ≡ kind = cc in eqb-true n 1 is ∙ ap kind_number same
-    by_first false is e = by_second (n == 2) refl e
-
-kind_of-again : (kind : AppKind) → kind_of (kind_number kind) ≡ Some kind
-unfolding kind_of
-kind_of-again KvStore = refl
-kind_of-again Counter = refl
-kind_of-again Purse = refl
-
+-- the number of an application is short
 pub kind_number-small : (kind : AppKind) → IsNumber (kind_number kind)
 kind_number-small KvStore = omega arith
 kind_number-small Counter = omega arith
@@ -129,12 +108,12 @@ begun_of-sound fields p e =
     let plan : ℕ × ℕ × AppKind → Plan = λ c. cluster c.0 c.1 c.2 in
     let (c, (made, equal)) = map_some plan (config_of fields) p e in
     let sized : ℕ × ℕ × ℕ → AppKind → Option (ℕ × ℕ × AppKind) = λ n kind. cond (is_size n.0 n.1) (Some (n.0, n.1, kind)) None in
-    let (n, (read, more)) = bind_some (λ (n : ℕ × ℕ × ℕ). option_and_then (sized n) (kind_of n.2)) (three_numbers fields) c made in
-    let (kind, (named, fits)) = bind_some (sized n) (kind_of n.2) c more in
+    let (n, (read, more)) = bind_some (λ (n : ℕ × ℕ × ℕ). option_and_then (sized n) (kind_of_number n.2)) (three_numbers fields) c made in
+    let (kind, (named, fits)) = bind_some (sized n) (kind_of_number n.2) c more in
     let triple : ℕ × ℕ × AppKind = (n.0, n.1, kind) in
     let (test, same) = cond_some (is_size n.0 n.1) triple c fits in
     let spelled = three_numbers-sound fields n.0 n.1 n.2 read in
-    let number : n.2 ≡ kind_number kind = kind_of-sound n.2 kind named in
+    let number : n.2 ≡ kind_number kind = kind_of_number-sound n.2 kind named in
     (n.0, (n.1, (kind, (cc (spelled.0, number), (sym equal ∙ sym (ap plan same), is_size-sound n.0 n.1 kind test)))))
 
 pub begun_of-again : (p : Plan) → IsSetup p
@@ -149,7 +128,7 @@ begun_of-again p is =
     let fewer : IsNumber p.faults = omega (arith, is.bounded, is.enough) in
     rw (
       three_numbers-again p.replicas p.faults (kind_number p.kind) few fewer (kind_number-small p.kind),
-      kind_of-again p.kind,
+      kind_again p.kind,
       enough,
       bounded,
       tolerant,

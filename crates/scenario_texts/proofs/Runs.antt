@@ -10,10 +10,11 @@ use Rattle.ledger_model.specs.declared.version.Version.TheVariants as version
 use Rattle.lm_ots.specs.Parameters.{bits_of, levels_of}
 use Rattle.lm_ots.specs.declared.params.Params.{Params}
 use Rattle.plain_text.specs.Numbers.{number_text}
+use Rattle.ledger_model.specs.Numbers.{kind_number}
 use Rattle.scenario_texts.specs.Plans.{Plan}
 use Rattle.scenario_texts.specs.Words.{keyword_text}
 use Rattle.scenario_texts.specs.Lawful.{IsNumber, IsSetup, IsPlan, IsCommand}
-use Rattle.scenario_texts.specs.Texts.{words_text, command_text, kind_number, config_words, params_words, keys_lines, frames_lines}
+use Rattle.scenario_texts.specs.Texts.{words_text, command_text, config_words, params_words, keys_lines, frames_lines}
 use Rattle.scenario_texts.specs.Texts.{frames_words, liar_text, plan_lines}
 use Rattle.scenario_texts.specs.Reading.{with_command, going_on, beginning, next_by_keyword, next_of}
 use Rattle.scenario_texts.specs.declared.keyword.Keyword.TheVariants as keyword

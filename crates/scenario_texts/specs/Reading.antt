@@ -17,7 +17,7 @@ use Rattle.ledger_model.specs.declared.version.Version.{Version}
 use Rattle.ledger_model.specs.declared.version.Version.TheVariants as version
 use Rattle.ledger_model.specs.Values.{Value}
 use Rattle.ledger_model.specs.declared.config.AppKind.{AppKind}
-use Rattle.ledger_model.specs.declared.config.AppKind.TheVariants.{KvStore, Counter, Purse}
+use Rattle.ledger_model.specs.Numbers.{kind_of_number}
 use Rattle.lm_ots.specs.declared.params.Width.TheVariants.{W4, W8}
 use Rattle.lm_ots.specs.declared.params.TreeHeight.TheVariants.{H5, H10}
 use Rattle.lm_ots.specs.declared.params.Params.{Params}
@@ -282,10 +282,6 @@ command_of version liars keyword.LieStale fields = stale_of version liars fields
 command_of version liars keyword.LieAck fields = lying_of version liars keyword.LieAck fields
 command_of version liars k fields = simple_of k fields
 
--- the application of a number
-unfoldable pub kind_of : ℕ → Option AppKind
-kind_of n = if n == 1 then Some KvStore else if n == 2 then Some Counter else if n == 3 then Some Purse else None
-
 -- a cluster may have this size
 abbrev pub is_size : ℕ → ℕ → Bool
 is_size replicas faults = nat_le (3 * faults + 1) replicas && nat_le replicas 13 && nat_le 1 faults
@@ -294,7 +290,7 @@ is_size replicas faults = nat_le (3 * faults + 1) replicas && nat_le replicas 13
 unfoldable pub config_of : List (List ℕ) → Option (ℕ × ℕ × AppKind)
 config_of fields = do
   n ← three_numbers fields
-  kind ← kind_of n.2
+  kind ← kind_of_number n.2
   if is_size n.0 n.1 then Some (n.0, n.1, kind) else None
 
 -- the plan that consists of the cluster

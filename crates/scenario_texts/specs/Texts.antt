@@ -2,15 +2,14 @@
 use Rattle.std.specs.Prelude.{ℕ, List, [], ◌∷◌, ◌++◌, map, codes, Option, Some, None}
 use Rattle.std.specs.List.{join_with_byte}
 use Rattle.hex.specs.Hex.{encode_lower}
-use Rattle.ledger_model.specs.Values.{Value}
 use Rattle.ledger_model.specs.declared.config.AppKind.{AppKind}
-use Rattle.ledger_model.specs.declared.config.AppKind.TheVariants.{KvStore, Counter, Purse}
+use Rattle.ledger_model.specs.Numbers.{kind_number}
 use Rattle.ledger_model.specs.declared.version.Version.{Version}
 use Rattle.ledger_model.specs.declared.version.Version.TheVariants as version
 use Rattle.lm_ots.specs.Parameters.{bits_of, levels_of}
 use Rattle.lm_ots.specs.declared.params.Params.{Params}
 use Rattle.plain_text.specs.Numbers.{number_text}
-use Rattle.plain_text.specs.Transactions.{bytes_text}
+use Rattle.plain_text.specs.Transactions.{bytes_text, batch_text}
 use Rattle.scenario_texts.specs.Plans.{Plan}
 use Rattle.scenario_texts.specs.declared.command.Towards.{Towards}
 use Rattle.scenario_texts.specs.declared.command.Towards.TheVariants.{One, All}
@@ -31,10 +30,6 @@ bytes_words (b ∷ bytes) = bytes_text (b ∷ bytes) ∷ []
 abbrev pub hex_words : List ℕ → List (List ℕ)
 hex_words [] = []
 hex_words (b ∷ bytes) = encode_lower (b ∷ bytes) ∷ []
-
--- a batch: its transactions in brackets, separated by commas
-unfoldable pub batch_text : Value → List ℕ
-batch_text v = codes "[" ++ join_with_byte 44 (map bytes_text v) ++ codes "]"
 
 -- where a lie goes
 abbrev pub towards_text : Towards → List ℕ
@@ -72,12 +67,6 @@ command_words (command.LieAck lie) = codes "lie-ack" ∷ lie_words lie
 -- the line of a command
 unfoldable pub command_text : Command → List ℕ
 command_text c = words_text (command_words c)
-
--- the number of an application
-abbrev pub kind_number : AppKind → ℕ
-kind_number KvStore = 1
-kind_number Counter = 2
-kind_number Purse = 3
 
 -- the words of the cluster
 abbrev pub config_words : ℕ → ℕ → AppKind → List (List ℕ)

@@ -1,24 +1,11 @@
 //! Reads the lines before the commands: the cluster, the parameter set of its keys, and its liars.
 ghost use Rattle.std.specs.Prelude.{◌≡◌, map, option_map, IfSome};
 ghost use Rattle.ledger_model.specs.declared.version.Version.TheVariants.{One};
-ghost use Rattle.scenario_texts.specs.Reading.{kind_of, config_of, params_from};
+ghost use Rattle.scenario_texts.specs.Reading.{config_of, params_from};
 
 use crate::fields::three_numbers;
 use ledger_model::{AppKind, Config};
 use lm_ots::{Params, TreeHeight, Width};
-
-/// The application with this number.
-#[tactic(auto, unfolding(crate::specs::Reading::kind_of))]
-fn kind(number: u32) -> Option<AppKind>
-    ensures { result ≡ kind_of number }
-{
-    match number {
-        1 => Some(AppKind::KvStore),
-        2 => Some(AppKind::Counter),
-        3 => Some(AppKind::Purse),
-        _ => None,
-    }
-}
 
 /// `config N T KIND`
 #[tactic(auto, unfolding(crate::specs::Reading::config_of))]
@@ -27,7 +14,7 @@ pub(crate) fn config(fields: &[&str]) -> Option<Config>
     ensures first { IfSome result (λ config. config.frames ≡ One) }
 {
     let (replicas, faults, number) = three_numbers(fields)?;
-    let kind = kind(number)?;
+    let kind = AppKind::from_number(number)?;
     let replicas = u8::try_from(replicas).ok()?;
     let faults = u8::try_from(faults).ok()?;
     Config::new(replicas, faults, kind).ok()

@@ -3,7 +3,8 @@ use Rattle.clap.proofs.TakesLemmas.{passed_up}
 use Rattle.std.proofs.Common.{codes}
 use Rattle.clap.specs.Words.{found_of, rows_of}
 use Rattle.ledger_model.specs.declared.version.Version.{Version}
-use Rattle.command_line.specs.Options.{IsNumber, version_number}
+use Rattle.ledger_model.specs.Numbers.{version_number}
+use Rattle.command_line.specs.Options.{IsNumber}
 use Rattle.command_line.proofs.NumberLemmas.{on_err}
 use Rattle.command_line.proofs.options.frames.Goals as goal
 

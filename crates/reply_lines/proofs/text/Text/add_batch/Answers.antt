@@ -3,7 +3,7 @@ use Rattle.std.proofs.Common.{◌≡◌, ◌∙◌, ◌++◌, ◌-◌, length, t
 use Rattle.std.specs.Prelude.{OnOk, codes}
 use Rattle.std.specs.List.{flat_map}
 use Rattle.plain_text.specs.Transactions.{bytes_text}
-use Rattle.scenario_texts.specs.Texts.{batch_text}
+use Rattle.plain_text.specs.Transactions.{batch_text}
 use Rattle.reply_lines.proofs.BatchLines.{batch_added}
 use Rattle.reply_lines.proofs.text.Text.add_batch.Goals as goal
 
