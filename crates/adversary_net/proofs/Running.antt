@@ -37,7 +37,7 @@ use Rattle.adversary_net.specs.declared.party.Party.TheVariants as party
 use Rattle.adversary_net.specs.WorldViews.{WorldView, IsCluster, IsMemberAt, IsSameCluster, state_in, state_at, correct_of, history_in}
 use Rattle.adversary_net.specs.WorldViews.{world_of}
 use Rattle.adversary_net.specs.Leaves.{UsesButFor, loss_at, lost_at}
-use Rattle.adversary_net.specs.Steps.{Applies, AppliesTo, Stays, StaysAs, Asks, IsReady, Went}
+use Rattle.adversary_net.specs.Steps.{AppliesAt, AppliesTo, Stays, StaysAs, Asks, IsReady, Went}
 use Rattle.adversary_net.proofs.Members.{histories, histories_added, histories_same, roles_same, set_cases, added_numbers}
 use Rattle.adversary_net.proofs.Members.{numbers_of_histories}
 use Rattle.adversary_net.proofs.UsedLeaves.{uses_set, none_lost, some_lost, each_none}
@@ -202,46 +202,46 @@ same_party p q e = cc
 room_is : (c : WorldView) (r : ℕ) → (at : Found c r) → nat_le max_history_len (length (entries_in (world_of c) r)) ≡ false
 room_is c r at = lt-leb max_history_len (length (entries_in (world_of c) r)) (omega (arith, at.room, ap length at.entries))
 
-added_member : (c : WorldView) (r index : ℕ) (e : Event) (new : StateView) → (at : Found c r) → Applies at.state e index new
+added_member : (c : WorldView) (r index : ℕ) (e : Event) (new : StateView) → (at : Found c r) → AppliesAt at.state e index new
     → IsMemberAt c r new
 unfolding RunsAlone
 added_member c r index e new at applied =
-    let config : new.config ≡ c.config = ap (λ (s : StateView). s.config) applied.rest ∙ at.member.config in
-    let ring : new.ring ≡ c.ring = ap (λ (s : StateView). s.ring) applied.rest ∙ at.member.ring in
-    let id : new.id ≡ r = ap (λ (s : StateView). s.id) applied.rest ∙ at.member.id in
+    let config : new.config ≡ c.config = ap (λ (s : StateView). s.config) applied.applies.rest ∙ at.member.config in
+    let ring : new.ring ≡ c.ring = ap (λ (s : StateView). s.ring) applied.applies.rest ∙ at.member.ring in
+    let id : new.id ≡ r = ap (λ (s : StateView). s.id) applied.applies.rest ∙ at.member.id in
     record {
       config = config;
       ring = ring;
       id = id;
-      replay = rw (sym config, sym ring, sym id) applied.replay;
-      machine = rw (sym config, sym id) applied.machine;
-      account = applied.account;
-      once = applied.once;
+      replay = rw (sym config, sym ring, sym id) applied.sound.replay;
+      machine = rw (sym config, sym id) applied.sound.machine;
+      account = applied.sound.account;
+      once = applied.sound.once;
     }
 
 -- with one entry more
 pub went_on : (c : WorldView) (r index : ℕ) (new : StateView) (s : WorldStep) (e : Event) → IsCluster c
     → IsReady c (event_of c.config (world_of c) s) r e → (at : Found c r)
-    → Applies at.state e index new → Went c (with_party c r (party.Correct new) (c.order ++ r ∷ [])) s (answer.Done r index)
+    → AppliesAt at.state e index new → Went c (with_party c r (party.Correct new) (c.order ++ r ∷ [])) s (answer.Done r index)
 went_on c r index new s e cluster ready at applied =
     let d = with_party c r (party.Correct new) (c.order ++ r ∷ []) in
-    let entry : Entry = record { event = e; reply = applied.reply } in
-    let id : new.id ≡ at.state.id = ap (λ (s : StateView). s.id) applied.rest in
-    let grown = histories_added c.parties r at.state new entry (λ j t is. (cluster.members j t is).id) at.there id applied.added in
+    let entry : Entry = record { event = e; reply = applied.applies.reply } in
+    let id : new.id ≡ at.state.id = ap (λ (s : StateView). s.id) applied.applies.rest in
+    let grown = histories_added c.parties r at.state new entry (λ j t is. (cluster.members j t is).id) at.there id applied.applies.added in
     let world : world_of d ≡ with_entry (world_of c) r entry =
     ap (λ (hs : List History). record { histories = hs; order = c.order ++ r ∷ [] }) grown in
-    let lawful : Lawful c.config c.ring r (entries_in (world_of c) r) e applied.reply =
-    rw (at.entries, sym at.member.config, sym at.member.ring, sym at.member.id) applied.lawful in
+    let lawful : Lawful c.config c.ring r (entries_in (world_of c) r) e applied.applies.reply =
+    rw (at.entries, sym at.member.config, sym at.member.ring, sym at.member.id) applied.applies.lawful in
     let done : answer.Done r index ≡ answer.Done r (length (entries_in (world_of c) r)) =
     ap (answer.Done r) (applied.place ∙ ap length (sym at.entries)) in
     let by : StepsBy c.config c.ring (world_of c) (event_of c.config (world_of c) s) (answer.Done r index) (world_of d) =
     subst (λ o. StepsBy c.config c.ring (world_of c) o (answer.Done r index) (world_of d)) (sym ready.is)
     (subst (λ b. MatchBool b (Refuses (world_of c) refused.HistoryFull (answer.Done r index) (world_of d))
     (Adds c.config c.ring (world_of c) r e (answer.Done r index) (world_of d))) (sym (room_is c r at))
-    (inl (applied.reply, lawful, done, world))) in
+    (inl (applied.applies.reply, lawful, done, world))) in
     went c r new (c.order ++ r ∷ []) s (answer.Done r index) cluster at (added_member c r index e new at applied)
-    (ap (λ (s : StateView). s.secret) applied.rest)
-    (ap (map (λ (m : History). m.replica)) grown ∙ added_numbers r entry (histories c.parties)) (none_lost at.state new applied.signed) by
+    (ap (λ (s : StateView). s.secret) applied.applies.rest)
+    (ap (map (λ (m : History). m.replica)) grown ∙ added_numbers r entry (histories c.parties)) (none_lost at.state new applied.applies.used) by
 
 -- without memory
 pub stayed : (c : WorldView) (r : ℕ) (new : StateView) (s : WorldStep) (e : Event) → IsCluster c

@@ -1,16 +1,15 @@
 -- One step of a running cluster: which event it stands for, and what it does to a replica.
-use Rattle.std.specs.Prelude.{◌≡◌, ℕ, ◌+◌, ◌<◌, ◌≤◌, [], ◌∷◌, ◌++◌, length, Option, Some, None, Result, Ok, Err}
+use Rattle.std.specs.Prelude.{◌≡◌, ℕ, ◌+◌, ◌<◌, ◌≤◌, length, Option, Some, None, Result, Ok, Err}
 use Rattle.ledger_model.specs.Limits.{max_history_len}
 use Rattle.ledger_model.specs.declared.event.Event.{Event}
-use Rattle.ledger_model.specs.declared.reply.Reply.{Reply}
 use Rattle.ledger_model.specs.declared.world.WorldStep.{WorldStep}
 use Rattle.ledger_model.specs.declared.world.WorldReply.{WorldReply}
 use Rattle.ledger_model.specs.declared.world.WorldReply.TheVariants as answer
 use Rattle.ledger_model.specs.declared.world.WorldRefusal.{WorldRefusal}
 use Rattle.ledger_model.specs.declared.world.WorldRefusal.TheVariants as refused
-use Rattle.ledger_model.specs.Lawful.{Lawful, Replay}
 use Rattle.ledger_model.specs.Worlds.{entries_in, event_of, StepsBy}
-use Rattle.locked_replica.specs.States.{StateView, RunsAlone, AccountsForLeaves, SignsEachOnce, UsesAsSigned, may_lose}
+use Rattle.locked_replica.specs.Applying.{AppliesEvent, IsSound}
+use Rattle.locked_replica.specs.States.{StateView, may_lose}
 use Rattle.adversary_net.specs.declared.party.Party.{Party}
 use Rattle.adversary_net.specs.declared.party.Party.TheVariants as party
 use Rattle.adversary_net.specs.WorldViews.{WorldView, IsCluster, world_of}
@@ -41,22 +40,15 @@ abbrev pub Asks : WorldView → WorldStep → Result (ℕ × Event) WorldRefusal
 Asks c s (Ok p) = IsReady c (event_of c.config (world_of c) s) p.0 p.1
 Asks c s (Err f) = Refused c (event_of c.config (world_of c) s) f
 
--- the replica has one more lawful entry
-pub record Applies (old : StateView) (event : Event) (index : ℕ) (new : StateView) : Type 0 where
+-- the replica applied the event, whose entry has this index
+pub record AppliesAt (old : StateView) (event : Event) (index : ℕ) (new : StateView) : Type 0 where
   pub place : index ≡ length old.entries
-  pub reply : Reply
-  pub added : new.entries ≡ old.entries ++ record { event = event; reply = reply } ∷ []
-  pub lawful : Lawful old.config old.ring old.id old.entries event reply
-  pub rest : new ≡ record old { used = new.used; entries = new.entries; machine = new.machine }
-  pub replay : Replay new.config new.ring new.id new.entries
-  pub machine : RunsAlone new
-  pub signed : UsesAsSigned old new
-  pub account : AccountsForLeaves new
-  pub once : SignsEachOnce new
+  pub applies : AppliesEvent old event new
+  pub sound : IsSound new
 
 -- the party is the correct replica, with one more lawful entry
 abbrev pub AppliesTo : StateView → Event → ℕ → Party StateView → Type 0
-AppliesTo s event index p = (new : StateView) × ((p ≡ party.Correct new) × Applies s event index new)
+AppliesTo s event index p = (new : StateView) × ((p ≡ party.Correct new) × AppliesAt s event index new)
 
 -- the replica is as it was, except that it may have used leaves, if it was to sign at the event
 pub record Stays (old : StateView) (event : Event) (new : StateView) : Type 0 where

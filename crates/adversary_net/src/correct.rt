@@ -72,7 +72,7 @@ fn frame_at<A: Application>(state: &State<A>, index: usize, frame: usize) -> Opt
 impl<A: Application> CorrectReplica<A> {
     ghost use Rattle.ledger_model.specs.Applications.{run};
     ghost use Rattle.locked_replica.specs.States.{IsMember, new_state};
-    ghost use Rattle.adversary_net.specs.Steps.{Applies, Stays};
+    ghost use Rattle.adversary_net.specs.Steps.{AppliesAt, Stays};
     ghost use Rattle.ledger_model.specs.Limits.{max_history_len};
 
     /// A replica with an empty history. The only error is allocation failure.
@@ -125,7 +125,7 @@ impl<A: Application> CorrectReplica<A> {
     /// statement that it was to sign.
     pub(crate) fn apply(&mut self, event: Event) -> Result<usize, AllocError>
         requires room { length self.old.entries < max_history_len }
-        ensures applied { IfOk result (λ index. Applies self.old event index self.new) }
+        ensures applied { IfOk result (λ index. AppliesAt self.old event index self.new) }
         ensures err { OnErr result (Stays self.old event self.new) }
     {
         self.sent.reserve()?;

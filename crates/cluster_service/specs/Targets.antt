@@ -1,5 +1,5 @@
 -- What an exchange of a session says: some replica with a lawful history answers so. No clause says which replica it is.
-use Rattle.std.specs.Prelude.{◌≡◌, ℕ, ◌<◌, ◌≤◌, ⊤, true, List, [], ◌∷◌, length, Option, None, Result, Ok, Err}
+use Rattle.std.specs.Prelude.{◌≡◌, ℕ, ◌<◌, ◌≤◌, ⊤, true, List, length, Option, None, Result, Ok, Err}
 use Rattle.ledger_model.specs.declared.event.Event.TheVariants as event
 use Rattle.ledger_model.specs.declared.reply.QueryAnswer.{QueryAnswer}
 use Rattle.ledger_model.specs.declared.reply.SubmitRefusal.{SubmitRefusal}
@@ -10,28 +10,28 @@ use Rattle.ledger_model.specs.Sessions.{Exchange, Submits, Queries, Heights, Blo
 use Rattle.ledger_model.specs.Values.{Value}
 use Rattle.commit_board.specs.Seats.{ReadAtOnce}
 use Rattle.replica_core.specs.Facts.{block_at}
+use Rattle.locked_replica.specs.Applying.{AppliesEach, AppliesEvent, IsSound}
 use Rattle.locked_replica.specs.States.{StateView}
 use Rattle.replica_turns.specs.Clients.{IsReceipt, is_tx_len, submit_events, with_index}
-use Rattle.replica_turns.specs.Turns.{GoesOn, Takes}
 
--- a replica took the transaction: its history grew by that event and no other, it used no signature, and the answer is its pool's, by
+-- a replica took the transaction: it applied that event and no other, it used no signature, and the answer is its pool's, by
 -- the history before; if the pool took the transaction, the answer is the index of its entry, which is the length of the history before
 pub record IsSubmitted (tx : List ℕ) (answer : Result ℕ SubmitRefusal) : Type 0 where
   pub old : StateView
   pub new : StateView
-  pub went : GoesOn old new
-  pub took : Takes old.entries (submit_events tx) new.entries
+  pub applied : AppliesEach old (submit_events tx) new
+  pub sound : IsSound new
   pub answered : answer ≡ with_index (length old.entries) (submit_reply old.config old.id old.entries tx)
   pub receipt : IsReceipt new.entries tx answer
   pub unsigned : new.used ≡ old.used
 
--- a replica took the query: its history grew by that event and no other, it used no signature, and the answer is its application's, as
+-- a replica took the query: it applied that event and no other, it used no signature, and the answer is its application's, as
 -- of the last block; a key that is too long has no value, and is no event
 pub record IsQueried (key : List ℕ) (answer : QueryAnswer) : Type 0 where
   pub old : StateView
   pub new : StateView
-  pub went : GoesOn old new
-  pub took : length key ≤ 64 → Takes old.entries (event.Query key 0 ∷ []) new.entries
+  pub applied : length key ≤ 64 → AppliesEvent old (event.Query key 0) new
+  pub sound : IsSound new
   pub answered : length key ≤ 64 → Ok answer ≡ query_reply old.config.kind (commits_of old.config old.id old.entries) key 0
   pub long_same : 64 < length key → new ≡ old
   pub long : 64 < length key → answer ≡ record { height = length (commits_of old.config old.id old.entries); value = None }

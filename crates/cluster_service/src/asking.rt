@@ -1,11 +1,11 @@
 //! One question of a client to a replica, with its answer for the session.
-ghost use Rattle.std.specs.Prelude.{◌≡◌, ◌⊎◌, ◌≤◌, ◌<◌, ◌+◌, ◌↔◌, ◌∷◌, [], true, None, Ok, length, IfOk, IfSome, IfNone, OnOk, OnErr, IsErrOf};
+ghost use Rattle.std.specs.Prelude.{◌≡◌, ◌⊎◌, ◌≤◌, ◌<◌, ◌+◌, ◌↔◌, true, None, Ok, length, IfOk, IfSome, IfNone, OnOk, OnErr, IsErrOf};
 ghost use Rattle.ledger_model.specs.Commits.{commits_of, submit_reply};
 ghost use Rattle.ledger_model.specs.Replies.{query_reply};
 ghost use Rattle.ledger_model.specs.declared.event.Event.TheVariants as events;
 ghost use Rattle.replica_core.specs.Facts.{block_at};
 ghost use Rattle.replica_turns.specs.Clients.{IsReceipt, is_tx_len, submit_events, with_index};
-ghost use Rattle.replica_turns.specs.Turns.{Takes};
+ghost use Rattle.locked_replica.specs.Applying.{AppliesEach, AppliesEvent};
 ghost use Rattle.client_sessions.specs.Asking.{max_value_len, outcome_of};
 ghost use Rattle.cluster_service.specs.Targets.{AnswersBlock, AnswersQuery, AnswersSubmit};
 ghost use Rattle.ledger_model.specs.Limits.{max_history_len};
@@ -31,7 +31,7 @@ pub(crate) fn submit<A: Application>(
         (submit_reply state.old.config state.old.id state.old.entries tx.now)) }
     // The entry with the index is the Submit of these bytes that the pool took.
     ensures receipt { IfOk result (λ answer. IsReceipt state.new.entries tx.now answer) }
-    ensures event { OnOk result (Takes state.old.entries (submit_events tx.now) state.new.entries) }
+    ensures applied { OnOk result (AppliesEach state.old (submit_events tx.now) state.new) }
     ensures used { length state.new.entries + entries.new ≡ length state.old.entries + entries.old }
     ensures full { IsErrOf result TargetFault.HistoryFull
         ↔ ((is_tx_len tx.now ≡ true) × ((entries.old ≡ 0) ⊎ (max_history_len ≤ length state.old.entries))) }
@@ -67,8 +67,8 @@ pub(crate) fn query<A: Application>(
 ) -> Result<QueryAnswer, TargetFault>
     ensures answer { length key.now ≤ 64 → IfOk result (λ answer. Ok answer ≡ query_reply state.old.config.kind
         (commits_of state.old.config state.old.id state.old.entries) key.now 0) }
-    ensures event { length key.now ≤ 64 → OnOk result (Takes state.old.entries (events.Query key.now 0 ∷ []) state.new.entries) }
-    ensures fault { OnErr result ((state.new ≡ state.old) ⊎ Takes state.old.entries (events.Query key.now 0 ∷ []) state.new.entries) }
+    ensures applied { length key.now ≤ 64 → OnOk result (AppliesEvent state.old (events.Query key.now 0) state.new) }
+    ensures fault { OnErr result ((state.new ≡ state.old) ⊎ AppliesEvent state.old (events.Query key.now 0) state.new) }
     ensures full { IsErrOf result TargetFault.HistoryFull → (length key.now ≤ 64) × ((entries.old ≡ 0) ⊎ (max_history_len ≤ length state.old.entries)) }
     ensures same { IsErrOf result TargetFault.HistoryFull → state.new ≡ state.old }
     ensures long { 64 < length key.now → IfOk result (λ answer. answer

@@ -1,13 +1,11 @@
 //! Takes the turns of a worker, publishes its replica's height, and reads which heights all replicas committed.
-ghost use Rattle.std.specs.Prelude.{◌≡◌, ◌≤◌, ◌+◌, ◌↔◌, ⊤, None, max, length, MatchOption};
+ghost use Rattle.std.specs.Prelude.{◌≡◌, ◌≤◌, ◌+◌, None, max, length, IfErr, IfOk, MatchOption, OnOk};
 ghost use Rattle.std.specs.Arc.{arc_value};
 ghost use Rattle.ledger_model.specs.Lawful.{clock_at};
 ghost use Rattle.ledger_model.specs.Limits.{max_history_len};
 ghost use Rattle.commit_board.specs.Seats.{IsLeastRead};
-ghost use Rattle.key_ring.specs.Signers.{leaves_of};
-ghost use Rattle.ledger_model.specs.Logs.{is_mute};
-ghost use Rattle.locked_replica.specs.States.{RunsAlone, UsesAsSigned};
-ghost use Rattle.replica_turns.specs.Turns.{Takes, TakesSome, SignsOn, GoesOn, height_in};
+ghost use Rattle.locked_replica.specs.Applying.{AppliesEach, AppliesSome, IsSound};
+ghost use Rattle.replica_turns.specs.Turns.{IsStatusOf, height_in};
 ghost use Rattle.cluster_workers.specs.Looks.{IsNextByBoard};
 
 use abci::Application;
@@ -86,37 +84,27 @@ impl TurnTaker {
         (state.clock(), own_of(state, proposed, least))
     }
 
-    /// Gives the events to this replica, and returns why one was refused, if one was. Another replica gets none.
+    /// A turn of this replica with these events. Another replica gets none.
     fn give<A: Application>(
         &mut self,
         state: &mut State<A>,
         events: Vec<Event>,
-    ) -> Option<ApplyFault>
-        ensures events { state.old.id ≡ self.old.seat.replica → MatchOption result (Takes state.old.entries events.items state.new.entries)
-            (λ _. TakesSome state.old events.items state.new) }
+    ) -> Result<usize, ApplyFault>
+        ensures index { IfOk result (λ index. index ≡ length state.old.entries) }
+        ensures applied { state.old.id ≡ self.old.seat.replica → OnOk result (AppliesEach state.old events.items state.new) }
+        ensures refused { IfErr result (λ why. (state.old.id ≡ self.old.seat.replica) × AppliesSome state.old events.items why state.new) }
         ensures other { (state.old.id ≡ self.old.seat.replica → ⊥) → state.new ≡ state.old }
-        ensures grows { length state.old.entries ≤ length state.new.entries }
-        ensures full { state.old.id ≡ self.old.seat.replica → MatchOption result ⊤
-            (λ fault. (fault ≡ ApplyFault.HistoryFull) ↔ (max_history_len ≤ length state.new.entries)) }
-        ensures signed { state.old.id ≡ self.old.seat.replica → MatchOption result (UsesAsSigned state.old state.new)
-            (λ fault. fault ≡ ApplyFault.HistoryFull → UsesAsSigned state.old state.new) }
-        ensures in_order { state.old.id ≡ self.old.seat.replica → MatchOption result (SignsOn state.old state.new) (λ _. ⊤) }
-        // Nothing else about the replica changes, and its history is a replay.
-        ensures on { state.old.id ≡ self.old.seat.replica → GoesOn state.old state.new }
-        ensures machine { state.old.id ≡ self.old.seat.replica → RunsAlone state.new }
+        ensures sound { IsSound state.new }
         ensures reader { self.new.reader ≡ self.old.reader }
         // The replica's committed height is published.
         ensures seat { state.old.id ≡ self.old.seat.replica
             → self.new.seat ≡ record self.old.seat { height = max self.old.seat.height (height_in state.new) } }
-        ensures idle { (state.old.id ≡ self.old.seat.replica → ⊥) → (self.new.seat ≡ self.old.seat) × (result ≡ None) }
+        ensures idle { (state.old.id ≡ self.old.seat.replica → ⊥) → self.new.seat ≡ self.old.seat }
     {
         if state.id() != self.seat.replica() {
-            return None;
+            return Ok(state.len());
         }
-        match turn(state, events, &self.board, &mut self.seat) {
-            Ok(_) => None,
-            Err(fault) => Some(fault),
-        }
+        turn(state, events, &self.board, &mut self.seat)
     }
 
     /// A turn of this replica. If `state` is another replica, it takes no event, and all count as offered.
@@ -128,32 +116,21 @@ impl TurnTaker {
         ensures first { result.first ≡ length state.old.entries }
         ensures taken { length state.old.entries + result.taken ≡ length state.new.entries }
         ensures offered { MatchOption result.fault (result.offered ≡ length events.items) (λ _. result.offered ≡ result.taken + 1) }
-        // The events are taken in order: all, or those before the one that was refused.
-        ensures events { state.old.id ≡ self.old.seat.replica → MatchOption result.fault (Takes state.old.entries events.items state.new.entries)
-            (λ _. TakesSome state.old events.items state.new) }
-        ensures other { (state.old.id ≡ self.old.seat.replica → ⊥) → state.new ≡ state.old }
-        ensures full { state.old.id ≡ self.old.seat.replica → MatchOption result.fault ⊤
-            (λ fault. (fault ≡ ApplyFault.HistoryFull) ↔ (max_history_len ≤ length state.new.entries)) }
-        ensures signed { state.old.id ≡ self.old.seat.replica → MatchOption result.fault (UsesAsSigned state.old state.new)
-            (λ fault. fault ≡ ApplyFault.HistoryFull → UsesAsSigned state.old state.new) }
-        ensures in_order { state.old.id ≡ self.old.seat.replica → MatchOption result.fault (SignsOn state.old state.new) (λ _. ⊤) }
-        // Nothing else about the replica changes, and its history is a replay.
-        ensures on { state.old.id ≡ self.old.seat.replica → GoesOn state.old state.new }
-        ensures machine { state.old.id ≡ self.old.seat.replica → RunsAlone state.new }
+        // The events are applied in order: all, or those before the one that was refused.
+        ensures events { state.old.id ≡ self.old.seat.replica → MatchOption result.fault (AppliesEach state.old events.items state.new)
+            (λ why. AppliesSome state.old events.items why state.new) }
+        ensures other { (state.old.id ≡ self.old.seat.replica → ⊥) → (state.new ≡ state.old) × (result.fault ≡ None) }
+        ensures sound { IsSound state.new }
         ensures reader { self.new.reader ≡ self.old.reader }
         // The replica's committed height is published.
         ensures seat { state.old.id ≡ self.old.seat.replica
             → self.new.seat ≡ record self.old.seat { height = max self.old.seat.height (height_in state.new) } }
-        ensures idle { (state.old.id ≡ self.old.seat.replica → ⊥) → (self.new.seat ≡ self.old.seat) × (result.fault ≡ None) }
-        ensures height { result.status.height ≡ height_in state.new }
-        ensures rounds { result.status.rounds ≡ clock_at state.new.entries }
-        ensures entries { result.status.entries ≡ length state.new.entries }
-        ensures signatures { state.new.used + result.status.signatures ≡ leaves_of state.new.secret }
-        ensures mute { result.status.is_mute ≡ is_mute state.new.entries }
+        ensures idle { (state.old.id ≡ self.old.seat.replica → ⊥) → self.new.seat ≡ self.old.seat }
+        ensures status { IsStatusOf state.new result.status }
     {
         let first = state.len();
         let count = events.len();
-        let fault = self.give(state, events);
+        let fault = self.give(state, events).err();
         let taken = state.len() - first;
         TurnOutcome {
             first,

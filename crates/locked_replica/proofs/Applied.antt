@@ -1,7 +1,9 @@
 -- A step preserves the invariant of a replica's type.
 use Rattle.std.proofs.Common.{◌≡◌, ◌+◌, ◌<◌, ◌≤◌, Bool, true, false, ◌&&◌, ◌||◌, cond, List, [], ◌∷◌, ◌++◌, length, refl, sym, ap, subst}
 use Rattle.std.proofs.Common.{◌∙◌, length-append, arith}
-use Rattle.std.specs.Prelude.{ℕ, nat_lt, IsTrue}
+use Rattle.std.specs.Prelude.{ℕ, nat_lt, not, IsTrue, IsErrAnd, IfErr, Result, Ok, Err}
+use Rattle.locked_replica.specs.declared.fault.ApplyFault.{ApplyFault}
+use Rattle.locked_replica.specs.declared.fault.ApplyFault.TheVariants as fault
 use Rattle.std.proofs.Math.Bool.{or-false}
 use Rattle.std.proofs.lemmas.Bool.{and_parts, ltb-true}
 use Rattle.std.proofs.lemmas.List.{length-map}
@@ -17,7 +19,7 @@ use Rattle.ledger_model.proofs.Steps.{replays_snoc}
 use Rattle.key_ring.specs.Signers.{SignerView, leaves_of}
 use Rattle.replica_core.specs.ReplicaStates.{ReplicaStateView, MatchesHistory}
 use Rattle.replica_core.specs.Leaves.{signed_at, signed_by, due_by, LeafAccount}
-use Rattle.replica_core.specs.Cores.{CoreView as Core, IsSameReplica, due_then, is_mute_then}
+use Rattle.replica_core.specs.Cores.{CoreView as Core, IsSameReplica, due_then, is_mute_next, is_mute_then, leaves_due}
 use Rattle.replica_core.specs.Steps.{IsStep, UsesLeaves}
 use Rattle.replica_core.specs.LeafOrder.{SignsOnce}
 use Rattle.replica_core.proofs.SpentLeaves.{signed_more, uses_signed, account_more, account_still}
@@ -25,7 +27,8 @@ use Rattle.replica_core.proofs.LeafOrder.{once_more, once_still}
 use Rattle.locked_replica.specs.declared.stored_entry.StoredEntry.{StoredEntry}
 use Rattle.locked_replica.specs.Strings.{Extends, with_strings, strings_at}
 use Rattle.locked_replica.specs.StoredEntries.{entry_of, entries_of, AreStored, IsTakenAs, LeavesCore}
-use Rattle.locked_replica.specs.States.{StateView, IsReplica, RunsAlone, replica_of, due_next, lacks_leaves, is_mute_after, UsesAsSigned}
+use Rattle.locked_replica.specs.Applying.{AppliesEvent, RefusesEvent, IsSound}
+use Rattle.locked_replica.specs.States.{StateView, IsReplica, RunsAlone, replica_of, due_next, lacks_leaves, is_mute_after, signs_at, UsesAsSigned}
 use Rattle.locked_replica.proofs.StoredEntries.{entries_more, stored_more}
 
 -- the history with the entry is a replay
@@ -167,7 +170,7 @@ abbrev pub IsStoredReplica : Core → List (List ℕ) → List StoredEntry → T
 IsStoredReplica core strings entries = IsReplica core.held core.keys (entries_of strings entries) × AreStored strings entries
 
 -- a core took an event, and the entry is stored as the last one
-pub record IsApplied (old new : Core) (before after : List (List ℕ)) (event : Event) (entries news : List StoredEntry)
+pub record IsStoredStep (old new : Core) (before after : List (List ℕ)) (event : Event) (entries news : List StoredEntry)
     (stored : StoredEntry)
     : Type 0 where
   pub was : IsStoredReplica old before entries
@@ -183,7 +186,7 @@ pub applied_by : {old new : Core} {before after : List (List ℕ)} {event : Even
     → IsTakenAs old new before after event stored → LeavesCore old new event → Extends before after
     → IsReplica old.held old.keys (entries_of before entries) × AreStored before entries → length entries < max_history_len
     → ((es : List Entry) → MatchesHistory old.held es → IsDueBy old es) → reserved ≡ entries → news ≡ reserved ++ stored ∷ []
-    → IsApplied old new before after event entries news stored
+    → IsStoredStep old new before after event entries news stored
 applied_by {old} {new} {before} {after} {event} {entries} {reserved} {news} {stored} told left kept was few due same grown = record {
   was = was;
   few = omega (arith, length-map entries (entry_of before), few);
@@ -195,7 +198,7 @@ applied_by {old} {new} {before} {after} {event} {entries} {reserved} {news} {sto
 }
 
 module _ {old new : Core} {before after : List (List ℕ)} {event : Event} {entries news : List StoredEntry} {stored : StoredEntry}
-    (facts : IsApplied old new before after event entries news stored) where
+    (facts : IsStoredStep old new before after event entries news stored) where
   -- the history has the entry
   pub longer : entries_of after news ≡ entries_of before entries ++ entry_of after stored ∷ []
   longer = ap (entries_of after) facts.grown ∙ entries_more before after facts.kept entries stored facts.was.1.within
@@ -268,3 +271,91 @@ pub runs_alone : (held : ReplicaStateView) (keys : SignerView) (entries : List E
     → RunsAlone (replica_of held keys entries)
 unfolding RunsAlone
 runs_alone held keys entries is = is.matches.machine ∙ ap (run held.config.kind) (sym is.matches.commits)
+
+-- so a replica is sound
+pub sound : (held : ReplicaStateView) (keys : SignerView) (entries : List Entry) → IsReplica held keys entries
+    → IsSound (replica_of held keys entries)
+sound held keys entries is = record { replay = is.replay; machine = runs_alone held keys entries is; account = is.account; once = is.once }
+
+-- what the event did
+pub applies : {old new : Core} {before after : List (List ℕ)} {event : Event} {entries news : List StoredEntry} {stored : StoredEntry}
+    → IsStoredStep old new before after event entries news stored
+    → AppliesEvent (replica_of old.held old.keys (entries_of before entries)) event (replica_of new.held new.keys (entries_of after news))
+applies facts = record {
+  room = facts.few;
+  reply = (added_on facts).0;
+  added = (added_on facts).1.0;
+  lawful = (added_on facts).1.1;
+  signed = (added_on facts).1.2;
+  leaves = (added_on facts).1.3;
+  used = still_signed facts;
+  least = facts.left.least;
+  mute = still_mute facts;
+  rest = rw (facts.left.same.config, facts.left.same.id, facts.left.same.ring, facts.left.same.secret) refl;
+}
+
+-- ---- a refused event
+
+-- what is kept makes no more leaves due than the history does, and none where nothing is signed
+due_by_history : (core : Core) (entries : List Entry) (e : Event) → MatchesHistory core.held entries → IsDueBy core entries
+    → (leaves_due core e ≤ due_next (replica_of core.held core.keys entries))
+    × (signs_at (replica_of core.held core.keys entries) e ≡ false → leaves_due core e ≡ 0)
+due_by_history core entries event.RoundEnd matches due = by_round (nat_lt core.held.clock last_round) (is_mute_next core) refl refl
+  where
+    r : StateView
+    r = replica_of core.held core.keys entries
+
+    by_round : (early mute : Bool) → nat_lt core.held.clock last_round ≡ early → is_mute_next core ≡ mute
+        → (leaves_due core event.RoundEnd ≤ due_next r) × (signs_at r event.RoundEnd ≡ false → leaves_due core event.RoundEnd ≡ 0)
+    by_round false mute is says = rw is (omega arith, λ quiet. refl)
+    by_round true true is says = rw (is, says) (omega arith, λ quiet. refl)
+    by_round true false is says =
+        let same : is_mute_after r event.RoundEnd ≡ false = sym (mute_by core entries event.RoundEnd matches due) ∙ rw is says in
+        let clock : clock_at entries ≡ core.held.clock = matches.clock in
+        rw (is, says) (
+          omega (arith, due),
+          λ quiet.
+              let signs : (true && not false) ≡ false = rw (same, clock, is) at quiet in
+              absurd cc,
+        )
+due_by_history core entries (event.Submit bytes) matches due = (omega arith, λ quiet. refl)
+due_by_history core entries (event.Propose h) matches due = (omega arith, λ quiet. refl)
+due_by_history core entries (event.Deliver bytes) matches due = (omega arith, λ quiet. refl)
+due_by_history core entries event.Execute matches due = (omega arith, λ quiet. refl)
+due_by_history core entries (event.Query key height) matches due = (omega arith, λ quiet. refl)
+due_by_history core entries (event.Retire floor) matches due = (omega arith, λ quiet. refl)
+
+-- where memory ran out the event is refused: all is as before, but leaves may be used
+pub refuses_event : (old new : Core) (before after : List (List ℕ)) (event : Event) (entries news : List StoredEntry)
+    → IsStoredReplica old before entries → length (entries_of before entries) < max_history_len
+    → ((es : List Entry) → MatchesHistory old.held es → IsDueBy old es)
+    → new ≡ record old { keys = new.keys } → LeavesCore old new event → after ≡ before → news ≡ entries
+    → RefusesEvent (replica_of old.held old.keys (entries_of before entries)) event fault.NoMemory
+    (replica_of new.held new.keys (entries_of after news))
+refuses_event old new before after event entries news was few due err left strings same =
+    let r = replica_of old.held old.keys (entries_of before entries) in
+    let n = replica_of new.held new.keys (entries_of after news) in
+    let due_by = due_by_history old (entries_of before entries) event was.0.matches (due (entries_of before entries) was.0.matches) in
+    let held : new.held ≡ old.held = ap (λ (k : Core). k.held) err in
+    let es : entries_of after news ≡ entries_of before entries =
+    ap (λ t. entries_of t news) strings ∙ ap (entries_of before) same in
+    let most : new.keys.used ≤ old.keys.used + leaves_due old event = left.most in
+    let least : old.keys.used ≤ new.keys.used = left.least in
+    let rest : n ≡ record r { used = new.keys.used } = rw (held, es, left.same.secret) refl in
+    record {
+      full = ((λ e. absurd cc), (λ many. absurd (omega (arith, few, many))));
+      stays = λ e. absurd cc;
+      spared = λ quiet.
+          let none = due_by.1 quiet in
+          let used : new.keys.used ≡ old.keys.used = omega (arith, most, least, none) in
+          rest ∙ ap (λ (k : ℕ). record r { used = k }) used;
+      least = least;
+      most = (let within = due_by.0 in omega (arith, most, within));
+      rest = rest;
+    }
+
+-- the fault that `?` makes of a refused allocation
+pub refused_memory : (result : Result ℕ ApplyFault) (P : ApplyFault → Type 0) → IsErrAnd result (λ why. why ≡ fault.NoMemory) → P fault.NoMemory
+    → IfErr result P
+refused_memory (Ok index) P is p = tt
+refused_memory (Err why) P is p = subst P (sym is) p

@@ -1,3 +1,4 @@
 pub mod Strings
 pub mod StoredEntries
 pub mod Applied
+pub mod Applying

@@ -76,7 +76,8 @@ impl<A: Application> State<A> {
     ghost use Rattle.replica_core.specs.Placing.{answer_before_signature};
     ghost use Rattle.replica_core.specs.Facts.{block_at, info_reply, AreClosed};
     ghost use Rattle.locked_replica.specs.Strings.{HaveSame, all_strings, strings_of};
-    ghost use Rattle.locked_replica.specs.States.{StateView, IsMember, AccountsForLeaves, RunsAlone, SignsEachOnce, UsesAsSigned, due_next, is_mute_after, keys_in, new_state, signs_at};
+    ghost use Rattle.locked_replica.specs.Applying.{AppliesEvent, RefusesEvent, IsSound};
+    ghost use Rattle.locked_replica.specs.States.{StateView, IsMember, AccountsForLeaves, RunsAlone, SignsEachOnce, new_state};
 
     /// A replica with an empty history. The application must be in its opening state, of the configured kind. The ring
     /// has the public keys of the replicas by number. The pool hashes with the first of the random keys, the verifier and
@@ -163,8 +164,7 @@ impl<A: Application> State<A> {
     pub fn len(&self) -> usize
         ensures len { result ≡ length self.now.entries }
         ensures few { result ≤ max_history_len }
-        // Each entry is lawful after those before it.
-        ensures replay { Replay self.now.config self.now.ring self.now.id self.now.entries }
+        ensures sound { IsSound self.now }
     {
         self.entries.len()
     }
@@ -311,34 +311,11 @@ impl<A: Application> State<A> {
     ///
     /// `HistoryFull` comes exactly if the history has 65,536 entries, and nothing changes. After `NoMemory` everything
     /// is as before, except that a round end may have used leaves.
-    #[tactic(auto, unfolding(crate::specs::States::RunsAlone))]
     pub fn apply(&mut self, event: Event) -> Result<usize, ApplyFault>
         ensures index { IfOk result (λ index. index ≡ length self.old.entries) }
-        ensures added { OnOk result ((reply : Reply)
-            × ((self.new.entries ≡ self.old.entries ++ record { event = event; reply = reply } ∷ [])
-            × Lawful self.old.config self.old.ring self.old.id self.old.entries event reply
-            × IsTrue (is_signed_reply self.old.ring reply)
-            × UsesLeaves (keys_in self.old) (clock_at self.old.entries) reply (keys_in self.new))) }
-        ensures full { IsErrOf result ApplyFault.HistoryFull ↔ (max_history_len ≤ length self.old.entries) }
-        ensures history_stays { OnErr result (self.new.entries ≡ self.old.entries) }
-        ensures rest_stays { self.new ≡ record self.old { used = self.new.used; entries = self.new.entries; machine = self.new.machine } }
-        ensures leaves { self.old.used ≤ self.new.used }
-        ensures refused { IsErrOf result ApplyFault.HistoryFull → self.new ≡ self.old }
-        // A fault spends leaves only where the event opens a round and the replica isn't mute then.
-        ensures spared { OnErr result (signs_at self.old event ≡ false → self.new ≡ self.old) }
-        // It uses at most as many of them as the round end had statements to sign.
-        ensures within { OnErr result (self.new.used ≤ self.old.used + due_next self.old) }
-        // The replica is mute exactly if it was before, or if the event opened a round and fewer leaves were left than
-        // it had statements to sign.
-        ensures mute { OnOk result (is_mute self.new.entries ≡ is_mute_after self.old event) }
-        // Each statement of its own that the reply sends used one leaf, and nothing else did.
-        ensures signed { OnOk result (UsesAsSigned self.old self.new) }
-        ensures account { AccountsForLeaves self.new }
-        // No leaf signs two of the statements that the history sends.
-        ensures once { SignsEachOnce self.new }
-        ensures replay { Replay self.new.config self.new.ring self.new.id self.new.entries }
-        // The application is in the state that it reaches when it runs alone on the committed blocks.
-        ensures machine { RunsAlone self.new }
+        ensures applied { OnOk result (AppliesEvent self.old event self.new) }
+        ensures refused { IfErr result (λ why. RefusesEvent self.old event why self.new) }
+        ensures sound { IsSound self.new }
     {
         let index = self.entries.len();
         if index >= MAX_ENTRIES {

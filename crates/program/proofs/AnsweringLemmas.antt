@@ -1,6 +1,6 @@
 -- A replica that takes events one after the other.
-use Rattle.std.proofs.Common.{◌≡◌, ℕ, List, [], ◌∷◌, ◌++◌, map, refl, sym, ap, ◌∙◌, append_assoc, append-nil, arith}
-use Rattle.std.specs.Prelude.{IsTrue, MatchResult, OnErr, OnOk, Result, Ok, Err, is_ok}
+use Rattle.std.proofs.Common.{◌≡◌, ℕ, ◌≤◌, List, [], ◌∷◌, ◌++◌, map, length, refl, sym, ap, subst, ◌∙◌, append_assoc, append-nil, arith}
+use Rattle.std.specs.Prelude.{MatchResult, IfErr, IsErrOf, OnOk, Result, Ok, Err, is_ok}
 use Rattle.std.proofs.lemmas.List.{map-append}
 use Rattle.std.proofs.lemmas.List.Concat.{flat_map-append}
 use Rattle.ledger_model.specs.declared.event.Event.{Event}
@@ -8,9 +8,12 @@ use Rattle.ledger_model.specs.declared.event.Event.TheVariants as event
 use Rattle.ledger_model.specs.declared.reply.Reply.{Reply}
 use Rattle.ledger_model.specs.declared.reply.Reply.TheVariants as reply
 use Rattle.ledger_model.specs.declared.history.Entry.{Entry}
-use Rattle.ledger_model.specs.Lawful.{Lawful, Replay, clock_at, is_signed_reply}
-use Rattle.replica_core.specs.Steps.{UsesLeaves}
-use Rattle.locked_replica.specs.States.{StateView, AccountsForLeaves, UsesAsSigned, keys_in}
+use Rattle.ledger_model.specs.Lawful.{Lawful, Replay}
+use Rattle.ledger_model.specs.Limits.{max_history_len}
+use Rattle.locked_replica.specs.Applying.{AppliesEvent, RefusesEvent, IsSound}
+use Rattle.locked_replica.specs.declared.fault.ApplyFault.{ApplyFault}
+use Rattle.locked_replica.specs.declared.fault.ApplyFault.TheVariants as fault
+use Rattle.locked_replica.specs.States.{StateView, AccountsForLeaves, UsesAsSigned}
 use Rattle.program.specs.Lines.{lines_of, reply_text}
 use Rattle.program.specs.Answering.{Answers, AnswersSome, Refuses}
 
@@ -25,13 +28,6 @@ answers_none a = record {
   grown = record { entries = sym (append-nil a.entries); same = refl; replay = λ x. x; signed = refl; account = λ x. x };
   these = refl;
   lines = refl;
-}
-
--- an event that is not taken
-pub refuses : (old new : StateView) → new.entries ≡ old.entries → IsSame old new → Refuses old new
-refuses old new stays same = record {
-  same =
-      same ∙ ap (λ (es : List Entry). record old { used = new.used; entries = es; machine = new.machine }) stays;
 }
 
 -- one event
@@ -124,18 +120,22 @@ round_end_silent a (reply.Executed r) lawful = refl
 round_end_silent a (reply.Queried r) lawful = refl
 round_end_silent a (reply.Retired r) lawful = refl
 
--- an event that prints nothing, taken or not
-pub taken_silently : {E F : Type 0} (old new : StateView) (e : Event) (outcome : Result ℕ E) (result : Result (Unit {0}) F)
+-- an event that prints nothing, applied or refused
+pub taken_silently : {F : Type 0} (old new : StateView) (e : Event) (outcome : Result ℕ ApplyFault) (result : Result (Unit {0}) F)
     → is_ok result ≡ is_ok outcome
-    → OnOk outcome ((r : Reply) × ((new.entries ≡ old.entries ++ record { event = e; reply = r } ∷ [])
-    × Lawful old.config old.ring old.id old.entries e r
-    × IsTrue (is_signed_reply old.ring r) × UsesLeaves (keys_in old) (clock_at old.entries) r (keys_in new)))
-    → OnErr outcome (new.entries ≡ old.entries) → IsSame old new → Replay new.config new.ring new.id new.entries
-    → OnOk outcome (UsesAsSigned old new) → AccountsForLeaves new
+    → OnOk outcome (AppliesEvent old e new) → IfErr outcome (λ why. RefusesEvent old e why new) → IsSound new
     → ((r : Reply) → Lawful old.config old.ring old.id old.entries e r → reply_text r ≡ [])
     → MatchResult result (λ _. Answers old (e ∷ []) [] new) (λ _. Refuses old new)
-taken_silently old new e (Ok index) (Ok u) alike added stays same replay signed account silent =
-    answers_one old new e added.0 [] added.1.0 same replay signed account (silent added.0 added.1.1)
-taken_silently old new e (Err fault) (Err stop) alike added stays same replay signed account silent = refuses old new stays same
-taken_silently old new e (Ok index) (Err stop) alike added stays same replay signed account silent = absurd cc
-taken_silently old new e (Err fault) (Ok u) alike added stays same replay signed account silent = absurd cc
+taken_silently old new e (Ok index) (Ok u) alike applied refused sound silent =
+    answers_one old new e applied.reply [] applied.added applied.rest sound.replay applied.used sound.account
+    (silent applied.reply applied.lawful)
+taken_silently old new e (Err why) (Err stop) alike applied refused sound silent = record { same = refused.rest }
+taken_silently old new e (Ok index) (Err stop) alike applied refused sound silent = absurd cc
+taken_silently old new e (Err why) (Ok u) alike applied refused sound silent = absurd cc
+
+-- a full history is the same after the refused event
+pub still_full : (old new : StateView) (e : Event) (outcome : Result ℕ ApplyFault) → IfErr outcome (λ why. RefusesEvent old e why new)
+    → IsErrOf outcome fault.HistoryFull → max_history_len ≤ length new.entries
+still_full old new e outcome refused full =
+    let refuses : RefusesEvent old e fault.HistoryFull new = subst (λ r. IfErr r (λ why. RefusesEvent old e why new)) full refused in
+    subst (λ (s : StateView). max_history_len ≤ length s.entries) (sym (refuses.stays refl)) (refuses.full.0 refl)

@@ -24,7 +24,7 @@ pub record Grows (old : StateView) (added : List Entry) (new : StateView) : Type
 
 -- the replica took no event, but it may have used leaves
 pub record Refuses (old new : StateView) : Type 0 where
-  pub same : new ≡ record old { used = new.used; machine = new.machine }
+  pub same : new ≡ record old { used = new.used }
 
 -- the replica took these events, in order; the text is the lines of its replies
 pub record Answers (old : StateView) (events : List Event) (text : List ℕ) (new : StateView) : Type 0 where

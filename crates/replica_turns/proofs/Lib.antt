@@ -1,4 +1,3 @@
 mod Clients
 mod Cutting
 mod Putting
-mod Signing

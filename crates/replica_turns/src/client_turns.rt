@@ -3,7 +3,7 @@ ghost use Rattle.std.specs.Prelude.{◌≡◌, ◌⊎◌, ◌≤◌, ◌+◌, �
 ghost use Rattle.ledger_model.specs.Commits.{commits_of, submit_reply};
 ghost use Rattle.ledger_model.specs.Replies.{query_reply};
 ghost use Rattle.ledger_model.specs.declared.event.Event.TheVariants as events;
-ghost use Rattle.replica_turns.specs.Turns.{Takes, GoesOn};
+ghost use Rattle.locked_replica.specs.Applying.{AppliesEvent, AppliesEach, IsSound};
 ghost use Rattle.replica_turns.specs.Clients.{IsAnswered, IsReceipt, is_tx_len, query_reply_at, submit_events, with_index};
 ghost use Rattle.ledger_model.specs.Limits.{max_history_len};
 
@@ -66,11 +66,9 @@ fn submit_event<A: Application>(
     ensures answer { IfOk result (λ answer. answer ≡ with_index (length state.old.entries)
         (submit_reply state.old.config state.old.id state.old.entries tx.now)) }
     ensures receipt { IfOk result (λ answer. IsReceipt state.new.entries tx.now answer) }
-    ensures event { OnOk result (Takes state.old.entries (events.Submit tx.now ∷ []) state.new.entries) }
+    ensures applied { OnOk result (AppliesEvent state.old (events.Submit tx.now) state.new) }
     ensures memory { OnErr result (IsErrOf result ApplyFault.NoMemory) }
     ensures same { OnErr result (state.new ≡ state.old) }
-    ensures on { OnOk result (GoesOn state.old state.new) }
-    ensures leaves { OnOk result (state.new.used ≡ state.old.used) }
 {
     let bytes = Bytes::copy_from_slice(alloc, tx)?;
     let index = state.apply(Event::Submit(bytes))?;
@@ -99,7 +97,7 @@ pub fn submit<A: Application>(
         (submit_reply state.old.config state.old.id state.old.entries tx.now)) }
     // The entry with the index is the Submit of these bytes that the pool took.
     ensures receipt { IfOk result (λ answer. IsReceipt state.new.entries tx.now answer) }
-    ensures event { OnOk result (Takes state.old.entries (submit_events tx.now) state.new.entries) }
+    ensures applied { OnOk result (AppliesEach state.old (submit_events tx.now) state.new) }
     // Each new entry of the history is one that clients may use.
     ensures used { length state.new.entries + entries.new ≡ length state.old.entries + entries.old }
     ensures full { IsErrOf result ApplyFault.HistoryFull
@@ -108,7 +106,7 @@ pub fn submit<A: Application>(
     ensures same_entries { OnErr result (entries.new ≡ entries.old) }
     // Bytes that no pool takes always get an answer.
     ensures needed { OnErr result (is_tx_len tx.now ≡ true) }
-    ensures on { GoesOn state.old state.new }
+    ensures sound { IsSound state.new }
     // A client's transaction uses no signature.
     ensures leaves { state.new.used ≡ state.old.used }
 {
@@ -151,13 +149,13 @@ pub fn query<A: Application>(
     key: Key,
 ) -> Result<QueryAnswer, ApplyFault>
     ensures answer { IfOk result (λ answer. Ok answer ≡ query_reply state.old.config.kind (commits_of state.old.config state.old.id state.old.entries) key 0) }
-    ensures event { OnOk result (Takes state.old.entries (events.Query key 0 ∷ []) state.new.entries) }
-    ensures fault { OnErr result ((state.new ≡ state.old) ⊎ Takes state.old.entries (events.Query key 0 ∷ []) state.new.entries) }
+    ensures applied { OnOk result (AppliesEvent state.old (events.Query key 0) state.new) }
+    ensures fault { OnErr result ((state.new ≡ state.old) ⊎ AppliesEvent state.old (events.Query key 0) state.new) }
     // Each new entry of the history is one that clients may use.
     ensures used { length state.new.entries + entries.new ≡ length state.old.entries + entries.old }
     ensures full { IsErrOf result ApplyFault.HistoryFull ↔ ((entries.old ≡ 0) ⊎ (max_history_len ≤ length state.old.entries)) }
     ensures same { IsErrOf result ApplyFault.HistoryFull → state.new ≡ state.old }
-    ensures on { GoesOn state.old state.new }
+    ensures sound { IsSound state.new }
     // A client's query uses no signature.
     ensures leaves { state.new.used ≡ state.old.used }
 {

@@ -18,20 +18,13 @@ pub struct ReplicaStatus {
 }
 
 impl ReplicaStatus {
-    ghost use Rattle.std.specs.Prelude.{◌≡◌, ◌+◌, ◌*◌, nat_le, length};
-    ghost use Rattle.key_ring.specs.Signers.{leaves_of};
+    ghost use Rattle.std.specs.Prelude.{◌≡◌, ◌*◌, nat_le};
     ghost use Rattle.ledger_model.specs.Limits.{max_history_len};
-    ghost use Rattle.ledger_model.specs.Lawful.{clock_at};
-    ghost use Rattle.ledger_model.specs.Logs.{is_mute};
-    ghost use Rattle.replica_turns.specs.Turns.{height_in};
+    ghost use Rattle.replica_turns.specs.Turns.{IsStatusOf};
 
     /// The status of this replica.
     pub fn of<A: Application>(state: &State<A>) -> Self
-        ensures rounds { result.rounds ≡ clock_at state.now.entries }
-        ensures height { result.height ≡ height_in state.now }
-        ensures entries { result.entries ≡ length state.now.entries }
-        ensures signatures { state.now.used + result.signatures ≡ leaves_of state.now.secret }
-        ensures mute { result.is_mute ≡ is_mute state.now.entries }
+        ensures { IsStatusOf state.now result }
     {
         ReplicaStatus {
             rounds: state.clock(),

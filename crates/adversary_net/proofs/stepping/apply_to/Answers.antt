@@ -1,13 +1,13 @@
 use Rattle.std.proofs.Common.{refl}
 use Rattle.std.proofs.lemmas.Result.{IfOk-weaker, on_err_weaker}
 use Rattle.adversary_net.specs.declared.party.Party.TheVariants as party
-use Rattle.adversary_net.specs.Steps.{Applies, AppliesTo}
+use Rattle.adversary_net.specs.Steps.{AppliesAt, AppliesTo}
 use Rattle.adversary_net.proofs.stepping.apply_to.Goals as goal
 
 pub returns-clause-applied : goal.returns-clause-applied
 returns-clause-applied g c =
     rw c.in-Correct.is
-    (IfOk-weaker c.apply.result (λ index. Applies c.in-Correct.replica c.args.event index c.apply.new.self)
+    (IfOk-weaker c.apply.result (λ index. AppliesAt c.in-Correct.replica c.args.event index c.apply.new.self)
     (λ index. AppliesTo c.in-Correct.replica c.args.event index (party.Correct c.apply.new.self))
     (λ index applied. (c.apply.new.self, (refl, applied))) c.apply.ensures.applied)
 

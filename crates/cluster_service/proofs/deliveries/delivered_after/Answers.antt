@@ -14,7 +14,7 @@ returns-in-Some-delivered_at-clause-found g c =
 
 pub returns-in-Some-delivered_at-clause-delivery : goal.returns-in-Some-delivered_at-clause-delivery
 returns-in-Some-delivered_at-clause-delivery g c = record {
-  replay = c.len-index-end.ensures.replay;
+  replay = c.len-index-end.ensures.sound.replay;
   after = c.args.first;
   later = le_refl c.args.first;
   found = sym (returns-in-Some-delivered_at-clause-found g c);
@@ -35,4 +35,4 @@ returns-clause-found g c =
     ∙ c.loop-index.invariant
 
 pub returns-clause-undelivered : goal.returns-clause-undelivered
-returns-clause-undelivered g c = record { replay = c.len-index-end.ensures.replay; none = sym (returns-clause-found g c) }
+returns-clause-undelivered g c = record { replay = c.len-index-end.ensures.sound.replay; none = sym (returns-clause-found g c) }

@@ -7,9 +7,15 @@ returns-in-Ok-clause-begun c =
     let cluster = c.args.cluster.now in
     let id = c.args.state.now.id in
     let given = c.in-Ok.ensures in
-    let goes : Goes c.args.state.now c.apply.new.self c.in_ok-tx.tx given.added.0 =
-    record { added = given.added.1.0; lawful = given.added.1.1; uses = given.added.1.3; rest = given.rest_stays; alone = given.machine } in
-    let answered = subst (λ tx. Goes c.args.state.now c.apply.new.self tx given.added.0)
+    let applied = given.applied in
+    let goes : Goes c.args.state.now c.apply.new.self c.in_ok-tx.tx applied.reply = record {
+      added = applied.added;
+      lawful = applied.lawful;
+      uses = applied.leaves;
+      rest = applied.rest;
+      alone = given.sound.machine;
+    } in
+    let answered = subst (λ tx. Goes c.args.state.now c.apply.new.self tx applied.reply)
     (c.in_ok-tx.ensures ∙ c.as_bytes.ensures.bytes) goes in
-    first_goes cluster c.args.tx.now id c.apply.new.self given.added.0
+    first_goes cluster c.args.tx.now id c.apply.new.self applied.reply
     (subst (λ s. Goes s c.apply.new.self c.args.tx.now given.added.0) c.requires.fresh answered)

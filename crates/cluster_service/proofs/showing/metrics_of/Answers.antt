@@ -3,7 +3,7 @@ use Rattle.cluster_service.proofs.showing.metrics_of.Goals as goal
 
 pub returns-clause-shown : goal.returns-clause-shown
 returns-clause-shown g c = record {
-  replay = c.len.ensures.replay;
+  replay = c.len.ensures.sound.replay;
   account = c.is_mute.ensures.account;
   own_key = c.id.ensures.own_key;
   rounds = c.clock.ensures;

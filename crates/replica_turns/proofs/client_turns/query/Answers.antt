@@ -10,26 +10,26 @@ use Rattle.replica_turns.proofs.client_turns.query.Goals as goal
 pub answer_at-requires : goal.answer_at-requires
 answer_at-requires g c =
     let old = c.args.state.now in
-    let added = c.in_ok-index.ensures.added in
+    let added = c.in_ok-index.ensures.applied in
     let batches = commits_of old.config old.id old.entries in (
       _,
-      query_added old.config old.ring old.id old.entries c.apply.new.self.entries c.args.key c.new.result added.0 c.in_ok-index.index
-          c.in_ok-index.ensures.index c.new.ensures added.1.0 added.1.1
+      query_added old.config old.ring old.id old.entries c.apply.new.self.entries c.args.key c.new.result added.reply c.in_ok-index.index
+          c.in_ok-index.ensures.index c.new.ensures added.added added.lawful
           ∙ ap Some (last_answer old.config.kind batches c.args.key),
     )
 
 pub returns-clause-answer : goal.returns-clause-answer
 returns-clause-answer g c =
     let old = c.args.state.now in
-    let added = c.in_ok-index.ensures.added in
+    let added = c.in_ok-index.ensures.applied in
     let told : query_reply_at (slice_get c.apply.new.self.entries c.in_ok-index.index)
     ≡ Some (query_reply old.config.kind (commits_of old.config old.id old.entries) c.args.key 0) =
-    query_added old.config old.ring old.id old.entries c.apply.new.self.entries c.args.key c.new.result added.0 c.in_ok-index.index
-    c.in_ok-index.ensures.index c.new.ensures added.1.0 added.1.1 in
+    query_added old.config old.ring old.id old.entries c.apply.new.self.entries c.args.key c.new.result added.reply c.in_ok-index.index
+    c.in_ok-index.ensures.index c.new.ensures added.added added.lawful in
     cc (told, c.in_ok-answer_at.ensures)
 
-pub returns-clause-event : goal.returns-clause-event
-returns-clause-event g c = grind (arith, common_steps)
+pub returns-clause-applied : goal.returns-clause-applied
+returns-clause-applied g c = grind (arith, common_steps)
 
 pub returns-in_err-answer_at-clause-fault : goal.returns-in_err-answer_at-clause-fault
 returns-in_err-answer_at-clause-fault g c = grind (arith, common_steps)

@@ -14,5 +14,5 @@ returns-then-tx-gt-MAX_LEN-clause-answer g c = grind (arith, common_steps)
 pub returns-clause-used : goal.returns-clause-used
 returns-clause-used g c = grind (arith, common_steps)
 
-pub returns-then-tx-gt-MAX_LEN-clause-event : goal.returns-then-tx-gt-MAX_LEN-clause-event
-returns-then-tx-gt-MAX_LEN-clause-event g c = grind (arith, common_steps)
+pub returns-then-tx-gt-MAX_LEN-clause-applied : goal.returns-then-tx-gt-MAX_LEN-clause-applied
+returns-then-tx-gt-MAX_LEN-clause-applied g c = grind (arith, common_steps)

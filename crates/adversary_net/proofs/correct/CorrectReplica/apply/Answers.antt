@@ -10,9 +10,9 @@ pub invariant_of-self-in-Ok : goal.invariant_of-self-in-Ok
 invariant_of-self-in-Ok g c =
     let s = c.self.inside in
     let old = s.state in
-    let added = c.in-Ok.ensures.added in
-    let e : Entry = record { event = c.args.event; reply = added.0 } in
-    let grown : c.apply.new.self.entries ≡ old.entries ++ e ∷ [] = added.1.0 in
+    let added = c.in-Ok.ensures.applied in
+    let e : Entry = record { event = c.args.event; reply = added.reply } in
+    let grown : c.apply.new.self.entries ≡ old.entries ++ e ∷ [] = added.added in
     let place : c.in-Ok.index ≡ length old.entries = c.in-Ok.ensures.index in
     let there : slice_get c.apply.new.self.entries c.in-Ok.index ≡ Some e =
     ap (λ es. slice_get es c.in-Ok.index) grown ∙ ap (slice_get (old.entries ++ e ∷ [])) place ∙ get_last old.entries e in
@@ -24,11 +24,9 @@ invariant_of-self-in-Ok g c =
           c.frames_of-frames.result c.in-Ok.index old.entries c.apply.new.self.entries e c.self.invariant.indexed counted small
           c.reserve.ensures.sending c.reserve.ensures.total place
           c.add.ensures.sending c.add.ensures.total grown;
-      machine = c.in-Ok.ensures.machine;
+      machine = c.in-Ok.ensures.sound.machine;
     }
 
 pub returns-in-Err-clause-err : goal.returns-in-Err-clause-err
 returns-in-Err-clause-err g c =
-    rw (sym c.self.view_is) (stays c.self.inside.state c.apply.new.self c.self.invariant.machine c.in-Err.ensures.machine
-    c.in-Err.ensures.history_stays c.in-Err.ensures.rest_stays c.in-Err.ensures.leaves
-    c.args.event c.in-Err.ensures.spared c.in-Err.ensures.within)
+    rw (sym c.self.view_is) (stays c.self.inside.state c.apply.new.self c.args.event c.in-Err.field-0 c.in-Err.ensures.refused)

@@ -1,9 +1,8 @@
-use Rattle.std.proofs.Common.{◌≤◌, length, sym, arith, rules}
+use Rattle.std.proofs.Common.{subst, sym, arith}
 use Rattle.std.proofs.lemmas.List.{length-map}
-use Rattle.ledger_model.specs.Limits.{max_history_len}
 use Rattle.locked_replica.specs.StoredEntries.{entry_of, entries_of}
-use Rattle.locked_replica.proofs.Applied.{applied_by, still_replica, still_stored, added_on, still_mute, still_signed, left_stored}
-use Rattle.locked_replica.proofs.Applied.{runs_alone}
+use Rattle.locked_replica.specs.States.{IsReplica}
+use Rattle.locked_replica.proofs.Applied.{applied_by, applies, still_replica, still_stored, left_stored, refuses_event, refused_memory, sound}
 use Rattle.locked_replica.proofs.state.State.apply.Goals as goal
 
 pub take_event-requires : goal.take_event-requires
@@ -15,44 +14,27 @@ invariant_of-self-2 g c =
     (omega (arith, c.len-index.ensures, c.if-index-ge-MAX_ENTRIES.false)) c.is_mute.ensures.due c.reserve.ensures.items c.store.ensures) in
     (still_replica facts, still_stored facts)
 
-pub returns-clause-added : goal.returns-clause-added
-returns-clause-added g c =
-    rw (sym c.self.view_is) (added_on (applied_by c.in_ok-entry.ensures.taken c.in_ok-entry.ensures.left c.in_ok-entry.ensures.kept
+pub returns-clause-applied : goal.returns-clause-applied
+returns-clause-applied g c =
+    rw (sym c.self.view_is) (applies (applied_by c.in_ok-entry.ensures.taken c.in_ok-entry.ensures.left c.in_ok-entry.ensures.kept
     c.self.invariant
     (omega (arith, c.len-index.ensures, c.if-index-ge-MAX_ENTRIES.false)) c.is_mute.ensures.due c.reserve.ensures.items c.store.ensures))
 
-pub returns-clause-replay : goal.returns-clause-replay
-returns-clause-replay g c = (invariant_of-self-2 g c).0.replay
-
-pub returns-clause-machine : goal.returns-clause-machine
-returns-clause-machine g c =
-    runs_alone c.take_event.new.core.held c.take_event.new.core.keys (entries_of c.take_event.new.strings c.store.new.entries.items)
+pub returns-clause-sound : goal.returns-clause-sound
+returns-clause-sound g c =
+    sound c.take_event.new.core.held c.take_event.new.core.keys (entries_of c.take_event.new.strings c.store.new.entries.items)
     (invariant_of-self-2 g c).0
 
-pub returns-clause-mute : goal.returns-clause-mute
-returns-clause-mute g c =
-    rw (sym c.self.view_is) (still_mute (applied_by c.in_ok-entry.ensures.taken c.in_ok-entry.ensures.left c.in_ok-entry.ensures.kept
-    c.self.invariant
-    (omega (arith, c.len-index.ensures, c.if-index-ge-MAX_ENTRIES.false)) c.is_mute.ensures.due c.reserve.ensures.items c.store.ensures))
-
-pub returns-clause-signed : goal.returns-clause-signed
-returns-clause-signed g c =
-    rw (sym c.self.view_is) (still_signed (applied_by c.in_ok-entry.ensures.taken c.in_ok-entry.ensures.left c.in_ok-entry.ensures.kept
-    c.self.invariant
-    (omega (arith, c.len-index.ensures, c.if-index-ge-MAX_ENTRIES.false)) c.is_mute.ensures.due c.reserve.ensures.items c.store.ensures))
-
-pub returns-clause-account : goal.returns-clause-account
-returns-clause-account g c = (invariant_of-self-2 g c).0.account
-
-pub returns-clause-once : goal.returns-clause-once
-returns-clause-once g c = (invariant_of-self-2 g c).0.once
-
-pub returns-then-index-ge-MAX_ENTRIES-clause-full : goal.returns-then-index-ge-MAX_ENTRIES-clause-full
-returns-then-index-ge-MAX_ENTRIES-clause-full g c =
+pub returns-then-index-ge-MAX_ENTRIES-clause-sound : goal.returns-then-index-ge-MAX_ENTRIES-clause-sound
+returns-then-index-ge-MAX_ENTRIES-clause-sound g c =
     let s = c.self.inside in
-    let many : max_history_len ≤ length (entries_of s.strings s.entries.items) =
-    omega (arith, c.len-index.ensures, c.if-index-ge-MAX_ENTRIES.true, length-map s.entries.items (entry_of s.strings)) in
-    rw (sym c.self.view_is) (search (rules, many))
+    rw (sym c.self.view_is) (sound s.core.held s.core.keys (entries_of s.strings s.entries.items) c.self.invariant.0)
+
+pub returns-in_err-reserve-clause-sound : goal.returns-in_err-reserve-clause-sound
+returns-in_err-reserve-clause-sound g c =
+    let s = c.self.inside in
+    sound s.core.held s.core.keys (entries_of s.strings c.reserve.new.self.items)
+    (subst (λ es. IsReplica s.core.held s.core.keys (entries_of s.strings es)) (sym c.reserve.ensures.items) c.self.invariant.0)
 
 pub invariant_of-self-in_err-entry : goal.invariant_of-self-in_err-entry
 invariant_of-self-in_err-entry g c =
@@ -60,8 +42,15 @@ invariant_of-self-in_err-entry g c =
     left_stored s.core c.take_event.new.core s.strings c.take_event.new.strings c.args.event s.entries.items c.reserve.new.self.items
     c.self.invariant c.in_err-entry.ensures.err c.in_err-entry.ensures.left c.in_err-entry.ensures.strings_err c.reserve.ensures.items
 
-pub returns-in_err-entry-clause-account : goal.returns-in_err-entry-clause-account
-returns-in_err-entry-clause-account g c = (invariant_of-self-in_err-entry g c).0.account
+pub returns-in_err-entry-clause-sound : goal.returns-in_err-entry-clause-sound
+returns-in_err-entry-clause-sound g c =
+    sound c.take_event.new.core.held c.take_event.new.core.keys (entries_of c.take_event.new.strings c.reserve.new.self.items)
+    (invariant_of-self-in_err-entry g c).0
 
-pub returns-in_err-entry-clause-once : goal.returns-in_err-entry-clause-once
-returns-in_err-entry-clause-once g c = (invariant_of-self-in_err-entry g c).0.once
+pub returns-in_err-entry-clause-refused : goal.returns-in_err-entry-clause-refused
+returns-in_err-entry-clause-refused g c =
+    let s = c.self.inside in
+    refused_memory _ _ c.from_residual-in_err-entry.ensures.1
+    (rw (sym c.self.view_is) (refuses_event s.core c.take_event.new.core s.strings c.take_event.new.strings c.args.event s.entries.items
+    c.reserve.new.self.items c.self.invariant (omega (arith, c.len-index.ensures, c.if-index-ge-MAX_ENTRIES.false, length-map s.entries.items (entry_of s.strings)))
+    c.is_mute.ensures.due c.in_err-entry.ensures.err c.in_err-entry.ensures.left c.in_err-entry.ensures.strings_err c.reserve.ensures.items))
