@@ -1,29 +1,16 @@
 //! Audits of the histories of the worked runs: as they are, cut, changed, too few, in any order.
 use crate::fault::Fault;
+use crate::handing::{Part, handed_in, part_of};
 use crate::playing::{history_of, new_apps, played};
 use crate::scripts::{PLAIN, PLAIN_IN_VERSION_2, PLAIN_WITH_B, Script};
 use app_kinds::AnyKind;
 use history_audit::{AuditFault, audit, receipt_holds};
-use ledger_model::{Entries, Entry, History, Ignored, Ledger, ReplicaId, Reply, Tx, Version};
+use ledger_model::{History, Ledger, ReplicaId, Tx, Version};
 use locked_replica::Snapshot;
 use simulation::Simulation;
 use std::alloc::{AllocError, Global};
 use std::hash::RandomState;
 use std::test::Fail;
-
-/// How a history is handed in.
-#[derive(Clone, Copy)]
-enum Part {
-    Whole,
-    /// Its first entries.
-    Cut(usize),
-    /// This entry's reply is that the frame is ignored as repeated.
-    Changed(usize),
-    /// Without this entry.
-    Dropped(usize),
-    /// With this entry twice.
-    Twice(usize),
-}
 
 /// What an audit returned: which ledger, or the fault with its numbers.
 #[derive(Clone, Copy, PartialEq, Eq)]
@@ -155,66 +142,6 @@ const ROWS: [Row; 12] = [
         outcome: Outcome::NotReplay(0, 4),
     },
 ];
-
-fn copied(entry: &Entry) -> Result<Entry, AllocError> {
-    Ok(Entry {
-        event: entry.event.copy()?,
-        reply: entry.reply.copy()?,
-    })
-}
-
-/// The entries with this index, as the part has them.
-fn add_entry(
-    entries: &mut Vec<Entry>,
-    part: Part,
-    index: usize,
-    entry: &Entry,
-) -> Result<(), AllocError> {
-    let copy = copied(entry)?;
-    match part {
-        Part::Cut(len) if index >= len => {}
-        Part::Dropped(at) if index == at => {}
-        Part::Changed(at) if index == at => {
-            let reply = Reply::Delivered(Err(Ignored::Repeated));
-            entries.push(Entry {
-                event: copy.event,
-                reply,
-            })?;
-        }
-        Part::Twice(at) if index == at => {
-            entries.push(copy)?;
-            entries.push(copied(entry)?)?;
-        }
-        _ => entries.push(copy)?,
-    }
-    Ok(())
-}
-
-/// The history as it is handed in.
-fn part_of(alloc: Global, whole: &History, part: Part) -> Result<History, AllocError> {
-    let mut entries = Vec::new(alloc);
-    for (index, entry) in whole.entries.as_slice().iter().enumerate() {
-        add_entry(&mut entries, part, index, entry)?;
-    }
-    Ok(History {
-        replica: whole.replica,
-        entries: Entries::new(entries),
-    })
-}
-
-/// The histories of a row.
-fn handed_in(
-    alloc: Global,
-    simulation: &Simulation<AnyKind>,
-    parts: &[(u8, Part)],
-) -> Result<Vec<History>, Fault> {
-    let mut histories = Vec::new(alloc);
-    for (replica, part) in parts {
-        let snapshot = history_of(simulation, *replica)?;
-        histories.push(part_of(alloc, &snapshot.history, *part)?)?;
-    }
-    Ok(histories)
-}
 
 /// Which ledger it is.
 fn outcome_of_ledger(ledger: &Ledger) -> Outcome {

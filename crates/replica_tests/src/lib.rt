@@ -21,9 +21,13 @@ mod frame_tests;
 #[cfg(test)]
 mod frames;
 #[cfg(test)]
+mod handing;
+#[cfg(test)]
 mod history_tests;
 #[cfg(test)]
 mod memory_tests;
+#[cfg(test)]
+mod picture_tests;
 #[cfg(test)]
 mod playing;
 #[cfg(test)]
