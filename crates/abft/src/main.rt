@@ -6,8 +6,8 @@ use cluster_service::{
     open_listeners, serve, start_reporter,
 };
 use program::{Outcome, finish, refuse_words, run};
-use program_streams::{ProgramFault, Resource, require_open};
-use settings::{ClusterSettings, ServeSettings};
+use byte_streams::{ProgramFault, Resource, require_open};
+use cluster_setup::{ClusterSettings, ServeSettings};
 use std::alloc::Global;
 use std::io::{IsTerminal, Stderr, Stdin, Stdout};
 use std::net::{Net, TcpListener, TcpStream};

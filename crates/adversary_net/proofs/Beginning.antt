@@ -23,7 +23,7 @@ use Rattle.ledger_model.specs.Worlds.{no_entries, beginning, Runs}
 use Rattle.ledger_model.proofs.Lists.{any_has, has_any, filter_has, has_filter}
 use Rattle.lms_tree.specs.Trees.{Secret}
 use Rattle.key_ring.specs.Signers.{leaves_of}
-use Rattle.cluster_keys.specs.Keys.{ring_with}
+use Rattle.cluster_setup.specs.Keys.{ring_with}
 use Rattle.replica_core.proofs.SpentLeaves.{account_none}
 use Rattle.replica_core.proofs.LeafOrder.{once_none}
 use Rattle.locked_replica.specs.States.{StateView}

@@ -5,7 +5,7 @@ use Rattle.ledger_model.specs.declared.config.Config.{Config}
 use Rattle.ledger_model.specs.Applications.{Machine, run}
 use Rattle.ledger_model.specs.Rules.{Ring}
 use Rattle.lms_tree.specs.Trees.{Secret}
-use Rattle.cluster_keys.specs.Keys.{unused, ring_with}
+use Rattle.cluster_setup.specs.Keys.{unused, ring_with}
 use Rattle.locked_replica.specs.States.{StateView, new_state}
 use Rattle.adversary_net.specs.declared.party.Party.{Party}
 use Rattle.adversary_net.specs.declared.party.Party.TheVariants as party

@@ -3,7 +3,7 @@ ghost use Rattle.std.specs.Prelude.{◌≡◌, [], ◌<◌, ◌≤◌, ◌-◌, 
 ghost use Rattle.std.specs.List.{range_with_len};
 ghost use Rattle.std.specs.Vec.Iter.{into_iter_items};
 ghost use Rattle.ledger_model.specs.Applications.{run};
-ghost use Rattle.cluster_keys.specs.Keys.{ring_of, secret_of, signers_of, unused};
+ghost use Rattle.cluster_setup.specs.Keys.{ring_of, secret_of, signers_of, unused};
 ghost use Rattle.locked_replica.specs.States.{IsMember};
 ghost use Rattle.adversary_net.specs.Openings.{different, is_liar, correct_without, new_party, IsSupply, MayLie};
 
@@ -12,7 +12,7 @@ use crate::fault::WorldFault;
 use crate::party::Party;
 use crate::world::World;
 use abci::Application;
-use cluster_keys::{ClusterKeys, ClusterSeed, all_keys};
+use cluster_setup::{ClusterKeys, ClusterSeed, all_keys};
 use key_ring::{KeyRing, Signer};
 use ledger_model::{Config, ReplicaId};
 use std::alloc::{AllocError, Global};

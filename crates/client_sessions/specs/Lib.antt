@@ -7,3 +7,4 @@ pub mod Faults
 pub mod Streams
 pub mod Heights
 pub mod Serving
+pub mod Counting

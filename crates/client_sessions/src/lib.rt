@@ -34,6 +34,8 @@
 #![tactic(auto)]
 
 mod answer;
+mod counted_stream;
+mod failure_count;
 mod receiving;
 mod reply_buffer;
 mod request;
@@ -43,7 +45,9 @@ mod session_end;
 mod streams;
 mod targets;
 mod transfers;
+mod tries;
 
+pub use counted_stream::CountedStream;
 pub use serving::serve;
 pub use session::Session;
 pub use session_end::{SessionEnd, SessionFault};

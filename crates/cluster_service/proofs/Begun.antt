@@ -9,7 +9,7 @@ use Rattle.ledger_model.specs.Commits.{commits_of}
 use Rattle.ledger_model.specs.Lawful.{Lawful, clock_at}
 use Rattle.locked_replica.specs.States.{StateView, RunsAlone, keys_in}
 use Rattle.replica_core.specs.Steps.{UsesLeaves}
-use Rattle.cluster_keys.specs.declared.cluster_seed.ClusterSeed.{ClusterSeed}
+use Rattle.cluster_setup.specs.declared.cluster_seed.ClusterSeed.{ClusterSeed}
 use Rattle.cluster_service.specs.Replicas.{begun, submitted}
 
 -- the new replica is the old one with this entry more

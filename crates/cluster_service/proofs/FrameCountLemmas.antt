@@ -7,7 +7,7 @@ use Rattle.std.proofs.lemmas.Option.{get_or_from_slice_get, slice_get_within}
 use Rattle.ledger_model.specs.Limits.{max_history_len}
 use Rattle.ledger_model.specs.declared.history.Entry.{Entry}
 use Rattle.ledger_model.specs.declared.reply.Ignored.{Ignored}
-use Rattle.http_replies.specs.FrameCounts.{counted}
+use Rattle.http_messages.specs.FrameCounts.{counted}
 use Rattle.cluster_service.specs.FrameCounting.{deliveries_with, frame_answer, passes}
 
 module _ (test : Result (Unit {0}) Ignored → Bool) (es : List Entry) (i : ℕ) where

@@ -12,17 +12,17 @@ use Rattle.ledger_model.specs.declared.config.Config.{Config}
 use Rattle.ledger_model.specs.declared.history.History.{History}
 use Rattle.ledger_model.specs.Rules.{Ring}
 use Rattle.ledger_model.specs.Values.{Value}
-use Rattle.cluster_keys.specs.Keys.{ring_of}
+use Rattle.cluster_setup.specs.Keys.{ring_of}
 use Rattle.history_bytes.specs.Histories.{history_bytes}
 use Rattle.history_audit.specs.Findings.{IsFinding}
 use Rattle.history_audit.specs.declared.fault.AuditFault.{AuditFault}
-use Rattle.audit_lines.specs.AuditLines.{finding_status, finding_text}
-use Rattle.settings.specs.declared.cluster.ClusterSettings.{ClusterSettings}
+use Rattle.printed_lines.specs.AuditLines.{finding_status, finding_text}
+use Rattle.cluster_setup.specs.declared.cluster_settings.ClusterSettings.{ClusterSettings}
 use Rattle.byte_streams.specs.Writing.{AppendsSome}
 use Rattle.byte_streams.proofs.Faults.{each_way}
 use Rattle.byte_streams.proofs.WritingLemmas.{all_some, longer_some, nothing_some, then_some}
-use Rattle.program_streams.specs.declared.program_fault.ProgramFault.{ProgramFault}
-use Rattle.program_streams.specs.declared.program_fault.ProgramFault.TheVariants as fault
+use Rattle.byte_streams.specs.declared.program_fault.ProgramFault.{ProgramFault}
+use Rattle.byte_streams.specs.declared.program_fault.ProgramFault.TheVariants as fault
 use Rattle.cluster_service.specs.HistoriesFiles.{Saves}
 use Rattle.cluster_service.specs.Lines.{commit_line, commit_lines}
 use Rattle.cluster_service.specs.RunFaults.{IsLineFault, IsRunFault, IsSaveFault, IsWriteFault}

@@ -1,9 +1,9 @@
 -- The faults of what a cluster does at its end are faults of its end.
 use Rattle.std.proofs.Common.{refl, sym, subst}
 use Rattle.std.specs.Prelude.{IsTrue, Option}
-use Rattle.program_streams.specs.Faults.{IsMemoryOrRandom}
-use Rattle.program_streams.specs.declared.program_fault.ProgramFault.{ProgramFault}
-use Rattle.program_streams.specs.declared.program_fault.ProgramFault.TheVariants as fault
+use Rattle.byte_streams.specs.Faults.{IsMemoryOrRandom}
+use Rattle.byte_streams.specs.declared.program_fault.ProgramFault.{ProgramFault}
+use Rattle.byte_streams.specs.declared.program_fault.ProgramFault.TheVariants as fault
 use Rattle.cluster_service.specs.HistoriesFiles.{HistoriesFileView, path_of}
 use Rattle.cluster_service.specs.RunFaults.{IsLineFault, IsReportFault, IsSaveFault, IsWriteFault, is_asked_at_end}
 

@@ -5,7 +5,7 @@ use Rattle.ledger_model.specs.declared.history.Entry.{Entry}
 use Rattle.ledger_model.specs.declared.reply.Ignored.{Ignored}
 use Rattle.ledger_model.specs.declared.reply.Reply.{Reply}
 use Rattle.ledger_model.specs.declared.reply.Reply.TheVariants as reply
-use Rattle.http_replies.specs.FrameCounts.{is_accepted, is_ignored_for}
+use Rattle.http_messages.specs.FrameCounts.{is_accepted, is_ignored_for}
 
 -- the answer to a delivered frame, if the reply is one
 abbrev pub frame_answer : Reply → Option (Result (Unit {0}) Ignored)

@@ -1,8 +1,8 @@
 -- The file into which a cluster writes its histories.
 use Rattle.std.specs.Prelude.{ℕ, List, Option, Some, None}
 use Rattle.std.specs.Io.KnownBytes.{Appends}
-use Rattle.program_streams.specs.declared.program_fault.ProgramFault.{ProgramFault}
-use Rattle.program_streams.specs.declared.program_fault.ProgramFault.TheVariants as fault
+use Rattle.byte_streams.specs.declared.program_fault.ProgramFault.{ProgramFault}
+use Rattle.byte_streams.specs.declared.program_fault.ProgramFault.TheVariants as fault
 use Rattle.byte_streams.specs.Writing.{AppendsSome}
 
 -- a file for histories: its path, and the bytes in it, if they are known

@@ -1,7 +1,7 @@
 -- What is answered to HTTP alone: the state that was seen under the replica's lock is that replica's, and the answer follows from it.
 use Rattle.std.specs.Prelude.{◌≡◌, ℕ, ◌+◌, ◌^◌, ◌-◌, ⊤, List, drop, length, min, sum_by, Option, Some, None, slice_get}
-use Rattle.http_replies.specs.FrameCounts.{ignored_for}
-use Rattle.http_replies.specs.declared.metrics.ReplicaMetrics.{ReplicaMetrics}
+use Rattle.http_messages.specs.FrameCounts.{ignored_for}
+use Rattle.http_messages.specs.declared.metrics.ReplicaMetrics.{ReplicaMetrics}
 use Rattle.http_sessions.specs.declared.targets.AppInfo.{AppInfo}
 use Rattle.http_sessions.specs.declared.targets.Delivery.{Delivery}
 use Rattle.http_sessions.specs.declared.targets.Delivery.TheVariants.{Committed, TimedOut, Stopping}

@@ -5,8 +5,8 @@ use Rattle.ledger_model.specs.declared.event.Event.TheVariants as event
 use Rattle.ledger_model.specs.declared.history.Entry.{Entry}
 use Rattle.ledger_model.specs.declared.reply.Reply.TheVariants as reply
 use Rattle.ledger_model.specs.Commits.{submit_reply}
-use Rattle.cluster_keys.specs.declared.cluster_seed.ClusterSeed.{ClusterSeed}
-use Rattle.cluster_keys.specs.Keys.{ring_of, secret_of, unused}
+use Rattle.cluster_setup.specs.declared.cluster_seed.ClusterSeed.{ClusterSeed}
+use Rattle.cluster_setup.specs.Keys.{ring_of, secret_of, unused}
 use Rattle.locked_replica.specs.States.{StateView, new_state}
 
 -- the history in which a client submits the transaction

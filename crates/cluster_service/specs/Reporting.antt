@@ -9,14 +9,14 @@ use Rattle.ledger_model.specs.Lawful.{Replay}
 use Rattle.ledger_model.specs.Rules.{Ring}
 use Rattle.ledger_model.specs.Values.{Value}
 use Rattle.byte_streams.specs.Writing.{AppendsSome}
-use Rattle.cluster_keys.specs.Keys.{ring_of}
+use Rattle.cluster_setup.specs.Keys.{ring_of}
 use Rattle.history_bytes.specs.Histories.{history_bytes}
 use Rattle.history_audit.specs.Findings.{IsFinding}
 use Rattle.history_audit.specs.declared.fault.AuditFault.{AuditFault}
 use Rattle.history_audit.specs.declared.fault.AuditFault.TheVariants as fault
-use Rattle.audit_lines.specs.AuditLines.{finding_status, finding_text}
-use Rattle.settings.specs.declared.cluster.ClusterSettings.{ClusterSettings}
-use Rattle.program_streams.specs.declared.program_fault.ProgramFault.{ProgramFault}
+use Rattle.printed_lines.specs.AuditLines.{finding_status, finding_text}
+use Rattle.cluster_setup.specs.declared.cluster_settings.ClusterSettings.{ClusterSettings}
+use Rattle.byte_streams.specs.declared.program_fault.ProgramFault.{ProgramFault}
 use Rattle.cluster_service.specs.HistoriesFiles.{Saves}
 use Rattle.cluster_service.specs.Lines.{commit_lines}
 use Rattle.cluster_service.specs.RunFaults.{IsRunFault, IsWriteFault}

@@ -2,10 +2,10 @@
 use Rattle.std.specs.Prelude.{◌≡◌, ◌⊎◌, ℕ, Bool, true, false, IsTrue, ⊤, List, Option, Some}
 use Rattle.std.specs.Io.KnownBytes.{Keeps}
 use Rattle.std.specs.String.{string_bytes}
-use Rattle.program_streams.specs.declared.program_fault.ProgramFault.{ProgramFault}
-use Rattle.program_streams.specs.declared.program_fault.ProgramFault.TheVariants as fault
-use Rattle.program_streams.specs.declared.resource.Resource.{Resource}
-use Rattle.program_streams.specs.declared.resource.Resource.TheVariants as resource
+use Rattle.byte_streams.specs.declared.program_fault.ProgramFault.{ProgramFault}
+use Rattle.byte_streams.specs.declared.program_fault.ProgramFault.TheVariants as fault
+use Rattle.byte_streams.specs.declared.resource.Resource.{Resource}
+use Rattle.byte_streams.specs.declared.resource.Resource.TheVariants as resource
 use Rattle.byte_streams.specs.Writing.{AppendsSome}
 use Rattle.cluster_service.specs.HistoriesFiles.{HistoriesFileView, path_of}
 

@@ -1,8 +1,8 @@
 -- What the operator's settings say of a run, and what ran.
 use Rattle.std.specs.Prelude.{◌≡◌, ℕ, List, Option, option_map, replicate}
 use Rattle.cluster_workers.specs.RunningClusters.{EndedRunView, AreWorkersOf}
-use Rattle.settings.specs.declared.cluster.ClusterSettings.{ClusterSettings}
-use Rattle.settings.specs.declared.cluster.ServeSettings.{ServeSettings}
+use Rattle.cluster_setup.specs.declared.cluster_settings.ClusterSettings.{ClusterSettings}
+use Rattle.cluster_setup.specs.declared.cluster_settings.ServeSettings.{ServeSettings}
 use Rattle.cluster_service.specs.declared.protocol.Protocol.{Protocol}
 use Rattle.cluster_service.specs.declared.protocol.Protocol.TheVariants as protocol
 use Rattle.cluster_service.specs.Ports.{IsAskedIfAny, IsAskedPort}

@@ -2,7 +2,7 @@
 use crate::notice::Notice;
 use ledger_model::ReplicaId;
 use log::LevelFilter;
-use program_streams::ProgramFault;
+use byte_streams::ProgramFault;
 use replica_turns::ReplicaStatus;
 use std::alloc::{AllocError, Global};
 use std::mem;

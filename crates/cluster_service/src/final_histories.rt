@@ -8,7 +8,7 @@ use cluster_workers::RunningCluster;
 use key_ring::KeyRing;
 use ledger_model::{History, ReplicaId};
 use locked_replica::State;
-use program_streams::ProgramFault;
+use byte_streams::ProgramFault;
 use std::alloc::Global;
 use std::sync::Wait;
 

@@ -2,11 +2,11 @@
 ghost use Rattle.std.specs.Prelude.{◌≡◌};
 ghost use Rattle.ledger_model.specs.declared.reply.Ignored.{Ignored};
 ghost use Rattle.locked_replica.specs.Views.{reply_lent};
-ghost use Rattle.http_replies.specs.FrameCounts.{ignored_for};
+ghost use Rattle.http_messages.specs.FrameCounts.{ignored_for};
 ghost use Rattle.cluster_service.specs.FrameCounting.{accepted_in, frame_answer, ignored_in};
 
 use abci::Application;
-use http_replies::FrameCounts;
+use http_messages::FrameCounts;
 use ledger_model::Ignored;
 use locked_replica::{ReplyView, State};
 

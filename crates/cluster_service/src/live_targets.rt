@@ -12,7 +12,7 @@ use abci::Application;
 use client_sessions::{TargetFault, Targets};
 use cluster_workers::{RunningCluster, Stop};
 use commit_board::ReaderSeat;
-use http_replies::ReplicaMetrics;
+use http_messages::ReplicaMetrics;
 use http_sessions::{AppInfo, Delivery, HttpTargets, PoolSize, Progress};
 use ledger_model::{Batch, Height, QueryAnswer, ReplicaId, SubmitRefusal};
 use locked_replica::State;

@@ -3,8 +3,8 @@ ghost use Rattle.std.specs.Prelude.{◌⊎◌, option_map, IfErr, IfOk, IfSome};
 ghost use Rattle.cluster_service.specs.Ports.{IsAskedIfAny, IsAskedPort};
 ghost use Rattle.cluster_service.specs.RunFaults.{IsPortFault};
 
-use program_streams::ProgramFault;
-use settings::ServeSettings;
+use byte_streams::ProgramFault;
+use cluster_setup::ServeSettings;
 use std::net::{Ipv4Addr, Net, TcpListener, TcpStream};
 
 /// A listener, and the port of 127.0.0.1 that it listens at.

@@ -2,7 +2,7 @@
 use crate::live_targets::LiveTargets;
 use abci::Application;
 use client_sessions::{Session, serve};
-use counted_streams::CountedStream;
+use client_sessions::CountedStream;
 use http_sessions::serve_request;
 use std::alloc::Global;
 use std::io::Read;

@@ -1,16 +1,16 @@
 //! The replicas of a cluster at its start.
 ghost use Rattle.std.specs.Prelude.{◌≡◌, ◌<◌, [], vec_len, IfOk, IfErr, OnOk};
-ghost use Rattle.cluster_keys.specs.Keys.{ring_of, secret_of, unused};
-ghost use Rattle.program_streams.specs.Faults.{IsMemoryOrRandom};
+ghost use Rattle.cluster_setup.specs.Keys.{ring_of, secret_of, unused};
+ghost use Rattle.byte_streams.specs.Faults.{IsMemoryOrRandom};
 ghost use Rattle.cluster_service.specs.Replicas.{all_begun, begun, submitted};
 
 use app_kinds::AnyKind;
 use bytes::Bytes;
-use cluster_keys::{ClusterKeys, ClusterSeed, all_keys_in_parallel};
+use cluster_setup::{ClusterKeys, ClusterSeed, all_keys_in_parallel};
 use key_ring::{KeyRing, Signer};
 use ledger_model::{Event, ReplicaId, Tx};
 use locked_replica::{ApplyFault, State};
-use program_streams::{ProgramFault, new_random_key};
+use byte_streams::{ProgramFault, new_random_key};
 use replica_turns::new_replica;
 use std::alloc::Global;
 use std::hash::RandomState;

@@ -1,16 +1,16 @@
 //! How a running cluster stands, for its operator: on a terminal by one line that is written over and over, else by a line for
 //! each thing that happens. A thread of its own writes these lines, and the fault that ended the cluster; nobody waits for it for long.
 ghost use Rattle.std.specs.Prelude.{◌≡◌, ◌⊎◌, IfErr};
-ghost use Rattle.program_streams.specs.declared.program_fault.ProgramFault.TheVariants.{NoMemory, NoThread};
+ghost use Rattle.byte_streams.specs.declared.program_fault.ProgramFault.TheVariants.{NoMemory, NoThread};
 
 use crate::cluster_status::{FIRST_NOTICES, unknown};
 use crate::notice::Notice;
 use crate::reporting::SharedStatus;
 use byte_streams::write_whole;
 use log::LevelFilter;
-use program_streams::{ProgramFault, complain};
+use byte_streams::{ProgramFault, complain};
 use replica_turns::ReplicaStatus;
-use settings::ClusterSettings;
+use cluster_setup::ClusterSettings;
 use std::alloc::{AllocError, Global};
 use std::io::Write;
 use std::sync::{Arc, Wait};

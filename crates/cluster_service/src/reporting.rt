@@ -6,7 +6,7 @@ use crate::notice::Notice;
 use cluster_workers::{Bell, TurnGate};
 use ledger_model::ReplicaId;
 use log::{Level, LevelFilter};
-use program_streams::{ProgramFault, STOPPED};
+use byte_streams::{ProgramFault, STOPPED};
 use replica_turns::ReplicaStatus;
 use std::alloc::{AllocError, Global};
 use std::sync::{Mutex, Wait};

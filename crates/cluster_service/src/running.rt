@@ -1,6 +1,6 @@
 //! Clusters that run in threads of this process, on wall-clock time.
 ghost use Rattle.std.specs.Prelude.{◌≡◌, vec_len, IfErr, IfOk};
-ghost use Rattle.cluster_keys.specs.Keys.{ring_of};
+ghost use Rattle.cluster_setup.specs.Keys.{ring_of};
 ghost use Rattle.cluster_service.specs.Reporting.{AreTaken};
 ghost use Rattle.cluster_service.specs.RunFaults.{IsRunFault};
 ghost use Rattle.cluster_service.specs.Services.{IsRunOf};
@@ -11,8 +11,8 @@ use crate::replicas::{NewReplicas, new_replicas};
 use crate::reporting::{ReportingGate, SharedStatus};
 use app_kinds::AnyKind;
 use cluster_workers::{EndedRun, MachineClock, RunningCluster, Stop, Worker, run_all};
-use program_streams::{ProgramFault, Resource};
-use settings::ClusterSettings;
+use byte_streams::{ProgramFault, Resource};
+use cluster_setup::ClusterSettings;
 use std::alloc::Global;
 use std::marker::Model;
 use std::random::RandomSource;

@@ -1,6 +1,6 @@
 //! Clusters that run in threads of this process and serve clients at ports of this machine.
 ghost use Rattle.std.specs.Prelude.{◌≡◌, ◌+◌, ◌<◌, ◌≤◌, ℕ, Some, option_map, slice_get, vec_len, IfErr, IfNone, IfOk, IfSome};
-ghost use Rattle.cluster_keys.specs.Keys.{ring_of};
+ghost use Rattle.cluster_setup.specs.Keys.{ring_of};
 ghost use Rattle.commit_board.specs.Seats.{new_reader};
 ghost use Rattle.cluster_service.specs.Ports.{IsAskedIfAny, IsAskedPort};
 ghost use Rattle.cluster_service.specs.Reporting.{AreTaken};
@@ -22,8 +22,8 @@ use crate::servers::{EndedServices, Server, ServerEnd, Servers, http_server};
 use app_kinds::AnyKind;
 use cluster_workers::{EndedRun, RunningCluster, Stop};
 use commit_board::ReaderSeat;
-use program_streams::ProgramFault;
-use settings::ServeSettings;
+use byte_streams::ProgramFault;
+use cluster_setup::ServeSettings;
 use std::alloc::Global;
 use std::net::{Net, TcpListener, TcpStream};
 use std::random::RandomSource;

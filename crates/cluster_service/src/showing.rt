@@ -4,7 +4,7 @@ ghost use Rattle.key_ring.specs.Signers.{leaves_of};
 ghost use Rattle.ledger_model.specs.Commits.{commits_of, pool_of};
 ghost use Rattle.ledger_model.specs.Lawful.{clock_at};
 ghost use Rattle.ledger_model.specs.declared.reply.Ignored.{Ignored};
-ghost use Rattle.http_replies.specs.FrameCounts.{ignored_for};
+ghost use Rattle.http_messages.specs.FrameCounts.{ignored_for};
 ghost use Rattle.replica_core.specs.Facts.{info_reply};
 ghost use Rattle.cluster_service.specs.FrameCounting.{accepted_in, ignored_in};
 ghost use Rattle.cluster_service.specs.Inquiries.{IsInfo, IsPooled, IsProgress, IsShown};
@@ -12,7 +12,7 @@ ghost use Rattle.cluster_service.specs.Inquiries.{IsInfo, IsPooled, IsProgress, 
 use crate::frame_counting::frame_counts;
 use abci::Application;
 use batch_pool::Pool;
-use http_replies::ReplicaMetrics;
+use http_messages::ReplicaMetrics;
 use http_sessions::{AppInfo, PoolSize, Progress};
 use ledger_model::{Height, ReplicaId};
 use locked_replica::State;

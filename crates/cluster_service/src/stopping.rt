@@ -3,7 +3,7 @@ ghost use Rattle.std.specs.Prelude.{IfErr};
 ghost use Rattle.cluster_service.specs.RunFaults.{IsRunFault};
 
 use cluster_workers::Stop;
-use program_streams::{ProgramFault, Resource};
+use byte_streams::{ProgramFault, Resource};
 use std::io::{ErrorKind, Read};
 use std::sync::Arc;
 use std::thread;

@@ -1,6 +1,6 @@
 //! `abft cluster` and `abft serve`: runs a cluster, and writes its lines.
 ghost use Rattle.std.specs.Prelude.{◌≡◌, length, option_map, IfErr, IfOk};
-ghost use Rattle.cluster_keys.specs.Keys.{ring_of};
+ghost use Rattle.cluster_setup.specs.Keys.{ring_of};
 ghost use Rattle.cluster_service.specs.HistoriesFiles.{bytes_in};
 ghost use Rattle.cluster_service.specs.Lines.{port_lines};
 ghost use Rattle.cluster_service.specs.Reporting.{AreTaken, Reports, ReportsEnd, ReportsSome, Serves, ServesSome, WritesSuch};
@@ -18,8 +18,8 @@ use crate::writing::{write_lines, write_ports};
 use crate::{SharedStatus, stop_at_end};
 use app_kinds::AnyKind;
 use cluster_workers::{EndedRun, Stop};
-use program_streams::ProgramFault;
-use settings::{ClusterSettings, ServeSettings};
+use byte_streams::ProgramFault;
+use cluster_setup::{ClusterSettings, ServeSettings};
 use std::alloc::Global;
 use std::io::{Read, Write};
 use std::net::{Net, TcpListener, TcpStream};

@@ -1,7 +1,7 @@
 //! Writes and flushes the lines of a cluster.
 ghost use Rattle.std.specs.Prelude.{option_map, IfErr};
 ghost use Rattle.byte_streams.specs.Writing.{Writes};
-ghost use Rattle.audit_lines.specs.AuditLines.{finding_text};
+ghost use Rattle.printed_lines.specs.AuditLines.{finding_text};
 ghost use Rattle.cluster_service.specs.Lines.{commit_lines, port_lines};
 ghost use Rattle.cluster_service.specs.Reporting.{WritesFinding};
 ghost use Rattle.cluster_service.specs.RunFaults.{IsLineFault, IsWriteFault};
@@ -9,11 +9,11 @@ ghost use Rattle.cluster_service.specs.RunFaults.{IsLineFault, IsWriteFault};
 use crate::final_histories::FinalHistories;
 use crate::lines::{commit_lines, port_lines};
 use crate::ports::PortListener;
-use audit_lines::{add_finding, audited, finding_status};
+use printed_lines::{add_finding, audited, finding_status};
 use history_audit::AuditFault;
 use ledger_model::{Config, Ledger};
-use program_streams::{ProgramFault, flush_output, write_output};
-use reply_lines::Text;
+use byte_streams::{ProgramFault, flush_output, write_output};
+use printed_lines::Text;
 use std::alloc::Global;
 use std::io::Write;
 use std::random::RandomSource;

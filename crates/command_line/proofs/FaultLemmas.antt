@@ -6,7 +6,7 @@ use Rattle.clap.specs.declared.error.Error.{Error}
 use Rattle.clap.specs.declared.error.ErrorKind.TheVariants as kind
 use Rattle.clap.proofs.OnLiterals.{clap_on_literals}
 use Rattle.command_line.specs.Grammar.{abft_app}
-use Rattle.settings.specs.declared.Settings.{Settings}
+use Rattle.cluster_setup.specs.declared.settings.Settings.{Settings}
 use Rattle.command_line.specs.Options.{AsksForText, WantsMemory, options_of}
 use Rattle.command_line.specs.Faults.{AskForHelp, AskForHelpAlone, IsRightFault, IsRightIn, IsRightOf, IsRightOption, NamesInput, kinds_of}
 use Rattle.command_line.specs.Faults.{rows_in, table_in}

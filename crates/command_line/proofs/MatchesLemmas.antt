@@ -22,15 +22,15 @@ use Rattle.command_line.specs.Grammar.{abft_app}
 use Rattle.command_line.specs.Options.{Sets, SetsAudit, SetsDraw, SetsSign, SetsDeliver, SetsSimulate, SetsRunning, SetsServe, WantsMemory}
 use Rattle.command_line.specs.declared.usage_fault.UsageFault.{UsageFault}
 use Rattle.command_line.proofs.NumberLemmas.{on_err}
-use Rattle.settings.specs.declared.sign.SignSettings.{SignSettings}
-use Rattle.settings.specs.declared.deliver.DeliverSettings.{DeliverSettings}
-use Rattle.settings.specs.declared.simulate.SimulateSettings.{SimulateSettings}
-use Rattle.settings.specs.declared.cluster.ClusterSettings.{ClusterSettings}
-use Rattle.settings.specs.declared.cluster.ServeSettings.{ServeSettings}
-use Rattle.settings.specs.declared.audit.AuditSettings.{AuditSettings}
-use Rattle.settings.specs.declared.draw.DrawSettings.{DrawSettings}
-use Rattle.settings.specs.declared.Settings.{Settings}
-use Rattle.settings.specs.declared.Settings.TheVariants as settings
+use Rattle.cluster_setup.specs.declared.sign_settings.SignSettings.{SignSettings}
+use Rattle.cluster_setup.specs.declared.deliver_settings.DeliverSettings.{DeliverSettings}
+use Rattle.cluster_setup.specs.declared.simulate_settings.SimulateSettings.{SimulateSettings}
+use Rattle.cluster_setup.specs.declared.cluster_settings.ClusterSettings.{ClusterSettings}
+use Rattle.cluster_setup.specs.declared.cluster_settings.ServeSettings.{ServeSettings}
+use Rattle.cluster_setup.specs.declared.audit_settings.AuditSettings.{AuditSettings}
+use Rattle.cluster_setup.specs.declared.draw_settings.DrawSettings.{DrawSettings}
+use Rattle.cluster_setup.specs.declared.settings.Settings.{Settings}
+use Rattle.cluster_setup.specs.declared.settings.Settings.TheVariants as settings
 
 -- the program's command is one whose matches are known
 pub abft_is_simple : is_simple abft_app ≡ true

@@ -16,7 +16,7 @@ use Rattle.lm_ots.specs.declared.params.Width.{Width}
 use Rattle.lm_ots.specs.declared.params.Width.TheVariants.{W4, W8}
 use Rattle.lm_ots.specs.declared.params.TreeHeight.{TreeHeight}
 use Rattle.lm_ots.specs.declared.params.TreeHeight.TheVariants.{H5, H10}
-use Rattle.cluster_keys.specs.declared.cluster_seed.ClusterSeed.{ClusterSeed}
+use Rattle.cluster_setup.specs.declared.cluster_seed.ClusterSeed.{ClusterSeed}
 use Rattle.abci.specs.Meaning.{ChecksTo, state_after}
 use Rattle.ledger_model.proofs.Numbers.{one_kind}
 use Rattle.command_line.specs.Options.{IsNumber, IsWritten, SetsCluster}

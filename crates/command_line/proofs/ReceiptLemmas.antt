@@ -11,7 +11,7 @@ use Rattle.std.proofs.lemmas.Str.Pattern.{IsSplitOnceResult, split_after}
 use Rattle.clap.specs.Words.{Row, Text, first_of}
 use Rattle.plain_text.specs.Numbers.{is_digit, number_text}
 use Rattle.plain_text.proofs.NumberLemmas.{is_decimal-number_text}
-use Rattle.settings.specs.declared.audit.Receipt.{Receipt}
+use Rattle.cluster_setup.specs.declared.audit_settings.Receipt.{Receipt}
 use Rattle.command_line.specs.Faults.{IsRightOf}
 use Rattle.command_line.specs.Options.{HasOption, OptionTable, SetsReceipt, WantsMemory}
 use Rattle.command_line.specs.Receipts.{SpellsReceipt}

@@ -7,8 +7,8 @@ use Rattle.ledger_model.specs.Replies.{check_reply}
 use Rattle.log.specs.Level.{parse_filter}
 use Rattle.plain_text.specs.Transactions.{Misspells, StandsFor}
 use Rattle.plain_text.specs.declared.spelling_fault.SpellingFault.{SpellingFault}
-use Rattle.settings.specs.declared.sign.What.{What}
-use Rattle.settings.specs.declared.audit.Receipt.{Receipt}
+use Rattle.cluster_setup.specs.declared.sign_settings.What.{What}
+use Rattle.cluster_setup.specs.declared.audit_settings.Receipt.{Receipt}
 use Rattle.ledger_model.specs.Numbers.{kind_number}
 use Rattle.command_line.specs.Grammar.{abft_app}
 use Rattle.command_line.specs.Receipts.{SpellsReceipt}

@@ -22,19 +22,19 @@ use Rattle.command_line.specs.Grammar.{abft_app}
 use Rattle.command_line.specs.Receipts.{SpellsReceipt}
 use Rattle.command_line.specs.declared.usage_fault.UsageFault.{UsageFault}
 use Rattle.command_line.specs.declared.usage_fault.UsageFault.TheVariants as fault
-use Rattle.cluster_keys.specs.declared.cluster_seed.ClusterSeed.{ClusterSeed}
-use Rattle.settings.specs.declared.sign.SignSettings.{SignSettings}
-use Rattle.settings.specs.declared.deliver.DeliverSettings.{DeliverSettings}
-use Rattle.settings.specs.declared.simulate.SimulateSettings.{SimulateSettings}
-use Rattle.settings.specs.declared.cluster.ClusterSettings.{ClusterSettings}
-use Rattle.settings.specs.declared.cluster.ServeSettings.{ServeSettings}
-use Rattle.settings.specs.declared.audit.AuditSettings.{AuditSettings}
-use Rattle.settings.specs.declared.audit.Receipt.{Receipt}
-use Rattle.settings.specs.declared.draw.DrawSettings.{DrawSettings}
-use Rattle.settings.specs.declared.Settings.{Settings}
-use Rattle.settings.specs.declared.Settings.TheVariants as settings
-use Rattle.settings.specs.declared.sign.What.{What}
-use Rattle.settings.specs.declared.sign.What.TheVariants.{Report, Ack}
+use Rattle.cluster_setup.specs.declared.cluster_seed.ClusterSeed.{ClusterSeed}
+use Rattle.cluster_setup.specs.declared.sign_settings.SignSettings.{SignSettings}
+use Rattle.cluster_setup.specs.declared.deliver_settings.DeliverSettings.{DeliverSettings}
+use Rattle.cluster_setup.specs.declared.simulate_settings.SimulateSettings.{SimulateSettings}
+use Rattle.cluster_setup.specs.declared.cluster_settings.ClusterSettings.{ClusterSettings}
+use Rattle.cluster_setup.specs.declared.cluster_settings.ServeSettings.{ServeSettings}
+use Rattle.cluster_setup.specs.declared.audit_settings.AuditSettings.{AuditSettings}
+use Rattle.cluster_setup.specs.declared.audit_settings.Receipt.{Receipt}
+use Rattle.cluster_setup.specs.declared.draw_settings.DrawSettings.{DrawSettings}
+use Rattle.cluster_setup.specs.declared.settings.Settings.{Settings}
+use Rattle.cluster_setup.specs.declared.settings.Settings.TheVariants as settings
+use Rattle.cluster_setup.specs.declared.sign_settings.What.{What}
+use Rattle.cluster_setup.specs.declared.sign_settings.What.TheVariants.{Report, Ack}
 use Rattle.plain_text.specs.Numbers.{is_decimal}
 use Rattle.plain_text.specs.Transactions.{StandsFor}
 

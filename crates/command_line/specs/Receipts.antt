@@ -3,7 +3,7 @@ use Rattle.std.specs.Prelude.{◌≡◌, ℕ, ◌<◌, ◌≤◌, ◌^◌, ◌�
 use Rattle.clap.specs.Words.{Text}
 use Rattle.plain_text.specs.Numbers.{number_text}
 use Rattle.plain_text.specs.Transactions.{StandsFor}
-use Rattle.settings.specs.declared.audit.Receipt.{Receipt}
+use Rattle.cluster_setup.specs.declared.audit_settings.Receipt.{Receipt}
 
 -- the numbers of a replica and of an entry in decimal, without needless zeros, and a word, with a colon between each two
 abbrev pub receipt_text : ℕ → ℕ → Text → Text

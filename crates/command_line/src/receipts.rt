@@ -6,14 +6,14 @@ ghost use Rattle.command_line.specs.Faults.{IsRightOf};
 ghost use Rattle.command_line.specs.Options.{HasOption, OptionTable, SetsReceipt, WantsMemory};
 ghost use Rattle.command_line.specs.Receipts.{SpellsReceipt, receipt_text};
 ghost use Rattle.command_line.specs.declared.usage_fault.UsageFault.TheVariants as fault;
-ghost use Rattle.settings.specs.declared.audit.Receipt.{Receipt};
+ghost use Rattle.cluster_setup.specs.declared.audit_settings.Receipt.{Receipt};
 
 use crate::options::optional_text;
 use crate::usage_fault::UsageFault;
 use clap::ArgMatches;
 use ledger_model::{ReplicaId, Tx};
 use plain_text::{SpellingFault, number, written};
-use settings::Receipt;
+use cluster_setup::Receipt;
 use std::alloc::Global;
 
 /// The number before the first colon of a text, and what comes after that colon.

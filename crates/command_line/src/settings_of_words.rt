@@ -4,14 +4,14 @@ ghost use Rattle.clap.specs.Words.{found_of, rows_of, subcommand_of, subcommand_
 ghost use Rattle.command_line.specs.Faults.{IsRightFault, IsRightIn, IsRightOf, kinds_of};
 ghost use Rattle.command_line.specs.Grammar.{abft_app};
 ghost use Rattle.command_line.specs.Options.{HasRunning, IsSet, OptionTable, Sets, SetsAudit, SetsDeliver, SetsRunning, SetsServe, SetsSign, SetsSimulate, WantsMemory, SetsDraw, audit_options, deliver_options, draw_options, serve_options, sign_options, simulate_options};
-ghost use Rattle.settings.specs.declared.sign.SignSettings.{SignSettings};
-ghost use Rattle.settings.specs.declared.deliver.DeliverSettings.{DeliverSettings};
-ghost use Rattle.settings.specs.declared.simulate.SimulateSettings.{SimulateSettings};
-ghost use Rattle.settings.specs.declared.cluster.ClusterSettings.{ClusterSettings};
-ghost use Rattle.settings.specs.declared.cluster.ServeSettings.{ServeSettings};
-ghost use Rattle.settings.specs.declared.audit.AuditSettings.{AuditSettings};
-ghost use Rattle.settings.specs.declared.draw.DrawSettings.{DrawSettings};
-ghost use Rattle.settings.specs.declared.Settings.{Settings};
+ghost use Rattle.cluster_setup.specs.declared.sign_settings.SignSettings.{SignSettings};
+ghost use Rattle.cluster_setup.specs.declared.deliver_settings.DeliverSettings.{DeliverSettings};
+ghost use Rattle.cluster_setup.specs.declared.simulate_settings.SimulateSettings.{SimulateSettings};
+ghost use Rattle.cluster_setup.specs.declared.cluster_settings.ClusterSettings.{ClusterSettings};
+ghost use Rattle.cluster_setup.specs.declared.cluster_settings.ServeSettings.{ServeSettings};
+ghost use Rattle.cluster_setup.specs.declared.audit_settings.AuditSettings.{AuditSettings};
+ghost use Rattle.cluster_setup.specs.declared.draw_settings.DrawSettings.{DrawSettings};
+ghost use Rattle.cluster_setup.specs.declared.settings.Settings.{Settings};
 
 use crate::grammar::abft_command;
 use crate::options::{
@@ -23,7 +23,7 @@ use crate::refused_words::fault_of;
 use crate::usage_fault::UsageFault;
 use clap::ArgMatches;
 use ledger_model::{Height, Phase, ReplicaId};
-use settings::{
+use cluster_setup::{
     AuditSettings, ClusterSettings, DeliverSettings, DrawSettings, ServeSettings, Settings,
     SignSettings, SimulateSettings,
 };

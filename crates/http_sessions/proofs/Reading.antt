@@ -4,10 +4,10 @@ use Rattle.std.proofs.Common.{length-append, length-take-le}
 use Rattle.std.specs.Prelude.{Option, Result, Err}
 use Rattle.std.specs.Io.KnownBytes.{Consumes, IsAtEnd}
 use Rattle.std.proofs.KnownBytes.{Consumes-trans}
-use Rattle.http_requests.specs.declared.fault.RequestFault.{RequestFault}
-use Rattle.http_requests.specs.declared.fault.RequestFault.TheVariants as fault
-use Rattle.http_requests.specs.declared.request.Request.{Request}
-use Rattle.http_requests.specs.Requests.{AnswersHead}
+use Rattle.http_messages.specs.declared.fault.RequestFault.{RequestFault}
+use Rattle.http_messages.specs.declared.fault.RequestFault.TheVariants as fault
+use Rattle.http_messages.specs.declared.request.Request.{Request}
+use Rattle.http_messages.specs.Requests.{AnswersHead}
 use Rattle.http_sessions.specs.Hearing.{AnswersRead, Hears, HearsNone, IsPart}
 use Rattle.client_sessions.proofs.Filling.{grown}
 use borrow.Rule.Slice.PartMut.{put_mid}

@@ -2,8 +2,8 @@
 use Rattle.std.proofs.Common.{◌≡◌, ℕ, ◌<◌, List, [], zero, suc, inl, inr, arith}
 use Rattle.std.specs.Prelude.{◌⊎◌, Some, Result, Ok, Err, IfOk, MatchResult}
 use Rattle.std.specs.List.{FoldsTo}
-use Rattle.http_replies.specs.Answers.{AnswerView}
-use Rattle.http_replies.specs.Replies.{reply_bytes}
+use Rattle.http_messages.specs.Answers.{AnswerView}
+use Rattle.http_messages.specs.Replies.{reply_bytes}
 use Rattle.http_sessions.specs.Exchanges.{HttpExchange}
 use Rattle.http_sessions.specs.Answering.{Replies, Loses, AnswersQueryAt, AnswersQueryIf}
 

@@ -5,7 +5,7 @@ use Rattle.std.proofs.lemmas.List.{map-append}
 use Rattle.std.specs.List.{FoldsTo, range_with_len}
 use Rattle.std.proofs.lemmas.Fn.{FoldsTo-push}
 use Rattle.ledger_model.proofs.Lists.{range_more}
-use Rattle.http_replies.specs.declared.metrics.ReplicaMetrics.{ReplicaMetrics}
+use Rattle.http_messages.specs.declared.metrics.ReplicaMetrics.{ReplicaMetrics}
 use Rattle.http_sessions.specs.Exchanges.{HttpExchange, Inquired, Shows}
 use Rattle.http_sessions.specs.Answering.{shown}
 

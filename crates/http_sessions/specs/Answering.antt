@@ -8,18 +8,18 @@ use Rattle.ledger_model.specs.Values.{Value}
 use Rattle.ledger_model.specs.declared.reply.QueryAnswer.{QueryAnswer}
 use Rattle.ledger_model.specs.declared.reply.SubmitRefusal.{SubmitRefusal}
 use Rattle.ledger_model.specs.Sessions.{Submits, Queries, Heights, Blocks, Fault as ReplicaFault, Full, Want_of_memory}
-use Rattle.http_requests.specs.declared.fault.RequestFault.{RequestFault}
-use Rattle.http_requests.specs.declared.fault.RequestFault.TheVariants as fault
-use Rattle.http_requests.specs.declared.request.Request.{Request}
-use Rattle.http_requests.specs.Questions.{QuestionView, question_view}
-use Rattle.http_requests.specs.Questions as question
-use Rattle.http_replies.specs.declared.answer.Commitment.TheVariants as commitment
-use Rattle.http_replies.specs.declared.answer.ServiceFault.TheVariants as service
-use Rattle.http_replies.specs.declared.answer.Submission.TheVariants as submission
-use Rattle.http_replies.specs.declared.metrics.ReplicaMetrics.{ReplicaMetrics}
-use Rattle.http_replies.specs.Answers.{AnswerView, Page, Health, Status, AbciInfo, AbciQuery, Block, UnconfirmedTxs, BroadcastSync}
-use Rattle.http_replies.specs.Answers.{BroadcastCommit, Metrics, Fault, Unanswered}
-use Rattle.http_replies.specs.Replies.{reply_bytes}
+use Rattle.http_messages.specs.declared.fault.RequestFault.{RequestFault}
+use Rattle.http_messages.specs.declared.fault.RequestFault.TheVariants as fault
+use Rattle.http_messages.specs.declared.request.Request.{Request}
+use Rattle.http_messages.specs.Questions.{QuestionView, question_view}
+use Rattle.http_messages.specs.Questions as question
+use Rattle.http_messages.specs.declared.answer.Commitment.TheVariants as commitment
+use Rattle.http_messages.specs.declared.answer.ServiceFault.TheVariants as service
+use Rattle.http_messages.specs.declared.answer.Submission.TheVariants as submission
+use Rattle.http_messages.specs.declared.metrics.ReplicaMetrics.{ReplicaMetrics}
+use Rattle.http_messages.specs.Answers.{AnswerView, Page, Health, Status, AbciInfo, AbciQuery, Block, UnconfirmedTxs, BroadcastSync}
+use Rattle.http_messages.specs.Answers.{BroadcastCommit, Metrics, Fault, Unanswered}
+use Rattle.http_messages.specs.Replies.{reply_bytes}
 use Rattle.http_sessions.specs.declared.targets.AppInfo.{AppInfo}
 use Rattle.http_sessions.specs.declared.targets.Delivery.{Delivery}
 use Rattle.http_sessions.specs.declared.targets.Delivery.TheVariants as delivery

@@ -1,7 +1,7 @@
 -- Exchanges with a replica: those of a client session, and those that HTTP alone has.
 use Rattle.std.specs.Prelude.{ℕ, List, Option}
 use Rattle.ledger_model.specs.Sessions.{Exchange}
-use Rattle.http_replies.specs.declared.metrics.ReplicaMetrics.{ReplicaMetrics}
+use Rattle.http_messages.specs.declared.metrics.ReplicaMetrics.{ReplicaMetrics}
 use Rattle.http_sessions.specs.declared.targets.AppInfo.{AppInfo}
 use Rattle.http_sessions.specs.declared.targets.Delivery.{Delivery}
 use Rattle.http_sessions.specs.declared.targets.PoolSize.{PoolSize}

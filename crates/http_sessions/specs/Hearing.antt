@@ -1,11 +1,11 @@
 -- The head of a request, read from a stream.
 use Rattle.std.specs.Prelude.{◌≡◌, ◌≢◌, ◌⊎◌, ℕ, ◌<◌, ◌≤◌, List, [], length, take, Option, Result, Err}
 use Rattle.std.specs.Io.KnownBytes.{Consumes, IsAtEnd}
-use Rattle.http_requests.specs.declared.fault.RequestFault.{RequestFault}
-use Rattle.http_requests.specs.declared.fault.RequestFault.TheVariants as fault
-use Rattle.http_requests.specs.declared.request.Request.{Request}
-use Rattle.http_requests.specs.Limits.{max_head_len}
-use Rattle.http_requests.specs.Requests.{AnswersHead}
+use Rattle.http_messages.specs.declared.fault.RequestFault.{RequestFault}
+use Rattle.http_messages.specs.declared.fault.RequestFault.TheVariants as fault
+use Rattle.http_messages.specs.declared.request.Request.{Request}
+use Rattle.http_messages.specs.Limits.{max_head_len}
+use Rattle.http_messages.specs.Requests.{AnswersHead}
 
 -- these bytes are less than a head: there are none, or more of them may make one
 abbrev pub IsPart : List ℕ → Type 0

@@ -2,12 +2,12 @@
 use Rattle.std.specs.Prelude.{◌≡◌, ℕ, ◌+◌, List, [], Option, Result, Ok, Err}
 use Rattle.std.specs.Io.KnownBytes.{Appends}
 use Rattle.byte_streams.specs.Writing.{AppendsSome}
-use Rattle.http_requests.specs.Limits.{max_head_len}
-use Rattle.http_requests.specs.declared.fault.RequestFault.{RequestFault}
-use Rattle.http_requests.specs.declared.fault.RequestFault.TheVariants as request_fault
-use Rattle.http_requests.specs.declared.request.Request.{Request}
-use Rattle.http_replies.specs.Answers.{Fault}
-use Rattle.http_replies.specs.Replies.{reply_bytes}
+use Rattle.http_messages.specs.Limits.{max_head_len}
+use Rattle.http_messages.specs.declared.fault.RequestFault.{RequestFault}
+use Rattle.http_messages.specs.declared.fault.RequestFault.TheVariants as request_fault
+use Rattle.http_messages.specs.declared.request.Request.{Request}
+use Rattle.http_messages.specs.Answers.{Fault}
+use Rattle.http_messages.specs.Replies.{reply_bytes}
 use Rattle.http_sessions.specs.declared.request_end.RequestEnd.{RequestEnd}
 use Rattle.http_sessions.specs.declared.request_end.RequestEnd.TheVariants.{Answered, OutOfMemory, Silent}
 use Rattle.http_sessions.specs.declared.request_end.ConnectionFault.{ConnectionFault}

@@ -1,7 +1,7 @@
 //! Answers a request by what the replicas answer.
 ghost use Rattle.std.specs.Prelude.{◌≡◌, ◌<◌, ◌≤◌, ◌++◌, ◌∷◌, min, true, false, None, [], length, map, vec_capacity};
 ghost use Rattle.std.specs.List.{FoldsTo, range_with_len};
-ghost use Rattle.http_requests.specs.Questions.{question_view};
+ghost use Rattle.http_messages.specs.Questions.{question_view};
 ghost use Rattle.http_sessions.specs.Exchanges.{Makes, Inquired, Shows};
 ghost use Rattle.http_sessions.specs.Answering.{RepliesOrLoses, AnswersRequest, AnswersQuestion, AnswersIf, AnswersAt, AnswersStatus, AnswersInfo, AnswersQueryNow, AnswersQueryAt, AnswersQueryIf, AnswersBlockAt, AnswersLastBlock, AnswersBlockQuestion, AnswersPool, AnswersSync, AnswersCommit, AnswersMetrics, AnswersAllMetrics, most_replicas, shown};
 
@@ -10,8 +10,8 @@ use crate::answers::{
     query_answer_at, reply_to, status_answer, sync_answer,
 };
 use crate::targets::HttpTargets;
-use http_replies::{Answer, Commitment, ReplicaMetrics, ServiceFault};
-use http_requests::{Question, Request, RequestFault};
+use http_messages::{Answer, Commitment, ReplicaMetrics, ServiceFault};
+use http_messages::{Question, Request, RequestFault};
 use ledger_model::{Height, ReplicaId};
 use std::alloc::{AllocError, Global};
 
@@ -292,12 +292,12 @@ fn answer_question<T: HttpTargets>(
     }
 }
 
-/// The reply to what was asked, as [`parse`](http_requests::parse) returns it.
+/// The reply to what was asked, as [`parse`](http_messages::parse) returns it.
 ///
 /// A request asks one replica: the one that it names, else replica 0; metrics, if it names none, of all. If there is no such replica, or
 /// what was asked is a fault, no replica is asked. If the state that a replica's lock guards is another replica's, that is the reply, and
 /// no further replica is asked. The only error is allocation failure: then the reply is
-/// [`out_of_memory_reply`](http_replies::out_of_memory_reply), and either nothing was asked, or all that the request asks was done.
+/// [`out_of_memory_reply`](http_messages::out_of_memory_reply), and either nothing was asked, or all that the request asks was done.
 pub fn answer<T: HttpTargets>(
     alloc: Global,
     asked: &Result<Request, RequestFault>,

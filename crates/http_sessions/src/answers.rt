@@ -2,14 +2,14 @@
 ghost use Rattle.std.specs.Prelude.{◌≡◌, Ok, Err, IfOk};
 ghost use Rattle.ledger_model.specs.Sessions.{Fault as ReplicaFault};
 ghost use Rattle.client_sessions.specs.Asking.{fault_of, outcome_of};
-ghost use Rattle.http_replies.specs.Answers.{answer_view};
-ghost use Rattle.http_replies.specs.Replies.{reply_bytes};
+ghost use Rattle.http_messages.specs.Answers.{answer_view};
+ghost use Rattle.http_messages.specs.Replies.{reply_bytes};
 ghost use Rattle.http_sessions.specs.Answering.{status_answer, info_answer, pool_answer, fault_answer, sync_answer, unpooled_answer, delivery_answer, query_answer, query_answer_at, block_answer};
 
 use crate::targets::{AppInfo, Delivery, PoolSize, Progress};
 use client_sessions::TargetFault;
-use http_replies::{Answer, Commitment, Receipt, ServiceFault, Submission, put_reply};
-use http_requests::RequestFault;
+use http_messages::{Answer, Commitment, Receipt, ServiceFault, Submission, put_reply};
+use http_messages::RequestFault;
 use ledger_model::{Batch, Height, QueryAnswer, ReplicaId, SubmitRefusal};
 use std::alloc::{AllocError, Global};
 

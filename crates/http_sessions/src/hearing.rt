@@ -1,12 +1,12 @@
 //! Reads the head of a request from a stream.
 ghost use Rattle.std.specs.Prelude.{◌≡◌, ◌≢◌, ◌+◌, ◌<◌, Err, true, false, length, MatchResult, MatchOption};
 ghost use Rattle.client_sessions.specs.Faults.{failures_in};
-ghost use Rattle.http_requests.specs.Limits.{max_head_len};
-ghost use Rattle.http_requests.specs.Requests.{AnswersHead};
+ghost use Rattle.http_messages.specs.Limits.{max_head_len};
+ghost use Rattle.http_messages.specs.Requests.{AnswersHead};
 ghost use Rattle.http_sessions.specs.Hearing.{AnswersRead, Hears, HearsNone, HearsPart};
 
 use client_sessions::SessionReader;
-use http_requests::{MAX_HEAD_LEN, Request, RequestFault, parse};
+use http_messages::{MAX_HEAD_LEN, Request, RequestFault, parse};
 use std::alloc::Global;
 use std::io;
 

@@ -1,6 +1,6 @@
 //! What a request can ask of replicas, as a trait that a server implements.
 use client_sessions::Targets;
-use http_replies::ReplicaMetrics;
+use http_messages::ReplicaMetrics;
 use ledger_model::{AppKind, Height, ReplicaId};
 
 /// How far a replica is.

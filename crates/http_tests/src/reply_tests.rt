@@ -1,11 +1,11 @@
 //! The bytes of replies.
 
 use crate::expected::*;
-use http_replies::{
+use http_messages::{
     Answer, Commitment, FrameCounts, Receipt, ReplicaMetrics, ServiceFault, Submission,
     out_of_memory_reply, put_reply,
 };
-use http_requests::{Parameter, RequestFault};
+use http_messages::{Parameter, RequestFault};
 use ledger_model::{AppKind, Height, Ignored, ReplicaId, SubmitRefusal};
 use std::alloc::Global;
 use test_support::batch;

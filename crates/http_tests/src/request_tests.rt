@@ -1,6 +1,6 @@
 //! What the head of a request asks, and each fault.
 
-use http_requests::{Question, Request, RequestFault, parse};
+use http_messages::{Question, Request, RequestFault, parse};
 use ledger_model::Height;
 use plain_text::Escaped;
 use std::alloc::{AllocError, Global};

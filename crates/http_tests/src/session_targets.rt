@@ -1,7 +1,7 @@
 //! Four replicas whose answers a test sets.
 use bytes::Bytes;
 use client_sessions::{TargetFault, Targets};
-use http_replies::{FrameCounts, ReplicaMetrics};
+use http_messages::{FrameCounts, ReplicaMetrics};
 use http_sessions::{AppInfo, Delivery, HttpTargets, PoolSize, Progress};
 use ledger_model::{AppKind, Batch, Height, QueryAnswer, ReplicaId, SubmitRefusal};
 use std::alloc::Global;

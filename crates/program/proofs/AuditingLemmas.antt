@@ -4,11 +4,11 @@ use Rattle.std.specs.Prelude.{Option, Some, None, Result, Ok, Err, IfOk, MatchRe
 use Rattle.std.specs.Io.KnownBytes.{Consumes}
 use Rattle.ledger_model.specs.declared.history.History.{History}
 use Rattle.ledger_model.specs.Values.{Value}
-use Rattle.cluster_keys.specs.Keys.{ring_of}
+use Rattle.cluster_setup.specs.Keys.{ring_of}
 use Rattle.history_bytes.specs.HistoryReading.{histories_reading}
 use Rattle.history_audit.specs.declared.fault.AuditFault.{AuditFault}
 use Rattle.history_audit.specs.Findings.{IsFinding}
-use Rattle.settings.specs.declared.audit.AuditSettings.{AuditSettings}
+use Rattle.cluster_setup.specs.declared.audit_settings.AuditSettings.{AuditSettings}
 use Rattle.byte_streams.specs.Writing.{AppendsSome, Writes}
 use Rattle.byte_streams.proofs.Faults.{each_way}
 use Rattle.byte_streams.proofs.WritingLemmas.{nothing_some}

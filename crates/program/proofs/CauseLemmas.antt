@@ -2,10 +2,10 @@
 use Rattle.std.proofs.Common.{◌≡◌, ℕ, ◌≤◌, List, length, refl, subst, sym}
 use Rattle.std.specs.Prelude.{Option, Result, Ok, Err, IfErr, IsTrue}
 use Rattle.ledger_model.specs.declared.history.Entry.{Entry}
-use Rattle.settings.specs.declared.deliver.DeliverSettings.{DeliverSettings}
-use Rattle.program_streams.specs.declared.program_fault.ProgramFault.{ProgramFault}
-use Rattle.program_streams.specs.declared.program_fault.ProgramFault.TheVariants as fault
-use Rattle.program_streams.specs.Faults.{IsMemoryOrAsked, is_asked}
+use Rattle.cluster_setup.specs.declared.deliver_settings.DeliverSettings.{DeliverSettings}
+use Rattle.byte_streams.specs.declared.program_fault.ProgramFault.{ProgramFault}
+use Rattle.byte_streams.specs.declared.program_fault.ProgramFault.TheVariants as fault
+use Rattle.byte_streams.specs.Faults.{IsMemoryOrAsked, is_asked}
 use Rattle.program.specs.Faults.{IsReadFault, StopsAt}
 use Rattle.program.specs.Streams.{FillsHistory, StopsDelivery}
 use Rattle.ledger_model.specs.Limits.{max_history_len}

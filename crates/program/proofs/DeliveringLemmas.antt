@@ -8,11 +8,11 @@ use Rattle.ledger_model.specs.declared.event.Event.{Event}
 use Rattle.ledger_model.specs.Rules.{Ring}
 use Rattle.ledger_model.specs.Lawful.{Replay, ReplaysFrom}
 use Rattle.key_ring.specs.Signers.{leaves_of}
-use Rattle.cluster_keys.specs.Keys.{ring_of, secret_of}
+use Rattle.cluster_setup.specs.Keys.{ring_of, secret_of}
 use Rattle.replica_core.specs.Leaves.{signed_after, signed_by, IsMuteForWant}
 use Rattle.replica_core.proofs.SpentLeaves.{account_none, none_lost}
 use Rattle.locked_replica.specs.States.{StateView}
-use Rattle.settings.specs.declared.deliver.DeliverSettings.{DeliverSettings}
+use Rattle.cluster_setup.specs.declared.deliver_settings.DeliverSettings.{DeliverSettings}
 use Rattle.program.specs.declared.stream_end.StreamEnd.{StreamEnd}
 use Rattle.program.specs.Lines.{last_line}
 use Rattle.byte_streams.specs.Writing.{AppendsSome}

@@ -3,13 +3,13 @@ use Rattle.std.proofs.Common.{◌≡◌, ℕ, ◌≤◌, List, [], refl, inl, in
 use Rattle.std.specs.Prelude.{Option, Some, None, Result, Ok, Err, IfOk, MatchResult}
 use Rattle.std.specs.Io.KnownBytes.{Consumes}
 use Rattle.ledger_model.specs.declared.history.History.{History}
-use Rattle.cluster_keys.specs.Keys.{ring_of}
+use Rattle.cluster_setup.specs.Keys.{ring_of}
 use Rattle.history_bytes.specs.HistoryReading.{histories_reading}
-use Rattle.picture_svg.specs.Documents.{picture_text}
+use Rattle.run_picture.specs.Documents.{picture_text}
 use Rattle.run_picture.specs.declared.history_break.HistoryBreak.{HistoryBreak}
 use Rattle.run_picture.specs.declared.picture.Picture.{Picture}
 use Rattle.run_picture.specs.Pictures.{IsPictureOf}
-use Rattle.settings.specs.declared.draw.DrawSettings.{DrawSettings}
+use Rattle.cluster_setup.specs.declared.draw_settings.DrawSettings.{DrawSettings}
 use Rattle.byte_streams.specs.Writing.{AppendsSome, Writes}
 use Rattle.byte_streams.proofs.Faults.{each_way}
 use Rattle.byte_streams.proofs.WritingLemmas.{nothing_some}

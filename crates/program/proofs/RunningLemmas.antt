@@ -4,13 +4,13 @@ use Rattle.std.specs.Prelude.{◌⊎◌, Option, None, Result, Ok, Err, IfOk, Ma
 use Rattle.std.specs.Io.KnownBytes.{Appends, Keeps}
 use Rattle.std.proofs.KnownBytes.{Appends-kept, Consumes-nil}
 use Rattle.ledger_model.specs.Spelling.{frame_bytes}
-use Rattle.settings.specs.declared.Settings.{Settings}
-use Rattle.settings.specs.declared.Settings.TheVariants.{Sign, Deliver, Simulate, Audit, Draw, Cluster, Serve}
-use Rattle.settings.specs.declared.sign.SignSettings.{SignSettings}
-use Rattle.settings.specs.declared.deliver.DeliverSettings.{DeliverSettings}
-use Rattle.settings.specs.declared.simulate.SimulateSettings.{SimulateSettings}
-use Rattle.settings.specs.declared.audit.AuditSettings.{AuditSettings}
-use Rattle.settings.specs.declared.draw.DrawSettings.{DrawSettings}
+use Rattle.cluster_setup.specs.declared.settings.Settings.{Settings}
+use Rattle.cluster_setup.specs.declared.settings.Settings.TheVariants.{Sign, Deliver, Simulate, Audit, Draw, Cluster, Serve}
+use Rattle.cluster_setup.specs.declared.sign_settings.SignSettings.{SignSettings}
+use Rattle.cluster_setup.specs.declared.deliver_settings.DeliverSettings.{DeliverSettings}
+use Rattle.cluster_setup.specs.declared.simulate_settings.SimulateSettings.{SimulateSettings}
+use Rattle.cluster_setup.specs.declared.audit_settings.AuditSettings.{AuditSettings}
+use Rattle.cluster_setup.specs.declared.draw_settings.DrawSettings.{DrawSettings}
 use Rattle.program.specs.Statements.{signed}
 use Rattle.command_line.specs.declared.usage_fault.UsageFault.{UsageFault}
 use Rattle.command_line.specs.declared.usage_fault.UsageFault.TheVariants as fault

@@ -15,7 +15,7 @@ use Rattle.scenario_texts.specs.Lines.{Spells, IsBadAt, IsTooLarge}
 use Rattle.scenario_texts.specs.Plans.{Plan}
 use Rattle.scenario_texts.proofs.Sizes.{bad_anyway, large_spells_none}
 use Rattle.simulation.specs.Playing.{SimulationView, PlaysAll}
-use Rattle.settings.specs.declared.simulate.SimulateSettings.{SimulateSettings}
+use Rattle.cluster_setup.specs.declared.simulate_settings.SimulateSettings.{SimulateSettings}
 use Rattle.byte_streams.specs.Writing.{AppendsSome}
 use Rattle.program.specs.declared.scenario_input.ScenarioInput.{ScenarioInput}
 use Rattle.program.specs.declared.scenario_input.ScenarioInput.TheVariants as input

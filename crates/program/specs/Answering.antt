@@ -6,9 +6,9 @@ use Rattle.ledger_model.specs.declared.history.Entry.{Entry}
 use Rattle.ledger_model.specs.declared.statement.SignedStatement.{SignedStatement}
 use Rattle.ledger_model.specs.Spelling.{frame_bytes}
 use Rattle.ledger_model.specs.Lawful.{Replay}
-use Rattle.cluster_keys.specs.Keys.{ring_of, secret_of, unused}
+use Rattle.cluster_setup.specs.Keys.{ring_of, secret_of, unused}
 use Rattle.locked_replica.specs.States.{StateView, AccountsForLeaves, UsesAsSigned, new_state}
-use Rattle.settings.specs.declared.deliver.DeliverSettings.{DeliverSettings}
+use Rattle.cluster_setup.specs.declared.deliver_settings.DeliverSettings.{DeliverSettings}
 use Rattle.program.specs.Lines.{lines_of}
 use Rattle.byte_streams.specs.Writing.{AppendsSome}
 use Rattle.std.specs.Io.KnownBytes.{Appends}

@@ -3,13 +3,13 @@ use Rattle.std.specs.Prelude.{◌≡◌, ◌⊎◌, ℕ, Bool, true, false, List
 use Rattle.std.specs.Io.KnownBytes.{Appends, Consumes, IsAtEnd}
 use Rattle.ledger_model.specs.declared.history.History.{History}
 use Rattle.ledger_model.specs.Values.{Value}
-use Rattle.cluster_keys.specs.Keys.{ring_of}
+use Rattle.cluster_setup.specs.Keys.{ring_of}
 use Rattle.history_bytes.specs.HistoryReading.{histories_reading}
 use Rattle.history_audit.specs.declared.fault.AuditFault.{AuditFault}
 use Rattle.history_audit.specs.Findings.{IsFinding}
-use Rattle.audit_lines.specs.AuditLines.{finding_status, finding_text, has_receipt, receipt_line}
-use Rattle.settings.specs.declared.audit.AuditSettings.{AuditSettings}
-use Rattle.settings.specs.declared.audit.Receipt.{Receipt}
+use Rattle.printed_lines.specs.AuditLines.{finding_status, finding_text, has_receipt, receipt_line}
+use Rattle.cluster_setup.specs.declared.audit_settings.AuditSettings.{AuditSettings}
+use Rattle.cluster_setup.specs.declared.audit_settings.Receipt.{Receipt}
 use Rattle.byte_streams.specs.Writing.{AppendsSome}
 use Rattle.byte_streams.specs.Responding.{Responds, RespondsSome}
 

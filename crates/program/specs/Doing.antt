@@ -2,10 +2,10 @@
 use Rattle.std.specs.Prelude.{◌≡◌, ◌⊎◌, ℕ, List, [], Option, None, ⊤}
 use Rattle.std.specs.Io.KnownBytes.{Keeps}
 use Rattle.ledger_model.specs.Spelling.{frame_bytes}
-use Rattle.settings.specs.declared.Settings.{Settings}
-use Rattle.settings.specs.declared.Settings.TheVariants as settings
-use Rattle.settings.specs.declared.sign.SignSettings.{SignSettings}
-use Rattle.settings.specs.declared.audit.AuditSettings.{AuditSettings}
+use Rattle.cluster_setup.specs.declared.settings.Settings.{Settings}
+use Rattle.cluster_setup.specs.declared.settings.Settings.TheVariants as settings
+use Rattle.cluster_setup.specs.declared.sign_settings.SignSettings.{SignSettings}
+use Rattle.cluster_setup.specs.declared.audit_settings.AuditSettings.{AuditSettings}
 use Rattle.command_line.specs.Faults.{kinds_of}
 use Rattle.command_line.specs.Options.{IsSet}
 use Rattle.program.specs.Statements.{signed}

@@ -2,14 +2,14 @@
 use Rattle.std.specs.Prelude.{◌≡◌, ◌⊎◌, ℕ, ◌==◌, List, [], Option, Some, None, if◌then◌else◌}
 use Rattle.std.specs.Io.KnownBytes.{Appends, Consumes, IsAtEnd}
 use Rattle.ledger_model.specs.declared.history.History.{History}
-use Rattle.cluster_keys.specs.Keys.{ring_of}
+use Rattle.cluster_setup.specs.Keys.{ring_of}
 use Rattle.history_bytes.specs.HistoryReading.{histories_reading}
 use Rattle.run_picture.specs.declared.history_break.HistoryBreak.{HistoryBreak}
 use Rattle.run_picture.specs.declared.part.Part.{Part}
 use Rattle.run_picture.specs.declared.picture.Picture.{Picture}
 use Rattle.run_picture.specs.Pictures.{IsPictureOf}
-use Rattle.picture_svg.specs.Documents.{picture_text}
-use Rattle.settings.specs.declared.draw.DrawSettings.{DrawSettings}
+use Rattle.run_picture.specs.Documents.{picture_text}
+use Rattle.cluster_setup.specs.declared.draw_settings.DrawSettings.{DrawSettings}
 use Rattle.byte_streams.specs.Writing.{AppendsSome}
 use Rattle.byte_streams.specs.Responding.{Responds, RespondsSome}
 use Rattle.program.specs.Auditing.{bad_history}

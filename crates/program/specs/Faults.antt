@@ -3,11 +3,11 @@ use Rattle.std.specs.Prelude.{◌≡◌, ◌≤◌, ⊤, IsTrue, List, length}
 use Rattle.ledger_model.specs.declared.history.Entry.{Entry}
 use Rattle.std.specs.IoError.{error_kind}
 use Rattle.std.specs.declared.io.ErrorKind.TheVariants.{Interrupted}
-use Rattle.program_streams.specs.declared.program_fault.ProgramFault.{ProgramFault}
-use Rattle.program_streams.specs.declared.program_fault.ProgramFault.TheVariants as fault
+use Rattle.byte_streams.specs.declared.program_fault.ProgramFault.{ProgramFault}
+use Rattle.byte_streams.specs.declared.program_fault.ProgramFault.TheVariants as fault
 use Rattle.ledger_model.specs.Limits.{max_history_len}
-use Rattle.program_streams.specs.Faults.{is_asked}
-use Rattle.program_streams.specs.declared.resource.Resource.TheVariants.{Input}
+use Rattle.byte_streams.specs.Faults.{is_asked}
+use Rattle.byte_streams.specs.declared.resource.Resource.TheVariants.{Input}
 
 -- a read of standard input failed, and was not just interrupted
 abbrev pub IsReadFault : ProgramFault → Type 0

@@ -4,8 +4,8 @@ use Rattle.std.specs.Prelude.{unwrap_or, if◌then◌else◌}
 use Rattle.std.specs.List.{flat_map}
 use Rattle.std.specs.Io.KnownBytes.{Appends, Consumes, IsAtEnd}
 use Rattle.ledger_model.specs.declared.config.Config.{Config}
-use Rattle.cluster_keys.specs.declared.cluster_seed.ClusterSeed.{ClusterSeed}
-use Rattle.cluster_keys.specs.Keys.{secret_of}
+use Rattle.cluster_setup.specs.declared.cluster_seed.ClusterSeed.{ClusterSeed}
+use Rattle.cluster_setup.specs.Keys.{secret_of}
 use Rattle.adversary_net.specs.WorldViews.{WorldView, AllAccountForLeaves, AllReplay, HasRun, world_of}
 use Rattle.adversary_net.specs.Headline.{IsUnforged, IsOneLedger}
 use Rattle.adversary_net.specs.Openings.{new_cluster}
@@ -15,7 +15,7 @@ use Rattle.scenario_texts.specs.Lawful.{IsPlan}
 use Rattle.scenario_texts.specs.Plans.{Plan, plan_of, small_keys}
 use Rattle.scenario_texts.specs.Lines.{Spells, IsBadAt, IsTooLarge}
 use Rattle.simulation.specs.Playing.{SimulationView, PlaysAll}
-use Rattle.settings.specs.declared.simulate.SimulateSettings.{SimulateSettings}
+use Rattle.cluster_setup.specs.declared.simulate_settings.SimulateSettings.{SimulateSettings}
 use Rattle.byte_streams.specs.Writing.{AppendsSome}
 use Rattle.byte_streams.specs.Responding.{Responds, RespondsSome}
 use Rattle.program.specs.declared.scenario_input.ScenarioInput.{ScenarioInput}

@@ -5,10 +5,10 @@ use Rattle.ledger_model.specs.declared.statement.Statement.TheVariants as statem
 use Rattle.ledger_model.specs.declared.statement.SignedStatement.{SignedStatement}
 use Rattle.ledger_model.specs.Spelling.{statement_bytes}
 use Rattle.key_ring.specs.Signers.{signed_with}
-use Rattle.cluster_keys.specs.Keys.{secret_of}
-use Rattle.settings.specs.declared.sign.SignSettings.{SignSettings}
-use Rattle.settings.specs.declared.sign.What.{What}
-use Rattle.settings.specs.declared.sign.What.TheVariants.{Report, Ack}
+use Rattle.cluster_setup.specs.Keys.{secret_of}
+use Rattle.cluster_setup.specs.declared.sign_settings.SignSettings.{SignSettings}
+use Rattle.cluster_setup.specs.declared.sign_settings.What.{What}
+use Rattle.cluster_setup.specs.declared.sign_settings.What.TheVariants.{Report, Ack}
 
 -- A report of a replica that proposed the value and has read nothing, or an acknowledgement of a lock on it. Its version is that of
 -- the cluster's frames.

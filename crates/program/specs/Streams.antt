@@ -12,22 +12,22 @@ use Rattle.signed_frames.specs.declared.fault.FrameFault.{FrameFault}
 use Rattle.signed_frames.specs.declared.fault.FrameFault.TheVariants as told
 use Rattle.signed_frames.specs.Reader.{FrameReaderView, Reading, Leaves}
 use Rattle.key_ring.specs.Signers.{leaves_of}
-use Rattle.cluster_keys.specs.Keys.{ring_of, secret_of}
+use Rattle.cluster_setup.specs.Keys.{ring_of, secret_of}
 use Rattle.replica_core.specs.Leaves.{IsMuteForWant}
 use Rattle.locked_replica.specs.States.{StateView}
-use Rattle.settings.specs.declared.deliver.DeliverSettings.{DeliverSettings}
+use Rattle.cluster_setup.specs.declared.deliver_settings.DeliverSettings.{DeliverSettings}
 use Rattle.program.specs.declared.stream_end.StreamFault.{StreamFault}
 use Rattle.program.specs.declared.stream_end.StreamFault.TheVariants.{TooLong, Malformed}
 use Rattle.program.specs.declared.stream_end.StreamEnd.{StreamEnd}
 use Rattle.program.specs.declared.stream_end.StreamEnd.TheVariants.{Whole, Cut, Fault}
 use Rattle.program.specs.Lines.{lines_of, last_line}
-use Rattle.program_streams.specs.declared.program_fault.ProgramFault.{ProgramFault}
-use Rattle.program_streams.specs.declared.program_fault.ProgramFault.TheVariants as fault
+use Rattle.byte_streams.specs.declared.program_fault.ProgramFault.{ProgramFault}
+use Rattle.byte_streams.specs.declared.program_fault.ProgramFault.TheVariants as fault
 use Rattle.byte_streams.specs.Writing.{AppendsSome}
 use Rattle.byte_streams.specs.Responding.{Responds, RespondsSome}
 use Rattle.program.specs.Answering.{Answers, AnswersSome, deliveries, starting}
 use Rattle.ledger_model.specs.Limits.{max_history_len}
-use Rattle.program_streams.specs.Faults.{is_asked}
+use Rattle.byte_streams.specs.Faults.{is_asked}
 
 -- after these frames come bytes that no frame starts with
 abbrev pub Breaks : Version → StreamFault → List ℕ → List SignedStatement → Type 0

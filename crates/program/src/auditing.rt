@@ -1,23 +1,23 @@
 //! `abft audit`: reads histories, audits them, and writes what it finds.
 ghost use Rattle.std.specs.Prelude.{◌≡◌, ◌⊎◌, Bool, Option, None, MatchResult, IfErr, IfOk};
-ghost use Rattle.cluster_keys.specs.Keys.{ring_of};
+ghost use Rattle.cluster_setup.specs.Keys.{ring_of};
 ghost use Rattle.history_audit.specs.Findings.{IsFinding};
 ghost use Rattle.byte_streams.specs.Writing.{Writes};
-ghost use Rattle.program_streams.specs.Faults.{IsMemoryOrAsked, IsMemoryOrRandom};
+ghost use Rattle.byte_streams.specs.Faults.{IsMemoryOrAsked, IsMemoryOrRandom};
 ghost use Rattle.program.specs.Auditing.{Audits, AuditsSome, AuditsWritten, AuditsWrittenSome, audit_status, audit_text, bad_history, receipt_check};
 
 use crate::outcome::Conclusion;
 use crate::reading::read_whole;
 use crate::status::BAD_INPUT;
-use audit_lines::{add_finding, add_receipt, audited, explanation, finding_status, has_receipt};
+use printed_lines::{add_finding, add_receipt, audited, explanation, finding_status, has_receipt};
 use bytes::Bytes;
-use cluster_keys::{ClusterSeed, all_keys};
+use cluster_setup::{ClusterSeed, all_keys};
 use history_audit::{AuditFault, are_of_a_quorum};
-use history_reading::{HistoryFault, read_histories};
+use history_bytes::{HistoryFault, read_histories};
 use ledger_model::{Config, History, Ledger};
-use program_streams::{ProgramFault, write_output};
-use reply_lines::Text;
-use settings::AuditSettings;
+use byte_streams::{ProgramFault, write_output};
+use printed_lines::Text;
+use cluster_setup::AuditSettings;
 use std::alloc::{AllocError, Global};
 use std::io::{Read, Write};
 use std::random::RandomSource;

@@ -1,7 +1,7 @@
 //! `abft draw`: reads histories, and writes a picture of their run.
 ghost use Rattle.std.specs.Prelude.{◌≡◌, ◌⊎◌, None, MatchResult, IfErr, IfOk};
-ghost use Rattle.cluster_keys.specs.Keys.{ring_of};
-ghost use Rattle.program_streams.specs.Faults.{IsMemoryOrAsked, IsMemoryOrRandom};
+ghost use Rattle.cluster_setup.specs.Keys.{ring_of};
+ghost use Rattle.byte_streams.specs.Faults.{IsMemoryOrAsked, IsMemoryOrRandom};
 ghost use Rattle.run_picture.specs.Pictures.{IsPictureOf};
 ghost use Rattle.program.specs.Drawing.{Draws, DrawsSome, DrawsWritten, DrawsWrittenSome, part_of, picture_status};
 
@@ -9,16 +9,16 @@ use crate::auditing::print_bad_history;
 use crate::outcome::Conclusion;
 use crate::reading::read_whole;
 use crate::status::{BAD_INPUT, DONE};
-use audit_lines::{explanation, new_apps};
+use printed_lines::{explanation, new_apps};
 use bytes::Bytes;
-use cluster_keys::all_keys;
+use cluster_setup::all_keys;
 use history_audit::AuditFault;
-use history_reading::{HistoryFault, read_histories};
+use history_bytes::{HistoryFault, read_histories};
 use ledger_model::{Config, Height, History};
-use picture_svg::svg_of;
-use program_streams::{ProgramFault, new_random_key, write_output};
+use run_picture::svg_of;
+use byte_streams::{ProgramFault, new_random_key, write_output};
 use run_picture::{Part, Picture, picture_of};
-use settings::DrawSettings;
+use cluster_setup::DrawSettings;
 use std::alloc::{AllocError, Global};
 use std::io::{Read, Write};
 use std::random::RandomSource;

@@ -7,7 +7,7 @@ ghost use Rattle.signed_frames.specs.declared.fault.FrameFault.TheVariants as fa
 ghost use Rattle.signed_frames.specs.Reader.{Leaves, Reading};
 ghost use Rattle.locked_replica.specs.States.{StateView};
 ghost use Rattle.program.specs.Answering.{Prints, deliveries};
-ghost use Rattle.program_streams.specs.Faults.{IsMemoryOrAsked};
+ghost use Rattle.byte_streams.specs.Faults.{IsMemoryOrAsked};
 ghost use Rattle.program.specs.Faults.{StopsAt};
 ghost use Rattle.program.specs.Streams.{Ended, GoesBehind, GoesOn, IsFed, IsReadTo, IsReading, IsStreamFault, Stands, Stopped, UnderWay};
 
@@ -18,7 +18,7 @@ use crate::replica::answer;
 use crate::stream_end::{StreamEnd, StreamFault};
 use app_kinds::AnyKind;
 use locked_replica::State;
-use program_streams::{ProgramFault, Resource};
+use byte_streams::{ProgramFault, Resource};
 use signed_frames::{Frame, FrameFault, FrameReader};
 use std::alloc::Global;
 use std::io::{self, ErrorKind, Read, Write};

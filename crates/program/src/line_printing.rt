@@ -1,12 +1,12 @@
 //! Prints the lines of `abft deliver`, each with one write if the writer takes it whole.
 ghost use Rattle.std.specs.Prelude.{IfErr};
-ghost use Rattle.program_streams.specs.Faults.{IsMemoryOrAsked};
+ghost use Rattle.byte_streams.specs.Faults.{IsMemoryOrAsked};
 ghost use Rattle.program.specs.Lines.{ended, last_line};
 ghost use Rattle.byte_streams.specs.Writing.{Writes};
 
 use crate::line::Line;
 use crate::stream_end::StreamEnd;
-use program_streams::{ProgramFault, write_output};
+use byte_streams::{ProgramFault, write_output};
 use std::alloc::Global;
 use std::io::Write;
 

@@ -2,17 +2,17 @@
 ghost use Rattle.std.specs.Prelude.{◌≡◌, vec_len, IfOk, IfErr};
 ghost use Rattle.scenario_texts.specs.Lawful.{IsPlan};
 ghost use Rattle.scenario_texts.specs.Plans.{plan_of};
-ghost use Rattle.program_streams.specs.Faults.{IsMemoryOrAsked};
+ghost use Rattle.byte_streams.specs.Faults.{IsMemoryOrAsked};
 ghost use Rattle.program.specs.Simulating.{opening};
 
 use crate::replica::new_keys;
 use adversary_net::{WorldFault, count_correct};
 use app_kinds::AnyKind;
-use audit_lines::new_apps;
-use cluster_keys::ClusterSeed;
-use program_streams::ProgramFault;
+use printed_lines::new_apps;
+use cluster_setup::ClusterSeed;
+use byte_streams::ProgramFault;
 use scenario_texts::Scenario;
-use settings::SimulateSettings;
+use cluster_setup::SimulateSettings;
 use simulation::Simulation;
 use std::alloc::Global;
 use std::hash::RandomState;

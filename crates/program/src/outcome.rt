@@ -2,7 +2,7 @@
 ghost use Rattle.std.specs.Prelude.{◌≡◌, None, MatchResult};
 ghost use Rattle.program.specs.Doing.{IsHanded, settings_of};
 
-use settings::{
+use cluster_setup::{
     AuditSettings, ClusterSettings, DeliverSettings, DrawSettings, ServeSettings, Settings,
     SignSettings, SimulateSettings,
 };

@@ -2,11 +2,11 @@
 ghost use Rattle.std.specs.Prelude.{◌≡◌, ℕ, List, MatchResult, IfErr};
 ghost use Rattle.std.specs.Io.{ReadsAtMost};
 ghost use Rattle.std.specs.Io.KnownBytes.{Consumes, ReadConsumes};
-ghost use Rattle.program_streams.specs.Faults.{IsMemoryOrAsked};
+ghost use Rattle.byte_streams.specs.Faults.{IsMemoryOrAsked};
 ghost use Rattle.program.specs.Auditing.{ReadsWhole};
 ghost use Rattle.program.specs.Faults.{IsReadFault};
 
-use program_streams::{ProgramFault, Resource};
+use byte_streams::{ProgramFault, Resource};
 use std::alloc::Global;
 use std::io::{self, ErrorKind, Read};
 

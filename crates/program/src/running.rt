@@ -5,7 +5,7 @@ ghost use Rattle.std.specs.Io.KnownBytes.{Keeps};
 ghost use Rattle.ledger_model.specs.Spelling.{frame_bytes};
 ghost use Rattle.command_line.specs.Faults.{AskForHelp, AskForHelpAlone, kinds_of};
 ghost use Rattle.command_line.specs.Options.{AsksForText, IsRefused, IsSet, WantsMemory};
-ghost use Rattle.program_streams.specs.Faults.{IsMemoryOrAsked};
+ghost use Rattle.byte_streams.specs.Faults.{IsMemoryOrAsked};
 ghost use Rattle.program.specs.Statements.{signed};
 ghost use Rattle.byte_streams.specs.Writing.{Writes};
 ghost use Rattle.program.specs.Doing.{AsksForHistories, Begins, Done, ExplainsHistories, Halted, IfEnded, IfHanded, IsQuiet, Performs, settings_of, status_of_stream, status_of_text};
@@ -21,10 +21,10 @@ use crate::stream_end::StreamEnd;
 use crate::text_end::TextEnd;
 use byte_streams::write_whole;
 use command_line::{UsageFault, settings};
-use program_streams::{
+use byte_streams::{
     ProgramFault, Resource, STOPPED, complain, flush_output, print, write_output,
 };
-use settings::{Settings, SignSettings};
+use cluster_setup::{Settings, SignSettings};
 use std::alloc::Global;
 use std::io::{self, ErrorKind, Read, Write};
 use std::random::RandomSource;

@@ -2,11 +2,11 @@
 ghost use Rattle.std.specs.Prelude.{◌⊎◌, ℕ, List, MatchResult, IfErr};
 ghost use Rattle.std.specs.Io.KnownBytes.{Consumes, IsAtEnd};
 ghost use Rattle.scenario_texts.specs.Lines.{IsTooLarge};
-ghost use Rattle.program_streams.specs.Faults.{IsMemoryOrAsked};
+ghost use Rattle.byte_streams.specs.Faults.{IsMemoryOrAsked};
 ghost use Rattle.program.specs.Simulating.{IsRead, IsReadInTime};
 
 use crate::reading::{PIECE_LEN, read_piece};
-use program_streams::{ProgramFault, Resource};
+use byte_streams::{ProgramFault, Resource};
 use scenario_texts::{LineCount, Scenario, TextFault, read};
 use std::alloc::Global;
 use std::io::{self, ErrorKind, Read};

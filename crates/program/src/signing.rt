@@ -4,13 +4,13 @@ ghost use Rattle.ledger_model.specs.Limits.{max_signature_len};
 ghost use Rattle.ledger_model.specs.Signatures.{verifies};
 ghost use Rattle.ledger_model.specs.Spelling.{statement_bytes};
 ghost use Rattle.key_ring.specs.Signers.{key_of, signed_with};
-ghost use Rattle.cluster_keys.specs.Keys.{secret_of};
+ghost use Rattle.cluster_setup.specs.Keys.{secret_of};
 ghost use Rattle.program.specs.Statements.{signed};
 
 use crate::statement::statement;
-use cluster_keys::key_pair;
+use cluster_setup::key_pair;
 use key_ring::{SignFault, Signer};
-use settings::SignSettings;
+use cluster_setup::SignSettings;
 use signed_frames::{Frame, UnsignedFrame};
 use std::alloc::{AllocError, Global};
 

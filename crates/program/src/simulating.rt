@@ -1,14 +1,14 @@
 //! `abft simulate`: reads a scenario, and then plays it.
 ghost use Rattle.std.specs.Prelude.{◌≡◌, ◌++◌, codes, decimal, MatchResult, IfErr};
 ghost use Rattle.byte_streams.specs.Writing.{Writes};
-ghost use Rattle.program_streams.specs.Faults.{IsMemoryOrAsked};
+ghost use Rattle.byte_streams.specs.Faults.{IsMemoryOrAsked};
 ghost use Rattle.program.specs.Simulating.{PlaysText, PlaysTextSome, bad_line};
 
 use crate::playing::play;
 use crate::scenario_input::{ScenarioInput, read_scenario};
 use crate::text_end::TextEnd;
-use program_streams::{ProgramFault, write_output};
-use settings::SimulateSettings;
+use byte_streams::{ProgramFault, write_output};
+use cluster_setup::SimulateSettings;
 use std::alloc::Global;
 use std::io::{Read, Write};
 use std::random::RandomSource;

@@ -7,7 +7,7 @@ ghost use Rattle.ledger_model.specs.declared.version.Version.{Version};
 ghost use Rattle.program.specs.Statements.{said};
 
 use ledger_model::{Ack, Batch, Batches, Report, Statement, Tx};
-use settings::{SignSettings, What};
+use cluster_setup::{SignSettings, What};
 use std::alloc::{AllocError, Global};
 
 /// The batch of one transaction.

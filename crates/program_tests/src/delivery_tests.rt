@@ -1,11 +1,11 @@
 //! `abft deliver` over streams.
 use crate::streams::{Case, Sink, Source};
-use cluster_keys::ClusterSeed;
+use cluster_setup::ClusterSeed;
 use ledger_model::{AppKind, Config, Height, Phase, ReplicaId, Tx};
 use lm_ots::{Params, TreeHeight, Width};
 use program::{StreamEnd, deliver, signed_frame};
-use program_streams::ProgramFault;
-use settings::{DeliverSettings, SignSettings, What};
+use byte_streams::ProgramFault;
+use cluster_setup::{DeliverSettings, SignSettings, What};
 use std::alloc::{AllocError, Global};
 use std::random::RandomSource;
 use std::test::Fail;

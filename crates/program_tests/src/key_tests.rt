@@ -1,6 +1,6 @@
 //! Keys of a cluster, against values of another implementation of RFC 8554 and of `docs/FORMATS.md`.
 //! `tests/end_to_end.sh` compares frames of these keys.
-use cluster_keys::{ClusterSeed, key_pair, signer_and_ring};
+use cluster_setup::{ClusterSeed, key_pair, signer_and_ring};
 use hex::FromHex;
 use key_ring::{KeyRing, Signer};
 use ledger_model::{AppKind, Config, ReplicaId};

@@ -1,7 +1,7 @@
 //! `abft simulate` over streams.
 use crate::streams::{Case, Sink, Source};
 use program::simulate;
-use settings::SimulateSettings;
+use cluster_setup::SimulateSettings;
 use std::alloc::Global;
 use std::random::RandomSource;
 use std::test::Fail;

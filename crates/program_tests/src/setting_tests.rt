@@ -2,7 +2,7 @@
 //! that are refused.
 use command_line::settings;
 use ledger_model::{AppKind, Version};
-use settings::Settings;
+use cluster_setup::Settings;
 use std::alloc::Global;
 
 /// The settings that the words give, if they give any. It has no `ensures`, which keeps clap out of the tests' proofs.

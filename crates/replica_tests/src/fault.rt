@@ -1,6 +1,6 @@
 //! Why a test can't compare.
 use adversary_net::WorldFault;
-use history_reading::HistoryFault;
+use history_bytes::HistoryFault;
 use key_ring::SignFault;
 use ledger_model::ConfigFault;
 use locked_replica::ApplyFault;

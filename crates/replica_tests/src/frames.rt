@@ -1,7 +1,7 @@
 //! Frames that no line of a scenario makes.
 use crate::fault::Fault;
 use bytes::Bytes;
-use cluster_keys::{ClusterSeed, key_pair};
+use cluster_setup::{ClusterSeed, key_pair};
 use ledger_model::{Entry, ReplicaId, Reply, Sent};
 use locked_replica::Snapshot;
 use std::alloc::{AllocError, Global};

@@ -5,7 +5,7 @@ use crate::scripts::{PLAIN, REFUSALS, RETIRED, SEVENTEEN, SEVENTEEN_IN_VERSION_2
 use app_kinds::AnyKind;
 use bytes::Bytes;
 use history_bytes::history_bytes;
-use history_reading::{HistoryFault, read_histories};
+use history_bytes::{HistoryFault, read_histories};
 use ledger_model::{History, Version};
 use simulation::Simulation;
 use std::alloc::{AllocError, Global};

@@ -9,7 +9,7 @@ use crate::scripts::{Script, text_of};
 use abci::Application;
 use adversary_net::count_correct;
 use app_kinds::AnyKind;
-use cluster_keys::ClusterSeed;
+use cluster_setup::ClusterSeed;
 use ledger_model::{AppKind, ReplicaId};
 use locked_replica::Snapshot;
 use scenario_texts::{Command, Scenario, Setup, read};

@@ -4,7 +4,7 @@ use crate::playing::{new_apps, new_randoms};
 use adversary_net::{World, count_correct};
 use app_kinds::AnyKind;
 use bytes::Bytes;
-use cluster_keys::ClusterSeed;
+use cluster_setup::ClusterSeed;
 use history_bytes::history_bytes;
 use ledger_model::{AppKind, Config, Height, Key, ReplicaId, WorldRefusal, WorldReply, WorldStep};
 use lm_ots::{Params, TreeHeight, Width};

@@ -1,11 +1,11 @@
 //! Makes the replicas of a running cluster, with the keys of the cluster and an empty history.
 ghost use Rattle.std.specs.Prelude.{◌≡◌, ◌<◌, [], IfOk};
 ghost use Rattle.ledger_model.specs.Applications.{run};
-ghost use Rattle.cluster_keys.specs.Keys.{ring_of, secret_of, unused};
+ghost use Rattle.cluster_setup.specs.Keys.{ring_of, secret_of, unused};
 ghost use Rattle.locked_replica.specs.States.{new_state};
 
 use abci::Application;
-use cluster_keys::ClusterSeed;
+use cluster_setup::ClusterSeed;
 use key_ring::{KeyRing, Signer};
 use ledger_model::ReplicaId;
 use locked_replica::State;
@@ -13,7 +13,7 @@ use std::alloc::{AllocError, Global};
 use std::hash::RandomState;
 
 /// A replica of the cluster with an empty history, from its key pair and the public keys of all replicas, which
-/// [`ClusterKeys`](cluster_keys::ClusterKeys) has. The application must be in its opening state, of the cluster's kind.
+/// [`ClusterKeys`](cluster_setup::ClusterKeys) has. The application must be in its opening state, of the cluster's kind.
 ///
 /// Copies the ring. The only error is allocation failure.
 pub fn new_replica<A: Application>(

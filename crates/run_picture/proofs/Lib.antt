@@ -9,3 +9,4 @@ pub mod NewDecisions
 pub mod FollowedEntries
 pub mod FollowedMarks
 pub mod Rows
+pub mod Joining

@@ -9,3 +9,11 @@ pub mod Sources
 pub mod Incoming
 pub mod Pictures
 pub mod Collected
+pub mod Xml
+pub mod Layouts
+pub mod Words
+pub mod Shapes
+pub mod Arrows
+pub mod Marks
+pub mod Axes
+pub mod Documents

@@ -7,7 +7,7 @@ use crate::session_targets::{Fake, Submitted};
 use client_sessions::{
     Session, SessionEnd, SessionFault, SessionReader, SessionWriter, TargetFault, serve,
 };
-use counted_streams::CountedStream;
+use client_sessions::CountedStream;
 use ledger_model::SubmitRefusal;
 use std::alloc::Global;
 use std::io::{Read, Write};

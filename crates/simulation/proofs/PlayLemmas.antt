@@ -21,7 +21,7 @@ use Rattle.adversary_net.specs.WorldViews.{WorldView, liar_at, world_of}
 use Rattle.adversary_net.specs.Leaves.{IsAnswered}
 use Rattle.scenario_texts.specs.declared.command.Lie.{Lie}
 use Rattle.simulation.specs.Lies.{lying_lock}
-use Rattle.reply_lines.specs.Lines.{ended, entry_text, undecided, step_text}
+use Rattle.printed_lines.specs.Lines.{ended, entry_text, undecided, step_text}
 use Rattle.simulation.specs.Playing.{SimulationView, Answers, Ends, Lies, LiesLock, PlaysRound, Signed, StepsEach, answer_text, correct_in}
 use Rattle.simulation.specs.Playing.{injections_to, is_taken, lie_receivers, pass_text, passes_of, target}
 use Rattle.simulation.proofs.StepLemmas.{SteppedTo, EndedTo, ended_more, stepped_more}

@@ -12,7 +12,7 @@ use Rattle.ledger_laws.proofs.WorldRuns.{runs_append}
 use Rattle.scenario_texts.specs.declared.command.Command.{Command}
 use Rattle.adversary_net.specs.WorldViews.{WorldView, IsSameCluster, SignsFor, world_of}
 use Rattle.adversary_net.specs.Leaves.{IsAnswered, AreAnswered}
-use Rattle.reply_lines.specs.Lines.{step_text}
+use Rattle.printed_lines.specs.Lines.{step_text}
 use Rattle.simulation.specs.Playing.{SimulationView, Steps, StepsEach, EndsEach, Ends, Answers, GoesOn, Plays, PlaysAll, PlaysOther}
 use Rattle.simulation.specs.Playing.{PlaysStep, passes_of, step_of}
 

@@ -34,7 +34,7 @@ use Rattle.scenario_texts.specs.declared.command.Towards.{Towards}
 use Rattle.scenario_texts.specs.declared.command.Towards.TheVariants as towards
 use Rattle.simulation.specs.declared.signing.Signing.{Signing}
 use Rattle.simulation.specs.declared.signing.Signing.TheVariants as signing
-use Rattle.reply_lines.specs.Lines.{ended, refusal_text, entry_text, step_text, told_text}
+use Rattle.printed_lines.specs.Lines.{ended, refusal_text, entry_text, step_text, told_text}
 use Rattle.ledger_model.specs.Rounds.{quorum}
 
 -- a simulated cluster, and the frames that its liars have signed, in order

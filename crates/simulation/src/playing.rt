@@ -6,7 +6,7 @@ use crate::simulation::Simulation;
 use crate::telling::named;
 use abci::Application;
 use ledger_model::{Height, ReplicaId, WorldStep};
-use reply_lines::{Text, add_info, add_refusal};
+use printed_lines::{Text, add_info, add_refusal};
 use scenario_texts::Command;
 use std::alloc::AllocError;
 
@@ -43,7 +43,7 @@ fn step_of(command: &Command) -> Result<Option<WorldStep>, AllocError>
 
 impl<A: Application> Simulation<A> {
     ghost use Rattle.std.specs.Prelude.{◌++◌, None, ℕ, List, OnOk};
-    ghost use Rattle.reply_lines.specs.Lines.{step_text};
+    ghost use Rattle.printed_lines.specs.Lines.{step_text};
     ghost use Rattle.adversary_net.specs.WorldViews.{world_of};
     ghost use Rattle.simulation.specs.Playing.{Plays, PlaysStep, PlaysOther, GoesOn, info_text};
 

@@ -8,7 +8,7 @@ use crate::simulation::Simulation;
 use abci::Application;
 use ledger_model::{Addressee, ReplicaId, WorldReply, WorldStep};
 use locked_replica::{ReplyView, RoundEndView, State};
-use reply_lines::Text;
+use printed_lines::Text;
 use std::alloc::AllocError;
 
 /// Whether a frame of `from` with this addressee goes to `replica`.
@@ -109,7 +109,7 @@ impl<A: Application> Simulation<A> {
     ghost use Rattle.ledger_model.specs.declared.world.WorldStep.{WorldStep};
     ghost use Rattle.ledger_model.specs.Worlds.{entries_in, frames_sent};
     ghost use Rattle.adversary_net.specs.WorldViews.{world_of};
-    ghost use Rattle.reply_lines.specs.Lines.{step_text};
+    ghost use Rattle.printed_lines.specs.Lines.{step_text};
     ghost use Rattle.simulation.specs.Playing.{EndsEach, StepsEach, PlaysRound, PlaysSilent, GoesOn, Ends, correct_in, passes_of, pass_text};
     ghost use Rattle.ledger_model.specs.Limits.{max_history_len};
 

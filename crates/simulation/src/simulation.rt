@@ -3,7 +3,7 @@ use crate::report_index::ReportIndex;
 use abci::Application;
 use adversary_net::{World, WorldFault};
 use bytes::Bytes;
-use cluster_keys::ClusterSeed;
+use cluster_setup::ClusterSeed;
 use ledger_model::ReplicaId;
 use std::alloc::{AllocError, Global};
 use std::hash::RandomState;
@@ -43,7 +43,7 @@ impl<A: Application> Model for Simulation<A> {
 impl<A: Application> Simulation<A> {
     ghost use Rattle.std.specs.Prelude.{◌≡◌, ◌<◌, ◌≤◌, ◌↔◌, [], vec_len, length, All, Any, IfOk, IsErrOf};
     ghost use Rattle.ledger_model.specs.Applications.{run};
-    ghost use Rattle.cluster_keys.specs.Keys.{secret_of};
+    ghost use Rattle.cluster_setup.specs.Keys.{secret_of};
     ghost use Rattle.adversary_net.specs.WorldViews.{AllAccountForLeaves, AllReplay, HasRun};
     ghost use Rattle.adversary_net.specs.Headline.{IsUnforged, IsOneLedger};
     ghost use Rattle.adversary_net.specs.Openings.{MayLie, new_cluster, correct_without, different};

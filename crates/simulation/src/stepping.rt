@@ -6,7 +6,7 @@ use crate::simulation::Simulation;
 use abci::Application;
 use ledger_model::{ReplicaId, WorldReply, WorldStep};
 use locked_replica::{ReplyView, State};
-use reply_lines::{Text, add_entry, add_refusal, undecided_heights};
+use printed_lines::{Text, add_entry, add_refusal, undecided_heights};
 use std::alloc::AllocError;
 use std::slice;
 
@@ -41,7 +41,7 @@ impl<A: Application> Simulation<A> {
     ghost use Rattle.ledger_model.specs.Worlds.{entries_in};
     ghost use Rattle.adversary_net.specs.WorldViews.{world_of};
     ghost use Rattle.adversary_net.specs.Leaves.{IsAnswered};
-    ghost use Rattle.reply_lines.specs.Lines.{undecided, step_text};
+    ghost use Rattle.printed_lines.specs.Lines.{undecided, step_text};
     ghost use Rattle.simulation.specs.Playing.{Answers, GoesOn, answer_text, pass_text, is_taken};
 
     /// The heights that a replica may have open and hasn't decided; none if the replica is not correct.

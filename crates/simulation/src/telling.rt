@@ -9,7 +9,7 @@ use crate::signing::{Signing, signing_of};
 use crate::simulation::Simulation;
 use abci::Application;
 use ledger_model::{Phase, ReplicaId, Statement, WorldStep};
-use reply_lines::Text;
+use printed_lines::Text;
 use scenario_texts::{Lie, Towards};
 use signed_frames::{Frame, UnsignedFrame};
 use std::alloc::AllocError;
@@ -25,7 +25,7 @@ impl<A: Application> Simulation<A> {
     ghost use Rattle.std.specs.Prelude.{ℕ, List, [], ◌∷◌};
     ghost use Rattle.ledger_model.specs.Spelling.{frame_bytes};
     ghost use Rattle.ledger_model.specs.declared.statement.Statement.TheVariants as statement;
-    ghost use Rattle.reply_lines.specs.Lines.{step_text};
+    ghost use Rattle.printed_lines.specs.Lines.{step_text};
     ghost use Rattle.simulation.specs.Playing.{IsSigning, StepsEach, Lies, LiesLock, GoesOn, injections_to, lie_receivers, proof_for};
 
     /// Asks a liar to sign a statement with its next leaf.

@@ -2,8 +2,8 @@ use Rattle.std.proofs.Common.{◌≡◌, ℕ, ◌+◌, ◌-◌, ◌++◌, ◌∷
 use Rattle.std.specs.List.{range_with_len}
 use Rattle.std.specs.Vec.Iter.{into_iter_items}
 use Rattle.std.proofs.lemmas.List.FromFn.{map-range_with_len_more}
-use Rattle.cluster_keys.specs.Keys.{secret_of, unused}
-use Rattle.cluster_keys.proofs.SignersLeft.{all_left, some_left, one_taken}
+use Rattle.cluster_setup.specs.Keys.{secret_of, unused}
+use Rattle.cluster_setup.proofs.SignersLeft.{all_left, some_left, one_taken}
 use Rattle.adversary_net.specs.Openings.{is_liar, correct_from, new_party, IsSupply}
 use Rattle.adversary_net.proofs.Beginning.{correct_left}
 use Rattle.adversary_net.proofs.creation.parties_of.Goals as goal

@@ -1,8 +1,8 @@
 use Rattle.std.proofs.Common.{◌≡◌, ◌-◌, length, map}
 use Rattle.std.specs.List.{range_with_len}
 use Rattle.std.specs.Vec.Iter.{into_iter_items}
-use Rattle.cluster_keys.specs.Keys.{secret_of}
-use Rattle.cluster_keys.proofs.SignersLeft.{signers_from}
+use Rattle.cluster_setup.specs.Keys.{secret_of}
+use Rattle.cluster_setup.proofs.SignersLeft.{signers_from}
 use Rattle.adversary_net.specs.Openings.{correct_from, new_party, IsSupply}
 use Rattle.adversary_net.proofs.creation.parties_of.Given as goal
 

@@ -2,8 +2,8 @@ use Rattle.std.proofs.Common.{◌≡◌, false, [], sym, ap, ◌∙◌}
 use Rattle.std.specs.Prelude.{Some, slice_get}
 use Rattle.ledger_model.specs.Applications.{run}
 use Rattle.key_ring.specs.Signers.{SignerView, key_of}
-use Rattle.cluster_keys.specs.Keys.{secret_of}
-use Rattle.cluster_keys.proofs.RingLemmas.{key_in_ring}
+use Rattle.cluster_setup.specs.Keys.{secret_of}
+use Rattle.cluster_setup.proofs.RingLemmas.{key_in_ring}
 use Rattle.adversary_net.specs.declared.party.Party.TheVariants as party
 use Rattle.adversary_net.specs.Openings.{is_liar}
 use Rattle.adversary_net.proofs.creation.party_of.Goals as goal

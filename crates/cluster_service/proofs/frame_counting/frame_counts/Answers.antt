@@ -1,6 +1,6 @@
 use Rattle.std.proofs.Common.{◌≤◌, length, sym, ap, ◌∙◌, arith}
-use Rattle.http_replies.specs.declared.frame_counts.FrameCounts.{FrameCounts}
-use Rattle.http_replies.specs.FrameCounts.{ignored_for, is_accepted, is_ignored_for}
+use Rattle.http_messages.specs.declared.frame_counts.FrameCounts.{FrameCounts}
+use Rattle.http_messages.specs.FrameCounts.{ignored_for, is_accepted, is_ignored_for}
 use Rattle.cluster_service.specs.FrameCounting.{frame_answer}
 use Rattle.cluster_service.proofs.FrameCountLemmas.{none_counted, one_counted}
 use Rattle.cluster_service.proofs.frame_counting.frame_counts.Goals as goal

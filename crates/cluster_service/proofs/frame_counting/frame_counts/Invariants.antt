@@ -1,7 +1,7 @@
 -- the entries so far are counted
 use Rattle.std.proofs.Common.{◌≡◌, take}
 use Rattle.ledger_model.specs.declared.reply.Ignored.{Ignored}
-use Rattle.http_replies.specs.FrameCounts.{ignored_for}
+use Rattle.http_messages.specs.FrameCounts.{ignored_for}
 use Rattle.cluster_service.specs.FrameCounting.{accepted_in, ignored_in}
 use Rattle.cluster_service.proofs.frame_counting.frame_counts.Given as goal
 

@@ -4,7 +4,7 @@ use Rattle.std.proofs.lemmas.List.FromFn.{map-range_with_len_more}
 use Rattle.locked_replica.specs.States.{StateView}
 use Rattle.cluster_service.specs.Replicas.{begun, submitted}
 use Rattle.std.specs.Vec.Iter.{into_iter_items}
-use Rattle.cluster_keys.proofs.SignersLeft.{all_left, some_left, one_taken}
+use Rattle.cluster_setup.proofs.SignersLeft.{all_left, some_left, one_taken}
 use Rattle.cluster_service.proofs.replicas.new_replicas.Goals as goal
 
 pub loop-id-init : goal.loop-id-init

@@ -2,7 +2,7 @@
 use Rattle.std.proofs.Common.{◌≡◌, map, vec_len}
 use Rattle.std.specs.List.{range_with_len}
 use Rattle.std.specs.Vec.Iter.{into_iter_items}
-use Rattle.cluster_keys.proofs.SignersLeft.{signers_from}
+use Rattle.cluster_setup.proofs.SignersLeft.{signers_from}
 use Rattle.cluster_service.specs.Replicas.{begun, submitted}
 use Rattle.cluster_service.proofs.replicas.new_replicas.Given as goal
 

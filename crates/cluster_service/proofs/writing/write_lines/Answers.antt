@@ -5,7 +5,7 @@ use Rattle.byte_streams.specs.Writing.{AppendsSome}
 use Rattle.byte_streams.proofs.Faults.{on_error, passed}
 use Rattle.byte_streams.proofs.WritingLemmas.{all_some, then_some}
 use Rattle.history_audit.specs.Findings.{IsFinding}
-use Rattle.audit_lines.specs.AuditLines.{finding_text}
+use Rattle.printed_lines.specs.AuditLines.{finding_text}
 use Rattle.cluster_service.specs.Lines.{commit_lines}
 use Rattle.cluster_service.specs.RunFaults.{IsLineFault}
 use Rattle.cluster_service.proofs.RunFaultLemmas.{audited_line, written_line}

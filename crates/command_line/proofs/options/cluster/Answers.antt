@@ -3,7 +3,7 @@ use Rattle.command_line.specs.Faults.{IsRightOf}
 use Rattle.clap.proofs.TakesLemmas.{passed_up}
 use Rattle.clap.specs.Words.{found_of, rows_of}
 use Rattle.command_line.specs.Options.{SetsCluster}
-use Rattle.cluster_keys.specs.declared.cluster_seed.ClusterSeed.{ClusterSeed}
+use Rattle.cluster_setup.specs.declared.cluster_seed.ClusterSeed.{ClusterSeed}
 use Rattle.command_line.proofs.NumberLemmas.{narrowed, on_err}
 use Rattle.command_line.proofs.options.cluster.Goals as goal
 

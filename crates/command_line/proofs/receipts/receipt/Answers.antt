@@ -2,7 +2,7 @@ use Rattle.std.proofs.Common.{sym}
 use Rattle.std.specs.Prelude.{Option}
 use Rattle.clap.specs.Words.{found_of, rows_of}
 use Rattle.clap.proofs.TakesLemmas.{passed_up}
-use Rattle.settings.specs.declared.audit.Receipt.{Receipt}
+use Rattle.cluster_setup.specs.declared.audit_settings.Receipt.{Receipt}
 use Rattle.command_line.specs.Faults.{IsRightOf}
 use Rattle.command_line.specs.Options.{SetsReceipt, WantsMemory}
 use Rattle.command_line.proofs.ReceiptLemmas.{receipt_right, set_spelled}

@@ -3,7 +3,7 @@ use Rattle.command_line.specs.Options.{audit_options, SetsAudit, WantsMemory}
 use Rattle.command_line.specs.Faults.{IsRightOf}
 use Rattle.clap.specs.Words.{found_of, rows_of}
 use Rattle.clap.proofs.TakesLemmas.{passed_up}
-use Rattle.settings.specs.declared.audit.AuditSettings.{AuditSettings}
+use Rattle.cluster_setup.specs.declared.audit_settings.AuditSettings.{AuditSettings}
 use Rattle.command_line.proofs.Tables.{has_cluster}
 use Rattle.command_line.proofs.settings_of_words.audit_settings.Goals as goal
 

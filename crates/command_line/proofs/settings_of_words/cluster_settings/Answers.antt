@@ -2,7 +2,7 @@ use Rattle.std.proofs.Common.{inl, codes, subst}
 use Rattle.command_line.specs.Faults.{IsRightOf}
 use Rattle.clap.specs.Words.{found_of, rows_of}
 use Rattle.command_line.specs.Options.{IsAccepted, SetsRunning, WantsMemory}
-use Rattle.settings.specs.declared.cluster.ClusterSettings.{ClusterSettings}
+use Rattle.cluster_setup.specs.declared.cluster_settings.ClusterSettings.{ClusterSettings}
 use Rattle.command_line.proofs.NumberLemmas.{same_kind}
 use Rattle.command_line.proofs.MatchesLemmas.{none_set}
 use Rattle.clap.proofs.TakesLemmas.{passed_up}

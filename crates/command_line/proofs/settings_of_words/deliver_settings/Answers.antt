@@ -2,7 +2,7 @@ use Rattle.command_line.specs.Options.{deliver_options, IsAccepted, SetsDeliver,
 use Rattle.std.proofs.Common.{refl, inl, codes, subst}
 use Rattle.command_line.specs.Faults.{IsRightOf}
 use Rattle.clap.specs.Words.{found_of, rows_of}
-use Rattle.settings.specs.declared.deliver.DeliverSettings.{DeliverSettings}
+use Rattle.cluster_setup.specs.declared.deliver_settings.DeliverSettings.{DeliverSettings}
 use Rattle.command_line.proofs.NumberLemmas.{same_kind, same_limit}
 use Rattle.command_line.proofs.MatchesLemmas.{none_set}
 use Rattle.clap.proofs.TakesLemmas.{passed_up}

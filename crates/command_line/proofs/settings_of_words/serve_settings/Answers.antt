@@ -2,7 +2,7 @@ use Rattle.command_line.specs.Options.{serve_options, SetsServe, WantsMemory}
 use Rattle.std.proofs.Common.{refl, inl}
 use Rattle.command_line.specs.Faults.{IsRightOf}
 use Rattle.clap.specs.Words.{found_of, rows_of}
-use Rattle.settings.specs.declared.cluster.ServeSettings.{ServeSettings}
+use Rattle.cluster_setup.specs.declared.cluster_settings.ServeSettings.{ServeSettings}
 use Rattle.command_line.proofs.MatchesLemmas.{none_set}
 use Rattle.clap.proofs.TakesLemmas.{passed_up}
 use Rattle.command_line.proofs.Tables.{has_running}

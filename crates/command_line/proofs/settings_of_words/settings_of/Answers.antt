@@ -3,7 +3,7 @@ use Rattle.std.proofs.lemmas.Option.{same_Some}
 use Rattle.clap.specs.Words.{Row, found_of, rows_of}
 use Rattle.command_line.specs.Options.{Sets, SetsSign, SetsDeliver, SetsSimulate, SetsRunning, SetsServe, SetsAudit, SetsDraw, WantsMemory}
 use Rattle.command_line.specs.Options.{running_options}
-use Rattle.settings.specs.declared.Settings.TheVariants as settings
+use Rattle.cluster_setup.specs.declared.settings.Settings.TheVariants as settings
 use Rattle.command_line.specs.Faults.{IsNoSubcommand}
 use Rattle.command_line.proofs.FaultLemmas.{right_alike}
 use Rattle.command_line.proofs.MatchesLemmas.{found_is, names_one, refused_alike, set_alike, refused_anyway, sets_sign, sets_deliver}

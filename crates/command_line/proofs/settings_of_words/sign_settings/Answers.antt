@@ -2,7 +2,7 @@ use Rattle.command_line.specs.Options.{sign_options, SetsSign, WantsMemory}
 use Rattle.std.proofs.Common.{refl, inl}
 use Rattle.command_line.specs.Faults.{IsRightOf}
 use Rattle.clap.specs.Words.{found_of, rows_of}
-use Rattle.settings.specs.declared.sign.SignSettings.{SignSettings}
+use Rattle.cluster_setup.specs.declared.sign_settings.SignSettings.{SignSettings}
 use Rattle.command_line.proofs.NumberLemmas.{same_limit}
 use Rattle.command_line.proofs.MatchesLemmas.{none_set}
 use Rattle.clap.proofs.TakesLemmas.{passed_up}

@@ -3,7 +3,7 @@ use Rattle.std.proofs.Common.{refl}
 use Rattle.command_line.specs.Faults.{IsRightOf}
 use Rattle.clap.proofs.TakesLemmas.{passed_up}
 use Rattle.clap.specs.Words.{found_of, rows_of}
-use Rattle.settings.specs.declared.simulate.SimulateSettings.{SimulateSettings}
+use Rattle.cluster_setup.specs.declared.simulate_settings.SimulateSettings.{SimulateSettings}
 use Rattle.command_line.proofs.NumberLemmas.{on_err}
 use Rattle.command_line.proofs.settings_of_words.simulate_settings.Goals as goal
 

@@ -1,6 +1,6 @@
 use Rattle.std.proofs.Common.{rules, arith, ◌∙◌, ap, ◌+◌, ◌∷◌, List, [], length, map, subst, sym, length-append}
 use Rattle.std.specs.List.{FoldsTo}
-use Rattle.http_replies.specs.declared.metrics.ReplicaMetrics.{ReplicaMetrics}
+use Rattle.http_messages.specs.declared.metrics.ReplicaMetrics.{ReplicaMetrics}
 use Rattle.http_sessions.specs.Exchanges.{Makes}
 use Rattle.http_sessions.specs.Answering.{shown}
 use Rattle.http_sessions.proofs.Showing.{each_more, shown_more, stranger_met}

@@ -1,6 +1,6 @@
 use Rattle.std.proofs.Common.{refl, ap, subst, ◌∙◌, ◌<◌, ◌++◌, ◌∷◌, [], length, min, inl, inr, None}
 use Rattle.std.specs.List.{range_with_len}
-use Rattle.http_replies.specs.Answers.{Metrics}
+use Rattle.http_messages.specs.Answers.{Metrics}
 use Rattle.http_sessions.specs.Exchanges.{Inquired, Shows}
 use Rattle.http_sessions.specs.Answering.{shown}
 use Rattle.http_sessions.proofs.Replying.{replied}

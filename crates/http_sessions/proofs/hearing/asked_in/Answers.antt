@@ -1,6 +1,6 @@
 use Rattle.std.proofs.Common.{arith, inr, subst, sym, refl, take, length-take-le}
-use Rattle.http_requests.specs.Limits.{max_head_len}
-use Rattle.http_requests.specs.Requests.{AnswersHead}
+use Rattle.http_messages.specs.Limits.{max_head_len}
+use Rattle.http_messages.specs.Requests.{AnswersHead}
 use Rattle.http_sessions.proofs.hearing.asked_in.Goals as goal
 
 pub slice_bounds-parse-end : goal.slice_bounds-parse-end

@@ -1,4 +1,4 @@
-use Rattle.program_streams.specs.Faults.{IsMemoryOrAsked}
+use Rattle.byte_streams.specs.Faults.{IsMemoryOrAsked}
 use Rattle.program.proofs.CauseLemmas.{read_is}
 use Rattle.std.proofs.Common.{◌≡◌, ◌<◌, ◌≤◌, ◌++◌, inl, inr, length, rules, subst, sym, take}
 use Rattle.std.proofs.KnownBytes.{Consumes-kept, Consumes-nil}

@@ -1,8 +1,8 @@
 use Rattle.std.proofs.Common.{sym, ap, ◌∙◌, rules}
 use Rattle.std.specs.Prelude.{Some, slice_get}
 use Rattle.key_ring.specs.Signers.{SignerView, key_of}
-use Rattle.cluster_keys.specs.Keys.{secret_of}
-use Rattle.cluster_keys.proofs.RingLemmas.{key_in_ring}
+use Rattle.cluster_setup.specs.Keys.{secret_of}
+use Rattle.cluster_setup.proofs.RingLemmas.{key_in_ring}
 use Rattle.replica_turns.proofs.replica.new_replica.Goals as goal
 
 pub new-requires-clause-member : goal.new-requires-clause-member

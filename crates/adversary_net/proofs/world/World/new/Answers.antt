@@ -2,7 +2,7 @@ use Rattle.std.proofs.Common.{◌≡◌, [], length, sym, ap, subst, ◌∙◌, 
 use Rattle.std.specs.Vec.Iter.{into_iter_items}
 use Rattle.std.proofs.lemmas.List.Elements.{All-same}
 use Rattle.ledger_model.specs.Applications.{run}
-use Rattle.cluster_keys.specs.Keys.{secret_of}
+use Rattle.cluster_setup.specs.Keys.{secret_of}
 use Rattle.adversary_net.specs.WorldViews.{IsCluster, world_of}
 use Rattle.adversary_net.proofs.Beginning.{new_is, new_is_cluster, new_world, correct_replicas}
 use Rattle.adversary_net.proofs.world.World.new.Goals as goal

@@ -1,7 +1,7 @@
 use Rattle.std.proofs.Common.{refl, ◌∙◌, arith}
 use Rattle.std.proofs.lemmas.Grind.{common_steps}
 use Rattle.ledger_model.specs.Spelling.{frame_bytes}
-use Rattle.reply_lines.specs.Lines.{step_text}
+use Rattle.printed_lines.specs.Lines.{step_text}
 use Rattle.simulation.proofs.StepLemmas.{stays, goes_on, stepped_none}
 use Rattle.simulation.proofs.PlayLemmas.{injected_next}
 use Rattle.simulation.proofs.simulation.Simulation.inject_each.Goals as goal

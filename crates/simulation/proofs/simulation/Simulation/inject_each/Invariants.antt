@@ -1,6 +1,6 @@
 use Rattle.std.proofs.Common.{◌≡◌, ℕ, List, ◌++◌, take}
 use Rattle.ledger_model.specs.Spelling.{frame_bytes}
-use Rattle.reply_lines.specs.Lines.{step_text}
+use Rattle.printed_lines.specs.Lines.{step_text}
 use Rattle.simulation.specs.Playing.{StepsEach, GoesOn, injections_to}
 use Rattle.simulation.proofs.simulation.Simulation.inject_each.Given as goal
 

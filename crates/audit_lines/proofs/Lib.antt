@@ -1,2 +1,0 @@
-mod BlockLines
-mod FaultLines

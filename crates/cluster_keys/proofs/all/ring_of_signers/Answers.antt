@@ -1,9 +1,0 @@
-use Rattle.std.proofs.Common.{arith}
-use Rattle.std.proofs.lemmas.Grind.{common_steps}
-use Rattle.cluster_keys.proofs.all.ring_of_signers.Goals as goal
-
-pub loop-signer-preserved : goal.loop-signer-preserved
-loop-signer-preserved c = grind (arith, common_steps)
-
-pub returns : goal.returns
-returns c = grind (arith, common_steps)

@@ -1,7 +1,0 @@
--- the keys of the signers so far
-use Rattle.std.proofs.Common.{◌≡◌, map, take}
-use Rattle.key_ring.specs.Signers.{SignerView, key_of}
-use Rattle.cluster_keys.proofs.all.ring_of_signers.Given as goal
-
-abbrev pub invariant-loop-signer : goal.invariant-loop-signer
-invariant-loop-signer l = l.keys.items ≡ map (λ (keys : SignerView). key_of keys.secret) (take l.signer-index l.signers)

@@ -1,4 +1,0 @@
-use Rattle.cluster_keys.proofs.keys.public_key.Goals as goal
-
-pub returns : goal.returns
-returns c = rw c.in_ok-pair.ensures at c.public-2.ensures

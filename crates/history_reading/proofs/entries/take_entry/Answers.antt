@@ -1,7 +1,0 @@
-use Rattle.std.proofs.Common.{rules}
-use Rattle.history_bytes.specs.HistoryReading.{entry_at}
-use Rattle.history_reading.proofs.entries.take_entry.Goals as goal
-
-pub returns : goal.returns
-unfolding entry_at
-returns c = search rules

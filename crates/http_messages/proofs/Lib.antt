@@ -1,0 +1,9 @@
+mod Texts
+mod NumberReading
+mod Lookups
+mod Steps
+mod Asked
+mod Answering
+mod RequestExamples
+mod Counting
+mod ReplyExamples

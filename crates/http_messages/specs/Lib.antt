@@ -1,0 +1,14 @@
+pub mod Limits
+pub mod Faults
+pub mod Questions
+pub mod Endpoints
+pub mod Values
+pub mod Parameters
+pub mod Requests
+pub mod Texts
+pub mod Results
+pub mod Errors
+pub mod FrameCounts
+pub mod Metrics
+pub mod Answers
+pub mod Replies

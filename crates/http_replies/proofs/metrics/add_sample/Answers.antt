@@ -1,7 +1,0 @@
-use Rattle.std.proofs.Common.{rules}
-use Rattle.http_replies.specs.Metrics.{sample_text}
-use Rattle.http_replies.proofs.metrics.add_sample.Goals as goal
-
-pub returns : goal.returns
-unfolding sample_text
-returns c = search rules

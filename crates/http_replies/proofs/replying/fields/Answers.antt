@@ -1,6 +1,0 @@
-use Rattle.http_replies.specs.Replies.{fields_text}
-use Rattle.http_replies.proofs.replying.fields.Goals as goal
-
-pub returns : goal.returns
-unfolding fields_text
-returns c = rw c.reason-reason.ensures at c.format.ensures.ok

@@ -1,8 +1,0 @@
-use Rattle.std.proofs.Common.{arith}
-use Rattle.std.proofs.lemmas.Grind.{common_steps}
-use Rattle.http_replies.specs.Replies.{reply_bytes}
-use Rattle.http_replies.proofs.replying.put_reply.Goals as goal
-
-pub returns-clause-ok : goal.returns-clause-ok
-unfolding reply_bytes
-returns-clause-ok c = grind (arith, common_steps)

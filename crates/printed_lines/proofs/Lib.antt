@@ -1,0 +1,4 @@
+mod BatchLines
+mod HeightRanges
+mod BlockLines
+mod FaultLines

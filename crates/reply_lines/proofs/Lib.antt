@@ -1,2 +1,0 @@
-mod BatchLines
-mod HeightRanges

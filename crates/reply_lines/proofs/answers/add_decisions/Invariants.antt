@@ -1,7 +1,0 @@
--- the lines of the heights so far are added
-use Rattle.std.proofs.Common.{◌≡◌, ◌++◌, take}
-use Rattle.reply_lines.specs.Lines.{decided_lines}
-use Rattle.reply_lines.proofs.answers.add_decisions.Given as goal
-
-abbrev pub invariant-loop-height : goal.invariant-loop-height
-invariant-loop-height g l = l.out ≡ l.fn.out ++ decided_lines l.state.config l.state.id (take l.height-index l.undecided) l.state.entries

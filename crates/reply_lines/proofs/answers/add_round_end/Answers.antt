@@ -1,5 +1,0 @@
-use Rattle.std.proofs.Common.{rules}
-use Rattle.reply_lines.proofs.answers.add_round_end.Goals as goal
-
-pub returns : goal.returns
-returns g c = search rules
