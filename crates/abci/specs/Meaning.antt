@@ -24,12 +24,12 @@ ChecksTo m tx code =
     (txs : List (List ℕ)) → m.committed ≡ state_after m.kind txs → code ≡ check_after m.kind (accepted m.kind [] txs) tx
 
 -- the working state starts as the committed one
-abbrev pub Begins : Machine → Machine → Type 0
-Begins old new = new ≡ record old { working = Some old.committed }
+abbrev pub StartsBlock : Machine → Machine → Type 0
+StartsBlock old new = new ≡ record old { working = Some old.committed }
 
 -- only the working state may have changed, and there is one
-abbrev pub GoesOn : Machine → Machine → Type 0
-GoesOn old new = IsSome new.working × (new ≡ record old { working = new.working })
+abbrev pub KeepsCommitted : Machine → Machine → Type 0
+KeepsCommitted old new = IsSome new.working × (new ≡ record old { working = new.working })
 
 -- the code of a transaction that follows those which led to the working state, and the working state after it
 abbrev pub DeliversTo : Machine → List ℕ → ℕ → Machine → Type 0

@@ -10,7 +10,7 @@ use std::alloc::AllocError;
 pub trait Application: Drop {
     ghost use Rattle.std.specs.Prelude.{◌≡◌, ◌≢◌, ◌+◌, ◌↔◌, IsSome, IfOk, OnOk, OnErr, IsErrOf, option_map};
     ghost use Rattle.ledger_model.specs.Applications.{Machine};
-    ghost use Rattle.abci.specs.Meaning.{ShowsOf, ChecksTo, Begins, GoesOn, DeliversTo, CommitsTo, AnswersTo, LosesWork};
+    ghost use Rattle.abci.specs.Meaning.{ShowsOf, ChecksTo, StartsBlock, KeepsCommitted, DeliversTo, CommitsTo, AnswersTo, LosesWork};
 
     ghost machine: { Self → Machine };
 
@@ -31,14 +31,14 @@ pub trait Application: Drop {
     /// dropped. After allocation failure the committed state and the height are unchanged.
     fn begin_block(&mut self, height: Height) -> Result<(), AllocError>
         requires { height ≡ (machine self.old).height + 1 }
-        ensures ok { OnOk result (Begins (machine self.old) (machine self.new)) }
+        ensures ok { OnOk result (StartsBlock (machine self.old) (machine self.new)) }
         ensures err { OnErr result (LosesWork (machine self.old) (machine self.new)) };
 
     /// ABCI's DeliverTx: the code of a transaction in the working state, which a transaction of code 0 changes. After
     /// allocation failure the committed state and the height are unchanged.
     fn deliver_tx(&mut self, tx: &Tx) -> Result<u32, AllocError>
         requires { IsSome (machine self.old).working }
-        ensures goes_on { OnOk result (GoesOn (machine self.old) (machine self.new)) }
+        ensures goes_on { OnOk result (KeepsCommitted (machine self.old) (machine self.new)) }
         ensures ok { IfOk result (λ code. DeliversTo (machine self.old) tx.now code (machine self.new)) }
         ensures err { OnErr result (LosesWork (machine self.old) (machine self.new)) };
 

@@ -9,15 +9,15 @@ use Rattle.ledger_model.specs.Values.{Value}
 use Rattle.ledger_model.specs.Applications.{Machine, AppState, accepted, codes, code_after, run, state_bytes, transactions_of}
 use Rattle.ledger_model.specs.Replies.{block_reply}
 use Rattle.abci.specs.declared.info.Info.{Info}
-use Rattle.abci.specs.Meaning.{state_after, without_work, Begins, GoesOn, DeliversTo, CommitsTo, ShowsOf, LosesWork}
+use Rattle.abci.specs.Meaning.{state_after, without_work, StartsBlock, KeepsCommitted, DeliversTo, CommitsTo, ShowsOf, LosesWork}
 use Rattle.abci_executor.specs.Blocks.{DeliversAll, IsReached, AddsBlock, ShowsBlocks}
 use Rattle.abci_executor.proofs.Behind.{accepted-append, codes-snoc}
 
 -- a machine that has a working state goes on from itself, and from step to step
-pub stays_on : (old : Machine) → old.working ≡ Some old.committed → GoesOn old old
+pub stays_on : (old : Machine) → old.working ≡ Some old.committed → KeepsCommitted old old
 stays_on old begun = (subst (λ (w : Option AppState). IsSome w) (sym begun) refl, refl)
 
-pub goes_on : (old mid new : Machine) → GoesOn old mid → GoesOn mid new → GoesOn old new
+pub goes_on : (old mid new : Machine) → KeepsCommitted old mid → KeepsCommitted mid new → KeepsCommitted old new
 goes_on old mid new first second =
     (second.0, second.1 ∙ ap (λ (m : Machine). let n : Machine = record m { working = new.working } in n) (first.1))
 
@@ -73,7 +73,7 @@ RunsBlock old batch block new =
 
 -- BeginBlock, the transactions, EndBlock and Commit
 pub runs_block : (old begun delivered ended new : Machine) (batch : Value) (height : ℕ) (answered hash : List ℕ) → height ≡ old.height + 1
-    → Begins old begun
+    → StartsBlock old begun
     → DeliversAll begun batch answered delivered → ended ≡ delivered → CommitsTo ended hash new
     → RunsBlock old batch (record { height = height; codes = answered; hash = hash }) new
 runs_block old begun delivered ended new batch height answered hash next begins delivers ends commits =

@@ -7,7 +7,7 @@ use Rattle.ledger_model.specs.Replies.{query_reply}
 use Rattle.abci.specs.declared.info.QueryFault.{QueryFault}
 use Rattle.abci.specs.declared.info.QueryFault.TheVariants as fault
 use Rattle.abci.specs.Meaning.{without_work, AnswersTo}
-use Rattle.abci_executor.specs.Blocks.{Replies, reply_of}
+use Rattle.abci_executor.specs.Blocks.{IsQueryReply, query_answer_of}
 
 both : (a b : Bool) → ((a ≡ false) × (b ≡ false) → ⊥) → (not a && not b) ≡ false
 both true b other = refl
@@ -24,7 +24,7 @@ is_another h n other = rw (ne_eqb h 0 (other.0), ne_eqb h n (other.1)) refl
 -- a value that is held
 pub replies_held : (m : Machine) (key : List ℕ) (height told : ℕ) (value : Option (List ℕ)) → AnswersTo m key value
     → ((height ≢ 0) × (height ≢ m.height) → ⊥) → told ≡ m.height
-    → Replies (without_work m) key height (Ok (record { height = told; value = value }))
+    → IsQueryReply (without_work m) key height (Ok (record { height = told; value = value }))
 unfolding run query_reply
 replies_held m key height told value answers held last =
     λ batches led.
@@ -35,7 +35,7 @@ replies_held m key height told value answers held last =
 
 -- a fault
 pub replies_fault : (m : Machine) (key : List ℕ) (height : ℕ) (f : QueryFault) → ((f ≡ fault.NotHeld) → (height ≢ 0) × (height ≢ m.height))
-    → IfSome (reply_of (Err f)) (Replies (without_work m) key height)
+    → IfSome (query_answer_of (Err f)) (IsQueryReply (without_work m) key height)
 unfolding run query_reply
 replies_fault m key height fault.NotHeld other =
     λ batches led.

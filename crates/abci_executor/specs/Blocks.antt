@@ -22,8 +22,8 @@ AddsBlock old batch block new =
     → (block ≡ block_reply old.kind batches batch) × (new ≡ run old.kind (batches ++ batch ∷ []))
 
 -- the reply to a query, given the blocks that led to the machine
-abbrev pub Replies : Machine → List ℕ → ℕ → Result QueryAnswer NotHeld → Type 0
-Replies m key height reply = (batches : List Value) → m ≡ run m.kind batches → reply ≡ query_reply m.kind batches key height
+abbrev pub IsQueryReply : Machine → List ℕ → ℕ → Result QueryAnswer NotHeld → Type 0
+IsQueryReply m key height reply = (batches : List Value) → m ≡ run m.kind batches → reply ≡ query_reply m.kind batches key height
 
 -- the number of the blocks that led to the machine, and the hash of the state that they led to
 abbrev pub ShowsBlocks : Machine → Info → Type 0
@@ -31,10 +31,10 @@ ShowsBlocks m info =
     (batches : List Value) → m ≡ run m.kind batches → (info.height ≡ length batches) × (info.hash ≡ hash_of m.kind batches)
 
 -- the reply to a query, unless memory ran out
-abbrev pub reply_of : Result QueryAnswer QueryFault → Option (Result QueryAnswer NotHeld)
-reply_of (Ok answer) = Some (Ok answer)
-reply_of (Err fault.NotHeld) = Some (Err (record {}))
-reply_of (Err fault.NoMemory) = None
+abbrev pub query_answer_of : Result QueryAnswer QueryFault → Option (Result QueryAnswer NotHeld)
+query_answer_of (Ok answer) = Some (Ok answer)
+query_answer_of (Err fault.NotHeld) = Some (Err (record {}))
+query_answer_of (Err fault.NoMemory) = None
 
 -- the codes of the block's transactions and the machine after them, given the transactions before
 abbrev pub DeliversAll : Machine → List (List ℕ) → List ℕ → Machine → Type 0

@@ -1,7 +1,7 @@
 //! The calls of one block: BeginBlock, DeliverTx for each transaction, EndBlock and Commit.
 ghost use Rattle.std.specs.Prelude.{◌≡◌, ◌<◌, [], Some, IfOk, OnOk, OnErr};
 ghost use Rattle.ledger_model.specs.Limits.{max_height};
-ghost use Rattle.abci.specs.Meaning.{GoesOn, LosesWork, without_work};
+ghost use Rattle.abci.specs.Meaning.{KeepsCommitted, LosesWork, without_work};
 ghost use Rattle.abci_executor.specs.Blocks.{DeliversAll, AddsBlock};
 
 use abci::Application;
@@ -43,7 +43,7 @@ fn deliver_all<A: Application>(
 ) -> Result<Codes, AllocError>
     requires begun { (A.machine app.old).working ≡ Some (A.machine app.old).committed }
     requires empty { room.items ≡ [] }
-    ensures goes_on { OnOk result (GoesOn (A.machine app.old) (A.machine app.new)) }
+    ensures goes_on { OnOk result (KeepsCommitted (A.machine app.old) (A.machine app.new)) }
     ensures ok { IfOk result (λ codes. DeliversAll (A.machine app.old) transactions.now codes (A.machine app.new)) }
     ensures err { OnErr result (LosesWork (A.machine app.old) (A.machine app.new)) }
 {

@@ -3,7 +3,7 @@ ghost use Rattle.std.specs.Prelude.{◌≡◌, ◌≢◌, ◌<◌, ◌↔◌, []
 ghost use Rattle.ledger_model.specs.Applications.{run};
 ghost use Rattle.ledger_model.specs.Limits.{max_height};
 ghost use Rattle.abci.specs.Meaning.{without_work};
-ghost use Rattle.abci_executor.specs.Blocks.{IsReached, AddsBlock, Replies, ShowsBlocks, reply_of};
+ghost use Rattle.abci_executor.specs.Blocks.{IsReached, AddsBlock, IsQueryReply, ShowsBlocks, query_answer_of};
 
 use crate::run_block;
 use abci::{Application, Info, QueryFault};
@@ -59,7 +59,7 @@ impl<A: Application> Executor<A> {
     ///
     /// `NotHeld` comes exactly if the height is neither; `NoMemory` comes if memory runs out.
     pub fn query(&self, key: &[u8], height: u32) -> Result<QueryAnswer, QueryFault>
-        ensures reply { IfSome (reply_of result) (Replies self.now key.now height) }
+        ensures reply { IfSome (query_answer_of result) (IsQueryReply self.now key.now height) }
         ensures not_held { IsErrOf result QueryFault.NotHeld ↔ (height ≢ 0) × (height ≢ self.now.height) }
     {
         let held = self.app.query(key, height)?;

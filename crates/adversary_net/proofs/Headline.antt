@@ -4,11 +4,11 @@ use Rattle.ledger_model.specs.Applications.{run}
 use Rattle.ledger_model.specs.Worlds.{World, world_at, IsLedger, Refines}
 use Rattle.ledger_laws.proofs.WorldRuns.{runs_refine, world_now}
 use Rattle.adversary_net.specs.WorldViews.{WorldView, IsCluster, correct_of, world_of}
-use Rattle.adversary_net.specs.Headline.{IsUnforged, IsOneLedger}
+use Rattle.adversary_net.specs.Headline.{IsUnforgedRun, IsOneLedger}
 use Rattle.adversary_net.proofs.AppAnswers.{own_machines}
 
 -- where nothing that was accepted was forged
-pub one_ledger : (c : WorldView) → IsCluster c → IsUnforged c → IsOneLedger c
+pub one_ledger : (c : WorldView) → IsCluster c → IsUnforgedRun c → IsOneLedger c
 one_ledger c cluster unforged =
     let refined : Refines c.config (world_of c) =
     runs_refine c.config c.ring (correct_of c) cluster.ran.steps cluster.ran.answers (world_of c) cluster.replicas cluster.ran.runs

@@ -37,7 +37,7 @@ use Rattle.adversary_net.specs.declared.party.Party.TheVariants as party
 use Rattle.adversary_net.specs.WorldViews.{WorldView, IsCluster, IsMemberAt, IsSameCluster, state_in, state_at, correct_of, history_in}
 use Rattle.adversary_net.specs.WorldViews.{world_of}
 use Rattle.adversary_net.specs.Leaves.{UsesButFor, loss_at, lost_at}
-use Rattle.adversary_net.specs.Steps.{AppliesAt, AppliesTo, Stays, StaysAs, Asks, IsReady, Went}
+use Rattle.adversary_net.specs.Steps.{AppliesAt, AppliesTo, Stays, StaysAs, ResolvesTo, IsReady, Went}
 use Rattle.adversary_net.proofs.Members.{histories, histories_added, histories_same, roles_same, set_cases, added_numbers}
 use Rattle.adversary_net.proofs.Members.{numbers_of_histories}
 use Rattle.adversary_net.proofs.UsedLeaves.{uses_set, none_lost, some_lost, each_none}
@@ -281,7 +281,7 @@ pub same_as : (c : WorldView) → IsSameCluster c c
 same_as c = record { config = refl; ring = refl; roles = refl }
 
 -- the step was refused before
-pub refused_step : (c : WorldView) (s : WorldStep) (f : WorldRefusal) → IsCluster c → Asks c s (Err f) → Went c c s (answer.Refused f)
+pub refused_step : (c : WorldView) (s : WorldStep) (f : WorldRefusal) → IsCluster c → ResolvesTo c s (Err f) → Went c c s (answer.Refused f)
 refused_step c s f cluster asked =
     record { cluster = cluster; answered = record { steps = asked; same = same_as c; leaves = each_none c s (answer.Refused f) } }
 

@@ -4,8 +4,8 @@ use Rattle.ledger_model.specs.Worlds.{NoForgery, Refines, MachinesOn}
 use Rattle.adversary_net.specs.WorldViews.{WorldView, world_of, machine_in}
 
 -- nothing that a correct replica accepted was forged
-abbrev pub IsUnforged : WorldView → Type 0
-IsUnforged c = NoForgery c.config c.ring (world_of c)
+abbrev pub IsUnforgedRun : WorldView → Type 0
+IsUnforgedRun c = NoForgery c.config c.ring (world_of c)
 
 -- Everything that happened is a run of one sequential ledger. Each correct replica's application is now what it is when
 -- it runs alone on a prefix of that ledger: the prefix that the replica committed.

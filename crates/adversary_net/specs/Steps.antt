@@ -36,9 +36,9 @@ pub record IsReady (c : WorldView) (asked : Result (ℕ × Event) WorldRefusal) 
   pub room : length (entries_in (world_of c) r) < max_history_len
 
 -- the outcome of resolving a step: an event at a replica whose history has room, or a refusal
-abbrev pub Asks : WorldView → WorldStep → Result (ℕ × Event) WorldRefusal → Type 0
-Asks c s (Ok p) = IsReady c (event_of c.config (world_of c) s) p.0 p.1
-Asks c s (Err f) = Refused c (event_of c.config (world_of c) s) f
+abbrev pub ResolvesTo : WorldView → WorldStep → Result (ℕ × Event) WorldRefusal → Type 0
+ResolvesTo c s (Ok p) = IsReady c (event_of c.config (world_of c) s) p.0 p.1
+ResolvesTo c s (Err f) = Refused c (event_of c.config (world_of c) s) f
 
 -- the replica applied the event, whose entry has this index
 pub record AppliesAt (old : StateView) (event : Event) (index : ℕ) (new : StateView) : Type 0 where

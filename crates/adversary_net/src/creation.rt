@@ -3,7 +3,7 @@ ghost use Rattle.std.specs.Prelude.{◌≡◌, [], ◌<◌, ◌≤◌, ◌-◌, 
 ghost use Rattle.std.specs.List.{range_with_len};
 ghost use Rattle.std.specs.Vec.Iter.{into_iter_items};
 ghost use Rattle.ledger_model.specs.Applications.{run};
-ghost use Rattle.cluster_setup.specs.Keys.{ring_of, secret_of, signers_of, unused};
+ghost use Rattle.cluster_setup.specs.Keys.{ring_of, secret_of, fresh_signers, unused};
 ghost use Rattle.locked_replica.specs.States.{IsMember};
 ghost use Rattle.adversary_net.specs.Openings.{different, is_liar, correct_without, new_party, IsSupply, MayLie};
 
@@ -147,7 +147,7 @@ fn parties_of<A: Application>(
     ring: &KeyRing,
     mut supply: Supply<A>,
 ) -> Result<Vec<Party<CorrectReplica<A>>>, AllocError>
-    requires signers { signers.items ≡ signers_of cluster.now }
+    requires signers { signers.items ≡ fresh_signers cluster.now }
     requires ring { ring.now ≡ ring_of cluster.now }
     requires supply { IsSupply A.machine cluster.now.config (length (correct_without cluster.now.config liars.now))
         (into_iter_items supply.apps) (into_iter_items supply.randoms) }

@@ -44,9 +44,9 @@ impl<A: Application> World<A> {
     ghost use Rattle.ledger_model.specs.Timelines.{AreReplicas};
     ghost use Rattle.ledger_model.specs.Worlds.{entries_in, asks, passes, fault_of_two, Runs, OwnMachines};
     ghost use Rattle.adversary_net.specs.WorldViews.{world_of, correct_of, machine_in, AllAccountForLeaves, AllReplay, HasRun, IsCluster, IsSameCluster, EachSignsOnce, OwnReplies, UsesAsAnswered};
-    ghost use Rattle.adversary_net.specs.Headline.{IsUnforged, IsOneLedger};
+    ghost use Rattle.adversary_net.specs.Headline.{IsUnforgedRun, IsOneLedger};
     ghost use Rattle.adversary_net.specs.Leaves.{AreAnswered};
-    ghost use Rattle.adversary_net.specs.Steps.{Refused, IsReady, Asks, Went};
+    ghost use Rattle.adversary_net.specs.Steps.{Refused, IsReady, ResolvesTo, Went};
 
     /// Why the replica can't take an event, if it can't: the cluster lacks it, it is a liar, or its history is full.
     fn room(&self, replica: ReplicaId) -> Result<(), WorldRefusal>
@@ -94,7 +94,7 @@ impl<A: Application> World<A> {
 
     /// The event of a step and the replica that takes it, whose history has room; or why the step is refused.
     fn event_of(&self, step: &WorldStep) -> Result<(ReplicaId, Event), WorldRefusal>
-        ensures { Asks self.now step.now result }
+        ensures { ResolvesTo self.now step.now result }
     {
         match step {
             WorldStep::Submit(replica, bytes) => {
@@ -191,7 +191,7 @@ impl<A: Application> World<A> {
         // So is everything that happened since the world was made.
         ensures since { HasRun self.new }
         // If nothing that was accepted was forged, all of it is a run of one sequential ledger.
-        ensures one_ledger { IsUnforged self.new → IsOneLedger self.new }
+        ensures one_ledger { IsUnforgedRun self.new → IsOneLedger self.new }
         ensures replicas { AreReplicas self.new.config (correct_of self.new) }
         // Each application, and each of its replies, is what it is when it runs alone on its replica's blocks.
         ensures machines { OwnMachines self.new.config (world_of self.new).histories (machine_in self.new) }

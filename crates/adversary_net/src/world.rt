@@ -72,7 +72,7 @@ impl<A: Application> World<A> {
     ghost use Rattle.ledger_model.specs.Worlds.{entries_in, fault_at, frames_sent};
     ghost use Rattle.replica_core.specs.Facts.{info_reply};
     ghost use Rattle.adversary_net.specs.WorldViews.{world_of, state_at, AllAccountForLeaves, AllReplay, HasRun, IsMemberAt, IsCluster, EachSignsOnce};
-    ghost use Rattle.adversary_net.specs.Headline.{IsUnforged, IsOneLedger};
+    ghost use Rattle.adversary_net.specs.Headline.{IsUnforgedRun, IsOneLedger};
     ghost use Rattle.ledger_model.specs.Limits.{max_history_len};
 
     /// The configuration of the cluster.
@@ -88,7 +88,7 @@ impl<A: Application> World<A> {
         // Everything that happened since the world was made is a run in the sense of the definitions.
         ensures since { HasRun self.now }
         // If nothing that was accepted was forged, it is a run of one sequential ledger.
-        ensures one_ledger { IsUnforged self.now → IsOneLedger self.now }
+        ensures one_ledger { IsUnforgedRun self.now → IsOneLedger self.now }
         // Each entry of a correct replica is lawful after those before it, and what it sends is signed.
         ensures replay { AllReplay self.now }
         // A correct replica is mute only if too few leaves were left.

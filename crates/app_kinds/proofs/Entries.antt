@@ -18,7 +18,7 @@ use Rattle.sha2.specs.declared.Sha256.{Sha256}
 use Rattle.ledger_model.specs.Applications.{same_bytes, state_bytes}
 use Rattle.ledger_model.specs.Applications.AppState.{Pairs}
 use Rattle.ledger_model.specs.Limits.{max_tx_len}
-use Rattle.app_kinds.specs.Sorted.{Pair, shown, AreShort}
+use Rattle.app_kinds.specs.Sorted.{Pair, pair_bytes, FitTransactions}
 
 abbrev pub Entry : Type 0
 Entry = Vec ℕ Global × Vec ℕ Global
@@ -30,14 +30,14 @@ abbrev pub vec_cmp : Vec ℕ Global → Vec ℕ Global → Ordering
 vec_cmp v w = byte_cmp v.items w.items
 
 pub shown-insert_entry : (es : List Entry) (k v : Vec ℕ Global)
-    → shown (insert_entry vec_cmp es k v) ≡ insert_entry byte_cmp (shown es) k.items v.items
+    → pair_bytes (insert_entry vec_cmp es k v) ≡ insert_entry byte_cmp (pair_bytes es) k.items v.items
 shown-insert_entry [] k v = refl
 shown-insert_entry (e ∷ es) k v = by (vec_cmp k e.0) (shown-insert_entry es k v)
   where
-    by : (o : Ordering) → shown (insert_entry vec_cmp es k v) ≡ insert_entry byte_cmp (shown es) k.items v.items
-        → shown (match_ordering o ((k, v) ∷ e ∷ es) ((e.0, v) ∷ es) (e ∷ insert_entry vec_cmp es k v))
-        ≡ match_ordering o ((k.items, v.items) ∷ shown (e ∷ es)) ((e.0.items, v.items) ∷ shown es)
-        ((e.0.items, e.1.items) ∷ insert_entry byte_cmp (shown es) k.items v.items)
+    by : (o : Ordering) → pair_bytes (insert_entry vec_cmp es k v) ≡ insert_entry byte_cmp (pair_bytes es) k.items v.items
+        → pair_bytes (match_ordering o ((k, v) ∷ e ∷ es) ((e.0, v) ∷ es) (e ∷ insert_entry vec_cmp es k v))
+        ≡ match_ordering o ((k.items, v.items) ∷ pair_bytes (e ∷ es)) ((e.0.items, v.items) ∷ pair_bytes es)
+        ((e.0.items, e.1.items) ∷ insert_entry byte_cmp (pair_bytes es) k.items v.items)
     by Less rest = refl
     by Equal rest = refl
     by Greater rest = ap (λ ps. (e.0.items, e.1.items) ∷ ps) rest
@@ -49,7 +49,7 @@ items_of-cond false v r = refl
 
 pub lookup-shown : (key : List ℕ) (es : List Entry)
     → option_map (λ (v : Vec ℕ Global). v.items) (lookup (λ (k : Vec ℕ Global). is_eq (byte_cmp key k.items)) es)
-    ≡ lookup (same_bytes key) (shown es)
+    ≡ lookup (same_bytes key) (pair_bytes es)
 lookup-shown key [] = refl
 lookup-shown key (e ∷ es) =
     let rest = lookup (λ (k : Vec ℕ Global). is_eq (byte_cmp key k.items)) es in
@@ -72,7 +72,7 @@ clones_same (x ∷ xs) [] same = absurd same
 clones_same (x ∷ xs) (y ∷ ys) same = let rest = clones_same xs ys same.1 in let first = same.0 in cc
 
 pub shown-clones : (es fs : List Entry) → AllZip (λ (p : Entry) (q : Entry). SameItems p.0 q.0 × SameItems p.1 q.1) es fs
-    → shown fs ≡ shown es
+    → pair_bytes fs ≡ pair_bytes es
 shown-clones [] [] same = refl
 shown-clones [] (f ∷ fs) same = absurd same
 shown-clones (e ∷ es) [] same = absurd same
@@ -83,22 +83,22 @@ shown-clones (e ∷ es) (f ∷ fs) same =
     cc
 
 all-shown : (k : Vec ℕ Global) (es : List Entry) → AllByRecursion (λ (w : Vec ℕ Global). vec_cmp k w ≡ Less) (keys_of es)
-    → AllByRecursion (λ q. byte_cmp k.items q ≡ Less) (keys_of (shown es))
+    → AllByRecursion (λ q. byte_cmp k.items q ≡ Less) (keys_of (pair_bytes es))
 all-shown k [] below = tt
 all-shown k (e ∷ es) below = (below.0, all-shown k es below.1)
 
-pub sorted-shown : (es : List Entry) → IsStrictlySortedBy vec_cmp (keys_of es) → IsStrictlySortedBy byte_cmp (keys_of (shown es))
+pub sorted-shown : (es : List Entry) → IsStrictlySortedBy vec_cmp (keys_of es) → IsStrictlySortedBy byte_cmp (keys_of (pair_bytes es))
 unfolding IsStrictlySortedBy
 sorted-shown [] sorted = tt
 sorted-shown (e ∷ es) sorted = (all-shown e.0 es sorted.0, sorted-shown es sorted.1)
 
-pub AreShort-insert_entry : (ps : List Pair) (k v : List ℕ) → AreShort ps → length k ≤ max_tx_len → length v ≤ max_tx_len
-    → AreShort (insert_entry byte_cmp ps k v)
+pub AreShort-insert_entry : (ps : List Pair) (k v : List ℕ) → FitTransactions ps → length k ≤ max_tx_len → length v ≤ max_tx_len
+    → FitTransactions (insert_entry byte_cmp ps k v)
 AreShort-insert_entry [] k v short kept kept' = (kept, kept', tt)
 AreShort-insert_entry (p ∷ ps) k v short key value = by (byte_cmp k p.0) (AreShort-insert_entry ps k v short.2 key value)
   where
-    by : (o : Ordering) → AreShort (insert_entry byte_cmp ps k v)
-        → AreShort (match_ordering o ((k, v) ∷ p ∷ ps) ((p.0, v) ∷ ps) (p ∷ insert_entry byte_cmp ps k v))
+    by : (o : Ordering) → FitTransactions (insert_entry byte_cmp ps k v)
+        → FitTransactions (match_ordering o ((k, v) ∷ p ∷ ps) ((p.0, v) ∷ ps) (p ∷ insert_entry byte_cmp ps k v))
     by Less rest = (key, value, short)
     by Equal rest = (short.0, value, short.2)
     by Greater rest = (short.0, short.1, rest)
@@ -135,9 +135,9 @@ feeds-end h all fed =
     let e : fed.so_far ≡ state_bytes (Pairs all) = sym (append-nil fed.so_far) ∙ fed.ends in
     rw (← e) fed.holds
 
-pub short-next : (left : List Entry) (e : Entry) (rest : List Entry) → left ≡ e ∷ rest → AreShort (shown left)
-    → (length e.0.items ≤ max_tx_len) × (length e.1.items ≤ max_tx_len) × AreShort (shown rest)
+pub short-next : (left : List Entry) (e : Entry) (rest : List Entry) → left ≡ e ∷ rest → FitTransactions (pair_bytes left)
+    → (length e.0.items ≤ max_tx_len) × (length e.1.items ≤ max_tx_len) × FitTransactions (pair_bytes rest)
 short-next left e rest is short = rw is at short
 
-pub length-shown : (es : List Entry) → length (shown es) ≡ length es
+pub length-shown : (es : List Entry) → length (pair_bytes es) ≡ length es
 length-shown es = length-map es (λ e. (e.0.items, e.1.items))

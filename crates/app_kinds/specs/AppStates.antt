@@ -5,8 +5,8 @@ use Rattle.ledger_model.specs.Applications.{AppState, accepted, state_of, code_a
 use Rattle.abci.specs.Meaning.{state_after}
 
 -- a transaction that follows those which led to the old state has this code, and leads to the new state
-abbrev pub Delivers : AppKind → AppState → List ℕ → ℕ → AppState → Type 0
-Delivers kind old tx code new =
+abbrev pub DeliversTx : AppKind → AppState → List ℕ → ℕ → AppState → Type 0
+DeliversTx kind old tx code new =
     (txs : List (List ℕ)) → old ≡ state_after kind txs
     → (code ≡ code_after kind (accepted kind [] txs) tx) × (new ≡ state_after kind (txs ++ tx ∷ []))
 
@@ -15,5 +15,5 @@ abbrev pub Checks : AppKind → AppState → List ℕ → ℕ → Type 0
 Checks kind state tx code = (done : List (List ℕ)) → state ≡ state_of kind done → code ≡ check_after kind done tx
 
 -- the value that the state has under a key
-abbrev pub Holds : AppKind → AppState → List ℕ → Option (List ℕ) → Type 0
-Holds kind state key value = (done : List (List ℕ)) → state ≡ state_of kind done → value ≡ held_at kind done key
+abbrev pub HoldsUnder : AppKind → AppState → List ℕ → Option (List ℕ) → Type 0
+HoldsUnder kind state key value = (done : List (List ℕ)) → state ≡ state_of kind done → value ≡ held_at kind done key

@@ -8,10 +8,10 @@ abbrev pub Pair : Type 0
 Pair = List ℕ × List ℕ
 
 -- the bytes of each key and value
-abbrev pub shown : List (Vec ℕ Global × Vec ℕ Global) → List Pair
-shown entries = map (λ e. (e.0.items, e.1.items)) entries
+abbrev pub pair_bytes : List (Vec ℕ Global × Vec ℕ Global) → List Pair
+pair_bytes entries = map (λ e. (e.0.items, e.1.items)) entries
 
 -- each key and value is no longer than a transaction
-abbrev pub AreShort : List Pair → Type 0
-AreShort [] = Unit {0}
-AreShort (p ∷ ps) = (length p.0 ≤ max_tx_len) × (length p.1 ≤ max_tx_len) × AreShort ps
+abbrev pub FitTransactions : List Pair → Type 0
+FitTransactions [] = Unit {0}
+FitTransactions (p ∷ ps) = (length p.0 ≤ max_tx_len) × (length p.1 ≤ max_tx_len) × FitTransactions ps

@@ -40,7 +40,7 @@ impl<X: Application> Counted<X> {
 
 impl<X: Application> Application for Counted<X> {
     ghost use Rattle.std.specs.Prelude.{◌≡◌, ◌+◌, ◌-◌, ◌^◌, min, IsSome, IfOk, OnOk, OnErr};
-    ghost use Rattle.abci.specs.Meaning.{Begins, GoesOn, DeliversTo, CommitsTo, LosesWork};
+    ghost use Rattle.abci.specs.Meaning.{StartsBlock, KeepsCommitted, DeliversTo, CommitsTo, LosesWork};
 
     ghost machine = { λ c. X.machine c.app };
 
@@ -63,7 +63,7 @@ impl<X: Application> Application for Counted<X> {
     fn begin_block(&mut self, height: Height) -> Result<(), AllocError>
         requires { height ≡ (X.machine self.old.app).height + 1 }
         ensures count { self.new.delivered ≡ self.old.delivered }
-        ensures ok { OnOk result (Begins (X.machine self.old.app) (X.machine self.new.app)) }
+        ensures ok { OnOk result (StartsBlock (X.machine self.old.app) (X.machine self.new.app)) }
         ensures err { OnErr result (LosesWork (X.machine self.old.app) (X.machine self.new.app)) }
     {
         self.app.begin_block(height)
@@ -73,7 +73,7 @@ impl<X: Application> Application for Counted<X> {
     fn deliver_tx(&mut self, tx: &Tx) -> Result<u32, AllocError>
         requires { IsSome (X.machine self.old.app).working }
         ensures count { self.new.delivered ≡ min (self.old.delivered + 1) (2 ^ 64 - 1) }
-        ensures goes_on { OnOk result (GoesOn (X.machine self.old.app) (X.machine self.new.app)) }
+        ensures goes_on { OnOk result (KeepsCommitted (X.machine self.old.app) (X.machine self.new.app)) }
         ensures ok { IfOk result (λ code. DeliversTo (X.machine self.old.app) tx.now code (X.machine self.new.app)) }
         ensures err { OnErr result (LosesWork (X.machine self.old.app) (X.machine self.new.app)) }
     {

@@ -11,7 +11,7 @@ pub trait KindState: Drop {
     ghost use Rattle.ledger_model.specs.declared.config.AppKind.{AppKind};
     ghost use Rattle.ledger_model.specs.Applications.{AppState, state_of, state_bytes};
     ghost use Rattle.ledger_model.specs.Limits.{max_tx_len};
-    ghost use Rattle.app_kinds.specs.AppStates.{Delivers, Checks, Holds};
+    ghost use Rattle.app_kinds.specs.AppStates.{DeliversTx, Checks, HoldsUnder};
 
     // The kind whose state it is.
     ghost of_kind: { AppKind };
@@ -30,7 +30,7 @@ pub trait KindState: Drop {
     /// The code of a transaction; a transaction of code 0 changes the state.
     fn deliver(&mut self, alloc: Global, tx: &[u8]) -> Result<u32, AllocError>
         requires { length tx.now ≤ max_tx_len }
-        ensures { IfOk result (λ code. Delivers of_kind (state self.old) tx.now code (state self.new)) };
+        ensures { IfOk result (λ code. DeliversTx of_kind (state self.old) tx.now code (state self.new)) };
 
     /// The code of a transaction that is offered to the pool.
     fn check(&self, tx: &[u8]) -> u32
@@ -38,7 +38,7 @@ pub trait KindState: Drop {
 
     /// The value under a key.
     fn held(&self, alloc: Global, key: &[u8]) -> Result<Option<Vec<u8>>, AllocError>
-        ensures { IfOk result (λ value. Holds of_kind (state self.now) key.now (option_map (λ v. v.items) value)) };
+        ensures { IfOk result (λ value. HoldsUnder of_kind (state self.now) key.now (option_map (λ v. v.items) value)) };
 
     /// The SHA-256 of the state's encoding.
     fn hash(&self) -> [u8; 32]

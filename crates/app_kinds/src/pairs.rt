@@ -5,7 +5,7 @@ ghost use Rattle.sha2.specs.Sha256.{sha256};
 ghost use Rattle.ledger_model.specs.Applications.{state_bytes};
 ghost use Rattle.ledger_model.specs.Limits.{max_tx_len};
 ghost use Rattle.ledger_model.specs.Applications.AppState.{Pairs as PairState};
-ghost use Rattle.app_kinds.specs.Sorted.{shown, AreShort};
+ghost use Rattle.app_kinds.specs.Sorted.{pair_bytes, FitTransactions};
 
 use crate::assignment::key_and_value;
 use crate::kind_state::KindState;
@@ -25,13 +25,13 @@ pub struct Pairs {
 
 impl Model for Pairs {
     ghost use Rattle.std.specs.Prelude.{List};
-    ghost use Rattle.app_kinds.specs.Sorted.{Pair, shown, AreShort};
+    ghost use Rattle.app_kinds.specs.Sorted.{Pair, pair_bytes, FitTransactions};
 
     ghost Value = { List Pair };
 
-    ghost view = { λ p. shown p.values.entries };
+    ghost view = { λ p. pair_bytes p.values.entries };
 
-    ghost invariant = { λ p. AreShort (shown p.values.entries) };
+    ghost invariant = { λ p. FitTransactions (pair_bytes p.values.entries) };
 }
 
 impl Pairs {
@@ -114,8 +114,8 @@ impl KindState for Pairs {
 
 /// The SHA-256 of the encoding of these pairs.
 fn hash_of(values: &BTreeMap<Vec<u8>, Vec<u8>>) -> [u8; 32]
-    requires { AreShort (shown values.now.entries) }
-    ensures { result ≡ sha256 (state_bytes (PairState (shown values.now.entries))) }
+    requires { FitTransactions (pair_bytes values.now.entries) }
+    ensures { result ≡ sha256 (state_bytes (PairState (pair_bytes values.now.entries))) }
 {
     let mut hasher = Sha256::new();
     hasher.update([PAIRS]);

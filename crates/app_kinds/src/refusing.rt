@@ -34,7 +34,7 @@ impl<X: Application> Refusing<X> {
 
 impl<X: Application> Application for Refusing<X> {
     ghost use Rattle.std.specs.Prelude.{◌≡◌, ◌+◌, ◌-◌, IsSome, IsErr, IfOk, OnOk, OnErr};
-    ghost use Rattle.abci.specs.Meaning.{Begins, GoesOn, DeliversTo, CommitsTo, LosesWork};
+    ghost use Rattle.abci.specs.Meaning.{StartsBlock, KeepsCommitted, DeliversTo, CommitsTo, LosesWork};
 
     ghost machine = { λ r. X.machine r.app };
 
@@ -56,7 +56,7 @@ impl<X: Application> Application for Refusing<X> {
 
     fn begin_block(&mut self, height: Height) -> Result<(), AllocError>
         requires { height ≡ (X.machine self.old.app).height + 1 }
-        ensures ok { OnOk result (Begins (X.machine self.old.app) (X.machine self.new.app)) }
+        ensures ok { OnOk result (StartsBlock (X.machine self.old.app) (X.machine self.new.app)) }
         ensures err { OnErr result (LosesWork (X.machine self.old.app) (X.machine self.new.app)) }
         ensures refused { self.new.refused ≡ self.old.refused }
     {
@@ -66,7 +66,7 @@ impl<X: Application> Application for Refusing<X> {
     /// The chosen call doesn't reach the application.
     fn deliver_tx(&mut self, tx: &Tx) -> Result<u32, AllocError>
         requires { IsSome (X.machine self.old.app).working }
-        ensures goes_on { OnOk result (GoesOn (X.machine self.old.app) (X.machine self.new.app)) }
+        ensures goes_on { OnOk result (KeepsCommitted (X.machine self.old.app) (X.machine self.new.app)) }
         ensures ok { IfOk result (λ code. DeliversTo (X.machine self.old.app) tx.now code (X.machine self.new.app)) }
         ensures err { OnErr result (LosesWork (X.machine self.old.app) (X.machine self.new.app)) }
         ensures counts { self.new.refused ≡ self.old.refused - 1 }

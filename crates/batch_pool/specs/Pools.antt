@@ -17,14 +17,14 @@ answer_of (Err (fault.Refused f)) = Some (Err f)
 answer_of (Err fault.NoMemory) = None
 
 -- the pool's own part of an answer: Ok if CheckTx refused, or memory ran out
-abbrev pub own_part : Result (Unit {0}) SubmitFault → Result (Unit {0}) SubmitRefusal
-own_part (Ok u) = Ok tt
-own_part (Err (fault.Refused refusal.Empty)) = Err refusal.Empty
-own_part (Err (fault.Refused refusal.TooLong)) = Err refusal.TooLong
-own_part (Err (fault.Refused refusal.Duplicate)) = Err refusal.Duplicate
-own_part (Err (fault.Refused refusal.Full)) = Err refusal.Full
-own_part (Err (fault.Refused (refusal.Rejected code))) = Ok tt
-own_part (Err fault.NoMemory) = Ok tt
+abbrev pub pool_part : Result (Unit {0}) SubmitFault → Result (Unit {0}) SubmitRefusal
+pool_part (Ok u) = Ok tt
+pool_part (Err (fault.Refused refusal.Empty)) = Err refusal.Empty
+pool_part (Err (fault.Refused refusal.TooLong)) = Err refusal.TooLong
+pool_part (Err (fault.Refused refusal.Duplicate)) = Err refusal.Duplicate
+pool_part (Err (fault.Refused refusal.Full)) = Err refusal.Full
+pool_part (Err (fault.Refused (refusal.Rejected code))) = Ok tt
+pool_part (Err fault.NoMemory) = Ok tt
 
 -- the answer to a submit, given the blocks that led to the application's committed state
 abbrev pub AnswersSubmission : Machine → Value → List ℕ → Result (Unit {0}) SubmitRefusal → Type 0
@@ -32,8 +32,8 @@ AnswersSubmission m pool tx answer =
     (batches : List Value) → without_work m ≡ run m.kind batches → answer ≡ submit_answer pool tx (check_reply m.kind batches tx)
 
 -- the transactions that wait after the application ran blocks of which `block` is the last
-abbrev pub Leaves : Machine → Value → Value → Value → Type 0
-Leaves m block old new =
+abbrev pub LeavesWaiting : Machine → Value → Value → Value → Type 0
+LeavesWaiting m block old new =
     (batches : List Value) → without_work m ≡ run m.kind batches → new ≡ left_after block (check_reply m.kind batches) old
 
 -- whether CheckTx accepts the transaction, given the blocks that led to the application's committed state

@@ -7,7 +7,7 @@ ghost use Rattle.ledger_model.specs.Versions.{batch_limit};
 ghost use Rattle.ledger_model.specs.Values.{IsValueIn};
 ghost use Rattle.ledger_model.specs.Pools.{is_among, first_fault, own_refusals};
 ghost use Rattle.batch_pool.specs.Distinct.{NoneTwice};
-ghost use Rattle.batch_pool.specs.Pools.{AnswersSubmission, Leaves, StaysBy, answer_of, own_part};
+ghost use Rattle.batch_pool.specs.Pools.{AnswersSubmission, LeavesWaiting, StaysBy, answer_of, pool_part};
 
 use crate::SubmitFault;
 use abci::{Application, CheckKind};
@@ -84,7 +84,7 @@ impl Pool {
     /// The refusals are tested in the order of `SubmitRefusal`; `Rejected` has the code of CheckTx. The pool's own refusals
     /// don't depend on memory, and `NoMemory` comes only if none of them applies. After a fault the pool is unchanged.
     pub fn submit<A: Application>(&mut self, bytes: &[u8], app: &A) -> Result<(), SubmitFault>
-        ensures own { own_part result ≡ first_fault (own_refusals self.old bytes.now) tt }
+        ensures own { pool_part result ≡ first_fault (own_refusals self.old bytes.now) tt }
         ensures answer { IfSome (answer_of result) (AnswersSubmission (A.machine app.now) self.old bytes.now) }
         ensures pool { self.new ≡ (if is_ok result then self.old ++ bytes.now ∷ [] else self.old) }
     {
@@ -148,7 +148,7 @@ impl Pool {
     ///
     /// Allocates nothing.
     pub fn after_block<A: Application>(&mut self, block: &Batch, app: &A)
-        ensures { Leaves (A.machine app.now) block.now self.old self.new }
+        ensures { LeavesWaiting (A.machine app.now) block.now self.old self.new }
     {
         self.waiting.retain(
             |_key: &Vec<u8>, tx: &mut Tx| -> bool

@@ -5,7 +5,7 @@ use Rattle.std.specs.Prelude.{nat_lt, ◌||◌, Ok, if◌then◌else◌}
 use Rattle.std.specs.Int.{w32, to_be_bytes}
 use Rattle.ledger_model.specs.declared.reply.QueryAnswer.{QueryAnswer}
 use Rattle.ledger_model.specs.Sessions.{Exchange, Queries, Heights, Request, Query, Height, Session, Serves, Gives, status, present}
-use Rattle.client_sessions.specs.Answering.{Answers}
+use Rattle.client_sessions.specs.Answering.{AnswersOneRequest}
 
 -- a choice by a test that holds
 if_so : (test : Bool) (reply : List ℕ) (new : Session) (x y : List ℕ × Session) → test ≡ true → Gives reply new x
@@ -26,14 +26,14 @@ none_below height = le-ltb height 0 (omega arith)
 module _ {T : Type 0} (asks : T → Exchange → T → Type 0) (count : ℕ) (before after : T) (old : Session) where
   pub by_one : (request : Request) (reply : List ℕ) (new : Session) (exchange : Exchange)
       → asks before exchange after → Serves count old request (exchange ∷ []) reply new
-      → Answers asks count before after old request reply new
+      → AnswersOneRequest asks count before after old request reply new
   by_one request reply new exchange asked serves = record { exchanges = exchange ∷ []; asked = (after, asked, refl); serves = serves }
 
   -- the application's height is behind
   pub query_behind : (min : ℕ) (key : List ℕ) (replica : ℕ) (found : QueryAnswer) → asks before (Queries replica key (Ok found)) after
       → replica ≡ old.replica
       → (nat_lt found.height min || nat_lt found.height old.greatest) ≡ true
-      → Answers asks count before after old (Query min key) (status 2) old
+      → AnswersOneRequest asks count before after old (Query min key) (status 2) old
   query_behind min key replica found asked same behind =
       by_one (Query min key) (status 2) old (Queries replica key (Ok found)) asked (same, refl, if_so _ _ _ _ _ behind (refl, refl))
 
@@ -42,14 +42,14 @@ module _ {T : Type 0} (asks : T → Exchange → T → Type 0) (count : ℕ) (be
       → asks before (Queries replica key (Ok found)) after → replica ≡ old.replica
       → (nat_lt found.height min || nat_lt found.height old.greatest) ≡ false
       → new ≡ record old { greatest = found.height }
-      → Answers asks count before after old (Query min key) (0 ∷ to_be_bytes w32 found.height ++ present found.value) new
+      → AnswersOneRequest asks count before after old (Query min key) (0 ∷ to_be_bytes w32 found.height ++ present found.value) new
   query_told min key replica found new asked same behind raised =
       by_one (Query min key) (0 ∷ to_be_bytes w32 found.height ++ present found.value) new (Queries replica key (Ok found)) asked
       (same, refl, if_not _ _ _ _ _ behind (refl, raised))
 
   -- the board's height is behind
   pub height_behind : (replica height : ℕ) → asks before (Heights replica height) after → replica ≡ old.replica
-      → (nat_lt height 0 || nat_lt height old.greatest) ≡ true → Answers asks count before after old Height (status 2) old
+      → (nat_lt height 0 || nat_lt height old.greatest) ≡ true → AnswersOneRequest asks count before after old Height (status 2) old
   height_behind replica height asked same behind =
       by_one Height (status 2) old (Heights replica height) asked
       (same, if_so _ _ _ _ _ (sym (ap (λ b. b || nat_lt height old.greatest) (none_below height)) ∙ behind) (refl, refl))
@@ -58,7 +58,7 @@ module _ {T : Type 0} (asks : T → Exchange → T → Type 0) (count : ℕ) (be
   pub height_told : (replica height : ℕ) (new : Session) → asks before (Heights replica height) after → replica ≡ old.replica
       → (nat_lt height 0 || nat_lt height old.greatest) ≡ false
       → new ≡ record old { greatest = height }
-      → Answers asks count before after old Height (0 ∷ to_be_bytes w32 height) new
+      → AnswersOneRequest asks count before after old Height (0 ∷ to_be_bytes w32 height) new
   height_told replica height new asked same behind raised =
       by_one Height (0 ∷ to_be_bytes w32 height) new (Heights replica height) asked
       (same, if_not _ _ _ _ _ (sym (ap (λ b. b || nat_lt height old.greatest) (none_below height)) ∙ behind) (refl, raised))

@@ -10,7 +10,7 @@ use Rattle.ledger_model.specs.Sessions.{framed}
 use Rattle.client_sessions.specs.declared.session_end.SessionEnd.TheVariants.{Cut}
 use Rattle.client_sessions.specs.declared.receiving.Received.TheVariants.{Body}
 use Rattle.client_sessions.specs.Reading.{Fills, ReadsFewer}
-use Rattle.client_sessions.specs.Streams.{IsPartial, IsBody, EndsBehind, ReadsPart, Receives}
+use Rattle.client_sessions.specs.Streams.{IsPartialRequest, IsBody, EndsBehind, ReadsPart, Receives}
 
 -- the first bytes of two pieces are the first piece
 front : (xs ys : List ℕ) (n : ℕ) → length xs ≡ n → take n (xs ++ ys) ≡ xs
@@ -23,7 +23,7 @@ module _ (a b c : Option (List ℕ)) (prefix : List ℕ) (n : ℕ) (first : Fill
   prefix_read = subst (Consumes a b) (take_all n prefix (omega arith)) first.read
 
   -- and then less than it says
-  part : (bytes : List ℕ) → length bytes < len → IsPartial (prefix ++ bytes)
+  part : (bytes : List ℕ) → length bytes < len → IsPartialRequest (prefix ++ bytes)
   part bytes fewer = inr (omega (arith, fewer, length-append prefix bytes, says ∙ sym (ap (from_be_bytes w16) (front prefix bytes 2 two))))
 
   -- a fault came within the body

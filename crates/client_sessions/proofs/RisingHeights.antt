@@ -9,16 +9,16 @@ use Rattle.ledger_model.specs.declared.reply.QueryAnswer.{QueryAnswer}
 use Rattle.ledger_model.specs.Sessions.{Exchange, Submits, Queries, Heights, Blocks, Fault, Full, Want_of_memory, Gives, Height, Malformed}
 use Rattle.ledger_model.specs.Sessions.{Query, Request, Serves, Session, Session_of, Submit, Block, Switch, faulty, framed, present}
 use Rattle.ledger_model.specs.Sessions.{request_of, status}
-use Rattle.client_sessions.specs.Heights.{IsRefusal, Rises, RisesBy, Tells, TellsNone}
+use Rattle.client_sessions.specs.Heights.{IsRefusalReply, Rises, RisesBy, ContainsHeight, TellsNone}
 
 -- a fault's reply is a refusal
-fault_refuses : (fault : Fault) (reply : List ℕ) → reply ≡ faulty fault → IsRefusal reply
-fault_refuses Full reply is = subst IsRefusal (sym is) (omega arith)
-fault_refuses Want_of_memory reply is = subst IsRefusal (sym is) (omega arith)
+fault_refuses : (fault : Fault) (reply : List ℕ) → reply ≡ faulty fault → IsRefusalReply reply
+fault_refuses Full reply is = subst IsRefusalReply (sym is) (omega arith)
+fault_refuses Want_of_memory reply is = subst IsRefusalReply (sym is) (omega arith)
 
 -- so is that of a height that is behind
-behind_refuses : (reply : List ℕ) → reply ≡ status 2 → IsRefusal reply
-behind_refuses reply is = subst IsRefusal (sym is) (omega arith)
+behind_refuses : (reply : List ℕ) → reply ≡ status 2 → IsRefusalReply reply
+behind_refuses reply is = subst IsRefusalReply (sym is) (omega arith)
 
 module _ (s : Session) (reply : List ℕ) (new : Session) where
   -- no height is answered, and the session stays as it was
@@ -35,7 +35,7 @@ module _ (s : Session) (reply : List ℕ) (new : Session) where
       let raised : a.height ≡ new.greatest = sym (ap (λ t. t.greatest) gives.1) in
       inr (
         subst (λ h. s.greatest ≤ h) raised (ltb-false a.height s.greatest later),
-        subst (λ h. Tells (Query min key) reply h) raised (ltb-false a.height min enough, (a.value, gives.0)),
+        subst (λ h. ContainsHeight (Query min key) reply h) raised (ltb-false a.height min enough, (a.value, gives.0)),
       )
 
   height_step : (height : ℕ) (test : Bool) → nat_lt height s.greatest ≡ test

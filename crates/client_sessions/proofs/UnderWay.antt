@@ -10,7 +10,7 @@ use Rattle.ledger_model.specs.Sessions.{Exchange, Serves, Session, Session_of, f
 use Rattle.client_sessions.specs.declared.session_end.SessionEnd.{SessionEnd}
 use Rattle.client_sessions.specs.declared.session_end.SessionFault.TheVariants as fault
 use Rattle.client_sessions.specs.Heights.{Rises}
-use Rattle.client_sessions.specs.Serving.{Ended, Replies, Served, Stopped}
+use Rattle.client_sessions.specs.Serving.{HasEnded, RepliesToRequest, Served, HasStopped}
 use Rattle.client_sessions.specs.Streams.{EndsBehind, IsBody, ReadsPart}
 use Rattle.byte_streams.specs.Writing.{AppendsSome}
 use Rattle.client_sessions.proofs.RisingHeights.{one_rises, rises_more}
@@ -102,7 +102,7 @@ module _ {T : Type 0} (asks : T → Exchange → T → Type 0) (count : ℕ) (be
   }
 
   -- nothing was read, since memory ran out
-  pub no_memory : Stopped asks count before before old old unread unread had had fault.NoMemory
+  pub no_memory : HasStopped asks count before before old old unread unread had had fault.NoMemory
   unfolding Session_of Rises
   no_memory = record {
     bodies = [];
@@ -118,7 +118,7 @@ module _ {T : Type 0} (asks : T → Exchange → T → Type 0) (count : ℕ) (be
       (so_far : UnderWay asks count before now old session unread left had has number) where
     -- the input came to its end
     pub ends : (last : Option (List ℕ)) (end : SessionEnd) → EndsBehind left last end
-        → Ended asks count before now old session unread last had has end
+        → HasEnded asks count before now old session unread last had has end
     ends last end behind = record {
       bodies = so_far.bodies;
       rest = behind.rest;
@@ -132,7 +132,7 @@ module _ {T : Type 0} (asks : T → Exchange → T → Type 0) (count : ℕ) (be
 
     -- a read failed
     pub read_fails : (last : Option (List ℕ)) (error : _) → ReadsPart left last
-        → Stopped asks count before now old session unread last had has (fault.Read error)
+        → HasStopped asks count before now old session unread last had has (fault.Read error)
     read_fails last error read = record {
       bodies = so_far.bodies;
       rest = read.rest;
@@ -144,7 +144,7 @@ module _ {T : Type 0} (asks : T → Exchange → T → Type 0) (count : ℕ) (be
     }
 
     -- no more requests are served
-    pub too_many : number ≡ 2 ^ 64 - 1 → Stopped asks count before now old session unread left had has fault.TooMany
+    pub too_many : number ≡ 2 ^ 64 - 1 → HasStopped asks count before now old session unread left had has fault.TooMany
     too_many all = record {
       bodies = so_far.bodies;
       rest = [];
@@ -156,7 +156,7 @@ module _ {T : Type 0} (asks : T → Exchange → T → Type 0) (count : ℕ) (be
     }
 
     module _ (body : List ℕ) (short : IsBody body) (last : Option (List ℕ)) (read : Consumes left last (framed body)) (after : T)
-        (new : Session) (Sent : List ℕ → Type 0) (one : Replies asks count now after session body new Sent) where
+        (new : Session) (Sent : List ℕ → Type 0) (one : RepliesToRequest asks count now after session body new Sent) where
       -- one more request was served
       served_more : Served asks count before after old (so_far.bodies ++ body ∷ []) (so_far.replies ++ one.reply ∷ []) new
       served_more = record {
@@ -191,7 +191,7 @@ module _ {T : Type 0} (asks : T → Exchange → T → Type 0) (count : ℕ) (be
 
       -- or a prefix of it
       pub write_fails : (holds : Option (List ℕ)) (error : _) → AppendsSome has holds (framed one.reply)
-          → Stopped asks count before after old new unread last had holds (fault.Write error)
+          → HasStopped asks count before after old new unread last had holds (fault.Write error)
       write_fails holds error sent = record {
         bodies = so_far.bodies ++ body ∷ [];
         rest = [];

@@ -5,14 +5,14 @@ use Rattle.client_sessions.specs.declared.targets.TargetFault.{TargetFault}
 use Rattle.client_sessions.specs.declared.targets.TargetFault.TheVariants.{HistoryFull, NoMemory}
 
 -- the fault, as an exchange names it
-abbrev pub fault_of : TargetFault → Fault
-fault_of HistoryFull = Full
-fault_of NoMemory = Want_of_memory
+abbrev pub exchange_fault : TargetFault → Fault
+exchange_fault HistoryFull = Full
+exchange_fault NoMemory = Want_of_memory
 
 -- what a call returned, as its exchange records it
 abbrev pub outcome_of : {T : Type 0} → Result T TargetFault → Result T Fault
 outcome_of (Ok answer) = Ok answer
-outcome_of (Err fault) = Err (fault_of fault)
+outcome_of (Err fault) = Err (exchange_fault fault)
 
 -- the most bytes of a value in a reply, which also has a status, a height and a flag for the value
 abbrev pub max_value_len : ℕ

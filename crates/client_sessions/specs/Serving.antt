@@ -6,16 +6,16 @@ use Rattle.ledger_model.specs.Sessions.{Exchange, Session, Session_of, framed, r
 use Rattle.client_sessions.specs.declared.session_end.SessionEnd.{SessionEnd}
 use Rattle.client_sessions.specs.declared.session_end.SessionFault.{SessionFault}
 use Rattle.client_sessions.specs.declared.session_end.SessionFault.TheVariants as fault
-use Rattle.client_sessions.specs.Answering.{Answers}
+use Rattle.client_sessions.specs.Answering.{AnswersOneRequest}
 use Rattle.client_sessions.specs.Heights.{Rises}
-use Rattle.client_sessions.specs.Streams.{IsBody, IsPartial, Stands}
+use Rattle.client_sessions.specs.Streams.{IsBody, IsPartialRequest, EndsInput}
 use Rattle.byte_streams.specs.Writing.{AppendsSome}
 
 -- the request with this body was served, and `Sent` holds of the bytes of its reply
-pub record Replies {T : Type 0} (asks : T → Exchange → T → Type 0) (count : ℕ) (before after : T) (old : Session) (body : List ℕ)
+pub record RepliesToRequest {T : Type 0} (asks : T → Exchange → T → Type 0) (count : ℕ) (before after : T) (old : Session) (body : List ℕ)
     (new : Session) (Sent : List ℕ → Type 0) : Type 0 where
   pub reply : List ℕ
-  pub answers : Answers asks count before after old (request_of body) reply new
+  pub answers : AnswersOneRequest asks count before after old (request_of body) reply new
   pub short : IsBody reply
   pub sent : Sent (framed reply)
 
@@ -30,20 +30,20 @@ pub record Served {T : Type 0} (asks : T → Exchange → T → Type 0) (count :
   pub replies_short : AllByRecursion IsBody replies
 
 -- the session served all requests of its input, and the input has ended
-pub record Ended {T : Type 0} (asks : T → Exchange → T → Type 0) (count : ℕ) (before after : T) (old new : Session)
+pub record HasEnded {T : Type 0} (asks : T → Exchange → T → Type 0) (count : ℕ) (before after : T) (old new : Session)
     (unread left had has : Option (List ℕ)) (end : SessionEnd) : Type 0 where
   pub bodies : List (List ℕ)
   pub rest : List ℕ
   pub replies : List (List ℕ)
   pub read : Consumes unread left (flat_map framed bodies ++ rest)
-  pub stands : Stands end rest
+  pub stands : EndsInput end rest
   pub at_end : IsAtEnd left
   pub served : Served asks count before after old bodies replies new
   pub written : Appends had has (flat_map framed replies)
 
 -- what was read after the requests that were served, depending on the fault
 abbrev pub StopsBehind : SessionFault → List (List ℕ) → List ℕ → Type 0
-StopsBehind (fault.Read error) bodies rest = IsPartial rest
+StopsBehind (fault.Read error) bodies rest = IsPartialRequest rest
 StopsBehind (fault.Write error) bodies rest = (rest ≡ []) × (1 ≤ length bodies)
 StopsBehind fault.NoMemory bodies rest = (rest ≡ []) × (bodies ≡ [])
 StopsBehind fault.TooMany bodies rest = (rest ≡ []) × (length bodies ≡ 2 ^ 64 - 1)
@@ -56,7 +56,7 @@ WritesUpTo fault.NoMemory had has bytes = Appends had has bytes
 WritesUpTo fault.TooMany had has bytes = Appends had has bytes
 
 -- the session served the first requests of its input, and then a fault stopped it
-pub record Stopped {T : Type 0} (asks : T → Exchange → T → Type 0) (count : ℕ) (before after : T) (old new : Session)
+pub record HasStopped {T : Type 0} (asks : T → Exchange → T → Type 0) (count : ℕ) (before after : T) (old new : Session)
     (unread left had has : Option (List ℕ)) (fault : SessionFault) : Type 0 where
   pub bodies : List (List ℕ)
   pub rest : List ℕ

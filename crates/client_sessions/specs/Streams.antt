@@ -9,34 +9,34 @@ use Rattle.client_sessions.specs.declared.receiving.Received.{Received}
 use Rattle.client_sessions.specs.declared.receiving.Received.TheVariants.{Body, End}
 
 -- the length that a request announces for its body
-abbrev pub announced : List ℕ → ℕ
-announced bytes = from_be_bytes w16 (take 2 bytes)
+abbrev pub request_length : List ℕ → ℕ
+request_length bytes = from_be_bytes w16 (take 2 bytes)
 
 -- less than a whole request: not even its length, or not its whole body
-abbrev pub IsPartial : List ℕ → Type 0
-IsPartial bytes = (length bytes < 2) ⊎ (length bytes < 2 + announced bytes)
+abbrev pub IsPartialRequest : List ℕ → Type 0
+IsPartialRequest bytes = (length bytes < 2) ⊎ (length bytes < 2 + request_length bytes)
 
 -- a body whose length fits into two bytes
 abbrev pub IsBody : List ℕ → Type 0
 IsBody body = length body < 2 ^ 16
 
 -- how the input ended: with nothing after the last whole request, or with part of a request
-abbrev pub Stands : SessionEnd → List ℕ → Type 0
-Stands Clean rest = rest ≡ []
-Stands Cut rest = (1 ≤ length rest) × IsPartial rest
+abbrev pub EndsInput : SessionEnd → List ℕ → Type 0
+EndsInput Clean rest = rest ≡ []
+EndsInput Cut rest = (1 ≤ length rest) × IsPartialRequest rest
 
 -- the input has ended, after these last bytes
 pub record EndsBehind (unread left : Option (List ℕ)) (end : SessionEnd) : Type 0 where
   pub rest : List ℕ
   pub read : Consumes unread left rest
-  pub stands : Stands end rest
+  pub stands : EndsInput end rest
   pub at_end : IsAtEnd left
 
 -- less than a whole request was read
 pub record ReadsPart (unread left : Option (List ℕ)) : Type 0 where
   pub rest : List ℕ
   pub read : Consumes unread left rest
-  pub part : IsPartial rest
+  pub part : IsPartialRequest rest
 
 -- what was received into the buffer: a whole request with a body of `count` bytes, or the end of the input
 abbrev pub Receives : Option (List ℕ) → Option (List ℕ) → List ℕ → Received → Type 0

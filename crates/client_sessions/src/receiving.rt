@@ -2,7 +2,7 @@
 ghost use Rattle.std.specs.Prelude.{◌≡◌, ◌<◌, ◌≤◌, ◌+◌, ◌^◌, length, MatchResult};
 ghost use Rattle.std.specs.Int.{w16, to_be_bytes, from_be_bytes};
 ghost use Rattle.client_sessions.specs.Faults.{failures_in};
-ghost use Rattle.client_sessions.specs.Streams.{Receives, ReadsPart, Stands};
+ghost use Rattle.client_sessions.specs.Streams.{Receives, ReadsPart, EndsInput};
 
 use crate::session_end::SessionEnd;
 use crate::streams::SessionReader;
@@ -20,7 +20,7 @@ pub(crate) enum Received {
 /// How the input ended, after fewer bytes than a length has.
 fn end_behind(bytes: &[u8]) -> SessionEnd
     requires { length bytes.now ≤ 1 }
-    ensures { Stands result bytes.now }
+    ensures { EndsInput result bytes.now }
 {
     if bytes.is_empty() {
         SessionEnd::Clean

@@ -69,8 +69,8 @@ impl ReplyBuffer {
     ghost use Rattle.client_sessions.specs.Faults.{failures_in};
     ghost use Rattle.client_sessions.specs.Streams.{IsBody};
     ghost use Rattle.byte_streams.specs.Writing.{Writes};
-    ghost use Rattle.client_sessions.specs.Asking.{fault_of, max_value_len};
-    ghost use Rattle.client_sessions.specs.Answers.{answer_bytes, IsShort};
+    ghost use Rattle.client_sessions.specs.Asking.{exchange_fault, max_value_len};
+    ghost use Rattle.client_sessions.specs.Answers.{reply_body, FitsReply};
 
     /// An empty reply. The only error is allocation failure.
     pub(crate) fn new(alloc: Global) -> Result<Self, AllocError>
@@ -171,7 +171,7 @@ impl ReplyBuffer {
 
     fn put_fault(&mut self, fault: TargetFault)
         requires { length self.old ≤ 1 }
-        ensures { self.new ≡ self.old ++ faulty (fault_of fault) }
+        ensures { self.new ≡ self.old ++ faulty (exchange_fault fault) }
     {
         match fault {
             TargetFault::HistoryFull => self.put_u8(Status::HistoryFull as u8),
@@ -197,8 +197,8 @@ impl ReplyBuffer {
 
     /// Replaces the body by the encoding of this answer.
     pub(crate) fn put_answer(&mut self, answer: &Answer)
-        requires { IsShort answer.now }
-        ensures { self.new ≡ answer_bytes answer.now }
+        requires { FitsReply answer.now }
+        ensures { self.new ≡ reply_body answer.now }
     {
         self.clear();
         match answer {

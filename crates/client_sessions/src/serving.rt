@@ -1,7 +1,7 @@
 //! Serves a session from its first request to its end.
 ghost use Rattle.std.specs.Prelude.{◌≡◌, ◌<◌, ◌≤◌, ◌+◌, ◌^◌, length, vec_len, IfOk, IfErr, MatchResult};
 ghost use Rattle.client_sessions.specs.Faults.{failures_in, read_failures_in, write_failures_in};
-ghost use Rattle.client_sessions.specs.Serving.{Ended, Replies, Stopped};
+ghost use Rattle.client_sessions.specs.Serving.{HasEnded, RepliesToRequest, HasStopped};
 ghost use Rattle.byte_streams.specs.Writing.{Writes};
 
 use crate::receiving::{Received, receive};
@@ -32,7 +32,7 @@ fn reply_to<W: SessionWriter, T: Targets>(
     reply: &mut ReplyBuffer,
 ) -> io::Result<()>
     requires { session.old.replica < T.replicas targets.old }
-    ensures replies { Replies T.asks (T.replicas targets.old) targets.old targets.new session.old body.now session.new
+    ensures replies { RepliesToRequest T.asks (T.replicas targets.old) targets.old targets.new session.old body.now session.new
         (Writes result (W.contents output.old) (W.contents output.new)) }
     ensures counted { W.failures output.new ≡ W.failures output.old + failures_in result }
     ensures never_falls { session.old.greatest ≤ session.new.greatest }
@@ -56,9 +56,9 @@ fn serve_all<R: SessionReader, W: SessionWriter, T: Targets>(
     requires known { session.old.replica < T.replicas targets.old }
     requires room { 65535 ≤ length buffer.old }
     ensures served { MatchResult result
-        (λ end. Ended T.asks (T.replicas targets.old) targets.old targets.new session.old session.new
+        (λ end. HasEnded T.asks (T.replicas targets.old) targets.old targets.new session.old session.new
         (R.remaining input.old) (R.remaining input.new) (W.contents output.old) (W.contents output.new) end)
-        (λ fault. Stopped T.asks (T.replicas targets.old) targets.old targets.new session.old session.new
+        (λ fault. HasStopped T.asks (T.replicas targets.old) targets.old targets.new session.old session.new
         (R.remaining input.old) (R.remaining input.new) (W.contents output.old) (W.contents output.new) fault) }
     ensures never_falls { session.old.greatest ≤ session.new.greatest }
     ensures known { session.new.replica < T.replicas targets.new }
@@ -92,10 +92,10 @@ pub fn serve<R: SessionReader, W: SessionWriter, T: Targets>(
 ) -> Result<SessionEnd, SessionFault>
     requires { session.old.replica < T.replicas targets.old }
     // All requests were served, and the input has ended: it was these whole requests, followed by part of one if it ended as `Cut`.
-    ensures ends { IfOk result (λ end. Ended T.asks (T.replicas targets.old) targets.old targets.new session.old session.new
+    ensures ends { IfOk result (λ end. HasEnded T.asks (T.replicas targets.old) targets.old targets.new session.old session.new
         (R.remaining input.old) (R.remaining input.new) (W.contents output.old) (W.contents output.new) end) }
     // The first requests were served, up to the fault; if memory ran out, none were.
-    ensures stops { IfErr result (λ fault. Stopped T.asks (T.replicas targets.old) targets.old targets.new session.old session.new
+    ensures stops { IfErr result (λ fault. HasStopped T.asks (T.replicas targets.old) targets.old targets.new session.old session.new
         (R.remaining input.old) (R.remaining input.new) (W.contents output.old) (W.contents output.new) fault) }
     // The heights that this client got never fall.
     ensures never_falls { session.old.greatest ≤ session.new.greatest }

@@ -24,8 +24,8 @@ impl Session {
     ghost use Rattle.std.specs.Prelude.{◌≡◌, ◌<◌, ◌≤◌, ◌||◌, nat_lt};
     ghost use Rattle.ledger_model.specs.Sessions.{Submit, Query, Height as AskHeight, Block, Switch};
     ghost use Rattle.client_sessions.specs.Requests.{asked_for};
-    ghost use Rattle.client_sessions.specs.Answers.{answer_bytes, IsShort};
-    ghost use Rattle.client_sessions.specs.Answering.{Answers};
+    ghost use Rattle.client_sessions.specs.Answers.{reply_body, FitsReply};
+    ghost use Rattle.client_sessions.specs.Answering.{AnswersOneRequest};
 
     /// A session that talks to replica 0, whose client has seen no height.
     pub fn new() -> Self
@@ -54,8 +54,8 @@ impl Session {
     /// Submits a transaction to the replica. Its answer is a receipt if the pool takes the transaction.
     fn submit<T: Targets>(&self, targets: &mut T, tx: &[u8]) -> Answer
         requires { self.now.replica < T.replicas targets.old }
-        ensures answers { Answers T.asks (T.replicas targets.old) targets.old targets.new self.now (Submit tx.now) (answer_bytes result) self.now }
-        ensures short { IsShort result }
+        ensures answers { AnswersOneRequest T.asks (T.replicas targets.old) targets.old targets.new self.now (Submit tx.now) (reply_body result) self.now }
+        ensures short { FitsReply result }
         ensures count { T.replicas targets.new ≡ T.replicas targets.old }
     {
         match targets.submit(self.replica, tx) {
@@ -68,8 +68,8 @@ impl Session {
     /// Queries the replica for a key, and raises the greatest height to that of the answer.
     fn query<T: Targets>(&mut self, targets: &mut T, min_height: u32, key: &[u8]) -> Answer
         requires { self.old.replica < T.replicas targets.old }
-        ensures answers { Answers T.asks (T.replicas targets.old) targets.old targets.new self.old (Query min_height key.now) (answer_bytes result) self.new }
-        ensures short { IsShort result }
+        ensures answers { AnswersOneRequest T.asks (T.replicas targets.old) targets.old targets.new self.old (Query min_height key.now) (reply_body result) self.new }
+        ensures short { FitsReply result }
         ensures never_falls { self.old.greatest ≤ self.new.greatest }
         ensures replica { self.new.replica ≡ self.old.replica }
         ensures count { T.replicas targets.new ≡ T.replicas targets.old }
@@ -88,8 +88,8 @@ impl Session {
     /// Gets the committed height of the replica, and raises the greatest height to it.
     fn height<T: Targets>(&mut self, targets: &mut T) -> Answer
         requires { self.old.replica < T.replicas targets.old }
-        ensures answers { Answers T.asks (T.replicas targets.old) targets.old targets.new self.old AskHeight (answer_bytes result) self.new }
-        ensures short { IsShort result }
+        ensures answers { AnswersOneRequest T.asks (T.replicas targets.old) targets.old targets.new self.old AskHeight (reply_body result) self.new }
+        ensures short { FitsReply result }
         ensures never_falls { self.old.greatest ≤ self.new.greatest }
         ensures replica { self.new.replica ≡ self.old.replica }
         ensures count { T.replicas targets.new ≡ T.replicas targets.old }
@@ -105,8 +105,8 @@ impl Session {
     /// Gets the batch of a block from the replica.
     fn block<T: Targets>(&self, targets: &mut T, height: Height) -> Answer
         requires { self.now.replica < T.replicas targets.old }
-        ensures answers { Answers T.asks (T.replicas targets.old) targets.old targets.new self.now (Block height) (answer_bytes result) self.now }
-        ensures short { IsShort result }
+        ensures answers { AnswersOneRequest T.asks (T.replicas targets.old) targets.old targets.new self.now (Block height) (reply_body result) self.now }
+        ensures short { FitsReply result }
         ensures count { T.replicas targets.new ≡ T.replicas targets.old }
     {
         match targets.block(self.replica, height) {
@@ -119,8 +119,8 @@ impl Session {
     /// Talks to another replica from now on, if it exists.
     fn switch<T: Targets>(&mut self, targets: &T, replica: ReplicaId) -> Answer
         requires { self.old.replica < T.replicas targets.now }
-        ensures answers { Answers T.asks (T.replicas targets.now) targets.now targets.now self.old (Switch replica) (answer_bytes result) self.new }
-        ensures short { IsShort result }
+        ensures answers { AnswersOneRequest T.asks (T.replicas targets.now) targets.now targets.now self.old (Switch replica) (reply_body result) self.new }
+        ensures short { FitsReply result }
         ensures greatest { self.new.greatest ≡ self.old.greatest }
         ensures known { self.new.replica < T.replicas targets.now }
     {
@@ -141,8 +141,8 @@ impl Session {
     /// The answer to a request, by what the session's replica answers.
     pub(crate) fn answer<T: Targets>(&mut self, targets: &mut T, request: Request<'_>) -> Answer
         requires { self.old.replica < T.replicas targets.old }
-        ensures answers { Answers T.asks (T.replicas targets.old) targets.old targets.new self.old (asked_for request.entry) (answer_bytes result) self.new }
-        ensures short { IsShort result }
+        ensures answers { AnswersOneRequest T.asks (T.replicas targets.old) targets.old targets.new self.old (asked_for request.entry) (reply_body result) self.new }
+        ensures short { FitsReply result }
         ensures never_falls { self.old.greatest ≤ self.new.greatest }
         ensures known { self.new.replica < T.replicas targets.new }
         ensures count { T.replicas targets.new ≡ T.replicas targets.old }

@@ -8,7 +8,7 @@ use Rattle.ledger_model.specs.Limits.{max_history_len}
 use Rattle.ledger_model.specs.declared.history.Entry.{Entry}
 use Rattle.ledger_model.specs.declared.reply.Ignored.{Ignored}
 use Rattle.http_messages.specs.FrameCounts.{counted}
-use Rattle.cluster_service.specs.FrameCounting.{deliveries_with, frame_answer, passes}
+use Rattle.cluster_service.specs.FrameCounting.{deliveries_with, frame_answer, passes_test}
 
 module _ (test : Result (Unit {0}) Ignored → Bool) (es : List Entry) (i : ℕ) where
   -- all entries were looked at
@@ -19,25 +19,25 @@ module _ (test : Result (Unit {0}) Ignored → Bool) (es : List Entry) (i : ℕ)
     within : i < length es
     within = slice_get_within es i e is
 
-    passes_here : (b : Bool) → passes test (frame_answer e.reply) ≡ b → passes test (frame_answer (get_or es i e).reply) ≡ b
-    passes_here b p = ap (λ (x : Entry). passes test (frame_answer x.reply)) (get_or_from_slice_get es i e e is) ∙ p
+    passes_here : (b : Bool) → passes_test test (frame_answer e.reply) ≡ b → passes_test test (frame_answer (get_or es i e).reply) ≡ b
+    passes_here b p = ap (λ (x : Entry). passes_test test (frame_answer x.reply)) (get_or_from_slice_get es i e e is) ∙ p
 
-    grown : (b : Bool) → passes test (frame_answer e.reply) ≡ b → length es ≤ max_history_len
+    grown : (b : Bool) → passes_test test (frame_answer e.reply) ≡ b → length es ≤ max_history_len
         → counted b (deliveries_with test (take i es)) ≡ deliveries_with test (take (i + 1) es)
     grown true p few =
-        let more = count_by_more_yes (λ (x : Entry). passes test (frame_answer x.reply)) es i e within (passes_here true p) in
-        let low = count_by-le-length (λ (x : Entry). passes test (frame_answer x.reply)) (take i es) in
+        let more = count_by_more_yes (λ (x : Entry). passes_test test (frame_answer x.reply)) es i e within (passes_here true p) in
+        let low = count_by-le-length (λ (x : Entry). passes_test test (frame_answer x.reply)) (take i es) in
         omega (arith, more, low, length-take-le i es (omega (arith, within)), within, few)
     grown false p few =
-        sym (count_by_more_no (λ (x : Entry). passes test (frame_answer x.reply)) es i e within (passes_here false p))
+        sym (count_by_more_no (λ (x : Entry). passes_test test (frame_answer x.reply)) es i e within (passes_here false p))
 
     -- the entry is a delivery with this answer
     pub one_counted : (answer : Result (Unit {0}) Ignored) (n m : ℕ) → frame_answer e.reply ≡ Some answer → length es ≤ max_history_len
         → n ≡ deliveries_with test (take i es) → m ≡ counted (test answer) n → m ≡ deliveries_with test (take (i + 1) es)
     one_counted answer n m found few so_far after =
-        after ∙ ap (counted (test answer)) so_far ∙ grown (test answer) (ap (passes test) found) few
+        after ∙ ap (counted (test answer)) so_far ∙ grown (test answer) (ap (passes_test test) found) few
 
     -- the entry is no delivery
     pub none_counted : frame_answer e.reply ≡ None → deliveries_with test (take i es) ≡ deliveries_with test (take (i + 1) es)
     none_counted none =
-        sym (count_by_more_no (λ (x : Entry). passes test (frame_answer x.reply)) es i e within (passes_here false (ap (passes test) none)))
+        sym (count_by_more_no (λ (x : Entry). passes_test test (frame_answer x.reply)) es i e within (passes_here false (ap (passes_test test) none)))

@@ -26,7 +26,7 @@ use Rattle.byte_streams.specs.declared.program_fault.ProgramFault.TheVariants as
 use Rattle.cluster_service.specs.HistoriesFiles.{Saves}
 use Rattle.cluster_service.specs.Lines.{commit_line, commit_lines}
 use Rattle.cluster_service.specs.RunFaults.{IsLineFault, IsRunFault, IsSaveFault, IsWriteFault}
-use Rattle.cluster_service.specs.Reporting.{AreTaken, IsTaken, Reports, ReportsCommits, ReportsEnd, ReportsSome, Serves, ServesSome}
+use Rattle.cluster_service.specs.Reporting.{AreTaken, IsTaken, Reports, ReportsCommits, ReportsEnd, ReportsSome, ReportsPorts, ServesSome}
 use Rattle.cluster_service.specs.Reporting.{WritesFinding, WritesSuch}
 use Rattle.cluster_service.proofs.Taken.{ledger_or_unsent}
 
@@ -199,7 +199,7 @@ module _ (s : ClusterSettings) (ports : List ℕ) where
   pub port_alone : (f : ProgramFault) (a b empty : Option (List ℕ)) → IsRunFault f → Appends a b (ports)
       → WrittenSome (ServesSome s ports) f a b empty empty
   port_alone f a b empty is whole =
-      let served : Serves ports (ReportsSome s f) (ports ++ []) [] =
+      let served : ReportsPorts ports (ReportsSome s f) (ports ++ []) [] =
       record { later = []; reports = inl (is, (refl, refl)); shows = refl } in (
         ports ++ [],
         ([], (inr (inr served), (longer_some a b (ports) [] (all_some a b (ports) whole), nothing_saved f empty))),
@@ -208,7 +208,7 @@ module _ (s : ClusterSettings) (ports : List ℕ) where
   -- that line was written, and then what a cluster writes
   pub port_first : (r : Result ℕ ProgramFault) (a b c empty full : Option (List ℕ)) → Appends a b (ports)
       → WritesSuch r (Reports s) (λ _. ReportsEnd s) b c empty full
-      → WritesSuch r (λ status. Serves ports (Reports s status)) (ServesSome s ports) a c empty full
+      → WritesSuch r (λ status. ReportsPorts ports (Reports s status)) (ServesSome s ports) a c empty full
   port_first r a b c empty full first later = each_way _ _ _ _ r
       (λ status w. (
         ports ++ w.0,

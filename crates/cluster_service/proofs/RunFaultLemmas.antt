@@ -4,7 +4,7 @@ use Rattle.std.specs.Prelude.{IsTrue, Option}
 use Rattle.byte_streams.specs.Faults.{IsMemoryOrRandom}
 use Rattle.byte_streams.specs.declared.program_fault.ProgramFault.{ProgramFault}
 use Rattle.byte_streams.specs.declared.program_fault.ProgramFault.TheVariants as fault
-use Rattle.cluster_service.specs.HistoriesFiles.{HistoriesFileView, path_of}
+use Rattle.cluster_service.specs.HistoriesFiles.{HistoriesFileView, file_path}
 use Rattle.cluster_service.specs.RunFaults.{IsLineFault, IsReportFault, IsSaveFault, IsWriteFault, is_asked_at_end}
 
 pub written_line : (e : ProgramFault) → IsWriteFault e → IsLineFault e
@@ -35,7 +35,7 @@ module _ (file : Option HistoriesFileView) where
   line_fault (fault.NoFile path error) is = absurd is
   line_fault (fault.Stranger replica) is = absurd is
 
-  pub file_fault : (e : ProgramFault) → IsSaveFault (path_of file) e → IsReportFault file e
+  pub file_fault : (e : ProgramFault) → IsSaveFault (file_path file) e → IsReportFault file e
   file_fault fault.NoMemory is = absurd is
   file_fault (fault.Refused refused error) is = absurd is
   file_fault fault.HistoryFull is = absurd is

@@ -13,13 +13,13 @@ frame_answer (reply.Delivered answer) = Some answer
 frame_answer _ = None
 
 -- whether there is an answer, and it passes the test
-abbrev pub passes : (Result (Unit {0}) Ignored → Bool) → Option (Result (Unit {0}) Ignored) → Bool
-passes test (Some answer) = test answer
-passes test None = false
+abbrev pub passes_test : (Result (Unit {0}) Ignored → Bool) → Option (Result (Unit {0}) Ignored) → Bool
+passes_test test (Some answer) = test answer
+passes_test test None = false
 
 -- the number of entries that are deliveries whose answer passes the test
 abbrev pub deliveries_with : (Result (Unit {0}) Ignored → Bool) → List Entry → ℕ
-deliveries_with test entries = count_by (λ e. passes test (frame_answer e.reply)) entries
+deliveries_with test entries = count_by (λ e. passes_test test (frame_answer e.reply)) entries
 
 -- the number of frames that were accepted
 abbrev pub accepted_in : List Entry → ℕ

@@ -11,14 +11,14 @@ pub record HistoriesFileView : Type 0 where
   pub bytes : Option (List ℕ)
 
 -- the bytes in the file, if there is one and they are known
-abbrev pub bytes_in : Option HistoriesFileView → Option (List ℕ)
-bytes_in None = None
-bytes_in (Some file) = file.bytes
+abbrev pub file_bytes : Option HistoriesFileView → Option (List ℕ)
+file_bytes None = None
+file_bytes (Some file) = file.bytes
 
 -- the path of the file, if there is one
-abbrev pub path_of : Option HistoriesFileView → Option (List ℕ)
-path_of None = None
-path_of (Some file) = Some file.path
+abbrev pub file_path : Option HistoriesFileView → Option (List ℕ)
+file_path None = None
+file_path (Some file) = Some file.path
 
 -- The bytes were written into the file, if there is one: all of them, whatever the fault, unless it is the file's own. Then a prefix was.
 abbrev pub Saves : ProgramFault → Option (List ℕ) → Option (List ℕ) → List ℕ → Type 0

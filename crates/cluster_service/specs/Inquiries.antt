@@ -8,7 +8,7 @@ use Rattle.http_sessions.specs.declared.targets.Delivery.TheVariants.{Committed,
 use Rattle.http_sessions.specs.declared.targets.PoolSize.{PoolSize}
 use Rattle.http_sessions.specs.declared.targets.Progress.{Progress}
 use Rattle.http_sessions.specs.Exchanges.{Inquiry, Shows, Progresses, Pools, Infos, Spreads, Waits}
-use Rattle.key_ring.specs.Signers.{key_of, leaves_of}
+use Rattle.key_ring.specs.Signers.{public_key_of, leaves_of}
 use Rattle.ledger_model.specs.Commits.{commits_of, pool_of}
 use Rattle.ledger_model.specs.Lawful.{Replay, clock_at}
 use Rattle.ledger_model.specs.declared.reply.Ignored.{Ignored}
@@ -20,10 +20,10 @@ use Rattle.cluster_service.specs.FrameCounting.{accepted_in, ignored_in}
 
 -- These numbers are of this state, whose history is lawful. The history doesn't say how many frames its inbox lost, nor how many
 -- signatures were lost at round ends that found no memory.
-pub record IsShown (m : ReplicaMetrics) (state : StateView) : Type 0 where
+pub record ShowsState (m : ReplicaMetrics) (state : StateView) : Type 0 where
   pub replay : Replay state.config state.ring state.id state.entries
   pub account : AccountsForLeaves state
-  pub own_key : slice_get state.ring state.id ≡ Some (key_of state.secret)
+  pub own_key : slice_get state.ring state.id ≡ Some (public_key_of state.secret)
   pub rounds : m.rounds ≡ clock_at state.entries
   pub height : m.height ≡ length (commits_of state.config state.id state.entries)
   pub signatures : state.used + m.signatures_left ≡ leaves_of state.secret
@@ -75,7 +75,7 @@ AnswersWait cluster r seen tx index None = SeesStranger cluster r seen
 
 -- what an inquiry says, by the state that was seen last in it; that a transaction was spread says nothing
 abbrev pub IsInquiry : RunningClusterView → Option StateView → Inquiry → Type 0
-IsInquiry cluster seen (Shows r (Some m)) = SeesOwn cluster r seen (IsShown m)
+IsInquiry cluster seen (Shows r (Some m)) = SeesOwn cluster r seen (ShowsState m)
 IsInquiry cluster seen (Shows r None) = SeesStranger cluster r seen
 IsInquiry cluster seen (Progresses r (Some progress)) = SeesOwn cluster r seen (IsProgress progress)
 IsInquiry cluster seen (Progresses r None) = SeesStranger cluster r seen

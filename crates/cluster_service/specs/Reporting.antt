@@ -89,7 +89,7 @@ abbrev pub ReportsSome : ClusterSettings → ProgramFault → List ℕ → List 
 ReportsSome s fault lines file = (IsRunFault fault × ReportsNothing lines file) ⊎ ReportsEnd s lines file
 
 -- the lines have first those of the ports, and then such lines
-pub record Serves (ports : List ℕ) (P : List ℕ → List ℕ → Type 0) (lines file : List ℕ) : Type 0 where
+pub record ReportsPorts (ports : List ℕ) (P : List ℕ → List ℕ → Type 0) (lines file : List ℕ) : Type 0 where
   pub later : List ℕ
   pub reports : P later file
   pub shows : lines ≡ ports ++ later
@@ -99,7 +99,7 @@ abbrev pub ServesSome : ClusterSettings → List ℕ → ProgramFault → List �
 ServesSome s ports fault lines file =
     (IsRunFault fault × ReportsNothing lines file)
     ⊎ ((IsWriteFault fault × ((lines ≡ ports) × (file ≡ [])))
-    ⊎ Serves ports (ReportsSome s fault) lines file)
+    ⊎ ReportsPorts ports (ReportsSome s fault) lines file)
 
 -- Such lines were written, and such bytes into the file. After a fault, prefixes of others were: of the file's bytes only if the fault is
 -- the file's own.

@@ -7,7 +7,7 @@ use Rattle.byte_streams.specs.declared.program_fault.ProgramFault.TheVariants as
 use Rattle.byte_streams.specs.declared.resource.Resource.{Resource}
 use Rattle.byte_streams.specs.declared.resource.Resource.TheVariants as resource
 use Rattle.byte_streams.specs.Writing.{AppendsSome}
-use Rattle.cluster_service.specs.HistoriesFiles.{HistoriesFileView, path_of}
+use Rattle.cluster_service.specs.HistoriesFiles.{HistoriesFileView, file_path}
 
 -- a cluster asks for this before it has ended: the input whose end stops it, the clock, and random bytes
 abbrev pub is_asked_in_run : Resource → Bool
@@ -52,7 +52,7 @@ IsSaveFault named _ = ⊥
 abbrev pub IsReportFault : Option HistoriesFileView → ProgramFault → Type 0
 IsReportFault file fault.NoMemory = ⊤
 IsReportFault file (fault.Refused refused error) = IsTrue (is_asked_at_end refused)
-IsReportFault file (fault.NoFile path error) = path_of file ≡ Some (string_bytes path)
+IsReportFault file (fault.NoFile path error) = file_path file ≡ Some (string_bytes path)
 IsReportFault file _ = ⊥
 
 -- the file of the histories with this path, if one is named, could not be made, or memory ran out

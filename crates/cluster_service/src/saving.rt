@@ -4,7 +4,7 @@ ghost use Rattle.std.specs.String.{string_bytes};
 ghost use Rattle.std.specs.List.{flat_map};
 ghost use Rattle.history_bytes.specs.Histories.{history_bytes};
 ghost use Rattle.byte_streams.specs.Writing.{Writes};
-ghost use Rattle.cluster_service.specs.HistoriesFiles.{bytes_in, path_of};
+ghost use Rattle.cluster_service.specs.HistoriesFiles.{file_bytes, file_path};
 ghost use Rattle.cluster_service.specs.RunFaults.{IsFileFault, IsSaveFault};
 
 use byte_streams::write_whole;
@@ -97,7 +97,7 @@ pub fn open_histories<R: Files>(
     rt: &R,
     settings: &ClusterSettings,
 ) -> Result<Option<HistoriesFile<R::File>>, ProgramFault>
-    ensures opened { IfOk result (λ file. path_of file ≡ option_map string_bytes settings.now.histories) }
+    ensures opened { IfOk result (λ file. file_path file ≡ option_map string_bytes settings.now.histories) }
     ensures fault { IfErr result (IsFileFault (option_map string_bytes settings.now.histories)) }
 {
     match &settings.histories {
@@ -112,8 +112,8 @@ pub(crate) fn save_histories<W: Write>(
     histories: &[History],
     file: &mut Option<HistoriesFile<W>>,
 ) -> Result<(), ProgramFault>
-    ensures written { Writes result (bytes_in file.old) (bytes_in file.new) (flat_map history_bytes histories.now) }
-    ensures fault { IfErr result (IsSaveFault (path_of file.old)) }
+    ensures written { Writes result (file_bytes file.old) (file_bytes file.new) (flat_map history_bytes histories.now) }
+    ensures fault { IfErr result (IsSaveFault (file_path file.old)) }
 {
     match file {
         Some(file) => file.save(alloc, histories),

@@ -7,7 +7,7 @@ ghost use Rattle.ledger_model.specs.declared.reply.Ignored.{Ignored};
 ghost use Rattle.http_messages.specs.FrameCounts.{ignored_for};
 ghost use Rattle.replica_core.specs.Facts.{info_reply};
 ghost use Rattle.cluster_service.specs.FrameCounting.{accepted_in, ignored_in};
-ghost use Rattle.cluster_service.specs.Inquiries.{IsInfo, IsPooled, IsProgress, IsShown};
+ghost use Rattle.cluster_service.specs.Inquiries.{IsInfo, IsPooled, IsProgress, ShowsState};
 
 use crate::frame_counting::frame_counts;
 use abci::Application;
@@ -34,7 +34,7 @@ pub(crate) fn metrics_of<A: Application>(
     ensures ignored { (cause : Ignored) → ignored_for result.frames cause ≡ ignored_in cause state.now.entries }
     ensures lost { result.frames_lost ≡ lost }
     // The result as HTTP sees it.
-    ensures shown { IsShown result state.now }
+    ensures shown { ShowsState result state.now }
 {
     // Used leaves are accounted for, and the key is its own: both are read for the proof.
     let _ = (state.is_mute(), state.id());

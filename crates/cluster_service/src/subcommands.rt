@@ -1,9 +1,9 @@
 //! `abft cluster` and `abft serve`: runs a cluster, and writes its lines.
 ghost use Rattle.std.specs.Prelude.{◌≡◌, length, option_map, IfErr, IfOk};
 ghost use Rattle.cluster_setup.specs.Keys.{ring_of};
-ghost use Rattle.cluster_service.specs.HistoriesFiles.{bytes_in};
+ghost use Rattle.cluster_service.specs.HistoriesFiles.{file_bytes};
 ghost use Rattle.cluster_service.specs.Lines.{port_lines};
-ghost use Rattle.cluster_service.specs.Reporting.{AreTaken, Reports, ReportsEnd, ReportsSome, Serves, ServesSome, WritesSuch};
+ghost use Rattle.cluster_service.specs.Reporting.{AreTaken, Reports, ReportsEnd, ReportsSome, ReportsPorts, ServesSome, WritesSuch};
 ghost use Rattle.cluster_service.specs.Ports.{IsAskedIfAny, IsAskedPort};
 ghost use Rattle.cluster_service.specs.RunFaults.{EndsCluster, EndsServer, IsReportFault, IsRunFault};
 ghost use Rattle.cluster_service.specs.Services.{AreServicesOf, IsRunOf};
@@ -68,7 +68,7 @@ fn report<S: RandomSource, W: Write, H: Write>(
     requires taken { AreTaken settings.now.cluster.config left.now.ring 0 left.now.histories.items left.now.heights.items }
     requires ring { left.now.ring ≡ ring_of settings.now.cluster }
     ensures reports { WritesSuch result (Reports settings.now) (λ _. ReportsEnd settings.now)
-        (W.contents writer.old) (W.contents writer.new) (bytes_in file.old) (bytes_in file.new) }
+        (W.contents writer.old) (W.contents writer.new) (file_bytes file.old) (file_bytes file.new) }
     ensures fault { IfErr result (IsReportFault file.old) }
 {
     let written = write_lines(source, alloc, &settings.cluster.config, left, writer);
@@ -97,7 +97,7 @@ where
     R: Clock + Copy + RandomSource + Send + Sync + Threads + Wait + 'static,
     I: Read + Drop + Send + 'static,
     ensures reports { WritesSuch result (λ outcome. Reports settings.now outcome.status) (ReportsSome settings.now)
-        (W.contents writer.old) (W.contents writer.new) (bytes_in file.old) (bytes_in file.new) }
+        (W.contents writer.old) (W.contents writer.new) (file_bytes file.old) (file_bytes file.new) }
     // What ran is what the settings say.
     ensures run { IfOk result (λ outcome. IsRunOf settings.now outcome.run) }
     // A cluster that isn't run to its end writes nothing. After that it ends by its audit, whatever that finds, unless memory,
@@ -144,9 +144,9 @@ where
     requires port { IsAskedPort settings.now.port listeners.sessions.port }
     requires http { IsAskedIfAny settings.now.http (option_map (λ h. h.port) listeners.http) }
     ensures serves { WritesSuch result
-        (λ outcome. Serves (port_lines listeners.sessions.port (option_map (λ h. h.port) listeners.http)) (Reports settings.now.cluster outcome.status))
+        (λ outcome. ReportsPorts (port_lines listeners.sessions.port (option_map (λ h. h.port) listeners.http)) (Reports settings.now.cluster outcome.status))
         (ServesSome settings.now.cluster (port_lines listeners.sessions.port (option_map (λ h. h.port) listeners.http)))
-        (W.contents writer.old) (W.contents writer.new) (bytes_in file.old) (bytes_in file.new) }
+        (W.contents writer.old) (W.contents writer.new) (file_bytes file.old) (file_bytes file.new) }
     // What ran is what the settings say, and clients were served as they say.
     ensures run { IfOk result (λ outcome. IsRunOf settings.now.cluster outcome.run) }
     ensures services { IfOk result (λ outcome. AreServicesOf settings.now outcome.services) }

@@ -3,14 +3,14 @@ use Rattle.std.proofs.Common.{◌≡◌, ℕ, suc, ◌+◌, ◌-◌, ◌<◌, Li
 use Rattle.std.specs.List.{range_with_len}
 use Rattle.key_ring.specs.Signers.{SignerView}
 use Rattle.cluster_setup.specs.declared.cluster_seed.ClusterSeed.{ClusterSeed}
-use Rattle.cluster_setup.specs.Keys.{secret_of, unused, signers_of}
+use Rattle.cluster_setup.specs.Keys.{secret_of, unused, fresh_signers}
 
 -- the key pairs of the replicas from a on
 abbrev pub signers_from : ClusterSeed → ℕ → List SignerView
 signers_from cluster a = map (λ r. unused (secret_of cluster r)) (range_with_len a (cluster.config.replicas - a))
 
 -- none is taken yet
-pub all_left : (cluster : ClusterSeed) → signers_of cluster ≡ signers_from cluster 0
+pub all_left : (cluster : ClusterSeed) → fresh_signers cluster ≡ signers_from cluster 0
 all_left cluster =
     let size : cluster.config.replicas ≡ cluster.config.replicas - 0 = omega arith in
     ap (λ n. map (λ r. unused (secret_of cluster r)) (range_with_len 0 n)) size

@@ -1,7 +1,7 @@
 //! The keys of all replicas of a cluster: a key pair for each, and the ring of their public keys.
 ghost use Rattle.std.specs.Prelude.{◌≡◌, map, IfOk, Ok};
-ghost use Rattle.key_ring.specs.Signers.{key_of};
-ghost use Rattle.cluster_setup.specs.Keys.{ring_of, signers_of};
+ghost use Rattle.key_ring.specs.Signers.{public_key_of};
+ghost use Rattle.cluster_setup.specs.Keys.{ring_of, fresh_signers};
 
 use crate::cluster_seed::ClusterSeed;
 use crate::derivation::key_pair;
@@ -21,7 +21,7 @@ pub struct ClusterKeys {
 
 /// The public keys of the signers, in the same order.
 fn ring_of_signers(alloc: Global, signers: &[Signer]) -> Result<KeyRing, AllocError>
-    ensures { IfOk result (λ ring. ring ≡ map (λ keys. key_of keys.secret) signers.now) }
+    ensures { IfOk result (λ ring. ring ≡ map (λ keys. public_key_of keys.secret) signers.now) }
 {
     let mut keys = Vec::with_capacity(alloc, signers.len())?;
     for signer in signers {
@@ -36,8 +36,8 @@ fn with_ring(
     cluster: &ClusterSeed,
     signers: Vec<Signer>,
 ) -> Result<ClusterKeys, AllocError>
-    requires { signers.items ≡ signers_of cluster.now }
-    ensures signers { IfOk result (λ keys. keys.signers.items ≡ signers_of cluster.now) }
+    requires { signers.items ≡ fresh_signers cluster.now }
+    ensures signers { IfOk result (λ keys. keys.signers.items ≡ fresh_signers cluster.now) }
     ensures ring { IfOk result (λ keys. keys.ring ≡ ring_of cluster.now) }
 {
     let ring = ring_of_signers(alloc, &signers)?;
@@ -46,7 +46,7 @@ fn with_ring(
 
 /// The key pairs of all replicas, computed one after the other.
 fn signers(alloc: Global, cluster: &ClusterSeed) -> Result<Vec<Signer>, AllocError>
-    ensures { IfOk result (λ signers. signers.items ≡ signers_of cluster.now) }
+    ensures { IfOk result (λ signers. signers.items ≡ fresh_signers cluster.now) }
 {
     let mut signers = Vec::with_capacity(alloc, usize::from(cluster.config.replicas))?;
     for replica in 0..cluster.config.replicas {
@@ -75,7 +75,7 @@ fn signers_in_parallel<R: Threads + Sync>(
     alloc: Global,
     cluster: &ClusterSeed,
 ) -> Result<Vec<Signer>, AllocError>
-    ensures { IfOk result (λ signers. signers.items ≡ signers_of cluster.now) }
+    ensures { IfOk result (λ signers. signers.items ≡ fresh_signers cluster.now) }
 {
     let made = thread::map_indices(
         rt,
@@ -90,7 +90,7 @@ fn signers_in_parallel<R: Threads + Sync>(
 ///
 /// The only error is allocation failure.
 pub fn all_keys(alloc: Global, cluster: &ClusterSeed) -> Result<ClusterKeys, AllocError>
-    ensures signers { IfOk result (λ keys. keys.signers.items ≡ signers_of cluster.now) }
+    ensures signers { IfOk result (λ keys. keys.signers.items ≡ fresh_signers cluster.now) }
     ensures ring { IfOk result (λ keys. keys.ring ≡ ring_of cluster.now) }
 {
     with_ring(alloc, cluster, signers(alloc, cluster)?)
@@ -105,7 +105,7 @@ pub fn all_keys_in_parallel<R: Threads + Sync>(
     alloc: Global,
     cluster: &ClusterSeed,
 ) -> Result<ClusterKeys, AllocError>
-    ensures signers { IfOk result (λ keys. keys.signers.items ≡ signers_of cluster.now) }
+    ensures signers { IfOk result (λ keys. keys.signers.items ≡ fresh_signers cluster.now) }
     ensures ring { IfOk result (λ keys. keys.ring ≡ ring_of cluster.now) }
 {
     with_ring(alloc, cluster, signers_in_parallel(rt, alloc, cluster)?)

@@ -1,6 +1,6 @@
 //! The keys that one replica has: its own key pair, and the public keys of all.
 ghost use Rattle.std.specs.Prelude.{◌≡◌, ◌<◌, ℕ, Some, IfOk, length, slice_get};
-ghost use Rattle.key_ring.specs.Signers.{key_of};
+ghost use Rattle.key_ring.specs.Signers.{public_key_of};
 ghost use Rattle.cluster_setup.specs.Keys.{ring_of, secret_of, unused};
 
 use crate::cluster_seed::ClusterSeed;
@@ -19,7 +19,7 @@ fn public_key(
     other: ReplicaId,
 ) -> Result<PublicKey, AllocError>
     requires own { signer.now.secret ≡ secret_of cluster.now own }
-    ensures { IfOk result (λ key. key ≡ key_of (secret_of cluster.now other)) }
+    ensures { IfOk result (λ key. key ≡ public_key_of (secret_of cluster.now other)) }
 {
     if other == own {
         return Ok(signer.public());
@@ -37,7 +37,7 @@ fn ring(
 ) -> Result<KeyRing, AllocError>
     requires own { signer.now.secret ≡ secret_of cluster.now own }
     ensures keys { IfOk result (λ ring. (r : ℕ) → r < cluster.now.config.replicas
-        → slice_get ring r ≡ Some (key_of (secret_of cluster.now r))) }
+        → slice_get ring r ≡ Some (public_key_of (secret_of cluster.now r))) }
     ensures len { IfOk result (λ ring. length ring ≡ cluster.now.config.replicas) }
     ensures whole { IfOk result (λ ring. ring ≡ ring_of cluster.now) }
 {
@@ -57,7 +57,7 @@ pub fn signer_and_ring(
 ) -> Result<(Signer, KeyRing), AllocError>
     ensures signer { IfOk result (λ keys. keys.0 ≡ unused (secret_of cluster.now own)) }
     ensures ring { IfOk result (λ keys. (r : ℕ) → r < cluster.now.config.replicas
-        → slice_get keys.1 r ≡ Some (key_of (secret_of cluster.now r))) }
+        → slice_get keys.1 r ≡ Some (public_key_of (secret_of cluster.now r))) }
     ensures len { IfOk result (λ keys. length keys.1 ≡ cluster.now.config.replicas) }
     ensures whole { IfOk result (λ keys. keys.1 ≡ ring_of cluster.now) }
 {

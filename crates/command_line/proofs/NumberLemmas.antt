@@ -19,7 +19,7 @@ use Rattle.lm_ots.specs.declared.params.TreeHeight.TheVariants.{H5, H10}
 use Rattle.cluster_setup.specs.declared.cluster_seed.ClusterSeed.{ClusterSeed}
 use Rattle.abci.specs.Meaning.{ChecksTo, state_after}
 use Rattle.ledger_model.proofs.Numbers.{one_kind}
-use Rattle.command_line.specs.Options.{IsNumber, IsWritten, SetsCluster}
+use Rattle.command_line.specs.Options.{IsNumberWithin, IsWritten, SetsCluster}
 use Rattle.plain_text.specs.Transactions.{StandsFor}
 use Rattle.plain_text.proofs.TransactionLemmas.{stands_once}
 
@@ -29,25 +29,25 @@ if_err (Ok x) h = tt
 if_err (Err e) h = h e
 
 -- an option without a text is no number
-pub no_text : (rows : List Row) (name : Text) (low high : ℕ) → first_of name rows ≡ None → (n : ℕ) → IsNumber rows name low high n → ⊥
+pub no_text : (rows : List Row) (name : Text) (low high : ℕ) → first_of name rows ≡ None → (n : ℕ) → IsNumberWithin rows name low high n → ⊥
 no_text rows name low high none n i = let bad : None ≡ Some i.text = sym none ∙ i.has in absurd cc
 
 -- the same option has one number
-pub one_number : (rows : List Row) (name : Text) (low high low2 high2 n m : ℕ) → IsNumber rows name low high n
-    → IsNumber rows name low2 high2 m → n ≡ m
+pub one_number : (rows : List Row) (name : Text) (low high low2 high2 n m : ℕ) → IsNumberWithin rows name low high n
+    → IsNumberWithin rows name low2 high2 m → n ≡ m
 one_number rows name low high low2 high2 n m i j =
     let same : i.text ≡ j.text = same_Some i.text j.text (sym i.has ∙ j.has) in
     sym i.number ∙ subst (λ t. digits_value 10 t ≡ m) (sym same) j.number
 
 -- a replica's number that is below one number of replicas is below the other, which is the same
-pub same_limit : (rows : List Row) (n m r : ℕ) → IsNumber rows (codes "n") 0 255 n → IsNumber rows (codes "n") 0 255 m
-    → IsNumber rows (codes "replica") 0 (n - 1) r → IsNumber rows (codes "replica") 0 (m - 1) r
+pub same_limit : (rows : List Row) (n m r : ℕ) → IsNumberWithin rows (codes "n") 0 255 n → IsNumberWithin rows (codes "n") 0 255 m
+    → IsNumberWithin rows (codes "replica") 0 (n - 1) r → IsNumberWithin rows (codes "replica") 0 (m - 1) r
 same_limit rows n m r i j below =
-    subst (λ k. IsNumber rows (codes "replica") 0 (k - 1) r) (one_number rows (codes "n") 0 255 0 255 n m i j) below
+    subst (λ k. IsNumberWithin rows (codes "replica") 0 (k - 1) r) (one_number rows (codes "n") 0 255 0 255 n m i j) below
 
 -- a number is one within other limits if it lies there
-pub narrowed : (rows : List Row) (name : Text) (low high low2 high2 n : ℕ) → IsNumber rows name low high n → low2 ≤ n → n ≤ high2
-    → IsNumber rows name low2 high2 n
+pub narrowed : (rows : List Row) (name : Text) (low high low2 high2 n : ℕ) → IsNumberWithin rows name low high n → low2 ≤ n → n ≤ high2
+    → IsNumberWithin rows name low2 high2 n
 narrowed rows name low high low2 high2 n i least most =
     record { text = i.text; has = i.has; decimal = i.decimal; number = i.number; least = least; most = most }
 
@@ -61,21 +61,21 @@ pub none_some : (n : ℕ) → None ≡ Some n → ⊥
 none_some n bad = absurd cc
 
 -- an option that has another number, or none, has not this one
-pub not_this : {E : Type 0} (rows : List Row) (name : Text) (low high n : ℕ) (r : Result ℕ E) → IfOk r (λ m. IsNumber rows name low high m)
-    → OnErr r ((m : ℕ) → IsNumber rows name low high m → ⊥) → (result_ok r ≡ Some n → ⊥) → IsNumber rows name low high n → ⊥
+pub not_this : {E : Type 0} (rows : List Row) (name : Text) (low high n : ℕ) (r : Result ℕ E) → IfOk r (λ m. IsNumberWithin rows name low high m)
+    → OnErr r ((m : ℕ) → IsNumberWithin rows name low high m → ⊥) → (result_ok r ≡ Some n → ⊥) → IsNumberWithin rows name low high n → ⊥
 not_this rows name low high n (Ok m) has none other i = other (ap (λ k. Some k) (one_number rows name low high low high m n has i))
 not_this rows name low high n (Err e) has none other i = none n i
 
 -- and no width, or no tree's height, where it is neither of the two
-pub no_width : {E : Type 0} (rows : List Row) (r : Result ℕ E) → IfOk r (λ m. IsNumber rows (codes "w") 4 8 m)
-    → OnErr r ((m : ℕ) → IsNumber rows (codes "w") 4 8 m → ⊥)
-    → (result_ok r ≡ Some 4 → ⊥) → (result_ok r ≡ Some 8 → ⊥) → (w : Width) → IsNumber rows (codes "w") 4 8 (bits_of w) → ⊥
+pub no_width : {E : Type 0} (rows : List Row) (r : Result ℕ E) → IfOk r (λ m. IsNumberWithin rows (codes "w") 4 8 m)
+    → OnErr r ((m : ℕ) → IsNumberWithin rows (codes "w") 4 8 m → ⊥)
+    → (result_ok r ≡ Some 4 → ⊥) → (result_ok r ≡ Some 8 → ⊥) → (w : Width) → IsNumberWithin rows (codes "w") 4 8 (bits_of w) → ⊥
 no_width rows r has none four eight W4 i = not_this rows (codes "w") 4 8 4 r has none four i
 no_width rows r has none four eight W8 i = not_this rows (codes "w") 4 8 8 r has none eight i
 
-pub no_tree_height : {E : Type 0} (rows : List Row) (r : Result ℕ E) → IfOk r (λ m. IsNumber rows (codes "tree") 5 10 m)
-    → OnErr r ((m : ℕ) → IsNumber rows (codes "tree") 5 10 m → ⊥)
-    → (result_ok r ≡ Some 5 → ⊥) → (result_ok r ≡ Some 10 → ⊥) → (h : TreeHeight) → IsNumber rows (codes "tree") 5 10 (levels_of h) → ⊥
+pub no_tree_height : {E : Type 0} (rows : List Row) (r : Result ℕ E) → IfOk r (λ m. IsNumberWithin rows (codes "tree") 5 10 m)
+    → OnErr r ((m : ℕ) → IsNumberWithin rows (codes "tree") 5 10 m → ⊥)
+    → (result_ok r ≡ Some 5 → ⊥) → (result_ok r ≡ Some 10 → ⊥) → (h : TreeHeight) → IsNumberWithin rows (codes "tree") 5 10 (levels_of h) → ⊥
 no_tree_height rows r has none five ten H5 i = not_this rows (codes "tree") 5 10 5 r has none five i
 no_tree_height rows r has none five ten H10 i = not_this rows (codes "tree") 5 10 10 r has none ten i
 

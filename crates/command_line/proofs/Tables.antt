@@ -1,7 +1,7 @@
 -- Which options a table has: those of a cluster, of a running cluster, and a replica's number.
 use Rattle.std.proofs.Common.{ℕ, ◌-◌, List, ◌++◌, ◌∷◌, codes, refl, inr}
 use Rattle.clap.specs.Words.{Row, Text}
-use Rattle.command_line.specs.Options.{HasCluster, HasOption, HasRunning, IsNumber, Limits, OptionTable, TakesNumber, cluster_names}
+use Rattle.command_line.specs.Options.{HasCluster, HasOption, HasRunning, IsNumberWithin, Limits, OptionTable, TakesNumber, cluster_names}
 use Rattle.command_line.specs.Options.{cluster_numbers, running_options}
 
 pub has_cluster : (numbers : List Limits) (transactions names : List Text)
@@ -37,6 +37,6 @@ has_running numbers transactions names = record {
 }
 
 -- an option `replica` takes the numbers below that of the replicas
-pub takes_replica : (table : OptionTable) (rows : List Row) (n : ℕ) → HasOption table (codes "replica") → IsNumber rows (codes "n") 0 255 n
+pub takes_replica : (table : OptionTable) (rows : List Row) (n : ℕ) → HasOption table (codes "replica") → IsNumberWithin rows (codes "n") 0 255 n
     → TakesNumber table rows (codes "replica") 0 (n - 1)
 takes_replica table rows n has is = (has, inr (record { named = refl; zero = refl; replicas = n; set = is; last = refl }))

@@ -12,7 +12,7 @@ use Rattle.cluster_setup.specs.declared.audit_settings.Receipt.{Receipt}
 use Rattle.ledger_model.specs.Numbers.{kind_number}
 use Rattle.command_line.specs.Grammar.{abft_app}
 use Rattle.command_line.specs.Receipts.{SpellsReceipt}
-use Rattle.command_line.specs.Options.{HasOption, IsNumber, IsSeed, IsWritten, OptionTable, TakesEither, TakesNumber, TakesTransaction}
+use Rattle.command_line.specs.Options.{HasOption, IsNumberWithin, IsSeed, IsWritten, OptionTable, TakesEither, TakesNumber, TakesTransaction}
 use Rattle.command_line.specs.Options.{options_of, word_of}
 use Rattle.command_line.specs.declared.usage_fault.Input.{Input}
 use Rattle.command_line.specs.declared.usage_fault.Input.TheVariants.{Frames, Scenario, AuditedHistories, DrawnHistories}
@@ -56,12 +56,12 @@ NamesInput words other = ⊥
 
 -- the word is the option's value, but no number within the limits
 abbrev pub IsNoNumber : List Row → Text → ℕ → ℕ → Text → Type 0
-IsNoNumber rows option least most word = (first_of option rows ≡ Some word) × ((n : ℕ) → IsNumber rows option least most n → ⊥)
+IsNoNumber rows option least most word = (first_of option rows ≡ Some word) × ((n : ℕ) → IsNumberWithin rows option least most n → ⊥)
 
 -- the word is the option's value, but neither of its two numbers
 abbrev pub IsNeither : List Row → Text → ℕ → ℕ → Text → Type 0
 IsNeither rows option one other word =
-    (first_of option rows ≡ Some word) × ((IsNumber rows option one other one → ⊥) × (IsNumber rows option one other other → ⊥))
+    (first_of option rows ≡ Some word) × ((IsNumberWithin rows option one other one → ⊥) × (IsNumberWithin rows option one other other → ⊥))
 
 -- the word is the value of `--seed`, but not 64 hexadecimal digits
 abbrev pub IsNoSeed : List Row → Text → Type 0
@@ -69,8 +69,8 @@ IsNoSeed rows word = (first_of (codes "seed") rows ≡ Some word) × ((seed : Li
 
 -- the options give these numbers of replicas and faults, and there are too few replicas
 pub record AreTooFew (rows : List Row) (replicas faults : ℕ) : Type 0 where
-  pub n : IsNumber rows (codes "n") 4 13 replicas
-  pub t : IsNumber rows (codes "t") 1 4 faults
+  pub n : IsNumberWithin rows (codes "n") 4 13 replicas
+  pub t : IsNumberWithin rows (codes "t") 1 4 faults
   pub few : replicas < 3 * faults + 1
 
 -- the option's value encodes no bytes, with this fault
@@ -93,7 +93,7 @@ pub record IsRejected (rows : List Row) (option : Text) (code : ℕ) (word : Tex
   pub tx : List ℕ
   pub written : IsWritten rows option tx
   pub kind : AppKind
-  pub chosen : IsNumber rows (codes "kind") 1 3 (kind_number kind)
+  pub chosen : IsNumberWithin rows (codes "kind") 1 3 (kind_number kind)
   pub answer : check_reply kind [] tx ≡ code
   pub refused : code ≢ 0
 

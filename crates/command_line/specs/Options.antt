@@ -129,23 +129,23 @@ options_of name =
     else record { numbers = []; transactions = []; names = [] }
 
 -- the text is one of these
-abbrev pub is_among : Text → List Text → Bool
-is_among text texts = list_any (λ t. bytes_eq t text) texts
+abbrev pub is_one_of : Text → List Text → Bool
+is_one_of text texts = list_any (λ t. bytes_eq t text) texts
 
 -- the option is one of the table, and has a value
 abbrev pub HasOption : OptionTable → Text → Type 0
-HasOption table option = IsTrue (is_among option table.names)
+HasOption table option = IsTrue (is_one_of option table.names)
 
 -- the option is one of the table, and takes a transaction
 abbrev pub TakesTransaction : OptionTable → Text → Type 0
-TakesTransaction table option = HasOption table option × IsTrue (is_among option table.transactions)
+TakesTransaction table option = HasOption table option × IsTrue (is_one_of option table.transactions)
 
 -- these are the option's limits
 abbrev pub is_limit : Text → ℕ → ℕ → Limits → Bool
 is_limit option least most l = bytes_eq l.option option && ((l.least == least) && (l.most == most))
 
 -- the option's value is a decimal number within the limits
-pub record IsNumber (rows : List Row) (name : Text) (low high n : ℕ) : Type 0 where
+pub record IsNumberWithin (rows : List Row) (name : Text) (low high n : ℕ) : Type 0 where
   pub text : Text
   pub has : first_of name rows ≡ Some text
   pub decimal : IsTrue (is_decimal text)
@@ -158,7 +158,7 @@ pub record IsReplicaLimit (rows : List Row) (option : Text) (least most : ℕ) :
   pub named : option ≡ codes "replica"
   pub zero : least ≡ 0
   pub replicas : ℕ
-  pub set : IsNumber rows (codes "n") 0 255 replicas
+  pub set : IsNumberWithin rows (codes "n") 0 255 replicas
   pub last : most ≡ replicas - 1
 
 -- the option is one of the table, and takes the numbers from `least` to `most`
@@ -227,7 +227,7 @@ SetsReceipt rows (Some receipt) = (text : Text) × ((first_of (codes "receipt") 
 -- the words contain a port, and it is this one, or they contain none
 abbrev pub SetsPort : List Row → Text → Option ℕ → Type 0
 SetsPort rows name None = first_of name rows ≡ None
-SetsPort rows name (Some port) = IsNumber rows name 0 65535 port
+SetsPort rows name (Some port) = IsNumberWithin rows name 0 65535 port
 
 -- The value of `--log` names a level, in capitals or not. This is that level, or `Off` if the words contain `--quiet`.
 pub record SetsLog (rows : List Row) (level : LevelFilter) : Type 0 where
@@ -240,15 +240,15 @@ pub record SetsLog (rows : List Row) (level : LevelFilter) : Type 0 where
 
 -- the options of a cluster
 pub record SetsCluster (rows : List Row) (cluster : ClusterSeed) : Type 0 where
-  pub n : IsNumber rows (codes "n") 0 255 cluster.config.replicas
-  pub t : IsNumber rows (codes "t") 0 255 cluster.config.faults
-  pub kind : IsNumber rows (codes "kind") 1 3 (kind_number cluster.config.kind)
+  pub n : IsNumberWithin rows (codes "n") 0 255 cluster.config.replicas
+  pub t : IsNumberWithin rows (codes "t") 0 255 cluster.config.faults
+  pub kind : IsNumberWithin rows (codes "kind") 1 3 (kind_number cluster.config.kind)
   pub enough : 3 * cluster.config.faults + 1 ≤ cluster.config.replicas
   pub bounded : cluster.config.replicas ≤ 13
   pub tolerant : 1 ≤ cluster.config.faults
-  pub w : IsNumber rows (codes "w") 4 8 (bits_of cluster.params.width)
-  pub tree : IsNumber rows (codes "tree") 5 10 (levels_of cluster.params.height)
-  pub frames : IsNumber rows (codes "frames") 1 2 (version_number cluster.config.frames)
+  pub w : IsNumberWithin rows (codes "w") 4 8 (bits_of cluster.params.width)
+  pub tree : IsNumberWithin rows (codes "tree") 5 10 (levels_of cluster.params.height)
+  pub frames : IsNumberWithin rows (codes "frames") 1 2 (version_number cluster.config.frames)
   pub seed : IsSeed rows cluster.seed
 
 -- the word that names the statement to sign
@@ -260,18 +260,18 @@ word_of Ack = codes "ack"
 pub record SetsSign (rows : List Row) (s : SignSettings) : Type 0 where
   pub cluster : SetsCluster rows s.cluster
   pub what : first_of (codes "what") rows ≡ Some (word_of s.what)
-  pub replica : IsNumber rows (codes "replica") 0 (s.cluster.config.replicas - 1) s.replica
-  pub height : IsNumber rows (codes "height") 1 4096 s.height
-  pub phase : IsNumber rows (codes "phase") 1 1000000000 s.phase
+  pub replica : IsNumberWithin rows (codes "replica") 0 (s.cluster.config.replicas - 1) s.replica
+  pub height : IsNumberWithin rows (codes "height") 1 4096 s.height
+  pub phase : IsNumberWithin rows (codes "phase") 1 1000000000 s.phase
   pub value : IsWritten rows (codes "value") s.value
 
 -- the options of `abft deliver` set these settings
 pub record SetsDeliver (rows : List Row) (s : DeliverSettings) : Type 0 where
   pub cluster : SetsCluster rows s.cluster
-  pub replica : IsNumber rows (codes "replica") 0 (s.cluster.config.replicas - 1) s.replica
+  pub replica : IsNumberWithin rows (codes "replica") 0 (s.cluster.config.replicas - 1) s.replica
   pub value : IsAccepted rows (codes "value") s.cluster.config.kind s.value
-  pub height : IsNumber rows (codes "height") 1 4 s.height
-  pub rounds : IsNumber rows (codes "rounds") 0 4000000000 s.rounds
+  pub height : IsNumberWithin rows (codes "height") 1 4 s.height
+  pub rounds : IsNumberWithin rows (codes "rounds") 0 4000000000 s.rounds
 
 -- the options of `abft simulate` set these settings; histories are to be written if the words contain that option
 pub record SetsSimulate (rows : List Row) (s : SimulateSettings) : Type 0 where
@@ -283,8 +283,8 @@ pub record SetsSimulate (rows : List Row) (s : SimulateSettings) : Type 0 where
 pub record SetsRunning (rows : List Row) (s : ClusterSettings) : Type 0 where
   pub cluster : SetsCluster rows s.cluster
   pub tx : IsAccepted rows (codes "tx") s.cluster.config.kind s.tx
-  pub rounds : IsNumber rows (codes "rounds") 0 4000000000 s.rounds
-  pub base : IsNumber rows (codes "base-ms") 1 60000 s.base_ms
+  pub rounds : IsNumberWithin rows (codes "rounds") 0 4000000000 s.rounds
+  pub base : IsNumberWithin rows (codes "base-ms") 1 60000 s.base_ms
   pub log : SetsLog rows s.log
   pub stops : IsTrue s.stops_at_eof ↔ IsNamed rows (codes "stop-at-eof")
   pub histories : option_map string_bytes s.histories ≡ first_of (codes "histories") rows
@@ -292,10 +292,10 @@ pub record SetsRunning (rows : List Row) (s : ClusterSettings) : Type 0 where
 -- the options of `abft serve` set these settings
 pub record SetsServe (rows : List Row) (s : ServeSettings) : Type 0 where
   pub cluster : SetsRunning rows s.cluster
-  pub port : IsNumber rows (codes "port") 0 65535 s.port
+  pub port : IsNumberWithin rows (codes "port") 0 65535 s.port
   pub http : SetsPort rows (codes "http") s.http
-  pub sessions : IsNumber rows (codes "sessions") 1 1000 s.sessions
-  pub entries : IsNumber rows (codes "client-entries") 0 65536 s.client_entries
+  pub sessions : IsNumberWithin rows (codes "sessions") 1 1000 s.sessions
+  pub entries : IsNumberWithin rows (codes "client-entries") 0 65536 s.client_entries
 
 -- the options of `abft audit` set these settings
 pub record SetsAudit (rows : List Row) (s : AuditSettings) : Type 0 where
@@ -305,9 +305,9 @@ pub record SetsAudit (rows : List Row) (s : AuditSettings) : Type 0 where
 -- the options of `abft draw` set these settings
 pub record SetsDraw (rows : List Row) (s : DrawSettings) : Type 0 where
   pub cluster : SetsCluster rows s.cluster
-  pub height : IsNumber rows (codes "height") 0 4096 s.height
-  pub first : IsNumber rows (codes "first") 0 4000000000 s.first
-  pub last : IsNumber rows (codes "last") 0 4000000000 s.last
+  pub height : IsNumberWithin rows (codes "height") 0 4096 s.height
+  pub first : IsNumberWithin rows (codes "first") 0 4000000000 s.first
+  pub last : IsNumberWithin rows (codes "last") 0 4000000000 s.last
 
 -- the subcommand that the words name sets these settings with its options
 abbrev pub Sets : Option (Text × List Row) → Settings → Type 0

@@ -3,7 +3,7 @@ ghost use Rattle.std.specs.Prelude.{◌≡◌, ◌↔◌, IsTrue, ℕ, List, [],
 ghost use Rattle.clap.specs.Words.{Row, found_of, rows_of, first_of};
 ghost use Rattle.lm_ots.specs.Parameters.{bits_of, levels_of};
 ghost use Rattle.command_line.specs.Faults.{IsRightOf};
-ghost use Rattle.command_line.specs.Options.{HasCluster, HasOption, IsAccepted, IsNamed, IsNumber, IsSeed, IsWritten, OptionTable, SetsCluster, SetsLog, SetsPort, TakesNumber, TakesTransaction, WantsMemory, word_of};
+ghost use Rattle.command_line.specs.Options.{HasCluster, HasOption, IsAccepted, IsNamed, IsNumberWithin, IsSeed, IsWritten, OptionTable, SetsCluster, SetsLog, SetsPort, TakesNumber, TakesTransaction, WantsMemory, word_of};
 ghost use Rattle.ledger_model.specs.Numbers.{kind_number, version_number};
 ghost use Rattle.plain_text.specs.Transactions.{StandsFor};
 ghost use Rattle.ledger_model.specs.Replies.{check_reply};
@@ -56,8 +56,8 @@ pub(crate) fn number<'a>(
     least: u32,
     most: u32,
 ) -> Result<u32, UsageFault<'a>>
-    ensures some { IfOk result (λ n. IsNumber (rows_of (found_of matches.now)) name.now least most n) }
-    ensures none { OnErr result ((n : ℕ) → IsNumber (rows_of (found_of matches.now)) name.now least most n → ⊥) }
+    ensures some { IfOk result (λ n. IsNumberWithin (rows_of (found_of matches.now)) name.now least most n) }
+    ensures none { OnErr result ((n : ℕ) → IsNumberWithin (rows_of (found_of matches.now)) name.now least most n → ⊥) }
     ensures right { (table : OptionTable) → TakesNumber table (rows_of (found_of matches.now)) name.now least most → IfErr result (IsRightOf table (rows_of (found_of matches.now))) }
 {
     let text = text(matches, name)?;
@@ -79,8 +79,8 @@ pub(crate) fn small_number<'a>(
     least: u8,
     most: u8,
 ) -> Result<u8, UsageFault<'a>>
-    ensures some { IfOk result (λ n. IsNumber (rows_of (found_of matches.now)) name.now least most n) }
-    ensures none { OnErr result ((n : ℕ) → IsNumber (rows_of (found_of matches.now)) name.now least most n → ⊥) }
+    ensures some { IfOk result (λ n. IsNumberWithin (rows_of (found_of matches.now)) name.now least most n) }
+    ensures none { OnErr result ((n : ℕ) → IsNumberWithin (rows_of (found_of matches.now)) name.now least most n → ⊥) }
     ensures right { (table : OptionTable) → TakesNumber table (rows_of (found_of matches.now)) name.now least most → IfErr result (IsRightOf table (rows_of (found_of matches.now))) }
 {
     let number = number(matches, name, u32::from(least), u32::from(most))?;
@@ -154,7 +154,7 @@ pub(crate) fn accepted_transaction<'a>(
 ) -> Result<Tx, UsageFault<'a>>
     ensures some { IfOk result (λ tx. IsAccepted (rows_of (found_of matches.now)) name.now kind tx) }
     ensures none { IfErr result (λ e. (tx : List ℕ) → IsAccepted (rows_of (found_of matches.now)) name.now kind tx → WantsMemory e) }
-    ensures right { (table : OptionTable) → TakesTransaction table name.now → IsNumber (rows_of (found_of matches.now)) (codes "kind") 1 3 (kind_number kind)
+    ensures right { (table : OptionTable) → TakesTransaction table name.now → IsNumberWithin (rows_of (found_of matches.now)) (codes "kind") 1 3 (kind_number kind)
         → IfErr result (IsRightOf table (rows_of (found_of matches.now))) }
 {
     let word = text(matches, name)?;
@@ -236,8 +236,8 @@ pub(crate) fn seed<'a>(matches: &ArgMatches<'a>) -> Result<[u8; 32], UsageFault<
 
 /// The option `--w`.
 fn width<'a>(matches: &ArgMatches<'a>) -> Result<Width, UsageFault<'a>>
-    ensures some { IfOk result (λ w. IsNumber (rows_of (found_of matches.now)) (codes "w") 4 8 (bits_of w)) }
-    ensures none { OnErr result ((w : Width) → IsNumber (rows_of (found_of matches.now)) (codes "w") 4 8 (bits_of w) → ⊥) }
+    ensures some { IfOk result (λ w. IsNumberWithin (rows_of (found_of matches.now)) (codes "w") 4 8 (bits_of w)) }
+    ensures none { OnErr result ((w : Width) → IsNumberWithin (rows_of (found_of matches.now)) (codes "w") 4 8 (bits_of w) → ⊥) }
     ensures right { (table : OptionTable) → HasOption table (codes "w") → IfErr result (IsRightOf table (rows_of (found_of matches.now))) }
 {
     let word = text(matches, "w")?;
@@ -255,8 +255,8 @@ fn width<'a>(matches: &ArgMatches<'a>) -> Result<Width, UsageFault<'a>>
 
 /// The option `--tree`.
 fn tree_height<'a>(matches: &ArgMatches<'a>) -> Result<TreeHeight, UsageFault<'a>>
-    ensures some { IfOk result (λ h. IsNumber (rows_of (found_of matches.now)) (codes "tree") 5 10 (levels_of h)) }
-    ensures none { OnErr result ((h : TreeHeight) → IsNumber (rows_of (found_of matches.now)) (codes "tree") 5 10 (levels_of h) → ⊥) }
+    ensures some { IfOk result (λ h. IsNumberWithin (rows_of (found_of matches.now)) (codes "tree") 5 10 (levels_of h)) }
+    ensures none { OnErr result ((h : TreeHeight) → IsNumberWithin (rows_of (found_of matches.now)) (codes "tree") 5 10 (levels_of h) → ⊥) }
     ensures right { (table : OptionTable) → HasOption table (codes "tree") → IfErr result (IsRightOf table (rows_of (found_of matches.now))) }
 {
     let word = text(matches, "tree")?;
@@ -274,8 +274,8 @@ fn tree_height<'a>(matches: &ArgMatches<'a>) -> Result<TreeHeight, UsageFault<'a
 
 /// The option `--kind`: the number of an application.
 fn kind<'a>(matches: &ArgMatches<'a>) -> Result<AppKind, UsageFault<'a>>
-    ensures some { IfOk result (λ k. IsNumber (rows_of (found_of matches.now)) (codes "kind") 1 3 (kind_number k)) }
-    ensures none { OnErr result ((k : AppKind) → IsNumber (rows_of (found_of matches.now)) (codes "kind") 1 3 (kind_number k) → ⊥) }
+    ensures some { IfOk result (λ k. IsNumberWithin (rows_of (found_of matches.now)) (codes "kind") 1 3 (kind_number k)) }
+    ensures none { OnErr result ((k : AppKind) → IsNumberWithin (rows_of (found_of matches.now)) (codes "kind") 1 3 (kind_number k) → ⊥) }
     ensures right { (table : OptionTable) → TakesNumber table (rows_of (found_of matches.now)) (codes "kind") 1 3 → IfErr result (IsRightOf table (rows_of (found_of matches.now))) }
 {
     match AppKind::from_number(number(matches, "kind", 1, 3)?) {
@@ -286,8 +286,8 @@ fn kind<'a>(matches: &ArgMatches<'a>) -> Result<AppKind, UsageFault<'a>>
 
 /// The option `--frames`: the number of a version.
 fn frames<'a>(matches: &ArgMatches<'a>) -> Result<Version, UsageFault<'a>>
-    ensures some { IfOk result (λ v. IsNumber (rows_of (found_of matches.now)) (codes "frames") 1 2 (version_number v)) }
-    ensures none { OnErr result ((v : Version) → IsNumber (rows_of (found_of matches.now)) (codes "frames") 1 2 (version_number v) → ⊥) }
+    ensures some { IfOk result (λ v. IsNumberWithin (rows_of (found_of matches.now)) (codes "frames") 1 2 (version_number v)) }
+    ensures none { OnErr result ((v : Version) → IsNumberWithin (rows_of (found_of matches.now)) (codes "frames") 1 2 (version_number v) → ⊥) }
     ensures right { (table : OptionTable) → TakesNumber table (rows_of (found_of matches.now)) (codes "frames") 1 2 → IfErr result (IsRightOf table (rows_of (found_of matches.now))) }
 {
     match number(matches, "frames", 1, 2)? {

@@ -4,7 +4,7 @@ ghost use Rattle.clap.specs.Words.{Text, found_of, rows_of};
 ghost use Rattle.plain_text.specs.Numbers.{number_text};
 ghost use Rattle.command_line.specs.Faults.{IsRightOf};
 ghost use Rattle.command_line.specs.Options.{HasOption, OptionTable, SetsReceipt, WantsMemory};
-ghost use Rattle.command_line.specs.Receipts.{SpellsReceipt, receipt_text};
+ghost use Rattle.command_line.specs.Receipts.{SpellsReceipt, receipt_spelling};
 ghost use Rattle.command_line.specs.declared.usage_fault.UsageFault.TheVariants as fault;
 ghost use Rattle.cluster_setup.specs.declared.audit_settings.Receipt.{Receipt};
 
@@ -46,8 +46,8 @@ struct Parts<'a> {
 
 /// The parts of the receipt that a text spells, if it is one with a word for any transaction.
 fn parts_of(text: &str) -> Option<Parts<'_>>
-    ensures some { IfSome result (λ p. text.now ≡ receipt_text p.replica p.index p.word.now) }
-    ensures found { (replica index : ℕ) (word : Text) → replica < 256 → index < 2 ^ 32 → text.now ≡ receipt_text replica index word
+    ensures some { IfSome result (λ p. text.now ≡ receipt_spelling p.replica p.index p.word.now) }
+    ensures found { (replica index : ℕ) (word : Text) → replica < 256 → index < 2 ^ 32 → text.now ≡ receipt_spelling replica index word
         → IsSomeAnd result (λ p. (p.replica ≡ replica) × ((p.index ≡ index) × (p.word.now ≡ word))) }
 {
     let first = head_of(text)?;

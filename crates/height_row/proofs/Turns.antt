@@ -11,7 +11,7 @@ use Rattle.tally.specs.Tallies.{all_read}
 use Rattle.tally.proofs.Readings.{all_read_more}
 use Rattle.instance.specs.declared.round_statement.RoundStatement.{RoundStatement}
 use Rattle.instance.specs.Instances.{InstanceView}
-use Rattle.instance.specs.Plans.{ended, closed, IsOwnMade}
+use Rattle.instance.specs.Plans.{opened_effects, closed, IsOwnMade}
 use Rattle.instance.specs.Reads.{IsSameHeight}
 use Rattle.instance.proofs.SameHeight.{same_closed}
 use Rattle.height_row.specs.declared.round_closing.RoundClosing.{RoundClosing}
@@ -27,7 +27,7 @@ mades xs = map (λ x. x.made) xs
 
 -- where each ends as its height prepares, and makes nothing of another's, they are the heights' closings
 pub are_closings : (config : Config) (c id : ℕ) (rows : List InstanceView) (xs : List RoundClosing)
-    → map (λ x. x.ending) xs ≡ map (λ row. ended row c) rows
+    → map (λ x. x.ending) xs ≡ map (λ row. opened_effects row c) rows
     → AllByRecursion (λ row. (row.config ≡ config) × (row.id ≡ id)) rows → AllByRecursion (λ x. IsOwnMade config id x.made) xs
     → AreClosings c rows xs
 are_closings config c id [] [] endings of own = tt
@@ -79,7 +79,7 @@ module _ (c : ℕ) where
       here : AreClosings c (row ∷ all_read (drop (place + 1) now)) (x ∷ rest)
       here = subst (λ rows. AreClosings c rows (x ∷ rest)) after (subst (AreClosings c (all_read (drop place now))) more so_far.closings)
 
-      pub due : (x.ending ≡ ended row c) × IsOwnMade row.config row.id x.made
+      pub due : (x.ending ≡ opened_effects row c) × IsOwnMade row.config row.id x.made
       due = (here.0, here.1)
 
       pub closes : (new : InstanceView) → new ≡ closed row c x.ending x.made

@@ -11,7 +11,7 @@ use Rattle.ledger_model.specs.Values.{Value}
 use Rattle.ledger_model.specs.Commits.{first_fault}
 use Rattle.instance.specs.declared.round_statement.RoundStatement.{RoundStatement}
 use Rattle.instance.specs.declared.round_plan.RoundPlan.{RoundPlan}
-use Rattle.instance.specs.Plans.{chosen_statement, ended, closed}
+use Rattle.instance.specs.Plans.{chosen_statement, opened_effects, closed}
 use Rattle.instance.specs.Instances.{InstanceView}
 
 -- a replica of a cluster, its floor, and the instance of each height from there on that it has opened
@@ -64,17 +64,17 @@ AreOwn heights =
     → (row.config ≡ heights.config) × (row.id ≡ heights.id) × (row.height ≡ h) × (h ≤ max_height) × (heights.floor ≤ h)
 
 -- the plan for a height as round c opens
-abbrev pub plan_of : ℕ → InstanceView → RoundPlan
-plan_of c row = record { statement = chosen_statement row c; ending = ended row c }
+abbrev pub height_plan : ℕ → InstanceView → RoundPlan
+height_plan c row = record { statement = chosen_statement row c; ending = opened_effects row c }
 
 -- the instances after round c opened, if the heights make this, in order
 abbrev pub closed_each : ℕ → List InstanceView → List RoundStatement → List InstanceView
-closed_each c (row ∷ rows) (m ∷ ms) = closed row c (ended row c) m ∷ closed_each c rows ms
+closed_each c (row ∷ rows) (m ∷ ms) = closed row c (opened_effects row c) m ∷ closed_each c rows ms
 closed_each c (row ∷ rows) [] = row ∷ rows
 closed_each c [] ms = []
 
 -- both rows are of the same replica, and have the same floor
-pub record IsSameReplica (old new : HeightRowView) : Type 0 where
+pub record IsSameRow (old new : HeightRowView) : Type 0 where
   pub config : new.config ≡ old.config
   pub id : new.id ≡ old.id
   pub floor : new.floor ≡ old.floor

@@ -4,9 +4,9 @@ ghost use Rattle.std.specs.List.{AllByRecursion};
 ghost use Rattle.ledger_model.specs.Limits.{last_round};
 ghost use Rattle.ledger_model.specs.declared.config.Config.{Config};
 ghost use Rattle.ledger_model.specs.Spelling.{IsStatement};
-ghost use Rattle.instance.specs.Plans.{ended};
+ghost use Rattle.instance.specs.Plans.{opened_effects};
 ghost use Rattle.height_row.specs.Closings.{AreClosings};
-ghost use Rattle.height_row.specs.Heights.{plan_of, closed_each};
+ghost use Rattle.height_row.specs.Heights.{height_plan, closed_each};
 ghost use Rattle.height_row.specs.Slots.{AreSlots};
 ghost use Rattle.tally.specs.Tallies.{all_read};
 
@@ -27,7 +27,7 @@ pub(crate) fn plan_each(
     clock: u32,
 ) -> Result<Vec<RoundPlan>, AllocError>
     requires clock { clock < last_round }
-    ensures plans { IfOk result (λ plans. plans.items ≡ map (plan_of (clock + 1)) (all_read slots.now)) }
+    ensures plans { IfOk result (λ plans. plans.items ≡ map (height_plan (clock + 1)) (all_read slots.now)) }
     ensures spelled { IfOk result (λ plans. AllByRecursion (λ plan. IfSome plan.statement IsStatement) plans.items) }
 {
     let mut plans = Vec::with_capacity(alloc, slots.len())?;
@@ -46,7 +46,7 @@ pub(crate) fn prepare_each(
     clock: u32,
 ) -> Result<Vec<RoundEffects>, AllocError>
     requires clock { clock < last_round }
-    ensures { IfOk result (λ endings. endings.items ≡ map (λ row. ended row (clock + 1)) (all_read slots.now)) }
+    ensures { IfOk result (λ endings. endings.items ≡ map (λ row. opened_effects row (clock + 1)) (all_read slots.now)) }
 {
     let mut endings = Vec::with_capacity(alloc, slots.len())?;
     for slot in slots {

@@ -51,10 +51,10 @@ impl HeightRow {
     ghost use Rattle.instance.specs.Instances.{InstanceView};
     ghost use Rattle.instance.specs.Matching.{MatchesLog, only_rounds};
     ghost use Rattle.instance.specs.Reads.{opened_row, IsSameHeight};
-    ghost use Rattle.instance.specs.Plans.{chosen_statement, ended, IsOwnMade};
+    ghost use Rattle.instance.specs.Plans.{chosen_statement, opened_effects, IsOwnMade};
     ghost use Rattle.instance.specs.Laws.{MayBeSent, MayClose, IsSignedMade, IsLockSentOn, opened_by};
-    ghost use Rattle.height_row.specs.Heights.{row_at, rows_from, decided_in, open_answer, plan_of, closed_each};
-    ghost use Rattle.height_row.specs.Heights.{AreApart, AreAscending, AreFound, AreOwn, IsSameReplica};
+    ghost use Rattle.height_row.specs.Heights.{row_at, rows_from, decided_in, open_answer, height_plan, closed_each};
+    ghost use Rattle.height_row.specs.Heights.{AreApart, AreAscending, AreFound, AreOwn, IsSameRow};
     ghost use Rattle.ledger_model.specs.Limits.{last_round, max_height};
 
     /// A row with no open height, whose floor is 1.
@@ -157,7 +157,7 @@ impl HeightRow {
         ensures refused { IfOk result (λ r. OnErr r (self.new ≡ self.old)) }
         ensures err { OnErr result (self.new ≡ self.old) }
         ensures apart { AreApart height self.old.rows self.new.rows }
-        ensures same { IsSameReplica self.old self.new }
+        ensures same { IsSameRow self.old self.new }
         ensures own { AreOwn self.new }
     {
         if let Err(refusal) = self.may_open(height, committed) {
@@ -215,7 +215,7 @@ impl HeightRow {
         ensures err { OnErr result (self.new ≡ self.old) }
         ensures open { is_some (row_at self.new.rows (height_of frame.statement)) ≡ true }
         ensures apart { AreApart (height_of frame.statement) self.old.rows self.new.rows }
-        ensures same { IsSameReplica self.old self.new }
+        ensures same { IsSameRow self.old self.new }
         ensures own { AreOwn self.new }
     {
         let mut checks = ring;
@@ -245,7 +245,7 @@ impl HeightRow {
         ensures err { OnErr result (self.new ≡ self.old) }
         ensures open { is_some (row_at self.new.rows (height_of frame.statement)) ≡ true }
         ensures apart { AreApart (height_of frame.statement) self.old.rows self.new.rows }
-        ensures same { IsSameReplica self.old self.new }
+        ensures same { IsSameRow self.old self.new }
         ensures own { AreOwn self.new }
         // The keys are the same.
         ensures keys { C.ring checks.new ≡ C.ring checks.old }
@@ -268,7 +268,7 @@ impl HeightRow {
         requires open { is_some (row_at self.now.rows height) ≡ true }
         requires clock { clock < last_round }
         ensures statement { IfOk result (λ plan. (row : InstanceView) → row_at self.now.rows height ≡ Some row → plan.statement ≡ chosen_statement row (clock + 1)) }
-        ensures ending { IfOk result (λ plan. (row : InstanceView) → row_at self.now.rows height ≡ Some row → plan.ending ≡ ended row (clock + 1)) }
+        ensures ending { IfOk result (λ plan. (row : InstanceView) → row_at self.now.rows height ≡ Some row → plan.ending ≡ opened_effects row (clock + 1)) }
         // It chooses only what every log that the height matches allows.
         ensures may { IfOk result (λ plan. (row : InstanceView) → row_at self.now.rows height ≡ Some row → (ring : Ring) (log : List Note)
             → MatchesLog ring row log → clock_of log ≡ clock → MayBeSent row log (clock + 1) plan.statement) }
@@ -293,7 +293,7 @@ impl HeightRow {
     /// The plans for opening the next round at each open height, in order.
     pub fn plan_ends(&self, alloc: Global, clock: u32) -> Result<Vec<RoundPlan>, AllocError>
         requires clock { clock < last_round }
-        ensures plans { IfOk result (λ plans. plans.items ≡ map (plan_of (clock + 1)) self.now.rows) }
+        ensures plans { IfOk result (λ plans. plans.items ≡ map (height_plan (clock + 1)) self.now.rows) }
         // The statements can be encoded, whatever the log is.
         ensures spelled { IfOk result (λ plans. AllByRecursion (λ plan. IfSome plan.statement IsStatement) plans.items) }
         ensures ascend { AreAscending self.now.rows }
@@ -306,7 +306,7 @@ impl HeightRow {
     /// changes nothing. The only error is allocation failure.
     pub fn prepare_ends(&self, alloc: Global, clock: u32) -> Result<Vec<RoundEffects>, AllocError>
         requires clock { clock < last_round }
-        ensures endings { IfOk result (λ endings. endings.items ≡ map (λ row. ended row (clock + 1)) self.now.rows) }
+        ensures endings { IfOk result (λ endings. endings.items ≡ map (λ row. opened_effects row (clock + 1)) self.now.rows) }
         ensures ascend { AreAscending self.now.rows }
         ensures own { AreOwn self.now }
     {
@@ -318,7 +318,7 @@ impl HeightRow {
     pub fn close(&mut self, height: Height, ending: RoundEffects, made: RoundStatement, clock: u32)
         requires open { is_some (row_at self.old.rows height) ≡ true }
         requires clock { clock < last_round }
-        requires ending { (row : InstanceView) → row_at self.old.rows height ≡ Some row → ending ≡ ended row (clock + 1) }
+        requires ending { (row : InstanceView) → row_at self.old.rows height ≡ Some row → ending ≡ opened_effects row (clock + 1) }
         requires own { IsOwnMade self.old.config self.old.id made }
         // For every log that the height matched and that allows what is made: the height then matches that log,
         // continued with the round and with what is made.
@@ -327,7 +327,7 @@ impl HeightRow {
             → IsSignedMade ring made → MatchesLog ring new (opened_by row log (clock + 1) made) }
         ensures open { is_some (row_at self.new.rows height) ≡ true }
         ensures apart { AreApart height self.old.rows self.new.rows }
-        ensures same { IsSameReplica self.old self.new }
+        ensures same { IsSameRow self.old self.new }
         ensures own { AreOwn self.new }
     {
         let place = self.place(height).unwrap();
@@ -340,11 +340,11 @@ impl HeightRow {
     /// Opens the next round at each open height, in order, as [`HeightRow::close`] does at one. Allocates nothing.
     pub fn close_all(&mut self, closings: Vec<RoundClosing>, clock: u32)
         requires clock { clock < last_round }
-        requires endings { map (λ c. c.ending) closings.items ≡ map (λ row. ended row (clock + 1)) self.old.rows }
+        requires endings { map (λ c. c.ending) closings.items ≡ map (λ row. opened_effects row (clock + 1)) self.old.rows }
         requires own { AllByRecursion (λ c. IsOwnMade self.old.config self.old.id c.made) closings.items }
         ensures rows { self.new.rows ≡ closed_each (clock + 1) self.old.rows (map (λ c. c.made) closings.items) }
         ensures ascend { AreAscending self.new.rows }
-        ensures same { IsSameReplica self.old self.new }
+        ensures same { IsSameRow self.old self.new }
         ensures own { AreOwn self.new }
     {
         close_each(&mut self.slots, closings, clock);

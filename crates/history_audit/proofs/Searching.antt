@@ -30,7 +30,7 @@ use Rattle.std.proofs.Math.Bool.{or-false}
 use Rattle.signed_frames.specs.Lending.{SignedPartView, lent_of, own_part, proof_of}
 use Rattle.history_audit.specs.declared.sent_table.SentStatement.{SentStatement}
 use Rattle.history_audit.specs.Tables.{is_sent_in, IsTableOf, has_sent, lacks_part}
-use Rattle.history_audit.specs.Searches.{IsLeast, with_signer, least_with, IsFirstOf, AnswersReader, accepted}
+use Rattle.history_audit.specs.Searches.{IsLeast, with_signer, least_unsent, IsFirstOf, AnswersReader, accepted_frame}
 
 -- ---- one history a replica
 
@@ -147,11 +147,11 @@ lacking histories parts = map (λ (p : SignedPartView). p.signer) (filter (lacks
 
 -- all parts, one after the other
 pub least_all : (histories : List History) (xs : List ℕ) (o : Option ℕ) (parts : List SignedPartView) → IsLeast xs o
-    → IsLeast (xs ++ lacking histories parts) (least_with histories o parts)
+    → IsLeast (xs ++ lacking histories parts) (least_unsent histories o parts)
 least_all histories xs o [] least = subst (λ ys. IsLeast ys o) (sym (append-nil xs)) least
 least_all histories xs o (p ∷ ps) least =
     elim (cases_Bool (lacks_part histories p)) [
-      | inl lacks ↦ simp lacks (subst (λ ys. IsLeast ys (least_with histories (with_signer o p.signer) ps))
+      | inl lacks ↦ simp lacks (subst (λ ys. IsLeast ys (least_unsent histories (with_signer o p.signer) ps))
           (append_assoc xs (p.signer ∷ []) (lacking histories ps))
           (least_all histories (xs ++ p.signer ∷ []) (with_signer o p.signer) ps (least_more xs o p.signer least)))
       | inr has ↦ simp has (least_all histories xs o ps least)
@@ -189,10 +189,10 @@ lacking_proof histories (statement.Lock l) signature = elim (cases_Bool (is_unse
 -- the least signer of the parts is the least whose statement is unsent
 pub least_in_parts : (histories : List History) (f : SignedStatement)
     → IsLeast (map signer_of (filter (is_unsent histories) (statements_in f.statement)))
-    (least_with histories None (own_part f ∷ map lent_of (proof_of f.statement)))
+    (least_unsent histories None (own_part f ∷ map lent_of (proof_of f.statement)))
 least_in_parts histories f =
     let parts = own_part f ∷ map lent_of (proof_of f.statement) in
-    subst (λ xs. IsLeast xs (least_with histories None parts)) (lacking_proof histories f.statement f.signature)
+    subst (λ xs. IsLeast xs (least_unsent histories None parts)) (lacking_proof histories f.statement f.signature)
     (least_all histories [] None parts refl)
 
 -- what an entry accepts, by its frame
@@ -200,7 +200,7 @@ abbrev statements_within : Option SignedStatement → List Statement
 statements_within None = []
 statements_within (Some f) = statements_in f.statement
 
-accepts_is : (e : Event) (r : Reply) → accepts e r ≡ statements_within (accepted e r)
+accepts_is : (e : Event) (r : Reply) → accepts e r ≡ statements_within (accepted_frame e r)
 accepts_is (event.Deliver bytes) (reply.Delivered (Ok u)) = by (reading bytes) refl
   where
     by : (o : Option SignedStatement) → reading bytes ≡ o
@@ -221,16 +221,16 @@ accepts_is event.Execute _ = refl
 accepts_is (event.Query key h) _ = refl
 accepts_is (event.Retire floor) _ = refl
 
-pub unsent_none : (histories : List History) (e : Entry) → accepted e.event e.reply ≡ None → unsent_in histories e ≡ []
+pub unsent_none : (histories : List History) (e : Entry) → accepted_frame e.event e.reply ≡ None → unsent_in histories e ≡ []
 unfolding unsent_in
 unsent_none histories e is =
     ap (λ ss. map signer_of (filter (is_unsent histories) ss)) (accepts_is e.event e.reply ∙ ap statements_within is)
 
-pub unsent_some : (histories : List History) (e : Entry) (f : SignedStatement) → accepted e.event e.reply ≡ Some f
-    → IsLeast (unsent_in histories e) (least_with histories None (own_part f ∷ map lent_of (proof_of f.statement)))
+pub unsent_some : (histories : List History) (e : Entry) (f : SignedStatement) → accepted_frame e.event e.reply ≡ Some f
+    → IsLeast (unsent_in histories e) (least_unsent histories None (own_part f ∷ map lent_of (proof_of f.statement)))
 unfolding unsent_in
 unsent_some histories e f is =
-    subst (λ ss. IsLeast (map signer_of (filter (is_unsent histories) ss)) (least_with histories None (own_part f ∷ map lent_of
+    subst (λ ss. IsLeast (map signer_of (filter (is_unsent histories) ss)) (least_unsent histories None (own_part f ∷ map lent_of
     (proof_of f.statement))))
     (sym (accepts_is e.event e.reply ∙ ap statements_within is)) (least_in_parts histories f)
 

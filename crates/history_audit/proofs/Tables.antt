@@ -25,7 +25,7 @@ use Rattle.ledger_model.specs.declared.statement.Statement.{Statement}
 use Rattle.ledger_model.specs.declared.statement.SignedStatement.{SignedStatement}
 use Rattle.std.proofs.Math.Bool.{or-false}
 use Rattle.history_audit.specs.declared.sent_table.SentStatement.{SentStatement}
-use Rattle.history_audit.specs.Tables.{sent_of, same_sent, has_sent, Gains, bytes_of, statements_of}
+use Rattle.history_audit.specs.Tables.{sent_statement, same_sent, has_sent, Gains, statements_bytes, statements_of}
 
 -- two that are the same are equal
 pub same_sent-equal : (s u : SentStatement) → same_sent s u ≡ true → s ≡ u
@@ -33,7 +33,7 @@ same_sent-equal s u same =
     let parts = and_parts (nat_eq s.replica u.replica) (pointwise nat_eq s.statement u.statement) same in
     let r : s.replica ≡ u.replica = eqb-true s.replica u.replica (parts.0) in
     let b : s.statement ≡ u.statement = pointwise_equal nat_eq (λ x y e. eqb-true x y e) s.statement u.statement (parts.1) in
-    subst (λ x. s ≡ sent_of u.replica x) b (subst (λ x. s ≡ sent_of x s.statement) r refl)
+    subst (λ x. s ≡ sent_statement u.replica x) b (subst (λ x. s ≡ sent_statement x s.statement) r refl)
 
 -- nothing more
 pub gains_nothing : (table : List SentStatement) (r : ℕ) → Gains table r [] table
@@ -60,18 +60,18 @@ gains_both old mid new r xs ys first second q bytes =
 
 -- a set with one more has that one, and what it had
 pub gains_one : (table : List SentStatement) (r : ℕ) (statement : List ℕ)
-    → Gains table r (statement ∷ []) (insert_key same_sent table (sent_of r statement))
+    → Gains table r (statement ∷ []) (insert_key same_sent table (sent_statement r statement))
 gains_one table r statement q bytes =
-    elim (cases_Bool (list_any (same_sent (sent_of r statement)) table)) [
-      | inl there ↦ simp there (elim (cases_Bool (same_sent (sent_of q bytes) (sent_of r statement))) [
+    elim (cases_Bool (list_any (same_sent (sent_statement r statement)) table)) [
+      | inl there ↦ simp there (elim (cases_Bool (same_sent (sent_statement q bytes) (sent_statement r statement))) [
         | inl same ↦
-            let is = same_sent-equal (sent_of q bytes) (sent_of r statement) same in
+            let is = same_sent-equal (sent_statement q bytes) (sent_statement r statement) same in
             let has : has_sent table q bytes ≡ true = ap (λ s. list_any (same_sent s) table) is ∙ there in
             has ∙ sym (ap (λ b. b || (nat_eq q r && is_among (statement ∷ []) bytes)) has)
         | inr other ↦ sym (ap (λ b. has_sent table q bytes || b) (no_more (nat_eq q r) (same_bytes bytes statement) other)
             ∙ or-false (has_sent table q bytes))
       ])
-      | inr new ↦ simp new (list_any-append (same_sent (sent_of q bytes)) table (sent_of r statement ∷ [])
+      | inr new ↦ simp new (list_any-append (same_sent (sent_statement q bytes)) table (sent_statement r statement ∷ [])
           ∙ ap (λ b. has_sent table q bytes || b) (one (nat_eq q r) (same_bytes bytes statement)))
     ]
   where
@@ -87,16 +87,16 @@ gains_one table r statement q bytes =
 
 -- the statements of frames, one frame after the other
 pub statements_of-cons : (sent : Sent) (frames : List Sent)
-    → bytes_of (statements_of (sent ∷ frames)) ≡ bytes_of (statements_of (sent ∷ [])) ++ bytes_of (statements_of frames)
+    → statements_bytes (statements_of (sent ∷ frames)) ≡ statements_bytes (statements_of (sent ∷ [])) ++ statements_bytes (statements_of frames)
 statements_of-cons sent frames = by (reading sent.frame)
   where
-    by : (o : Option SignedStatement) → bytes_of (map (λ s. s.statement) (cons_option o (filter_map (λ f. reading f.frame) frames)))
-        ≡ bytes_of (map (λ s. s.statement) (cons_option o [])) ++ bytes_of (statements_of frames)
+    by : (o : Option SignedStatement) → statements_bytes (map (λ s. s.statement) (cons_option o (filter_map (λ f. reading f.frame) frames)))
+        ≡ statements_bytes (map (λ s. s.statement) (cons_option o [])) ++ statements_bytes (statements_of frames)
     by None = refl
     by (Some s) = refl
 
 -- the bytes of two lists of statements
-pub bytes_of-append : (xs ys : List Statement) → bytes_of (xs ++ ys) ≡ bytes_of xs ++ bytes_of ys
+pub bytes_of-append : (xs ys : List Statement) → statements_bytes (xs ++ ys) ≡ statements_bytes xs ++ statements_bytes ys
 bytes_of-append [] ys = refl
 bytes_of-append (x ∷ xs) ys = ap (λ bs. statement_bytes x ∷ bs) (bytes_of-append xs ys)
 
@@ -120,7 +120,7 @@ sends_later c (reply.Retired r) = refl
 abbrev pub Reaches : List SentStatement → ℕ → List Entry → List SentStatement → ℕ → List Entry → Type 0
 Reaches start r all table clock rest =
     (c : ℕ) × ((c % 4 ≡ clock)
-    × ((final : List SentStatement) → Gains table r (bytes_of (sent_from c rest)) final → Gains start r (bytes_of (sent_from 0 all)) final))
+    × ((final : List SentStatement) → Gains table r (statements_bytes (sent_from c rest)) final → Gains start r (statements_bytes (sent_from 0 all)) final))
 
 -- nothing so far
 pub reaches_first : (start : List SentStatement) (r : ℕ) (all : List Entry) → Reaches start r all start 0 all
@@ -128,13 +128,13 @@ reaches_first start r all = (0, (refl, λ final gains. gains))
 
 -- one entry more
 pub reaches_next : (start table next : List SentStatement) (r clock : ℕ) (all rest : List Entry) (e : Entry)
-    → Reaches start r all table clock (e ∷ rest) → Gains table r (bytes_of (sends clock e.reply)) next
+    → Reaches start r all table clock (e ∷ rest) → Gains table r (statements_bytes (sends clock e.reply)) next
     → Reaches start r all next (cond (is_opened e.reply) ((clock + 1) % 4) clock) rest
 reaches_next start table next r clock all rest e reached gains =
     let c = reached.0 in
     let now : c % 4 ≡ clock = reached.1.0 in
     let same : sends clock e.reply ≡ sends c e.reply = ap (λ x. sends x e.reply) (sym now) ∙ sends_later c (e.reply) in
-    let gained = subst (λ xs. Gains table r (bytes_of xs) next) same gains in (
+    let gained = subst (λ xs. Gains table r (statements_bytes xs) next) same gains in (
       cond (is_opened e.reply) (c + 1) c,
       (
         later (is_opened e.reply) c clock now,
@@ -153,7 +153,7 @@ reaches_next start table next r clock all rest e reached gains =
 
 -- no entry more
 pub reaches_end : (start table : List SentStatement) (r clock : ℕ) (all : List Entry) → Reaches start r all table clock []
-    → Gains start r (bytes_of (sent_from 0 all)) table
+    → Gains start r (statements_bytes (sent_from 0 all)) table
 reaches_end start table r clock all reached = reached.1.1 table (gains_nothing table r)
 
 -- a rest after whole phases

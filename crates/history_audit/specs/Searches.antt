@@ -23,9 +23,9 @@ IsLeast xs None = xs ≡ []
 IsLeast xs (Some x) = Has xs x × ((y : ℕ) → Has xs y → x ≤ y)
 
 -- the frame that the entry accepts, if it accepts one
-abbrev pub accepted : Event → Reply → Option SignedStatement
-accepted (event.Deliver bytes) (reply.Delivered (Ok _)) = reading bytes
-accepted _ _ = None
+abbrev pub accepted_frame : Event → Reply → Option SignedStatement
+accepted_frame (event.Deliver bytes) (reply.Delivered (Ok _)) = reading bytes
+accepted_frame _ _ = None
 
 -- the lesser of the two numbers
 abbrev pub with_signer : Option ℕ → ℕ → Option ℕ
@@ -33,10 +33,10 @@ with_signer None x = Some x
 with_signer (Some y) x = if nat_le y x then Some y else Some x
 
 -- the least of the numbers, with the signers of these parts whose histories lack them
-abbrev pub least_with : List History → Option ℕ → List SignedPartView → Option ℕ
-least_with histories least [] = least
-least_with histories least (p ∷ ps) =
-    least_with histories (if lacks_part histories p then with_signer least p.signer else least) ps
+abbrev pub least_unsent : List History → Option ℕ → List SignedPartView → Option ℕ
+least_unsent histories least [] = least
+least_unsent histories least (p ∷ ps) =
+    least_unsent histories (if lacks_part histories p then with_signer least p.signer else least) ps
 
 -- no entry accepts a statement that its signer's history doesn't send
 abbrev pub AreSent : List History → List Entry → Type 0

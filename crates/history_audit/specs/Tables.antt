@@ -14,8 +14,8 @@ use Rattle.signed_frames.specs.Lending.{SignedPartView}
 use Rattle.history_audit.specs.declared.sent_table.SentStatement.{SentStatement}
 
 -- the bytes of a statement that this replica sent
-abbrev pub sent_of : ℕ → List ℕ → SentStatement
-sent_of r bytes = record { replica = r; statement = bytes }
+abbrev pub sent_statement : ℕ → List ℕ → SentStatement
+sent_statement r bytes = record { replica = r; statement = bytes }
 
 -- the same statement of the same replica
 abbrev pub same_sent : SentStatement → SentStatement → Bool
@@ -23,7 +23,7 @@ same_sent s u = nat_eq s.replica u.replica && pointwise nat_eq s.statement u.sta
 
 -- the table has the statement of the replica
 abbrev pub has_sent : List SentStatement → ℕ → List ℕ → Bool
-has_sent table r bytes = list_any (same_sent (sent_of r bytes)) table
+has_sent table r bytes = list_any (same_sent (sent_statement r bytes)) table
 
 -- the table has what it had, and these statements of the replica
 abbrev pub Gains : List SentStatement → ℕ → List (List ℕ) → List SentStatement → Type 0
@@ -43,8 +43,8 @@ abbrev pub statements_of : List Sent → List Statement
 statements_of frames = map (λ s. s.statement) (filter_map (λ f. reading f.frame) frames)
 
 -- the bytes of each statement
-abbrev pub bytes_of : List Statement → List (List ℕ)
-bytes_of statements = map statement_bytes statements
+abbrev pub statements_bytes : List Statement → List (List ℕ)
+statements_bytes statements = map statement_bytes statements
 
 -- the signer's history was handed in, and doesn't send what the signer is said to have signed
 abbrev pub lacks_part : List History → SignedPartView → Bool

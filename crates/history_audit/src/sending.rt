@@ -1,7 +1,7 @@
 //! The statements of their own that histories send.
 ghost use Rattle.std.specs.Prelude.{◌≡◌, ◌<◌, ◌∷◌, [], IfOk, OnOk};
 ghost use Rattle.ledger_model.specs.Audits.{sends, own_sent};
-ghost use Rattle.history_audit.specs.Tables.{Gains, IsTableOf, statements_of, bytes_of};
+ghost use Rattle.history_audit.specs.Tables.{Gains, IsTableOf, statements_of, statements_bytes};
 
 use crate::sent_table::SentTable;
 use history_parts::is_opened;
@@ -18,7 +18,7 @@ fn add_frame(
     replica: ReplicaId,
     sent: &Sent,
 ) -> Result<(), AllocError>
-    ensures { OnOk result (Gains table.old replica (bytes_of (statements_of (sent.now ∷ []))) table.new) }
+    ensures { OnOk result (Gains table.old replica (statements_bytes (statements_of (sent.now ∷ []))) table.new) }
 {
     match Frame::parse_in(Version::Two, alloc, sent.frame.clone()?) {
         Ok(frame) => table.insert(replica, frame.signed_part().share_message()?),
@@ -34,7 +34,7 @@ fn add_frames(
     replica: ReplicaId,
     frames: &[Sent],
 ) -> Result<(), AllocError>
-    ensures { OnOk result (Gains table.old replica (bytes_of (statements_of frames.now)) table.new) }
+    ensures { OnOk result (Gains table.old replica (statements_bytes (statements_of frames.now)) table.new) }
 {
     for sent in frames {
         add_frame(alloc, table, replica, sent)?;
@@ -52,7 +52,7 @@ fn add_reply(
     reply: &Reply,
 ) -> Result<(), AllocError>
     requires { clock < 4 }
-    ensures { OnOk result (Gains table.old replica (bytes_of (sends clock reply.now)) table.new) }
+    ensures { OnOk result (Gains table.old replica (statements_bytes (sends clock reply.now)) table.new) }
 {
     let Reply::RoundEnded(Ok(ended)) = reply else {
         return Ok(());

@@ -1,6 +1,6 @@
 //! The statements that replicas sent, found by their bytes.
 ghost use Rattle.std.specs.Prelude.{◌≡◌, ◌∷◌, [], IfOk, OnOk};
-ghost use Rattle.history_audit.specs.Tables.{sent_of, has_sent, Gains};
+ghost use Rattle.history_audit.specs.Tables.{sent_statement, has_sent, Gains};
 
 use bytes::Bytes;
 use indexmap::IndexSet;

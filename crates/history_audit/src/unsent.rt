@@ -5,7 +5,7 @@ ghost use Rattle.ledger_model.specs.Audits.{all_differ, are_of_a_quorum, lacks, 
 ghost use Rattle.ledger_model.specs.Groups.{history_of};
 ghost use Rattle.signed_frames.specs.Lending.{lent_of, own_part, proof_of};
 ghost use Rattle.history_audit.specs.Tables.{IsTableOf, lacks_part};
-ghost use Rattle.history_audit.specs.Searches.{IsLeast, AnswersSearch, AnswersReader, FindsUnsent, with_signer, least_with, accepted};
+ghost use Rattle.history_audit.specs.Searches.{IsLeast, AnswersSearch, AnswersReader, FindsUnsent, with_signer, least_unsent, accepted_frame};
 
 use crate::fault::AuditFault;
 use crate::sent_table::SentTable;
@@ -76,7 +76,7 @@ fn least_in_frame(
 ) -> Result<Option<ReplicaId>, AllocError>
     requires table { IsTableOf histories.now table.now }
     requires different { all_differ (map (λ (m : HistoryValue). m.replica) histories.now) ≡ true }
-    ensures { IfOk result (λ least. least ≡ least_with histories.now None (own_part frame.now ∷ map lent_of (proof_of frame.now.statement))) }
+    ensures { IfOk result (λ least. least ≡ least_unsent histories.now None (own_part frame.now ∷ map lent_of (proof_of frame.now.statement))) }
 {
     let mut least = with_part(histories, table, None, &frame.signed_part())?;
     for part in frame.lent_reports() {
@@ -87,7 +87,7 @@ fn least_in_frame(
 
 /// The frame that the entry accepts, if it accepts one. The only error is allocation failure.
 fn accepted(alloc: Global, entry: &Entry) -> Result<Option<Frame>, AllocError>
-    ensures { IfOk result (λ frame. frame ≡ accepted entry.now.event entry.now.reply) }
+    ensures { IfOk result (λ frame. frame ≡ accepted_frame entry.now.event entry.now.reply) }
 {
     let (Event::Deliver(bytes), Reply::Delivered(Ok(()))) = (&entry.event, &entry.reply) else {
         return Ok(None);

@@ -7,7 +7,7 @@ use Rattle.std.proofs.lemmas.Bool.{eqb-true}
 use Rattle.ledger_model.specs.GrammarLaws.{IsBytes}
 use Rattle.ledger_model.specs.Reading.{◌>>=◌, byte_at}
 use Rattle.ledger_model.proofs.Readers.{bind_some, some_is, only_if-some, IsReader, many_takes, many_again, byte_takes}
-use Rattle.history_bytes.specs.HistoryReading.{outcome_at, nothing_at, numbered, only_refusal}
+use Rattle.history_bytes.specs.HistoryReading.{outcome_at, nothing_at, refusal_numbered, only_refusal}
 
 -- ---- steps
 
@@ -153,7 +153,7 @@ nothing_reader = record {
 
 -- a refusal that is its number alone
 pub numbered_tagged : {E : Type 0} (number : E → ℕ) (of : ℕ → Option E) → ((n : ℕ) (r : E) → of n ≡ Some r → number r ≡ n)
-    → ((r : E) → of (number r) ≡ Some r) → IsTagged number (λ _. []) (λ _. Unit {0}) (numbered of)
+    → ((r : E) → of (number r) ≡ Some r) → IsTagged number (λ _. []) (λ _. Unit {0}) (refusal_numbered of)
 numbered_tagged {E} number of is_number back = record {
   takes = λ n bytes r rest fits e.
       let a = bind_some (of n) (λ x. Some (x, bytes)) (r, rest) e in
@@ -165,7 +165,7 @@ numbered_tagged {E} number of is_number back = record {
 
 -- the only refusal of its kind
 pub only_tagged : {E : Type 0} (only : E) → ((r : E) → only ≡ r)
-    → IsTagged (λ (r : E). 1) (λ _. []) (λ _. Unit {0}) (numbered (only_refusal only))
+    → IsTagged (λ (r : E). 1) (λ _. []) (λ _. Unit {0}) (refusal_numbered (only_refusal only))
 only_tagged {E} only one = numbered_tagged (λ (r : E). 1) (only_refusal only)
     (λ n r e. sym (eqb-true n 1 (only_if-some (eqb n 1) only r e).0))
     (λ r. ap (λ (x : E). Some x) (one r))

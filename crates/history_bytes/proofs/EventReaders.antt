@@ -9,7 +9,7 @@ use Rattle.ledger_model.specs.Reading.{◌>>=◌}
 use Rattle.ledger_model.proofs.Readers.{some_is}
 use Rattle.history_bytes.specs.Histories.{count_in_1, event_bytes}
 use Rattle.history_bytes.specs.HistorySpelling.{IsEvent, event_number}
-use Rattle.history_bytes.specs.HistoryReading.{key_at, query_at, event_of}
+use Rattle.history_bytes.specs.HistoryReading.{key_at, query_at, event_at}
 use Rattle.history_bytes.proofs.Combined.{taken, if_some, IsTagged, branch_takes, nothing_reader}
 use Rattle.history_bytes.proofs.FieldReaders.{word_reader, long_bytes, short_bytes, long_reader, key_reader}
 
@@ -51,9 +51,9 @@ query_takes bytes e rest fits read =
       refl,
     )))
 
-event_takes : (n : ℕ) (bytes : List ℕ) (e : Event) (rest : List ℕ) → IsBytes bytes → event_of n bytes ≡ Some (e, rest)
+event_takes : (n : ℕ) (bytes : List ℕ) (e : Event) (rest : List ℕ) → IsBytes bytes → event_at n bytes ≡ Some (e, rest)
     → EventTaken n bytes e rest
-unfolding event_of
+unfolding event_at
 event_takes n bytes e rest fits read =
     if_some (eqb n 1) _ _ (e, rest) read
     (λ is f. branch_takes long_reader event_number event_tail IsEvent event.Submit n (λ x. sym (eqb-true n 1 is)) (λ x. refl) (λ x i. i)
@@ -77,17 +77,17 @@ event_takes n bytes e rest fits read =
     bytes e rest fits f)
     (λ _ none. absurd cc)))))))
 
-event_again : (e : Event) (rest : List ℕ) → IsEvent e → event_of (event_number e) (event_tail e ++ rest) ≡ Some (e, rest)
-unfolding event_of query_at
+event_again : (e : Event) (rest : List ℕ) → IsEvent e → event_at (event_number e) (event_tail e ++ rest) ≡ Some (e, rest)
+unfolding event_at query_at
 event_again (event.Submit tx) rest is = rw (long_reader.again tx rest is) refl
 event_again (event.Propose height) rest is = rw (word_reader.again height rest is) refl
 event_again (event.Deliver bytes) rest is = rw (long_reader.again bytes rest is) refl
 event_again event.RoundEnd rest is = refl
 event_again event.Execute rest is = refl
 event_again (event.Query key height) rest is =
-    ap (event_of 6) (append_assoc (to_be_bytes w32 height) (short_bytes key) rest)
+    ap (event_at 6) (append_assoc (to_be_bytes w32 height) (short_bytes key) rest)
     ∙ rw (word_reader.again height (short_bytes key ++ rest) is.0, key_reader.again key rest is.1) refl
 event_again (event.Retire floor) rest is = rw (word_reader.again floor rest is) refl
 
-pub event_tagged : IsTagged event_number event_tail IsEvent event_of
+pub event_tagged : IsTagged event_number event_tail IsEvent event_at
 event_tagged = record { takes = event_takes; again = event_again }

@@ -10,7 +10,7 @@ use Rattle.ledger_model.specs.Reading.{◌>>=◌}
 use Rattle.ledger_model.proofs.Readers.{bind_some, some_is}
 use Rattle.statements.specs.declared.fault.DecodeFault.{DecodeFault}
 use Rattle.statements.specs.declared.fault.DecodeFault.TheVariants.{Malformed, NoMemory}
-use Rattle.statements.specs.Reads.{Faults}
+use Rattle.statements.specs.Reads.{IsFaultOf}
 use Rattle.history_bytes.specs.Histories.{history_bytes}
 use Rattle.history_bytes.specs.HistorySpelling.{IsHistory}
 use Rattle.history_bytes.specs.HistoryReading.{history_at, histories_within}
@@ -154,8 +154,8 @@ history_goes_on version front bytes h left total fits some e so_far =
 -- one more could not be read
 pub history_ends : (version : Version) (fault : DecodeFault) (front : List History) (bytes : List ℕ) (total : Option (List History))
     → IsBytes bytes
-    → 1 ≤ length bytes → Faults fault (history_at version bytes) → with_found front (histories_reading version bytes) ≡ total
-    → Faults fault total
+    → 1 ≤ length bytes → IsFaultOf fault (history_at version bytes) → with_found front (histories_reading version bytes) ≡ total
+    → IsFaultOf fault total
 history_ends version NoMemory front bytes total fits some e so_far = tt
 history_ends version Malformed front bytes total fits some e so_far =
     let step : with_found front (histories_reading version bytes) ≡ None = rw (reading_more version bytes fits some, e) refl in

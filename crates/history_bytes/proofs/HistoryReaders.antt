@@ -13,7 +13,7 @@ use Rattle.ledger_model.specs.Reading.{◌>>=◌, guarded, byte_at}
 use Rattle.ledger_model.proofs.Readers.{bind_some, guarded-some, some_is, IsReader}
 use Rattle.history_bytes.specs.Histories.{count_in_4, entry_bytes, history_bytes}
 use Rattle.history_bytes.specs.HistorySpelling.{event_number, reply_number, IsEntry, IsHistory}
-use Rattle.history_bytes.specs.HistoryReading.{event_of, reply_of, entry_at, entries_of, entries_at, history_at}
+use Rattle.history_bytes.specs.HistoryReading.{event_at, reply_at, entry_at, entry_list_of, entry_list_at, history_at}
 use Rattle.history_bytes.proofs.Combined.{taken, same_reader, pair_reader, IsSizedReader, many_reader, counted_reader}
 use Rattle.history_bytes.proofs.FieldReaders.{byte_reader, count_4_reader}
 use Rattle.history_bytes.proofs.EventReaders.{event_tail, event_parts, event_tagged}
@@ -31,10 +31,10 @@ abbrev with_reply : Event → Reply × List ℕ → Option (Entry × List ℕ)
 with_reply event reply = Some (record { event = event; reply = reply.0 }, reply.1)
 
 abbrev after_number : Version → ℕ → Event → ℕ × List ℕ → Option (Entry × List ℕ)
-after_number version n event again = guarded (eqb again.0 n) (reply_of version n again.1) >>= with_reply event
+after_number version n event again = guarded (eqb again.0 n) (reply_at version n again.1) >>= with_reply event
 
 abbrev after_kind : Version → ℕ × List ℕ → Option (Entry × List ℕ)
-after_kind version kind = event_of kind.0 kind.1 >>= λ event. byte_at event.1 >>= after_number version kind.0 event.0
+after_kind version kind = event_at kind.0 kind.1 >>= λ event. byte_at event.1 >>= after_number version kind.0 event.0
 
 entry_takes : (version : Version) (bytes : List ℕ) (e : Entry) (rest : List ℕ) → IsBytes bytes → entry_at version bytes ≡ Some (e, rest)
     → (bytes ≡ entry_bytes e ++ rest) × IsEntry version e × IsBytes rest
@@ -42,19 +42,19 @@ unfolding entry_at
 entry_takes version bytes e rest fits read =
     taken byte_reader bytes (after_kind version) (e, rest) fits read
     (λ n more n_parts n_is n_fits f.
-    let a = bind_some (event_of n more) (λ event. byte_at event.1 >>= after_number version n event.0) (e, rest) f in
+    let a = bind_some (event_at n more) (λ event. byte_at event.1 >>= after_number version n event.0) (e, rest) f in
     after_event bytes e rest n more n_parts n_fits a.0.0 a.0.1 a.1 a.2)
   where
     after_event : (bytes : List ℕ) (e : Entry) (rest : List ℕ) (n : ℕ) (more : List ℕ) → bytes ≡ n ∷ more → IsBytes more
-        → (event : Event) (others : List ℕ) → event_of n more ≡ Some (event, others)
+        → (event : Event) (others : List ℕ) → event_at n more ≡ Some (event, others)
         → (byte_at others >>= after_number version n event) ≡ Some (e, rest)
         → (bytes ≡ entry_bytes e ++ rest) × IsEntry version e × IsBytes rest
     after_event bytes e rest n more parts fits event others is f =
         let t = event_tagged.takes n more event others fits is in
         taken byte_reader others (after_number version n event) (e, rest) t.2 f
         (λ m last m_parts m_is m_fits g.
-        let b = bind_some (guarded (eqb m n) (reply_of version n last)) (with_reply event) (e, rest) g in
-        let o = guarded-some (eqb m n) (reply_of version n last) b.0 b.1 in
+        let b = bind_some (guarded (eqb m n) (reply_at version n last)) (with_reply event) (e, rest) g in
+        let o = guarded-some (eqb m n) (reply_at version n last) b.0 b.1 in
         let u = (reply_tagged version).takes n last b.0.0 b.0.1 m_fits o.1 in
         let made : Entry × List ℕ = (record { event = event; reply = b.0.0 }, b.0.1) in
         let kind : reply_number b.0.0 ≡ event_number event = u.3 ∙ sym t.3 in
@@ -79,8 +79,8 @@ entry_again version e rest is =
     ap (λ (x : List ℕ). x ++ rest) (entry_parts e is.kind)
     ∙ append_assoc (n ∷ event_tail e.event) (n ∷ reply_tail e.reply) rest in
     let same : eqb n n ≡ true = eq-eqb n n refl in
-    let replied : reply_of version n (reply_tail e.reply ++ rest) ≡ Some (e.reply, rest) =
-    ap (λ (k : ℕ). reply_of version k (reply_tail e.reply ++ rest)) (sym is.kind) ∙ (reply_tagged version).again e.reply rest is.reply in
+    let replied : reply_at version n (reply_tail e.reply ++ rest) ≡ Some (e.reply, rest) =
+    ap (λ (k : ℕ). reply_at version k (reply_tail e.reply ++ rest)) (sym is.kind) ∙ (reply_tagged version).again e.reply rest is.reply in
     ap (entry_at version) regrouped
     ∙ rw (event_tagged.again e.event (n ∷ (reply_tail e.reply ++ rest)) is.event, same, replied) refl
 
@@ -90,9 +90,9 @@ entry_reader version = record { takes = entry_takes version; again = entry_again
 -- ---- histories
 
 many_entries_reader : (version : Version)
-    → IsSizedReader (flat_map entry_bytes) (AllByRecursion (IsEntry version)) length (entries_of version)
-unfolding entries_of
-many_entries_reader version = many_reader (entry_reader version) (entries_of version) (λ bytes. refl) (λ n bytes. refl)
+    → IsSizedReader (flat_map entry_bytes) (AllByRecursion (IsEntry version)) length (entry_list_of version)
+unfolding entry_list_of
+many_entries_reader version = many_reader (entry_reader version) (entry_list_of version) (λ bytes. refl) (λ n bytes. refl)
 
 abbrev entries_bytes : List Entry → List ℕ
 entries_bytes entries = count_in_4 (length entries) ++ flat_map entry_bytes entries
@@ -100,8 +100,8 @@ entries_bytes entries = count_in_4 (length entries) ++ flat_map entry_bytes entr
 abbrev AreEntries : Version → List Entry → Type 0
 AreEntries version entries = (length entries < 2 ^ 32) × AllByRecursion (IsEntry version) entries
 
-entries_reader : (version : Version) → IsReader entries_bytes (AreEntries version) (entries_at version)
-unfolding entries_at
+entries_reader : (version : Version) → IsReader entries_bytes (AreEntries version) (entry_list_at version)
+unfolding entry_list_at
 entries_reader version = counted_reader count_4_reader (many_entries_reader version)
 
 abbrev history_of_parts : ℕ → List Entry → History

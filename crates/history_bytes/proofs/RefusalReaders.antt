@@ -21,7 +21,7 @@ use Rattle.ledger_model.proofs.Lists.{found_has}
 use Rattle.history_bytes.specs.Histories.{code_bytes}
 use Rattle.history_bytes.specs.HistorySpelling.{IsRefusal}
 use Rattle.history_bytes.specs.HistoryReading.{propose_refusal_of, retire_refusal_of, cause_of, submit_refusal_of}
-use Rattle.history_bytes.specs.HistoryReading.{numbered, propose_refusals, retire_refusals, causes, pool_refusals}
+use Rattle.history_bytes.specs.HistoryReading.{refusal_numbered, propose_refusals, retire_refusals, cause_list, pool_refusals}
 use Rattle.history_bytes.proofs.Combined.{if_some, IsTagged}
 use Rattle.history_bytes.proofs.Combined.{as_kind, branch_takes, numbered_tagged}
 use Rattle.history_bytes.proofs.FieldReaders.{word_reader}
@@ -33,7 +33,7 @@ propose_back propose.AlreadyOpen = refl
 propose_back propose.Closed = refl
 propose_back propose.Retired = refl
 
-pub propose_tagged : IsTagged propose_refusal_number (λ _. []) (λ _. Unit {0}) (numbered propose_refusal_of)
+pub propose_tagged : IsTagged propose_refusal_number (λ _. []) (λ _. Unit {0}) (refusal_numbered propose_refusal_of)
 unfolding propose_refusal_of
 propose_tagged = numbered_tagged propose_refusal_number propose_refusal_of
     (λ n r e. eqb-true _ _ ((found_has (λ x. eqb (propose_refusal_number x) n) propose_refusals r e).1)) propose_back
@@ -49,7 +49,7 @@ unfolding retire_refusal_of
 retire_back retire.NotCommitted = refl
 retire_back retire.NotAbove = refl
 
-pub retire_tagged : IsTagged retire_refusal_number (λ _. []) (λ _. Unit {0}) (numbered retire_refusal_of)
+pub retire_tagged : IsTagged retire_refusal_number (λ _. []) (λ _. Unit {0}) (refusal_numbered retire_refusal_of)
 unfolding retire_refusal_of
 retire_tagged = numbered_tagged retire_refusal_number retire_refusal_of
     (λ n r e. eqb-true _ _ ((found_has (λ x. eqb (retire_refusal_number x) n) retire_refusals r e).1)) retire_back
@@ -72,10 +72,10 @@ cause_back cause.BadProof = refl
 cause_back cause.TableFull = refl
 cause_back cause.NotMine = refl
 
-pub cause_tagged : IsTagged cause_number (λ _. []) (λ _. Unit {0}) (numbered cause_of)
+pub cause_tagged : IsTagged cause_number (λ _. []) (λ _. Unit {0}) (refusal_numbered cause_of)
 unfolding cause_of
 cause_tagged = numbered_tagged cause_number cause_of
-    (λ n c e. eqb-true _ _ ((found_has (λ x. eqb (cause_number x) n) causes c e).1)) cause_back
+    (λ n c e. eqb-true _ _ ((found_has (λ x. eqb (cause_number x) n) cause_list c e).1)) cause_back
 
 pub cause_some : (c : Ignored) → eqb (cause_number c) 0 ≡ false
 cause_some cause.Malformed = refl

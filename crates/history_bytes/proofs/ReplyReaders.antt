@@ -20,7 +20,7 @@ use Rattle.history_bytes.specs.Histories.{reply_bytes}
 use Rattle.history_bytes.specs.HistorySpelling.{IsWord, IsEndedRound, IsBlock, IsAnswer, IsRefusal}
 use Rattle.history_bytes.specs.HistorySpelling.{IsReply, reply_number}
 use Rattle.history_bytes.specs.HistoryReading.{submitted_at, proposed_at, delivered_at, round_ended_at, executed_at, queried_at, retired_at}
-use Rattle.history_bytes.specs.HistoryReading.{reply_of}
+use Rattle.history_bytes.specs.HistoryReading.{reply_at}
 use Rattle.history_bytes.proofs.Combined.{if_some, IsTagged}
 use Rattle.history_bytes.proofs.Combined.{branch_takes, nothing_bytes, IsNothing, nothing_reader}
 use Rattle.history_bytes.proofs.Combined.{only_tagged}
@@ -104,9 +104,9 @@ outcome_is version kind IsT IsE success refused (Ok x) is = success x is
 outcome_is version kind IsT IsE success refused (Err r) is = refused r is
 
 reply_takes : (version : Version) (n : ℕ) (bytes : List ℕ) (r : Reply) (rest : List ℕ) → IsBytes bytes
-    → reply_of version n bytes ≡ Some (r, rest)
+    → reply_at version n bytes ≡ Some (r, rest)
     → (bytes ≡ reply_tail r ++ rest) × IsReply version r × IsBytes rest × (reply_number r ≡ n)
-unfolding reply_of
+unfolding reply_at
 reply_takes version n bytes r rest fits read =
     if_some (eqb n 1) _ _ (r, rest) read
     (λ is f. branch_takes submitted_reader reply_number reply_tail (IsReply version) reply.Submitted n (λ x. sym (eqb-true n 1 is))
@@ -137,8 +137,8 @@ reply_takes version n bytes r rest fits read =
     (λ _ none. absurd cc)))))))
 
 reply_again : (version : Version) (r : Reply) (rest : List ℕ) → IsReply version r
-    → reply_of version (reply_number r) (reply_tail r ++ rest) ≡ Some (r, rest)
-unfolding reply_of
+    → reply_at version (reply_number r) (reply_tail r ++ rest) ≡ Some (r, rest)
+unfolding reply_at
 reply_again version (reply.Submitted (Ok x)) rest is = rw (submitted_reader.again (Ok x) rest tt) refl
 reply_again version (reply.Submitted (Err r)) rest is = rw (submitted_reader.again (Err r) rest is) refl
 reply_again version (reply.Proposed (Ok batch)) rest is = rw ((proposed_reader version).again (Ok batch) rest is) refl
@@ -154,5 +154,5 @@ reply_again version (reply.Queried (Err l)) rest is = rw (queried_reader.again (
 reply_again version (reply.Retired (Ok floor)) rest is = rw (retired_reader.again (Ok floor) rest is) refl
 reply_again version (reply.Retired (Err r)) rest is = rw (retired_reader.again (Err r) rest tt) refl
 
-pub reply_tagged : (version : Version) → IsTagged reply_number reply_tail (IsReply version) (reply_of version)
+pub reply_tagged : (version : Version) → IsTagged reply_number reply_tail (IsReply version) (reply_at version)
 reply_tagged version = record { takes = reply_takes version; again = reply_again version }

@@ -20,8 +20,8 @@ use Rattle.ledger_model.proofs.StatementReading.{flag_bytes, flag_reader}
 use Rattle.history_bytes.specs.Histories.{addressee_number, sent_bytes, present_bytes, ended_bytes, block_bytes, answer_bytes}
 use Rattle.history_bytes.specs.Histories.{count_in_1, count_in_2}
 use Rattle.history_bytes.specs.HistorySpelling.{IsWord, IsAddressee, IsSentFrame, IsEndedRound, IsBlock, IsPresent, IsAnswer}
-use Rattle.history_bytes.specs.HistoryReading.{short_at, addressee_of, sent_at, frames_of, frames_at, ended_at, codes_of, codes_at}
-use Rattle.history_bytes.specs.HistoryReading.{block_at}
+use Rattle.history_bytes.specs.HistoryReading.{short_at, addressee_by_number, sent_at, frames_of, frames_at, ended_at, codes_of, codes_at}
+use Rattle.history_bytes.specs.HistoryReading.{block_result_at}
 use Rattle.history_bytes.specs.HistoryReading.{present_at, answer_at}
 use Rattle.history_bytes.specs.HistoryReading.{frame_at}
 use Rattle.history_bytes.proofs.Combined.{taken, same_reader, pair_reader, IsSizedReader, many_reader, counted_reader}
@@ -36,16 +36,16 @@ one_addressee : Addressee → List ℕ
 one_addressee a = addressee_number a ∷ []
 
 addressee_at : List ℕ → Option (Addressee × List ℕ)
-addressee_at bytes = byte_at bytes >>= λ to. Some (addressee_of to.0, to.1)
+addressee_at bytes = byte_at bytes >>= λ to. Some (addressee_by_number to.0, to.1)
 
-number_back : (n : ℕ) → n < 256 → (addressee_number (addressee_of n) ≡ n) × IsAddressee (addressee_of n)
+number_back : (n : ℕ) → n < 256 → (addressee_number (addressee_by_number n) ≡ n) × IsAddressee (addressee_by_number n)
 number_back n lt = at (eqb n 255) refl
   where
-    at : (b : Bool) → eqb n 255 ≡ b → (addressee_number (addressee_of n) ≡ n) × IsAddressee (addressee_of n)
+    at : (b : Bool) → eqb n 255 ≡ b → (addressee_number (addressee_by_number n) ≡ n) × IsAddressee (addressee_by_number n)
     at true e = rw e (sym (eqb-true n 255 e), tt)
     at false e = let other : n ≢ 255 = eqb-false n 255 e in rw e (refl, omega arith)
 
-addressee_back : (a : Addressee) → IsAddressee a → addressee_of (addressee_number a) ≡ a
+addressee_back : (a : Addressee) → IsAddressee a → addressee_by_number (addressee_number a) ≡ a
 addressee_back addressee.All is = refl
 addressee_back (addressee.One r) is = let other : eqb r 255 ≡ false = ne_eqb r 255 (λ e. omega (arith, e, is)) in rw other refl
 
@@ -54,15 +54,15 @@ unfolding sent_at
 sent_reader version = record {
   takes = λ bytes sent rest fits e.
       taken byte_reader bytes (λ to. frame_at version to.1 >>= λ frame. Some
-      (record { addressee = addressee_of to.0; frame = frame.0 }, frame.1))
+      (record { addressee = addressee_by_number to.0; frame = frame.0 }, frame.1))
       (sent, rest) fits e
       (λ to more t_parts t_is t_fits f. taken (frame_reader version) more
-      (λ frame. Some (record { addressee = addressee_of to; frame = frame.0 }, frame.1)) (sent, rest) t_fits f
+      (λ frame. Some (record { addressee = addressee_by_number to; frame = frame.0 }, frame.1)) (sent, rest) t_fits f
       (λ frame last f_parts f_is f_fits g.
-      let made : Sent × List ℕ = (record { addressee = addressee_of to; frame = frame }, last) in
+      let made : Sent × List ℕ = (record { addressee = addressee_by_number to; frame = frame }, last) in
       let back = number_back to t_is in
       subst (λ (p : Sent × List ℕ). (bytes ≡ sent_bytes p.0 ++ p.1) × IsSentFrame version p.0 × IsBytes p.1) (some_is made (sent, rest) g) (
-        t_parts ∙ ap (λ (k : ℕ). k ∷ more) (sym back.0) ∙ ap (λ (t : List ℕ). addressee_number (addressee_of to) ∷ t) f_parts,
+        t_parts ∙ ap (λ (k : ℕ). k ∷ more) (sym back.0) ∙ ap (λ (t : List ℕ). addressee_number (addressee_by_number to) ∷ t) f_parts,
         record { addressee = back.1; frame = f_is },
         f_fits,
       )));
@@ -127,8 +127,8 @@ hash_reader = record {
 block_regroup : (height codes hash rest : List ℕ) → height ++ (codes ++ (hash ++ rest)) ≡ (height ++ codes ++ hash) ++ rest
 block_regroup height codes hash rest = simp append_assoc
 
-pub block_reader : IsReader block_bytes IsBlock block_at
-unfolding block_at
+pub block_reader : IsReader block_bytes IsBlock block_result_at
+unfolding block_result_at
 block_reader = record {
   takes = λ bytes block rest fits e.
       taken word_reader bytes
@@ -150,7 +150,7 @@ block_reader = record {
   again = λ block rest is.
       let regrouped : block_bytes block ++ rest ≡ to_be_bytes w32 block.height ++ (codes_bytes block.codes ++ (block.hash ++ rest)) =
       simp append_assoc in
-      ap block_at regrouped
+      ap block_result_at regrouped
       ∙ rw (
         word_reader.again block.height (codes_bytes block.codes ++ (block.hash ++ rest)) is.height,
         codes_reader.again block.codes (block.hash ++ rest) (is.few, is.each),

@@ -61,8 +61,8 @@ query_at bytes = do
   Some (event.Query key.0 height.0, key.1)
 
 -- an event without its number, which is `kind`
-unfoldable pub event_of : ℕ → List ℕ → Option (Event × List ℕ)
-event_of kind bytes =
+unfoldable pub event_at : ℕ → List ℕ → Option (Event × List ℕ)
+event_at kind bytes =
     if kind == 1 then long_at bytes >>= (λ tx. Some (event.Submit tx.0, tx.1))
     else if kind == 2 then number_at w32 bytes >>= (λ height. Some (event.Propose height.0, height.1))
     else if kind == 3 then long_at bytes >>= (λ frame. Some (event.Deliver frame.0, frame.1))
@@ -80,8 +80,8 @@ propose_refusals = propose.TooFar ∷ propose.AlreadyOpen ∷ propose.Closed ∷
 abbrev pub retire_refusals : List RetireRefusal
 retire_refusals = retire.NotCommitted ∷ retire.NotAbove ∷ []
 
-abbrev pub causes : List Ignored
-causes =
+abbrev pub cause_list : List Ignored
+cause_list =
     cause.Malformed ∷ cause.Signer ∷ cause.NoRow ∷ cause.WrongRound ∷ cause.WrongPhase ∷ cause.NotOwner ∷ cause.Repeated
     ∷ cause.BadSignature ∷ cause.BadProof ∷ cause.TableFull ∷ cause.NotMine ∷ []
 
@@ -99,7 +99,7 @@ retire_refusal_of n = find (λ r. retire_refusal_number r == n) retire_refusals
 
 -- the cause
 unfoldable pub cause_of : ℕ → Option Ignored
-cause_of n = find (λ c. cause_number c == n) causes
+cause_of n = find (λ c. cause_number c == n) cause_list
 
 -- the reason to refuse a transaction: 5 precedes the application's code
 unfoldable pub submit_refusal_of : ℕ → List ℕ → Option (SubmitRefusal × List ℕ)
@@ -110,8 +110,8 @@ submit_refusal_of n bytes =
 -- ---- replies
 
 -- who gets a frame: 255 is all
-abbrev pub addressee_of : ℕ → Addressee
-addressee_of n = if n == 255 then addressee.All else addressee.One n
+abbrev pub addressee_by_number : ℕ → Addressee
+addressee_by_number n = if n == 255 then addressee.All else addressee.One n
 
 -- a frame of this version, with its length
 unfoldable pub frame_at : Version → List ℕ → Option (List ℕ × List ℕ)
@@ -125,7 +125,7 @@ unfoldable pub sent_at : Version → List ℕ → Option (Sent × List ℕ)
 sent_at version bytes = do
   to ← byte_at bytes
   frame ← frame_at version to.1
-  Some (record { addressee = addressee_of to.0; frame = frame.0 }, frame.1)
+  Some (record { addressee = addressee_by_number to.0; frame = frame.0 }, frame.1)
 
 -- n frames that were sent
 unfoldable pub frames_of : Version → ℕ → List ℕ → Option (List Sent × List ℕ)
@@ -163,8 +163,8 @@ codes_at bytes = do
   codes_of count.0 count.1
 
 -- a block that was run
-unfoldable pub block_at : List ℕ → Option (BlockResult × List ℕ)
-block_at bytes = do
+unfoldable pub block_result_at : List ℕ → Option (BlockResult × List ℕ)
+block_result_at bytes = do
   height ← number_at w32 bytes
   codes ← codes_at height.1
   hash ← bytes_at 32 codes.1
@@ -194,8 +194,8 @@ abbrev pub nothing_at : List ℕ → Option (Unit {0} × List ℕ)
 nothing_at bytes = Some (tt, bytes)
 
 -- a refusal by its number alone
-abbrev pub numbered : {E : Type 0} → (ℕ → Option E) → ℕ → List ℕ → Option (E × List ℕ)
-numbered of n bytes = of n >>= (λ r. Some (r, bytes))
+abbrev pub refusal_numbered : {E : Type 0} → (ℕ → Option E) → ℕ → List ℕ → Option (E × List ℕ)
+refusal_numbered of n bytes = of n >>= (λ r. Some (r, bytes))
 
 -- the only refusal of its kind, whose number is 1
 abbrev pub only_refusal : {E : Type 0} → E → ℕ → Option E
@@ -206,26 +206,26 @@ unfoldable pub submitted_at : List ℕ → Option (Result (Unit {0}) SubmitRefus
 submitted_at = outcome_at nothing_at submit_refusal_of
 
 unfoldable pub proposed_at : Version → List ℕ → Option (Result (List (List ℕ)) ProposeRefusal × List ℕ)
-proposed_at version = outcome_at (value_at version) (numbered propose_refusal_of)
+proposed_at version = outcome_at (value_at version) (refusal_numbered propose_refusal_of)
 
 unfoldable pub delivered_at : List ℕ → Option (Result (Unit {0}) Ignored × List ℕ)
-delivered_at = outcome_at nothing_at (numbered cause_of)
+delivered_at = outcome_at nothing_at (refusal_numbered cause_of)
 
 unfoldable pub round_ended_at : Version → List ℕ → Option (Result RoundEnded LastRound × List ℕ)
-round_ended_at version = outcome_at (ended_at version) (numbered (only_refusal (record {})))
+round_ended_at version = outcome_at (ended_at version) (refusal_numbered (only_refusal (record {})))
 
 unfoldable pub executed_at : List ℕ → Option (Result BlockResult NothingDecided × List ℕ)
-executed_at = outcome_at block_at (numbered (only_refusal (record {})))
+executed_at = outcome_at block_result_at (refusal_numbered (only_refusal (record {})))
 
 unfoldable pub queried_at : List ℕ → Option (Result QueryAnswer NotHeld × List ℕ)
-queried_at = outcome_at answer_at (numbered (only_refusal (record {})))
+queried_at = outcome_at answer_at (refusal_numbered (only_refusal (record {})))
 
 unfoldable pub retired_at : List ℕ → Option (Result ℕ RetireRefusal × List ℕ)
-retired_at = outcome_at (number_at w32) (numbered retire_refusal_of)
+retired_at = outcome_at (number_at w32) (refusal_numbered retire_refusal_of)
 
 -- a reply, in a cluster with frames of this version, without its number, which is `kind`
-unfoldable pub reply_of : Version → ℕ → List ℕ → Option (Reply × List ℕ)
-reply_of version kind bytes =
+unfoldable pub reply_at : Version → ℕ → List ℕ → Option (Reply × List ℕ)
+reply_at version kind bytes =
     if kind == 1 then submitted_at bytes >>= (λ r. Some (reply.Submitted r.0, r.1))
     else if kind == 2 then proposed_at version bytes >>= (λ r. Some (reply.Proposed r.0, r.1))
     else if kind == 3 then delivered_at bytes >>= (λ r. Some (reply.Delivered r.0, r.1))
@@ -241,30 +241,30 @@ reply_of version kind bytes =
 unfoldable pub entry_at : Version → List ℕ → Option (Entry × List ℕ)
 entry_at version bytes = do
   kind ← byte_at bytes
-  event ← event_of kind.0 kind.1
+  event ← event_at kind.0 kind.1
   again ← byte_at event.1
-  reply ← guarded (again.0 == kind.0) (reply_of version kind.0 again.1)
+  reply ← guarded (again.0 == kind.0) (reply_at version kind.0 again.1)
   Some (record { event = event.0; reply = reply.0 }, reply.1)
 
 -- n entries
-unfoldable pub entries_of : Version → ℕ → List ℕ → Option (List Entry × List ℕ)
-entries_of version zero bytes = Some ([], bytes)
-entries_of version (suc n) bytes = do
+unfoldable pub entry_list_of : Version → ℕ → List ℕ → Option (List Entry × List ℕ)
+entry_list_of version zero bytes = Some ([], bytes)
+entry_list_of version (suc n) bytes = do
   first ← entry_at version bytes
-  rest ← entries_of version n first.1
+  rest ← entry_list_of version n first.1
   Some (first.0 ∷ rest.0, rest.1)
 
 -- entries, after their number in four bytes
-unfoldable pub entries_at : Version → List ℕ → Option (List Entry × List ℕ)
-entries_at version bytes = do
+unfoldable pub entry_list_at : Version → List ℕ → Option (List Entry × List ℕ)
+entry_list_at version bytes = do
   count ← number_at w32 bytes
-  entries_of version count.0 count.1
+  entry_list_of version count.0 count.1
 
 -- a history: its replica and its entries
 unfoldable pub history_at : Version → List ℕ → Option (History × List ℕ)
 history_at version bytes = do
   replica ← byte_at bytes
-  entries ← entries_at version replica.1
+  entries ← entry_list_at version replica.1
   Some (record { replica = replica.0; entries = entries.0 }, entries.1)
 
 -- the histories that all of the bytes are, if they are at most n

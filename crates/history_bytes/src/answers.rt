@@ -1,7 +1,7 @@
 //! Takes what an application answers: a block's result, and the answer to a query.
 ghost use Rattle.std.specs.Prelude.{◌≡◌};
-ghost use Rattle.history_bytes.specs.HistoryReading.{codes_of, codes_at, block_at, present_at, answer_at};
-ghost use Rattle.statements.specs.Reads.{Reads, ReadsAs};
+ghost use Rattle.history_bytes.specs.HistoryReading.{codes_of, codes_at, block_result_at, present_at, answer_at};
+ghost use Rattle.statements.specs.Reads.{IsReadFrom, ReadsAs};
 
 use crate::event_reading::take_short;
 use crate::input::Input;
@@ -24,7 +24,7 @@ fn codes_of(alloc: Global, input: &mut Input, count: u8) -> Result<Vec<u32>, Dec
 /// Takes codes after their number in one byte.
 #[tactic(auto, unfolding(crate::specs::HistoryReading::codes_at))]
 fn take_codes(alloc: Global, input: &mut Input) -> Result<Codes, DecodeFault>
-    ensures { Reads result input.new (codes_at input.old) }
+    ensures { IsReadFrom result input.new (codes_at input.old) }
 {
     let count = input.take_byte()?;
     let codes = codes_of(alloc, input, count)?;
@@ -32,9 +32,9 @@ fn take_codes(alloc: Global, input: &mut Input) -> Result<Codes, DecodeFault>
 }
 
 /// Takes the result of a block that was run.
-#[tactic(auto, unfolding(crate::specs::HistoryReading::block_at))]
+#[tactic(auto, unfolding(crate::specs::HistoryReading::block_result_at))]
 pub(crate) fn take_block(alloc: Global, input: &mut Input) -> Result<BlockResult, DecodeFault>
-    ensures { Reads result input.new (block_at input.old) }
+    ensures { IsReadFrom result input.new (block_result_at input.old) }
 {
     let height = input.take_u32()?;
     let codes = take_codes(alloc, input)?;
@@ -49,7 +49,7 @@ pub(crate) fn take_block(alloc: Global, input: &mut Input) -> Result<BlockResult
 
 #[tactic(auto, unfolding(crate::specs::HistoryReading::present_at))]
 fn take_present(input: &mut Input) -> Result<Option<Bytes>, DecodeFault>
-    ensures { Reads result input.new (present_at input.old) }
+    ensures { IsReadFrom result input.new (present_at input.old) }
 {
     if !input.take_flag()? {
         return Ok(None);
@@ -60,7 +60,7 @@ fn take_present(input: &mut Input) -> Result<Option<Bytes>, DecodeFault>
 /// Takes the answer to a query.
 #[tactic(auto, unfolding(crate::specs::HistoryReading::answer_at))]
 pub(crate) fn take_answer(input: &mut Input) -> Result<QueryAnswer, DecodeFault>
-    ensures { Reads result input.new (answer_at input.old) }
+    ensures { IsReadFrom result input.new (answer_at input.old) }
 {
     let height = input.take_u32()?;
     let value = take_present(input)?;

@@ -1,7 +1,7 @@
 //! Takes a batch.
 ghost use Rattle.std.specs.Prelude.{◌≡◌, IfOk, vec_len};
 ghost use Rattle.ledger_model.specs.Reading.{tx_at, txs_at, value_at};
-ghost use Rattle.statements.specs.Reads.{Reads, ReadsAs};
+ghost use Rattle.statements.specs.Reads.{IsReadFrom, ReadsAs};
 
 use crate::input::Input;
 use ledger_model::{Batch, Tx, Version};
@@ -10,7 +10,7 @@ use std::alloc::Global;
 
 #[tactic(auto, unfolding(ledger_model::specs::Reading::tx_at))]
 fn take_tx(alloc: Global, input: &mut Input) -> Result<Tx, DecodeFault>
-    ensures { Reads result input.new (tx_at input.old) }
+    ensures { IsReadFrom result input.new (tx_at input.old) }
 {
     let len = input.take_byte()?;
     let bytes = input.take_slice(usize::from(len))?;
@@ -36,7 +36,7 @@ pub(crate) fn take_batch(
     alloc: Global,
     input: &mut Input,
 ) -> Result<Batch, DecodeFault>
-    ensures { Reads result input.new (value_at version input.old) }
+    ensures { IsReadFrom result input.new (value_at version input.old) }
 {
     let count = input.take_byte()?;
     if usize::from(count) > version.batch_limit() {

@@ -1,7 +1,7 @@
 //! Takes entries: an event, and the reply that repeats the event's number.
 ghost use Rattle.std.specs.Prelude.{◌≡◌};
-ghost use Rattle.history_bytes.specs.HistoryReading.{entry_at, entries_of, entries_at};
-ghost use Rattle.statements.specs.Reads.{Reads, ReadsAs};
+ghost use Rattle.history_bytes.specs.HistoryReading.{entry_at, entry_list_of, entry_list_at};
+ghost use Rattle.statements.specs.Reads.{IsReadFrom, ReadsAs};
 
 use crate::event_reading::take_event;
 use crate::input::Input;
@@ -12,7 +12,7 @@ use std::alloc::Global;
 
 #[tactic(auto, unfolding(crate::specs::HistoryReading::entry_at))]
 fn take_entry(version: Version, alloc: Global, input: &mut Input) -> Result<Entry, DecodeFault>
-    ensures { Reads result input.new (entry_at version input.old) }
+    ensures { IsReadFrom result input.new (entry_at version input.old) }
 {
     let number = input.take_byte()?;
     let event = take_event(alloc, input, number)?;
@@ -29,7 +29,7 @@ fn entries_of(
     input: &mut Input,
     count: u32,
 ) -> Result<Vec<Entry>, DecodeFault>
-    ensures { ReadsAs (λ entries. entries.items) result input.new (entries_of version count input.old) }
+    ensures { ReadsAs (λ entries. entries.items) result input.new (entry_list_of version count input.old) }
 {
     let mut entries = Vec::new(alloc);
     for _ in 0..count {
@@ -40,13 +40,13 @@ fn entries_of(
 }
 
 /// Takes entries after their number in four bytes.
-#[tactic(auto, unfolding(crate::specs::HistoryReading::entries_at))]
+#[tactic(auto, unfolding(crate::specs::HistoryReading::entry_list_at))]
 pub(crate) fn take_entries(
     version: Version,
     alloc: Global,
     input: &mut Input,
 ) -> Result<Entries, DecodeFault>
-    ensures { Reads result input.new (entries_at version input.old) }
+    ensures { IsReadFrom result input.new (entry_list_at version input.old) }
 {
     let count = input.take_u32()?;
     let entries = entries_of(version, alloc, input, count)?;

@@ -1,7 +1,7 @@
 //! Takes events, after their number.
 ghost use Rattle.std.specs.Prelude.{◌≡◌};
-ghost use Rattle.history_bytes.specs.HistoryReading.{long_at, short_at, key_at, query_at, event_of};
-ghost use Rattle.statements.specs.Reads.{Reads};
+ghost use Rattle.history_bytes.specs.HistoryReading.{long_at, short_at, key_at, query_at, event_at};
+ghost use Rattle.statements.specs.Reads.{IsReadFrom};
 
 use crate::input::Input;
 use bytes::Bytes;
@@ -12,7 +12,7 @@ use std::alloc::Global;
 /// Takes bytes after their number in four bytes.
 #[tactic(auto, unfolding(crate::specs::HistoryReading::long_at))]
 fn take_long(input: &mut Input) -> Result<Bytes, DecodeFault>
-    ensures { Reads result input.new (long_at input.old) }
+    ensures { IsReadFrom result input.new (long_at input.old) }
 {
     let len = input.take_u32()?;
     input.take_shared(len as usize)
@@ -21,7 +21,7 @@ fn take_long(input: &mut Input) -> Result<Bytes, DecodeFault>
 /// Takes bytes after their number in one byte.
 #[tactic(auto, unfolding(crate::specs::HistoryReading::short_at))]
 pub(crate) fn take_short(input: &mut Input) -> Result<Bytes, DecodeFault>
-    ensures { Reads result input.new (short_at input.old) }
+    ensures { IsReadFrom result input.new (short_at input.old) }
 {
     let len = input.take_byte()?;
     input.take_shared(usize::from(len))
@@ -29,7 +29,7 @@ pub(crate) fn take_short(input: &mut Input) -> Result<Bytes, DecodeFault>
 
 #[tactic(auto, unfolding(crate::specs::HistoryReading::key_at))]
 fn take_key(alloc: Global, input: &mut Input) -> Result<Key, DecodeFault>
-    ensures { Reads result input.new (key_at input.old) }
+    ensures { IsReadFrom result input.new (key_at input.old) }
 {
     let len = input.take_byte()?;
     let bytes = input.take_slice(usize::from(len))?;
@@ -41,7 +41,7 @@ fn take_key(alloc: Global, input: &mut Input) -> Result<Key, DecodeFault>
 
 #[tactic(auto, unfolding(crate::specs::HistoryReading::query_at))]
 fn take_query(alloc: Global, input: &mut Input) -> Result<Event, DecodeFault>
-    ensures { Reads result input.new (query_at input.old) }
+    ensures { IsReadFrom result input.new (query_at input.old) }
 {
     let height = input.take_u32()?;
     let key = take_key(alloc, input)?;
@@ -49,9 +49,9 @@ fn take_query(alloc: Global, input: &mut Input) -> Result<Event, DecodeFault>
 }
 
 /// Takes the event of this number, without the number.
-#[tactic(auto, unfolding(crate::specs::HistoryReading::event_of))]
+#[tactic(auto, unfolding(crate::specs::HistoryReading::event_at))]
 pub(crate) fn take_event(alloc: Global, input: &mut Input, number: u8) -> Result<Event, DecodeFault>
-    ensures { Reads result input.new (event_of number input.old) }
+    ensures { IsReadFrom result input.new (event_at number input.old) }
 {
     match number {
         1 => Ok(Event::Submit(take_long(input)?)),

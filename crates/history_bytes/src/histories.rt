@@ -3,7 +3,7 @@ ghost use Rattle.std.specs.Prelude.{◌≡◌, List, None, Some, IfOk, IsErrOf, 
 ghost use Rattle.ledger_model.specs.declared.history.History.{History};
 ghost use Rattle.history_bytes.specs.HistoryReading.{history_at, histories_reading};
 ghost use Rattle.history_bytes.specs.HistoryLaws.{SpellsHistories, HistoriesSpelledAreRead, OneList};
-ghost use Rattle.statements.specs.Reads.{Reads, Faults};
+ghost use Rattle.statements.specs.Reads.{IsReadFrom, IsFaultOf};
 
 use crate::entry_reading::take_entries;
 use crate::fault::HistoryFault;
@@ -15,7 +15,7 @@ use std::alloc::Global;
 
 #[tactic(auto, unfolding(crate::specs::HistoryReading::history_at))]
 fn take_history(version: Version, alloc: Global, input: &mut Input) -> Result<History, DecodeFault>
-    ensures { Reads result input.new (history_at version input.old) }
+    ensures { IsReadFrom result input.new (history_at version input.old) }
 {
     let replica = input.take_byte()?;
     let entries = take_entries(version, alloc, input)?;
@@ -31,7 +31,7 @@ fn take_histories(
     input: &mut Input,
 ) -> Result<Vec<History>, DecodeFault>
     ensures { MatchResult result (λ histories. histories_reading version input.old ≡ Some histories.items)
-        (λ fault. Faults fault (histories_reading version input.old)) }
+        (λ fault. IsFaultOf fault (histories_reading version input.old)) }
 {
     let mut histories = Vec::new(alloc);
     while !input.is_empty() {

@@ -3,7 +3,7 @@ ghost use Rattle.std.specs.Prelude.{◌≡◌, ◌≤◌, ◌==◌, length, drop
 ghost use Rattle.std.specs.Int.{w16, w32};
 ghost use Rattle.ledger_model.specs.Reading.{byte_at, bytes_at, number_at, flag_at};
 ghost use Rattle.ledger_model.specs.GrammarLaws.{IsBytes};
-ghost use Rattle.statements.specs.Reads.{Reads, ReadsAs};
+ghost use Rattle.statements.specs.Reads.{IsReadFrom, ReadsAs};
 
 use bytes::Bytes;
 use octets::Cursor;
@@ -73,7 +73,7 @@ impl<'a> Input<'a> {
 
     /// Takes the next byte.
     pub(crate) fn take_byte(&mut self) -> Result<u8, DecodeFault>
-        ensures { Reads result self.new (byte_at self.old) }
+        ensures { IsReadFrom result self.new (byte_at self.old) }
     {
         let byte = Cursor::new(self.rest()).take_u8()?;
         self.advance(1);
@@ -82,7 +82,7 @@ impl<'a> Input<'a> {
 
     /// Takes a number of two bytes.
     pub(crate) fn take_u16(&mut self) -> Result<u16, DecodeFault>
-        ensures { Reads result self.new (number_at w16 self.old) }
+        ensures { IsReadFrom result self.new (number_at w16 self.old) }
     {
         let number = Cursor::new(self.rest()).take_u16()?;
         self.advance(2);
@@ -91,7 +91,7 @@ impl<'a> Input<'a> {
 
     /// Takes a number of four bytes.
     pub(crate) fn take_u32(&mut self) -> Result<u32, DecodeFault>
-        ensures { Reads result self.new (number_at w32 self.old) }
+        ensures { IsReadFrom result self.new (number_at w32 self.old) }
     {
         let number = Cursor::new(self.rest()).take_u32()?;
         self.advance(4);
@@ -101,7 +101,7 @@ impl<'a> Input<'a> {
     /// Takes a byte that is 0 or 1.
     #[tactic(auto, unfolding(ledger_model::specs::Reading::flag_at))]
     pub(crate) fn take_flag(&mut self) -> Result<bool, DecodeFault>
-        ensures { Reads result self.new (flag_at self.old) }
+        ensures { IsReadFrom result self.new (flag_at self.old) }
     {
         match self.take_byte()? {
             0 => Ok(false),
@@ -122,7 +122,7 @@ impl<'a> Input<'a> {
 
     /// Takes the next `count` bytes, which are shared and not copied.
     pub(crate) fn take_shared(&mut self, count: usize) -> Result<Bytes, DecodeFault>
-        ensures { Reads result self.new (bytes_at count self.old) }
+        ensures { IsReadFrom result self.new (bytes_at count self.old) }
     {
         if self.left < count {
             return Err(DecodeFault::Malformed);

@@ -1,7 +1,7 @@
 //! Refusals and causes by their numbers.
 ghost use Rattle.std.specs.Prelude.{◌≡◌};
 ghost use Rattle.history_bytes.specs.HistoryReading.{propose_refusal_of, retire_refusal_of, cause_of, submit_refusal_of};
-ghost use Rattle.statements.specs.Reads.{Reads, Gives};
+ghost use Rattle.statements.specs.Reads.{IsReadFrom, IsReadingOr};
 
 use crate::input::Input;
 use ledger_model::{Ignored, ProposeRefusal, RetireRefusal, SubmitRefusal};
@@ -10,7 +10,7 @@ use statements::DecodeFault;
 /// The reason of this number not to open a height.
 #[tactic(auto, unfolding(crate::specs::HistoryReading::propose_refusal_of))]
 pub(crate) fn propose_refusal_of(number: u8) -> Result<ProposeRefusal, DecodeFault>
-    ensures { Gives result (propose_refusal_of number) }
+    ensures { IsReadingOr result (propose_refusal_of number) }
 {
     match number {
         1 => Ok(ProposeRefusal::TooFar),
@@ -24,7 +24,7 @@ pub(crate) fn propose_refusal_of(number: u8) -> Result<ProposeRefusal, DecodeFau
 /// The reason of this number not to raise the floor.
 #[tactic(auto, unfolding(crate::specs::HistoryReading::retire_refusal_of))]
 pub(crate) fn retire_refusal_of(number: u8) -> Result<RetireRefusal, DecodeFault>
-    ensures { Gives result (retire_refusal_of number) }
+    ensures { IsReadingOr result (retire_refusal_of number) }
 {
     match number {
         1 => Ok(RetireRefusal::NotCommitted),
@@ -36,7 +36,7 @@ pub(crate) fn retire_refusal_of(number: u8) -> Result<RetireRefusal, DecodeFault
 /// The cause of this number.
 #[tactic(auto, unfolding(crate::specs::HistoryReading::cause_of))]
 pub(crate) fn cause_of(number: u8) -> Result<Ignored, DecodeFault>
-    ensures { Gives result (cause_of number) }
+    ensures { IsReadingOr result (cause_of number) }
 {
     match number {
         1 => Ok(Ignored::Malformed),
@@ -60,7 +60,7 @@ pub(crate) fn take_submit_refusal(
     input: &mut Input,
     number: u8,
 ) -> Result<SubmitRefusal, DecodeFault>
-    ensures { Reads result input.new (submit_refusal_of number input.old) }
+    ensures { IsReadFrom result input.new (submit_refusal_of number input.old) }
 {
     match number {
         1 => Ok(SubmitRefusal::Empty),

@@ -1,8 +1,8 @@
 //! Takes replies, after their number: 0 and the result of a success, or the number of a refusal.
 ghost use Rattle.std.specs.Prelude.{◌≡◌};
 ghost use Rattle.history_bytes.specs.HistoryReading.{submitted_at, proposed_at, delivered_at, round_ended_at};
-ghost use Rattle.history_bytes.specs.HistoryReading.{executed_at, queried_at, retired_at, reply_of};
-ghost use Rattle.statements.specs.Reads.{Reads};
+ghost use Rattle.history_bytes.specs.HistoryReading.{executed_at, queried_at, retired_at, reply_at};
+ghost use Rattle.statements.specs.Reads.{IsReadFrom};
 
 use crate::answers::{take_answer, take_block};
 use crate::batches::take_batch;
@@ -18,7 +18,7 @@ use std::alloc::Global;
 
 #[tactic(auto, unfolding(crate::specs::HistoryReading::submitted_at))]
 fn take_submitted(input: &mut Input) -> Result<Result<(), SubmitRefusal>, DecodeFault>
-    ensures { Reads result input.new (submitted_at input.old) }
+    ensures { IsReadFrom result input.new (submitted_at input.old) }
 {
     match input.take_byte()? {
         0 => Ok(Ok(())),
@@ -32,7 +32,7 @@ fn take_proposed(
     alloc: Global,
     input: &mut Input,
 ) -> Result<Result<Batch, ProposeRefusal>, DecodeFault>
-    ensures { Reads result input.new (proposed_at version input.old) }
+    ensures { IsReadFrom result input.new (proposed_at version input.old) }
 {
     match input.take_byte()? {
         0 => Ok(Ok(take_batch(version, alloc, input)?)),
@@ -42,7 +42,7 @@ fn take_proposed(
 
 #[tactic(auto, unfolding(crate::specs::HistoryReading::delivered_at))]
 fn take_delivered(input: &mut Input) -> Result<Result<(), Ignored>, DecodeFault>
-    ensures { Reads result input.new (delivered_at input.old) }
+    ensures { IsReadFrom result input.new (delivered_at input.old) }
 {
     match input.take_byte()? {
         0 => Ok(Ok(())),
@@ -56,7 +56,7 @@ fn take_round_ended(
     alloc: Global,
     input: &mut Input,
 ) -> Result<Result<RoundEnded, LastRound>, DecodeFault>
-    ensures { Reads result input.new (round_ended_at version input.old) }
+    ensures { IsReadFrom result input.new (round_ended_at version input.old) }
 {
     match input.take_byte()? {
         0 => Ok(Ok(take_ended(version, alloc, input)?)),
@@ -70,7 +70,7 @@ fn take_executed(
     alloc: Global,
     input: &mut Input,
 ) -> Result<Result<BlockResult, NothingDecided>, DecodeFault>
-    ensures { Reads result input.new (executed_at input.old) }
+    ensures { IsReadFrom result input.new (executed_at input.old) }
 {
     match input.take_byte()? {
         0 => Ok(Ok(take_block(alloc, input)?)),
@@ -81,7 +81,7 @@ fn take_executed(
 
 #[tactic(auto, unfolding(crate::specs::HistoryReading::queried_at))]
 fn take_queried(input: &mut Input) -> Result<Result<QueryAnswer, NotHeld>, DecodeFault>
-    ensures { Reads result input.new (queried_at input.old) }
+    ensures { IsReadFrom result input.new (queried_at input.old) }
 {
     match input.take_byte()? {
         0 => Ok(Ok(take_answer(input)?)),
@@ -92,7 +92,7 @@ fn take_queried(input: &mut Input) -> Result<Result<QueryAnswer, NotHeld>, Decod
 
 #[tactic(auto, unfolding(crate::specs::HistoryReading::retired_at))]
 fn take_retired(input: &mut Input) -> Result<Result<Height, RetireRefusal>, DecodeFault>
-    ensures { Reads result input.new (retired_at input.old) }
+    ensures { IsReadFrom result input.new (retired_at input.old) }
 {
     match input.take_byte()? {
         0 => Ok(Ok(Height::new(input.take_u32()?))),
@@ -101,14 +101,14 @@ fn take_retired(input: &mut Input) -> Result<Result<Height, RetireRefusal>, Deco
 }
 
 /// Takes the reply to an event of this number, in a cluster with frames of this version, without the number.
-#[tactic(auto, unfolding(crate::specs::HistoryReading::reply_of))]
+#[tactic(auto, unfolding(crate::specs::HistoryReading::reply_at))]
 pub(crate) fn take_reply(
     version: Version,
     alloc: Global,
     input: &mut Input,
     number: u8,
 ) -> Result<Reply, DecodeFault>
-    ensures { Reads result input.new (reply_of version number input.old) }
+    ensures { IsReadFrom result input.new (reply_at version number input.old) }
 {
     match number {
         1 => Ok(Reply::Submitted(take_submitted(input)?)),

@@ -1,7 +1,7 @@
 //! Takes what a round end sent.
 ghost use Rattle.std.specs.Prelude.{◌≡◌};
-ghost use Rattle.history_bytes.specs.HistoryReading.{addressee_of, frame_at, sent_at, frames_of, frames_at, ended_at};
-ghost use Rattle.statements.specs.Reads.{Reads, ReadsAs};
+ghost use Rattle.history_bytes.specs.HistoryReading.{addressee_by_number, frame_at, sent_at, frames_of, frames_at, ended_at};
+ghost use Rattle.statements.specs.Reads.{IsReadFrom, ReadsAs};
 
 use crate::input::Input;
 use bytes::Bytes;
@@ -16,7 +16,7 @@ const HEADER_LEN: usize = 4;
 
 /// The addressee of this number: 255 is all.
 fn addressee_of(number: u8) -> Addressee
-    ensures { result ≡ addressee_of number }
+    ensures { result ≡ addressee_by_number number }
 {
     match number {
         255 => Addressee::All,
@@ -27,7 +27,7 @@ fn addressee_of(number: u8) -> Addressee
 /// Takes a frame of this version, with its length. The frame is parsed, and only its bytes are kept.
 #[tactic(auto, unfolding(crate::specs::HistoryReading::frame_at))]
 fn take_frame(version: Version, alloc: Global, input: &mut Input) -> Result<Bytes, DecodeFault>
-    ensures { Reads result input.new (frame_at version input.old) }
+    ensures { IsReadFrom result input.new (frame_at version input.old) }
 {
     let len = Cursor::new(input.rest()).take_u32()? as usize;
     let bytes = input.take_shared(HEADER_LEN + len)?;
@@ -37,7 +37,7 @@ fn take_frame(version: Version, alloc: Global, input: &mut Input) -> Result<Byte
 
 #[tactic(auto, unfolding(crate::specs::HistoryReading::sent_at))]
 fn take_sent(version: Version, alloc: Global, input: &mut Input) -> Result<Sent, DecodeFault>
-    ensures { Reads result input.new (sent_at version input.old) }
+    ensures { IsReadFrom result input.new (sent_at version input.old) }
 {
     let addressee = addressee_of(input.take_byte()?);
     let frame = take_frame(version, alloc, input)?;
@@ -67,7 +67,7 @@ fn take_frames(
     alloc: Global,
     input: &mut Input,
 ) -> Result<SentFrames, DecodeFault>
-    ensures { Reads result input.new (frames_at version input.old) }
+    ensures { IsReadFrom result input.new (frames_at version input.old) }
 {
     let count = input.take_u16()?;
     let frames = frames_of(version, alloc, input, count)?;
@@ -81,7 +81,7 @@ pub(crate) fn take_ended(
     alloc: Global,
     input: &mut Input,
 ) -> Result<RoundEnded, DecodeFault>
-    ensures { Reads result input.new (ended_at version input.old) }
+    ensures { IsReadFrom result input.new (ended_at version input.old) }
 {
     let mute = input.take_flag()?;
     let frames = take_frames(version, alloc, input)?;

@@ -9,7 +9,7 @@ use Rattle.http_messages.specs.declared.fault.RequestFault.{RequestFault}
 use Rattle.http_messages.specs.declared.fault.RequestFault.TheVariants as fault
 use Rattle.http_messages.specs.declared.request.Request.{Request}
 use Rattle.http_messages.specs.Limits.{max_head_len, max_fields}
-use Rattle.http_messages.specs.Faults.{Gives}
+use Rattle.http_messages.specs.Faults.{IsExpected}
 use Rattle.http_messages.specs.Questions.{RequestView, request_view}
 use Rattle.http_messages.specs.Requests.{asked_by, needs_memory, AnswersHead}
 use Rattle.http_messages.proofs.Asked.{IsAsked, asked_by-asked}
@@ -23,12 +23,12 @@ few_fields buf headers count room fields are fits size =
 
 -- a fault that may be one of what is asked
 asked_fault : (answer : Result RequestView RequestFault) (e : RequestFault) → IsAsked answer → (e ≡ fault.NoMemory → ⊥)
-    → Gives {A = Request} request_view (Err e) answer → answer ≡ Err e
+    → IsExpected {A = Request} request_view (Err e) answer → answer ≡ Err e
 asked_fault answer e asked no_memory gives = elim gives [ inl is ↦ absurd (no_memory is) | inr is ↦ is ]
 
 -- the head is answered by what it asks
 pub answered : (bytes : List ℕ) (h : RequestHead) (rest : List ℕ) (r : Result Request RequestFault) → ReadsRequest bytes h rest
-    → length bytes ≤ max_head_len → length h.fields ≤ max_fields → Gives request_view r (asked_by h.method h.target)
+    → length bytes ≤ max_head_len → length h.fields ≤ max_fields → IsExpected request_view r (asked_by h.method h.target)
     → (IsErrOf r fault.NoMemory → IsTrue (needs_memory h.method h.target)) → AnswersHead bytes r
 answered bytes h rest (Ok request) reads short few gives memory =
     record { head = h; rest = rest; reads = reads; short = short; few = few; asked = sym gives }

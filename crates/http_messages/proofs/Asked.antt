@@ -12,8 +12,8 @@ use Rattle.http_messages.specs.declared.fault.RequestFault.TheVariants as fault
 use Rattle.http_messages.specs.Faults.{parameter_name, ◌>>=◌}
 use Rattle.http_messages.specs.Endpoints.{endpoint_of}
 use Rattle.http_messages.specs.Values.{byte_string_of, written_number_of}
-use Rattle.http_messages.specs.Parameters.{value_of, value_or_fault, bytes_in, required_bytes, number_or_fault, number_in, optional_number}
-use Rattle.http_messages.specs.Parameters.{replica_of, replica_in}
+use Rattle.http_messages.specs.Parameters.{value_of, value_or_fault, bytes_parameter, required_bytes, number_or_fault, number_parameter, optional_number}
+use Rattle.http_messages.specs.Parameters.{replica_parameter, replica_in}
 use Rattle.http_messages.specs.Requests.{path_of, query_of, question_in, request_in, asked_of, asked_by}
 
 -- no fault, or one of the path, the method or a parameter
@@ -46,7 +46,7 @@ value_or_fault-asked : {A : Type 0} (p : Parameter) (o : Option A) → IsAsked (
 value_or_fault-asked p (Some x) = tt
 value_or_fault-asked p None = tt
 
-bytes_in-asked : (p : Parameter) (o : Option (List ℕ)) → IsAsked (bytes_in p o)
+bytes_in-asked : (p : Parameter) (o : Option (List ℕ)) → IsAsked (bytes_parameter p o)
 bytes_in-asked p (Some encoded) = value_or_fault-asked p (byte_string_of (decode encoded))
 bytes_in-asked p None = tt
 
@@ -58,7 +58,7 @@ number_or_fault-asked : (p : Parameter) (o : Option ℕ) → IsAsked (number_or_
 number_or_fault-asked p (Some n) = tt
 number_or_fault-asked p None = tt
 
-number_in-asked : (p : Parameter) (o : Option (List ℕ)) → IsAsked (number_in p o)
+number_in-asked : (p : Parameter) (o : Option (List ℕ)) → IsAsked (number_parameter p o)
 number_in-asked p (Some encoded) = number_or_fault-asked p (written_number_of (decode encoded))
 number_in-asked p None = tt
 
@@ -66,7 +66,7 @@ optional_number-asked : (p : Parameter) (query : List ℕ) → IsAsked (optional
 unfolding optional_number
 optional_number-asked p query = number_in-asked p (value_of (parameter_name p) query)
 
-replica_of-asked : (o : Option ℕ) → IsAsked (replica_of o)
+replica_of-asked : (o : Option ℕ) → IsAsked (replica_parameter o)
 replica_of-asked (Some n) =
     elim (nat_lt n (2 ^ 8))
     as (λ t. IsAsked (cond {A = Result (Option ℕ) RequestFault} t (Ok (Some n)) (Err (fault.Parameter Replica)))) [ true ↦ tt | false ↦ tt ]
@@ -74,7 +74,7 @@ replica_of-asked None = tt
 
 replica_in-asked : (query : List ℕ) → IsAsked (replica_in query)
 unfolding replica_in
-replica_in-asked query = both (optional_number Replica query) replica_of (optional_number-asked Replica query) replica_of-asked
+replica_in-asked query = both (optional_number Replica query) replica_parameter (optional_number-asked Replica query) replica_of-asked
 
 question_in-asked : (e : Endpoint) (query : List ℕ) → IsAsked (question_in e query)
 unfolding question_in

@@ -7,14 +7,14 @@ use Rattle.std.specs.Str.Parse.{digits_value}
 use Rattle.std.proofs.lemmas.Bool.{and_parts}
 use Rattle.std.proofs.lemmas.Bool.Decides.{nat_tests}
 use Rattle.plain_text.specs.Numbers.{is_digit, is_decimal}
-use Rattle.http_messages.specs.Values.{number_of}
+use Rattle.http_messages.specs.Values.{decimal_number}
 use Rattle.http_messages.proofs.Texts.{text_of_ascii}
 
 -- a reader of decimal digits reads them as this one does
 pub number_of-is : (digits : List ℕ) (r : Option ℕ) → IfSome r (λ n. n < 2 ^ 32)
     → IfSome r (λ n. IsTrue (is_decimal digits) × (digits_value 10 digits ≡ n))
-    → IfNone r (IsTrue (is_decimal digits) → 2 ^ 32 ≤ digits_value 10 digits) → r ≡ number_of digits
-unfolding number_of
+    → IfNone r (IsTrue (is_decimal digits) → 2 ^ 32 ≤ digits_value 10 digits) → r ≡ decimal_number digits
+unfolding decimal_number
 number_of-is digits (Some n) small value none =
     let decimal : is_decimal digits ≡ true = value.0 in
     let is : digits_value 10 digits ≡ n = value.1 in
@@ -42,8 +42,8 @@ digits-ascii (b ∷ digits) h =
     by_digit b h = grind (arith, nat_tests)
 
 -- bytes that are no text are no number
-pub number_of-no_text : (digits : List ℕ) → (IsUtf8 digits → ⊥) → None ≡ number_of digits
-unfolding number_of
+pub number_of-no_text : (digits : List ℕ) → (IsUtf8 digits → ⊥) → None ≡ decimal_number digits
+unfolding decimal_number
 number_of-no_text digits not_text = by_decimal (is_decimal digits) refl
   where
     by_decimal : (t : Bool) → is_decimal digits ≡ t

@@ -10,29 +10,29 @@ use Rattle.http_messages.specs.Answers as answer
 use Rattle.http_messages.specs.Errors.{reason_text, error_text}
 use Rattle.http_messages.specs.Metrics.{all_causes, cause_name}
 use Rattle.http_messages.specs.Results.{unconfirmed_result}
-use Rattle.http_messages.specs.Replies.{status_of, content_type, allow_text, fields_text, head_text, result_text, body_text, reply_bytes}
+use Rattle.http_messages.specs.Replies.{status_of, content_type, allow_text, fields_text, head_text, result_text, body_text, http_reply_bytes}
 
 -- what computes the definitions on a literal
 unfoldable replies_on_literals : ⊤
 unfolding
-    reply_bytes body_text head_text fields_text status_of content_type allow_text reason_text error_text result_text unconfirmed_result
+    http_reply_bytes body_text head_text fields_text status_of content_type allow_text reason_text error_text result_text unconfirmed_result
     digits
 replies_on_literals = tt
 
-reply-health : reply_bytes answer.Health
+reply-health : http_reply_bytes answer.Health
     ≡ codes "HTTP/1.1 200 OK\r\n" ++ codes "Content-Type: application/json\r\n" ++ codes "Content-Length: 37\r\n"
     ++ codes "Connection: close\r\n" ++ codes "\r\n" ++ codes "{\"jsonrpc\":\"2.0\",\"id\":-1,\"result\":{}}"
 unfolding replies_on_literals
 reply-health = refl
 
-reply-unconfirmed : reply_bytes (answer.UnconfirmedTxs 31 19974)
+reply-unconfirmed : http_reply_bytes (answer.UnconfirmedTxs 31 19974)
     ≡ codes "HTTP/1.1 200 OK\r\n" ++ codes "Content-Type: application/json\r\n" ++ codes "Content-Length: 95\r\n"
     ++ codes "Connection: close\r\n" ++ codes "\r\n"
     ++ codes "{\"jsonrpc\":\"2.0\",\"id\":-1,\"result\":{\"n_txs\":\"31\",\"total\":\"31\",\"total_bytes\":\"19974\",\"txs\":null}}"
 unfolding replies_on_literals
 reply-unconfirmed = refl
 
-reply-method : reply_bytes (answer.Fault fault.Method)
+reply-method : http_reply_bytes (answer.Fault fault.Method)
     ≡ codes "HTTP/1.1 405 Method Not Allowed\r\n" ++ codes "Content-Type: application/json\r\n"
     ++ codes "Content-Length: 112\r\n" ++ codes "Allow: GET\r\n" ++ codes "Connection: close\r\n" ++ codes "\r\n"
     ++ codes "{\"jsonrpc\":\"2.0\",\"id\":-1,\"error\":{\"code\":-32600,\"message\":\"Invalid Request\","

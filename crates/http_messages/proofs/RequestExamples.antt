@@ -7,14 +7,14 @@ use Rattle.http_messages.specs.declared.fault.Parameter.TheVariants.{Tx, Replica
 use Rattle.http_messages.specs.declared.fault.RequestFault.TheVariants as fault
 use Rattle.http_messages.specs.Questions.{AbciQuery, Block, BroadcastCommit}
 use Rattle.http_messages.specs.Endpoints.{endpoint_of}
-use Rattle.http_messages.specs.Values.{quoted_of, byte_string_of, number_of, written_number_of}
+use Rattle.http_messages.specs.Values.{quoted_of, byte_string_of, decimal_number, written_number_of}
 use Rattle.http_messages.specs.Parameters.{value_of, required_bytes, optional_number, replica_in}
 use Rattle.http_messages.specs.Requests.{question_in, request_in, asked_by}
 
 -- what computes the definitions on a literal
 unfoldable asked_on_literals : ⊤
 unfolding
-    asked_by endpoint_of request_in question_in required_bytes optional_number value_of replica_in byte_string_of quoted_of number_of
+    asked_by endpoint_of request_in question_in required_bytes optional_number value_of replica_in byte_string_of quoted_of decimal_number
     written_number_of form_urlencoded_on_literals hex_on_literals
 asked_on_literals = tt
 

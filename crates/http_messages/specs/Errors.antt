@@ -88,9 +88,9 @@ refusal_kind refusal.Duplicate = kind.Internal
 refusal_kind refusal.Full = kind.Internal
 refusal_kind (refusal.Rejected code) = kind.Internal
 
-abbrev pub refusal_text : SubmitRefusal → List ℕ
-refusal_text refusal.Empty = codes "the transaction has no byte"
-refusal_text refusal.TooLong = codes "the transaction has more than 64 bytes"
-refusal_text refusal.Duplicate = codes "tx already exists in cache"
-refusal_text refusal.Full = codes "mempool is full"
-refusal_text (refusal.Rejected code) = codes "the application refuses the transaction"
+abbrev pub submit_refusal_sentence : SubmitRefusal → List ℕ
+submit_refusal_sentence refusal.Empty = codes "the transaction has no byte"
+submit_refusal_sentence refusal.TooLong = codes "the transaction has more than 64 bytes"
+submit_refusal_sentence refusal.Duplicate = codes "tx already exists in cache"
+submit_refusal_sentence refusal.Full = codes "mempool is full"
+submit_refusal_sentence (refusal.Rejected code) = codes "the application refuses the transaction"

@@ -13,14 +13,14 @@ parameter_name parameter.Height = codes "height"
 parameter_name parameter.Replica = codes "replica"
 
 -- the sentence of a fault
-abbrev pub fault_text : RequestFault → List ℕ
-fault_text fault.Malformed = codes "this is no HTTP/1.x request"
-fault_text fault.Incomplete = codes "the request ends within its head"
-fault_text (fault.Parameter p) = codes "the parameter " ++ parameter_name p ++ codes " is missing or wrong"
-fault_text fault.NotFound = codes "no such path"
-fault_text fault.Method = codes "only GET is answered here"
-fault_text fault.TooLong = codes "the head of the request is too long"
-fault_text fault.NoMemory = codes "out of memory"
+abbrev pub request_fault_text : RequestFault → List ℕ
+request_fault_text fault.Malformed = codes "this is no HTTP/1.x request"
+request_fault_text fault.Incomplete = codes "the request ends within its head"
+request_fault_text (fault.Parameter p) = codes "the parameter " ++ parameter_name p ++ codes " is missing or wrong"
+request_fault_text fault.NotFound = codes "no such path"
+request_fault_text fault.Method = codes "only GET is answered here"
+request_fault_text fault.TooLong = codes "the head of the request is too long"
+request_fault_text fault.NoMemory = codes "out of memory"
 
 -- the status code of the reply (RFC 9110, section 15; RFC 6585, section 5)
 abbrev pub status_of : RequestFault → ℕ
@@ -39,6 +39,6 @@ Ok x >>= f = f x
 Err e >>= f = Err e
 
 -- the result is the expected one, unless memory ran out
-abbrev pub Gives : {A B : Type 0} → (A → B) → Result A RequestFault → Result B RequestFault → Type 0
-Gives view (Ok x) expected = expected ≡ Ok (view x)
-Gives view (Err e) expected = (e ≡ fault.NoMemory) ⊎ (expected ≡ Err e)
+abbrev pub IsExpected : {A B : Type 0} → (A → B) → Result A RequestFault → Result B RequestFault → Type 0
+IsExpected view (Ok x) expected = expected ≡ Ok (view x)
+IsExpected view (Err e) expected = (e ≡ fault.NoMemory) ⊎ (expected ≡ Err e)

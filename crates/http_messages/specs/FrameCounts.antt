@@ -5,12 +5,12 @@ use Rattle.ledger_model.specs.declared.reply.Ignored.{Ignored}
 use Rattle.http_messages.specs.declared.frame_counts.FrameCounts.{FrameCounts}
 
 -- the place of a cause: causes have the numbers from 1 on
-abbrev pub place_of : Ignored → ℕ
-place_of cause = cause_number cause - 1
+abbrev pub cause_place : Ignored → ℕ
+cause_place cause = cause_number cause - 1
 
 -- how many frames were ignored for a cause
 abbrev pub ignored_for : FrameCounts → Ignored → ℕ
-ignored_for counts cause = slice_index counts.ignored (place_of cause)
+ignored_for counts cause = slice_index counts.ignored (cause_place cause)
 
 -- a count of frames after another frame, which is of the counted kind or not
 abbrev pub counted : Bool → ℕ → ℕ

@@ -42,19 +42,19 @@ comment_text name help kind =
     joined (codes "# HELP " ∷ name ∷ codes " " ∷ help ∷ codes "\n# TYPE " ∷ name ∷ codes " " ∷ kind ∷ codes "\n" ∷ [])
 
 -- the number of a metric for a replica
-abbrev pub value_of : Metric → ReplicaMetrics → ℕ
-value_of metric.Rounds of = of.rounds
-value_of metric.Height of = of.height
-value_of metric.SignaturesLeft of = of.signatures_left
-value_of metric.PoolTransactions of = of.pool_transactions
-value_of metric.HistoryEntries of = of.history_entries
-value_of metric.FramesLost of = of.frames_lost
-value_of metric.FramesAccepted of = of.frames.accepted
+abbrev pub metric_value : Metric → ReplicaMetrics → ℕ
+metric_value metric.Rounds of = of.rounds
+metric_value metric.Height of = of.height
+metric_value metric.SignaturesLeft of = of.signatures_left
+metric_value metric.PoolTransactions of = of.pool_transactions
+metric_value metric.HistoryEntries of = of.history_entries
+metric_value metric.FramesLost of = of.frames_lost
+metric_value metric.FramesAccepted of = of.frames.accepted
 
 -- the line of a metric for a replica
 unfoldable pub sample_text : Metric → ReplicaMetrics → List ℕ
 sample_text metric of =
-    joined (metric_name metric ∷ codes "{replica=\"" ∷ decimal of.replica ∷ codes "\"} " ∷ decimal (value_of metric of) ∷ codes "\n" ∷ [])
+    joined (metric_name metric ∷ codes "{replica=\"" ∷ decimal of.replica ∷ codes "\"} " ∷ decimal (metric_value metric of) ∷ codes "\n" ∷ [])
 
 -- the lines of a metric for all replicas
 abbrev pub metric_text : List ReplicaMetrics → Metric → List ℕ

@@ -2,7 +2,7 @@
 use Rattle.std.specs.Prelude.{ℕ, List, [], ◌∷◌, ◌++◌, length, codes, decimal}
 use Rattle.ledger_model.specs.declared.reply.SubmitRefusal.{SubmitRefusal}
 use Rattle.ledger_model.specs.declared.reply.SubmitRefusal.TheVariants as refusal
-use Rattle.http_messages.specs.Faults.{fault_text}
+use Rattle.http_messages.specs.Faults.{request_fault_text}
 use Rattle.http_messages.specs.Faults as requests
 use Rattle.http_messages.specs.declared.fault.RequestFault.TheVariants as fault
 use Rattle.http_messages.specs.declared.answer.Submission.{Submission}
@@ -16,7 +16,7 @@ use Rattle.http_messages.specs.Texts.{joined}
 use Rattle.http_messages.specs.Results.{status_result, info_result, query_result, block_result, unconfirmed_result, sync_result}
 use Rattle.http_messages.specs.Results.{rejected_sync, commit_result, rejected_commit}
 use Rattle.http_messages.specs.Errors.{reason_text, kind_text, error_text, fault_kind, service_status, service_kind, service_text}
-use Rattle.http_messages.specs.Errors.{refusal_status, refusal_kind, refusal_text}
+use Rattle.http_messages.specs.Errors.{refusal_status, refusal_kind, submit_refusal_sentence}
 use Rattle.http_messages.specs.Metrics.{metrics_text}
 
 -- the status of the reply to a transaction for the pool
@@ -71,7 +71,7 @@ result_text result_object = joined (codes "{\"jsonrpc\":\"2.0\",\"id\":-1,\"resu
 
 -- the body of a reply that says why the pool refused a transaction
 abbrev pub refusal_body : SubmitRefusal → List ℕ
-refusal_body r = error_text (kind_text (refusal_kind r)) (refusal_text r)
+refusal_body r = error_text (kind_text (refusal_kind r)) (submit_refusal_sentence r)
 
 -- the body of the reply to a transaction for the pool
 unfoldable pub sync_body : List ℕ → Submission → List ℕ
@@ -103,9 +103,9 @@ body_text (UnconfirmedTxs count bytes) = result_text (unconfirmed_result count b
 body_text (BroadcastSync tx s) = sync_body tx s
 body_text (BroadcastCommit tx c) = commit_body tx c
 body_text (Metrics replicas) = metrics_text replicas
-body_text (Fault f) = error_text (kind_text (fault_kind f)) (fault_text f)
+body_text (Fault f) = error_text (kind_text (fault_kind f)) (request_fault_text f)
 body_text (Unanswered f) = error_text (kind_text (service_kind f)) (service_text f)
 
 -- the bytes of a reply: its head, which has the length of the body, and the body
-unfoldable pub reply_bytes : AnswerView → List ℕ
-reply_bytes a = head_text a (length (body_text a)) ++ body_text a
+unfoldable pub http_reply_bytes : AnswerView → List ℕ
+http_reply_bytes a = head_text a (length (body_text a)) ++ body_text a

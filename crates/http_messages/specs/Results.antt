@@ -4,7 +4,7 @@ use Rattle.std.specs.List.{flat_map}
 use Rattle.ledger_model.specs.Values.{Value}
 use Rattle.ledger_model.specs.declared.config.AppKind.{AppKind}
 use Rattle.ledger_model.specs.declared.config.AppKind.TheVariants.{KvStore, Counter, Purse}
-use Rattle.http_messages.specs.Texts.{joined, base64_text, hash_text, value_text}
+use Rattle.http_messages.specs.Texts.{joined, base64_text, hash_text, json_value}
 
 -- how far a replica is
 unfoldable pub status_result : ℕ → ℕ → ℕ → List ℕ
@@ -34,17 +34,17 @@ log_text None = codes "does not exist"
 unfoldable pub query_result : List ℕ → Option (List ℕ) → ℕ → List ℕ
 query_result key value height =
     joined (codes "{\"response\":{\"code\":0,\"log\":\"" ∷ log_text value ∷ codes "\",\"info\":\"\",\"index\":\"0\",\"key\":\""
-    ∷ base64_text key ∷ codes "\",\"value\":" ∷ value_text value ∷ codes ",\"proofOps\":null,\"height\":\"" ∷ decimal height
+    ∷ base64_text key ∷ codes "\",\"value\":" ∷ json_value value ∷ codes ",\"proofOps\":null,\"height\":\"" ∷ decimal height
     ∷ codes "\",\"codespace\":\"\"}}" ∷ [])
 
 -- a transaction in base64 and quotes
-unfoldable pub tx_text : List ℕ → List ℕ
-tx_text tx = joined (codes "\"" ∷ base64_text tx ∷ codes "\"" ∷ [])
+unfoldable pub json_tx : List ℕ → List ℕ
+json_tx tx = joined (codes "\"" ∷ base64_text tx ∷ codes "\"" ∷ [])
 
 -- transactions, separated by commas
 abbrev pub txs_text : Value → List ℕ
 txs_text [] = []
-txs_text (t ∷ ts) = tx_text t ++ flat_map (λ t. codes "," ++ tx_text t) ts
+txs_text (t ∷ ts) = json_tx t ++ flat_map (λ t. codes "," ++ json_tx t) ts
 
 -- the block at a height; no hash names it
 unfoldable pub block_result : ℕ → Value → List ℕ

@@ -20,6 +20,6 @@ unfoldable pub hash_text : List ℕ → List ℕ
 hash_text tx = encode_upper (sha256 tx)
 
 -- a value in base64 and quotes, or `null`
-unfoldable pub value_text : Option (List ℕ) → List ℕ
-value_text (Some bytes) = joined (codes "\"" ∷ base64_text bytes ∷ codes "\"" ∷ [])
-value_text None = codes "null"
+unfoldable pub json_value : Option (List ℕ) → List ℕ
+json_value (Some bytes) = joined (codes "\"" ∷ base64_text bytes ∷ codes "\"" ∷ [])
+json_value None = codes "null"

@@ -39,9 +39,9 @@ unfoldable pub byte_string_of : List ℕ → Option (List ℕ)
 byte_string_of text = if has_hex_prefix text then hexadecimal_of (drop 2 text) else quoted_of text
 
 -- the number below 2^32 that decimal digits are; leading zeros are allowed
-unfoldable pub number_of : List ℕ → Option ℕ
-number_of digits = if is_decimal digits && nat_lt (digits_value 10 digits) (2 ^ 32) then Some (digits_value 10 digits) else None
+unfoldable pub decimal_number : List ℕ → Option ℕ
+decimal_number digits = if is_decimal digits && nat_lt (digits_value 10 digits) (2 ^ 32) then Some (digits_value 10 digits) else None
 
 -- the number below 2^32 that is between quotes, or that a text is without quotes
 unfoldable pub written_number_of : List ℕ → Option ℕ
-written_number_of text = number_of (unwrap_or (quoted_of text) text)
+written_number_of text = decimal_number (unwrap_or (quoted_of text) text)

@@ -1,6 +1,6 @@
 //! What a method and a target ask.
 ghost use Rattle.std.specs.Prelude.{◌≡◌, IsErrOf, IsTrue};
-ghost use Rattle.http_messages.specs.Faults.{Gives};
+ghost use Rattle.http_messages.specs.Faults.{IsExpected};
 ghost use Rattle.http_messages.specs.Questions.{question_view, request_view};
 ghost use Rattle.http_messages.specs.Requests.{path_of, query_of, question_in, request_in, asked_by, needs_memory};
 ghost use Rattle.http_messages.specs.Parameters.{is_any_given};
@@ -25,7 +25,7 @@ fn split_target(target: &[u8]) -> (&[u8], &[u8])
 /// The question that an endpoint is asked with a query.
 #[tactic(auto, using(crate::proofs::Steps::first_fault), unfolding(crate::specs::Requests::question_in))]
 fn question_in(alloc: Global, endpoint: Endpoint, query: &[u8]) -> Result<Question, RequestFault>
-    ensures gives { Gives question_view result (question_in endpoint query.now) }
+    ensures gives { IsExpected question_view result (question_in endpoint query.now) }
     ensures memory { IsErrOf result RequestFault.NoMemory → IsTrue (is_any_given query.now) }
 {
     match endpoint {
@@ -58,7 +58,7 @@ fn question_in(alloc: Global, endpoint: Endpoint, query: &[u8]) -> Result<Questi
 /// The question that an endpoint is asked with a query, and the replica that the query names.
 #[tactic(auto, using(crate::proofs::Steps::first_fault), unfolding(crate::specs::Requests::request_in))]
 fn request_in(alloc: Global, endpoint: Endpoint, query: &[u8]) -> Result<Request, RequestFault>
-    ensures gives { Gives request_view result (request_in endpoint query.now) }
+    ensures gives { IsExpected request_view result (request_in endpoint query.now) }
     ensures memory { IsErrOf result RequestFault.NoMemory → IsTrue (is_any_given query.now) }
 {
     let question = question_in(alloc, endpoint, query)?;
@@ -69,7 +69,7 @@ fn request_in(alloc: Global, endpoint: Endpoint, query: &[u8]) -> Result<Request
 /// What a method and a target ask.
 #[tactic(auto, unfolding(crate::specs::Requests::asked_by))]
 pub(crate) fn asked_by(alloc: Global, method: &[u8], target: &[u8]) -> Result<Request, RequestFault>
-    ensures gives { Gives request_view result (asked_by method.now target.now) }
+    ensures gives { IsExpected request_view result (asked_by method.now target.now) }
     ensures memory { IsErrOf result RequestFault.NoMemory → IsTrue (needs_memory method.now target.now) }
 {
     let (path, query) = split_target(target);

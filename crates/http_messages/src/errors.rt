@@ -1,8 +1,8 @@
 //! Errors of JSON-RPC 2.0, and the statuses of HTTP that they come with.
 ghost use Rattle.std.specs.Prelude.{◌≡◌, IfOk};
 ghost use Rattle.std.specs.String.{string_bytes};
-ghost use Rattle.http_messages.specs.Faults.{fault_text};
-ghost use Rattle.http_messages.specs.Errors.{reason_text, kind_text, error_text, fault_kind, service_status, service_kind, service_text, refusal_status, refusal_kind, refusal_text};
+ghost use Rattle.http_messages.specs.Faults.{request_fault_text};
+ghost use Rattle.http_messages.specs.Errors.{reason_text, kind_text, error_text, fault_kind, service_status, service_kind, service_text, refusal_status, refusal_kind, submit_refusal_sentence};
 
 use crate::answer::ServiceFault;
 use crate::RequestFault;
@@ -74,7 +74,7 @@ fn fault_kind(fault: RequestFault) -> ErrorKind
 
 /// The body of the reply to a request with a fault.
 pub(crate) fn fault_body(alloc: Global, fault: RequestFault) -> Result<String, AllocError>
-    ensures { IfOk result (λ body. string_bytes body ≡ error_text (kind_text (fault_kind fault)) (fault_text fault)) }
+    ensures { IfOk result (λ body. string_bytes body ≡ error_text (kind_text (fault_kind fault)) (request_fault_text fault)) }
 {
     let sentence = format!(in alloc; "{fault}")?;
     error_body(alloc, fault_kind(fault), &sentence)
@@ -142,7 +142,7 @@ fn refusal_kind(refusal: SubmitRefusal) -> ErrorKind
 }
 
 fn refusal_text(refusal: SubmitRefusal) -> &'static str
-    ensures { result.now ≡ refusal_text refusal }
+    ensures { result.now ≡ submit_refusal_sentence refusal }
 {
     match refusal {
         SubmitRefusal::Empty => "the transaction has no byte",
@@ -155,7 +155,7 @@ fn refusal_text(refusal: SubmitRefusal) -> &'static str
 
 /// The body of a reply that says why the pool refused a transaction.
 pub(crate) fn refusal_body(alloc: Global, refusal: SubmitRefusal) -> Result<String, AllocError>
-    ensures { IfOk result (λ body. string_bytes body ≡ error_text (kind_text (refusal_kind refusal)) (refusal_text refusal)) }
+    ensures { IfOk result (λ body. string_bytes body ≡ error_text (kind_text (refusal_kind refusal)) (submit_refusal_sentence refusal)) }
 {
     error_body(alloc, refusal_kind(refusal), refusal_text(refusal))
 }

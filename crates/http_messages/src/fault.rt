@@ -1,6 +1,6 @@
 //! Why `parse` refuses a head, and the status of the reply.
 ghost use Rattle.std.specs.Prelude.{◌≡◌, Some};
-ghost use Rattle.http_messages.specs.Faults.{parameter_name, fault_text, status_of};
+ghost use Rattle.http_messages.specs.Faults.{parameter_name, request_fault_text, status_of};
 ghost use Rattle.http_messages.specs.declared.fault.RequestFault.TheVariants.{NoMemory};
 
 use std::alloc::AllocError;
@@ -59,7 +59,7 @@ pub enum RequestFault {
 }
 
 impl fmt::Display for RequestFault {
-    ghost output = { λ fault. Some (fault_text fault) };
+    ghost output = { λ fault. Some (request_fault_text fault) };
 
     fn fmt<W: fmt::Write>(&self, f: &mut fmt::Formatter<W>) -> fmt::Result {
         match self {

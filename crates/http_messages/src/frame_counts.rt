@@ -1,7 +1,7 @@
 //! How many delivered frames a replica accepted, and how many it ignored for each cause.
 ghost use Rattle.std.specs.Prelude.{◌≡◌, ◌<◌};
 ghost use Rattle.ledger_model.specs.declared.reply.Ignored.{Ignored};
-ghost use Rattle.http_messages.specs.FrameCounts.{counted, ignored_for, is_accepted, is_ignored_for, place_of};
+ghost use Rattle.http_messages.specs.FrameCounts.{counted, ignored_for, is_accepted, is_ignored_for, cause_place};
 
 use ledger_model::Ignored;
 
@@ -19,7 +19,7 @@ pub struct FrameCounts {
 
 /// The place of a cause among the counts.
 fn place_of(cause: Ignored) -> usize
-    ensures place { result ≡ place_of cause }
+    ensures place { result ≡ cause_place cause }
     ensures below { result < 11 }
 {
     usize::from(cause.number() - 1)

@@ -2,7 +2,7 @@
 ghost use Rattle.std.specs.Prelude.{◌≡◌, ◌++◌, IfOk, OnOk};
 ghost use Rattle.std.specs.String.{string_bytes};
 ghost use Rattle.std.specs.List.{flat_map};
-ghost use Rattle.http_messages.specs.Metrics.{cause_name, metric_name, metric_help, metric_kind, value_of, comment_text, sample_text, metric_text, ignored_text, all_ignored_text, metrics_text};
+ghost use Rattle.http_messages.specs.Metrics.{cause_name, metric_name, metric_help, metric_kind, metric_value, comment_text, sample_text, metric_text, ignored_text, all_ignored_text, metrics_text};
 
 use crate::frame_counts::FrameCounts;
 use ledger_model::{Height, Ignored, ReplicaId};
@@ -83,7 +83,7 @@ impl Metric {
 
     /// The value of the metric for a replica.
     fn value_of(self, of: &ReplicaMetrics) -> u64
-        ensures { result ≡ value_of self of.now }
+        ensures { result ≡ metric_value self of.now }
     {
         match self {
             Metric::Rounds => u64::from(of.rounds),

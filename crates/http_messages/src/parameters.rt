@@ -1,6 +1,6 @@
 //! The parameters of a query.
 ghost use Rattle.std.specs.Prelude.{◌≡◌, option_map, IsErrOf, IsTrue};
-ghost use Rattle.http_messages.specs.Faults.{Gives};
+ghost use Rattle.http_messages.specs.Faults.{IsExpected};
 ghost use Rattle.http_messages.specs.Parameters.{value_of, required_bytes, optional_number, replica_in, is_given};
 ghost use Rattle.http_messages.specs.declared.fault.Parameter.TheVariants as parameters;
 
@@ -29,7 +29,7 @@ pub(crate) fn required_bytes(
     parameter: Parameter,
     query: &[u8],
 ) -> Result<Vec<u8>, RequestFault>
-    ensures gives { Gives (λ bytes. bytes.items) result (required_bytes parameter query.now) }
+    ensures gives { IsExpected (λ bytes. bytes.items) result (required_bytes parameter query.now) }
     ensures memory { IsErrOf result RequestFault.NoMemory → IsTrue (is_given parameter query.now) }
 {
     let Some(encoded) = value_of(parameter.name().as_bytes(), query) else {
@@ -49,7 +49,7 @@ fn optional_number(
     parameter: Parameter,
     query: &[u8],
 ) -> Result<Option<u32>, RequestFault>
-    ensures gives { Gives (λ number. number) result (optional_number parameter query.now) }
+    ensures gives { IsExpected (λ number. number) result (optional_number parameter query.now) }
     ensures memory { IsErrOf result RequestFault.NoMemory → IsTrue (is_given parameter query.now) }
 {
     let Some(encoded) = value_of(parameter.name().as_bytes(), query) else {
@@ -64,7 +64,7 @@ fn optional_number(
 
 /// The height that the query names, if it names one.
 pub(crate) fn height_in(alloc: Global, query: &[u8]) -> Result<Option<Height>, RequestFault>
-    ensures gives { Gives (λ height. height) result (optional_number parameters.Height query.now) }
+    ensures gives { IsExpected (λ height. height) result (optional_number parameters.Height query.now) }
     ensures memory { IsErrOf result RequestFault.NoMemory → IsTrue (is_given parameters.Height query.now) }
 {
     match optional_number(alloc, Parameter::Height, query)? {
@@ -76,7 +76,7 @@ pub(crate) fn height_in(alloc: Global, query: &[u8]) -> Result<Option<Height>, R
 /// The replica that the query names, if it names one.
 #[tactic(auto, using(crate::proofs::Steps::first_fault), unfolding(crate::specs::Parameters::replica_in))]
 pub(crate) fn replica_in(alloc: Global, query: &[u8]) -> Result<Option<ReplicaId>, RequestFault>
-    ensures gives { Gives (λ replica. replica) result (replica_in query.now) }
+    ensures gives { IsExpected (λ replica. replica) result (replica_in query.now) }
     ensures memory { IsErrOf result RequestFault.NoMemory → IsTrue (is_given parameters.Replica query.now) }
 {
     match optional_number(alloc, Parameter::Replica, query)? {

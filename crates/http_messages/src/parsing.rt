@@ -1,7 +1,7 @@
 //! Parses the head of a request.
 ghost use Rattle.std.specs.Prelude.{◌≡◌, ◌<◌, ◌≤◌, ℕ, List, length};
 ghost use Rattle.httparse.specs.Grammar.{RequestHead, ReadsRequest};
-ghost use Rattle.http_messages.specs.Faults.{Gives};
+ghost use Rattle.http_messages.specs.Faults.{IsExpected};
 ghost use Rattle.http_messages.specs.Limits.{max_fields, max_head_len};
 ghost use Rattle.http_messages.specs.Questions.{request_view};
 ghost use Rattle.http_messages.specs.Requests.{asked_by, AnswersHead};
@@ -31,7 +31,7 @@ pub fn parse(alloc: Global, head: &[u8]) -> Result<Request, RequestFault>
 
     // A head of no more bytes and field lines than are allowed is answered.
     ensures found { (h : RequestHead) (rest : List ℕ) → ReadsRequest head.now h rest → length head.now ≤ max_head_len
-        → length h.fields ≤ max_fields → Gives request_view result (asked_by h.method h.target) }
+        → length h.fields ≤ max_fields → IsExpected request_view result (asked_by h.method h.target) }
 {
     if head.len() > MAX_HEAD_LEN {
         return Err(RequestFault::TooLong);

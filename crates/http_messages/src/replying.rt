@@ -3,7 +3,7 @@ ghost use Rattle.std.specs.Prelude.{◌≡◌, ◌++◌, IfOk, OnOk, OnErr};
 ghost use Rattle.std.specs.String.{string_bytes};
 ghost use Rattle.http_messages.specs.declared.fault.RequestFault.TheVariants as faults;
 ghost use Rattle.http_messages.specs.Answers.{answer_view, Fault};
-ghost use Rattle.http_messages.specs.Replies.{status_of, content_type, allow_text, fields_text, head_text, result_text, sync_body, commit_body, body_text, reply_bytes};
+ghost use Rattle.http_messages.specs.Replies.{status_of, content_type, allow_text, fields_text, head_text, result_text, sync_body, commit_body, body_text, http_reply_bytes};
 
 use crate::answer::{Answer, Commitment, Submission};
 use crate::errors::{
@@ -171,9 +171,9 @@ fn body(alloc: Global, answer: &Answer<'_>) -> Result<String, AllocError>
 }
 
 /// Appends the reply: the status line, the fields, and the body, whose length the head has. If memory runs out, nothing is appended.
-#[tactic(auto, unfolding(crate::specs::Replies::reply_bytes))]
+#[tactic(auto, unfolding(crate::specs::Replies::http_reply_bytes))]
 pub fn put_reply(out: &mut Vec<u8>, answer: &Answer<'_>) -> Result<(), AllocError>
-    ensures ok { OnOk result (out.new.items ≡ out.old.items ++ reply_bytes (answer_view answer.now)) }
+    ensures ok { OnOk result (out.new.items ≡ out.old.items ++ http_reply_bytes (answer_view answer.now)) }
     ensures err { OnErr result (out.new.items ≡ out.old.items) }
 {
     let alloc = *out.allocator();
@@ -195,7 +195,7 @@ const OUT_OF_MEMORY: &str = "\
 
 /// The reply to a request for which memory ran out. It needs no memory.
 pub fn out_of_memory_reply() -> &'static [u8]
-    ensures { result.now ≡ reply_bytes (Fault faults.NoMemory) }
+    ensures { result.now ≡ http_reply_bytes (Fault faults.NoMemory) }
 {
     OUT_OF_MEMORY.as_bytes()
 }

@@ -4,7 +4,7 @@ ghost use Rattle.std.specs.Option.{option_copied};
 ghost use Rattle.std.specs.String.{string_bytes};
 ghost use Rattle.std.specs.List.{flat_map};
 ghost use Rattle.http_messages.specs.Texts.{base64_text};
-ghost use Rattle.http_messages.specs.Results.{status_result, info_result, log_text, query_result, tx_text, txs_text, block_result, unconfirmed_result, receipt_text, sync_result, rejected_sync, tx_result, commit_result, rejected_commit, kind_name};
+ghost use Rattle.http_messages.specs.Results.{status_result, info_result, log_text, query_result, json_tx, txs_text, block_result, unconfirmed_result, receipt_text, sync_result, rejected_sync, tx_result, commit_result, rejected_commit, kind_name};
 
 use crate::answer::Receipt;
 use crate::texts::{base64, hash, value};
@@ -90,9 +90,9 @@ pub(crate) fn query(
 }
 
 /// Appends a transaction in base64 and quotes.
-#[tactic(auto, unfolding(crate::specs::Results::tx_text))]
+#[tactic(auto, unfolding(crate::specs::Results::json_tx))]
 fn add_tx(out: &mut String, tx: &Tx) -> Result<(), AllocError>
-    ensures { OnOk result (string_bytes out.new ≡ string_bytes out.old ++ tx_text tx.now) }
+    ensures { OnOk result (string_bytes out.new ≡ string_bytes out.old ++ json_tx tx.now) }
 {
     let alloc = *out.allocator();
     let bytes = base64(alloc, tx.as_bytes())?;
@@ -101,7 +101,7 @@ fn add_tx(out: &mut String, tx: &Tx) -> Result<(), AllocError>
 
 /// Appends transactions, each preceded by a comma.
 fn add_more(out: &mut String, transactions: &[Tx]) -> Result<(), AllocError>
-    ensures { OnOk result (string_bytes out.new ≡ string_bytes out.old ++ flat_map (λ t. codes "," ++ tx_text t) transactions.now) }
+    ensures { OnOk result (string_bytes out.new ≡ string_bytes out.old ++ flat_map (λ t. codes "," ++ json_tx t) transactions.now) }
 {
     for tx in transactions {
         out.push_str(",")?;

@@ -4,7 +4,7 @@ ghost use Rattle.std.specs.Option.{option_copied};
 ghost use Rattle.std.specs.String.{string_bytes};
 ghost use Rattle.base64.specs.Engines.{standard};
 ghost use Rattle.base64.specs.GeneralPurpose.{encode_of};
-ghost use Rattle.http_messages.specs.Texts.{base64_text, hash_text, value_text};
+ghost use Rattle.http_messages.specs.Texts.{base64_text, hash_text, json_value};
 
 use base64::engine::general_purpose::STANDARD;
 use sha2::{Digest, Sha256};
@@ -28,9 +28,9 @@ pub(crate) fn hash(alloc: Global, tx: &[u8]) -> Result<String, AllocError>
 }
 
 /// A value in base64 and quotes, or `null`.
-#[tactic(auto, unfolding(crate::specs::Texts::value_text))]
+#[tactic(auto, unfolding(crate::specs::Texts::json_value))]
 pub(crate) fn value(alloc: Global, value: Option<&[u8]>) -> Result<String, AllocError>
-    ensures { IfOk result (λ text. string_bytes text ≡ value_text (option_copied value.entry)) }
+    ensures { IfOk result (λ text. string_bytes text ≡ json_value (option_copied value.entry)) }
 {
     match value {
         Some(bytes) => {

@@ -2,7 +2,7 @@
 ghost use Rattle.std.specs.Prelude.{◌≡◌, ◌≤◌, length, IfOk, IsTrue, map, option_map};
 ghost use Rattle.std.specs.List.{list_all};
 ghost use Rattle.form_urlencoded.specs.Form.{plus_to_space, decode};
-ghost use Rattle.http_messages.specs.Values.{is_bare, quoted_of, hexadecimal_of, has_hex_prefix, byte_string_of, number_of, written_number_of};
+ghost use Rattle.http_messages.specs.Values.{is_bare, quoted_of, hexadecimal_of, has_hex_prefix, byte_string_of, decimal_number, written_number_of};
 
 use hex::FromHexError;
 use percent_encoding::percent_decode;
@@ -95,7 +95,7 @@ pub(crate) fn byte_string(alloc: Global, text: &[u8]) -> Result<Option<Vec<u8>>,
 
 /// The number below 2^32 that the decimal digits are.
 fn number(digits: &[u8]) -> Option<u32>
-    ensures { result ≡ number_of digits.now }
+    ensures { result ≡ decimal_number digits.now }
 {
     match str::from_utf8(digits) {
         Ok(digits) => plain_text::decimal(digits),

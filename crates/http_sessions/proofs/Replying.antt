@@ -3,16 +3,16 @@ use Rattle.std.proofs.Common.{◌≡◌, ℕ, ◌<◌, List, [], zero, suc, inl,
 use Rattle.std.specs.Prelude.{◌⊎◌, Some, Result, Ok, Err, IfOk, MatchResult}
 use Rattle.std.specs.List.{FoldsTo}
 use Rattle.http_messages.specs.Answers.{AnswerView}
-use Rattle.http_messages.specs.Replies.{reply_bytes}
+use Rattle.http_messages.specs.Replies.{http_reply_bytes}
 use Rattle.http_sessions.specs.Exchanges.{HttpExchange}
-use Rattle.http_sessions.specs.Answering.{Replies, Loses, AnswersQueryAt, AnswersQueryIf}
+use Rattle.http_sessions.specs.Answering.{RepliesByExchanges, Loses, AnswersQueryAt, AnswersQueryIf}
 
 module _ {T V E : Type 0} (makes : T → HttpExchange → T → Type 0) (before after : T) (Gives : List HttpExchange → AnswerView → Type 0)
     (bytes : V → List ℕ) where
   -- the exchanges were made that give this answer, whose reply was made if there was enough memory
   pub replied : (r : Result V E) (exchanges : List HttpExchange) (answer : AnswerView) → FoldsTo makes before exchanges after
-      → Gives exchanges answer → IfOk r (λ v. bytes v ≡ reply_bytes answer)
-      → MatchResult r (λ v. Replies makes before after Gives (bytes v)) (λ _. Loses makes before after Gives)
+      → Gives exchanges answer → IfOk r (λ v. bytes v ≡ http_reply_bytes answer)
+      → MatchResult r (λ v. RepliesByExchanges makes before after Gives (bytes v)) (λ _. Loses makes before after Gives)
   replied (Ok v) exchanges answer made gives is =
       record { exchanges = exchanges; answer = answer; made = made; gives = gives; bytes = is }
   replied (Err e) exchanges answer made gives is = record { exchanges = exchanges; made = made; whole = inr (answer, gives) }
@@ -20,8 +20,8 @@ module _ {T V E : Type 0} (makes : T → HttpExchange → T → Type 0) (before 
   -- what gives an answer to one question does so to another
   pub replied_also : (Others : List HttpExchange → AnswerView → Type 0) (r : Result V E)
       → ((exchanges : List HttpExchange) (answer : AnswerView) → Others exchanges answer → Gives exchanges answer)
-      → MatchResult r (λ v. Replies makes before after Others (bytes v)) (λ _. Loses makes before after Others)
-      → MatchResult r (λ v. Replies makes before after Gives (bytes v)) (λ _. Loses makes before after Gives)
+      → MatchResult r (λ v. RepliesByExchanges makes before after Others (bytes v)) (λ _. Loses makes before after Others)
+      → MatchResult r (λ v. RepliesByExchanges makes before after Gives (bytes v)) (λ _. Loses makes before after Gives)
   replied_also Others (Ok v) also replies = record {
     exchanges = replies.exchanges;
     answer = replies.answer;

@@ -19,7 +19,7 @@ use Rattle.http_messages.specs.declared.answer.Submission.TheVariants as submiss
 use Rattle.http_messages.specs.declared.metrics.ReplicaMetrics.{ReplicaMetrics}
 use Rattle.http_messages.specs.Answers.{AnswerView, Page, Health, Status, AbciInfo, AbciQuery, Block, UnconfirmedTxs, BroadcastSync}
 use Rattle.http_messages.specs.Answers.{BroadcastCommit, Metrics, Fault, Unanswered}
-use Rattle.http_messages.specs.Replies.{reply_bytes}
+use Rattle.http_messages.specs.Replies.{http_reply_bytes}
 use Rattle.http_sessions.specs.declared.targets.AppInfo.{AppInfo}
 use Rattle.http_sessions.specs.declared.targets.Delivery.{Delivery}
 use Rattle.http_sessions.specs.declared.targets.Delivery.TheVariants as delivery
@@ -157,14 +157,14 @@ AnswersMetrics r (Inquired (Shows q metrics) ∷ []) a = (q ≡ r) × IfSome met
 AnswersMetrics r _ a = ⊥
 
 -- the exchanges by which replicas showed these metrics
-abbrev pub shown : List ReplicaMetrics → List HttpExchange
-shown all = map (λ m. Inquired (Shows m.replica (Some m))) all
+abbrev pub metrics_shown : List ReplicaMetrics → List HttpExchange
+metrics_shown all = map (λ m. Inquired (Shows m.replica (Some m))) all
 
 -- this number of replicas, from 0 on, showed their metrics, which are the answer
 pub record ShowsAll (count : ℕ) (exchanges : List HttpExchange) (a : AnswerView) : Type 0 where
   pub all : List ReplicaMetrics
   pub each : map (λ m. m.replica) all ≡ range_with_len 0 count
-  pub asked : exchanges ≡ shown all
+  pub asked : exchanges ≡ metrics_shown all
   pub answer : a ≡ Metrics all
 
 -- of this number of replicas, those before `stranger` showed their metrics, and `stranger` didn't: no further replica was asked
@@ -173,7 +173,7 @@ pub record MeetsStranger (count : ℕ) (exchanges : List HttpExchange) (a : Answ
   pub below : stranger < count
   pub before : List ReplicaMetrics
   pub each : map (λ m. m.replica) before ≡ range_with_len 0 stranger
-  pub asked : exchanges ≡ shown before ++ Inquired (Shows stranger None) ∷ []
+  pub asked : exchanges ≡ metrics_shown before ++ Inquired (Shows stranger None) ∷ []
   pub answer : a ≡ Unanswered service.Stranger
 
 -- the metrics of this number of replicas, if all showed theirs
@@ -221,13 +221,13 @@ AnswersRequest count (Err f) exchanges a = AsksNone (Fault f) exchanges a
 -- ---- the reply, or that memory ran out
 
 -- exchanges were made, and the reply is that of the answer that they give
-pub record Replies {T : Type 0} (makes : T → HttpExchange → T → Type 0) (before after : T)
+pub record RepliesByExchanges {T : Type 0} (makes : T → HttpExchange → T → Type 0) (before after : T)
     (Gives : List HttpExchange → AnswerView → Type 0) (reply : List ℕ) : Type 0 where
   pub exchanges : List HttpExchange
   pub answer : AnswerView
   pub made : FoldsTo makes before exchanges after
   pub gives : Gives exchanges answer
-  pub bytes : reply ≡ reply_bytes answer
+  pub bytes : reply ≡ http_reply_bytes answer
 
 -- memory ran out: before anything was asked, or after all was
 pub record Loses {T : Type 0} (makes : T → HttpExchange → T → Type 0) (before after : T)
@@ -240,4 +240,4 @@ pub record Loses {T : Type 0} (makes : T → HttpExchange → T → Type 0) (bef
 abbrev pub RepliesOrLoses : {T E : Type 0} → Result (Vec ℕ Global) E → (T → HttpExchange → T → Type 0) → T → T
     → (List HttpExchange → AnswerView → Type 0) → Type 0
 RepliesOrLoses result makes before after Gives =
-    MatchResult result (λ reply. Replies makes before after Gives reply.items) (λ _. Loses makes before after Gives)
+    MatchResult result (λ reply. RepliesByExchanges makes before after Gives reply.items) (λ _. Loses makes before after Gives)

@@ -3,7 +3,7 @@ ghost use Rattle.std.specs.Prelude.{◌≡◌, ◌<◌, ◌≤◌, ◌++◌, ◌
 ghost use Rattle.std.specs.List.{FoldsTo, range_with_len};
 ghost use Rattle.http_messages.specs.Questions.{question_view};
 ghost use Rattle.http_sessions.specs.Exchanges.{Makes, Inquired, Shows};
-ghost use Rattle.http_sessions.specs.Answering.{RepliesOrLoses, AnswersRequest, AnswersQuestion, AnswersIf, AnswersAt, AnswersStatus, AnswersInfo, AnswersQueryNow, AnswersQueryAt, AnswersQueryIf, AnswersBlockAt, AnswersLastBlock, AnswersBlockQuestion, AnswersPool, AnswersSync, AnswersCommit, AnswersMetrics, AnswersAllMetrics, most_replicas, shown};
+ghost use Rattle.http_sessions.specs.Answering.{RepliesOrLoses, AnswersRequest, AnswersQuestion, AnswersIf, AnswersAt, AnswersStatus, AnswersInfo, AnswersQueryNow, AnswersQueryAt, AnswersQueryIf, AnswersBlockAt, AnswersLastBlock, AnswersBlockQuestion, AnswersPool, AnswersSync, AnswersCommit, AnswersMetrics, AnswersAllMetrics, most_replicas, metrics_shown};
 
 use crate::answers::{
     block_answer, delivery_answer, fault_answer, info_answer, pool_answer, query_answer,
@@ -201,10 +201,10 @@ fn add_metrics<T: HttpTargets>(targets: &mut T, count: usize, all: &mut Vec<Repl
     requires empty { all.old.items ≡ [] }
     requires room { count ≤ vec_capacity all.old }
     ensures each { map (λ m. m.replica) all.new.items ≡ range_with_len 0 (length all.new.items) }
-    ensures shown { result ≡ true → (length all.new.items ≡ count)
-        × FoldsTo (Makes T.asks T.inquires) targets.old (shown all.new.items) targets.new }
+    ensures metrics_shown { result ≡ true → (length all.new.items ≡ count)
+        × FoldsTo (Makes T.asks T.inquires) targets.old (metrics_shown all.new.items) targets.new }
     ensures stranger { result ≡ false → (length all.new.items < count)
-        × FoldsTo (Makes T.asks T.inquires) targets.old (shown all.new.items ++ Inquired (Shows (length all.new.items) None) ∷ []) targets.new }
+        × FoldsTo (Makes T.asks T.inquires) targets.old (metrics_shown all.new.items ++ Inquired (Shows (length all.new.items) None) ∷ []) targets.new }
     ensures count { T.replicas targets.new ≡ T.replicas targets.old }
 {
     for number in 0..count {

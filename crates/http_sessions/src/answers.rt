@@ -1,9 +1,9 @@
 //! Answers by what a replica answered.
 ghost use Rattle.std.specs.Prelude.{◌≡◌, Ok, Err, IfOk};
 ghost use Rattle.ledger_model.specs.Sessions.{Fault as ReplicaFault};
-ghost use Rattle.client_sessions.specs.Asking.{fault_of, outcome_of};
+ghost use Rattle.client_sessions.specs.Asking.{exchange_fault, outcome_of};
 ghost use Rattle.http_messages.specs.Answers.{answer_view};
-ghost use Rattle.http_messages.specs.Replies.{reply_bytes};
+ghost use Rattle.http_messages.specs.Replies.{http_reply_bytes};
 ghost use Rattle.http_sessions.specs.Answering.{status_answer, info_answer, pool_answer, fault_answer, sync_answer, unpooled_answer, delivery_answer, query_answer, query_answer_at, block_answer};
 
 use crate::targets::{AppInfo, Delivery, PoolSize, Progress};
@@ -15,7 +15,7 @@ use std::alloc::{AllocError, Global};
 
 /// The whole reply to an answer.
 pub(crate) fn reply_to(alloc: Global, answer: &Answer<'_>) -> Result<Vec<u8>, AllocError>
-    ensures { IfOk result (λ reply. reply.items ≡ reply_bytes (answer_view answer.now)) }
+    ensures { IfOk result (λ reply. reply.items ≡ http_reply_bytes (answer_view answer.now)) }
 {
     let mut reply = Vec::new(alloc);
     put_reply(&mut reply, answer)?;
@@ -65,7 +65,7 @@ pub(crate) fn pool_answer(size: Option<PoolSize>) -> Answer<'static>
 
 /// That a replica took no event.
 pub(crate) fn fault_answer(fault: TargetFault) -> Answer<'static>
-    ensures { answer_view result ≡ fault_answer (fault_of fault) }
+    ensures { answer_view result ≡ fault_answer (exchange_fault fault) }
 {
     match fault {
         TargetFault::HistoryFull => Answer::Unanswered(ServiceFault::HistoryFull),

@@ -4,7 +4,7 @@ ghost use Rattle.std.specs.Io.KnownBytes.{Appends};
 ghost use Rattle.byte_streams.specs.Writing.{AppendsSome};
 ghost use Rattle.client_sessions.specs.Faults.{failures_in};
 ghost use Rattle.http_sessions.specs.Exchanges.{Makes};
-ghost use Rattle.http_sessions.specs.Serving.{Responds, Ends, Stops, read_failures_in, write_failures_in};
+ghost use Rattle.http_sessions.specs.Serving.{RespondsTo, EndsConnection, Stops, connection_read_failures, connection_write_failures};
 ghost use Rattle.http_sessions.specs.declared.request_end.RequestEnd.{RequestEnd as End};
 
 use crate::answering::answer;
@@ -28,9 +28,9 @@ fn respond<W: SessionWriter, T: HttpTargets>(
     targets: &mut T,
 ) -> io::Result<RequestEnd>
     ensures responds { MatchResult result
-        (λ end. Responds (Makes T.asks T.inquires) (T.replicas targets.old) targets.old targets.new asked.now end
+        (λ end. RespondsTo (Makes T.asks T.inquires) (T.replicas targets.old) targets.old targets.new asked.now end
         (Appends (W.contents output.old) (W.contents output.new)))
-        (λ _. (end : End) × Responds (Makes T.asks T.inquires) (T.replicas targets.old) targets.old targets.new asked.now end
+        (λ _. (end : End) × RespondsTo (Makes T.asks T.inquires) (T.replicas targets.old) targets.old targets.new asked.now end
         (AppendsSome (W.contents output.old) (W.contents output.new))) }
     ensures counted { W.failures output.new ≡ W.failures output.old + failures_in result }
     ensures count { T.replicas targets.new ≡ T.replicas targets.old }
@@ -56,15 +56,15 @@ pub fn serve_request<R: SessionReader, W: SessionWriter, T: HttpTargets>(
     targets: &mut T,
 ) -> Result<RequestEnd, ConnectionFault>
     // A request was read, the exchanges are those by which it is answered, and the reply was written; or nothing came.
-    ensures ends { IfOk result (λ end. Ends (Makes T.asks T.inquires) (T.replicas targets.old) targets.old targets.new
+    ensures ends { IfOk result (λ end. EndsConnection (Makes T.asks T.inquires) (T.replicas targets.old) targets.old targets.new
         (R.remaining input.old) (R.remaining input.new) (W.contents output.old) (W.contents output.new) end) }
     // Less than a request was read, and nothing asked; or a request was answered, and a prefix of the reply written.
     ensures stops { IfErr result (λ fault. Stops (Makes T.asks T.inquires) (T.replicas targets.old) targets.old targets.new
         (R.remaining input.old) (R.remaining input.new) (W.contents output.old) (W.contents output.new) fault) }
     ensures count { T.replicas targets.new ≡ T.replicas targets.old }
     // If a read's fault ended the connection, the reader failed exactly once in this call, and otherwise never; likewise the writer.
-    ensures reader { R.failures input.new ≡ R.failures input.old + read_failures_in result }
-    ensures writer { W.failures output.new ≡ W.failures output.old + write_failures_in result }
+    ensures reader { R.failures input.new ≡ R.failures input.old + connection_read_failures result }
+    ensures writer { W.failures output.new ≡ W.failures output.old + connection_write_failures result }
 {
     let mut buffer = [0; MOST_READ];
     match hear(alloc, input, &mut buffer) {

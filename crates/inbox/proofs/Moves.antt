@@ -10,7 +10,7 @@ use Rattle.crossbeam_queue.specs.Fifo.{Pushes, Pops, Forks, Merges, Learns}
 use Rattle.crossbeam_queue.proofs.Lists.{at_set, set_here, set_else, at_longer, at_last}
 use Rattle.ledger_model.specs.Inboxes.{Put, Inbox, of_pass}
 use Rattle.inbox.specs.declared.log.Log.{Log}
-use Rattle.inbox.specs.InboxRule.{taker_log, nobody, with_item, FitsPutter, FitsTaker, KeepsInbox, Putting, Taking, Beside, Behind}
+use Rattle.inbox.specs.InboxRule.{taker_log, no_pass, with_item, FitsPutter, FitsTaker, KeepsInbox, Putting, Taking, Beside, Behind}
 use Rattle.inbox.specs.InboxRule.{with_pass, next_pass, with_ended}
 use Rattle.ledger_model.proofs.SeatLists.{to_elem, from_elem, at_place, Each, placed, placed_here, placed_else, placed_again}
 use Rattle.inbox.proofs.OneSeat.{each_set}
@@ -180,7 +180,7 @@ forks id v may not items views h at =
     }
 
 pub merges : (id : ℕ) (v : Log) (other : ℕ) (u : Log) → v.takes ≡ true → v.puts ≡ false → u.puts ≡ true
-    → Merges KeepsInbox id v other u (with_ended v u) nobody
+    → Merges KeepsInbox id v other u (with_ended v u) no_pass
 merges id v other u may not theirs_may items views h at two at' =
     let mine = h.takers id v at may in
     let both : Log = with_ended v u in
@@ -198,7 +198,7 @@ merges id v other u may not theirs_may items views h at two at' =
       strangers = h.strangers;
       reader = h.reader;
       seat = seat;
-      putters = each_set (FitsPutter b seat) vs other nobody (λ p. absurd (true≢false (sym p)))
+      putters = each_set (FitsPutter b seat) vs other no_pass (λ p. absurd (true≢false (sym p)))
           (λ j y apart e p.
           ⊎_elim (λ (t : (j ≡ id) × (both ≡ y)). clash v.puts (ap (λ (z : Log). z.puts) t.1 ∙ p) not)
           (λ (t : (j ≢ id) × (get_elem? views j ≡ some y)).
@@ -208,7 +208,7 @@ merges id v other u may not theirs_may items views h at two at' =
             o.1,
           ))
           (at_set views id j both y e));
-      takers = each_set (FitsTaking b seat h.reader) vs other nobody (λ p. absurd (true≢false (sym p)))
+      takers = each_set (FitsTaking b seat h.reader) vs other no_pass (λ p. absurd (true≢false (sym p)))
           (λ j y apart e p.
           ⊎_elim (λ (t : (j ≡ id) × (both ≡ y)).
           subst (λ (z : ℕ × Log). FitsTaker b seat h.reader z.0 z.1) (λ i. (sym t.0 i, t.1 i)) (record {

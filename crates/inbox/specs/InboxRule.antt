@@ -8,8 +8,8 @@ use Rattle.inbox.specs.Passes.{AllTaken}
 use Rattle.inbox.specs.declared.log.Log.{Log}
 
 -- what a seat at the queue did
-abbrev pub log_of : Pass Put Log → Log
-log_of seat = view seat
+abbrev pub seat_log : Pass Put Log → Log
+seat_log seat = view seat
 
 -- the log of the pass with this number, which put these items
 abbrev pub putter_log : ℕ → List Put → Log
@@ -21,8 +21,8 @@ abbrev pub taker_log : ℕ → List Put → List (ℕ × List Put) → Log
 taker_log passes items ended = record { puts = false; takes = true; number = 0; items = items; passes = passes; ended = ended }
 
 -- the log of a pass that was handed back
-abbrev pub nobody : Log
-nobody = record { puts = false; takes = false; number = 0; items = []; passes = 0; ended = [] }
+abbrev pub no_pass : Log
+no_pass = record { puts = false; takes = false; number = 0; items = []; passes = 0; ended = [] }
 
 -- the log with one more item
 abbrev pub with_item : Log → Put → Log

@@ -40,11 +40,11 @@ impl Split<Log> for NextPass {
 pub struct HandedBack;
 
 impl Join<Log> for HandedBack {
-    ghost use Rattle.inbox.specs.InboxRule.{with_ended, nobody};
+    ghost use Rattle.inbox.specs.InboxRule.{with_ended, no_pass};
 
     ghost both = { with_ended };
 
-    ghost spent = { nobody };
+    ghost spent = { no_pass };
 }
 
 /// The outcome of a put.

@@ -14,13 +14,13 @@ pub struct PuttingPass {
 impl Model for PuttingPass {
     ghost use Rattle.std.specs.Prelude.{◌≡◌, [], true, false};
     ghost use Rattle.inbox.specs.Passes.{PuttingPassView};
-    ghost use Rattle.inbox.specs.InboxRule.{log_of};
+    ghost use Rattle.inbox.specs.InboxRule.{seat_log};
 
     ghost Value = { PuttingPassView };
 
-    ghost view = { λ p. record { inbox = p.seat.table_id; number = p.number; put = (log_of p.seat).items } };
+    ghost view = { λ p. record { inbox = p.seat.table_id; number = p.number; put = (seat_log p.seat).items } };
 
-    ghost invariant = { λ p. (p.seat.me.1 ≡ []) × ((log_of p.seat).puts ≡ true) × ((log_of p.seat).takes ≡ false) × ((log_of p.seat).number ≡ p.number) };
+    ghost invariant = { λ p. (p.seat.me.1 ≡ []) × ((seat_log p.seat).puts ≡ true) × ((seat_log p.seat).takes ≡ false) × ((seat_log p.seat).number ≡ p.number) };
 }
 
 impl PuttingPass {
@@ -43,11 +43,11 @@ pub struct TakingPass {
 impl Model for TakingPass {
     ghost use Rattle.std.specs.Prelude.{◌≡◌, [], true, false};
     ghost use Rattle.inbox.specs.Passes.{TakingPassView};
-    ghost use Rattle.inbox.specs.InboxRule.{log_of};
+    ghost use Rattle.inbox.specs.InboxRule.{seat_log};
 
     ghost Value = { TakingPassView };
 
-    ghost view = { λ p. record { inbox = p.seat.table_id; passes = (log_of p.seat).passes; taken = (log_of p.seat).items; ended = (log_of p.seat).ended } };
+    ghost view = { λ p. record { inbox = p.seat.table_id; passes = (seat_log p.seat).passes; taken = (seat_log p.seat).items; ended = (seat_log p.seat).ended } };
 
-    ghost invariant = { λ p. (p.seat.me.1 ≡ []) × ((log_of p.seat).takes ≡ true) × ((log_of p.seat).puts ≡ false) };
+    ghost invariant = { λ p. (p.seat.me.1 ≡ []) × ((seat_log p.seat).takes ≡ true) × ((seat_log p.seat).puts ≡ false) };
 }

@@ -14,7 +14,7 @@ use Rattle.instance.specs.declared.round_statement.RoundStatement.{RoundStatemen
 use Rattle.instance.specs.Instances.{InstanceView}
 use Rattle.instance.specs.Matching.{MatchesLog}
 use Rattle.instance.specs.Reads.{row_causes, after_read, if_accepted, IsSameHeight}
-use Rattle.instance.specs.Plans.{MaySend, chosen_statement, ended, closed}
+use Rattle.instance.specs.Plans.{MaySend, chosen_statement, opened_effects, closed}
 use Rattle.instance.specs.Laws.{MayBeSent, MayClose, IsSignedMade, IsFrameMade, opened_by}
 use Rattle.instance.proofs.Answering.{answers}
 use Rattle.instance.proofs.OneStatement.{reads}
@@ -53,14 +53,14 @@ module _ (ring : Ring) (row : InstanceView) (log : List Note) (c : ℕ) (matches
   signed_at None may = tt
   signed_at (Some s) may = proves_signed ring row log s matches (subst (λ n. MaySend row (n + 1) (Some s)) (sym clock) may)
 
-  pub sends_at : place_of (c + 1) ≡ release_place → (ended row (c + 1)).sends_on ≡ map frame_bytes (held_locks log)
-  sends_at place = ap (λ n. (ended row (n + 1)).sends_on) (sym clock)
+  pub sends_at : place_of (c + 1) ≡ release_place → (opened_effects row (c + 1)).sends_on ≡ map frame_bytes (held_locks log)
+  sends_at place = ap (λ n. (opened_effects row (n + 1)).sends_on) (sym clock)
       ∙ sends_on ring row log matches (ap (λ n. place_of (n + 1)) clock ∙ place)
 
   pub closes_at : (m : RoundStatement) → IsFrameMade m → MayClose row log (c + 1) m → IsSignedMade ring m
-      → MatchesLog ring (closed row (c + 1) (ended row (c + 1)) m) (opened_by row log (c + 1) m)
+      → MatchesLog ring (closed row (c + 1) (opened_effects row (c + 1)) m) (opened_by row log (c + 1) m)
   closes_at m frame may signed =
-      subst (λ n. MatchesLog ring (closed row (n + 1) (ended row (n + 1)) m) (opened_by row log (n + 1) m)) clock
+      subst (λ n. MatchesLog ring (closed row (n + 1) (opened_effects row (n + 1)) m) (opened_by row log (n + 1) m)) clock
       (closes ring row log m matches (subst (λ n. MayClose row log (n + 1) m) (sym clock) may) signed frame)
 
 -- ---- what a reading answers and leaves, whatever kind the statement is of

@@ -32,7 +32,7 @@ use Rattle.proper_sets.specs.Laws.{proper_at}
 use Rattle.proper_sets.proofs.Absorbing.{absorbs_a_phase}
 use Rattle.instance.specs.Instances.{InstanceView}
 use Rattle.instance.specs.Matching.{MatchesLog, MatchesIn, proper_phase, IsHeldLock}
-use Rattle.instance.specs.Plans.{decides_first, forgotten, own_report, own_ack_of, unsent_ack, unsent_frames, ended, MaySend, made_by}
+use Rattle.instance.specs.Plans.{decides_first, forgotten, own_report, own_ack_of, unsent_ack, unsent_frames, opened_effects, MaySend, made_by}
 use Rattle.instance.specs.Plans.{with_all, closed}
 use Rattle.tally.proofs.Puts.{none_there}
 use Rattle.instance.proofs.KeptPlaces.{are_read_in, are_acks_in, taken_place}
@@ -310,8 +310,8 @@ module _ (ring : Ring) (row : InstanceView) (log : List Note) (old : MatchesLog 
   at_fourth place (made.Sent f) may = (let none : Some f.statement ≡ None = rw place at may in cc)
 
   closes_row : (m : RoundStatement) → MayMakeOf row c m → IsSignedMade ring m → IsFrameMade m
-      → MatchesLog ring (closed row c (ended row c) m) (log ++ Round c ∷ flat_map (made_notes log c) (made_by (ended row c).unsent m))
-  unfolding closed ended
+      → MatchesLog ring (closed row c (opened_effects row c) m) (log ++ Round c ∷ flat_map (made_notes log c) (made_by (opened_effects row c).unsent m))
+  unfolding closed opened_effects
   closes_row m may signed frame = elim (at_place c) [
     | at_reports e ↦ rw e (at_first e m may signed frame)
     | at_lock e ↦ rw e (at_second e m may signed frame)
@@ -321,7 +321,7 @@ module _ (ring : Ring) (row : InstanceView) (log : List Note) (old : MatchesLog 
 
 pub closes : Closes
 closes ring row log m old may signed frame =
-    subst (λ fs. MatchesLog ring (closed row (clock_of log + 1) (ended row (clock_of log + 1)) m)
+    subst (λ fs. MatchesLog ring (closed row (clock_of log + 1) (opened_effects row (clock_of log + 1)) m)
     (log ++ Round (clock_of log + 1) ∷ flat_map (made_notes log (clock_of log + 1)) fs))
     (sym (made_alike ring row log old m)) (closes_row ring row log old m (may_of m may) signed frame)
   where

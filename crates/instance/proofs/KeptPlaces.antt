@@ -16,7 +16,7 @@ use Rattle.std.specs.List.{list_any}
 use Rattle.std.specs.Cmp.{both_ways}
 use Rattle.std.proofs.lemmas.Bool.{eqb-true, eq-eqb}
 use Rattle.ledger_model.proofs.Lists.{any_has, has_any}
-use Rattle.instance.specs.Plans.{added}
+use Rattle.instance.specs.Plans.{placed}
 
 -- ---- elements, each at the place of its number
 
@@ -66,7 +66,7 @@ any_put test (place ∷ places) zero x below none = grind arith
 any_put test (place ∷ places) (suc r) x below none = let rest = any_put test places r x in grind arith
 
 -- the same where it is kept only if nothing was there
-pub read_added : {X : Type 0} (places : Places X) (r q : ℕ) (x y : X) → read_of (added places r x) q ≡ Some y
+pub read_added : {X : Type 0} (places : Places X) (r q : ℕ) (x y : X) → read_of (placed places r x) q ≡ Some y
     → ((q ≡ r) × (x ≡ y)) ⊎ (read_of places q ≡ Some y)
 read_added places r q x y h = grind (arith, read_put)
 

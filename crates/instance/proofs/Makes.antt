@@ -13,10 +13,10 @@ use Rattle.instance.specs.declared.round_statement.RoundStatement.{RoundStatemen
 use Rattle.instance.specs.declared.round_statement.RoundStatement.TheVariants as made
 use Rattle.instance.specs.Instances.{InstanceView}
 use Rattle.instance.specs.Matching.{MatchesLog, MatchesIn, proper_phase}
-use Rattle.instance.specs.Plans.{unsent_ack, unsent_frames, made_by, ended, own_report, sent_ack, chosen_lock, chosen_statement, MaySend}
+use Rattle.instance.specs.Plans.{unsent_ack, unsent_frames, made_by, opened_effects, own_report, sent_ack, chosen_lock, chosen_statement, MaySend}
 use Rattle.instance.specs.Plans.{MaySendLock, IsOwnLockOf}
 use Rattle.instance.specs.Laws.{made_in, Allows, Allowed, Chooses, ProvesSigned, SendsOn, SendsLocks, IsLockSentOn, with_unsent}
-use Rattle.instance.specs.Laws.{statements_of}
+use Rattle.instance.specs.Laws.{as_statements}
 use Rattle.ledger_model.proofs.AtPlace.{at_place, at_reports, at_lock, at_acks, at_release}
 use Rattle.std.proofs.lemmas.Bool.Decides.{nat_tests}
 use Rattle.std.specs.List.{list_all}
@@ -56,7 +56,7 @@ Alike A B = (A → B) × (B → A)
 
 -- those that are made beside what is sent
 abbrev beside : Option Statement → List SignedStatement → List Statement
-beside sent unsent = statements_of sent ++ map (λ s. s.statement) unsent
+beside sent unsent = as_statements sent ++ map (λ s. s.statement) unsent
 
 one_alike : (sent : Option Statement) (s : Statement) → Alike (sent ≡ Some s) (beside sent [] ≡ s ∷ [])
 one_alike sent s = grind arith
@@ -77,20 +77,20 @@ module _ (ring : Ring) (row : InstanceView) (log : List Note) (m : MatchesLog ri
 
   -- ---- the acknowledgement that an owner makes of its own lock and doesn't send
 
-  own_ack_is : own_ack row.config row.id row.height log c false ≡ unsent_frames (ended row c).unsent
-  unfolding own_ack ended
+  own_ack_is : own_ack row.config row.id row.height log c false ≡ unsent_frames (opened_effects row c).unsent
+  unfolding own_ack opened_effects
   own_ack_is = elim (at_place c) [
     | at_reports e ↦ rw (m.opened, e) refl
     | at_lock e ↦ rw (m.opened, e) refl
     | at_acks e ↦
         let same : phase_of (clock_of log) ≡ phase_of c = omega (arith, e) in
-        let unsent : unsent_ack row (phase_of c) row.taken ≡ (ended row c).unsent = rw e refl in
+        let unsent : unsent_ack row (phase_of c) row.taken ≡ (opened_effects row c).unsent = rw e refl in
         of_taken row log c m.opened e row.taken (rw same at m.lock.taken) ∙ ap unsent_frames unsent
     | at_release e ↦ rw (m.opened, e) refl
   ]
 
   -- so what is made is the same
-  pub made_alike : (what : RoundStatement) → made_in row log c what ≡ made_by (ended row c).unsent what
+  pub made_alike : (what : RoundStatement) → made_in row log c what ≡ made_by (opened_effects row c).unsent what
   unfolding own_ack
   made_alike made.Mute = refl
   made_alike made.Unsent = own_ack_is
@@ -177,8 +177,8 @@ module _ (ring : Ring) (row : InstanceView) (log : List Note) (m : MatchesLog ri
 
   open_alike : (sent : Option Statement)
       → Alike (MaySend row c sent) (MayMakeOpen row.config row.id row.height log c row.proper.own
-      (beside sent (unsent_frames (ended row c).unsent)))
-  unfolding ended
+      (beside sent (unsent_frames (opened_effects row c).unsent)))
+  unfolding opened_effects
   open_alike sent = elim (at_place c) [
     | at_reports e ↦ rw e (subst (λ r. Alike (sent ≡ Some (statement.Report (own_report row k)))
         (beside sent [] ≡ statement.Report r ∷ [])) (report_alike e) (one_alike sent (statement.Report (own_report row k))))
@@ -194,7 +194,7 @@ module _ (ring : Ring) (row : InstanceView) (log : List Note) (m : MatchesLog ri
 
   -- the height is open
   sent_alike : (sent : Option Statement)
-      → Alike (MaySend row c sent) (MayMake row.config row.id row.height log c false (with_unsent (statements_of sent) row log c false))
+      → Alike (MaySend row c sent) (MayMake row.config row.id row.height log c false (with_unsent (as_statements sent) row log c false))
   unfolding MayMake
   sent_alike sent = rw m.opened (rw own_ack_is (open_alike sent))
 
@@ -231,12 +231,12 @@ proves_signed ring row log (statement.Lock l) m h =
     all_from (λ s. is_signed ring (with_signature s)) l.proof (λ s has. (now.reports.kept s.report.signer s (own.1.kept s has)).signed)
 
 pub sends_on : SendsOn
-unfolding ended
+unfolding opened_effects
 sends_on ring row log m place = rw place (sym (map-map frame_bytes as_statement row.table) ∙ ap (map frame_bytes) m.locks)
 
 -- what is sent on are locks of the height, signed
 pub sends_locks : SendsLocks
-unfolding ended
+unfolding opened_effects
 sends_locks ring row log c m = elim (at_place c) [
   | at_reports e ↦ rw e tt
   | at_lock e ↦ rw e tt

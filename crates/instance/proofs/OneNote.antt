@@ -17,7 +17,7 @@ use Rattle.ledger_model.specs.Rules.{Ring, with_signature, has_phase}
 use Rattle.ledger_model.proofs.LockSafety.{has_read, read_has, made_has, took_tells}
 use Rattle.ledger_model.proofs.Staying.{find_none, From, decided_stays, find_same, find_append}
 use Rattle.ledger_model.specs.declared.version.Version.{Version}
-use Rattle.instance.specs.Matching.{ReportsMatch, LockMatches, AcksMatch, MatchesLog, IsKept, IsSound, proper_phase}
+use Rattle.instance.specs.Matching.{ReportsMatch, LockMatches, AcksMatch, MatchesLog, IsStoredReport, IsSoundInstance, proper_phase}
 use Rattle.tally.proofs.Puts.{none_there}
 use Rattle.instance.proofs.KeptPlaces.{none_read}
 use Rattle.std.proofs.Math.Bool.{or-false}
@@ -118,8 +118,8 @@ module _ (log : List Note) (n : Note) where
 
   -- ---- what a phase brought stays, where the note is none of it
 
-  pub kept_stays : {version : Version} {ring : Ring} {height k r : ℕ} {p : SignedReport} → IsKept version ring height log k r p
-      → IsKept version ring height more k r p
+  pub kept_stays : {version : Version} {ring : Ring} {height k r : ℕ} {p : SignedReport} → IsStoredReport version ring height log k r p
+      → IsStoredReport version ring height more k r p
   kept_stays h = record {
     of_height = h.of_height;
     of_phase = h.of_phase;
@@ -213,7 +213,7 @@ module _ (ring : Ring) (row : InstanceView) (log : List Note) (old : MatchesLog 
   -- it matches where the parts do
   pub assembled : (proper : ProperSet) (table : List SignedLock) (reports : Places SignedReport) (acks : Places Ack)
       (taken made decided : Option Value) (c : ℕ)
-      → clock_of (more log n) ≡ c → clock_of log ≤ c → IsSound ring (with_parts proper table reports acks taken made decided)
+      → clock_of (more log n) ≡ c → clock_of log ≤ c → IsSoundInstance ring (with_parts proper table reports acks taken made decided)
       → proper.own ≡ row.proper.own → proper ≡ proper_at row.config row.id (more log n) (proper_phase c) row.proper.own
       → held_locks (more log n) ≡ map as_statement table → decided ≡ decided_by row.config (more log n) (c / rounds_in_phase)
       → ReportsMatch row.config.frames ring row.config.replicas row.height (more log n) (phase_of c) reports

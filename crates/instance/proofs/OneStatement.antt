@@ -32,16 +32,16 @@ use Rattle.lock_proofs.proofs.TakenLocks.{takes_a_lock}
 use Rattle.lock_proofs.proofs.ReleasedLocks.{releases_locks}
 use Rattle.lock_proofs.proofs.KeptLocks.{keeps_locks}
 use Rattle.instance.specs.Instances.{InstanceView}
-use Rattle.instance.specs.Matching.{MatchesLog, ReportsMatch, LockMatches, AcksMatch, IsKept, IsSound, IsHeldLock}
+use Rattle.instance.specs.Matching.{MatchesLog, ReportsMatch, LockMatches, AcksMatch, IsStoredReport, IsSoundInstance, IsHeldLock}
 use Rattle.instance.specs.Reads.{row_causes, is_kept_already, with_statement}
-use Rattle.instance.specs.Laws.{Reads}
+use Rattle.instance.specs.Laws.{MatchesAfterNote}
 use Rattle.instance.proofs.Answering.{OnTime, on_time}
 use Rattle.tally.proofs.Puts.{read_put, there_now, there_still}
 use Rattle.instance.proofs.KeptPlaces.{any_put}
 use Rattle.instance.proofs.OneNote.{more, IsNext, next_made, next_read, read_more, made_more, read_same, made_same, taken_same, has_last}
 use Rattle.instance.proofs.OneNote.{kept_stays, reports_stay, acks_stay, lock_stays, decided_same, proper_same, assembled}
 use Rattle.instance.proofs.SpelledRows.{still_sound, sound_report, reads_sound, sound_lock}
-use Rattle.instance.specs.Plans.{with_own, added}
+use Rattle.instance.specs.Plans.{with_own, placed}
 
 signed_is : (p s : SignedReport) → with_signature p ≡ with_signature s → p ≡ s
 signed_is p s e = grind arith
@@ -91,7 +91,7 @@ module _ (ring : Ring) (row : InstanceView) (log : List Note) (m : MatchesLog ri
   -- what is kept matches the log with a note that leaves the round open, where the parts that it changes do
   in_round : (n : Note) → IsNext log n → clock_of (n ∷ []) ≡ 0
       → {table : List SignedLock} {reports : Places SignedReport} {acks : Places Ack} {taken made : Option Value}
-      → IsSound ring (record row { table = table; reports = reports; acks = acks; taken = taken; made = made })
+      → IsSoundInstance ring (record row { table = table; reports = reports; acks = acks; taken = taken; made = made })
       → held_locks (more log n) ≡ map as_statement table
       → ReportsMatch row.config.frames ring row.config.replicas row.height (more log n) k reports → LockMatches (more log n) k taken made
       → AcksMatch row.config.replicas (more log n) k acks
@@ -147,7 +147,7 @@ module _ (ring : Ring) (row : InstanceView) (log : List Note) (m : MatchesLog ri
             ∙ sym (any_put (λ s. test s.report) row.reports r p below none)
             ∙ sym (any_mapped test (λ s. s.report) (all_read (slice_set row.reports r (Some p))));
         kept = λ q s e. elim (read_put row.reports r q p s e) [
-          | inl new ↦ subst (λ x. IsKept row.config.frames ring row.height (more log n) k q x) new.1 (record {
+          | inl new ↦ subst (λ x. IsStoredReport row.config.frames ring row.height (more log n) k q x) new.1 (record {
             of_height = height;
             of_phase = eqb-true p.report.phase k t.phase;
             of_signer = sym new.0;
@@ -193,7 +193,7 @@ module _ (ring : Ring) (row : InstanceView) (log : List Note) (m : MatchesLog ri
     n = Read (clock_of log) (as_statement s)
 
     takes_lock : place_of now ≡ lock_place → is_some row.taken ≡ false
-        → IsSound ring (record row { table = with_lock s row.table; taken = Some s.lock.value })
+        → IsSoundInstance ring (record row { table = with_lock s row.table; taken = Some s.lock.value })
         → MatchesLog ring (record row { table = with_lock s row.table; taken = Some s.lock.value }) (more log n)
     takes_lock place first sound =
         let some = t.some in
@@ -207,7 +207,7 @@ module _ (ring : Ring) (row : InstanceView) (log : List Note) (m : MatchesLog ri
         (reports_stay log n (λ test. and_right _ false refl) m.reports) (taken_now log k s here phase unread m.lock)
         (acks_stay log n (λ test. and_right _ false refl) m.acks)
 
-    releases : place_of now ≡ release_place → IsSound ring (record row { table = released k s.lock row.table })
+    releases : place_of now ≡ release_place → IsSoundInstance ring (record row { table = released k s.lock row.table })
         → MatchesLog ring (record row { table = released k s.lock row.table }) (more log n)
     releases place sound =
         let some = t.some in
@@ -224,7 +224,7 @@ read_one : (ring : Ring) (row : InstanceView) (log : List Note) (m : MatchesLog 
     → signer_of s < row.config.replicas → height_of s ≡ row.height
     → IsFrameIn row.config.frames (record { statement = s; signature = signature })
     → is_signed ring (record { statement = s; signature = signature }) ≡ true
-    → IsSound ring (with_statement row (clock_of log) signature s)
+    → IsSoundInstance ring (with_statement row (clock_of log) signature s)
     → MatchesLog ring (with_statement row (clock_of log) signature s)
     (more log (Read (clock_of log) (record { statement = s; signature = signature })))
 read_one ring row log m signature (statement.Report r) t new member height frame signed sound =
@@ -241,7 +241,7 @@ read_one ring row log m signature (statement.Lock l) t new member height frame s
           (rw other at sound))
     ]
 
-pub reads : Reads
+pub reads : MatchesAfterNote
 reads ring row log s m member height frame ok =
     let c : ℕ = clock_of log in
     let fits = none_fits (row_causes row ring c s) tt in
@@ -251,7 +251,7 @@ reads ring row log s m member height frame ok =
     (reads_sound ring row log s m height frame ok)
 
 added_is : {X : Type 0} (places : Places X) (id r : ℕ) (x : X) → r ≡ id → read_of places r ≡ None
-    → slice_set places r (Some x) ≡ added places id x
+    → slice_set places r (Some x) ≡ placed places id x
 added_is places id r x own none = grind arith
 
 module _ (ring : Ring) (row : InstanceView) (log : List Note) (m : MatchesLog ring row log) (c : ℕ) (now : clock_of log ≡ c) where

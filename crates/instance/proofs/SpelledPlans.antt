@@ -17,7 +17,7 @@ use Rattle.tally.specs.Tallies.{all_read}
 use Rattle.ledger_model.specs.Validity.{signers_of}
 use Rattle.instance.specs.Instances.{InstanceView}
 use Rattle.instance.specs.Matching.{IsSpelled, IsSpelledSet}
-use Rattle.instance.specs.Plans.{own_lock, chosen_lock, sent_ack, chosen_statement, ended, IsOwnStatement}
+use Rattle.instance.specs.Plans.{own_lock, chosen_lock, sent_ack, chosen_statement, opened_effects, IsOwnStatement}
 use Rattle.ledger_model.proofs.AtPlace.{at_place, at_reports, at_lock, at_acks, at_release}
 use Rattle.instance.proofs.OwnLocks.{in_proof, proof_length, signers_within}
 use Rattle.proper_sets.specs.ProperViews.{ProperView}
@@ -94,12 +94,12 @@ unfolding chosen_statement
 chosen_own_statement row c = grind arith
 
 -- what the end of a round makes proper
-pub proper_spelled : (row : InstanceView) (c : ℕ) (known : ProperView) → IsSpelled row → (ended row c).proper ≡ Some known
+pub proper_spelled : (row : InstanceView) (c : ℕ) (known : ProperView) → IsSpelled row → (opened_effects row c).proper ≡ Some known
     → IsSpelledSet row.config.frames known.set
-unfolding ended
+unfolding opened_effects
 proper_spelled row c known h e = let set = absorbs h in grind arith
 
 -- its proper set is of the same cluster
-pub proper_config : (row : InstanceView) (c : ℕ) (known : ProperView) → (ended row c).proper ≡ Some known → known.config ≡ row.config
-unfolding ended
+pub proper_config : (row : InstanceView) (c : ℕ) (known : ProperView) → (opened_effects row c).proper ≡ Some known → known.config ≡ row.config
+unfolding opened_effects
 proper_config row c known e = grind arith

@@ -24,7 +24,7 @@ use Rattle.lock_proofs.proofs.TableLaws.{with_lock-table, filter-table}
 use Rattle.lock_proofs.proofs.ValueLists.{has_value, with_lock-values, with_lock_has}
 use Rattle.proper_sets.proofs.Orders.{filter-ascends, take-ascends}
 use Rattle.proper_sets.proofs.Cuts.{IsSmall-cut}
-use Rattle.instance.specs.Matching.{IsSpelledSet, IsKeptReport, IsSpelled, IsHeldLock, IsSound}
+use Rattle.instance.specs.Matching.{IsSpelledSet, IsKeptReport, IsSpelled, IsHeldLock, IsSoundInstance}
 use Rattle.std.proofs.lemmas.Bool.{cases_Bool, not-false}
 use Rattle.ledger_model.specs.declared.reply.Ignored.TheVariants as cause
 use Rattle.ledger_model.specs.declared.statement.Ack.{Ack}
@@ -40,7 +40,7 @@ use Rattle.tally.specs.Tallies.{Places, all_read, read_of}
 use Rattle.ledger_model.proofs.Steps.{none_fits}
 use Rattle.instance.specs.Instances.{InstanceView}
 use Rattle.instance.specs.Reads.{row_causes, with_statement}
-use Rattle.instance.specs.Plans.{added, forgotten}
+use Rattle.instance.specs.Plans.{placed, forgotten}
 use Rattle.instance.specs.Laws.{ReadsSound}
 use Rattle.tally.proofs.Puts.{read_at, read_put, none_there}
 use Rattle.instance.proofs.KeptPlaces.{read_added}
@@ -155,7 +155,7 @@ module _ {row : InstanceView} (h : IsSpelled row) where
 
   -- a report is kept
   pub keeps_report : (r : ℕ) (s : SignedReport) (reports : Places SignedReport) → s.report.signer ≡ r → IsSignedReport row.config.frames s
-      → reports ≡ added row.reports r s
+      → reports ≡ placed row.reports r s
       → IsSpelled (record row { reports = reports })
   keeps_report r s reports signer spelled is =
       spelled_with h.locked h.taken (λ q x e. with_report r s signer spelled q x
@@ -211,23 +211,23 @@ module _ {row : InstanceView} (h : IsSpelled row) where
 
 -- ---- and each held lock is one
 
-module _ {ring : Ring} {row : InstanceView} (h : IsSound ring row) where
+module _ {ring : Ring} {row : InstanceView} (h : IsSoundInstance ring row) where
   -- what else was read, made or decided doesn't matter
   pub still_sound : {acks : Places Ack} {made decided : Option Value}
-      → IsSound ring (record row { acks = acks; made = made; decided = decided })
+      → IsSoundInstance ring (record row { acks = acks; made = made; decided = decided })
   still_sound = record { spelled = spelled_with h.spelled h.spelled.locked h.spelled.taken h.spelled.reports; held = h.held }
 
   -- as a phase opens, and once its reports are absorbed
-  pub forgets_soundly : {decided : Option Value} → IsSound ring (record (forgotten row) { decided = decided })
+  pub forgets_soundly : {decided : Option Value} → IsSoundInstance ring (record (forgotten row) { decided = decided })
   forgets_soundly = record { spelled = forgets h.spelled row.config.replicas; held = h.held }
 
   pub absorbs_soundly : {decided : Option Value}
-      → IsSound ring (record row { proper = absorbed row.config row.id (reports_of (all_read row.reports)) row.proper; decided = decided })
+      → IsSoundInstance ring (record row { proper = absorbed row.config row.id (reports_of (all_read row.reports)) row.proper; decided = decided })
   absorbs_soundly = record { spelled = keeps_proper h.spelled _ _ (absorbs h.spelled); held = h.held }
 
   -- a report is kept, a lock is taken, locks are released
   pub sound_report : (p : SignedReport) → IsSignedReport row.config.frames p
-      → IsSound ring (record row { reports = slice_set row.reports p.report.signer (Some p) })
+      → IsSoundInstance ring (record row { reports = slice_set row.reports p.report.signer (Some p) })
   sound_report p spelled = record {
     spelled = spelled_with h.spelled h.spelled.locked h.spelled.taken
         (λ q x e. with_report h.spelled p.report.signer p refl spelled q x (read_put row.reports p.report.signer q p x e));
@@ -235,7 +235,7 @@ module _ {ring : Ring} {row : InstanceView} (h : IsSound ring row) where
   }
 
   pub sound_lock : (s : SignedLock) → IsHeldLock ring row.config row.height s → has_four_others s.lock.value row.table ≡ false
-      → IsSound ring (record row { table = with_lock s row.table; taken = Some s.lock.value })
+      → IsSoundInstance ring (record row { table = with_lock s row.table; taken = Some s.lock.value })
   sound_lock s held room = record {
     spelled = keeps_lock h.spelled s _ _ _ (value_within row.config.frames s.lock.version s.lock.value held.frame.read
         held.frame.statement.value)
@@ -247,7 +247,7 @@ module _ {ring : Ring} {row : InstanceView} (h : IsSound ring row) where
     ];
   }
 
-  sound_released : (now : ℕ) (l : Lock) → IsSound ring (record row { table = released now l row.table })
+  sound_released : (now : ℕ) (l : Lock) → IsSoundInstance ring (record row { table = released now l row.table })
   sound_released now l = record {
     spelled = drops_locks h.spelled now l _ refl;
     held = λ m k. h.held m (filter_has (λ (x : SignedLock). not (ends_hold now l x.lock)) row.table m k).0;
@@ -270,10 +270,10 @@ is_right ring row c s ok = record {
   room = none_fits (row_causes row ring c s) tt _ cause.TableFull ok refl;
 }
 
-sound_read : (ring : Ring) (row : InstanceView) (c : ℕ) (signature : List ℕ) (s : Statement) → IsSound ring row → height_of s ≡ row.height
+sound_read : (ring : Ring) (row : InstanceView) (c : ℕ) (signature : List ℕ) (s : Statement) → IsSoundInstance ring row → height_of s ≡ row.height
     → IsFrameIn row.config.frames (record { statement = s; signature = signature })
     → IsRight ring row c (record { statement = s; signature = signature })
-    → IsSound ring (with_statement row c signature s)
+    → IsSoundInstance ring (with_statement row c signature s)
 sound_read ring row c signature (statement.Report r) h height frame right =
     sound_report h (record { report = r; signature = signature })
     (record { read = frame.read; report = frame.statement; signature = frame.signature })

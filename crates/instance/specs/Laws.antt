@@ -18,9 +18,9 @@ use Rattle.ledger_model.specs.Spelling.{IsFrame, IsFrameIn, frame_bytes}
 use Rattle.instance.specs.declared.round_statement.RoundStatement.{RoundStatement}
 use Rattle.instance.specs.declared.round_statement.RoundStatement.TheVariants as made
 use Rattle.instance.specs.Instances.{InstanceView}
-use Rattle.instance.specs.Matching.{MatchesLog, IsSound, only_rounds}
+use Rattle.instance.specs.Matching.{MatchesLog, IsSoundInstance, only_rounds}
 use Rattle.instance.specs.Reads.{opened_row, round_causes, row_causes, after_read}
-use Rattle.instance.specs.Plans.{MaySend, chosen_statement, ended, is_mute_made, sent_in, closed}
+use Rattle.instance.specs.Plans.{MaySend, chosen_statement, opened_effects, is_mute_made, own_statement_sent, closed}
 
 -- an instance that opens in any round matches the log of rounds and its proposal
 abbrev pub Opens : Type 0
@@ -44,8 +44,8 @@ Judges =
     → first_of (round_causes row (clock_of log) s) ≡ first_of (place_causes row.config (clock_of log) (is_repeated log s) s [])
 
 -- after an accepted statement the instance matches the log with its note
-abbrev pub Reads : Type 0
-Reads =
+abbrev pub MatchesAfterNote : Type 0
+MatchesAfterNote =
     (ring : Ring) (row : InstanceView) (log : List Note) (s : SignedStatement)
     → MatchesLog ring row log → signer_of s.statement < row.config.replicas → height_of s.statement ≡ row.height
     → IsFrameIn row.config.frames s
@@ -59,13 +59,13 @@ abbrev pub with_unsent : List Statement → InstanceView → List Note → ℕ �
 with_unsent sent row log c mute = sent ++ map (λ s. s.statement) (own_ack row.config row.id row.height log c mute)
 
 -- the statement that is sent, if one is, as a list
-abbrev pub statements_of : Option Statement → List Statement
-statements_of None = []
-statements_of (Some s) = s ∷ []
+abbrev pub as_statements : Option Statement → List Statement
+as_statements None = []
+as_statements (Some s) = s ∷ []
 
 -- the log allows a replica that is not mute to send this, or nothing, as round c opens
 abbrev pub MayBeSent : InstanceView → List Note → ℕ → Option Statement → Type 0
-MayBeSent row log c sent = MayMake row.config row.id row.height log c false (with_unsent (statements_of sent) row log c false)
+MayBeSent row log c sent = MayMake row.config row.id row.height log c false (with_unsent (as_statements sent) row log c false)
 
 -- what the instance allows, the log allows
 abbrev pub Allows : Type 0
@@ -95,7 +95,7 @@ ProvesSigned =
 abbrev pub SendsOn : Type 0
 SendsOn =
     (ring : Ring) (row : InstanceView) (log : List Note) → MatchesLog ring row log → place_of (clock_of log + 1) ≡ release_place
-    → (ended row (clock_of log + 1)).sends_on ≡ map frame_bytes (held_locks log)
+    → (opened_effects row (clock_of log + 1)).sends_on ≡ map frame_bytes (held_locks log)
 
 -- a frame that is sent on reads back as a lock of the height whose signature and whose reports verify
 pub record IsLockSentOn (ring : Ring) (height : ℕ) (frame : List ℕ) : Type 0 where
@@ -110,13 +110,13 @@ pub record IsLockSentOn (ring : Ring) (height : ℕ) (frame : List ℕ) : Type 0
 abbrev pub SendsLocks : Type 0
 SendsLocks =
     (ring : Ring) (row : InstanceView) (log : List Note) (c : ℕ) → MatchesLog ring row log
-    → AllByRecursion (IsLockSentOn ring row.height) (ended row c).sends_on
+    → AllByRecursion (IsLockSentOn ring row.height) (opened_effects row c).sends_on
 
 -- ---- opening the next round
 
 -- what the replica makes by the log: what it sends, and an owner's acknowledgement of its own lock
 abbrev pub made_in : InstanceView → List Note → ℕ → RoundStatement → List SignedStatement
-made_in row log c m = sent_in m ++ own_ack row.config row.id row.height log c (is_mute_made m)
+made_in row log c m = own_statement_sent m ++ own_ack row.config row.id row.height log c (is_mute_made m)
 
 -- the log allows the replica to make this
 abbrev pub MayClose : InstanceView → List Note → ℕ → RoundStatement → Type 0
@@ -143,7 +143,7 @@ abbrev pub Closes : Type 0
 Closes =
     (ring : Ring) (row : InstanceView) (log : List Note) (m : RoundStatement)
     → MatchesLog ring row log → MayClose row log (clock_of log + 1) m → IsSignedMade ring m → IsFrameMade m
-    → MatchesLog ring (closed row (clock_of log + 1) (ended row (clock_of log + 1)) m) (opened_by row log (clock_of log + 1) m)
+    → MatchesLog ring (closed row (clock_of log + 1) (opened_effects row (clock_of log + 1)) m) (opened_by row log (clock_of log + 1) m)
 
 -- after an accepted statement everything in the instance can be encoded, and each held lock is valid
 abbrev pub ReadsSound : Type 0
@@ -151,4 +151,4 @@ ReadsSound =
     (ring : Ring) (row : InstanceView) (log : List Note) (s : SignedStatement)
     → MatchesLog ring row log → height_of s.statement ≡ row.height → IsFrameIn row.config.frames s
     → first_of (row_causes row ring (clock_of log) s) ≡ Ok tt
-    → IsSound ring (after_read row (clock_of log) s)
+    → IsSoundInstance ring (after_read row (clock_of log) s)

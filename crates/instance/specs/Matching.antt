@@ -32,7 +32,7 @@ abbrev pub proper_phase : ℕ → ℕ
 proper_phase c = if place_of c == report_place then phase_of c else phase_of c + 1
 
 -- the stored report of replica r is one of phase k that was read, and it is signed and can be encoded
-pub record IsKept (version : Version) (ring : Ring) (height : ℕ) (log : List Note) (k r : ℕ) (s : SignedReport) : Type 0 where
+pub record IsStoredReport (version : Version) (ring : Ring) (height : ℕ) (log : List Note) (k r : ℕ) (s : SignedReport) : Type 0 where
   pub of_height : s.report.height ≡ height
   pub of_phase : s.report.phase ≡ k
   pub of_signer : s.report.signer ≡ r
@@ -45,7 +45,7 @@ pub record ReportsMatch (version : Version) (ring : Ring) (replicas height : ℕ
     Type 0 where
   pub count : length places ≡ replicas
   pub same : (test : Report → Bool) → was_read log (round_at report_place k) (is_report test) ≡ list_any test (reports_of (all_read places))
-  pub kept : (r : ℕ) (s : SignedReport) → read_of places r ≡ Some s → IsKept version ring height log k r s
+  pub kept : (r : ℕ) (s : SignedReport) → read_of places r ≡ Some s → IsStoredReport version ring height log k r s
   pub every : (s : SignedReport) → Has log (Read (round_at report_place k) (with_signature s)) → read_of places s.report.signer ≡ Some s
 
 -- the stored values are those of the lock that was taken in phase k, and of the lock that was made
@@ -89,14 +89,14 @@ pub record IsHeldLock (ring : Ring) (config : Config) (height : ℕ) (s : Signed
   pub proved : IsTrue (is_proved config ring s.lock)
 
 -- everything in the instance can be encoded, and each held lock is valid
-pub record IsSound (ring : Ring) (row : InstanceView) : Type 0 where
+pub record IsSoundInstance (ring : Ring) (row : InstanceView) : Type 0 where
   pub spelled : IsSpelled row
   pub held : (s : SignedLock) → Has row.table s → IsHeldLock ring row.config row.height s
 
 -- the instance matches the log, where k is the open phase; at clock 0 this is phase 0, in which nothing is read or made
 pub record MatchesIn (ring : Ring) (row : InstanceView) (log : List Note) (k : ℕ) : Type 0 where
   pub member : row.id < row.config.replicas
-  pub sound : IsSound ring row
+  pub sound : IsSoundInstance ring row
   pub opened : open_of log ≡ Some row.proper.own
   pub timely : IsTimely log
   pub made_by_now : (c : ℕ) (s : Statement) → Has log (OwnStatement c s) → c ≤ clock_of log

@@ -226,8 +226,8 @@ abbrev pub nothing_ends : RoundEffectsView
 nothing_ends = record { sends_on = []; proper = None; decided = None; unsent = None }
 
 -- the effects as round c opens
-unfoldable pub ended : InstanceView → ℕ → RoundEffectsView
-ended row c =
+unfoldable pub opened_effects : InstanceView → ℕ → RoundEffectsView
+opened_effects row c =
     if place_of c == report_place then nothing_ends
     else if place_of c == lock_place then record nothing_ends {
       proper =
@@ -245,10 +245,10 @@ is_mute_made made.Unsent = false
 is_mute_made (made.Sent f) = false
 
 -- the replica's own statement that is sent
-abbrev pub sent_in : RoundStatement → List SignedStatement
-sent_in made.Mute = []
-sent_in made.Unsent = []
-sent_in (made.Sent f) = f ∷ []
+abbrev pub own_statement_sent : RoundStatement → List SignedStatement
+own_statement_sent made.Mute = []
+own_statement_sent made.Unsent = []
+own_statement_sent (made.Sent f) = f ∷ []
 
 -- an acknowledgement that is not sent has no signature
 abbrev pub unsent_frames : Option Ack → List SignedStatement
@@ -293,17 +293,17 @@ abbrev pub with_ends : RoundEffectsView → InstanceView → InstanceView
 with_ends e row = record row { proper = or_set e.proper row.proper; decided = or_else row.decided e.decided }
 
 -- the places with x at r, if r's place was empty
-abbrev pub added : {X : Type 0} → Places X → ℕ → X → Places X
-added places r x = if is_none (read_of places r) then slice_set places r (Some x) else places
+abbrev pub placed : {X : Type 0} → Places X → ℕ → X → Places X
+placed places r x = if is_none (read_of places r) then slice_set places r (Some x) else places
 
 -- the instance with its own statement, stored as one that was read; a lock is not taken if the table has no place for it
 abbrev pub with_own_statement : List ℕ → Statement → InstanceView → InstanceView
 with_own_statement signature (statement.Report r) row =
-    record row { reports = added row.reports row.id (record { report = r; signature = signature }) }
+    record row { reports = placed row.reports row.id (record { report = r; signature = signature }) }
 with_own_statement signature (statement.Lock l) row =
     if has_four_others l.value row.table then record row { made = Some l.value }
     else record row { made = Some l.value; table = with_lock (record { lock = l; signature = signature }) row.table; taken = Some l.value }
-with_own_statement signature (statement.Ack a) row = record row { acks = added row.acks row.id a }
+with_own_statement signature (statement.Ack a) row = record row { acks = placed row.acks row.id a }
 
 -- the instance with one statement of its own
 abbrev pub with_own : SignedStatement → InstanceView → InstanceView

@@ -19,7 +19,7 @@ impl Instance {
     ghost use Rattle.ledger_model.specs.Spelling.{IsFrame};
     ghost use Rattle.ledger_model.specs.Locks.{or_else, lock_value};
     ghost use Rattle.instance.specs.Matching.{MatchesLog, IsSpelledSet};
-    ghost use Rattle.instance.specs.Plans.{ended, made_by, unsent_frames, closed, forgotten, with_all, with_own, IsOwnMade, added};
+    ghost use Rattle.instance.specs.Plans.{opened_effects, made_by, unsent_frames, closed, forgotten, with_all, with_own, IsOwnMade, placed};
     ghost use Rattle.instance.specs.Laws.{MayClose, IsSignedMade, IsFrameMade, opened_by};
     ghost use Rattle.instance.specs.Reads.{IsSameHeight};
     ghost use Rattle.ledger_model.specs.Limits.{last_round};
@@ -86,7 +86,7 @@ impl Instance {
 
     /// Stores the replica's own acknowledgement. Allocates nothing.
     fn put_ack(&mut self, ack: Ack)
-        ensures { self.new ≡ record self.old { acks = added self.old.acks self.old.id ack } }
+        ensures { self.new ≡ record self.old { acks = placed self.old.acks self.old.id ack } }
     {
         self.acks.add(self.id, ack);
     }
@@ -127,7 +127,7 @@ impl Instance {
     #[tactic(auto, unfolding(crate::specs::Plans::closed))]
     pub fn close(&mut self, ending: RoundEffects, made: RoundStatement, clock: u32)
         requires clock { clock < last_round }
-        requires ending { ending ≡ ended self.old (clock + 1) }
+        requires ending { ending ≡ opened_effects self.old (clock + 1) }
         requires own { IsOwnMade self.old.config self.old.id made }
         ensures row { self.new ≡ closed self.old (clock + 1) ending made }
         // For every log that the instance matched and that allows what is made: the instance then matches that log,

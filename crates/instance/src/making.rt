@@ -33,7 +33,7 @@ impl Instance {
     ghost use Rattle.lock_proofs.specs.LockTables.{as_statement};
     ghost use Rattle.lock_proofs.specs.Tables.{values_of};
     ghost use Rattle.instance.specs.Matching.{MatchesLog};
-    ghost use Rattle.instance.specs.Plans.{own_report, own_lock, locking_of, chosen_lock, own_acks, sent_ack, unsent_ack, decides_now, decides_first, chosen_statement, ended, nothing_ends, IsOwnStatement};
+    ghost use Rattle.instance.specs.Plans.{own_report, own_lock, locking_of, chosen_lock, own_acks, sent_ack, unsent_ack, decides_now, decides_first, chosen_statement, opened_effects, nothing_ends, IsOwnStatement};
     ghost use Rattle.instance.specs.Laws.{MayBeSent, IsLockSentOn};
     ghost use Rattle.ledger_model.specs.Limits.{last_round};
 
@@ -213,10 +213,10 @@ impl Instance {
     }
 
     /// The effects of opening a round, which don't depend on what is sent.
-    #[tactic(auto, unfolding(crate::specs::Plans::ended))]
+    #[tactic(auto, unfolding(crate::specs::Plans::opened_effects))]
     fn ending(&self, alloc: Global, round: u32) -> Result<RoundEffects, AllocError>
         requires { (1 ≤ round) × (round ≤ last_round) }
-        ensures { IfOk result (λ ending. ending ≡ ended self.now round) }
+        ensures { IfOk result (λ ending. ending ≡ opened_effects self.now round) }
     {
         let phase = phase_of(round);
         match place_of(u64::from(round)) {
@@ -234,7 +234,7 @@ impl Instance {
     /// that closes. Changes nothing yet.
     pub fn prepare_end(&self, alloc: Global, clock: u32) -> Result<RoundEffects, AllocError>
         requires clock { clock < last_round }
-        ensures ending { IfOk result (λ ending. ending ≡ ended self.now (clock + 1)) }
+        ensures ending { IfOk result (λ ending. ending ≡ opened_effects self.now (clock + 1)) }
         // In a lock-release round the replica sends on the locks that it holds.
         ensures sends_on { IfOk result (λ ending. (ring : Ring) (log : List Note) → MatchesLog ring self.now log → clock_of log ≡ clock
             → place_of (clock + 1) ≡ release_place → ending.sends_on ≡ map frame_bytes (held_locks log)) }
@@ -250,7 +250,7 @@ impl Instance {
     pub fn plan_end(&self, alloc: Global, clock: u32) -> Result<RoundPlan, AllocError>
         requires clock { clock < last_round }
         ensures statement { IfOk result (λ plan. plan.statement ≡ chosen_statement self.now (clock + 1)) }
-        ensures ending { IfOk result (λ plan. plan.ending ≡ ended self.now (clock + 1)) }
+        ensures ending { IfOk result (λ plan. plan.ending ≡ opened_effects self.now (clock + 1)) }
         // It chooses only what every log that the instance matches allows.
         ensures may { IfOk result (λ plan. (ring : Ring) (log : List Note) → MatchesLog ring self.now log → clock_of log ≡ clock
             → MayBeSent self.now log (clock + 1) plan.statement) }

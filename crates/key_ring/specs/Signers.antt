@@ -16,8 +16,8 @@ abbrev pub leaves_of : Secret → ℕ
 leaves_of s = 2 ^ (numbers_of s.params).height
 
 -- the public key of a key pair (section 5.3)
-abbrev pub key_of : Secret → List ℕ
-key_of s = public_key (numbers_of s.params) s.identifier s.seed
+abbrev pub public_key_of : Secret → List ℕ
+public_key_of s = public_key (numbers_of s.params) s.identifier s.seed
 
 -- the signature of a message with a leaf (section 5.4)
 abbrev pub signed_with : Secret → ℕ → List ℕ → List ℕ

@@ -29,7 +29,7 @@ impl Signer {
     ghost use Rattle.std.specs.Prelude.{◌≡◌, ◌+◌, ◌≤◌, true, length, IfOk};
     ghost use Rattle.ledger_model.specs.Limits.{max_signature_len};
     ghost use Rattle.ledger_model.specs.Signatures.{verifies};
-    ghost use Rattle.key_ring.specs.Signers.{leaves_of, key_of, SignsAs};
+    ghost use Rattle.key_ring.specs.Signers.{leaves_of, public_key_of, SignsAs};
 
     /// The key pair of a seed under an identifier, with no leaf used. Its tree is computed here, once.
     ///
@@ -58,7 +58,7 @@ impl Signer {
         // Which leaf signed, which leaves are used afterwards, and when each fault comes.
         ensures signs { SignsAs (λ signature. signature.items) self.old message.now result self.new }
         ensures verifies { IfOk result (λ signature.
-            verifies (key_of self.old.secret) message.now signature.items ≡ true) }
+            verifies (public_key_of self.old.secret) message.now signature.items ≡ true) }
         ensures short { IfOk result (λ signature. length signature.items ≤ max_signature_len) }
     {
         let leaf = self.used;
@@ -81,7 +81,7 @@ impl Signer {
 
     /// The public key under which its signatures verify.
     pub fn public(&self) -> PublicKey
-        ensures { result ≡ key_of self.now.secret }
+        ensures { result ≡ public_key_of self.now.secret }
     {
         self.tree.public()
     }

@@ -16,7 +16,7 @@ use Rattle.ledger_model.specs.Reading.{reading_in, body_reading, statement_at, r
 use Rattle.ledger_model.specs.Reading.{positive_at, flag_at, value_at, tx_at, txs_at, list_at, values_at, signature_at}
 use Rattle.ledger_model.specs.Audits.{own_sent, unsent_in, is_not_after, NothingUnsent}
 use Rattle.ledger_laws.specs.Examples.{four, a, b, signed_report, quiet_end, round_entries}
-use Rattle.ledger_laws.specs.Vacuity.{proposes, sends, accepts, ack_on, commits, first_result, three, forked}
+use Rattle.ledger_laws.specs.Vacuity.{proposes, send_entry, accept_entry, ack_on, commits, first_result, three, forked}
 use Rattle.ledger_laws.specs.Audits.{CaughtForkExample, QuietHistoriesPass, ReportExample, LockExample}
 use Rattle.ledger_laws.proofs.Computed.{round_entries_replay}
 use Rattle.ledger_laws.proofs.Refuted.{each_of_three}
@@ -55,13 +55,13 @@ unfolding own_sent unsent_in statement_bytes body_bytes frame_bytes reading_in b
 caught_fork_example = (
   refl,
   record {
-    is = record { history = record { replica = 1; entries = of_1 }; of = refl; entry = accepts (ack_on a 0); at = refl; unsent = inl refl };
+    is = record { history = record { replica = 1; entries = of_1 }; of = refl; entry = accept_entry (ack_on a 0); at = refl; unsent = inl refl };
     least = λ q j y is.
         each_of_three [] of_1 of_2 (λ r m. (e : Entry) → slice_get m.entries j ≡ Some e → Has (unsent_in forked e) y
         → IsTrue (is_not_after 1 4 0 r j y))
         (λ e at has. cc) (λ e at has. first_of_1 j y e at has) (λ e at has. refl) q is.history is.of is.entry is.at is.unsent;
   },
-  record { history = record { replica = 1; entries = of_1 }; of = refl; entry = accepts (ack_on a 2); at = refl; unsent = inl refl },
+  record { history = record { replica = 1; entries = of_1 }; of = refl; entry = accept_entry (ack_on a 2); at = refl; unsent = inl refl },
 )
 
 -- ---- histories that pass
@@ -128,19 +128,19 @@ pub report_example : ReportExample
 unfolding own_sent unsent_in statement_bytes body_bytes frame_bytes reading_in body_reading statement_at report_at lock_at ack_at proof_at
     signed_at place_at positive_at flag_at value_at tx_at txs_at list_at values_at signature_at
 report_example = (
-  nothing_of_three (proposes a ∷ sends signed_report ∷ []) (accepts signed_report ∷ []) (accepts signed_report ∷ [])
+  nothing_of_three (proposes a ∷ send_entry signed_report ∷ []) (accept_entry signed_report ∷ []) (accept_entry signed_report ∷ [])
       (refl, (refl, tt)) (refl, tt) (refl, tt),
   record {
-    history = record { replica = 1; entries = accepts signed_report ∷ [] };
+    history = record { replica = 1; entries = accept_entry signed_report ∷ [] };
     of = refl;
-    entry = accepts signed_report;
+    entry = accept_entry signed_report;
     at = refl;
     unsent = inl refl;
   },
   record {
-    history = record { replica = 2; entries = accepts signed_report ∷ [] };
+    history = record { replica = 2; entries = accept_entry signed_report ∷ [] };
     of = refl;
-    entry = accepts signed_report;
+    entry = accept_entry signed_report;
     at = refl;
     unsent = inl refl;
   },

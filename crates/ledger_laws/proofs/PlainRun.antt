@@ -41,7 +41,7 @@ use Rattle.ledger_model.specs.Lawful.{Lawful, Follows, FollowsFrom, LawfulRoundE
 use Rattle.ledger_model.proofs.FrameReading.{reading-again}
 use Rattle.ledger_model.proofs.Staying.{log_after-append}
 use Rattle.ledger_laws.specs.Examples.{four, a, tx_a, quiet_end}
-use Rattle.ledger_laws.specs.Vacuity.{takes, proposes, sends, accepts, runs_block, first_result}
+use Rattle.ledger_laws.specs.Vacuity.{takes, proposes, send_entry, accept_entry, runs_block, first_result}
 use Rattle.ledger_laws.specs.PlainRun.{IsSendable, Signing, PlainRunCommits, report_shown, owner_entries, other_entries, plain_histories, AreSendable, report_sent, lock_sent, ack_sent}
 
 abbrev K : Config
@@ -72,13 +72,13 @@ read_one : (s : SignedStatement) → IsFrameIn One s → reading_in One (frame_b
 read_one s is = reading-again One s is
 
 accepted : (id : ℕ) (front : List Entry) (s : SignedStatement) (log other : List Note) → IsFrameIn One s → height_of s.statement ≡ 1
-    → Logs id front log other → Logs id (front ++ accepts s ∷ []) (log ++ Read (clock_of log) s ∷ []) other
+    → Logs id front log other → Logs id (front ++ accept_entry s ∷ []) (log ++ Read (clock_of log) s ∷ []) other
 unfolding notes_of
 accepted id front s log other is height at = record {
-  here = log_more id 1 front (accepts s) log at.here
+  here = log_more id 1 front (accept_entry s) log at.here
       ∙ ap (λ o. log ++ if_some o (λ t. if nat_eq (height_of t.statement) 1 then Read (clock_of log) t ∷ [] else [])) (read_one s is)
       ∙ ap (λ n. log ++ (if nat_eq n 1 then Read (clock_of log) s ∷ [] else [])) height;
-  there = λ h not. log_more id h front (accepts s) other (at.there h not)
+  there = λ h not. log_more id h front (accept_entry s) other (at.there h not)
       ∙ ap (λ o. other ++ if_some o (λ t. if nat_eq (height_of t.statement) h then Read (clock_of other) t ∷ [] else [])) (read_one s is)
       ∙ ap (λ n. other ++ (if nat_eq n h then Read (clock_of other) s ∷ [] else [])) height
       ∙ ap (λ b. other ++ (if b then Read (clock_of other) s ∷ [] else [])) not
@@ -260,22 +260,22 @@ module _ (ring : Ring) (sign : Signing) (are : AreSendable ring sign) where
   entries_after_start = takes tx_a ∷ proposes a ∷ []
 
   abbrev entries_after_report : List Entry
-  entries_after_report = entries_after_start ++ sends (rep 1) ∷ []
+  entries_after_report = entries_after_start ++ send_entry (rep 1) ∷ []
 
   abbrev entries_after_reports : List Entry
-  entries_after_reports = entries_after_report ++ accepts (rep 0) ∷ accepts (rep 2) ∷ []
+  entries_after_reports = entries_after_report ++ accept_entry (rep 0) ∷ accept_entry (rep 2) ∷ []
 
   abbrev entries_after_lock : List Entry
-  entries_after_lock = entries_after_reports ++ sends lock ∷ []
+  entries_after_lock = entries_after_reports ++ send_entry lock ∷ []
 
   abbrev entries_after_ack : List Entry
   entries_after_ack = entries_after_lock ++ quiet_end ∷ []
 
   abbrev entries_after_acks : List Entry
-  entries_after_acks = entries_after_ack ++ accepts (ack_sent sign 0) ∷ accepts (ack_sent sign 2) ∷ []
+  entries_after_acks = entries_after_ack ++ accept_entry (ack_sent sign 0) ∷ accept_entry (ack_sent sign 2) ∷ []
 
   abbrev entries_after_end : List Entry
-  entries_after_end = entries_after_acks ++ sends lock ∷ []
+  entries_after_end = entries_after_acks ++ send_entry lock ∷ []
 
   -- what a replica has noted once it opened the height
   begun : (id : ℕ) → Logs id entries_after_start (Proposed a ∷ []) []
@@ -307,14 +307,14 @@ module _ (ring : Ring) (sign : Signing) (are : AreSendable ring sign) where
     shut = refl;
   }
 
-  reported : (id : ℕ) → id ≤ 2 → Logs id (entries_after_start ++ sends (rep id) ∷ [])
+  reported : (id : ℕ) → id ≤ 2 → Logs id (entries_after_start ++ send_entry (rep id) ∷ [])
       (Proposed a ∷ Round 1 ∷ OwnStatement 1 (rep id).statement ∷ Read 1 (rep id) ∷ []) (Round 1 ∷ [])
   reported id le = round_ended id entries_after_start (to_all (rep id) ∷ []) (rep id ∷ []) (Proposed a ∷ []) [] (makes_report id le)
       (begun id)
 
   pub read_reports : Logs 1 entries_after_reports log_after_reports (Round 1 ∷ [])
   read_reports =
-      accepted 1 (entries_after_report ++ accepts (rep 0) ∷ []) (rep 2) (log_after_report ++ Read 1 (rep 0) ∷ []) (Round 1 ∷ [])
+      accepted 1 (entries_after_report ++ accept_entry (rep 0) ∷ []) (rep 2) (log_after_report ++ Read 1 (rep 0) ∷ []) (Round 1 ∷ [])
       (report_frame 2 (lit≤ tt)) refl
       (accepted 1 entries_after_report (rep 0) log_after_report (Round 1 ∷ []) (report_frame 0 (lit≤ tt)) refl (reported 1 (lit≤ tt)))
 
@@ -389,7 +389,7 @@ module _ (ring : Ring) (sign : Signing) (are : AreSendable ring sign) where
 
   read_acks : Logs 1 entries_after_acks log_after_acks (Round 1 ∷ Round 2 ∷ Round 3 ∷ [])
   read_acks =
-      accepted 1 (entries_after_ack ++ accepts (ack_sent sign 0) ∷ []) (ack_sent sign 2) (log_after_ack ++ Read 3 (ack_sent sign 0) ∷ [])
+      accepted 1 (entries_after_ack ++ accept_entry (ack_sent sign 0) ∷ []) (ack_sent sign 2) (log_after_ack ++ Read 3 (ack_sent sign 0) ∷ [])
       (Round 1 ∷ Round 2 ∷ Round 3 ∷ []) are.ack_2.frame refl
       (accepted 1 entries_after_ack (ack_sent sign 0) log_after_ack (Round 1 ∷ Round 2 ∷ Round 3 ∷ []) are.ack_0.frame refl acked)
 
@@ -459,7 +459,7 @@ module _ (ring : Ring) (sign : Signing) (are : AreSendable ring sign) where
           lawful_accept ring 1 entries_after_report (rep 0) log_after_report (Round 1 ∷ []) (report_frame 0 (lit≤ tt)) refl
               (reported 1 (lit≤ tt)) accepts_0,
           (
-            lawful_accept ring 1 (entries_after_report ++ accepts (rep 0) ∷ []) (rep 2) (log_after_report ++ Read 1 (rep 0) ∷ [])
+            lawful_accept ring 1 (entries_after_report ++ accept_entry (rep 0) ∷ []) (rep 2) (log_after_report ++ Read 1 (rep 0) ∷ [])
                 (Round 1 ∷ []) (report_frame 2 (lit≤ tt)) refl
                 (accepted 1 entries_after_report (rep 0) log_after_report (Round 1 ∷ []) (report_frame 0 (lit≤ tt)) refl
                 (reported 1 (lit≤ tt))) accepts_2,
@@ -471,7 +471,7 @@ module _ (ring : Ring) (sign : Signing) (are : AreSendable ring sign) where
                   lawful_accept ring 1 entries_after_ack (ack_sent sign 0) log_after_ack
                       (Round 1 ∷ Round 2 ∷ Round 3 ∷ []) are.ack_0.frame refl acked accepts_ack_0,
                   (
-                    lawful_accept ring 1 (entries_after_ack ++ accepts (ack_sent sign 0) ∷ []) (ack_sent sign 2)
+                    lawful_accept ring 1 (entries_after_ack ++ accept_entry (ack_sent sign 0) ∷ []) (ack_sent sign 2)
                         (log_after_ack ++ Read 3 (ack_sent sign 0) ∷ [])
                         (Round 1 ∷ Round 2 ∷ Round 3 ∷ []) are.ack_2.frame refl
                         (accepted 1 entries_after_ack (ack_sent sign 0) log_after_ack
@@ -503,10 +503,10 @@ module _ (ring : Ring) (sign : Signing) (are : AreSendable ring sign) where
     other_log_after_ack = other_log_after_lock ++ Round 3 ∷ OwnStatement 3 (ack_sent sign r).statement ∷ Read 3 (ack_sent sign r) ∷ []
 
     abbrev other_entries_after_report : List Entry
-    other_entries_after_report = entries_after_start ++ sends (rep r) ∷ []
+    other_entries_after_report = entries_after_start ++ send_entry (rep r) ∷ []
 
     abbrev other_entries_after_lock : List Entry
-    other_entries_after_lock = other_entries_after_report ++ quiet_end ∷ accepts lock ∷ []
+    other_entries_after_lock = other_entries_after_report ++ quiet_end ∷ accept_entry lock ∷ []
 
     -- it makes no lock
     makes_nothing : Makes r other_log_after_report (Round 1 ∷ []) [] []

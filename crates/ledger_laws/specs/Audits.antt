@@ -11,7 +11,7 @@ use Rattle.ledger_model.specs.Commits.{commits_of}
 use Rattle.ledger_model.specs.Groups.{history_of}
 use Rattle.ledger_model.specs.Audits.{are_of_a_quorum, AreReplays, unsent_in, IsUnsent, IsFirstUnsent, NothingUnsent}
 use Rattle.ledger_laws.specs.Examples.{four, a, signed_report, quiet_end, round_entries}
-use Rattle.ledger_laws.specs.Vacuity.{proposes, sends, accepts, lock_on, three, forked}
+use Rattle.ledger_laws.specs.Vacuity.{proposes, send_entry, accept_entry, lock_on, three, forked}
 
 -- some entry of some history accepts a statement that its signer's history doesn't send
 abbrev pub SomeUnsent : List History → Type 0
@@ -51,22 +51,22 @@ QuietHistoriesPass =
 
 -- replicas 1 and 2 accept the report of replica 0, whose round 1 opens with this entry
 abbrev pub with_report : Entry → List History
-with_report opening = three (proposes a ∷ opening ∷ []) (accepts signed_report ∷ []) (accepts signed_report ∷ [])
+with_report opening = three (proposes a ∷ opening ∷ []) (accept_entry signed_report ∷ []) (accept_entry signed_report ∷ [])
 
 -- nothing is unsent if replica 0 sends its report; otherwise the report is unsent at both readers
 abbrev pub ReportExample : Type 0
 ReportExample =
-    NothingUnsent (with_report (sends signed_report))
+    NothingUnsent (with_report (send_entry signed_report))
     × IsUnsent (with_report quiet_end) 1 0 0
     × IsUnsent (with_report quiet_end) 2 0 0
 
 -- replica 1 proposed [a=1] and then had these round ends, and replica 2 accepts its lock
-abbrev pub with_lock : List Entry → List History
-with_lock ends = three [] (proposes a ∷ ends) (accepts (lock_on a) ∷ [])
+abbrev pub lock_histories : List Entry → List History
+lock_histories ends = three [] (proposes a ∷ ends) (accept_entry (lock_on a) ∷ [])
 
 -- Replica 1 sends the lock as its own in round 2, but not in round 4, in which replicas only send held locks on. The
 -- reports of replicas 0, 1 and 2 in the lock's proof are unsent in both cases.
 abbrev pub LockExample : Type 0
 LockExample =
-    (unsent_in (with_lock (quiet_end ∷ sends (lock_on a) ∷ [])) (accepts (lock_on a)) ≡ 0 ∷ 1 ∷ 2 ∷ [])
-    × (unsent_in (with_lock (quiet_end ∷ quiet_end ∷ quiet_end ∷ sends (lock_on a) ∷ [])) (accepts (lock_on a)) ≡ 1 ∷ 0 ∷ 1 ∷ 2 ∷ [])
+    (unsent_in (lock_histories (quiet_end ∷ send_entry (lock_on a) ∷ [])) (accept_entry (lock_on a)) ≡ 0 ∷ 1 ∷ 2 ∷ [])
+    × (unsent_in (lock_histories (quiet_end ∷ quiet_end ∷ quiet_end ∷ send_entry (lock_on a) ∷ [])) (accept_entry (lock_on a)) ≡ 1 ∷ 0 ∷ 1 ∷ 2 ∷ [])

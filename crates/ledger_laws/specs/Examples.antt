@@ -75,8 +75,8 @@ y = one 0x79
 -- ---- the proper values of replica 0 of four as phase 2 opens, by its own value and what it read in phase 1
 
 -- the note of a report that was read: its signer, its initial value, whether it names every value, and the values that it lists
-abbrev pub reads : ℕ → Value → Bool → List Value → Note
-reads signer initial all proper = Read 1 (record {
+abbrev pub report_note : ℕ → Value → Bool → List Value → Note
+report_note signer initial all proper = Read 1 (record {
   statement = statement.Report (record {
     version = One;
     height = 1;
@@ -106,35 +106,35 @@ all_of own reports = is_all_proper (four KvStore) 0 (opened own reports) 2 own
 -- two others name y, so y is proper
 abbrev pub TwoNameOne : Type 0
 TwoNameOne =
-    let reports = reads 1 x false (x ∷ []) ∷ reads 2 y false (y ∷ []) ∷ reads 3 y false (y ∷ []) ∷ [] in
+    let reports = report_note 1 x false (x ∷ []) ∷ report_note 2 y false (y ∷ []) ∷ report_note 3 y false (y ∷ []) ∷ [] in
     (proper_of x reports ≡ x ∷ y ∷ []) × (all_of x reports ≡ false)
 
 -- three initial values, none of them twice: every value is proper
 abbrev pub ThreeDiffer : Type 0
-ThreeDiffer = all_of a (reads 1 b false (b ∷ []) ∷ reads 2 c false (c ∷ []) ∷ []) ≡ true
+ThreeDiffer = all_of a (report_note 1 b false (b ∷ []) ∷ report_note 2 c false (c ∷ []) ∷ []) ≡ true
 
 -- three initial values, two of them the same: not every value is proper
 abbrev pub TwoAgree : Type 0
 TwoAgree =
-    let reports = reads 1 a false (a ∷ []) ∷ reads 2 b false (b ∷ []) ∷ [] in
+    let reports = report_note 1 a false (a ∷ []) ∷ report_note 2 b false (b ∷ []) ∷ [] in
     (proper_of a reports ≡ a ∷ []) × (all_of a reports ≡ false)
 
 -- The own report lists d, and two others report that every value is proper. Then d isn't proper by name, but it is if
 -- one of the two lists it.
 abbrev pub OwnListingIsNoOthers : Type 0
 OwnListingIsNoOthers =
-    let own_lists = reads 0 a false (d ∷ []) ∷ reads 1 a true (a ∷ []) ∷ reads 2 a true (a ∷ []) ∷ [] in
-    let other_lists = reads 1 a true (d ∷ []) ∷ reads 2 a true (a ∷ []) ∷ [] in
+    let own_lists = report_note 0 a false (d ∷ []) ∷ report_note 1 a true (a ∷ []) ∷ report_note 2 a true (a ∷ []) ∷ [] in
+    let other_lists = report_note 1 a true (d ∷ []) ∷ report_note 2 a true (a ∷ []) ∷ [] in
     (proper_of a own_lists ≡ a ∷ []) × (all_of a own_lists ≡ true) × (proper_of a other_lists ≡ a ∷ d ∷ [])
 
 -- two others report that every value is proper
 abbrev pub TwoNameAll : Type 0
-TwoNameAll = all_of a (reads 1 a true (a ∷ []) ∷ reads 2 a true (a ∷ []) ∷ []) ≡ true
+TwoNameAll = all_of a (report_note 1 a true (a ∷ []) ∷ report_note 2 a true (a ∷ []) ∷ []) ≡ true
 
 -- five values would be proper; the own one and the three least of the others are
 abbrev pub CutToFour : Type 0
 CutToFour =
-    let reports = reads 1 m false (a ∷ b ∷ c ∷ d ∷ []) ∷ reads 2 m false (a ∷ b ∷ c ∷ d ∷ []) ∷ [] in
+    let reports = report_note 1 m false (a ∷ b ∷ c ∷ d ∷ []) ∷ report_note 2 m false (a ∷ b ∷ c ∷ d ∷ []) ∷ [] in
     (proper_of m reports ≡ a ∷ b ∷ c ∷ m ∷ []) × (all_of m reports ≡ false)
 
 -- ---- the locks and decisions of replica 1 of four, which owns phase 1

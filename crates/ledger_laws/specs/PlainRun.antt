@@ -20,15 +20,15 @@ use Rattle.ledger_model.specs.Rules.{Ring, is_signed}
 use Rattle.ledger_model.specs.Commits.{commits_of}
 use Rattle.ledger_model.specs.Groups.{AreCorrect, ReadsBacked, AllProposed, is_correct, log_in}
 use Rattle.ledger_laws.specs.Examples.{four, a, tx_a, first_report, quiet_end}
-use Rattle.ledger_laws.specs.Vacuity.{takes, proposes, sends, accepts, runs_block, first_result, three}
+use Rattle.ledger_laws.specs.Vacuity.{takes, proposes, send_entry, accept_entry, runs_block, first_result, three}
 
 -- a signature for each statement
 abbrev pub Signing : Type 0
 Signing = Statement → List ℕ
 
 -- the statement with its signature
-abbrev pub with_sign : Signing → Statement → SignedStatement
-with_sign sign s = record { statement = s; signature = sign s }
+abbrev pub sign_with : Signing → Statement → SignedStatement
+sign_with sign s = record { statement = s; signature = sign s }
 
 -- the report of a replica that proposed [a=1], in phase 1 of height 1
 abbrev pub plain_report : ℕ → Report
@@ -36,7 +36,7 @@ plain_report r = record first_report { signer = r }
 
 -- that report, signed
 abbrev pub report_sent : Signing → ℕ → SignedStatement
-report_sent sign r = with_sign sign (statement.Report (plain_report r))
+report_sent sign r = sign_with sign (statement.Report (plain_report r))
 
 -- that report in a proof
 abbrev pub report_shown : Signing → ℕ → SignedReport
@@ -44,7 +44,7 @@ report_shown sign r = record { report = plain_report r; signature = sign (statem
 
 -- the lock of replica 1 on [a=1], with the reports of 0, 1 and 2 as its proof, signed
 abbrev pub lock_sent : Signing → SignedStatement
-lock_sent sign = with_sign sign (statement.Lock (record {
+lock_sent sign = sign_with sign (statement.Lock (record {
   version = One;
   height = 1;
   phase = 1;
@@ -55,7 +55,7 @@ lock_sent sign = with_sign sign (statement.Lock (record {
 
 -- the replica's acknowledgement of that lock, signed
 abbrev pub ack_sent : Signing → ℕ → SignedStatement
-ack_sent sign r = with_sign sign (statement.Ack (record { version = One; height = 1; phase = 1; signer = r; value = a }))
+ack_sent sign r = sign_with sign (statement.Ack (record { version = One; height = 1; phase = 1; signer = r; value = a }))
 
 -- the statement is signed under the ring, and a frame of version 1 can carry it
 pub record IsSendable (ring : Ring) (s : SignedStatement) : Type 0 where
@@ -79,14 +79,14 @@ acknowledges s = record {
 -- the history of replica 1: as round 3 opens it makes its own acknowledgement, which is in no frame; as round 4 opens it sends its lock on
 abbrev pub owner_entries : Signing → List Entry
 owner_entries sign =
-    takes tx_a ∷ proposes a ∷ sends (report_sent sign 1) ∷ accepts (report_sent sign 0) ∷ accepts (report_sent sign 2)
-    ∷ sends (lock_sent sign) ∷ quiet_end ∷ accepts (ack_sent sign 0) ∷ accepts (ack_sent sign 2) ∷ sends (lock_sent sign)
+    takes tx_a ∷ proposes a ∷ send_entry (report_sent sign 1) ∷ accept_entry (report_sent sign 0) ∷ accept_entry (report_sent sign 2)
+    ∷ send_entry (lock_sent sign) ∷ quiet_end ∷ accept_entry (ack_sent sign 0) ∷ accept_entry (ack_sent sign 2) ∷ send_entry (lock_sent sign)
     ∷ runs_block (first_result a) ∷ []
 
 -- the history of replica 0 or 2
 abbrev pub other_entries : Signing → ℕ → List Entry
 other_entries sign r =
-    takes tx_a ∷ proposes a ∷ sends (report_sent sign r) ∷ quiet_end ∷ accepts (lock_sent sign) ∷ acknowledges (ack_sent sign r) ∷ []
+    takes tx_a ∷ proposes a ∷ send_entry (report_sent sign r) ∷ quiet_end ∷ accept_entry (lock_sent sign) ∷ acknowledges (ack_sent sign r) ∷ []
 
 -- the histories of the three
 abbrev pub plain_histories : Signing → List History

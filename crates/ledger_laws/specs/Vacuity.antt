@@ -85,15 +85,15 @@ abbrev pub proposes : Value → Entry
 proposes v = record { event = event.Propose 1; reply = reply.Proposed (Ok v) }
 
 -- a round ends, and a frame of the statement goes to all
-abbrev pub sends : SignedStatement → Entry
-sends s = record {
+abbrev pub send_entry : SignedStatement → Entry
+send_entry s = record {
   event = event.RoundEnd;
   reply = reply.RoundEnded (Ok (record { mute = false; frames = record { addressee = addressee.All; frame = frame_bytes s } ∷ [] }));
 }
 
 -- a frame of the statement arrives and is accepted
-abbrev pub accepts : SignedStatement → Entry
-accepts s = record { event = event.Deliver (frame_bytes s); reply = reply.Delivered (Ok tt) }
+abbrev pub accept_entry : SignedStatement → Entry
+accept_entry s = record { event = event.Deliver (frame_bytes s); reply = reply.Delivered (Ok tt) }
 
 -- the next block is run with this result
 abbrev pub runs_block : BlockResult → Entry
@@ -111,8 +111,8 @@ rejects tx code = record { event = event.Submit tx; reply = reply.Submitted (Err
 -- as round 4 opens, and runs the block.
 abbrev pub commits : Value → Value → BlockResult → List Entry
 commits own v result =
-    proposes own ∷ quiet_end ∷ sends (lock_on v) ∷ quiet_end
-    ∷ accepts (ack_on v 0) ∷ accepts (ack_on v 2) ∷ accepts (ack_on v 3) ∷ quiet_end
+    proposes own ∷ quiet_end ∷ send_entry (lock_on v) ∷ quiet_end
+    ∷ accept_entry (ack_on v 0) ∷ accept_entry (ack_on v 2) ∷ accept_entry (ack_on v 3) ∷ quiet_end
     ∷ runs_block result ∷ []
 
 -- the result of the application run alone for the first block

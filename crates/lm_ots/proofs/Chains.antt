@@ -9,7 +9,7 @@ use Rattle.sha2.proofs.Facts256.{length-sha256}
 use Rattle.sha_lanes.specs.Turns.{next_message, after_turns}
 use Rattle.sha_lanes.proofs.TurnLemmas.{length-after}
 use Rattle.ledger_model.specs.Signatures.{chain, chain_start}
-use Rattle.lm_ots.specs.Steps.{place_in, step_in, value_in, rest_of, walk, stepped, IsNext}
+use Rattle.lm_ots.specs.Steps.{place_in, step_in, step_input, rest_of, walk, stepped, IsNext}
 
 -- steps after steps
 pub chain-append : (id : List ℕ) (q i j m n : ℕ) (value : List ℕ)
@@ -52,7 +52,7 @@ walk-begun id seed q i n inside =
     ap (λ k. walk place 255 k seed) one ∙ walk-chain id q i 0 n _ (omega arith)
 
 -- a message is its place, its step and its value
-message-parts : (m : List ℕ) → length m ≡ 55 → place_in m ++ (step_in m ∷ []) ++ value_in m ≡ m
+message-parts : (m : List ℕ) → length m ≡ 55 → place_in m ++ (step_in m ∷ []) ++ step_input m ≡ m
 message-parts m whole =
     append_assoc (take 22 m) (slice_index m 22 ∷ []) (drop 23 m) ∙ ap (λ zs. take 22 m ++ zs) (sym (drop_more m 22 0 (omega arith)))
     ∙ take-append-drop 22 m
@@ -65,7 +65,7 @@ rest-next before after n m =
     ∙ ap (λ v. walk (place_in before) ((step_in before + 1) % 256) n (sha256 v)) (sym (message-parts before m.whole))
 
 -- no step leaves the value
-pub rest-none : (m : List ℕ) → value_in m ≡ rest_of m 0
+pub rest-none : (m : List ℕ) → step_input m ≡ rest_of m 0
 unfolding walk
 rest-none m = refl
 
@@ -79,7 +79,7 @@ rest-made place value j n long =
     let e = append_assoc place (j ∷ []) value in
     let at = place-made place value j long in
     let step : step_in (place ++ (j ∷ []) ++ value) ≡ j = ap (λ m. slice_index m 22) e ∙ get_or_at place j value 0 22 long in
-    let behind : value_in (place ++ (j ∷ []) ++ value) ≡ value =
+    let behind : step_input (place ++ (j ∷ []) ++ value) ≡ value =
     drop_at (place ++ (j ∷ [])) value 23 (omega (arith, length-append place (j ∷ []))) in
     (λ i. walk (at i) (step i) n (behind i))
 

@@ -11,8 +11,8 @@ abbrev pub step_in : List ℕ → ℕ
 step_in message = slice_index message 22
 
 -- the value that the step starts from
-abbrev pub value_in : List ℕ → List ℕ
-value_in message = drop 23 message
+abbrev pub step_input : List ℕ → List ℕ
+step_input message = drop 23 message
 
 -- step j of the chain identified by `place`
 abbrev pub stepped : List ℕ → ℕ → List ℕ → List ℕ
@@ -25,11 +25,11 @@ walk place j (suc n) value = walk place ((j + 1) % 256) n (stepped place j value
 
 -- the value after n steps, the first of which hashes this message
 abbrev pub rest_of : List ℕ → ℕ → List ℕ
-rest_of message n = walk (place_in message) (step_in message) n (value_in message)
+rest_of message n = walk (place_in message) (step_in message) n (step_input message)
 
 -- `after` is the message of the step that follows the one whose message is `before`
 pub record IsNext (before after : List ℕ) : Type 0 where
   pub whole : length before ≡ 55
   pub place : place_in after ≡ place_in before
   pub step : step_in after ≡ (step_in before + 1) % 256
-  pub value : value_in after ≡ sha256 before
+  pub value : step_input after ≡ sha256 before

@@ -1,7 +1,7 @@
 //! The message that one step of a chain hashes, which is one block of SHA-256; and eight such steps in parallel.
 ghost use Rattle.std.specs.Prelude.{◌≡◌, ℕ, ◌+◌, ◌%◌, ◌<◌, ◌++◌, [], ◌∷◌, length, take, slice_index_or};
 ghost use Rattle.std.specs.Int.{w16, w32, to_be_bytes};
-ghost use Rattle.lm_ots.specs.Steps.{place_in, value_in, rest_of};
+ghost use Rattle.lm_ots.specs.Steps.{place_in, step_input, rest_of};
 
 use crate::Identifier;
 use sha_lanes::take_turns;
@@ -45,7 +45,7 @@ pub(crate) fn step_message(
 
 /// The value that a step starts from, taken from its message.
 pub(crate) fn value_in(message: &[u8; 55]) -> &[u8]
-    ensures value { result.now ≡ value_in message.now }
+    ensures value { result.now ≡ step_input message.now }
     ensures whole { length result.now ≡ 32 }
 {
     &message[23..]

@@ -3,7 +3,7 @@ ghost use Rattle.std.specs.Prelude.{◌≡◌, ◌≢◌, ℕ, ◌+◌, ◌*◌,
 ghost use Rattle.std.specs.Int.{w16, w32, to_be_bytes};
 ghost use Rattle.ledger_model.specs.Signatures.{chain, chain_start, last_step, leaf_key};
 ghost use Rattle.lm_ots.specs.Parameters.{numbers_of};
-ghost use Rattle.lm_ots.specs.Steps.{value_in};
+ghost use Rattle.lm_ots.specs.Steps.{step_input};
 
 use crate::block::{LANES, SEED_STEP, step_message, steps_each, value_in};
 use crate::ends::public_value;
@@ -103,7 +103,7 @@ fn seed_messages(identifier: &Identifier, first: u32, index: u16, seed: &Seed) -
 /// The values that the steps of eight messages start from.
 fn values_in(messages: &[[u8; 55]; LANES]) -> [[u8; 32]; LANES]
     ensures { (k : ℕ) → k < 8
-        → slice_index_or result k [] ≡ value_in (slice_index_or messages.now k []) }
+        → slice_index_or result k [] ≡ step_input (slice_index_or messages.now k []) }
 {
     let mut values = [[0; 32]; LANES];
     for lane in 0..LANES {

@@ -7,10 +7,10 @@ use Rattle.lms_speed.specs.declared.request.Request.{Request}
 use Rattle.lms_speed.specs.declared.request.Request.TheVariants as request
 
 -- the text is the answer to this request; a rate may be any text
-abbrev pub IsAnswer : Request → List ℕ → Type 0
-IsAnswer (request.Public pair) text = text ≡ encode_lower (public_key (numbers_of pair.params) pair.identifier pair.seed)
-IsAnswer (request.Sign asked) text =
+abbrev pub IsAnswerTo : Request → List ℕ → Type 0
+IsAnswerTo (request.Public pair) text = text ≡ encode_lower (public_key (numbers_of pair.params) pair.identifier pair.seed)
+IsAnswerTo (request.Sign asked) text =
     text ≡ encode_lower (signature_of (numbers_of asked.pair.params) asked.pair.identifier asked.pair.seed asked.leaf asked.message.items)
-IsAnswer (request.Verify asked) text =
+IsAnswerTo (request.Verify asked) text =
     text ≡ (if verifies asked.key.items asked.message.items asked.signature.items then codes "true" else codes "false")
-IsAnswer (request.Rate asked) text = Unit {0}
+IsAnswerTo (request.Rate asked) text = Unit {0}

@@ -3,7 +3,7 @@ ghost use Rattle.std.specs.Prelude.{◌≡◌, IfOk, codes, string_bytes, if◌t
 ghost use Rattle.hex.specs.Hex.{encode_lower};
 ghost use Rattle.ledger_model.specs.Signatures.{public_key, signature_of, verifies};
 ghost use Rattle.lm_ots.specs.Parameters.{numbers_of};
-ghost use Rattle.lms_speed.specs.Requests.{IsAnswer};
+ghost use Rattle.lms_speed.specs.Requests.{IsAnswerTo};
 
 use crate::parsing::{LineFault, parse};
 use crate::rates::rate_text;
@@ -67,7 +67,7 @@ pub fn verdict_text(request: &VerifyRequest) -> &'static str
 
 /// The answer to a request.
 fn reply<C: Clock>(clock: &C, alloc: Global, request: Request) -> io::Result<String>
-    ensures { IfOk result (λ text. IsAnswer request (string_bytes text)) }
+    ensures { IfOk result (λ text. IsAnswerTo request (string_bytes text)) }
 {
     match request {
         Request::Public(pair) => Ok(public_text(alloc, pair)?),

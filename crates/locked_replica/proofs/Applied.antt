@@ -18,7 +18,7 @@ use Rattle.ledger_model.specs.Lawful.{Lawful, Replay, clock_at, is_signed_reply}
 use Rattle.ledger_model.proofs.Steps.{replays_snoc}
 use Rattle.key_ring.specs.Signers.{SignerView, leaves_of}
 use Rattle.replica_core.specs.ReplicaStates.{ReplicaStateView, MatchesHistory}
-use Rattle.replica_core.specs.Leaves.{signed_at, signed_by, due_by, LeafAccount}
+use Rattle.replica_core.specs.Leaves.{signed_count, signed_by, due_by, LeafAccount}
 use Rattle.replica_core.specs.Cores.{CoreView as Core, IsSameReplica, due_then, is_mute_next, is_mute_then, leaves_due}
 use Rattle.replica_core.specs.Steps.{IsStep, UsesLeaves}
 use Rattle.replica_core.specs.LeafOrder.{SignsOnce}
@@ -122,9 +122,9 @@ module _ (old new : Core) (before after : List Entry) (e : Entry) (taken : IsTak
       ∙ mute_by old before e.event taken.matches taken.due
 
   -- each statement that is sent uses a leaf
-  used_on : new.keys.used ≡ old.keys.used + signed_at (clock_at before + 1) e.reply
+  used_on : new.keys.used ≡ old.keys.used + signed_count (clock_at before + 1) e.reply
   used_on = uses_signed old.keys new.keys old.held.clock e.reply taken.leaves
-      ∙ ap (λ n. old.keys.used + signed_at (n + 1) e.reply) (sym taken.matches.clock)
+      ∙ ap (λ n. old.keys.used + signed_count (n + 1) e.reply) (sym taken.matches.clock)
 
   pub signed_on : UsesAsSigned (replica_of old.held old.keys before) (replica_of new.held new.keys after)
   signed_on =

@@ -12,7 +12,7 @@ use Rattle.ledger_model.specs.Rules.{Ring}
 use Rattle.ledger_model.specs.Logs.{is_mute}
 use Rattle.ledger_model.specs.Lawful.{Replay, clock_at}
 use Rattle.lms_tree.specs.Trees.{Secret}
-use Rattle.key_ring.specs.Signers.{SignerView, key_of, leaves_of}
+use Rattle.key_ring.specs.Signers.{SignerView, public_key_of, leaves_of}
 use Rattle.replica_core.specs.ReplicaStates.{ReplicaStateView, MatchesHistory}
 use Rattle.replica_core.specs.Leaves.{due_by, signed_by, LeafAccount}
 use Rattle.replica_core.specs.LeafOrder.{SignsOnce}
@@ -34,7 +34,7 @@ keys_in r = record { secret = r.secret; used = r.used }
 -- the replica's number is below N, and the ring has its public key at that number
 pub record IsMember (config : Config) (id : ℕ) (ring : Ring) (secret : Secret) : Type 0 where
   pub below : id < config.replicas
-  pub own : slice_get ring id ≡ Some (key_of secret)
+  pub own : slice_get ring id ≡ Some (public_key_of secret)
 
 -- a replica with an empty history, whose application is in its opening state
 abbrev pub new_state : Config → ℕ → Ring → SignerView → StateView

@@ -70,7 +70,7 @@ impl<A: Application> State<A> {
     ghost use Rattle.ledger_model.specs.Lawful.{Lawful, Replay, answer, clock_at, is_signed_reply};
     ghost use Rattle.ledger_model.specs.Logs.{is_mute};
     ghost use Rattle.ledger_model.specs.Rules.{Ring, is_signed};
-    ghost use Rattle.key_ring.specs.Signers.{key_of, leaves_of};
+    ghost use Rattle.key_ring.specs.Signers.{public_key_of, leaves_of};
     ghost use Rattle.verify_cache.specs.Checks.{is_part_signed};
     ghost use Rattle.replica_core.specs.Steps.{UsesLeaves};
     ghost use Rattle.replica_core.specs.Placing.{answer_before_signature};
@@ -108,7 +108,7 @@ impl<A: Application> State<A> {
         ensures id { result ≡ self.now.id }
         ensures member { self.now.id < self.now.config.replicas }
         // The ring has this replica's own key at its number.
-        ensures own_key { slice_get self.now.ring self.now.id ≡ Some (key_of self.now.secret) }
+        ensures own_key { slice_get self.now.ring self.now.id ≡ Some (public_key_of self.now.secret) }
     {
         self.core.id()
     }

@@ -20,7 +20,7 @@ use Rattle.ledger_model.proofs.Steps.{map_has}
 use Rattle.tally.specs.Tallies.{Places, all_read}
 use Rattle.tally.specs.Masks.{mask_of}
 use Rattle.tally.specs.Readings.{reports_of}
-use Rattle.tally.specs.ReportMasks.{lists_proper, lists_lock, value_of, is_of, is_numbered, AreMasksOf, IsReported, AreValuesOf}
+use Rattle.tally.specs.ReportMasks.{lists_proper, lists_lock, numbered_value, is_of, is_numbered, AreMasksOf, IsReported, AreValuesOf}
 use Rattle.tally.specs.declared.reported_value.ReportedValue.{ReportedValue}
 use Rattle.tally.proofs.MaskBits.{mask_any, mask_ones}
 use Rattle.tally.proofs.Numbering.{there-is_of}
@@ -37,15 +37,15 @@ found_by_ones config places v =
     ap (nat_le (quorum config)) (mask_ones (λ s. finds s.report v) places ∙ count_signed (λ p. finds p v) (all_read places))
 
 module _ (places : Places SignedReport) (e : ReportedValue) where
-  value_listed : (v : Value) → listed places e ≡ Some v → value_of places e ≡ Some v
+  value_listed : (v : Value) → listed places e ≡ Some v → numbered_value places e ≡ Some v
   value_listed v =
-      elim (nat_eq e.masks.proper 0 && nat_eq e.masks.locked 0) as (λ b. cond b None (value_of places e) ≡ Some v → value_of places e
+      elim (nat_eq e.masks.proper 0 && nat_eq e.masks.locked 0) as (λ b. cond b None (numbered_value places e) ≡ Some v → numbered_value places e
       ≡ Some v) [
         | true ↦ λ none. cc
         | false ↦ λ is. is
       ]
 
-  masks_there : (v : Value) → IsReported places places e → value_of places e ≡ Some v → AreMasksOf places v e.masks
+  masks_there : (v : Value) → IsReported places places e → numbered_value places e ≡ Some v → AreMasksOf places v e.masks
   masks_there v k there =
       let same : k.value ≡ v = let is = k.is_there in cc in
       subst (λ w. AreMasksOf places w e.masks) same k.masks
@@ -68,13 +68,13 @@ module _ (places : Places SignedReport) (values : List ReportedValue) (h : AreVa
   abbrev is_locked : Value → Bool
   is_locked v = list_any (lists_lock v) (all_read places)
 
-  listed_is : (e : ReportedValue) (v : Value) → Has values e → value_of places e ≡ Some v
+  listed_is : (e : ReportedValue) (v : Value) → Has values e → numbered_value places e ≡ Some v
       → listed places e ≡ cond (not (is_proper v) && not (is_locked v)) None (Some v)
   listed_is e v has there =
       let masks = masks_there places e v (h.each e has) there in
-      ap (λ b. cond (b && nat_eq e.masks.locked 0) None (value_of places e))
+      ap (λ b. cond (b && nat_eq e.masks.locked 0) None (numbered_value places e))
       (ap (λ n. nat_eq n 0) masks.proper ∙ mask_any (lists_proper v) places)
-      ∙ ap (λ b. cond (not (is_proper v) && b) None (value_of places e)) (ap (λ n. nat_eq n 0) masks.locked
+      ∙ ap (λ b. cond (not (is_proper v) && b) None (numbered_value places e)) (ap (λ n. nat_eq n 0) masks.locked
       ∙ mask_any (lists_lock v) places)
       ∙ ap (cond (not (is_proper v) && not (is_locked v)) None) there
 

@@ -7,7 +7,7 @@ use Rattle.ledger_model.specs.declared.statement.SignedReport.{SignedReport}
 use Rattle.ledger_model.specs.Values.{Value, is_below}
 use Rattle.tally.specs.Tallies.{Places, all_read}
 use Rattle.tally.specs.Readings.{reports_of}
-use Rattle.tally.specs.ReportMasks.{value_of}
+use Rattle.tally.specs.ReportMasks.{numbered_value}
 use Rattle.tally.specs.declared.reported_value.ReportedValue.{ReportedValue}
 use Rattle.phase_core.specs.Choices.{is_found_by}
 
@@ -17,7 +17,7 @@ values_named reports = flat_map (λ p. p.proper ++ p.locked) reports
 
 -- the value, if a report lists it as proper or as locked
 abbrev pub listed : Places SignedReport → ReportedValue → Option Value
-listed places e = if nat_eq e.masks.proper 0 && nat_eq e.masks.locked 0 then None else value_of places e
+listed places e = if nat_eq e.masks.proper 0 && nat_eq e.masks.locked 0 then None else numbered_value places e
 
 -- the value, if a quorum's reports find it
 abbrev pub if_found : Config → Places SignedReport → Option Value → Option Value

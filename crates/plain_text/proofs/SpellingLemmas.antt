@@ -9,7 +9,7 @@ use Rattle.std.proofs.lemmas.Bool.{and_parts, eqb-true}
 use Rattle.std.proofs.lemmas.Bool.Decides.{nat_tests}
 use Rattle.std.proofs.lemmas.List.Elements.{All-nil, All-cons, All-append}
 use Rattle.std.proofs.lemmas.Option.{some_pair_parts}
-use Rattle.plain_text.specs.Transactions.{first_byte, before, byte_of, nibble, is_plain, StandsFor, byte_text, bytes_text}
+use Rattle.plain_text.specs.Transactions.{first_spelled_byte, before, byte_of, nibble, is_plain, StandsFor, byte_text, bytes_text}
 
 -- a digit is read back
 nibble-digit_glyph : (d : ℕ) → d < 16 → nibble (digit_glyph false d) ≡ Some d
@@ -64,7 +64,7 @@ plain_small : (b : ℕ) → is_plain b ≡ true → b < 256
 plain_small b is = grind (arith, nat_tests)
 
 -- a byte that is printed as itself is read
-plain_read : (b : ℕ) (rest : List ℕ) → is_plain b ≡ true → first_byte (b ∷ rest) ≡ Some (b, rest)
+plain_read : (b : ℕ) (rest : List ℕ) → is_plain b ≡ true → first_spelled_byte (b ∷ rest) ≡ Some (b, rest)
 plain_read b [] is = rw is refl
 plain_read b (c ∷ []) is = rw is refl
 plain_read b (c ∷ d ∷ rest) is =
@@ -75,19 +75,19 @@ plain_read b (c ∷ d ∷ rest) is =
 
 -- a byte that is printed as two digits is read
 escape_reads : (b h l : ℕ) (rest : List ℕ) → is_plain b ≡ false → h < 16 → l < 16 → b ≡ 16 * h + l
-    → first_byte (0x5c ∷ digit_glyph false h ∷ digit_glyph false l ∷ rest) ≡ Some (b, rest)
+    → first_spelled_byte (0x5c ∷ digit_glyph false h ∷ digit_glyph false l ∷ rest) ≡ Some (b, rest)
 escape_reads b h l rest is high low e =
     let bare : is_plain (16 * h + l) ≡ false = subst (λ (x : ℕ). is_plain x ≡ false) e is in
     let byte : byte_of (Some h) (Some l) ≡ Some b = rw bare (ap Some (sym e)) in
     rw (nibble-digit_glyph h high, nibble-digit_glyph l low) (ap (λ o. before o rest) byte)
 
 -- a byte that is printed is read
-pub first_byte-byte_text : (b : ℕ) (rest : List ℕ) → b < 256 → first_byte (byte_text b ++ rest) ≡ Some (b, rest)
+pub first_byte-byte_text : (b : ℕ) (rest : List ℕ) → b < 256 → first_spelled_byte (byte_text b ++ rest) ≡ Some (b, rest)
 unfolding byte_text
 first_byte-byte_text b rest small = by_test (is_plain b) refl
   where
     by_test : (t : Bool) → is_plain b ≡ t
-        → first_byte (cond t (b ∷ []) (0x5c ∷ digit_glyph false (b / 16) ∷ digit_glyph false (b % 16) ∷ []) ++ rest) ≡ Some (b, rest)
+        → first_spelled_byte (cond t (b ∷ []) (0x5c ∷ digit_glyph false (b / 16) ∷ digit_glyph false (b % 16) ∷ []) ++ rest) ≡ Some (b, rest)
     by_test true is = plain_read b rest is
     by_test false is = escape_reads b (b / 16) (b % 16) rest is (omega arith) (omega arith) (omega arith)
 
@@ -129,7 +129,7 @@ by_escape x y z after rest b at (byte, more) =
     )
 
 -- a byte that was read is the one that is printed so
-pub byte_text-first_byte : (text rest : List ℕ) (b : ℕ) → first_byte text ≡ Some (b, rest) → (text ≡ byte_text b ++ rest) × (b < 256)
+pub byte_text-first_byte : (text rest : List ℕ) (b : ℕ) → first_spelled_byte text ≡ Some (b, rest) → (text ≡ byte_text b ++ rest) × (b < 256)
 unfolding byte_text
 byte_text-first_byte [] rest b e = absurd cc
 byte_text-first_byte (x ∷ []) rest b e = by_plain x [] rest b (before_parts (cond (is_plain x) (Some x) None) [] rest b e)

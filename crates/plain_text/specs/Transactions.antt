@@ -26,22 +26,22 @@ before (Some b) rest = Some (b, rest)
 before None rest = None
 
 -- the byte at the start of a text, plain or as a backslash with two digits, and the text after it
-abbrev pub first_byte : List ℕ → Option (ℕ × List ℕ)
-first_byte [] = None
-first_byte (b ∷ []) = before (if is_plain b then Some b else None) []
-first_byte (b ∷ c ∷ []) = before (if is_plain b then Some b else None) (c ∷ [])
-first_byte (b ∷ c ∷ d ∷ rest) =
+abbrev pub first_spelled_byte : List ℕ → Option (ℕ × List ℕ)
+first_spelled_byte [] = None
+first_spelled_byte (b ∷ []) = before (if is_plain b then Some b else None) []
+first_spelled_byte (b ∷ c ∷ []) = before (if is_plain b then Some b else None) (c ∷ [])
+first_spelled_byte (b ∷ c ∷ d ∷ rest) =
     if b == 0x5c then before (byte_of (nibble c) (nibble d)) rest else before (if is_plain b then Some b else None) (c ∷ d ∷ rest)
 
 -- the text starts with these bytes in order, followed by the rest
 abbrev pub ReadsTo : List ℕ → List ℕ → List ℕ → Type 0
 ReadsTo text [] rest = text ≡ rest
-ReadsTo text (b ∷ bytes) rest = (after : List ℕ) × ((first_byte text ≡ Some (b, after)) × ReadsTo after bytes rest)
+ReadsTo text (b ∷ bytes) rest = (after : List ℕ) × ((first_spelled_byte text ≡ Some (b, after)) × ReadsTo after bytes rest)
 
 -- the text encodes these bytes, in order
 abbrev pub StandsFor : List ℕ → List ℕ → Type 0
 StandsFor text [] = text ≡ []
-StandsFor text (b ∷ bytes) = (rest : List ℕ) × ((first_byte text ≡ Some (b, rest)) × StandsFor rest bytes)
+StandsFor text (b ∷ bytes) = (rest : List ℕ) × ((first_spelled_byte text ≡ Some (b, rest)) × StandsFor rest bytes)
 
 -- what is wrong with a backslash and two digits
 abbrev pub escape_fault : Option ℕ → Option ℕ → SpellingFault
@@ -50,20 +50,20 @@ escape_fault (Some high) None = fault.BadEscape
 escape_fault None low = fault.BadEscape
 
 -- what is wrong at the start of a text that starts with no byte
-abbrev pub fault_at : List ℕ → SpellingFault
-fault_at [] = fault.BadEscape
-fault_at (b ∷ []) = if b == 0x5c then fault.BadEscape else fault.Bare b
-fault_at (b ∷ c ∷ []) = if b == 0x5c then fault.BadEscape else fault.Bare b
-fault_at (b ∷ c ∷ d ∷ rest) = if b == 0x5c then escape_fault (nibble c) (nibble d) else fault.Bare b
+abbrev pub spelling_fault_at : List ℕ → SpellingFault
+spelling_fault_at [] = fault.BadEscape
+spelling_fault_at (b ∷ []) = if b == 0x5c then fault.BadEscape else fault.Bare b
+spelling_fault_at (b ∷ c ∷ []) = if b == 0x5c then fault.BadEscape else fault.Bare b
+spelling_fault_at (b ∷ c ∷ d ∷ rest) = if b == 0x5c then escape_fault (nibble c) (nibble d) else fault.Bare b
 
 -- the text encodes nothing: after some bytes it continues with no byte, with this fault
 pub record Misspells (text : List ℕ) (why : SpellingFault) : Type 0 where
   pub read : List ℕ
   pub rest : List ℕ
   pub reads : ReadsTo text read rest
-  pub stops : first_byte rest ≡ None
+  pub stops : first_spelled_byte rest ≡ None
   pub some : rest ≢ []
-  pub told : why ≡ fault_at rest
+  pub told : why ≡ spelling_fault_at rest
 
 -- a byte in its printed form: itself, or a backslash and its two lower-case hexadecimal digits
 unfoldable pub byte_text : ℕ → List ℕ

@@ -1,6 +1,6 @@
 //! Transactions in their printed form: byte by byte, plain or escaped, and each byte in only one way.
 ghost use Rattle.std.specs.Prelude.{◌≡◌, ◌⊎◌, ℕ, List, ◌<◌, IfSome, IfOk, IfErr, option_map};
-ghost use Rattle.plain_text.specs.Transactions.{is_plain, nibble, first_byte, fault_at, Misspells, StandsFor};
+ghost use Rattle.plain_text.specs.Transactions.{is_plain, nibble, first_spelled_byte, spelling_fault_at, Misspells, StandsFor};
 ghost use Rattle.plain_text.specs.declared.spelling_fault.SpellingFault.TheVariants.{NoMemory};
 
 use crate::spelling_fault::SpellingFault;
@@ -27,7 +27,7 @@ fn nibble(byte: u8) -> Option<u8>
 
 /// The byte at the start of the text, plain or as a backslash with two digits, and the text after it.
 fn first_byte(text: &[u8]) -> Option<(u8, &[u8])>
-    ensures { option_map (λ x. (x.0, x.1.now)) result ≡ first_byte text.now }
+    ensures { option_map (λ x. (x.0, x.1.now)) result ≡ first_spelled_byte text.now }
 {
     match text {
         [] => None,
@@ -47,7 +47,7 @@ fn first_byte(text: &[u8]) -> Option<(u8, &[u8])>
 
 /// What is wrong at the start of a text that starts with no byte.
 fn fault_at(text: &[u8]) -> SpellingFault
-    ensures { result ≡ fault_at text.now }
+    ensures { result ≡ spelling_fault_at text.now }
 {
     match text {
         [b'\\', high, low, ..] => match (nibble(*high), nibble(*low)) {

@@ -37,8 +37,8 @@ use Rattle.plain_text.specs.Transactions.{batch_text}
 use Rattle.ledger_model.specs.Causes.{cause_text, submit_refusal_number, propose_refusal_number, retire_refusal_number}
 
 -- a line, with its line feed
-abbrev pub ended : List ℕ → List ℕ
-ended text = text ++ 10 ∷ []
+abbrev pub with_line_feed : List ℕ → List ℕ
+with_line_feed text = text ++ 10 ∷ []
 
 -- the text of a batch, if there is one
 abbrev pub batch_text_of : Option Value → List ℕ
@@ -103,7 +103,7 @@ end_text r clock (Err last) = last_round_text r
 
 -- `decided R H BATCH`
 abbrev pub decision_line : ℕ → ℕ → Value → List ℕ
-decision_line r h v = ended (codes "decided " ++ decimal r ++ codes " " ++ decimal h ++ codes " " ++ batch_text v)
+decision_line r h v = with_line_feed (codes "decided " ++ decimal r ++ codes " " ++ decimal h ++ codes " " ++ batch_text v)
 
 -- the line of a height, if it is decided
 abbrev pub decision_lines : ℕ → ℕ → Option Value → List ℕ
@@ -178,14 +178,14 @@ told_text r info = codes "info " ++ decimal r ++ codes " " ++ decimal info.heigh
 
 -- the text for an event of a replica and the reply, given the heights that weren't decided before it, and the history after it
 abbrev pub reply_text : Config → ℕ → List ℕ → List Entry → Event → Reply → List ℕ
-reply_text config r before after (event.Submit tx) (reply.Submitted given) = ended (submitted_text r given)
-reply_text config r before after (event.Propose h) (reply.Proposed given) = ended (proposed_text r h given)
-reply_text config r before after (event.Deliver bytes) (reply.Delivered given) = ended (delivered_text r given)
+reply_text config r before after (event.Submit tx) (reply.Submitted given) = with_line_feed (submitted_text r given)
+reply_text config r before after (event.Propose h) (reply.Proposed given) = with_line_feed (proposed_text r h given)
+reply_text config r before after (event.Deliver bytes) (reply.Delivered given) = with_line_feed (delivered_text r given)
 reply_text config r before after event.RoundEnd (reply.RoundEnded given) =
-    ended (end_text r (clock_at after) given) ++ decided_lines config r before after
-reply_text config r before after event.Execute (reply.Executed given) = ended (executed_text r (commits_of config r after) given)
-reply_text config r before after (event.Query key h) (reply.Queried given) = ended (queried_text r given)
-reply_text config r before after (event.Retire floor) (reply.Retired given) = ended (retired_text r floor given)
+    with_line_feed (end_text r (clock_at after) given) ++ decided_lines config r before after
+reply_text config r before after event.Execute (reply.Executed given) = with_line_feed (executed_text r (commits_of config r after) given)
+reply_text config r before after (event.Query key h) (reply.Queried given) = with_line_feed (queried_text r given)
+reply_text config r before after (event.Retire floor) (reply.Retired given) = with_line_feed (retired_text r floor given)
 reply_text config r before after _ _ = []
 
 -- the text for an entry of a replica
@@ -203,6 +203,6 @@ refusal_text refused.NoMemory = codes "refused 5"
 
 -- the text for a step, given the world before it, its reply and the world after it
 abbrev pub step_text : Config → World → WorldReply → World → List ℕ
-step_text config w (answer.Refused why) new = ended (refusal_text why)
+step_text config w (answer.Refused why) new = with_line_feed (refusal_text why)
 step_text config w (answer.Done r i) new =
     entry_text config r (undecided config r (entries_in w r)) (entries_in new r) (slice_get (entries_in new r) i)

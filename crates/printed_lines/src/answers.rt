@@ -3,7 +3,7 @@ ghost use Rattle.std.specs.Prelude.{◌≡◌, ◌++◌, OnOk, IfOk, slice_get};
 ghost use Rattle.std.specs.Result.{result_map_both};
 ghost use Rattle.ledger_model.specs.Commits.{commits_of};
 ghost use Rattle.ledger_model.specs.Lawful.{clock_at};
-ghost use Rattle.printed_lines.specs.Lines.{ended, end_text, executed_text, queried_text, undecided, decided_lines, reply_text, entry_text};
+ghost use Rattle.printed_lines.specs.Lines.{with_line_feed, end_text, executed_text, queried_text, undecided, decided_lines, reply_text, entry_text};
 
 use crate::lines::{
     add_decision, add_delivered, add_end, add_executed, add_found, add_last_end, add_not_held,
@@ -60,7 +60,7 @@ fn add_round_end<A: Application>(
     undecided: &[u32],
     answer: Result<RoundEndView<'_>, LastRound>,
 ) -> Result<(), AllocError>
-    ensures { OnOk result (out.new ≡ out.old ++ ended (end_text state.now.id (clock_at state.now.entries) answer.entry) ++ decided_lines state.now.config state.now.id undecided.now state.now.entries) }
+    ensures { OnOk result (out.new ≡ out.old ++ with_line_feed (end_text state.now.id (clock_at state.now.entries) answer.entry) ++ decided_lines state.now.config state.now.id undecided.now state.now.entries) }
 {
     match answer {
         Ok(end) => add_end(out, state.id(), state.clock(), end.len(), end.is_mute())?,
@@ -75,7 +75,7 @@ fn add_execution<A: Application>(
     state: &State<A>,
     answer: Result<&BlockResult, NothingDecided>,
 ) -> Result<(), AllocError>
-    ensures { OnOk result (out.new ≡ out.old ++ ended (executed_text state.now.id (commits_of state.now.config state.now.id state.now.entries) (result_map_both (λ b. b.now) (λ why. why) answer.entry))) }
+    ensures { OnOk result (out.new ≡ out.old ++ with_line_feed (executed_text state.now.id (commits_of state.now.config state.now.id state.now.entries) (result_map_both (λ b. b.now) (λ why. why) answer.entry))) }
 {
     match answer {
         Ok(block) => add_executed(out, state.id(), state.block(block.height), block),
@@ -89,7 +89,7 @@ fn add_answer(
     replica: ReplicaId,
     answer: Result<&QueryAnswer, NotHeld>,
 ) -> Result<(), AllocError>
-    ensures { OnOk result (out.new ≡ out.old ++ ended (queried_text replica (result_map_both (λ a. a.now) (λ why. why) answer.entry))) }
+    ensures { OnOk result (out.new ≡ out.old ++ with_line_feed (queried_text replica (result_map_both (λ a. a.now) (λ why. why) answer.entry))) }
 {
     match answer {
         Ok(found) => add_found(out, replica, found),

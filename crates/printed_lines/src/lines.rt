@@ -3,7 +3,7 @@ ghost use Rattle.std.specs.Prelude.{◌≡◌, ◌++◌, OnOk, codes, decimal};
 ghost use Rattle.std.specs.List.{flat_map};
 ghost use Rattle.std.specs.Option.{option_copied};
 ghost use Rattle.std.specs.Result.{result_map_both};
-ghost use Rattle.printed_lines.specs.Lines.{ended, batch_text_of, submit_refusal_text, submitted_text, proposed_text, retired_text, delivered_text, ended_round_text, last_round_text, decision_lines, codes_text, block_text, nothing_text, found_text, not_held_text, refusal_text, told_text};
+ghost use Rattle.printed_lines.specs.Lines.{with_line_feed, batch_text_of, submit_refusal_text, submitted_text, proposed_text, retired_text, delivered_text, ended_round_text, last_round_text, decision_lines, codes_text, block_text, nothing_text, found_text, not_held_text, refusal_text, told_text};
 
 use crate::text::Text;
 use abci::Info;
@@ -36,7 +36,7 @@ fn refusal_name(refusal: WorldRefusal) -> &'static str
 
 /// `refused 2`.
 pub fn add_refusal(out: &mut Text, refusal: WorldRefusal) -> Result<(), AllocError>
-    ensures { OnOk result (out.new ≡ out.old ++ ended (refusal_text refusal)) }
+    ensures { OnOk result (out.new ≡ out.old ++ with_line_feed (refusal_text refusal)) }
 {
     out.add(refusal_name(refusal))?;
     out.add("\n")
@@ -71,7 +71,7 @@ pub(crate) fn add_submitted(
     replica: ReplicaId,
     answer: Result<(), SubmitRefusal>,
 ) -> Result<(), AllocError>
-    ensures { OnOk result (out.new ≡ out.old ++ ended (submitted_text replica answer)) }
+    ensures { OnOk result (out.new ≡ out.old ++ with_line_feed (submitted_text replica answer)) }
 {
     let number = replica.number();
     let head = format!(in out.allocator(); "submit {number} ")?;
@@ -93,7 +93,7 @@ pub(crate) fn add_proposed(
     height: Height,
     answer: Result<&Batch, ProposeRefusal>,
 ) -> Result<(), AllocError>
-    ensures { OnOk result (out.new ≡ out.old ++ ended (proposed_text replica height (result_map_both (λ b. b.now) (λ why. why) answer.entry))) }
+    ensures { OnOk result (out.new ≡ out.old ++ with_line_feed (proposed_text replica height (result_map_both (λ b. b.now) (λ why. why) answer.entry))) }
 {
     add_head(out, "propose", replica, height.number())?;
     match answer {
@@ -113,7 +113,7 @@ pub(crate) fn add_retired(
     floor: Height,
     answer: Result<Height, RetireRefusal>,
 ) -> Result<(), AllocError>
-    ensures { OnOk result (out.new ≡ out.old ++ ended (retired_text replica floor answer)) }
+    ensures { OnOk result (out.new ≡ out.old ++ with_line_feed (retired_text replica floor answer)) }
 {
     add_head(out, "retire", replica, floor.number())?;
     match answer {
@@ -132,7 +132,7 @@ pub(crate) fn add_delivered(
     replica: ReplicaId,
     answer: Result<(), Ignored>,
 ) -> Result<(), AllocError>
-    ensures { OnOk result (out.new ≡ out.old ++ ended (delivered_text replica answer)) }
+    ensures { OnOk result (out.new ≡ out.old ++ with_line_feed (delivered_text replica answer)) }
 {
     let number = replica.number();
     let head = format!(in out.allocator(); "deliver {number} ")?;
@@ -155,7 +155,7 @@ pub(crate) fn add_end(
     sent: usize,
     is_mute: bool,
 ) -> Result<(), AllocError>
-    ensures { OnOk result (out.new ≡ out.old ++ ended (ended_round_text replica clock sent is_mute)) }
+    ensures { OnOk result (out.new ≡ out.old ++ with_line_feed (ended_round_text replica clock sent is_mute)) }
 {
     let number = replica.number();
     let head = format!(in out.allocator(); "end {number} {clock} sent {sent}")?;
@@ -165,7 +165,7 @@ pub(crate) fn add_end(
 
 /// `end R last`.
 pub(crate) fn add_last_end(out: &mut Text, replica: ReplicaId) -> Result<(), AllocError>
-    ensures { OnOk result (out.new ≡ out.old ++ ended (last_round_text replica)) }
+    ensures { OnOk result (out.new ≡ out.old ++ with_line_feed (last_round_text replica)) }
 {
     let number = replica.number();
     let line = format!(in out.allocator(); "end {number} last\n")?;
@@ -231,7 +231,7 @@ pub(crate) fn add_executed(
     batch: Option<&Batch>,
     block: &BlockResult,
 ) -> Result<(), AllocError>
-    ensures { OnOk result (out.new ≡ out.old ++ ended (block_text replica (option_copied batch.entry) block.now)) }
+    ensures { OnOk result (out.new ≡ out.old ++ with_line_feed (block_text replica (option_copied batch.entry) block.now)) }
 {
     add_head(out, "execute", replica, block.height.number())?;
     add_any_batch(out, batch)?;
@@ -241,7 +241,7 @@ pub(crate) fn add_executed(
 
 /// `execute R nothing`.
 pub(crate) fn add_nothing(out: &mut Text, replica: ReplicaId) -> Result<(), AllocError>
-    ensures { OnOk result (out.new ≡ out.old ++ ended (nothing_text replica)) }
+    ensures { OnOk result (out.new ≡ out.old ++ with_line_feed (nothing_text replica)) }
 {
     let number = replica.number();
     let line = format!(in out.allocator(); "execute {number} nothing\n")?;
@@ -254,7 +254,7 @@ pub(crate) fn add_found(
     replica: ReplicaId,
     answer: &QueryAnswer,
 ) -> Result<(), AllocError>
-    ensures { OnOk result (out.new ≡ out.old ++ ended (found_text replica answer.now)) }
+    ensures { OnOk result (out.new ≡ out.old ++ with_line_feed (found_text replica answer.now)) }
 {
     add_head(out, "query", replica, answer.height.number())?;
     match &answer.value {
@@ -266,7 +266,7 @@ pub(crate) fn add_found(
 
 /// `query R refused 1`.
 pub(crate) fn add_not_held(out: &mut Text, replica: ReplicaId) -> Result<(), AllocError>
-    ensures { OnOk result (out.new ≡ out.old ++ ended (not_held_text replica)) }
+    ensures { OnOk result (out.new ≡ out.old ++ with_line_feed (not_held_text replica)) }
 {
     let number = replica.number();
     let line = format!(in out.allocator(); "query {number} refused 1\n")?;
@@ -275,7 +275,7 @@ pub(crate) fn add_not_held(out: &mut Text, replica: ReplicaId) -> Result<(), All
 
 /// `info R H` and the hash of the application's state.
 pub fn add_info(out: &mut Text, replica: ReplicaId, info: &Info) -> Result<(), AllocError>
-    ensures { OnOk result (out.new ≡ out.old ++ ended (told_text replica info.now)) }
+    ensures { OnOk result (out.new ≡ out.old ++ with_line_feed (told_text replica info.now)) }
 {
     let number = replica.number();
     let height = info.height;

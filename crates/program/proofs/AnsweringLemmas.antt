@@ -14,15 +14,15 @@ use Rattle.locked_replica.specs.Applying.{AppliesEvent, RefusesEvent, IsSound}
 use Rattle.locked_replica.specs.declared.fault.ApplyFault.{ApplyFault}
 use Rattle.locked_replica.specs.declared.fault.ApplyFault.TheVariants as fault
 use Rattle.locked_replica.specs.States.{StateView, AccountsForLeaves, UsesAsSigned}
-use Rattle.program.specs.Lines.{lines_of, reply_text}
-use Rattle.program.specs.Answering.{Answers, AnswersSome, Refuses}
+use Rattle.program.specs.Lines.{lines_of, frame_reply_text}
+use Rattle.program.specs.Answering.{AnswersEvents, AnswersSome, TakesNoEvent}
 
 -- the replica is the same but for what events change
 abbrev pub IsSame : StateView → StateView → Type 0
 IsSame old new = new ≡ record old { used = new.used; entries = new.entries; machine = new.machine }
 
 -- no event
-pub answers_none : (a : StateView) → Answers a [] [] a
+pub answers_none : (a : StateView) → AnswersEvents a [] [] a
 answers_none a = record {
   added = [];
   grown = record { entries = sym (append-nil a.entries); same = refl; replay = λ x. x; signed = refl; account = λ x. x };
@@ -33,18 +33,18 @@ answers_none a = record {
 -- one event
 pub answers_one : (old new : StateView) (e : Event) (r : Reply) (text : List ℕ)
     → new.entries ≡ old.entries ++ record { event = e; reply = r } ∷ []
-    → IsSame old new → Replay new.config new.ring new.id new.entries → UsesAsSigned old new → AccountsForLeaves new → reply_text r ≡ text
-    → Answers old (e ∷ []) text new
+    → IsSame old new → Replay new.config new.ring new.id new.entries → UsesAsSigned old new → AccountsForLeaves new → frame_reply_text r ≡ text
+    → AnswersEvents old (e ∷ []) text new
 answers_one old new e r text grown same replay signed account line = record {
   added = record { event = e; reply = r } ∷ [];
   grown = record { entries = grown; same = same; replay = λ _. replay; signed = signed; account = λ _. account };
   these = refl;
-  lines = append-nil (reply_text r) ∙ line;
+  lines = append-nil (frame_reply_text r) ∙ line;
 }
 
 -- events, and then others
-pub answers_both : (a b c : StateView) (xs ys : List Event) (s t : List ℕ) → Answers a xs s b → Answers b ys t c
-    → Answers a (xs ++ ys) (s ++ t) c
+pub answers_both : (a b c : StateView) (xs ys : List Event) (s t : List ℕ) → AnswersEvents a xs s b → AnswersEvents b ys t c
+    → AnswersEvents a (xs ++ ys) (s ++ t) c
 answers_both a b c xs ys s t first second = record {
   added = first.added ++ second.added;
   grown = record {
@@ -61,15 +61,15 @@ answers_both a b c xs ys s t first second = record {
 }
 
 -- all of the events are the first of them
-pub some_all : (a b : StateView) (xs : List Event) (s : List ℕ) → Answers a xs s b → AnswersSome a xs s b
+pub some_all : (a b : StateView) (xs : List Event) (s : List ℕ) → AnswersEvents a xs s b → AnswersSome a xs s b
 some_all a b xs s all = record { taken = xs; later = []; split = append-nil xs; last = b; answers = all; refused = record { same = refl } }
 
 -- none is, of any events
-pub some_none : (a b : StateView) (xs : List Event) → Refuses a b → AnswersSome a xs [] b
+pub some_none : (a b : StateView) (xs : List Event) → TakesNoEvent a b → AnswersSome a xs [] b
 some_none a b xs none = record { taken = []; later = xs; split = refl; last = a; answers = answers_none a; refused = none }
 
 -- events, and then the first of others
-pub some_after : (a b c : StateView) (xs ys : List Event) (s t : List ℕ) → Answers a xs s b → AnswersSome b ys t c
+pub some_after : (a b c : StateView) (xs ys : List Event) (s t : List ℕ) → AnswersEvents a xs s b → AnswersSome b ys t c
     → AnswersSome a (xs ++ ys) (s ++ t) c
 some_after a b c xs ys s t first second = record {
   taken = xs ++ second.taken;
@@ -93,7 +93,7 @@ some_longer a b xs ys s some = record {
 
 -- what is answered to other events than deliveries prints nothing
 pub submit_silent : (a : StateView) (bytes : List ℕ) (r : Reply) → Lawful a.config a.ring a.id a.entries (event.Submit bytes) r
-    → reply_text r ≡ []
+    → frame_reply_text r ≡ []
 submit_silent a bytes (reply.Submitted r) lawful = refl
 submit_silent a bytes (reply.Proposed r) lawful = refl
 submit_silent a bytes (reply.Delivered r) lawful = absurd lawful
@@ -102,7 +102,7 @@ submit_silent a bytes (reply.Executed r) lawful = refl
 submit_silent a bytes (reply.Queried r) lawful = refl
 submit_silent a bytes (reply.Retired r) lawful = refl
 
-pub propose_silent : (a : StateView) (h : ℕ) (r : Reply) → Lawful a.config a.ring a.id a.entries (event.Propose h) r → reply_text r ≡ []
+pub propose_silent : (a : StateView) (h : ℕ) (r : Reply) → Lawful a.config a.ring a.id a.entries (event.Propose h) r → frame_reply_text r ≡ []
 propose_silent a h (reply.Submitted r) lawful = refl
 propose_silent a h (reply.Proposed r) lawful = refl
 propose_silent a h (reply.Delivered r) lawful = absurd lawful
@@ -111,7 +111,7 @@ propose_silent a h (reply.Executed r) lawful = refl
 propose_silent a h (reply.Queried r) lawful = refl
 propose_silent a h (reply.Retired r) lawful = refl
 
-pub round_end_silent : (a : StateView) (r : Reply) → Lawful a.config a.ring a.id a.entries event.RoundEnd r → reply_text r ≡ []
+pub round_end_silent : (a : StateView) (r : Reply) → Lawful a.config a.ring a.id a.entries event.RoundEnd r → frame_reply_text r ≡ []
 round_end_silent a (reply.Submitted r) lawful = refl
 round_end_silent a (reply.Proposed r) lawful = refl
 round_end_silent a (reply.Delivered r) lawful = absurd lawful
@@ -124,8 +124,8 @@ round_end_silent a (reply.Retired r) lawful = refl
 pub taken_silently : {F : Type 0} (old new : StateView) (e : Event) (outcome : Result ℕ ApplyFault) (result : Result (Unit {0}) F)
     → is_ok result ≡ is_ok outcome
     → OnOk outcome (AppliesEvent old e new) → IfErr outcome (λ why. RefusesEvent old e why new) → IsSound new
-    → ((r : Reply) → Lawful old.config old.ring old.id old.entries e r → reply_text r ≡ [])
-    → MatchResult result (λ _. Answers old (e ∷ []) [] new) (λ _. Refuses old new)
+    → ((r : Reply) → Lawful old.config old.ring old.id old.entries e r → frame_reply_text r ≡ [])
+    → MatchResult result (λ _. AnswersEvents old (e ∷ []) [] new) (λ _. TakesNoEvent old new)
 taken_silently old new e (Ok index) (Ok u) alike applied refused sound silent =
     answers_one old new e applied.reply [] applied.added applied.rest sound.replay applied.used sound.account
     (silent applied.reply applied.lawful)

@@ -6,12 +6,12 @@ use Rattle.cluster_setup.specs.declared.deliver_settings.DeliverSettings.{Delive
 use Rattle.byte_streams.specs.declared.program_fault.ProgramFault.{ProgramFault}
 use Rattle.byte_streams.specs.declared.program_fault.ProgramFault.TheVariants as fault
 use Rattle.byte_streams.specs.Faults.{IsMemoryOrAsked, is_asked}
-use Rattle.program.specs.Faults.{IsReadFault, StopsAt}
+use Rattle.program.specs.Faults.{IsReadFault, FailsAfter}
 use Rattle.program.specs.Streams.{FillsHistory, StopsDelivery}
 use Rattle.ledger_model.specs.Limits.{max_history_len}
 
 -- allocation failure, or a resource that the system refused, stops the program whatever the history is
-pub stops_anyway : (entries : List Entry) (e : ProgramFault) → IsMemoryOrAsked e → StopsAt entries e
+pub stops_anyway : (entries : List Entry) (e : ProgramFault) → IsMemoryOrAsked e → FailsAfter entries e
 stops_anyway entries fault.NoMemory is = tt
 stops_anyway entries (fault.Refused resource error) is = is
 stops_anyway entries fault.HistoryFull is = absurd is
@@ -20,7 +20,7 @@ stops_anyway entries fault.NoThread is = absurd is
 stops_anyway entries (fault.NoFile path error) is = absurd is
 stops_anyway entries (fault.Stranger replica) is = absurd is
 
-pub read_stops : (entries : List Entry) (e : ProgramFault) → IsReadFault e → StopsAt entries e
+pub read_stops : (entries : List Entry) (e : ProgramFault) → IsReadFault e → FailsAfter entries e
 read_stops entries fault.NoMemory is = tt
 read_stops entries (fault.Refused resource error) is = subst (λ r. IsTrue (is_asked r)) (sym is.0) refl
 read_stops entries fault.HistoryFull is = absurd is
@@ -38,7 +38,7 @@ read_is fault.NoThread is = absurd is
 read_is (fault.NoFile path error) is = absurd is
 read_is (fault.Stranger replica) is = absurd is
 
-pub if_stops : {T : Type 0} (r : Result T ProgramFault) (entries : List Entry) → IfErr r IsMemoryOrAsked → IfErr r (StopsAt entries)
+pub if_stops : {T : Type 0} (r : Result T ProgramFault) (entries : List Entry) → IfErr r IsMemoryOrAsked → IfErr r (FailsAfter entries)
 if_stops (Ok x) entries is = tt
 if_stops (Err e) entries is = stops_anyway entries e is
 
@@ -46,7 +46,7 @@ module _ (s : DeliverSettings) (unread left before after : Option (List ℕ)) wh
   -- where the history was full there, it was full
   pub stops_delivery : (entries : List Entry) (e : ProgramFault)
       → (max_history_len ≤ length entries → FillsHistory s unread left before after)
-      → StopsAt entries e → StopsDelivery s unread left before after e
+      → FailsAfter entries e → StopsDelivery s unread left before after e
   stops_delivery entries fault.NoMemory filled is = tt
   stops_delivery entries (fault.Refused resource error) filled is = is
   stops_delivery entries fault.HistoryFull filled is = filled is

@@ -16,9 +16,9 @@ use Rattle.cluster_setup.specs.declared.deliver_settings.DeliverSettings.{Delive
 use Rattle.program.specs.declared.stream_end.StreamEnd.{StreamEnd}
 use Rattle.program.specs.Lines.{last_line}
 use Rattle.byte_streams.specs.Writing.{AppendsSome}
-use Rattle.program.specs.Answering.{Answers, AnswersSome, deliveries, fresh, starting}
+use Rattle.program.specs.Answering.{AnswersEvents, AnswersSome, deliveries, fresh, starting}
 use Rattle.program.specs.Streams.{Delivers, DeliversSome, DeliversStream, DeliversStreamSome}
-use Rattle.program.specs.Streams.{Ended, FillsHistory, IsMuteOnlySpent, Stands, Stopped}
+use Rattle.program.specs.Streams.{StreamHasEnded, FillsHistory, IsMuteOnlySpent, EndsFrames, StreamHasStopped}
 use Rattle.ledger_model.specs.Spelling.{Frames}
 use Rattle.byte_streams.proofs.WritingLemmas.{nothing_some, then_some}
 use Rattle.program.proofs.AnsweringLemmas.{answers_both, some_after, some_longer}
@@ -30,7 +30,7 @@ unfolding Replay ReplaysFrom
 replay_none config ring id = tt
 
 -- what was added is a replay
-added_replay : (s : DeliverSettings) (d : StateView) (events : List Event) (text : List ℕ) → (answers : Answers (fresh s) events text d)
+added_replay : (s : DeliverSettings) (d : StateView) (events : List Event) (text : List ℕ) → (answers : AnswersEvents (fresh s) events text d)
     → Replay s.cluster.config (ring_of s.cluster) s.replica answers.added
 added_replay s d events text answers =
     let replay = answers.grown.replay (replay_none s.cluster.config (ring_of s.cluster) s.replica) in
@@ -43,7 +43,7 @@ unfolding signed_after
 none_signed = refl
 
 -- after what was added the replica is mute only where its leaves were too few for what it had signed and what was due
-added_mute : (s : DeliverSettings) (d : StateView) (events : List Event) (text : List ℕ) → (answers : Answers (fresh s) events text d)
+added_mute : (s : DeliverSettings) (d : StateView) (events : List Event) (text : List ℕ) → (answers : AnswersEvents (fresh s) events text d)
     → IsMuteOnlySpent s answers.added
 added_mute s d events text answers =
     let same = answers.grown.same in
@@ -57,12 +57,12 @@ added_mute s d events text answers =
 
 -- all events were taken
 delivers : (s : DeliverSettings) (b d : StateView) (unread left before after : Option (List ℕ)) (end : StreamEnd)
-    → Answers (fresh s) (starting s) [] b
-    → (ended : Ended b unread left before after d end) → Delivers s ended.input end (ended.text ++ last_line end)
+    → AnswersEvents (fresh s) (starting s) [] b
+    → (ended : StreamHasEnded b unread left before after d end) → Delivers s ended.input end (ended.text ++ last_line end)
 delivers s b d unread left before after end first ended =
     let all = answers_both (fresh s) b d (starting s) (deliveries ended.frames) [] ended.text first ended.answers in record {
       frames = ended.frames;
-      stands = subst (λ (r : StateView). Stands r.config.frames ended.input ended.frames end) first.grown.same ended.stands;
+      stands = subst (λ (r : StateView). EndsFrames r.config.frames ended.input ended.frames end) first.grown.same ended.stands;
       entries = all.added;
       events = all.these;
       replay = added_replay s d (starting s ++ deliveries ended.frames) ended.text all;
@@ -72,14 +72,14 @@ delivers s b d unread left before after end first ended =
 
 -- it came to the end
 pub done_to_end : (s : DeliverSettings) (a b d : StateView) (unread left before mid after : Option (List ℕ)) (end : StreamEnd)
-    → a ≡ fresh s → Answers a (starting s) [] b
-    → Ended b unread left before mid d end → Appends mid after (last_line end) → DeliversStream s end unread left before after
+    → a ≡ fresh s → AnswersEvents a (starting s) [] b
+    → StreamHasEnded b unread left before mid d end → Appends mid after (last_line end) → DeliversStream s end unread left before after
 done_to_end s a b d unread left before mid after end is first ended last = (
   ended.found,
   record {
     input = ended.input;
     text = ended.text ++ last_line end;
-    goes_with = delivers s b d unread left before mid end (subst (λ r. Answers r (starting s) [] b) is first) ended;
+    goes_with = delivers s b d unread left before mid end (subst (λ r. AnswersEvents r (starting s) [] b) is first) ended;
     read = ended.read;
     written = Appends-trans before mid after ended.text (last_line end) ended.written last;
   },
@@ -87,12 +87,12 @@ done_to_end s a b d unread left before mid after end is first ended last = (
 
 -- its last line could not be written
 pub halted_at_end : (s : DeliverSettings) (a b d : StateView) (unread left before mid after : Option (List ℕ)) (end : StreamEnd)
-    → a ≡ fresh s → Answers a (starting s) [] b
-    → Ended b unread left before mid d end → AppendsSome mid after (last_line end) → DeliversStreamSome s unread left before after
+    → a ≡ fresh s → AnswersEvents a (starting s) [] b
+    → StreamHasEnded b unread left before mid d end → AppendsSome mid after (last_line end) → DeliversStreamSome s unread left before after
 halted_at_end s a b d unread left before mid after end is first ended last = record {
   input = ended.input;
   text = ended.text ++ last_line end;
-  goes_with = inr (end, delivers s b d unread left before mid end (subst (λ r. Answers r (starting s) [] b) is first) ended);
+  goes_with = inr (end, delivers s b d unread left before mid end (subst (λ r. AnswersEvents r (starting s) [] b) is first) ended);
   read = ended.read;
   written = then_some before mid after ended.text (last_line end) ended.written last;
 }
@@ -103,16 +103,16 @@ SomeDelivered s input text d = (some : DeliversSome s input text) × (some.entri
 
 -- it stopped within the stream
 some_within : (s : DeliverSettings) (a b d : StateView) (unread left before after : Option (List ℕ)) → a ≡ fresh s
-    → Answers a (starting s) [] b
-    → (stopped : Stopped b unread left before after d) → SomeDelivered s stopped.input stopped.text d
+    → AnswersEvents a (starting s) [] b
+    → (stopped : StreamHasStopped b unread left before after d) → SomeDelivered s stopped.input stopped.text d
 some_within s a b d unread left before after is first stopped =
     let some = some_after (fresh s) b d (starting s) (deliveries stopped.frames) [] stopped.text
-    (subst (λ r. Answers r (starting s) [] b) is first) stopped.answers in (
+    (subst (λ r. AnswersEvents r (starting s) [] b) is first) stopped.answers in (
       record {
         frames = stopped.frames;
         rest = stopped.rest;
         stands = subst (λ (r : StateView). Frames r.config.frames stopped.input stopped.frames stopped.rest)
-            (subst (λ r. Answers r (starting s) [] b) is first).grown.same stopped.stands;
+            (subst (λ r. AnswersEvents r (starting s) [] b) is first).grown.same stopped.stands;
         entries = some.answers.added;
         later = some.later;
         events = ap (λ l. l ++ some.later) some.answers.these ∙ some.split;
@@ -124,8 +124,8 @@ some_within s a b d unread left before after is first stopped =
     )
 
 pub halted_within : (s : DeliverSettings) (a b d : StateView) (unread left before after : Option (List ℕ)) → a ≡ fresh s
-    → Answers a (starting s) [] b
-    → Stopped b unread left before after d → DeliversStreamSome s unread left before after
+    → AnswersEvents a (starting s) [] b
+    → StreamHasStopped b unread left before after d → DeliversStreamSome s unread left before after
 halted_within s a b d unread left before after is first stopped = record {
   input = stopped.input;
   text = stopped.text;
@@ -136,8 +136,8 @@ halted_within s a b d unread left before after is first stopped = record {
 
 -- and the history was full there
 pub filled_within : (s : DeliverSettings) (a b d : StateView) (unread left before after : Option (List ℕ)) → a ≡ fresh s
-    → Answers a (starting s) [] b
-    → Stopped b unread left before after d → max_history_len ≤ length d.entries → FillsHistory s unread left before after
+    → AnswersEvents a (starting s) [] b
+    → StreamHasStopped b unread left before after d → max_history_len ≤ length d.entries → FillsHistory s unread left before after
 filled_within s a b d unread left before after is first stopped full =
     let some = some_within s a b d unread left before after is first stopped in record {
       input = stopped.input;

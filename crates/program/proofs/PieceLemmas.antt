@@ -6,13 +6,13 @@ use Rattle.std.proofs.KnownBytes.{Appends-trans, Consumes-trans}
 use Rattle.std.proofs.lemmas.List.{map-append}
 use Rattle.ledger_model.specs.declared.statement.SignedStatement.{SignedStatement}
 use Rattle.signed_frames.specs.declared.fault.FrameFault.{FrameFault}
-use Rattle.signed_frames.specs.Reader.{FrameReaderView, HandsOut, Leaves, Tells}
+use Rattle.signed_frames.specs.Reader.{FrameReaderView, HandsOut, LeavesReader, ReturnsFault}
 use Rattle.signed_frames.proofs.Joined.{longer}
 use Rattle.locked_replica.specs.States.{StateView}
 use Rattle.program.specs.declared.stream_end.StreamFault.{StreamFault}
 use Rattle.program.specs.declared.stream_end.StreamEnd.TheVariants.{Fault}
-use Rattle.program.specs.Answering.{Answers, AnswersSome, Printed, PrintedSome, deliveries}
-use Rattle.program.specs.Streams.{Ended, GoesBehind, GoesOn, IsStreamFault, Stopped, UnderWay}
+use Rattle.program.specs.Answering.{AnswersEvents, AnswersSome, Printed, PrintedSome, deliveries}
+use Rattle.program.specs.Streams.{StreamHasEnded, GoesBehind, ContinuesStream, IsStreamFault, StreamHasStopped, UnderWay}
 use Rattle.byte_streams.proofs.WritingLemmas.{all_some, then_some}
 use Rattle.program.proofs.AnsweringLemmas.{answers_both, some_after, some_all}
 use Rattle.program.proofs.PrintingLemmas.{printed_all}
@@ -26,7 +26,7 @@ module _ (start state new : StateView) (unread now left before out after : Optio
     (so_far : UnderWay start unread now before out state reader) (read : Consumes now left piece) where
   -- the frames that were handed out of the piece join those before
   given_now : (found : List SignedStatement) (next : FrameReaderView) → HandsOut reader.version reader.state piece found next.state
-      → Leaves start.config.frames (so_far.input ++ piece) (so_far.frames ++ found) next.state
+      → LeavesReader start.config.frames (so_far.input ++ piece) (so_far.frames ++ found) next.state
   given_now found next handed =
       more_given start.config.frames so_far.input so_far.kept piece so_far.frames found next.state so_far.given
       (rw (so_far.reading, so_far.version) at handed)
@@ -39,9 +39,9 @@ module _ (start state new : StateView) (unread now left before out after : Optio
       ≡ start.config.frames → last.version ≡ start.config.frames
       → HandsOut reader.version reader.state piece found next.state
       → Printed state (deliveries found) new out after
-      → ((bytes : List ℕ) (frames : List SignedStatement) → Leaves next.version bytes frames next.state
+      → ((bytes : List ℕ) (frames : List SignedStatement) → LeavesReader next.version bytes frames next.state
       → GoesBehind bytes frames last fault)
-      → GoesOn start unread left before after new last fault
+      → ContinuesStream start unread left before after new last fault
   piece_goes found next last None is_next is_last handed printed behind =
       let (kept, goes) = behind (so_far.input ++ piece) (so_far.frames ++ found) (rw is_next (given_now found next handed)) in record {
         input = so_far.input ++ piece;
@@ -52,7 +52,7 @@ module _ (start state new : StateView) (unread now left before out after : Optio
         version = is_last;
         reading = goes.0;
         given = rw is_last at goes.1;
-        answers = subst (λ l. Answers start l (so_far.text ++ printed.0) new) (deliveries-append so_far.frames found)
+        answers = subst (λ l. AnswersEvents start l (so_far.text ++ printed.0) new) (deliveries-append so_far.frames found)
             (answers_both start state new (deliveries so_far.frames) (deliveries found) so_far.text printed.0 so_far.answers printed.1.0);
         written = Appends-trans before out after so_far.text printed.0 so_far.written printed.1.1;
       }
@@ -63,7 +63,7 @@ module _ (start state new : StateView) (unread now left before out after : Optio
     read = read_now;
     found = tt;
     stands = rw is_last at (behind (so_far.input ++ piece) (so_far.frames ++ found) (rw is_next (given_now found next handed)));
-    answers = subst (λ l. Answers start l (so_far.text ++ printed.0) new) (deliveries-append so_far.frames found)
+    answers = subst (λ l. AnswersEvents start l (so_far.text ++ printed.0) new) (deliveries-append so_far.frames found)
         (answers_both start state new (deliveries so_far.frames) (deliveries found) so_far.text printed.0 so_far.answers printed.1.0);
     written = Appends-trans before out after so_far.text printed.0 so_far.written printed.1.1;
   }
@@ -71,7 +71,7 @@ module _ (start state new : StateView) (unread now left before out after : Optio
   -- it stops within the frames, or after them
   pub piece_stops : (found : List SignedStatement) (next : FrameReaderView) → HandsOut reader.version reader.state piece found next.state
       → PrintedSome state (deliveries found) new out after
-      → Stopped start unread left before after new
+      → StreamHasStopped start unread left before after new
   piece_stops found next handed printed =
       let (rest, frames) = frames_left start.config.frames (so_far.input ++ piece) (so_far.frames ++ found) next.state
       (given_now found next handed) in record {
@@ -91,9 +91,9 @@ module _ (start state new : StateView) (unread now left before out after : Optio
       → next.version ≡ start.config.frames → last.version ≡ start.config.frames
       → HandsOut reader.version reader.state piece found next.state
       → Printed state (deliveries found) new out after
-      → ((bytes : List ℕ) (frames : List SignedStatement) → Leaves next.version bytes frames next.state
+      → ((bytes : List ℕ) (frames : List SignedStatement) → LeavesReader next.version bytes frames next.state
       → IfOk r (GoesBehind bytes frames last))
-      → MatchResult r (GoesOn start unread left before after new last) (λ _. Stopped start unread left before after new)
+      → MatchResult r (ContinuesStream start unread left before after new last) (λ _. StreamHasStopped start unread left before after new)
   piece_behind found next last (Ok fault) is_next is_last handed printed behind =
       piece_goes found next last fault is_next is_last handed printed behind
   piece_behind found next last (Err e) is_next is_last handed printed behind =
@@ -101,8 +101,8 @@ module _ (start state new : StateView) (unread now left before out after : Optio
 
   -- a fault stands there, with no frame before it
   pub piece_told : (fault : FrameFault) (next : FrameReaderView) (found : StreamFault)
-      → Tells reader.version reader.state piece fault next.state → IsStreamFault fault found
-      → Ended start unread left before out state (Fault found)
+      → ReturnsFault reader.version reader.state piece fault next.state → IsStreamFault fault found
+      → StreamHasEnded start unread left before out state (Fault found)
   piece_told fault next found tells is = record {
     input = so_far.input ++ piece;
     frames = so_far.frames;
@@ -116,7 +116,7 @@ module _ (start state new : StateView) (unread now left before out after : Optio
   }
 
   -- nothing was delivered of the piece
-  pub piece_lost : Stopped start unread left before out state
+  pub piece_lost : StreamHasStopped start unread left before out state
   piece_lost = record {
     input = so_far.input ++ piece;
     frames = so_far.frames;

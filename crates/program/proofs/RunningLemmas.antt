@@ -35,7 +35,7 @@ use Rattle.program.specs.declared.outcome.Outcome.{Outcome}
 use Rattle.program.specs.declared.outcome.Outcome.TheVariants as outcome
 use Rattle.program.specs.declared.outcome.Piped.{Piped}
 use Rattle.program.specs.declared.outcome.Piped.TheVariants as piped
-use Rattle.program.specs.Doing.{AsksForHistories, Begins, Done, ExplainsHistories, FollowsHistories, Halted, IfEnded, IfHanded, IsHanded, IsQuiet, Performs}
+use Rattle.program.specs.Doing.{AsksForHistories, StartsRun, Done, ExplainsHistories, FollowsHistories, Halted, IfEnded, IfHanded, IsHanded, IsQuiet, Performs}
 use Rattle.program.specs.Doing.{settings_of, status_of_stream, status_of_text}
 
 -- the frame was written
@@ -221,7 +221,7 @@ module _ (words : List (List ℕ)) (s : Settings) (set : IsSet words s) (taken :
       done_small s status unread left before after done in absurd (omega (arith, small, two))
   settled_refuses Q P (inr (is, halted)) two = absurd (omega (arith, two, is))
 
-  pub settled_stops : (Q : Type 0) → Settled s status unread left before after Q → status ≡ 3 → Begins words unread left before after
+  pub settled_stops : (Q : Type 0) → Settled s status unread left before after Q → status ≡ 3 → StartsRun words unread left before after
   settled_stops Q (inl (quiet, done)) three = let small =
       done_small s status unread left before after done in absurd (omega (arith, small, three))
   settled_stops Q (inr (is, halted)) three = record { settings = s; set = set; taken = taken; halted = halted }

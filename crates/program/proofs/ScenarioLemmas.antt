@@ -7,11 +7,11 @@ use Rattle.std.specs.Io.KnownBytes.{Appends, Consumes, IsAtEnd}
 use Rattle.std.proofs.KnownBytes.{Appends-trans, Consumes-trans}
 use Rattle.ledger_model.specs.declared.config.Config.{Config}
 use Rattle.adversary_net.specs.WorldViews.{AllAccountForLeaves, AllReplay, HasRun}
-use Rattle.adversary_net.specs.Headline.{IsUnforged, IsOneLedger}
+use Rattle.adversary_net.specs.Headline.{IsUnforgedRun, IsOneLedger}
 use Rattle.scenario_texts.specs.declared.fault.TextFault.{TextFault}
 use Rattle.scenario_texts.specs.declared.fault.TextFault.TheVariants as fault
 use Rattle.scenario_texts.specs.declared.scenario.Scenario.{Scenario}
-use Rattle.scenario_texts.specs.Lines.{Spells, IsBadAt, IsTooLarge}
+use Rattle.scenario_texts.specs.Lines.{SpellsPlan, IsBadAt, IsTooLarge}
 use Rattle.scenario_texts.specs.Plans.{Plan}
 use Rattle.scenario_texts.proofs.Sizes.{bad_anyway, large_spells_none}
 use Rattle.simulation.specs.Playing.{SimulationView, PlaysAll}
@@ -21,7 +21,7 @@ use Rattle.program.specs.declared.scenario_input.ScenarioInput.{ScenarioInput}
 use Rattle.program.specs.declared.scenario_input.ScenarioInput.TheVariants as input
 use Rattle.program.specs.declared.text_end.TextEnd.TheVariants.{Whole, BadLine}
 use Rattle.program.specs.Simulating.{IsBadAnyway, IsConfigOf, IsRead, IsReadInTime, Played, PlayedSome, PlaysText, PlaysTextSome}
-use Rattle.program.specs.Simulating.{PlaysWritten, PlaysWrittenSome, bad_line, histories_of, if_wanted, opening}
+use Rattle.program.specs.Simulating.{PlaysWritten, PlaysWrittenSome, bad_line, histories_of, if_wanted, simulation_at_start}
 use Rattle.byte_streams.proofs.WritingLemmas.{nothing_some, then_some}
 use Rattle.program.proofs.SimulatingLemmas.{written_nothing}
 
@@ -51,8 +51,8 @@ PlayedBegun s p before after = (text : List ℕ) × ((PlayedSome s p text ⊎ Pl
 
 module _ (s : SimulateSettings) (p : Plan) (config : Config) (sized : IsConfigOf p config) where
   -- all commands were played
-  played_of : (a b : SimulationView) (lines : List ℕ) → a ≡ opening s.seed config p → PlaysAll a p.commands lines b → HasRun b.cluster
-      → (IsUnforged b.cluster → IsOneLedger b.cluster) → AllReplay b.cluster → AllAccountForLeaves b.cluster
+  played_of : (a b : SimulationView) (lines : List ℕ) → a ≡ simulation_at_start s.seed config p → PlaysAll a p.commands lines b → HasRun b.cluster
+      → (IsUnforgedRun b.cluster → IsOneLedger b.cluster) → AllReplay b.cluster → AllAccountForLeaves b.cluster
       → Played s p (if s.histories then histories_of b.cluster else lines)
   played_of a b lines opens plays since one_ledger replay account = record {
     config = config;
@@ -68,9 +68,9 @@ module _ (s : SimulateSettings) (p : Plan) (config : Config) (sized : IsConfigOf
   }
 
   -- and what is wanted was written
-  pub played_whole : (a b : SimulationView) (before mid after : Option (List ℕ)) → a ≡ opening s.seed config p
+  pub played_whole : (a b : SimulationView) (before mid after : Option (List ℕ)) → a ≡ simulation_at_start s.seed config p
       → PlaysWritten (not s.histories) a p.commands b before mid
-      → HasRun b.cluster → (IsUnforged b.cluster → IsOneLedger b.cluster) → AllReplay b.cluster → AllAccountForLeaves b.cluster
+      → HasRun b.cluster → (IsUnforgedRun b.cluster → IsOneLedger b.cluster) → AllReplay b.cluster → AllAccountForLeaves b.cluster
       → Appends mid after (if s.histories then histories_of b.cluster else []) → PlayedWritten s p before after
   played_whole a b before mid after opens (lines, (plays, first)) since one_ledger replay account last = (
     if s.histories then histories_of b.cluster else lines,
@@ -82,9 +82,9 @@ module _ (s : SimulateSettings) (p : Plan) (config : Config) (sized : IsConfigOf
   )
 
   -- or a prefix of it
-  pub played_begun : (a b : SimulationView) (before mid after : Option (List ℕ)) → a ≡ opening s.seed config p
+  pub played_begun : (a b : SimulationView) (before mid after : Option (List ℕ)) → a ≡ simulation_at_start s.seed config p
       → PlaysWritten (not s.histories) a p.commands b before mid
-      → HasRun b.cluster → (IsUnforged b.cluster → IsOneLedger b.cluster) → AllReplay b.cluster → AllAccountForLeaves b.cluster
+      → HasRun b.cluster → (IsUnforgedRun b.cluster → IsOneLedger b.cluster) → AllReplay b.cluster → AllAccountForLeaves b.cluster
       → AppendsSome mid after (if s.histories then histories_of b.cluster else []) → PlayedBegun s p before after
   played_begun a b before mid after opens (lines, (plays, first)) since one_ledger replay account last = (
     if s.histories then histories_of b.cluster else lines,
@@ -96,7 +96,7 @@ module _ (s : SimulateSettings) (p : Plan) (config : Config) (sized : IsConfigOf
   )
 
   -- the first commands were played
-  pub played_part : (a : SimulationView) (before after : Option (List ℕ)) → a ≡ opening s.seed config p
+  pub played_part : (a : SimulationView) (before after : Option (List ℕ)) → a ≡ simulation_at_start s.seed config p
       → PlaysWrittenSome (not s.histories) a p.commands before after → PlayedBegun s p before after
   played_part a before after opens part =
       let (lines, (some, written)) = subst (λ x. PlaysWrittenSome (not s.histories) x p.commands before after) opens part in
@@ -104,18 +104,18 @@ module _ (s : SimulateSettings) (p : Plan) (config : Config) (sized : IsConfigOf
 
   -- none was
   pub played_nothing : (before : Option (List ℕ)) → PlayedBegun s p before before
-  played_nothing before = played_part (opening s.seed config p) before before refl
-      (written_nothing (not s.histories) (opening s.seed config p) p.commands before)
+  played_nothing before = played_part (simulation_at_start s.seed config p) before before refl
+      (written_nothing (not s.histories) (simulation_at_start s.seed config p) p.commands before)
 
 module _ (s : SimulateSettings) (input : List ℕ) (unread left before after : Option (List ℕ)) (read : Consumes unread left input)
     (in_time : IsReadInTime input) where
   -- the plan of the text was played
-  pub simulated : (p : Plan) → Spells input p → IsAtEnd left → PlayedWritten s p before after → PlaysText s Whole unread left before after
+  pub simulated : (p : Plan) → SpellsPlan input p → IsAtEnd left → PlayedWritten s p before after → PlaysText s Whole unread left before after
   simulated p spells to_end (text, (played, written)) =
       record { input = input; text = text; goes_with = (to_end, (in_time, (p, (spells, played)))); read = read; written = written }
 
   -- or begun
-  pub simulated_part : (p : Plan) → Spells input p → PlayedBegun s p before after → PlaysTextSome s unread left before after
+  pub simulated_part : (p : Plan) → SpellsPlan input p → PlayedBegun s p before after → PlaysTextSome s unread left before after
   simulated_part p spells (text, (inl some, written)) =
       record { input = input; text = text; goes_with = (in_time, inl (inr (p, (spells, some)))); read = read; written = written }
   simulated_part p spells (text, (inr played, written)) =
@@ -165,7 +165,7 @@ bad_shown text left n (inl to_end) bad = inl to_end
 bad_shown text left n (inr large) bad = inr (λ more. bad_anyway text more n large bad)
 
 -- one that spells a plan was read to its end
-pub spelled_whole : (text : List ℕ) (left : Option (List ℕ)) (p : Plan) → IsAtEnd left ⊎ IsTooLarge text → Spells text p → IsAtEnd left
+pub spelled_whole : (text : List ℕ) (left : Option (List ℕ)) (p : Plan) → IsAtEnd left ⊎ IsTooLarge text → SpellsPlan text p → IsAtEnd left
 spelled_whole text left p (inl to_end) spells = to_end
 spelled_whole text left p (inr large) spells = absurd (large_spells_none text p large spells)
 

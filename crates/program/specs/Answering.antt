@@ -23,11 +23,11 @@ pub record Grows (old : StateView) (added : List Entry) (new : StateView) : Type
   pub account : AccountsForLeaves old → AccountsForLeaves new
 
 -- the replica took no event, but it may have used leaves
-pub record Refuses (old new : StateView) : Type 0 where
+pub record TakesNoEvent (old new : StateView) : Type 0 where
   pub same : new ≡ record old { used = new.used }
 
 -- the replica took these events, in order; the text is the lines of its replies
-pub record Answers (old : StateView) (events : List Event) (text : List ℕ) (new : StateView) : Type 0 where
+pub record AnswersEvents (old : StateView) (events : List Event) (text : List ℕ) (new : StateView) : Type 0 where
   pub added : List Entry
   pub grown : Grows old added new
   pub these : map (λ e. e.event) added ≡ events
@@ -39,12 +39,12 @@ pub record AnswersSome (old : StateView) (events : List Event) (text : List ℕ)
   pub later : List Event
   pub split : taken ++ later ≡ events
   pub last : StateView
-  pub answers : Answers old taken text last
-  pub refused : Refuses last new
+  pub answers : AnswersEvents old taken text last
+  pub refused : TakesNoEvent last new
 
 -- the replica took these events, and the lines of its replies were written
 abbrev pub Printed : StateView → List Event → StateView → Option (List ℕ) → Option (List ℕ) → Type 0
-Printed old events new before after = (text : List ℕ) × (Answers old events text new × Appends before after text)
+Printed old events new before after = (text : List ℕ) × (AnswersEvents old events text new × Appends before after text)
 
 -- the replica took the first of these events, and a prefix of the lines of its replies was written
 abbrev pub PrintedSome : StateView → List Event → StateView → Option (List ℕ) → Option (List ℕ) → Type 0

@@ -35,15 +35,15 @@ status_of_text scenario.Whole = 0
 status_of_text (scenario.BadLine n) = 1
 
 -- the program reads nothing, and prints the frame of the settings
-abbrev pub Signs : SignSettings → List ℕ → List ℕ → Type 0
-Signs s input text = (input ≡ []) × (text ≡ frame_bytes (signed s))
+abbrev pub PrintsFrame : SignSettings → List ℕ → List ℕ → Type 0
+PrintsFrame s input text = (input ≡ []) × (text ≡ frame_bytes (signed s))
 
 -- The settings, which need only streams, were done with this status. `abft sign` wrote its frame. `abft deliver` read
 -- the stream as far as its end or its first fault, and wrote a line for each frame. `abft simulate` read the text to
 -- its end and wrote what its scenario gives, or read it as far as its first bad line is certain. `abft audit` read all
 -- histories and wrote what it found, and `abft draw` wrote a picture of them.
 abbrev pub Done : Settings → ℕ → Option (List ℕ) → Option (List ℕ) → Option (List ℕ) → Option (List ℕ) → Type 0
-Done (settings.Sign s) status unread left before after = (status ≡ 0) × Responds (Signs s) unread left before after
+Done (settings.Sign s) status unread left before after = (status ≡ 0) × Responds (PrintsFrame s) unread left before after
 Done (settings.Deliver s) status unread left before after =
     (end : StreamEnd) × ((status ≡ status_of_stream end) × DeliversStream s end unread left before after)
 Done (settings.Simulate s) status unread left before after =
@@ -55,7 +55,7 @@ Done (settings.Serve s) status unread left before after = ⊥
 
 -- the settings were begun: part of the input was read, and a prefix of the text for it was written
 abbrev pub Halted : Settings → Option (List ℕ) → Option (List ℕ) → Option (List ℕ) → Option (List ℕ) → Type 0
-Halted (settings.Sign s) unread left before after = RespondsSome (Signs s) unread left before after
+Halted (settings.Sign s) unread left before after = RespondsSome (PrintsFrame s) unread left before after
 Halted (settings.Deliver s) unread left before after = DeliversStreamSome s unread left before after
 Halted (settings.Simulate s) unread left before after = PlaysTextSome s unread left before after
 Halted (settings.Audit s) unread left before after = AuditsSome s unread left before after
@@ -72,7 +72,7 @@ pub record Performs (words : List (List ℕ)) (status : ℕ) (unread left before
   pub done : Done settings status unread left before after
 
 -- settings that the words ask for were begun
-pub record Begins (words : List (List ℕ)) (unread left before after : Option (List ℕ)) : Type 0 where
+pub record StartsRun (words : List (List ℕ)) (unread left before after : Option (List ℕ)) : Type 0 where
   pub settings : Settings
   pub set : IsSet words settings
   -- the words have no fault, and ask for neither the help nor the version

@@ -16,8 +16,8 @@ IsReadFault _ = ⊥
 
 -- memory ran out, the system refused standard input, standard output or random bytes, or the replica's history has all the entries
 -- that a history takes
-abbrev pub StopsAt : List Entry → ProgramFault → Type 0
-StopsAt entries fault.NoMemory = ⊤
-StopsAt entries (fault.Refused resource error) = IsTrue (is_asked resource)
-StopsAt entries fault.HistoryFull = max_history_len ≤ length entries
-StopsAt entries _ = ⊥
+abbrev pub FailsAfter : List Entry → ProgramFault → Type 0
+FailsAfter entries fault.NoMemory = ⊤
+FailsAfter entries (fault.Refused resource error) = IsTrue (is_asked resource)
+FailsAfter entries fault.HistoryFull = max_history_len ≤ length entries
+FailsAfter entries _ = ⊥

@@ -21,8 +21,8 @@ line_text (line.Fault fault.Malformed) = codes "fault 2 Malformed"
 line_text line.Cut = codes "cut"
 
 -- a line, with the line feed
-abbrev pub ended : Line → List ℕ
-ended l = line_text l ++ 10 ∷ []
+abbrev pub line_bytes : Line → List ℕ
+line_bytes l = line_text l ++ 10 ∷ []
 
 -- the line for the reply to a frame
 abbrev pub line_of : Result (Unit {0}) Ignored → Line
@@ -30,21 +30,21 @@ line_of (Ok _) = line.Accepted
 line_of (Err why) = line.Ignored why
 
 -- the text for a reply: a line if it is the reply to a frame
-abbrev pub reply_text : Reply → List ℕ
-reply_text (reply.Submitted r) = []
-reply_text (reply.Proposed r) = []
-reply_text (reply.Delivered r) = ended (line_of r)
-reply_text (reply.RoundEnded r) = []
-reply_text (reply.Executed r) = []
-reply_text (reply.Queried r) = []
-reply_text (reply.Retired r) = []
+abbrev pub frame_reply_text : Reply → List ℕ
+frame_reply_text (reply.Submitted r) = []
+frame_reply_text (reply.Proposed r) = []
+frame_reply_text (reply.Delivered r) = line_bytes (line_of r)
+frame_reply_text (reply.RoundEnded r) = []
+frame_reply_text (reply.Executed r) = []
+frame_reply_text (reply.Queried r) = []
+frame_reply_text (reply.Retired r) = []
 
 -- the text for a history: a line for each frame, in order
 abbrev pub lines_of : List Entry → List ℕ
-lines_of entries = flat_map (λ e. reply_text e.reply) entries
+lines_of entries = flat_map (λ e. frame_reply_text e.reply) entries
 
 -- the last line, which reports what is wrong with the stream
 abbrev pub last_line : StreamEnd → List ℕ
 last_line stream.Whole = []
-last_line stream.Cut = ended line.Cut
-last_line (stream.Fault f) = ended (line.Fault f)
+last_line stream.Cut = line_bytes line.Cut
+last_line (stream.Fault f) = line_bytes (line.Fault f)

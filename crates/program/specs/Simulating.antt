@@ -7,13 +7,13 @@ use Rattle.ledger_model.specs.declared.config.Config.{Config}
 use Rattle.cluster_setup.specs.declared.cluster_seed.ClusterSeed.{ClusterSeed}
 use Rattle.cluster_setup.specs.Keys.{secret_of}
 use Rattle.adversary_net.specs.WorldViews.{WorldView, AllAccountForLeaves, AllReplay, HasRun, world_of}
-use Rattle.adversary_net.specs.Headline.{IsUnforged, IsOneLedger}
+use Rattle.adversary_net.specs.Headline.{IsUnforgedRun, IsOneLedger}
 use Rattle.adversary_net.specs.Openings.{new_cluster}
 use Rattle.history_bytes.specs.Histories.{history_bytes}
 use Rattle.scenario_texts.specs.declared.command.Command.{Command}
 use Rattle.scenario_texts.specs.Lawful.{IsPlan}
 use Rattle.scenario_texts.specs.Plans.{Plan, plan_of, small_keys}
-use Rattle.scenario_texts.specs.Lines.{Spells, IsBadAt, IsTooLarge}
+use Rattle.scenario_texts.specs.Lines.{SpellsPlan, IsBadAt, IsTooLarge}
 use Rattle.simulation.specs.Playing.{SimulationView, PlaysAll}
 use Rattle.cluster_setup.specs.declared.simulate_settings.SimulateSettings.{SimulateSettings}
 use Rattle.byte_streams.specs.Writing.{AppendsSome}
@@ -35,8 +35,8 @@ abbrev pub cluster_of : List ℕ → Config → Plan → ClusterSeed
 cluster_of seed config p = record { config = config; params = unwrap_or p.keys small_keys; seed = seed }
 
 -- the cluster at its start, with no lie
-abbrev pub opening : List ℕ → Config → Plan → SimulationView
-opening seed config p = record { cluster = new_cluster config (secret_of (cluster_of seed config p)) p.liars; lies = [] }
+abbrev pub simulation_at_start : List ℕ → Config → Plan → SimulationView
+simulation_at_start seed config p = record { cluster = new_cluster config (secret_of (cluster_of seed config p)) p.liars; lies = [] }
 
 -- the histories of the correct replicas as bytes, in ascending order of their numbers
 abbrev pub histories_of : WorldView → List ℕ
@@ -54,9 +54,9 @@ pub record Played (s : SimulateSettings) (p : Plan) (text : List ℕ) : Type 0 w
   pub sized : IsConfigOf p config
   pub lines : List ℕ
   pub final : SimulationView
-  pub plays : PlaysAll (opening s.seed config p) p.commands lines final
+  pub plays : PlaysAll (simulation_at_start s.seed config p) p.commands lines final
   pub since : HasRun final.cluster
-  pub one_ledger : IsUnforged final.cluster → IsOneLedger final.cluster
+  pub one_ledger : IsUnforgedRun final.cluster → IsOneLedger final.cluster
   pub replay : AllReplay final.cluster
   pub account : AllAccountForLeaves final.cluster
   pub written : text ≡ if s.histories then histories_of final.cluster else lines
@@ -73,7 +73,7 @@ pub record PlaysSome (old : SimulationView) (commands : List Command) (lines : L
 abbrev pub PlayedSome : SimulateSettings → Plan → List ℕ → Type 0
 PlayedSome s p text = (config : Config)
     × (IsConfigOf p config × ((lines : List ℕ)
-    × (PlaysSome (opening s.seed config p) p.commands lines × (text ≡ if_wanted (not s.histories) lines))))
+    × (PlaysSome (simulation_at_start s.seed config p) p.commands lines × (text ≡ if_wanted (not s.histories) lines))))
 
 -- the line with the number of a bad line
 abbrev pub bad_line : ℕ → List ℕ
@@ -81,12 +81,12 @@ bad_line n = codes "line " ++ decimal n ++ codes " bad" ++ 10 ∷ []
 
 -- what is printed for an input: the text of the plan that it encodes, or its first bad line
 abbrev pub Simulates : SimulateSettings → List ℕ → TextEnd → List ℕ → Type 0
-Simulates s input Whole text = (p : Plan) × (Spells input p × Played s p text)
+Simulates s input Whole text = (p : Plan) × (SpellsPlan input p × Played s p text)
 Simulates s input (BadLine n) text = IsBadAt input n × (text ≡ bad_line n)
 
 -- a part of what is printed for an input: nothing, or the lines of the first commands
 abbrev pub SimulatesSome : SimulateSettings → List ℕ → List ℕ → Type 0
-SimulatesSome s input text = (text ≡ []) ⊎ ((p : Plan) × (Spells input p × PlayedSome s p text))
+SimulatesSome s input text = (text ≡ []) ⊎ ((p : Plan) × (SpellsPlan input p × PlayedSome s p text))
 
 -- line n is the first bad one, however the text continues
 abbrev pub IsBadAnyway : List ℕ → ℕ → Type 0
@@ -122,7 +122,7 @@ PlaysTextSome s unread left before after =
 abbrev pub IsRead : ScenarioInput → Option (List ℕ) → Option (List ℕ) → Type 0
 IsRead (input.Scenario scenario) unread left =
     (text : List ℕ) × (Consumes unread left text
-    × (IsReadInTime text × (IsAtEnd left × (Spells text (plan_of scenario) × IsPlan (plan_of scenario)))))
+    × (IsReadInTime text × (IsAtEnd left × (SpellsPlan text (plan_of scenario) × IsPlan (plan_of scenario)))))
 IsRead (input.BadLine n) unread left =
     (text : List ℕ) × (Consumes unread left text × (IsReadInTime text × ((IsAtEnd left ⊎ IsBadAnyway text n) × IsBadAt text n)))
 

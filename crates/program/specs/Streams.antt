@@ -10,7 +10,7 @@ use Rattle.ledger_model.specs.Lawful.{Replay}
 use Rattle.ledger_model.specs.Streams.{BeginsTooLong, BeginsMalformed, SplitsTo, BreaksOff}
 use Rattle.signed_frames.specs.declared.fault.FrameFault.{FrameFault}
 use Rattle.signed_frames.specs.declared.fault.FrameFault.TheVariants as told
-use Rattle.signed_frames.specs.Reader.{FrameReaderView, Reading, Leaves}
+use Rattle.signed_frames.specs.Reader.{FrameReaderView, Reading, LeavesReader}
 use Rattle.key_ring.specs.Signers.{leaves_of}
 use Rattle.cluster_setup.specs.Keys.{ring_of, secret_of}
 use Rattle.replica_core.specs.Leaves.{IsMuteForWant}
@@ -25,7 +25,7 @@ use Rattle.byte_streams.specs.declared.program_fault.ProgramFault.{ProgramFault}
 use Rattle.byte_streams.specs.declared.program_fault.ProgramFault.TheVariants as fault
 use Rattle.byte_streams.specs.Writing.{AppendsSome}
 use Rattle.byte_streams.specs.Responding.{Responds, RespondsSome}
-use Rattle.program.specs.Answering.{Answers, AnswersSome, deliveries, starting}
+use Rattle.program.specs.Answering.{AnswersEvents, AnswersSome, deliveries, starting}
 use Rattle.ledger_model.specs.Limits.{max_history_len}
 use Rattle.byte_streams.specs.Faults.{is_asked}
 
@@ -35,10 +35,10 @@ Breaks version TooLong input frames = BreaksOff BeginsTooLong version input fram
 Breaks version Malformed input frames = BreaksOff BeginsMalformed version input frames
 
 -- the bytes of the stream are these frames, followed by this end
-abbrev pub Stands : Version → List ℕ → List SignedStatement → StreamEnd → Type 0
-Stands version input frames Whole = SplitsTo version input frames []
-Stands version input frames Cut = (rest : List ℕ) × (SplitsTo version input frames rest × (1 ≤ length rest))
-Stands version input frames (Fault fault) = Breaks version fault input frames
+abbrev pub EndsFrames : Version → List ℕ → List SignedStatement → StreamEnd → Type 0
+EndsFrames version input frames Whole = SplitsTo version input frames []
+EndsFrames version input frames Cut = (rest : List ℕ) × (SplitsTo version input frames rest × (1 ≤ length rest))
+EndsFrames version input frames (Fault fault) = Breaks version fault input frames
 
 -- to find this end the whole stream was read; after a fault, the rest may be unread
 abbrev pub IsReadTo : StreamEnd → Option (List ℕ) → Type 0
@@ -59,7 +59,7 @@ IsReading reader = (kept : List ℕ) × (reader.state ≡ Reading kept)
 
 -- the reader has returned frames, and has not failed
 abbrev pub IsFed : FrameReaderView → Type 0
-IsFed reader = (bytes : List ℕ) × ((frames : List SignedStatement) × Leaves reader.version bytes frames reader.state)
+IsFed reader = (bytes : List ℕ) × ((frames : List SignedStatement) × LeavesReader reader.version bytes frames reader.state)
 
 -- the bytes are these frames, followed by the bytes that the reader has; or a fault follows the frames
 abbrev pub GoesBehind : List ℕ → List SignedStatement → FrameReaderView → Option StreamFault → Type 0
@@ -77,22 +77,22 @@ pub record UnderWay (start : StateView) (unread left before after : Option (List
     pub version : reader.version ≡ start.config.frames
     pub reading : reader.state ≡ Reading kept
     pub given : SplitsTo start.config.frames input frames kept
-    pub answers : Answers start (deliveries frames) text now
+    pub answers : AnswersEvents start (deliveries frames) text now
     pub written : Appends before after text
 
 -- the same, and the stream has this end after the frames
-pub record Ended (start : StateView) (unread left before after : Option (List ℕ)) (now : StateView) (end : StreamEnd) : Type 0 where
+pub record StreamHasEnded (start : StateView) (unread left before after : Option (List ℕ)) (now : StateView) (end : StreamEnd) : Type 0 where
   pub input : List ℕ
   pub frames : List SignedStatement
   pub text : List ℕ
   pub read : Consumes unread left input
   pub found : IsReadTo end left
-  pub stands : Stands start.config.frames input frames end
-  pub answers : Answers start (deliveries frames) text now
+  pub stands : EndsFrames start.config.frames input frames end
+  pub answers : AnswersEvents start (deliveries frames) text now
   pub written : Appends before after text
 
 -- the same, as far as it came before something failed
-pub record Stopped (start : StateView) (unread left before after : Option (List ℕ)) (now : StateView) : Type 0 where
+pub record StreamHasStopped (start : StateView) (unread left before after : Option (List ℕ)) (now : StateView) : Type 0 where
   pub input : List ℕ
   pub frames : List SignedStatement
   pub rest : List ℕ
@@ -103,10 +103,10 @@ pub record Stopped (start : StateView) (unread left before after : Option (List 
   pub written : AppendsSome before after text
 
 -- the stream continues, or a fault was found
-abbrev pub GoesOn : StateView → Option (List ℕ) → Option (List ℕ) → Option (List ℕ) → Option (List ℕ) → StateView → FrameReaderView
+abbrev pub ContinuesStream : StateView → Option (List ℕ) → Option (List ℕ) → Option (List ℕ) → Option (List ℕ) → StateView → FrameReaderView
     → Option StreamFault → Type 0
-GoesOn start unread left before after now reader None = UnderWay start unread left before after now reader
-GoesOn start unread left before after now reader (Some fault) = Ended start unread left before after now (Fault fault)
+ContinuesStream start unread left before after now reader None = UnderWay start unread left before after now reader
+ContinuesStream start unread left before after now reader (Some fault) = StreamHasEnded start unread left before after now (Fault fault)
 
 -- The replica of the settings is mute after these entries only if its key pair had too few leaves for the statements of
 -- its own that it had sent and those that were due.
@@ -117,7 +117,7 @@ IsMuteOnlySpent s entries = IsMuteForWant s.cluster.config s.replica (leaves_of 
 -- events, and its lawful replies have these lines; the last line reports what is wrong with the stream.
 pub record Delivers (s : DeliverSettings) (input : List ℕ) (end : StreamEnd) (text : List ℕ) : Type 0 where
   pub frames : List SignedStatement
-  pub stands : Stands s.cluster.config.frames input frames end
+  pub stands : EndsFrames s.cluster.config.frames input frames end
   pub entries : List Entry
   pub events : map (λ e. e.event) entries ≡ starting s ++ deliveries frames
   pub replay : Replay s.cluster.config (ring_of s.cluster) s.replica entries

@@ -4,12 +4,12 @@ ghost use Rattle.std.specs.Io.KnownBytes.{Consumes, IsAtEnd};
 ghost use Rattle.ledger_model.specs.Streams.{SplitsTo};
 ghost use Rattle.ledger_model.specs.declared.statement.SignedStatement.{SignedStatement};
 ghost use Rattle.signed_frames.specs.declared.fault.FrameFault.TheVariants as faults;
-ghost use Rattle.signed_frames.specs.Reader.{Leaves, Reading};
+ghost use Rattle.signed_frames.specs.Reader.{LeavesReader, Reading};
 ghost use Rattle.locked_replica.specs.States.{StateView};
 ghost use Rattle.program.specs.Answering.{Prints, deliveries};
 ghost use Rattle.byte_streams.specs.Faults.{IsMemoryOrAsked};
-ghost use Rattle.program.specs.Faults.{StopsAt};
-ghost use Rattle.program.specs.Streams.{Ended, GoesBehind, GoesOn, IsFed, IsReadTo, IsReading, IsStreamFault, Stands, Stopped, UnderWay};
+ghost use Rattle.program.specs.Faults.{FailsAfter};
+ghost use Rattle.program.specs.Streams.{StreamHasEnded, GoesBehind, ContinuesStream, IsFed, IsReadTo, IsReading, IsStreamFault, EndsFrames, StreamHasStopped, UnderWay};
 
 use crate::line::Line;
 use crate::line_printing::print_line;
@@ -31,7 +31,7 @@ fn deliver_frame<W: Write>(
     writer: &mut W,
 ) -> Result<(), ProgramFault>
     ensures prints { Prints result state.old (deliveries (frame ∷ [])) state.new (W.contents writer.old) (W.contents writer.new) }
-    ensures cause { IfErr result (StopsAt state.new.entries) }
+    ensures cause { IfErr result (FailsAfter state.new.entries) }
 {
     let line = answer(state, frame.into_bytes())?;
     print_line(alloc, writer, line)
@@ -45,7 +45,7 @@ fn deliver_all<W: Write>(
     writer: &mut W,
 ) -> Result<(), ProgramFault>
     ensures prints { Prints result state.old (deliveries frames.items) state.new (W.contents writer.old) (W.contents writer.new) }
-    ensures cause { IfErr result (StopsAt state.new.entries) }
+    ensures cause { IfErr result (FailsAfter state.new.entries) }
 {
     for frame in frames {
         deliver_frame(alloc, state, frame, writer)?;
@@ -71,7 +71,7 @@ fn fault_of(fault: FrameFault) -> Result<StreamFault, ProgramFault>
 fn fault_behind(frames: &mut FrameReader) -> Result<Option<StreamFault>, ProgramFault>
     requires { IsFed frames.old }
     ensures version { frames.new.version ≡ frames.old.version }
-    ensures behind { (bytes : List ℕ) (given : List SignedStatement) → Leaves frames.old.version bytes given frames.old.state
+    ensures behind { (bytes : List ℕ) (given : List SignedStatement) → LeavesReader frames.old.version bytes given frames.old.state
         → IfOk result (λ found. GoesBehind bytes given frames.new found) }
     ensures memory { IfErr result IsMemoryOrAsked }
 {
@@ -94,9 +94,9 @@ fn deliver_piece<W: Write>(
     ensures goes { (start : StateView) (unread now left before : Option (List ℕ))
         → UnderWay start unread now before (W.contents writer.old) state.old frames.old → Consumes now left piece.now
         → MatchResult result
-        (λ found. GoesOn start unread left before (W.contents writer.new) state.new frames.new found)
-        (λ _. Stopped start unread left before (W.contents writer.new) state.new) }
-    ensures cause { IfErr result (StopsAt state.new.entries) }
+        (λ found. ContinuesStream start unread left before (W.contents writer.new) state.new frames.new found)
+        (λ _. StreamHasStopped start unread left before (W.contents writer.new) state.new) }
+    ensures cause { IfErr result (FailsAfter state.new.entries) }
 {
     match frames.feed(piece) {
         Ok(found) => {
@@ -111,7 +111,7 @@ fn deliver_piece<W: Write>(
 fn end_of(frames: &FrameReader) -> StreamEnd
     requires { IsReading frames.now }
     ensures stands { (input : List ℕ) (given : List SignedStatement) (kept : List ℕ) → frames.now.state ≡ Reading kept
-        → SplitsTo frames.now.version input given kept → Stands frames.now.version input given result }
+        → SplitsTo frames.now.version input given kept → EndsFrames frames.now.version input given result }
     ensures no_fault { (left : Option (List ℕ)) → IsAtEnd left → IsReadTo result left }
 {
     if frames.is_between() {
@@ -132,9 +132,9 @@ pub(crate) fn deliver_pieces<R: Read, W: Write>(
     requires start { frames.old.state ≡ Reading [] }
     requires version { frames.old.version ≡ state.old.config.frames }
     ensures ends { MatchResult result
-        (λ end. Ended state.old (R.remaining reader.old) (R.remaining reader.new) (W.contents writer.old) (W.contents writer.new) state.new end)
-        (λ _. Stopped state.old (R.remaining reader.old) (R.remaining reader.new) (W.contents writer.old) (W.contents writer.new) state.new) }
-    ensures cause { IfErr result (StopsAt state.new.entries) }
+        (λ end. StreamHasEnded state.old (R.remaining reader.old) (R.remaining reader.new) (W.contents writer.old) (W.contents writer.new) state.new end)
+        (λ _. StreamHasStopped state.old (R.remaining reader.old) (R.remaining reader.new) (W.contents writer.old) (W.contents writer.new) state.new) }
+    ensures cause { IfErr result (FailsAfter state.new.entries) }
 {
     let mut piece = [0; PIECE_LEN];
     for _ in 0..u64::MAX {

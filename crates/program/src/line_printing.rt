@@ -1,7 +1,7 @@
 //! Prints the lines of `abft deliver`, each with one write if the writer takes it whole.
 ghost use Rattle.std.specs.Prelude.{IfErr};
 ghost use Rattle.byte_streams.specs.Faults.{IsMemoryOrAsked};
-ghost use Rattle.program.specs.Lines.{ended, last_line};
+ghost use Rattle.program.specs.Lines.{line_bytes, last_line};
 ghost use Rattle.byte_streams.specs.Writing.{Writes};
 
 use crate::line::Line;
@@ -16,7 +16,7 @@ pub(crate) fn print_line<W: Write>(
     writer: &mut W,
     line: Line,
 ) -> Result<(), ProgramFault>
-    ensures written { Writes result (W.contents writer.old) (W.contents writer.new) (ended line) }
+    ensures written { Writes result (W.contents writer.old) (W.contents writer.new) (line_bytes line) }
     ensures fault { IfErr result IsMemoryOrAsked }
 {
     let Ok(text) = format!(in alloc; "{line}\n") else {

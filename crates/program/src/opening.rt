@@ -3,7 +3,7 @@ ghost use Rattle.std.specs.Prelude.{◌≡◌, vec_len, IfOk, IfErr};
 ghost use Rattle.scenario_texts.specs.Lawful.{IsPlan};
 ghost use Rattle.scenario_texts.specs.Plans.{plan_of};
 ghost use Rattle.byte_streams.specs.Faults.{IsMemoryOrAsked};
-ghost use Rattle.program.specs.Simulating.{opening};
+ghost use Rattle.program.specs.Simulating.{simulation_at_start};
 
 use crate::replica::new_keys;
 use adversary_net::{WorldFault, count_correct};
@@ -42,7 +42,7 @@ pub(crate) fn new_simulation<S: RandomSource>(
     scenario: &Scenario,
 ) -> Result<Simulation<AnyKind>, ProgramFault>
     requires { IsPlan (plan_of scenario.now) }
-    ensures opening { IfOk result (λ simulation. simulation ≡ opening settings.now.seed scenario.now.setup.config (plan_of scenario.now)) }
+    ensures simulation_at_start { IfOk result (λ simulation. simulation ≡ simulation_at_start settings.now.seed scenario.now.setup.config (plan_of scenario.now)) }
     ensures fault { IfErr result IsMemoryOrAsked }
 {
     let setup = &scenario.setup;

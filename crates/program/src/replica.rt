@@ -2,10 +2,10 @@
 ghost use Rattle.std.specs.Prelude.{◌≡◌, ◌≤◌, List, [], ◌∷◌, length, replicate, is_ok, IfOk, IfErr, IsErrOf, MatchResult};
 ghost use Rattle.ledger_model.specs.declared.history.Entry.{Entry};
 ghost use Rattle.ledger_model.specs.declared.event.Event.TheVariants as event;
-ghost use Rattle.program.specs.Lines.{ended};
-ghost use Rattle.program.specs.Answering.{Answers, AnswersSome, Refuses, fresh, starting};
+ghost use Rattle.program.specs.Lines.{line_bytes};
+ghost use Rattle.program.specs.Answering.{AnswersEvents, AnswersSome, TakesNoEvent, fresh, starting};
 ghost use Rattle.byte_streams.specs.Faults.{IsMemoryOrAsked};
-ghost use Rattle.program.specs.Faults.{StopsAt};
+ghost use Rattle.program.specs.Faults.{FailsAfter};
 ghost use Rattle.ledger_model.specs.Limits.{max_history_len};
 
 use crate::line::Line;
@@ -50,7 +50,7 @@ pub(crate) fn new_replica<S: RandomSource>(
 
 /// Why the program stops if the replica took no event.
 fn stopped_by(fault: ApplyFault) -> ProgramFault
-    ensures { (entries : List Entry) → (fault ≡ ApplyFault.HistoryFull → max_history_len ≤ length entries) → StopsAt entries result }
+    ensures { (entries : List Entry) → (fault ≡ ApplyFault.HistoryFull → max_history_len ≤ length entries) → FailsAfter entries result }
 {
     match fault {
         ApplyFault::HistoryFull => ProgramFault::HistoryFull,
@@ -61,7 +61,7 @@ fn stopped_by(fault: ApplyFault) -> ProgramFault
 /// Whether an event was taken, or why the program stops.
 fn taken(outcome: Result<usize, ApplyFault>) -> Result<(), ProgramFault>
     ensures same { is_ok result ≡ is_ok outcome }
-    ensures cause { (entries : List Entry) → (IsErrOf outcome ApplyFault.HistoryFull → max_history_len ≤ length entries) → IfErr result (StopsAt entries) }
+    ensures cause { (entries : List Entry) → (IsErrOf outcome ApplyFault.HistoryFull → max_history_len ≤ length entries) → IfErr result (FailsAfter entries) }
 {
     match outcome {
         Ok(_) => Ok(()),
@@ -72,9 +72,9 @@ fn taken(outcome: Result<usize, ApplyFault>) -> Result<(), ProgramFault>
 /// Submits bytes to the replica.
 fn submit(state: &mut State<AnyKind>, bytes: Bytes) -> Result<(), ProgramFault>
     ensures answers { MatchResult result
-        (λ _. Answers state.old (event.Submit bytes ∷ []) [] state.new)
-        (λ _. Refuses state.old state.new) }
-    ensures cause { IfErr result (StopsAt state.new.entries) }
+        (λ _. AnswersEvents state.old (event.Submit bytes ∷ []) [] state.new)
+        (λ _. TakesNoEvent state.old state.new) }
+    ensures cause { IfErr result (FailsAfter state.new.entries) }
 {
     let outcome = state.apply(Event::Submit(bytes));
     taken(outcome)
@@ -83,9 +83,9 @@ fn submit(state: &mut State<AnyKind>, bytes: Bytes) -> Result<(), ProgramFault>
 /// Lets the replica propose a height.
 fn propose(state: &mut State<AnyKind>, height: Height) -> Result<(), ProgramFault>
     ensures answers { MatchResult result
-        (λ _. Answers state.old (event.Propose height ∷ []) [] state.new)
-        (λ _. Refuses state.old state.new) }
-    ensures cause { IfErr result (StopsAt state.new.entries) }
+        (λ _. AnswersEvents state.old (event.Propose height ∷ []) [] state.new)
+        (λ _. TakesNoEvent state.old state.new) }
+    ensures cause { IfErr result (FailsAfter state.new.entries) }
 {
     let outcome = state.apply(Event::Propose(height));
     taken(outcome)
@@ -94,9 +94,9 @@ fn propose(state: &mut State<AnyKind>, height: Height) -> Result<(), ProgramFaul
 /// Ends a round.
 fn end_round(state: &mut State<AnyKind>) -> Result<(), ProgramFault>
     ensures answers { MatchResult result
-        (λ _. Answers state.old (event.RoundEnd ∷ []) [] state.new)
-        (λ _. Refuses state.old state.new) }
-    ensures cause { IfErr result (StopsAt state.new.entries) }
+        (λ _. AnswersEvents state.old (event.RoundEnd ∷ []) [] state.new)
+        (λ _. TakesNoEvent state.old state.new) }
+    ensures cause { IfErr result (FailsAfter state.new.entries) }
 {
     let outcome = state.apply(Event::RoundEnd);
     taken(outcome)
@@ -105,9 +105,9 @@ fn end_round(state: &mut State<AnyKind>) -> Result<(), ProgramFault>
 /// Ends `rounds` rounds.
 fn end_rounds(state: &mut State<AnyKind>, rounds: u32) -> Result<(), ProgramFault>
     ensures answers { MatchResult result
-        (λ _. Answers state.old (replicate rounds event.RoundEnd) [] state.new)
+        (λ _. AnswersEvents state.old (replicate rounds event.RoundEnd) [] state.new)
         (λ _. AnswersSome state.old (replicate rounds event.RoundEnd) [] state.new) }
-    ensures cause { IfErr result (StopsAt state.new.entries) }
+    ensures cause { IfErr result (FailsAfter state.new.entries) }
 {
     for _ in 0..rounds {
         end_round(state)?;
@@ -122,9 +122,9 @@ pub(crate) fn start(
     state: &mut State<AnyKind>,
 ) -> Result<(), ProgramFault>
     ensures answers { MatchResult result
-        (λ _. Answers state.old (starting settings.now) [] state.new)
+        (λ _. AnswersEvents state.old (starting settings.now) [] state.new)
         (λ _. AnswersSome state.old (starting settings.now) [] state.new) }
-    ensures cause { IfErr result (StopsAt state.new.entries) }
+    ensures cause { IfErr result (FailsAfter state.new.entries) }
 {
     let Ok(value) = Bytes::copy_from_slice(alloc, settings.value.as_bytes()) else {
         return Err(ProgramFault::NoMemory);
@@ -137,9 +137,9 @@ pub(crate) fn start(
 /// Delivers bytes to the replica, and returns the line of its reply.
 pub(crate) fn answer(state: &mut State<AnyKind>, bytes: Bytes) -> Result<Line, ProgramFault>
     ensures answers { MatchResult result
-        (λ line. Answers state.old (event.Deliver bytes ∷ []) (ended line) state.new)
-        (λ _. Refuses state.old state.new) }
-    ensures cause { IfErr result (StopsAt state.new.entries) }
+        (λ line. AnswersEvents state.old (event.Deliver bytes ∷ []) (line_bytes line) state.new)
+        (λ _. TakesNoEvent state.old state.new) }
+    ensures cause { IfErr result (FailsAfter state.new.entries) }
 {
     let index = match state.apply(Event::Deliver(bytes)) {
         Ok(index) => index,

@@ -8,7 +8,7 @@ ghost use Rattle.command_line.specs.Options.{AsksForText, IsRefused, IsSet, Want
 ghost use Rattle.byte_streams.specs.Faults.{IsMemoryOrAsked};
 ghost use Rattle.program.specs.Statements.{signed};
 ghost use Rattle.byte_streams.specs.Writing.{Writes};
-ghost use Rattle.program.specs.Doing.{AsksForHistories, Begins, Done, ExplainsHistories, Halted, IfEnded, IfHanded, IsQuiet, Performs, settings_of, status_of_stream, status_of_text};
+ghost use Rattle.program.specs.Doing.{AsksForHistories, StartsRun, Done, ExplainsHistories, Halted, IfEnded, IfHanded, IsQuiet, Performs, settings_of, status_of_stream, status_of_text};
 
 use crate::auditing::audit;
 use crate::delivering::deliver;
@@ -58,7 +58,7 @@ pub fn run<S: RandomSource, R: Read, W: Write, F: Write>(
         × Keeps (R.remaining reader.old) (R.remaining reader.new) × Keeps (W.contents writer.old) (W.contents writer.new)) }
     // What the words ask for was begun, or nothing was, or the help or the version could not be written.
     ensures stops { IfEnded result (λ status. status ≡ 3
-        → Begins (map (λ w. w.now) words.entry.now) (R.remaining reader.old) (R.remaining reader.new) (W.contents writer.old) (W.contents writer.new)
+        → StartsRun (map (λ w. w.now) words.entry.now) (R.remaining reader.old) (R.remaining reader.new) (W.contents writer.old) (W.contents writer.new)
         ⊎ (Keeps (R.remaining reader.old) (R.remaining reader.new)
         × (Keeps (W.contents writer.old) (W.contents writer.new)
         ⊎ (IsRefused (map (λ w. w.now) words.entry.now) × AskForHelp (map (λ w. w.now) words.entry.now))))) }

@@ -3,7 +3,7 @@ ghost use Rattle.std.specs.Prelude.{◌≡◌, ◌≤◌, true, length, IfOk};
 ghost use Rattle.ledger_model.specs.Limits.{max_signature_len};
 ghost use Rattle.ledger_model.specs.Signatures.{verifies};
 ghost use Rattle.ledger_model.specs.Spelling.{statement_bytes};
-ghost use Rattle.key_ring.specs.Signers.{key_of, signed_with};
+ghost use Rattle.key_ring.specs.Signers.{public_key_of, signed_with};
 ghost use Rattle.cluster_setup.specs.Keys.{secret_of};
 ghost use Rattle.program.specs.Statements.{signed};
 
@@ -19,7 +19,7 @@ fn sign_first(alloc: Global, mut signer: Signer, message: &[u8]) -> Result<Vec<u
     requires { signer.used ≡ 0 }
     ensures signature { IfOk result (λ signature. signature.items ≡ signed_with signer.secret 0 message.now) }
     ensures verifies { IfOk result (λ signature.
-        verifies (key_of signer.secret) message.now signature.items ≡ true) }
+        verifies (public_key_of signer.secret) message.now signature.items ≡ true) }
     ensures short { IfOk result (λ signature. length signature.items ≤ max_signature_len) }
 {
     match signer.sign(alloc, message) {
@@ -37,7 +37,7 @@ fn first_signature(
 ) -> Result<Vec<u8>, AllocError>
     ensures signature { IfOk result (λ signature. signature.items ≡ signed_with (secret_of settings.now.cluster settings.now.replica) 0 message.now) }
     ensures verifies { IfOk result (λ signature.
-        verifies (key_of (secret_of settings.now.cluster settings.now.replica)) message.now signature.items ≡ true) }
+        verifies (public_key_of (secret_of settings.now.cluster settings.now.replica)) message.now signature.items ≡ true) }
     ensures short { IfOk result (λ signature. length signature.items ≤ max_signature_len) }
 {
     let signer = key_pair(alloc, &settings.cluster, settings.replica)?;
@@ -47,7 +47,7 @@ fn first_signature(
 /// The frame of the statement, signed with the first leaf of the replica's key pair.
 pub fn signed_frame(alloc: Global, settings: &SignSettings) -> Result<Frame, AllocError>
     ensures signed { IfOk result (λ frame. frame ≡ signed settings.now) }
-    ensures verifies { IfOk result (λ frame. verifies (key_of (secret_of settings.now.cluster settings.now.replica))
+    ensures verifies { IfOk result (λ frame. verifies (public_key_of (secret_of settings.now.cluster settings.now.replica))
         (statement_bytes frame.statement) frame.signature ≡ true) }
 {
     let unsigned = UnsignedFrame::new(alloc, statement(alloc, settings)?)?;

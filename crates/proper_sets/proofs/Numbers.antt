@@ -20,7 +20,7 @@ use Rattle.ledger_model.proofs.Lists.{filter_map_has, flat_map_has}
 use Rattle.ledger_model.proofs.Lists.{has_filter, filter_has, has_filter_map, same_value-refl, same_value-equal, take_item}
 use Rattle.ledger_model.proofs.Steps.{map_has}
 use Rattle.tally.specs.Tallies.{Places, all_read}
-use Rattle.tally.specs.ReportMasks.{values_within, begins_with, lists_proper, value_of, is_of, is_numbered, AreValuesOf}
+use Rattle.tally.specs.ReportMasks.{values_within, begins_with, lists_proper, numbered_value, is_of, is_numbered, AreValuesOf}
 use Rattle.tally.specs.Readings.{reports_of}
 use Rattle.tally.specs.declared.reported_value.ReportedValue.{ReportedValue}
 use Rattle.tally.proofs.Numbering.{there-is_of}
@@ -38,7 +38,7 @@ module _ (places : Places SignedReport) (values : List ReportedValue) (h : AreVa
   -- what was read of another is at a number
   of_other_from : (test : Value → SignedReport → Bool) (e : ReportedValue) (v : Value) → of_other id test places e ≡ Some v
       → (s : SignedReport) × (Has (all_read places) s × ((not (s.report.signer == id) ≡ true) × (test v s ≡ true)))
-  of_other_from test e v is = at (value_of places e) is
+  of_other_from test e v is = at (numbered_value places e) is
     where
       at : (o : Option Value) → if_of_other id test places o ≡ Some v
           → (s : SignedReport) × (Has (all_read places) s × ((not (s.report.signer == id) ≡ true) × (test v s ≡ true)))

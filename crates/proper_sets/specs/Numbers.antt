@@ -6,7 +6,7 @@ use Rattle.ledger_model.specs.declared.config.Config.{Config}
 use Rattle.ledger_model.specs.declared.statement.SignedReport.{SignedReport}
 use Rattle.ledger_model.specs.Values.{Value, same_value}
 use Rattle.tally.specs.Tallies.{Places, all_read, count_where}
-use Rattle.tally.specs.ReportMasks.{begins_with, lists_proper, value_of}
+use Rattle.tally.specs.ReportMasks.{begins_with, lists_proper, numbered_value}
 use Rattle.tally.specs.Readings.{reports_of}
 use Rattle.tally.specs.declared.reported_value.ReportedValue.{ReportedValue}
 use Rattle.proper_sets.specs.Propriety.{initials, is_named_by}
@@ -18,7 +18,7 @@ if_of_other id test places (Some v) =
     if list_any (λ s. not (s.report.signer == id) && test v s) (all_read places) then Some v else None
 
 abbrev pub of_other : ℕ → (Value → SignedReport → Bool) → Places SignedReport → ReportedValue → Option Value
-of_other id test places e = if_of_other id test places (value_of places e)
+of_other id test places e = if_of_other id test places (numbered_value places e)
 
 -- the value, if more than t others name it
 abbrev pub if_named : Config → ℕ → Places SignedReport → Option Value → Option Value

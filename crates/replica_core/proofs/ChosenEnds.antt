@@ -11,7 +11,7 @@ use Rattle.ledger_model.specs.Notes.{signer_of}
 use Rattle.ledger_model.specs.Logs.{log_of}
 use Rattle.ledger_model.specs.Rules.{Ring, is_signed, is_signed_by}
 use Rattle.lms_tree.specs.Trees.{Secret}
-use Rattle.key_ring.specs.Signers.{key_of}
+use Rattle.key_ring.specs.Signers.{public_key_of}
 use Rattle.instance.specs.declared.round_statement.RoundStatement.{RoundStatement}
 use Rattle.instance.specs.declared.round_statement.RoundStatement.TheVariants as made
 use Rattle.instance.specs.Instances.{InstanceView}
@@ -104,7 +104,7 @@ choices held entries is_held matches =
 pub signed_ends : SignedEnds
 signed_ends held keys ms is_held early loud in_ring signs verified = (
   end_step held false ms is_held early (λ was. sym loud ∙ was)
-      (λ entries matches. chosen_made held.ring held.id (key_of keys.secret) in_ring keys.secret (held.clock + 1) keys.used held.rows ms
+      (λ entries matches. chosen_made held.ring held.id (public_key_of keys.secret) in_ring keys.secret (held.clock + 1) keys.used held.rows ms
       (choices held entries is_held matches) signs verified),
-  signed_leaves held keys ms signs (each_weaker (IsFrameUnder (key_of keys.secret)) IsFrameMade ms (λ m is. is.0) verified),
+  signed_leaves held keys ms signs (each_weaker (IsFrameUnder (public_key_of keys.secret)) IsFrameMade ms (λ m is. is.0) verified),
 )

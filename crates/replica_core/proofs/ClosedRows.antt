@@ -5,7 +5,7 @@ use Rattle.std.specs.List.{AllByRecursion}
 use Rattle.std.proofs.lemmas.Bool.{cases_Bool}
 use Rattle.instance.specs.declared.round_statement.RoundStatement.{RoundStatement}
 use Rattle.instance.specs.Instances.{InstanceView}
-use Rattle.instance.specs.Plans.{ended, closed}
+use Rattle.instance.specs.Plans.{opened_effects, closed}
 use Rattle.instance.proofs.SameHeight.{same_closed}
 use Rattle.height_row.specs.Heights.{row_at, AreAscending, closed_each}
 
@@ -18,7 +18,7 @@ module _ (c : ℕ) where
   none_closed h (row ∷ rows) (m ∷ ms) none = elim (cases_Bool (row.height == h)) [
     | inl here ↦ absurd (cc (rw here at none))
     | inr there ↦
-        let other : ((closed row c (ended row c) m).height == h) ≡ false = ap (λ n. n == h) (same_closed row c m).height ∙ there in
+        let other : ((closed row c (opened_effects row c) m).height == h) ≡ false = ap (λ n. n == h) (same_closed row c m).height ∙ there in
         rw other (none_closed h rows ms (rw there at none))
   ]
 

@@ -8,7 +8,7 @@ use Rattle.std.specs.Prelude.{map, Some, slice_get, Result, Ok, Err, IfOk}
 use Rattle.std.specs.declared.alloc.AllocError.{AllocError}
 use Rattle.ledger_model.specs.declared.event.Event.TheVariants as event
 use Rattle.ledger_model.specs.declared.reply.Reply.TheVariants as reply
-use Rattle.key_ring.specs.Signers.{SignerView, key_of}
+use Rattle.key_ring.specs.Signers.{SignerView, public_key_of}
 use Rattle.std.specs.List.{AllByRecursion}
 use Rattle.std.specs.Option.{IfSome}
 use Rattle.ledger_model.specs.declared.statement.Statement.{Statement}
@@ -19,16 +19,16 @@ use Rattle.instance.specs.declared.round_statement.RoundStatement.{RoundStatemen
 use Rattle.instance.specs.declared.round_statement.RoundStatement.TheVariants as made
 use Rattle.instance.specs.declared.round_plan.RoundPlan.{RoundPlan}
 use Rattle.instance.specs.Instances.{InstanceView}
-use Rattle.instance.specs.Plans.{chosen_statement, ended, IsOwnMade, IsOwnStatement}
+use Rattle.instance.specs.Plans.{chosen_statement, opened_effects, IsOwnMade, IsOwnStatement}
 use Rattle.instance.proofs.SpelledPlans.{chosen_own_statement}
 use Rattle.height_row.specs.declared.round_closing.RoundClosing.{RoundClosing}
-use Rattle.height_row.specs.Heights.{plan_of}
+use Rattle.height_row.specs.Heights.{height_plan}
 use Rattle.replica_core.specs.ReplicaStates.{ReplicaStateView, IsWithinLimits}
 use Rattle.replica_core.specs.RoundEnds.{after_end, due, SignsFrom}
 use Rattle.replica_core.specs.Steps.{IsStep, UsesLeaves}
 use Rattle.replica_core.specs.ChosenEnds.{all_mute, end_reply, IsVerifiedMade}
 use Rattle.replica_core.specs.Cores.{CoreView}
-use Rattle.replica_core.specs.PreparedEnds.{PreparedView, IsPreparedFor, IsEndPrepared, made_in, prepared_of, after_prepared}
+use Rattle.replica_core.specs.PreparedEnds.{PreparedView, IsPreparedFor, IsEndPrepared, made_by_closings, prepared_of, after_prepared}
 use Rattle.replica_core.specs.Signing.{SignsPlans}
 use Rattle.instance.specs.Laws.{IsFrameMade}
 use Rattle.replica_core.proofs.SignedPlans.{signs_from}
@@ -53,21 +53,21 @@ all_both P Q (x ∷ xs) ps qs = ((ps.0, qs.0), all_both P Q xs ps.1 qs.1)
 
 -- each height ends as it is planned
 pub planned_ends : (c : ℕ) (rows : List InstanceView)
-    → map (λ (p : RoundPlan). p.ending) (map (plan_of c) rows) ≡ map (λ row. ended row c) rows
+    → map (λ (p : RoundPlan). p.ending) (map (height_plan c) rows) ≡ map (λ row. opened_effects row c) rows
 planned_ends c [] = refl
-planned_ends c (row ∷ rows) = ap (λ es. ended row c ∷ es) (planned_ends c rows)
+planned_ends c (row ∷ rows) = ap (λ es. opened_effects row c ∷ es) (planned_ends c rows)
 
 -- ---- a mute replica
 
 -- it makes nothing at each height
 pub mades_mute : (c : ℕ) (rows : List InstanceView) (closings : List RoundClosing)
-    → map (λ x. x.ending) closings ≡ map (λ row. ended row c) rows
+    → map (λ x. x.ending) closings ≡ map (λ row. opened_effects row c) rows
     → AllByRecursion (λ x. x.made ≡ made.Mute) closings → map (λ x. x.made) closings ≡ all_mute rows
 mades_mute c [] [] endings mute = refl
 mades_mute c [] (x ∷ closings) endings mute = absurd cc
 mades_mute c (row ∷ rows) [] endings mute = absurd cc
 mades_mute c (row ∷ rows) (x ∷ closings) endings mute =
-    let rest : map (λ x. x.ending) closings ≡ map (λ row. ended row c) rows = cc in
+    let rest : map (λ x. x.ending) closings ≡ map (λ row. opened_effects row c) rows = cc in
     rw mute.0 (ap (λ ms. made.Mute ∷ ms) (mades_mute c rows closings rest mute.1))
 
 -- nothing is the replica's own
@@ -108,7 +108,7 @@ each_own held is_held = each_found (λ row. (row.config ≡ held.config) × (row
 
 -- it is ready if another round follows, and the heights end so
 pub ready_of : (held : ReplicaStateView) (mute : Bool) (closings : List RoundClosing) → held.clock < last_round
-    → map (λ x. x.ending) closings ≡ map (λ row. ended row (held.clock + 1)) held.rows
+    → map (λ x. x.ending) closings ≡ map (λ row. opened_effects row (held.clock + 1)) held.rows
     → AllByRecursion (λ x. IsOwnMade held.config held.id x.made) closings → IsPreparedFor held (prepared_of held mute closings)
 ready_of held mute closings early endings own = record { clock = early; endings = endings; own = own; reply = refl }
 
@@ -116,8 +116,8 @@ ready_of held mute closings early endings own = record { clock = early; endings 
 pub end_prepared : (held : ReplicaStateView) (keys new : SignerView) (mute : Bool) (closings : List RoundClosing)
     (result : Result PreparedView AllocError) → IfOk result (λ p. p ≡ prepared_of held mute closings)
     → IfOk result (IsPreparedFor held)
-    → IsStep held event.RoundEnd (end_reply held mute (made_in closings)) (after_end held mute (made_in closings))
-    → UsesLeaves keys held.clock (end_reply held mute (made_in closings)) new
+    → IsStep held event.RoundEnd (end_reply held mute (made_by_closings closings)) (after_end held mute (made_by_closings closings))
+    → UsesLeaves keys held.clock (end_reply held mute (made_by_closings closings)) new
     → IfOk result (λ p. IsEndPrepared (record { held = held; keys = keys }) p new)
 end_prepared held keys new mute closings (Ok p) is ready step leaves = record {
   ready = ready;
@@ -147,13 +147,13 @@ over held last entries matches = (
 -- what is planned, by what is kept
 pub planned_by : (old : CoreView) (held : ReplicaStateView) (keys : SignerView) (plans : List RoundPlan)
     → record { held = held; keys = keys } ≡ old
-    → plans ≡ map (plan_of (old.held.clock + 1)) old.held.rows → plans ≡ map (plan_of (held.clock + 1)) held.rows
-planned_by old held keys plans is planned = subst (λ (x : CoreView). plans ≡ map (plan_of (x.held.clock + 1)) x.held.rows) (sym is) planned
+    → plans ≡ map (height_plan (old.held.clock + 1)) old.held.rows → plans ≡ map (height_plan (held.clock + 1)) held.rows
+planned_by old held keys plans is planned = subst (λ (x : CoreView). plans ≡ map (height_plan (x.held.clock + 1)) x.held.rows) (sym is) planned
 
 -- what each height is done with, where all is planned so, and signed
 module _ (old : CoreView) (held : ReplicaStateView) (keys : SignerView) (plans : List RoundPlan) (closings : List RoundClosing)
     (is : record { held = held; keys = keys } ≡ old) (is_held : IsWithinLimits old.held)
-    (planned : plans ≡ map (plan_of (old.held.clock + 1)) old.held.rows)
+    (planned : plans ≡ map (height_plan (old.held.clock + 1)) old.held.rows)
     (signs : SignsPlans keys.secret keys.used plans (map (λ (x : RoundClosing). x.made) closings)) where
   kept : IsWithinLimits held
   kept = subst (λ (x : CoreView). IsWithinLimits x.held) (sym is) is_held
@@ -170,9 +170,9 @@ module _ (old : CoreView) (held : ReplicaStateView) (keys : SignerView) (plans :
       (each_own held kept) from)
 
   -- the end is a step, and uses a leaf for each
-  pub signed_step : old.held.clock < last_round → old.held.mute ≡ false → slice_get held.ring held.id ≡ Some (key_of keys.secret)
+  pub signed_step : old.held.clock < last_round → old.held.mute ≡ false → slice_get held.ring held.id ≡ Some (public_key_of keys.secret)
       → AllByRecursion (λ (x : RoundClosing). IsFrameMade x.made) closings
-      → AllByRecursion (λ (x : RoundClosing). IsVerifiedMade (key_of keys.secret) x.made) closings
+      → AllByRecursion (λ (x : RoundClosing). IsVerifiedMade (public_key_of keys.secret) x.made) closings
       → IsStep held event.RoundEnd (end_reply held false (map (λ (x : RoundClosing). x.made) closings))
       (after_end held false (map (λ (x : RoundClosing). x.made) closings))
       × UsesLeaves keys held.clock (end_reply held false (map (λ (x : RoundClosing). x.made) closings))
@@ -181,13 +181,13 @@ module _ (old : CoreView) (held : ReplicaStateView) (keys : SignerView) (plans :
       signed_ends held keys (map (λ (x : RoundClosing). x.made) closings) kept
       (subst (λ (x : CoreView). x.held.clock < last_round) (sym is) early)
       (subst (λ (x : CoreView). x.held.mute ≡ false) (sym is) loud) own_key from
-      (all_both IsFrameMade (IsVerifiedMade (key_of keys.secret)) (map (λ (x : RoundClosing). x.made) closings)
+      (all_both IsFrameMade (IsVerifiedMade (public_key_of keys.secret)) (map (λ (x : RoundClosing). x.made) closings)
       (all_images IsFrameMade (λ (x : RoundClosing). x.made) closings frames)
-      (all_images (IsVerifiedMade (key_of keys.secret)) (λ (x : RoundClosing). x.made) closings verified))
+      (all_images (IsVerifiedMade (public_key_of keys.secret)) (λ (x : RoundClosing). x.made) closings verified))
 
 -- the end of a mute replica is a step, and uses no leaf
 pub mute_step : (held : ReplicaStateView) (keys : SignerView) (closings : List RoundClosing) → IsWithinLimits held → held.clock < last_round
-    → map (λ (x : RoundClosing). x.ending) closings ≡ map (λ row. ended row (held.clock + 1)) held.rows
+    → map (λ (x : RoundClosing). x.ending) closings ≡ map (λ row. opened_effects row (held.clock + 1)) held.rows
     → AllByRecursion (λ (x : RoundClosing). x.made ≡ made.Mute) closings
     → IsStep held event.RoundEnd (end_reply held true (map (λ (x : RoundClosing). x.made) closings))
     (after_end held true (map (λ (x : RoundClosing). x.made) closings))

@@ -6,7 +6,7 @@ use Rattle.ledger_model.specs.Limits.{last_round}
 use Rattle.instance.specs.declared.round_statement.RoundStatement.{RoundStatement}
 use Rattle.instance.specs.Instances.{InstanceView}
 use Rattle.instance.specs.Reads.{IsSameHeight}
-use Rattle.instance.specs.Plans.{ended, closed}
+use Rattle.instance.specs.Plans.{opened_effects, closed}
 use Rattle.instance.proofs.SameHeight.{same_self, same_closed}
 use Rattle.height_row.specs.Heights.{row_at, closed_each}
 use Rattle.replica_core.specs.ReplicaStates.{ReplicaStateView, IsWithinLimits}
@@ -23,7 +23,7 @@ was_open c h (row ∷ rows) (m ∷ ms) new found =
     let kept = same_closed row c m in
     elim (cases_Bool (row.height == h)) [
       | inl here ↦
-          let same : closed row c (ended row c) m ≡ new = cc (rw (ap (λ n. n == h) kept.height ∙ here) at found) in
+          let same : closed row c (opened_effects row c) m ≡ new = cc (rw (ap (λ n. n == h) kept.height ∙ here) at found) in
           (row, rw here refl, subst (IsSameHeight row) same kept)
       | inr there ↦
           let rest = was_open c h rows ms new (rw (ap (λ n. n == h) kept.height ∙ there) at found) in

@@ -12,8 +12,8 @@ use Rattle.ledger_model.specs.Pools.{submit_answer, left_after}
 use Rattle.ledger_model.specs.Replies.{block_reply, check_reply, query_reply}
 use Rattle.abci.specs.Meaning.{without_work}
 use Rattle.abci.specs.declared.info.Info.{Info}
-use Rattle.abci_executor.specs.Blocks.{AddsBlock, Replies, ShowsBlocks}
-use Rattle.batch_pool.specs.Pools.{AnswersSubmission, Leaves}
+use Rattle.abci_executor.specs.Blocks.{AddsBlock, IsQueryReply, ShowsBlocks}
+use Rattle.batch_pool.specs.Pools.{AnswersSubmission, LeavesWaiting}
 use Rattle.replica_core.specs.Facts.{info_reply}
 
 module _ (m : Machine) (kind : AppKind) (batches : List Value) (is : m ≡ run kind batches) where
@@ -32,7 +32,7 @@ module _ (m : Machine) (kind : AppKind) (batches : List Value) (is : m ≡ run k
   reached = is ∙ ap (λ k. run k batches) (sym kind_is)
 
   -- what is replied to a key
-  pub replied : (key : List ℕ) (height : ℕ) (reply : Result QueryAnswer NotHeld) → Replies m key height reply
+  pub replied : (key : List ℕ) (height : ℕ) (reply : Result QueryAnswer NotHeld) → IsQueryReply m key height reply
       → reply ≡ query_reply kind batches key height
   replied key height reply shown = shown batches reached ∙ ap (λ k. query_reply k batches key height) kind_is
 
@@ -50,7 +50,7 @@ module _ (m : Machine) (kind : AppKind) (batches : List Value) (is : m ≡ run k
       reached_by = is ∙ ap (λ k. run k batches) (sym of_kind)
 
   -- what a block leaves of the pool
-  pub left : (app : Machine) (block old new : Value) → without_work app ≡ m → Leaves app block old new
+  pub left : (app : Machine) (block old new : Value) → without_work app ≡ m → LeavesWaiting app block old new
       → new ≡ left_after block (check_reply kind batches) old
   left app block old new same shown =
       shown batches (same ∙ is ∙ ap (λ k. run k batches) (sym of_kind)) ∙ ap (λ k. left_after block (check_reply k batches) old) of_kind

@@ -23,16 +23,16 @@ use Rattle.instance.specs.declared.round_statement.RoundStatement.{RoundStatemen
 use Rattle.instance.specs.declared.round_statement.RoundStatement.TheVariants as made
 use Rattle.instance.specs.Instances.{InstanceView}
 use Rattle.instance.specs.Matching.{MatchesLog}
-use Rattle.instance.specs.Plans.{ended, is_mute_made, sent_in, closed}
+use Rattle.instance.specs.Plans.{opened_effects, is_mute_made, own_statement_sent, closed}
 use Rattle.instance.specs.Laws.{MayClose, IsFrameMade, made_in, opened_by}
 use Rattle.instance.proofs.AtClock.{allows_at, sends_at, closes_at}
-use Rattle.replica_core.specs.RoundEnds.{IsMadeAt, sent_own, sent_on, frames_at}
+use Rattle.replica_core.specs.RoundEnds.{IsMadeAt, sent_own, sent_on, frames_of_height}
 use Rattle.replica_core.proofs.SentFrames.{MayMakeOf, statements_in, may_make}
 
 -- ---- frames that are read again
 
 -- the own one
-pub own_read : (config : Config) (m : RoundStatement) → IsFrameMade m → statements_in (map (sent_own config) (sent_in m)) ≡ sent_in m
+pub own_read : (config : Config) (m : RoundStatement) → IsFrameMade m → statements_in (map (sent_own config) (own_statement_sent m)) ≡ own_statement_sent m
 own_read config made.Mute frame = refl
 own_read config made.Unsent frame = refl
 own_read config (made.Sent f) frame = ap (λ o. cons_option o []) (reading-again Two f frame)
@@ -46,8 +46,8 @@ read_again (s ∷ ss) frames =
     ∙ ap (λ ts. s ∷ ts) (read_again ss (λ t has. frames t (inr has)))
 
 -- no lock is sent on but at place 4
-pub none_on : (row : InstanceView) (c : ℕ) → nat_eq (place_of c) release_place ≡ false → (ended row c).sends_on ≡ []
-unfolding ended
+pub none_on : (row : InstanceView) (c : ℕ) → nat_eq (place_of c) release_place ≡ false → (opened_effects row c).sends_on ≡ []
+unfolding opened_effects
 none_on row c early = elim (cases_Bool (nat_eq (place_of c) report_place)) [
   | inl first ↦ rw first refl
   | inr not_first ↦ elim (cases_Bool (nat_eq (place_of c) lock_place)) [
@@ -73,7 +73,7 @@ no_ack config id h log c false other = elim (cases_Bool (is_open log)) [ inl is 
 
 -- nothing is made at place 4
 pub none_made : (row : InstanceView) (c : ℕ) → nat_eq (place_of c) release_place ≡ true → (m : RoundStatement) → MayMakeOf row c m
-    → sent_in m ≡ []
+    → own_statement_sent m ≡ []
 none_made row c last made.Mute may = refl
 none_made row c last made.Unsent may = refl
 none_made row c last (made.Sent f) may =
@@ -95,14 +95,14 @@ module _ (config : Config) (ring : Ring) (row : InstanceView) (log : List Note) 
   allowed = may_make ring mute c row m is_made
 
   -- what the frames spell: the own statement, and the locks that are sent on
-  two_parts : statements_in (frames_at config c row m) ≡ sent_in m ++ statements_in (map sent_on (ended row c).sends_on)
+  two_parts : statements_in (frames_of_height config c row m) ≡ own_statement_sent m ++ statements_in (map sent_on (opened_effects row c).sends_on)
   two_parts =
-      filter_map-append (λ (f : Sent). reading f.frame) (map (sent_own config) (sent_in m)) (map sent_on (ended row c).sends_on)
-      ∙ ap (λ ss. ss ++ statements_in (map sent_on (ended row c).sends_on)) (own_read config m is_made.frame)
+      filter_map-append (λ (f : Sent). reading f.frame) (map (sent_own config) (own_statement_sent m)) (map sent_on (opened_effects row c).sends_on)
+      ∙ ap (λ ss. ss ++ statements_in (map sent_on (opened_effects row c).sends_on)) (own_read config m is_made.frame)
 
   -- the own statement alone before place 4
-  pub own_alone : nat_eq (place_of c) release_place ≡ false → statements_in (frames_at config c row m) ≡ sent_in m
-  own_alone early = two_parts ∙ ap (λ fs. sent_in m ++ statements_in (map sent_on fs)) (none_on row c early) ∙ append-nil (sent_in m)
+  pub own_alone : nat_eq (place_of c) release_place ≡ false → statements_in (frames_of_height config c row m) ≡ own_statement_sent m
+  own_alone early = two_parts ∙ ap (λ fs. own_statement_sent m ++ statements_in (map sent_on fs)) (none_on row c early) ∙ append-nil (own_statement_sent m)
 
   -- a held lock has a frame
   held_frame : (s : SignedStatement) → Has (held_locks log) s → IsFrame s
@@ -111,10 +111,10 @@ module _ (config : Config) (ring : Ring) (row : InstanceView) (log : List Note) 
       subst IsFrame lock.1.1 (any_frame row.config.frames (as_statement lock.0) (old.sound.held lock.0 lock.1.0).frame)
 
   -- the held locks alone at place 4
-  pub locks_alone : nat_eq (place_of c) release_place ≡ true → statements_in (frames_at config c row m) ≡ held_locks log
+  pub locks_alone : nat_eq (place_of c) release_place ≡ true → statements_in (frames_of_height config c row m) ≡ held_locks log
   locks_alone last =
       two_parts
-      ∙ ap (λ ss. ss ++ statements_in (map sent_on (ended row c).sends_on)) (none_made row c last m allowed)
+      ∙ ap (λ ss. ss ++ statements_in (map sent_on (opened_effects row c).sends_on)) (none_made row c last m allowed)
       ∙ ap (λ fs. statements_in (map sent_on fs)) (sends_at ring row log clock old now (eqb-true (place_of c) 4 last))
       ∙ read_again (held_locks log) held_frame
 
@@ -129,12 +129,12 @@ module _ (config : Config) (ring : Ring) (row : InstanceView) (log : List Note) 
       by (made.Sent f) may = allows_at ring row log clock old now (Some f.statement) may
 
   -- what is kept then matches the log that goes on with it
-  pub closes_there : MatchesLog ring (closed row c (ended row c) m) (opened_by row log c m)
+  pub closes_there : MatchesLog ring (closed row c (opened_effects row c) m) (opened_by row log c m)
   closes_there = closes_at ring row log clock old now m is_made.frame may_close is_made.signed
 
   module _ (id h : ℕ) (same_config : row.config ≡ config) (same_id : row.id ≡ id) (same_height : row.height ≡ h) where
     -- what is made is what the frames and the own acknowledgement make it
-    pub made_is : (end : RoundEnded) → end.mute ≡ mute → statements_sent h end ≡ statements_in (frames_at config c row m)
+    pub made_is : (end : RoundEnded) → end.mute ≡ mute → statements_sent h end ≡ statements_in (frames_of_height config c row m)
         → statements_made config id h log c end ≡ made_in row log c m
     unfolding statements_made
     made_is end says sent = elim (cases_Bool (nat_eq (place_of c) release_place)) [
@@ -150,7 +150,7 @@ module _ (config : Config) (ring : Ring) (row : InstanceView) (log : List Note) 
           λ i. own_ack (sym same_config i) (sym same_id i) (sym same_height i) log c (same_mute i) in
           rw early (
           ap (λ ss. ss ++ own_ack config id h log c end.mute) (sent ∙ own_alone early)
-          ∙ ap (λ ss. sent_in m ++ ss) alike)
+          ∙ ap (λ ss. own_statement_sent m ++ ss) alike)
     ]
 
     -- it may be made

@@ -20,7 +20,7 @@ use Rattle.instance.specs.Instances.{InstanceView}
 use Rattle.instance.specs.Matching.{MatchesLog, only_rounds}
 use Rattle.height_row.specs.Heights.{row_at, AreApart}
 use Rattle.replica_core.specs.ReplicaStates.{ReplicaStateView, MatchesHistory}
-use Rattle.replica_core.specs.Steps.{IsStep, with_value, propose_held}
+use Rattle.replica_core.specs.Steps.{IsStep, with_result, propose_held}
 use Rattle.replica_core.proofs.Quiet.{log_then, log_stays, quiet, unheard}
 use Rattle.replica_core.proofs.Unopened.{opened_there}
 
@@ -30,7 +30,7 @@ faults closed retired there far =
     (closed, refusal.Closed) ∷ (retired, refusal.Retired) ∷ (there, refusal.AlreadyOpen) ∷ (far, refusal.TooFar) ∷ []
 
 -- the first of them, or a value
-valued : (a r b c : Bool) (v : Value) → with_value (first_fault (faults a r b c) tt) v ≡ first_fault (faults a r b c) v
+valued : (a r b c : Bool) (v : Value) → with_result (first_fault (faults a r b c) tt) v ≡ first_fault (faults a r b c) v
 valued true r b c v = refl
 valued false true b c v = refl
 valued false false true c v = refl
@@ -38,7 +38,7 @@ valued false false false true v = refl
 valued false false false false v = refl
 
 -- what it takes to open a height
-fits : (a r b c : Bool) (v w : Value) → Ok v ≡ with_value (first_fault (faults a r b c) tt) w → (r ≡ false) × (b ≡ false)
+fits : (a r b c : Bool) (v w : Value) → Ok v ≡ with_result (first_fault (faults a r b c) tt) w → (r ≡ false) × (b ≡ false)
 fits true r b c v w e = cc
 fits false true b c v w e = cc
 fits false false true c v w e = cc

@@ -15,12 +15,12 @@ use Rattle.instance.specs.declared.round_statement.RoundStatement.{RoundStatemen
 use Rattle.ledger_model.proofs.Floors.{floor_of-snoc}
 use Rattle.instance.specs.Instances.{InstanceView}
 use Rattle.instance.specs.Matching.{MatchesLog, only_rounds}
-use Rattle.instance.specs.Plans.{ended, closed}
+use Rattle.instance.specs.Plans.{opened_effects, closed}
 use Rattle.instance.specs.Laws.{made_in, opened_by}
 use Rattle.instance.proofs.SameHeight.{same_closed}
 use Rattle.height_row.specs.Heights.{row_at, closed_each}
 use Rattle.replica_core.specs.ReplicaStates.{ReplicaStateView, IsWithinLimits, IsOwnRow, MatchesHistory}
-use Rattle.replica_core.specs.RoundEnds.{AreMade, frames_at, round_ended, after_end, RoundsEnd}
+use Rattle.replica_core.specs.RoundEnds.{AreMade, frames_of_height, round_ended, after_end, RoundsEnd}
 use Rattle.replica_core.proofs.Histories.{pool_more, clock_more, mute_more, commits_stay, blocks_stay}
 use Rattle.replica_core.proofs.Quiet.{log_then}
 use Rattle.replica_core.proofs.Unopened.{closed_there, none_below}
@@ -106,7 +106,7 @@ module _ (held : ReplicaStateView) (mute : Bool) (ms : List RoundStatement) (ent
     there : IsMadeThere held.config held.ring mute c h held.rows ms row
     there = made_there held.config held.ring mute c h row held.rows ms is_held.ascend each_sends are_made is
 
-    sent_there : statements_sent h end ≡ statements_in (frames_at held.config c row there.made)
+    sent_there : statements_sent h end ≡ statements_in (frames_of_height held.config c row there.made)
     unfolding statements_sent
     sent_there = there.sent
 
@@ -127,7 +127,7 @@ module _ (held : ReplicaStateView) (mute : Bool) (ms : List RoundStatement) (ent
 
     -- what is kept of it then
     module _ (new : InstanceView) (found : row_at (closed_each c held.rows ms) h ≡ Some new) where
-      closed_is : closed row c (ended row c) there.made ≡ new
+      closed_is : closed row c (opened_effects row c) there.made ≡ new
       closed_is = cc (sym there.then ∙ found)
 
       matches_with : MatchesLog held.ring new (log_with h)

@@ -20,12 +20,12 @@ use Rattle.instance.specs.declared.round_statement.RoundStatement.{RoundStatemen
 use Rattle.instance.specs.declared.round_statement.RoundStatement.TheVariants as made
 use Rattle.instance.specs.Instances.{InstanceView}
 use Rattle.instance.specs.Matching.{MatchesLog}
-use Rattle.instance.specs.Plans.{MaySend, ended, is_mute_made, sent_in}
+use Rattle.instance.specs.Plans.{MaySend, opened_effects, is_mute_made, own_statement_sent}
 use Rattle.instance.specs.Laws.{IsSignedMade, IsFrameMade, IsLockSentOn}
 use Rattle.instance.proofs.MaySend.{own_if_sent}
 use Rattle.instance.proofs.AtClock.{signed_at}
 use Rattle.instance.proofs.Makes.{sends_locks}
-use Rattle.replica_core.specs.RoundEnds.{IsMadeAt, statement_in, sent_own, sent_on, frames_at}
+use Rattle.replica_core.specs.RoundEnds.{IsMadeAt, own_statement, sent_own, sent_on, frames_of_height}
 use Rattle.replica_core.proofs.SentHeights.{height_in}
 use Rattle.ledger_model.proofs.Lists.{each_append}
 
@@ -92,9 +92,9 @@ MayMakeOf row c (made.Sent f) = MaySend row c (Some f.statement)
 pub may_make : (ring : Ring) (mute : Bool) (c : ℕ) (row : InstanceView) (m : RoundStatement) → IsMadeAt ring mute c row m
     → MayMakeOf row c m
 may_make ring mute c row m is_made =
-    by m (subst (λ b. MatchBool b (Unit {0}) (MaySend row c (statement_in m))) (sym is_made.silent) is_made.may)
+    by m (subst (λ b. MatchBool b (Unit {0}) (MaySend row c (own_statement m))) (sym is_made.silent) is_made.may)
   where
-    by : (x : RoundStatement) → MatchBool (is_mute_made x) (Unit {0}) (MaySend row c (statement_in x)) → MayMakeOf row c x
+    by : (x : RoundStatement) → MatchBool (is_mute_made x) (Unit {0}) (MaySend row c (own_statement x)) → MayMakeOf row c x
     by made.Mute may = tt
     by made.Unsent may = may
     by (made.Sent f) may = may
@@ -103,7 +103,7 @@ module _ (config : Config) (ring : Ring) (row : InstanceView) (log : List Note) 
     (now : clock_of log ≡ clock) where
   -- the own statement
   own_sent : (m : RoundStatement) → MayMakeOf row (clock + 1) m → IsSignedMade ring m → IsFrameMade m
-      → AreSentAt config ring row.height (map (sent_own config) (sent_in m))
+      → AreSentAt config ring row.height (map (sent_own config) (own_statement_sent m))
   own_sent made.Mute may signed frame = none_sent config ring row.height
   own_sent made.Unsent may signed frame = none_sent config ring row.height
   own_sent (made.Sent f) may signed frame =
@@ -114,8 +114,8 @@ module _ (config : Config) (ring : Ring) (row : InstanceView) (log : List Note) 
 
   -- all frames of the height
   pub frames_sent : (mute : Bool) (m : RoundStatement) → IsMadeAt ring mute (clock + 1) row m
-      → AreSentAt config ring row.height (frames_at config (clock + 1) row m)
+      → AreSentAt config ring row.height (frames_of_height config (clock + 1) row m)
   frames_sent mute m is_made =
-      both_sent config ring row.height (map (sent_own config) (sent_in m)) (map sent_on (ended row (clock + 1)).sends_on)
+      both_sent config ring row.height (map (sent_own config) (own_statement_sent m)) (map sent_on (opened_effects row (clock + 1)).sends_on)
       (own_sent m (may_make ring mute (clock + 1) row m is_made) is_made.signed is_made.frame)
-      (locks_sent config ring row.height (ended row (clock + 1)).sends_on (sends_locks ring row log (clock + 1) old))
+      (locks_sent config ring row.height (opened_effects row (clock + 1)).sends_on (sends_locks ring row log (clock + 1) old))

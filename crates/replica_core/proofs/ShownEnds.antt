@@ -22,8 +22,8 @@ use Rattle.instance.specs.Instances.{InstanceView}
 use Rattle.instance.specs.Matching.{MatchesLog}
 use Rattle.height_row.specs.Heights.{row_at}
 use Rattle.replica_core.specs.ReplicaStates.{ReplicaStateView, IsWithinLimits, IsOwnRow, MatchesHistory}
-use Rattle.replica_core.specs.RoundEnds.{AreMade, frames_at, frames_of}
-use Rattle.replica_core.specs.ShownEnds.{statements_shown, releases, made_shown, AreShownAlike, KeepsEnd, ShowsFrames, EndsShow}
+use Rattle.replica_core.specs.RoundEnds.{AreMade, frames_of_height, frames_of_heights}
+use Rattle.replica_core.specs.ShownEnds.{statements_shown, sends_locks_on, made_shown, AreShownAlike, KeepsEnd, ShowsFrames, EndsShow}
 use Rattle.replica_core.proofs.AscendingRows.{each_found}
 use Rattle.replica_core.proofs.SentFrames.{statements_in, is_all_signed, frames_sent}
 use Rattle.replica_core.proofs.AllHeights.{of_height, IsSentBy, all_right}
@@ -40,7 +40,7 @@ record AreShownBy (config : Config) (ring : Ring) (mute : Bool) (c : ℕ) (ss : 
   where
     ms : List RoundStatement
     made : AreMade ring mute c rows ms
-    sent : statements_in (frames_of config c rows ms) ≡ flat_map (λ row. of_height row.height ss) rows
+    sent : statements_in (frames_of_heights config c rows ms) ≡ flat_map (λ row. of_height row.height ss) rows
 
 shown_by : (config : Config) (ring : Ring) (mute : Bool) (c : ℕ) (ss : List SignedStatement) (rows : List InstanceView)
     → AllByRecursion (IsShownAt config ring mute c ss) rows
@@ -51,8 +51,8 @@ shown_by config ring mute c ss (row ∷ rows) shown =
     record {
       ms = shown.0.made ∷ rest.ms;
       made = (shown.0.is_made, rest.made);
-      sent = filter_map-append (λ (f : Sent). reading f.frame) (frames_at config c row shown.0.made) (frames_of config c rows rest.ms)
-          ∙ ap (λ ts. ts ++ statements_in (frames_of config c rows rest.ms)) shown.0.sent
+      sent = filter_map-append (λ (f : Sent). reading f.frame) (frames_of_height config c row shown.0.made) (frames_of_heights config c rows rest.ms)
+          ∙ ap (λ ts. ts ++ statements_in (frames_of_heights config c rows rest.ms)) shown.0.sent
           ∙ ap (λ ts. of_height row.height ss ++ ts) rest.sent;
     }
 
@@ -67,7 +67,7 @@ those_frames h ss all = each_from IsFrame (of_height h ss) (λ s has. each_has I
 
 module _ (held : ReplicaStateView) (entries : List Entry) (end : RoundEnded) (is_held : IsWithinLimits held)
     (matches : MatchesHistory held entries) (keeps : KeepsEnd held entries end)
-    (spelled : end.mute ≡ false → releases (held.clock + 1) held.rows ≡ false → AllByRecursion IsFrame (statements_shown end.frames)) where
+    (spelled : end.mute ≡ false → sends_locks_on (held.clock + 1) held.rows ≡ false → AllByRecursion IsFrame (statements_shown end.frames)) where
   abbrev c : ℕ
   c = held.clock + 1
 
@@ -168,7 +168,7 @@ module _ (held : ReplicaStateView) (entries : List Entry) (end : RoundEnded) (is
   sends_all = each_found (IsSentBy held.config held.ring end.mute c) held.rows is_held.ascend sends_there
 
   -- the frames spell all statements that they show, in order
-  same_sent : statements_in (frames_of held.config c held.rows shown_all.ms) ≡ ss
+  same_sent : statements_in (frames_of_heights held.config c held.rows shown_all.ms) ≡ ss
   same_sent = shown_all.sent ∙ all_parted held.rows ss is_held.ascend lawful.order none_unopened
 
   -- what the frames show is what was made
@@ -177,9 +177,9 @@ module _ (held : ReplicaStateView) (entries : List Entry) (end : RoundEnded) (is
       ap (λ ts. made_shown end.mute c held.rows ts) (sym same_sent)
       ∙ is_shown held.config held.ring c end.mute held.rows shown_all.ms is_held.ascend sends_all shown_all.made
 
-  alike : AreShownAlike (frames_of held.config c held.rows shown_all.ms) end.frames
+  alike : AreShownAlike (frames_of_heights held.config c held.rows shown_all.ms) end.frames
   alike =
-      shown_alike held.config (frames_of held.config c held.rows shown_all.ms) end.frames
+      shown_alike held.config (frames_of_heights held.config c held.rows shown_all.ms) end.frames
       (all_right held.config held.ring end.mute c held.rows shown_all.ms sends_all shown_all.made) lawful.frames same_sent
 
 pub ends_show : EndsShow

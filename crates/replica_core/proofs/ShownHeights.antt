@@ -21,7 +21,7 @@ use Rattle.instance.specs.Matching.{MatchesLog}
 use Rattle.instance.specs.Plans.{MaySend}
 use Rattle.instance.proofs.AtClock.{allowed_at}
 use Rattle.instance.proofs.MaySend.{own_if_sent}
-use Rattle.replica_core.specs.RoundEnds.{IsMadeAt, frames_at}
+use Rattle.replica_core.specs.RoundEnds.{IsMadeAt, frames_of_height}
 use Rattle.replica_core.proofs.SentFrames.{statements_in, is_all_signed}
 use Rattle.replica_core.proofs.AllHeights.{of_height}
 use Rattle.replica_core.proofs.OpenEnds.{own_alone, locks_alone}
@@ -61,7 +61,7 @@ at_most_one config id h log c own made may = elim (cases_Bool (nat_eq (place_of 
 pub record IsShownAt (config : Config) (ring : Ring) (mute : Bool) (c : ℕ) (ss : List SignedStatement) (row : InstanceView) : Type 0 where
   pub made : RoundStatement
   pub is_made : IsMadeAt ring mute c row made
-  pub sent : statements_in (frames_at config c row made) ≡ of_height row.height ss
+  pub sent : statements_in (frames_of_height config c row made) ≡ of_height row.height ss
 
 -- the statement of a list of one
 abbrev one_of : List SignedStatement → Option Statement

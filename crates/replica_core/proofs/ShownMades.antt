@@ -13,12 +13,12 @@ use Rattle.ledger_model.specs.Lawful.{IsSentRight, addressee_of}
 use Rattle.instance.specs.declared.round_statement.RoundStatement.{RoundStatement}
 use Rattle.instance.specs.declared.round_statement.RoundStatement.TheVariants as made
 use Rattle.instance.specs.Instances.{InstanceView}
-use Rattle.instance.specs.Plans.{ended, sent_in}
+use Rattle.instance.specs.Plans.{opened_effects, own_statement_sent}
 use Rattle.instance.proofs.MaySend.{own_if_sent}
 use Rattle.height_row.specs.Heights.{AreAscending}
-use Rattle.replica_core.specs.RoundEnds.{IsMadeAt, AreMade, sent_own, sent_on, frames_at, frames_of}
+use Rattle.replica_core.specs.RoundEnds.{IsMadeAt, AreMade, sent_own, sent_on, frames_of_height, frames_of_heights}
 use Rattle.replica_core.specs.ChosenEnds.{all_mute}
-use Rattle.replica_core.specs.ShownEnds.{next_shown, left_next, made_of, made_each, all_unsent, is_some_there, releases, made_shown}
+use Rattle.replica_core.specs.ShownEnds.{next_shown, left_next, made_of, made_each, all_unsent, is_some_there, sends_locks_on, made_shown}
 use Rattle.replica_core.specs.ShownEnds.{AreShownAlike}
 use Rattle.replica_core.proofs.SentHeights.{height_in}
 use Rattle.replica_core.proofs.SentFrames.{statements_in, may_make}
@@ -29,21 +29,21 @@ use Rattle.replica_core.proofs.OpenEnds.{own_read, none_on, none_made}
 
 -- no height sends locks on
 abbrev pub NoneOn : ℕ → List InstanceView → Type 0
-NoneOn c rows = AllByRecursion (λ row. (ended row c).sends_on ≡ []) rows
+NoneOn c rows = AllByRecursion (λ row. (opened_effects row c).sends_on ≡ []) rows
 
 nothing_there : {X : Type 0} (xs : List X) → is_some_there xs ≡ false → xs ≡ []
 nothing_there [] h = refl
 nothing_there (x ∷ xs) h = cc
 
-pub none_on_each : (c : ℕ) (rows : List InstanceView) → releases c rows ≡ false → NoneOn c rows
+pub none_on_each : (c : ℕ) (rows : List InstanceView) → sends_locks_on c rows ≡ false → NoneOn c rows
 none_on_each c [] none = tt
-none_on_each c (row ∷ rows) none = elim (cases_Bool (is_some_there (ended row c).sends_on)) [
+none_on_each c (row ∷ rows) none = elim (cases_Bool (is_some_there (opened_effects row c).sends_on)) [
   | inl some ↦ absurd (cc (rw some at none))
-  | inr here ↦ (nothing_there (ended row c).sends_on here, none_on_each c rows (rw here at none))
+  | inr here ↦ (nothing_there (opened_effects row c).sends_on here, none_on_each c rows (rw here at none))
 ]
 
 -- none does but at place 4
-pub none_before : (c : ℕ) (rows : List InstanceView) → nat_eq (place_of c) release_place ≡ false → releases c rows ≡ false
+pub none_before : (c : ℕ) (rows : List InstanceView) → nat_eq (place_of c) release_place ≡ false → sends_locks_on c rows ≡ false
 none_before c [] early = refl
 none_before c (row ∷ rows) early = rw (none_on row c early) (none_before c rows early)
 
@@ -59,17 +59,17 @@ skipped h (s ∷ ss) later =
 
 module _ (config : Config) (ring : Ring) (c : ℕ) where
   -- what one height sends, where it sends nothing on
-  own_only : (row : InstanceView) (m : RoundStatement) (mute : Bool) → IsMadeAt ring mute c row m → (ended row c).sends_on ≡ []
-      → statements_in (frames_at config c row m) ≡ sent_in m
+  own_only : (row : InstanceView) (m : RoundStatement) (mute : Bool) → IsMadeAt ring mute c row m → (opened_effects row c).sends_on ≡ []
+      → statements_in (frames_of_height config c row m) ≡ own_statement_sent m
   own_only row m mute is_made none =
-      ap (λ (frames : List (List ℕ)). statements_in (map (sent_own config) (sent_in m) ++ map sent_on frames)) none
-      ∙ ap statements_in (append-nil (map (sent_own config) (sent_in m)))
+      ap (λ (frames : List (List ℕ)). statements_in (map (sent_own config) (own_statement_sent m) ++ map sent_on frames)) none
+      ∙ ap statements_in (append-nil (map (sent_own config) (own_statement_sent m)))
       ∙ own_read config m is_made.frame
 
   -- what is read of the frames, one height after the other, is what was made
   pub each_shown : (rows : List InstanceView) (ms : List RoundStatement) → AreAscending rows
       → AllByRecursion (IsSentBy config ring false c) rows → NoneOn c rows → AreMade ring false c rows ms
-      → made_each (map (λ row. row.height) rows) (statements_in (frames_of config c rows ms)) ≡ ms
+      → made_each (map (λ row. row.height) rows) (statements_in (frames_of_heights config c rows ms)) ≡ ms
   each_shown [] [] ascend sent none is = refl
   each_shown [] (m ∷ ms) ascend sent none is = absurd is
   each_shown (row ∷ rows) [] ascend sent none is = absurd is
@@ -79,13 +79,13 @@ module _ (config : Config) (ring : Ring) (c : ℕ) where
       (by m is.0 (each_shown rows ms ascend.1 sent.1 none.1 is.1))
     where
       later : List SignedStatement
-      later = statements_in (frames_of config c rows ms)
+      later = statements_in (frames_of_heights config c rows ms)
 
       above : AllByRecursion (λ s. row.height < height_in s) later
       above = each_height config ring false c (λ n. row.height < n) rows ms ascend.0 sent.1 is.1
 
       by : (x : RoundStatement) → IsMadeAt ring false c row x → made_each (map (λ row. row.height) rows) later ≡ ms
-          → made_each (row.height ∷ map (λ (r : InstanceView). r.height) rows) (sent_in x ++ later) ≡ x ∷ ms
+          → made_each (row.height ∷ map (λ (r : InstanceView). r.height) rows) (own_statement_sent x ++ later) ≡ x ∷ ms
       by made.Mute at rest = (let silent = at.silent in absurd (cc silent))
       by made.Unsent at rest =
           let skips = skipped row.height later above in
@@ -121,14 +121,14 @@ module _ (config : Config) (ring : Ring) (c : ℕ) where
   -- the frames show whatever was made
   pub is_shown : (mute : Bool) (rows : List InstanceView) (ms : List RoundStatement) → AreAscending rows
       → AllByRecursion (IsSentBy config ring mute c) rows → AreMade ring mute c rows ms
-      → made_shown mute c rows (statements_in (frames_of config c rows ms)) ≡ ms
+      → made_shown mute c rows (statements_in (frames_of_heights config c rows ms)) ≡ ms
   is_shown true rows ms ascend sent is = mute_shown rows ms is
-  is_shown false rows ms ascend sent is = elim (cases_Bool (releases c rows)) [
+  is_shown false rows ms ascend sent is = elim (cases_Bool (sends_locks_on c rows)) [
     | inl some ↦ rw some (unsent_shown rows ms (last (cases_Bool (nat_eq (place_of c) release_place)) some) is)
     | inr none ↦ rw none (each_shown rows ms ascend sent (none_on_each c rows none) is)
   ]
     where
-      last : (nat_eq (place_of c) release_place ≡ true) ⊎ (nat_eq (place_of c) release_place ≡ false) → releases c rows ≡ true
+      last : (nat_eq (place_of c) release_place ≡ true) ⊎ (nat_eq (place_of c) release_place ≡ false) → sends_locks_on c rows ≡ true
           → nat_eq (place_of c) release_place ≡ true
       last (inl four) some = four
       last (inr early) some = (let none = none_before c rows early in absurd (cc (sym some ∙ none)))

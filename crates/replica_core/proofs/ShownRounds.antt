@@ -21,13 +21,13 @@ use Rattle.ledger_model.proofs.Lists.{any_mapped, each_weaker}
 use Rattle.instance.specs.declared.round_statement.RoundStatement.{RoundStatement}
 use Rattle.instance.specs.declared.round_statement.RoundStatement.TheVariants as made
 use Rattle.instance.specs.Instances.{InstanceView}
-use Rattle.instance.specs.Plans.{RoundEffectsView, MaySend, ended, IsOwnMade}
+use Rattle.instance.specs.Plans.{RoundEffectsView, MaySend, opened_effects, IsOwnMade}
 use Rattle.height_row.specs.declared.round_closing.RoundClosing.{RoundClosing}
 use Rattle.replica_core.specs.ReplicaStates.{ReplicaStateView, IsWithinLimits, MatchesHistory}
 use Rattle.replica_core.specs.RoundEnds.{AreMade, round_ended, after_end}
 use Rattle.replica_core.specs.ChosenEnds.{all_mute}
 use Rattle.replica_core.specs.Following.{KeepsReplay, IsFollowed}
-use Rattle.replica_core.specs.ShownEnds.{statements_shown, made_each, all_unsent, is_some_there, releases, made_shown, AreSpelled}
+use Rattle.replica_core.specs.ShownEnds.{statements_shown, made_each, all_unsent, is_some_there, sends_locks_on, made_shown, AreSpelled}
 use Rattle.replica_core.specs.ShownEnds.{AreShownAlike, KeepsEnd, ShowsFrames, IsShown, KeepsNone}
 use Rattle.replica_core.proofs.ChosenEnds.{none_made}
 use Rattle.replica_core.proofs.Endings.{over}
@@ -40,24 +40,24 @@ abbrev pub mades : List RoundClosing → List RoundStatement
 mades xs = map (λ x. x.made) xs
 
 -- the frames show a result for each open height, and no more
-pub shown_count : (c : ℕ) (rows : List InstanceView) (xs : List RoundClosing) → map (λ x. x.ending) xs ≡ map (λ row. ended row c) rows
+pub shown_count : (c : ℕ) (rows : List InstanceView) (xs : List RoundClosing) → map (λ x. x.ending) xs ≡ map (λ row. opened_effects row c) rows
     → length (mades xs) ≡ length rows
 shown_count c rows xs endings =
     length-map xs (λ (x : RoundClosing). x.made) ∙ sym (length-map xs (λ (x : RoundClosing). x.ending)) ∙ ap length endings
-    ∙ length-map rows (λ row. ended row c)
+    ∙ length-map rows (λ row. opened_effects row c)
 
-pub closing_count : (c : ℕ) (rows : List InstanceView) (xs : List RoundClosing) → map (λ x. x.ending) xs ≡ map (λ row. ended row c) rows
+pub closing_count : (c : ℕ) (rows : List InstanceView) (xs : List RoundClosing) → map (λ x. x.ending) xs ≡ map (λ row. opened_effects row c) rows
     → length xs ≡ length rows
 closing_count c rows xs endings =
-    sym (length-map xs (λ (x : RoundClosing). x.ending)) ∙ ap length endings ∙ length-map rows (λ row. ended row c)
+    sym (length-map xs (λ (x : RoundClosing). x.ending)) ∙ ap length endings ∙ length-map rows (λ row. opened_effects row c)
 
 -- the endings send locks on where the heights do
 pub endings_release : (c : ℕ) (rows : List InstanceView) (endings : List RoundEffectsView) (b : Bool)
-    → b ≡ list_any (λ e. is_some_there e.sends_on) endings → endings ≡ map (λ row. ended row c) rows
-    → b ≡ releases c rows
+    → b ≡ list_any (λ e. is_some_there e.sends_on) endings → endings ≡ map (λ row. opened_effects row c) rows
+    → b ≡ sends_locks_on c rows
 endings_release c rows endings b is prepared =
     is ∙ ap (list_any (λ (e : RoundEffectsView). is_some_there e.sends_on)) prepared
-    ∙ any_mapped (λ (e : RoundEffectsView). is_some_there e.sends_on) (λ row. ended row c) rows
+    ∙ any_mapped (λ (e : RoundEffectsView). is_some_there e.sends_on) (λ row. opened_effects row c) rows
 
 -- ---- one that makes nothing
 
@@ -74,7 +74,7 @@ unsent_made ring c (row ∷ rows) last =
     (record { silent = refl; may = none; own = tt; signed = tt; frame = tt }, unsent_made ring c rows last)
 
 -- locks are sent on at place 4 alone
-release_last : (c : ℕ) (rows : List InstanceView) → releases c rows ≡ true → nat_eq (place_of c) release_place ≡ true
+release_last : (c : ℕ) (rows : List InstanceView) → sends_locks_on c rows ≡ true → nat_eq (place_of c) release_place ≡ true
 release_last c rows some = elim (cases_Bool (nat_eq (place_of c) release_place)) [
   | inl last ↦ last
   | inr early ↦ (let none = none_before c rows early in absurd (cc (sym some ∙ none)))
@@ -90,12 +90,12 @@ unsent_own config id (row ∷ rows) = (tt, unsent_own config id rows)
 
 -- it makes this at each height
 pub all_of_it : (m : RoundStatement) (c : ℕ) (rows : List InstanceView) (xs : List RoundClosing)
-    → map (λ x. x.ending) xs ≡ map (λ row. ended row c) rows → AllByRecursion (λ x. x.made ≡ m) xs → mades xs ≡ map (λ row. m) rows
+    → map (λ x. x.ending) xs ≡ map (λ row. opened_effects row c) rows → AllByRecursion (λ x. x.made ≡ m) xs → mades xs ≡ map (λ row. m) rows
 all_of_it m c [] [] endings all = refl
 all_of_it m c [] (x ∷ xs) endings all = absurd cc
 all_of_it m c (row ∷ rows) [] endings all = absurd cc
 all_of_it m c (row ∷ rows) (x ∷ xs) endings all =
-    let rest : map (λ x. x.ending) xs ≡ map (λ row. ended row c) rows = cc in
+    let rest : map (λ x. x.ending) xs ≡ map (λ row. opened_effects row c) rows = cc in
     rw all.0 (ap (λ ms. m ∷ ms) (all_of_it m c rows xs rest all.1))
 
 module _ (held : ReplicaStateView) (end : RoundEnded) (is_held : IsWithinLimits held) (early : held.clock < last_round) where
@@ -124,7 +124,7 @@ module _ (held : ReplicaStateView) (end : RoundEnded) (is_held : IsWithinLimits 
 
   module _ (loud : end.mute ≡ false) where
     -- nor does one that sends locks on
-    pub shown_release : (ms : List RoundStatement) → releases c held.rows ≡ true → ms ≡ all_unsent held.rows → IsShown held end ms
+    pub shown_release : (ms : List RoundStatement) → sends_locks_on c held.rows ≡ true → ms ≡ all_unsent held.rows → IsShown held end ms
     shown_release ms some is = subst (IsShown held end) (sym is) (record {
       made = λ entries matches.
           subst (λ b. AreMade held.ring b c held.rows (all_unsent held.rows)) (sym loud)
@@ -136,7 +136,7 @@ module _ (held : ReplicaStateView) (end : RoundEnded) (is_held : IsWithinLimits 
       count = length-map held.rows (λ row. made.Unsent);
     })
 
-    module _ (none_on : releases c held.rows ≡ false) (frames : AllByRecursion IsFrame ss) where
+    module _ (none_on : sends_locks_on c held.rows ≡ false) (frames : AllByRecursion IsFrame ss) where
       -- what the frames show of each height
       shows_each : (entries : List Entry) → MatchesHistory held entries → KeepsEnd held entries end
           → AreMade held.ring false c held.rows (made_each (map (λ row. row.height) held.rows) ss)

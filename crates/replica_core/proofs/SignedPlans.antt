@@ -5,29 +5,29 @@ use Rattle.std.specs.List.{AllByRecursion}
 use Rattle.std.proofs.lemmas.List.{append_assoc, map-append}
 use Rattle.std.proofs.lemmas.List.Recursion.{is_count_by}
 use Rattle.lms_tree.specs.Trees.{Secret}
-use Rattle.key_ring.specs.Signers.{SignerView, leaves_of, key_of}
+use Rattle.key_ring.specs.Signers.{SignerView, leaves_of, public_key_of}
 use Rattle.instance.specs.declared.round_statement.RoundStatement.{RoundStatement}
 use Rattle.instance.specs.declared.round_statement.RoundStatement.TheVariants as made
 use Rattle.instance.specs.declared.round_plan.RoundPlan.{RoundPlan}
 use Rattle.instance.specs.Instances.{InstanceView}
 use Rattle.instance.specs.Laws.{IsFrameMade}
 use Rattle.height_row.specs.declared.round_closing.RoundClosing.{RoundClosing}
-use Rattle.height_row.specs.Heights.{plan_of}
+use Rattle.height_row.specs.Heights.{height_plan}
 use Rattle.replica_core.specs.RoundEnds.{due, SignsFrom}
-use Rattle.replica_core.specs.Signing.{due_at, due_in, SignsPlans}
+use Rattle.replica_core.specs.Signing.{planned_count, due_in, SignsPlans}
 use Rattle.replica_core.specs.ChosenEnds.{IsVerifiedMade}
 use Rattle.ledger_model.proofs.Lists.{each_append}
 
 -- ---- the plans of open heights
 
 -- as many are due as the heights choose to send
-pub due_in-plans : (c : ℕ) (rows : List InstanceView) → due_in (map (plan_of c) rows) ≡ due c rows
+pub due_in-plans : (c : ℕ) (rows : List InstanceView) → due_in (map (height_plan c) rows) ≡ due c rows
 due_in-plans c [] = refl
-due_in-plans c (row ∷ rows) = ap (λ n. due_at (plan_of c row) + n) (due_in-plans c rows)
+due_in-plans c (row ∷ rows) = ap (λ n. planned_count (height_plan c row) + n) (due_in-plans c rows)
 
 -- what signs the plans is what the heights choose, signed
 pub signs_from : (secret : Secret) (leaf c : ℕ) (rows : List InstanceView) (ms : List RoundStatement)
-    → SignsPlans secret leaf (map (plan_of c) rows) ms → SignsFrom secret leaf c rows ms
+    → SignsPlans secret leaf (map (height_plan c) rows) ms → SignsFrom secret leaf c rows ms
 signs_from secret leaf c [] [] all = tt
 signs_from secret leaf c [] (m ∷ ms) all = all
 signs_from secret leaf c (row ∷ rows) [] all = all
@@ -47,7 +47,7 @@ due_in-count plans = is_count_by due_in (λ plan. is_some plan.statement) refl (
 -- ---- one more
 
 -- one more plan adds what it has
-pub due_in-snoc : (plans : List RoundPlan) (plan : RoundPlan) → due_in (plans ++ plan ∷ []) ≡ due_in plans + due_at plan
+pub due_in-snoc : (plans : List RoundPlan) (plan : RoundPlan) → due_in (plans ++ plan ∷ []) ≡ due_in plans + planned_count plan
 due_in-snoc [] plan = omega arith
 due_in-snoc (q ∷ plans) plan = (let rest = due_in-snoc plans plan in omega (arith, rest))
 
@@ -80,7 +80,7 @@ pub record IsSigning (old : SignerView) (plans signed left : List RoundPlan) (cl
     pub all : signed ++ left ≡ plans
     pub endings : map (λ c. c.ending) closings ≡ map (λ plan. plan.ending) signed
     pub signs : SignsPlans old.secret old.used signed (map (λ c. c.made) closings)
-    pub verified : AllByRecursion (λ c. IsVerifiedMade (key_of old.secret) c.made) closings
+    pub verified : AllByRecursion (λ c. IsVerifiedMade (public_key_of old.secret) c.made) closings
     pub frames : AllByRecursion (λ c. IsFrameMade c.made) closings
     pub used : new ≡ record old { used = old.used + due_in signed }
 
@@ -88,14 +88,14 @@ pub record IsSigning (old : SignerView) (plans signed left : List RoundPlan) (cl
 module _ {old : SignerView} {plans signed left : List RoundPlan} {closings : List RoundClosing} {new : SignerView} {plan : RoundPlan}
     (so_far : IsSigning old plans signed (plan ∷ left) closings new) where
   -- the leaf of the next is there
-  pub leaf_there : old.used + due_in plans ≤ leaves_of old.secret → new.used + due_at plan ≤ leaves_of new.secret
+  pub leaf_there : old.used + due_in plans ≤ leaves_of old.secret → new.used + planned_count plan ≤ leaves_of new.secret
   leaf_there leaves =
       let all = ap due_in (sym so_far.all) ∙ due_in-append signed (plan ∷ left) in
       let used = ap (λ k. k.used) so_far.used in
       rw (ap (λ k. k.secret) so_far.used) (omega (arith, all, used, leaves))
 
   -- with it no more are used than are due
-  pub most_next : {newer : SignerView} → newer ≡ record new { used = new.used + due_at plan } → newer.used ≤ old.used + due_in plans
+  pub most_next : {newer : SignerView} → newer ≡ record new { used = new.used + planned_count plan } → newer.used ≤ old.used + due_in plans
   most_next next =
       let all = ap due_in (sym so_far.all) ∙ due_in-append signed (plan ∷ left) in
       let used = ap (λ k. k.used) so_far.used in
@@ -105,11 +105,11 @@ module _ {old : SignerView} {plans signed left : List RoundPlan} {closings : Lis
   -- it is signed, and all of them are so far
   pub signs_next : {newer : SignerView} (closing : RoundClosing) → closing.ending ≡ plan.ending
       → SignsPlans new.secret new.used (plan ∷ []) (closing.made ∷ [])
-      → IsVerifiedMade (key_of new.secret) closing.made → IsFrameMade closing.made → newer ≡ record new { used = new.used + due_at plan }
+      → IsVerifiedMade (public_key_of new.secret) closing.made → IsFrameMade closing.made → newer ≡ record new { used = new.used + planned_count plan }
       → IsSigning old plans (signed ++ plan ∷ []) left (closings ++ closing ∷ []) newer
   signs_next closing ending made verified frame next =
       let added = due_in-snoc signed plan in
-      let more : (old.used + due_in signed) + due_at plan ≡ old.used + due_in (signed ++ plan ∷ []) = omega (arith, added) in
+      let more : (old.used + due_in signed) + planned_count plan ≡ old.used + due_in (signed ++ plan ∷ []) = omega (arith, added) in
       let one = subst (λ (k : SignerView). SignsPlans k.secret k.used (plan ∷ []) (closing.made ∷ [])) so_far.used made in
       record {
         all = rw append_assoc so_far.all;
@@ -117,6 +117,6 @@ module _ {old : SignerView} {plans signed left : List RoundPlan} {closings : Lis
         signs = simp map-append (signs_more old.secret old.used signed (map (λ c. c.made) closings) plan closing.made so_far.signs one);
         verified = each_append _ closings (closing ∷ []) so_far.verified (rw so_far.used at verified, tt);
         frames = each_append _ closings (closing ∷ []) so_far.frames (frame, tt);
-        used = next ∙ ap (λ (k : SignerView). record k { used = k.used + due_at plan }) so_far.used
+        used = next ∙ ap (λ (k : SignerView). record k { used = k.used + planned_count plan }) so_far.used
             ∙ ap (λ n. record old { used = n }) more;
       }

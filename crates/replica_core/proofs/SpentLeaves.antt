@@ -12,20 +12,20 @@ use Rattle.ledger_model.specs.Logs.{is_mute, says_mute}
 use Rattle.ledger_model.specs.Lawful.{clock_at, is_opened}
 use Rattle.key_ring.specs.Signers.{SignerView}
 use Rattle.replica_core.specs.Steps.{UsesLeaves}
-use Rattle.replica_core.specs.Leaves.{signed_at, signed_after, signed_by, due_by, IsExhausted, IsMuteForWant, LeafAccount}
+use Rattle.replica_core.specs.Leaves.{signed_count, signed_after, signed_by, due_by, IsExhausted, IsMuteForWant, LeafAccount}
 use Rattle.replica_core.proofs.Histories.{mute_more}
 
 -- ---- what is signed
 
 -- by one entry more
 pub signed_more : (entries : List Entry) (e : Entry)
-    → signed_by (entries ++ e ∷ []) ≡ signed_by entries + signed_at (clock_at entries + 1) e.reply
+    → signed_by (entries ++ e ∷ []) ≡ signed_by entries + signed_count (clock_at entries + 1) e.reply
 unfolding signed_after
-signed_more entries e = more 0 entries ∙ ap (λ n. signed_after 0 entries + signed_at (n + 1) e.reply) (omega arith)
+signed_more entries e = more 0 entries ∙ ap (λ n. signed_after 0 entries + signed_count (n + 1) e.reply) (omega arith)
   where
     more : (clock : ℕ) (xs : List Entry)
-        → signed_after clock (xs ++ e ∷ []) ≡ signed_after clock xs + signed_at (clock + clock_at xs + 1) e.reply
-    more clock [] = let same = ap (λ n. signed_at (n + 1) e.reply) (the_sum clock) in omega (arith, same)
+        → signed_after clock (xs ++ e ∷ []) ≡ signed_after clock xs + signed_count (clock + clock_at xs + 1) e.reply
+    more clock [] = let same = ap (λ n. signed_count (n + 1) e.reply) (the_sum clock) in omega (arith, same)
       where
         the_sum : (n : ℕ) → n ≡ n + 0
         the_sum n = omega arith
@@ -33,12 +33,12 @@ signed_more entries e = more 0 entries ∙ ap (λ n. signed_after 0 entries + si
         let next : ℕ = clock + cond (is_opened x.reply) 1 0 in
         let rest = more next xs in
         let same : next + clock_at xs ≡ clock + clock_at (x ∷ xs) = omega arith in
-        let last = ap (λ n. signed_at (n + 1) e.reply) same in
+        let last = ap (λ n. signed_count (n + 1) e.reply) same in
         omega (arith, rest, last)
 
 -- a step uses a leaf for each
 pub uses_signed : (old new : SignerView) (clock : ℕ) (r : Reply) → UsesLeaves old clock r new
-    → new.used ≡ old.used + signed_at (clock + 1) r
+    → new.used ≡ old.used + signed_count (clock + 1) r
 uses_signed old new clock (reply.RoundEnded (Ok ended)) uses = elim (cases_Bool (nat_eq (place_of (clock + 1)) release_place)) [
   | inl last ↦ (let same = ap (λ (k : SignerView). k.used) (rw last at uses) in rw last (omega (arith, same)))
   | inr early ↦ (let more = ap (λ (k : SignerView). k.used) ((rw early at uses).0) in rw early more)
@@ -78,7 +78,7 @@ module _ (config : Config) (id leaves : ℕ) where
 
   -- with one entry more, whose statements take a leaf each, and which is mute where it was or too few leaves were left
   pub account_more : (wants : Bool) (used after : ℕ) (entries : List Entry) (e : Entry) → LeafAccount config id leaves used entries
-      → after ≡ used + signed_at (clock_at entries + 1) e.reply → is_mute (entries ++ e ∷ []) ≡ (is_mute entries || wants)
+      → after ≡ used + signed_count (clock_at entries + 1) e.reply → is_mute (entries ++ e ∷ []) ≡ (is_mute entries || wants)
       → (wants ≡ true → leaves < used + due_by config id entries) → LeafAccount config id leaves after (entries ++ e ∷ [])
   account_more wants used after entries e was grown is few =
       let more = signed_more entries e in

@@ -12,10 +12,10 @@ use Rattle.key_ring.specs.Signers.{SignerView}
 use Rattle.instance.specs.declared.round_statement.RoundStatement.{RoundStatement}
 use Rattle.instance.specs.declared.round_statement.RoundStatement.TheVariants as made
 use Rattle.instance.specs.Instances.{InstanceView}
-use Rattle.instance.specs.Plans.{chosen_statement, sent_in}
+use Rattle.instance.specs.Plans.{chosen_statement, own_statement_sent}
 use Rattle.instance.specs.Laws.{IsFrameMade}
 use Rattle.replica_core.specs.ReplicaStates.{ReplicaStateView}
-use Rattle.replica_core.specs.RoundEnds.{sent_own, sent_on, frames_at, frames_of, due, SignsFrom}
+use Rattle.replica_core.specs.RoundEnds.{sent_own, sent_on, frames_of_height, frames_of_heights, due, SignsFrom}
 use Rattle.replica_core.specs.Steps.{AreSignedFrom, UsesLeaves}
 use Rattle.replica_core.specs.ChosenEnds.{all_mute, end_reply}
 use Rattle.replica_core.proofs.SentFrames.{statements_in}
@@ -25,20 +25,20 @@ use Rattle.replica_core.proofs.OpenEnds.{none_on}
 
 module _ (config : Config) (c : ℕ) (early : nat_eq (place_of c) release_place ≡ false) where
   -- the own statement alone is sent at a height
-  own_frame : (row : InstanceView) (m : RoundStatement) → frames_at config c row m ≡ map (sent_own config) (sent_in m)
+  own_frame : (row : InstanceView) (m : RoundStatement) → frames_of_height config c row m ≡ map (sent_own config) (own_statement_sent m)
   own_frame row m =
-      ap (λ frames. map (sent_own config) (sent_in m) ++ map sent_on frames) (none_on row c early)
-      ∙ append-nil (map (sent_own config) (sent_in m))
+      ap (λ frames. map (sent_own config) (own_statement_sent m) ++ map sent_on frames) (none_on row c early)
+      ∙ append-nil (map (sent_own config) (own_statement_sent m))
 
   -- nothing is sent by a mute replica
-  no_frames : (rows : List InstanceView) → frames_of config c rows (all_mute rows) ≡ []
+  no_frames : (rows : List InstanceView) → frames_of_heights config c rows (all_mute rows) ≡ []
   no_frames [] = refl
-  no_frames (row ∷ rows) = ap (λ frames. frames ++ frames_of config c rows (all_mute rows)) (own_frame row made.Mute) ∙ no_frames rows
+  no_frames (row ∷ rows) = ap (λ frames. frames ++ frames_of_heights config c rows (all_mute rows)) (own_frame row made.Mute) ∙ no_frames rows
 
   module _ (keys : SignerView) where
     -- as many frames are sent as statements are due
     count_frames : (leaf : ℕ) (rows : List InstanceView) (ms : List RoundStatement) → SignsFrom keys.secret leaf c rows ms
-        → length (frames_of config c rows ms) ≡ due c rows
+        → length (frames_of_heights config c rows ms) ≡ due c rows
     count_frames leaf [] [] signs = refl
     count_frames leaf [] (m ∷ ms) signs = absurd signs
     count_frames leaf (row ∷ rows) [] signs = absurd signs
@@ -46,26 +46,26 @@ module _ (config : Config) (c : ℕ) (early : nat_eq (place_of c) release_place 
     count_frames leaf (row ∷ rows) (made.Unsent ∷ ms) signs =
         let rest = count_frames leaf rows ms signs.1 in
         let none = ap (λ o. (if is_some o then 1 else 0) + due c rows) signs.0 in
-        ap (λ frames. length (frames ++ frames_of config c rows ms)) (own_frame row made.Unsent) ∙ omega (arith, rest, none)
+        ap (λ frames. length (frames ++ frames_of_heights config c rows ms)) (own_frame row made.Unsent) ∙ omega (arith, rest, none)
     count_frames leaf (row ∷ rows) (made.Sent f ∷ ms) signs =
         let rest = count_frames (leaf + 1) rows ms signs.2 in
         let one = ap (λ o. (if is_some o then 1 else 0) + due c rows) signs.0 in
-        ap (λ frames. length (frames ++ frames_of config c rows ms)) (own_frame row (made.Sent f)) ∙ omega (arith, rest, one)
+        ap (λ frames. length (frames ++ frames_of_heights config c rows ms)) (own_frame row (made.Sent f)) ∙ omega (arith, rest, one)
 
     -- each is signed with the next leaf
     each_next : (leaf : ℕ) (rows : List InstanceView) (ms : List RoundStatement) → SignsFrom keys.secret leaf c rows ms
         → AllByRecursion IsFrameMade ms
-        → AreSignedFrom keys leaf (statements_in (frames_of config c rows ms))
+        → AreSignedFrom keys leaf (statements_in (frames_of_heights config c rows ms))
     each_next leaf [] [] signs frames = tt
     each_next leaf [] (m ∷ ms) signs frames = absurd signs
     each_next leaf (row ∷ rows) [] signs frames = absurd signs
     each_next leaf (row ∷ rows) (made.Mute ∷ ms) signs frames = absurd signs
     each_next leaf (row ∷ rows) (made.Unsent ∷ ms) signs frames =
-        subst (λ first. AreSignedFrom keys leaf (statements_in (first ++ frames_of config c rows ms))) (sym (own_frame row made.Unsent))
+        subst (λ first. AreSignedFrom keys leaf (statements_in (first ++ frames_of_heights config c rows ms))) (sym (own_frame row made.Unsent))
         (each_next leaf rows ms signs.1 frames.1)
     each_next leaf (row ∷ rows) (made.Sent f ∷ ms) signs frames =
-        let rest : List SignedStatement = statements_in (frames_of config c rows ms) in
-        subst (λ first. AreSignedFrom keys leaf (statements_in (first ++ frames_of config c rows ms))) (sym (own_frame row (made.Sent f)))
+        let rest : List SignedStatement = statements_in (frames_of_heights config c rows ms) in
+        subst (λ first. AreSignedFrom keys leaf (statements_in (first ++ frames_of_heights config c rows ms))) (sym (own_frame row (made.Sent f)))
         (subst (λ o. AreSignedFrom keys leaf (cons_option o rest)) (sym (reading-again Two f frames.0))
         (signs.1, each_next (leaf + 1) rows ms signs.2 frames.1))
 
@@ -105,7 +105,7 @@ mute_leaves held keys =
           let none = no_frames held.config c early held.rows in
           let unused = ap length none in
           rw early (
-            with_used keys keys.used (keys.used + length (frames_of held.config c held.rows (all_mute held.rows))) (omega (arith, unused)),
+            with_used keys keys.used (keys.used + length (frames_of_heights held.config c held.rows (all_mute held.rows))) (omega (arith, unused)),
             subst (λ frames. AreSignedFrom keys keys.used (statements_in frames)) (sym none) tt,
           )
     ]
@@ -123,7 +123,7 @@ signed_leaves held keys ms signs frames =
       | inr early ↦
           let count = count_frames held.config c early keys keys.used held.rows ms signs in
           rw early (
-            with_used keys (keys.used + due c held.rows) (keys.used + length (frames_of held.config c held.rows ms)) (omega (arith, count)),
+            with_used keys (keys.used + due c held.rows) (keys.used + length (frames_of_heights held.config c held.rows ms)) (omega (arith, count)),
             each_next held.config c early keys keys.used held.rows ms signs frames,
           )
     ]

@@ -7,7 +7,7 @@ use Rattle.ledger_model.specs.declared.reply.Reply.{Reply}
 use Rattle.ledger_model.specs.declared.reply.Reply.TheVariants as reply
 use Rattle.ledger_model.specs.Signatures.{verifies}
 use Rattle.ledger_model.specs.Spelling.{statement_bytes}
-use Rattle.key_ring.specs.Signers.{SignerView, key_of}
+use Rattle.key_ring.specs.Signers.{SignerView, public_key_of}
 use Rattle.instance.specs.declared.round_statement.RoundStatement.{RoundStatement}
 use Rattle.instance.specs.declared.round_statement.RoundStatement.TheVariants as made
 use Rattle.instance.specs.Instances.{InstanceView}
@@ -46,7 +46,7 @@ MuteEnds =
 abbrev pub SignedEnds : Type 0
 SignedEnds =
     (held : ReplicaStateView) (keys : SignerView) (ms : List RoundStatement)
-    → IsWithinLimits held → held.clock < last_round → held.mute ≡ false → slice_get held.ring held.id ≡ Some (key_of keys.secret)
-    → SignsFrom keys.secret keys.used (held.clock + 1) held.rows ms → AllByRecursion (IsFrameUnder (key_of keys.secret)) ms
+    → IsWithinLimits held → held.clock < last_round → held.mute ≡ false → slice_get held.ring held.id ≡ Some (public_key_of keys.secret)
+    → SignsFrom keys.secret keys.used (held.clock + 1) held.rows ms → AllByRecursion (IsFrameUnder (public_key_of keys.secret)) ms
     → IsStep held event.RoundEnd (end_reply held false ms) (after_end held false ms)
     × UsesLeaves keys held.clock (end_reply held false ms) (record keys { used = keys.used + due (held.clock + 1) held.rows })

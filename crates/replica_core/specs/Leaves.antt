@@ -45,14 +45,14 @@ due_by config id entries = due_within config id entries max_height
 -- ---- what was signed
 
 -- the number of its own statements in a reply that opens round c; at place 4 it sends on locks, which it doesn't sign again
-abbrev pub signed_at : ℕ → Reply → ℕ
-signed_at c (reply.RoundEnded (Ok ended)) = if place_of c == release_place then 0 else length ended.frames
-signed_at c _ = 0
+abbrev pub signed_count : ℕ → Reply → ℕ
+signed_count c (reply.RoundEnded (Ok ended)) = if place_of c == release_place then 0 else length ended.frames
+signed_count c _ = 0
 
 -- the number of its own statements that these entries send, if `clock` rounds were opened before
 unfoldable pub signed_after : ℕ → List Entry → ℕ
 signed_after clock [] = 0
-signed_after clock (e ∷ es) = signed_at (clock + 1) e.reply + signed_after (clock + (if is_opened e.reply then 1 else 0)) es
+signed_after clock (e ∷ es) = signed_count (clock + 1) e.reply + signed_after (clock + (if is_opened e.reply then 1 else 0)) es
 
 -- the number of its own statements that the whole history sends
 abbrev pub signed_by : List Entry → ℕ

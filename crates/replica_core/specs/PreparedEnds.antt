@@ -7,7 +7,7 @@ use Rattle.ledger_model.specs.declared.reply.LastRound.{LastRound}
 use Rattle.ledger_model.specs.declared.reply.Reply.TheVariants as reply
 use Rattle.ledger_model.specs.declared.reply.RoundEnded.{RoundEnded}
 use Rattle.instance.specs.declared.round_statement.RoundStatement.{RoundStatement}
-use Rattle.instance.specs.Plans.{ended, IsOwnMade}
+use Rattle.instance.specs.Plans.{opened_effects, IsOwnMade}
 use Rattle.height_row.specs.declared.round_closing.RoundClosing.{RoundClosing}
 use Rattle.key_ring.specs.Signers.{SignerView}
 use Rattle.replica_core.specs.ReplicaStates.{ReplicaStateView}
@@ -21,24 +21,24 @@ pub record PreparedView : Type 0 where
   pub ended : RoundEnded
 
 -- what each open height makes
-abbrev pub made_in : List RoundClosing → List RoundStatement
-made_in closings = map (λ c. c.made) closings
+abbrev pub made_by_closings : List RoundClosing → List RoundStatement
+made_by_closings closings = map (λ c. c.made) closings
 
 -- the end if the heights close their rounds so
 abbrev pub prepared_of : ReplicaStateView → Bool → List RoundClosing → PreparedView
-prepared_of held mute closings = record { closings = closings; ended = round_ended held mute (made_in closings) }
+prepared_of held mute closings = record { closings = closings; ended = round_ended held mute (made_by_closings closings) }
 
 -- the core state after the end
 abbrev pub after_prepared : ReplicaStateView → PreparedView → ReplicaStateView
-after_prepared held prepared = after_end held prepared.ended.mute (made_in prepared.closings)
+after_prepared held prepared = after_end held prepared.ended.mute (made_by_closings prepared.closings)
 
 -- The end was prepared for this core state: another round follows, each open height ends as it prepares to and makes only what is the
 -- replica's own, and the reply has their frames.
 pub record IsPreparedFor (held : ReplicaStateView) (prepared : PreparedView) : Type 0 where
   pub clock : held.clock < last_round
-  pub endings : map (λ c. c.ending) prepared.closings ≡ map (λ row. ended row (held.clock + 1)) held.rows
+  pub endings : map (λ c. c.ending) prepared.closings ≡ map (λ row. opened_effects row (held.clock + 1)) held.rows
   pub own : AllByRecursion (λ c. IsOwnMade held.config held.id c.made) prepared.closings
-  pub reply : prepared.ended ≡ round_ended held prepared.ended.mute (made_in prepared.closings)
+  pub reply : prepared.ended ≡ round_ended held prepared.ended.mute (made_by_closings prepared.closings)
 
 -- the end was prepared for the core's state, is a step, and uses the leaves that are used now
 pub record IsEndPrepared (old : CoreView) (prepared : PreparedView) (keys : SignerView) : Type 0 where

@@ -19,7 +19,7 @@ use Rattle.key_ring.specs.Signers.{signed_with}
 use Rattle.instance.specs.declared.round_statement.RoundStatement.{RoundStatement}
 use Rattle.instance.specs.declared.round_statement.RoundStatement.TheVariants as made
 use Rattle.instance.specs.Instances.{InstanceView}
-use Rattle.instance.specs.Plans.{MaySend, chosen_statement, ended, is_mute_made, sent_in, IsOwnMade}
+use Rattle.instance.specs.Plans.{MaySend, chosen_statement, opened_effects, is_mute_made, own_statement_sent, IsOwnMade}
 use Rattle.instance.specs.Laws.{IsSignedMade, IsFrameMade}
 use Rattle.height_row.specs.Heights.{closed_each}
 use Rattle.replica_core.specs.ReplicaStates.{ReplicaStateView, IsWithinLimits, MatchesHistory}
@@ -27,15 +27,15 @@ use Rattle.replica_core.specs.ReplicaStates.{ReplicaStateView, IsWithinLimits, M
 -- ---- what the heights make
 
 -- the replica's own statement that is sent, if one is
-abbrev pub statement_in : RoundStatement → Option Statement
-statement_in made.Mute = None
-statement_in made.Unsent = None
-statement_in (made.Sent f) = Some f.statement
+abbrev pub own_statement : RoundStatement → Option Statement
+own_statement made.Mute = None
+own_statement made.Unsent = None
+own_statement (made.Sent f) = Some f.statement
 
 -- the height may make this as round c opens: nothing if the replica is mute; otherwise what may be sent there, signed
 pub record IsMadeAt (ring : Ring) (mute : Bool) (c : ℕ) (row : InstanceView) (m : RoundStatement) : Type 0 where
   pub silent : is_mute_made m ≡ mute
-  pub may : MatchBool mute (Unit {0}) (MaySend row c (statement_in m))
+  pub may : MatchBool mute (Unit {0}) (MaySend row c (own_statement m))
   pub own : IsOwnMade row.config row.id m
   pub signed : IsSignedMade ring m
   pub frame : IsFrameMade m
@@ -58,20 +58,20 @@ abbrev pub sent_on : List ℕ → Sent
 sent_on frame = record { addressee = addressee.All; frame = frame }
 
 -- the frames of one height as round c opens
-abbrev pub frames_at : Config → ℕ → InstanceView → RoundStatement → List Sent
-frames_at config c row m = map (sent_own config) (sent_in m) ++ map sent_on (ended row c).sends_on
+abbrev pub frames_of_height : Config → ℕ → InstanceView → RoundStatement → List Sent
+frames_of_height config c row m = map (sent_own config) (own_statement_sent m) ++ map sent_on (opened_effects row c).sends_on
 
 -- the frames of all open heights, in order
-abbrev pub frames_of : Config → ℕ → List InstanceView → List RoundStatement → List Sent
-frames_of config c (row ∷ rows) (m ∷ ms) = frames_at config c row m ++ frames_of config c rows ms
-frames_of config c [] ms = []
-frames_of config c (row ∷ rows) [] = []
+abbrev pub frames_of_heights : Config → ℕ → List InstanceView → List RoundStatement → List Sent
+frames_of_heights config c (row ∷ rows) (m ∷ ms) = frames_of_height config c row m ++ frames_of_heights config c rows ms
+frames_of_heights config c [] ms = []
+frames_of_heights config c (row ∷ rows) [] = []
 
 -- ---- the end of a round
 
 -- the reply to the round end
 abbrev pub round_ended : ReplicaStateView → Bool → List RoundStatement → RoundEnded
-round_ended held mute ms = record { mute = mute; frames = frames_of held.config (held.clock + 1) held.rows ms }
+round_ended held mute ms = record { mute = mute; frames = frames_of_heights held.config (held.clock + 1) held.rows ms }
 
 -- the core state after the round end
 abbrev pub after_end : ReplicaStateView → Bool → List RoundStatement → ReplicaStateView

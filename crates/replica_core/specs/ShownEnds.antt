@@ -15,9 +15,9 @@ use Rattle.ledger_model.specs.Spelling.{IsFrame}
 use Rattle.instance.specs.declared.round_statement.RoundStatement.{RoundStatement}
 use Rattle.instance.specs.declared.round_statement.RoundStatement.TheVariants as made
 use Rattle.instance.specs.Instances.{InstanceView}
-use Rattle.instance.specs.Plans.{ended, IsOwnMade}
+use Rattle.instance.specs.Plans.{opened_effects, IsOwnMade}
 use Rattle.replica_core.specs.ReplicaStates.{ReplicaStateView, IsWithinLimits, MatchesHistory}
-use Rattle.replica_core.specs.RoundEnds.{AreMade, frames_of}
+use Rattle.replica_core.specs.RoundEnds.{AreMade, frames_of_heights}
 use Rattle.replica_core.specs.ChosenEnds.{all_mute}
 use Rattle.replica_core.specs.Following.{KeepsReplay}
 
@@ -57,13 +57,13 @@ is_some_there [] = false
 is_some_there (x ∷ xs) = true
 
 -- some height sends locks on as round c opens
-abbrev pub releases : ℕ → List InstanceView → Bool
-releases c rows = list_any (λ row. is_some_there (ended row c).sends_on) rows
+abbrev pub sends_locks_on : ℕ → List InstanceView → Bool
+sends_locks_on c rows = list_any (λ row. is_some_there (opened_effects row c).sends_on) rows
 
 -- what each height made; a mute replica makes nothing, and neither does one that sends locks on
 abbrev pub made_shown : Bool → ℕ → List InstanceView → List SignedStatement → List RoundStatement
 made_shown mute c rows ss =
-    if mute then all_mute rows else if releases c rows then all_unsent rows else made_each (map (λ row. row.height) rows) ss
+    if mute then all_mute rows else if sends_locks_on c rows then all_unsent rows else made_each (map (λ row. row.height) rows) ss
 
 -- ---- the frames
 
@@ -89,14 +89,14 @@ KeepsEnd held entries end = KeepsReplay held entries event.RoundEnd (reply.Round
 
 -- if the heights make this, they send the frames of the round end
 abbrev pub ShowsFrames : ReplicaStateView → RoundEnded → List RoundStatement → Type 0
-ShowsFrames held end ms = AreShownAlike (frames_of held.config (held.clock + 1) held.rows ms) end.frames
+ShowsFrames held end ms = AreShownAlike (frames_of_heights held.config (held.clock + 1) held.rows ms) end.frames
 
 -- If a round end is lawful and signed, its frames are those of what they say was made, and each open height may make that.
 abbrev pub EndsShow : Type 0
 EndsShow =
     (held : ReplicaStateView) (entries : List Entry) (end : RoundEnded)
     → IsWithinLimits held → held.clock < last_round → MatchesHistory held entries → KeepsEnd held entries end
-    → (end.mute ≡ false → releases (held.clock + 1) held.rows ≡ false → AllByRecursion IsFrame (statements_shown end.frames))
+    → (end.mute ≡ false → sends_locks_on (held.clock + 1) held.rows ≡ false → AllByRecursion IsFrame (statements_shown end.frames))
     → (let ms = made_shown end.mute (held.clock + 1) held.rows (statements_shown end.frames) in
     AreMade held.ring end.mute (held.clock + 1) held.rows ms × ShowsFrames held end ms)
 

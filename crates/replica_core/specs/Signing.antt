@@ -9,13 +9,13 @@ use Rattle.instance.specs.declared.round_plan.RoundPlan.{RoundPlan}
 use Rattle.replica_core.specs.declared.signing.Spelled.{Spelled}
 
 -- the number of statements in one plan, 0 or 1
-abbrev pub due_at : RoundPlan → ℕ
-due_at plan = if is_some plan.statement then 1 else 0
+abbrev pub planned_count : RoundPlan → ℕ
+planned_count plan = if is_some plan.statement then 1 else 0
 
 -- the number of statements in the plans
 abbrev pub due_in : List RoundPlan → ℕ
 due_in [] = 0
-due_in (plan ∷ plans) = due_at plan + due_in plans
+due_in (plan ∷ plans) = planned_count plan + due_in plans
 
 -- each height makes the statement of its plan, signed with the leaves from `leaf` on, in order
 abbrev pub SignsPlans : Secret → ℕ → List RoundPlan → List RoundStatement → Type 0

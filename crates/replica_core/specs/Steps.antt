@@ -47,13 +47,13 @@ abbrev pub pool_with : Value → List ℕ → Result (Unit {0}) SubmitRefusal �
 pool_with pool tx answer = if is_ok answer then pool ++ tx ∷ [] else pool
 
 -- the same answer, with this value if it is Ok
-abbrev pub with_value : {X F : Type 0} → Result (Unit {0}) F → X → Result X F
-with_value (Ok u) x = Ok x
-with_value (Err f) x = Err f
+abbrev pub with_result : {X F : Type 0} → Result (Unit {0}) F → X → Result X F
+with_result (Ok u) x = Ok x
+with_result (Err f) x = Err f
 
 -- the reply to opening a height
 abbrev pub propose_held : ReplicaStateView → ℕ → Result Value ProposeRefusal
-propose_held held h = with_value (open_answer held.floor held.rows (length held.commits) h)
+propose_held held h = with_result (open_answer held.floor held.rows (length held.commits) h)
     (take (batch_limit held.config.frames) held.pool)
 
 -- the batch that is decided for the height after the committed ones, if one is

@@ -16,15 +16,15 @@ impl<A: Application> ReplicaState<A> {
     ghost use Rattle.std.specs.List.{AllByRecursion};
     ghost use Rattle.ledger_model.specs.Limits.{last_round};
     ghost use Rattle.ledger_model.specs.Spelling.{IsStatement};
-    ghost use Rattle.instance.specs.Plans.{ended, IsOwnMade};
-    ghost use Rattle.height_row.specs.Heights.{plan_of};
+    ghost use Rattle.instance.specs.Plans.{opened_effects, IsOwnMade};
+    ghost use Rattle.height_row.specs.Heights.{height_plan};
     ghost use Rattle.replica_core.specs.ReplicaStates.{IsWithinLimits};
     ghost use Rattle.replica_core.specs.PreparedEnds.{IsPreparedFor, prepared_of, after_prepared};
 
     /// Prepares the end of the open round at each open height, without choosing a statement.
     pub(crate) fn prepare_ends(&self, alloc: Global) -> Result<Vec<RoundEffects>, AllocError>
         requires clock { self.now.clock < last_round }
-        ensures endings { IfOk result (λ endings. endings.items ≡ map (λ row. ended row (self.now.clock + 1)) self.now.rows) }
+        ensures endings { IfOk result (λ endings. endings.items ≡ map (λ row. opened_effects row (self.now.clock + 1)) self.now.rows) }
         ensures held { IsWithinLimits self.now }
     {
         self.rows.prepare_ends(alloc, self.clock)
@@ -33,7 +33,7 @@ impl<A: Application> ReplicaState<A> {
     /// Plans the end of the open round at each open height: chooses the statement to send, and prepares the rest.
     pub(crate) fn plan_ends(&self, alloc: Global) -> Result<Vec<RoundPlan>, AllocError>
         requires clock { self.now.clock < last_round }
-        ensures plans { IfOk result (λ plans. plans.items ≡ map (plan_of (self.now.clock + 1)) self.now.rows) }
+        ensures plans { IfOk result (λ plans. plans.items ≡ map (height_plan (self.now.clock + 1)) self.now.rows) }
         ensures spelled { IfOk result (λ plans. AllByRecursion (λ plan. IfSome plan.statement IsStatement) plans.items) }
         ensures held { IsWithinLimits self.now }
     {
@@ -56,7 +56,7 @@ impl<A: Application> ReplicaState<A> {
         mute: bool,
     ) -> Result<Prepared, AllocError>
         requires clock { self.now.clock < last_round }
-        requires endings { map (λ c. c.ending) closings.items ≡ map (λ row. ended row (self.now.clock + 1)) self.now.rows }
+        requires endings { map (λ c. c.ending) closings.items ≡ map (λ row. opened_effects row (self.now.clock + 1)) self.now.rows }
         requires own { AllByRecursion (λ c. IsOwnMade self.now.config self.now.id c.made) closings.items }
         ensures prepared { IfOk result (λ p. p ≡ prepared_of self.now mute closings.items) }
         ensures ready { IfOk result (IsPreparedFor self.now) }
@@ -91,7 +91,7 @@ impl<A: Application> Core<A> {
     ghost use Rattle.ledger_model.specs.Limits.{last_round};
     ghost use Rattle.ledger_model.specs.Spelling.{IsStatement};
     ghost use Rattle.key_ring.specs.Signers.{leaves_of};
-    ghost use Rattle.height_row.specs.Heights.{plan_of};
+    ghost use Rattle.height_row.specs.Heights.{height_plan};
     ghost use Rattle.replica_core.specs.ReplicaStates.{IsWithinLimits};
     ghost use Rattle.replica_core.specs.Steps.{IsStep, UsesLeaves};
     ghost use Rattle.replica_core.specs.PreparedEnds.{IsPreparedFor, IsEndPrepared, UsesAtMost, after_prepared, prepared_reply, after_prepared_reply};
@@ -117,7 +117,7 @@ impl<A: Application> Core<A> {
     ) -> Result<Prepared, AllocError>
         requires clock { self.old.held.clock < last_round }
         requires held { IsWithinLimits self.old.held }
-        requires plans { plans.items ≡ map (plan_of (self.old.held.clock + 1)) self.old.held.rows }
+        requires plans { plans.items ≡ map (height_plan (self.old.held.clock + 1)) self.old.held.rows }
         requires spelled { AllByRecursion (λ plan. IfSome plan.statement IsStatement) plans.items }
         requires loud { self.old.held.mute ≡ false }
         requires leaves { self.old.keys.used + due_then self.old ≤ leaves_of self.old.keys.secret }
@@ -132,7 +132,7 @@ impl<A: Application> Core<A> {
     /// The plan for each open height as the next round opens.
     fn plan_ends(&self, alloc: Global) -> Result<Vec<RoundPlan>, AllocError>
         requires clock { self.now.held.clock < last_round }
-        ensures plans { IfOk result (λ plans. plans.items ≡ map (plan_of (self.now.held.clock + 1)) self.now.held.rows) }
+        ensures plans { IfOk result (λ plans. plans.items ≡ map (height_plan (self.now.held.clock + 1)) self.now.held.rows) }
         ensures spelled { IfOk result (λ plans. AllByRecursion (λ plan. IfSome plan.statement IsStatement) plans.items) }
         ensures held { IsWithinLimits self.now.held }
     {
@@ -141,7 +141,7 @@ impl<A: Application> Core<A> {
 
     /// Whether fewer leaves are left than there are statements in the plans.
     fn lacks_leaves(&self, plans: &[RoundPlan]) -> bool
-        requires plans { plans.now ≡ map (plan_of (self.now.held.clock + 1)) self.now.held.rows }
+        requires plans { plans.now ≡ map (height_plan (self.now.held.clock + 1)) self.now.held.rows }
         ensures lacks { result ≡ nat_lt (leaves_of self.now.keys.secret) (self.now.keys.used + due_then self.now) }
         ensures leaves { result ≡ false → self.now.keys.used + due_then self.now ≤ leaves_of self.now.keys.secret }
     {

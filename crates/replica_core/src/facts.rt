@@ -153,7 +153,7 @@ impl<A: Application> Core<A> {
     ghost use Rattle.ledger_model.specs.declared.history.Entry.{Entry};
     ghost use Rattle.ledger_model.specs.Limits.{max_height, last_round};
     ghost use Rattle.ledger_model.specs.Commits.{floor_of, decision_at};
-    ghost use Rattle.key_ring.specs.Signers.{key_of, leaves_of};
+    ghost use Rattle.key_ring.specs.Signers.{public_key_of, leaves_of};
     ghost use Rattle.height_row.specs.Heights.{row_at, decided_in};
     ghost use Rattle.replica_core.specs.ReplicaStates.{MatchesHistory};
     ghost use Rattle.replica_core.specs.Leaves.{due_by};
@@ -165,7 +165,7 @@ impl<A: Application> Core<A> {
         ensures id { result ≡ self.now.held.id }
         ensures member { self.now.held.id < self.now.held.config.replicas }
         // The ring has the replica's own key at its number.
-        ensures own_key { slice_get self.now.held.ring self.now.held.id ≡ Some (key_of self.now.keys.secret) }
+        ensures own_key { slice_get self.now.held.ring self.now.held.id ≡ Some (public_key_of self.now.keys.secret) }
     {
         self.kept.id()
     }

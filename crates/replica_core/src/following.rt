@@ -18,11 +18,11 @@ impl<A: Application> ReplicaState<A> {
     ghost use Rattle.ledger_model.specs.declared.event.Event.TheVariants as event;
     ghost use Rattle.ledger_model.specs.declared.reply.Reply.TheVariants as reply;
     ghost use Rattle.ledger_model.specs.Limits.{last_round};
-    ghost use Rattle.instance.specs.Plans.{ended};
+    ghost use Rattle.instance.specs.Plans.{opened_effects};
     ghost use Rattle.replica_core.specs.ReplicaStates.{IsWithinLimits};
     ghost use Rattle.replica_core.specs.Steps.{gives_up};
     ghost use Rattle.replica_core.specs.Following.{IsFollowed, IsSameReplicaState};
-    ghost use Rattle.replica_core.specs.ShownEnds.{releases, IsShown, KeepsNone};
+    ghost use Rattle.replica_core.specs.ShownEnds.{sends_locks_on, IsShown, KeepsNone};
 
     /// How each open height closes its round according to the frames, if the replica is not mute and sends no locks on.
     /// Returns `None` if some height may not make what its frame contains.
@@ -34,11 +34,11 @@ impl<A: Application> ReplicaState<A> {
     ) -> Result<Option<Vec<RoundClosing>>, AllocError>
         requires clock { self.now.clock < last_round }
         requires held { IsWithinLimits self.now }
-        requires endings { endings.items ≡ map (λ row. ended row (self.now.clock + 1)) self.now.rows }
+        requires endings { endings.items ≡ map (λ row. opened_effects row (self.now.clock + 1)) self.now.rows }
         requires loud { end.now.mute ≡ false }
-        requires none_on { releases (self.now.clock + 1) self.now.rows ≡ false }
+        requires none_on { sends_locks_on (self.now.clock + 1) self.now.rows ≡ false }
         ensures shown { IfOk result (λ o. MatchOption o (KeepsNone self.now end.now) (λ closings. IsShown self.now end.now (map (λ c. c.made) closings.items))) }
-        ensures endings { IfOk result (λ o. IfSome o (λ closings. map (λ c. c.ending) closings.items ≡ map (λ row. ended row (self.now.clock + 1)) self.now.rows)) }
+        ensures endings { IfOk result (λ o. IfSome o (λ closings. map (λ c. c.ending) closings.items ≡ map (λ row. opened_effects row (self.now.clock + 1)) self.now.rows)) }
     {
         let Some(frames) = read_frames(alloc, end.frames.as_slice())? else {
             return Ok(None);
@@ -61,9 +61,9 @@ impl<A: Application> ReplicaState<A> {
     ) -> Result<Option<Vec<RoundClosing>>, AllocError>
         requires clock { self.now.clock < last_round }
         requires held { IsWithinLimits self.now }
-        requires endings { endings.items ≡ map (λ row. ended row (self.now.clock + 1)) self.now.rows }
+        requires endings { endings.items ≡ map (λ row. opened_effects row (self.now.clock + 1)) self.now.rows }
         ensures shown { IfOk result (λ o. MatchOption o (KeepsNone self.now end.now) (λ closings. IsShown self.now end.now (map (λ c. c.made) closings.items))) }
-        ensures endings { IfOk result (λ o. IfSome o (λ closings. map (λ c. c.ending) closings.items ≡ map (λ row. ended row (self.now.clock + 1)) self.now.rows)) }
+        ensures endings { IfOk result (λ o. IfSome o (λ closings. map (λ c. c.ending) closings.items ≡ map (λ row. opened_effects row (self.now.clock + 1)) self.now.rows)) }
     {
         if end.mute {
             Ok(Some(make_nothing(alloc, endings, true)?))
@@ -76,9 +76,9 @@ impl<A: Application> ReplicaState<A> {
 
     /// False exactly if the replica was mute and its reply says that it is not.
     fn stays_mute(&self, ended: &RoundEnded) -> bool
-        ensures stays { result ≡ true → self.now.mute ≡ true → ended.now.mute ≡ true }
+        ensures stays { result ≡ true → self.now.mute ≡ true → opened_effects.now.mute ≡ true }
         ensures was { result ≡ false → self.now.mute ≡ true }
-        ensures says { result ≡ false → ended.now.mute ≡ false }
+        ensures says { result ≡ false → opened_effects.now.mute ≡ false }
     {
         !self.is_mute() || ended.mute
     }
@@ -86,7 +86,7 @@ impl<A: Application> ReplicaState<A> {
     /// Follows the end of a round that is not the last one.
     fn follow_round(&mut self, alloc: Global, ended: &RoundEnded) -> Result<bool, AllocError>
         requires clock { self.old.clock < last_round }
-        ensures followed { IfOk result (λ kept. IsFollowed self.old event.RoundEnd (reply.RoundEnded (Ok ended.now)) kept self.new) }
+        ensures followed { IfOk result (λ kept. IsFollowed self.old event.RoundEnd (reply.RoundEnded (Ok opened_effects.now)) kept self.new) }
         ensures same { IsSameReplicaState self.old self.new }
         ensures err { OnErr result (self.new ≡ self.old) }
     {

@@ -16,14 +16,14 @@ pub struct Core<A: Application> {
 
 impl<A: Application> Model for Core<A> {
     ghost use Rattle.std.specs.Prelude.{◌≡◌, slice_get, Some};
-    ghost use Rattle.key_ring.specs.Signers.{key_of};
+    ghost use Rattle.key_ring.specs.Signers.{public_key_of};
     ghost use Rattle.replica_core.specs.Cores.{CoreView};
 
     ghost Value = { CoreView };
 
     ghost view = { λ c. record { held = c.kept; keys = c.signer } };
 
-    ghost invariant = { λ c. slice_get c.kept.ring c.kept.id ≡ Some (key_of c.signer.secret) };
+    ghost invariant = { λ c. slice_get c.kept.ring c.kept.id ≡ Some (public_key_of c.signer.secret) };
 }
 
 impl<A: Application> Core<A> {
@@ -31,7 +31,7 @@ impl<A: Application> Core<A> {
     ghost use Rattle.std.specs.Option.{option_copied};
     ghost use Rattle.ledger_model.specs.Limits.{max_height, last_round};
     ghost use Rattle.ledger_model.specs.Applications.{run};
-    ghost use Rattle.key_ring.specs.Signers.{key_of, leaves_of};
+    ghost use Rattle.key_ring.specs.Signers.{public_key_of, leaves_of};
     ghost use Rattle.replica_core.specs.ReplicaStates.{new_replica_state, MatchesHistory};
     ghost use Rattle.replica_core.specs.Steps.{IsStep, UsesLeaves, gives_up};
     ghost use Rattle.replica_core.specs.Cores.{CoreView, IsSameReplica, leaves_due, is_mute_then};
@@ -49,7 +49,7 @@ impl<A: Application> Core<A> {
         randoms: [RandomState; 2],
     ) -> Result<Self, AllocError>
         requires member { id < config.replicas }
-        requires own_key { slice_get ring id ≡ Some (key_of signer.secret) }
+        requires own_key { slice_get ring id ≡ Some (public_key_of signer.secret) }
         requires opening { A.machine app ≡ run config.kind [] }
         ensures new { IfOk result (λ core. core ≡ record { held = new_replica_state config id ring; keys = signer }) }
         // It matches the empty history.

@@ -3,7 +3,7 @@ ghost use Rattle.std.specs.Prelude.{◌≡◌, ◌++◌, IfOk, OnOk};
 ghost use Rattle.std.specs.List.{flat_map};
 ghost use Rattle.ledger_model.specs.Lawful.{addressee_of};
 ghost use Rattle.replica_core.specs.RoundEnds.{sent_own};
-ghost use Rattle.replica_core.specs.Sending.{frames_in};
+ghost use Rattle.replica_core.specs.Sending.{frames_of_closing};
 
 use height_row::RoundClosing;
 use instance::{OwnFrame, RoundStatement};
@@ -37,7 +37,7 @@ fn push_frames(
     config: &Config,
     closing: &RoundClosing,
 ) -> Result<(), AllocError>
-    ensures { OnOk result (sent.new.items ≡ sent.old.items ++ frames_in config.now closing.now) }
+    ensures { OnOk result (sent.new.items ≡ sent.old.items ++ frames_of_closing config.now closing.now) }
 {
     if let RoundStatement::Sent(own) = &closing.made {
         sent.push(sent_own(config, own)?)?;
@@ -57,7 +57,7 @@ pub(crate) fn frames_to_send(
     config: &Config,
     closings: &[RoundClosing],
 ) -> Result<Vec<Sent>, AllocError>
-    ensures { IfOk result (λ sent. sent.items ≡ flat_map (frames_in config.now) closings.now) }
+    ensures { IfOk result (λ sent. sent.items ≡ flat_map (frames_of_closing config.now) closings.now) }
 {
     let mut sent = Vec::new(alloc);
     for closing in closings {

@@ -4,9 +4,9 @@ ghost use Rattle.std.specs.List.{AllByRecursion};
 ghost use Rattle.ledger_model.specs.Limits.{max_signature_len};
 ghost use Rattle.ledger_model.specs.Signatures.{verifies};
 ghost use Rattle.ledger_model.specs.Spelling.{statement_bytes, IsStatement, IsFrame};
-ghost use Rattle.key_ring.specs.Signers.{leaves_of, key_of, signed_with};
+ghost use Rattle.key_ring.specs.Signers.{leaves_of, public_key_of, signed_with};
 ghost use Rattle.instance.specs.Laws.{IsFrameMade};
-ghost use Rattle.replica_core.specs.Signing.{due_at, due_in, plan_spelled, SignsPlans};
+ghost use Rattle.replica_core.specs.Signing.{planned_count, due_in, plan_spelled, SignsPlans};
 ghost use Rattle.replica_core.specs.ChosenEnds.{IsVerifiedMade};
 
 use height_row::RoundClosing;
@@ -58,7 +58,7 @@ fn spell_all(alloc: Global, plans: Vec<RoundPlan>) -> Result<Vec<Spelled>, Alloc
 fn sign(alloc: Global, signer: &mut Signer, unsigned: &UnsignedFrame) -> Result<Vec<u8>, AllocError>
     requires leaf { signer.old.used < leaves_of signer.old.secret }
     ensures signature { IfOk result (λ signature. signature.items ≡ signed_with signer.old.secret signer.old.used (statement_bytes unsigned.now)) }
-    ensures verifies { IfOk result (λ signature. verifies (key_of signer.old.secret) (statement_bytes unsigned.now) signature.items ≡ true) }
+    ensures verifies { IfOk result (λ signature. verifies (public_key_of signer.old.secret) (statement_bytes unsigned.now) signature.items ≡ true) }
     ensures short { IfOk result (λ signature. length signature.items ≤ max_signature_len) }
     ensures used { signer.new ≡ record signer.old { used = signer.old.used + 1 } }
 {
@@ -78,7 +78,7 @@ fn signed(
     requires leaf { signer.old.used < leaves_of signer.old.secret }
     ensures statement { IfOk result (λ own. own.statement ≡ unsigned) }
     ensures signature { IfOk result (λ own. own.signature ≡ signed_with signer.old.secret signer.old.used (statement_bytes own.statement)) }
-    ensures verifies { IfOk result (λ own. verifies (key_of signer.old.secret) (statement_bytes own.statement) own.signature ≡ true) }
+    ensures verifies { IfOk result (λ own. verifies (public_key_of signer.old.secret) (statement_bytes own.statement) own.signature ≡ true) }
     ensures frame { IfOk result (λ own. IsFrame own) }
     ensures used { signer.new ≡ record signer.old { used = signer.old.used + 1 } }
 {
@@ -91,12 +91,12 @@ fn signed(
 
 /// How one height closes its round: its statement, if it has one, is signed with the next leaf.
 fn make(alloc: Global, signer: &mut Signer, spelled: Spelled) -> Result<RoundClosing, AllocError>
-    requires leaf { signer.old.used + due_at (plan_spelled spelled) ≤ leaves_of signer.old.secret }
+    requires leaf { signer.old.used + planned_count (plan_spelled spelled) ≤ leaves_of signer.old.secret }
     ensures ending { IfOk result (λ closing. closing.ending ≡ spelled.ending) }
     ensures signs { IfOk result (λ closing. SignsPlans signer.old.secret signer.old.used (plan_spelled spelled ∷ []) (closing.made ∷ [])) }
-    ensures verified { IfOk result (λ closing. IsVerifiedMade (key_of signer.old.secret) closing.made) }
+    ensures verified { IfOk result (λ closing. IsVerifiedMade (public_key_of signer.old.secret) closing.made) }
     ensures frame { IfOk result (λ closing. IsFrameMade closing.made) }
-    ensures used { signer.new ≡ record signer.old { used = signer.old.used + due_at (plan_spelled spelled) } }
+    ensures used { signer.new ≡ record signer.old { used = signer.old.used + planned_count (plan_spelled spelled) } }
 {
     let Spelled { statement, ending } = spelled;
     let made = match statement {
@@ -118,7 +118,7 @@ pub(crate) fn make_all(
     ensures endings { IfOk result (λ closings. map (λ c. c.ending) closings.items ≡ map (λ plan. plan.ending) plans.items) }
     // Each height sends the statement of its plan, signed.
     ensures signs { IfOk result (λ closings. SignsPlans signer.old.secret signer.old.used plans.items (map (λ c. c.made) closings.items)) }
-    ensures verified { IfOk result (λ closings. AllByRecursion (λ c. IsVerifiedMade (key_of signer.old.secret) c.made) closings.items) }
+    ensures verified { IfOk result (λ closings. AllByRecursion (λ c. IsVerifiedMade (public_key_of signer.old.secret) c.made) closings.items) }
     ensures frames { IfOk result (λ closings. AllByRecursion (λ c. IsFrameMade c.made) closings.items) }
     // Each statement uses one leaf.
     ensures used { IfOk result (λ _. signer.new ≡ record signer.old { used = signer.old.used + due_in plans.items }) }

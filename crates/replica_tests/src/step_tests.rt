@@ -1,6 +1,6 @@
 //! Replica 0 of four applies events; its ring has only its own key. `examples/refusals.txt` shows some refusals.
 ghost use Rattle.std.specs.Prelude.{◌≡◌, ◌∷◌, [], IfOk};
-ghost use Rattle.key_ring.specs.Signers.{key_of};
+ghost use Rattle.key_ring.specs.Signers.{public_key_of};
 
 use crate::fault::Fault;
 use app_kinds::AnyKind;
@@ -23,7 +23,7 @@ fn signer(alloc: Global) -> Result<Signer, AllocError> {
 }
 
 fn ring_of(alloc: Global, signer: &Signer) -> Result<KeyRing, AllocError>
-    ensures { IfOk result (λ ring. ring ≡ key_of signer.now.secret ∷ []) }
+    ensures { IfOk result (λ ring. ring ≡ public_key_of signer.now.secret ∷ []) }
 {
     Ok(KeyRing::new(vec![in alloc; signer.public()]?))
 }

@@ -40,5 +40,5 @@ query_reply_at None = None
 query_reply_at (Some e) = query_reply_in e.reply
 
 -- the entry is a query with an answer
-abbrev pub IsAnswered : Option Entry → Type 0
-IsAnswered e = (answer : QueryAnswer) × (query_reply_at e ≡ Some (Ok answer))
+abbrev pub IsAnsweredQuery : Option Entry → Type 0
+IsAnsweredQuery e = (answer : QueryAnswer) × (query_reply_at e ≡ Some (Ok answer))

@@ -2,10 +2,6 @@
 use Rattle.std.specs.Prelude.{ℕ, ◌+◌, max, nat_lt, nat_le, Bool, ◌&&◌, List, [], ◌∷◌, ◌++◌, Option, Some, None, is_some, Ok, if◌then◌else◌}
 use Rattle.ledger_model.specs.declared.event.Event.{Event}
 use Rattle.ledger_model.specs.declared.event.Event.TheVariants as event
-use Rattle.ledger_model.specs.declared.history.Entry.{Entry}
-use Rattle.ledger_model.specs.declared.reply.Reply.{Reply}
-use Rattle.ledger_model.specs.declared.reply.Reply.TheVariants as reply
-use Rattle.ledger_model.specs.declared.reply.Sent.{Sent}
 use Rattle.ledger_model.specs.Commits.{decided_at, floor_of}
 use Rattle.ledger_model.specs.Limits.{max_height}
 use Rattle.locked_replica.specs.States.{StateView}
@@ -53,13 +49,3 @@ abbrev pub proposed_in : ℕ → List Event → ℕ
 proposed_in before [] = before
 proposed_in before (event.Propose h ∷ es) = proposed_in (max before h) es
 proposed_in before (_ ∷ es) = proposed_in before es
-
--- the frames that a reply sends
-abbrev pub sent_in : Reply → List Sent
-sent_in (reply.RoundEnded (Ok ended)) = ended.frames
-sent_in _ = []
-
--- the frames that the entry sent, if there is one
-abbrev pub sent_at : Option Entry → List Sent
-sent_at None = []
-sent_at (Some e) = sent_in e.reply

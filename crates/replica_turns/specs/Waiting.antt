@@ -15,8 +15,8 @@ abbrev pub max_early : ℕ
 max_early = 1024
 
 -- the most frames that are due: those that were taken in, and those that waited for the round
-abbrev pub max_due : ℕ
-max_due = 1088
+abbrev pub max_due_frames : ℕ
+max_due_frames = 1088
 
 -- the most frames in all
 abbrev pub max_waiting : ℕ

@@ -4,7 +4,7 @@ ghost use Rattle.ledger_model.specs.Commits.{commits_of, submit_reply};
 ghost use Rattle.ledger_model.specs.Replies.{query_reply};
 ghost use Rattle.ledger_model.specs.declared.event.Event.TheVariants as events;
 ghost use Rattle.locked_replica.specs.Applying.{AppliesEvent, AppliesEach, IsSound};
-ghost use Rattle.replica_turns.specs.Clients.{IsAnswered, IsReceipt, is_tx_len, query_reply_at, submit_events, with_index};
+ghost use Rattle.replica_turns.specs.Clients.{IsAnsweredQuery, IsReceipt, is_tx_len, query_reply_at, submit_events, with_index};
 ghost use Rattle.ledger_model.specs.Limits.{max_history_len};
 
 use abci::Application;
@@ -127,7 +127,7 @@ pub fn submit<A: Application>(
 
 /// The answer to the query at this index of the history. The only error is allocation failure.
 fn answer_at<A: Application>(state: &State<A>, index: usize) -> Result<QueryAnswer, AllocError>
-    requires { IsAnswered (slice_get state.now.entries index) }
+    requires { IsAnsweredQuery (slice_get state.now.entries index) }
     ensures { IfOk result (λ answer. query_reply_at (slice_get state.now.entries index) ≡ Some (Ok answer)) }
 {
     match state.entry(index) {

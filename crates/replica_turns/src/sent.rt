@@ -1,6 +1,6 @@
 //! The frames that an entry of a history sent.
 ghost use Rattle.std.specs.Prelude.{◌≡◌, slice_get, IfOk};
-ghost use Rattle.replica_turns.specs.OwnEvents.{sent_at};
+ghost use Rattle.ledger_model.specs.Worlds.{sent_with};
 
 use abci::Application;
 use ledger_model::Sent;
@@ -31,7 +31,7 @@ pub fn sent_at<A: Application>(
     state: &State<A>,
     index: usize,
 ) -> Result<Vec<Sent>, AllocError>
-    ensures { IfOk result (λ sent. sent.items ≡ sent_at (slice_get state.now.entries index)) }
+    ensures { IfOk result (λ sent. sent.items ≡ sent_with (slice_get state.now.entries index)) }
 {
     match state.entry(index) {
         Some(entry) => match entry.reply() {

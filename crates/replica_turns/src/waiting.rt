@@ -2,7 +2,7 @@
 ghost use Rattle.std.specs.Prelude.{◌≡◌, ◌≤◌, ◌+◌, ◌-◌, ◌++◌, [], length, take, drop, filter, vec_len, OnOk, OnErr};
 ghost use Rattle.ledger_model.specs.Reading.{reading_in};
 ghost use Rattle.replica_turns.specs.Rounds.{is_early};
-ghost use Rattle.replica_turns.specs.Waiting.{WaitingFramesView, max_at_once, max_due, max_early, max_waiting};
+ghost use Rattle.replica_turns.specs.Waiting.{WaitingFramesView, max_at_once, max_due_frames, max_early, max_waiting};
 
 use crate::early::early_of;
 use bytes::Bytes;
@@ -38,13 +38,13 @@ impl Drop for WaitingFrames {
 
 impl Model for WaitingFrames {
     ghost use Rattle.std.specs.Prelude.{◌≤◌, length};
-    ghost use Rattle.replica_turns.specs.Waiting.{WaitingFramesView, max_early, max_due};
+    ghost use Rattle.replica_turns.specs.Waiting.{WaitingFramesView, max_early, max_due_frames};
 
     ghost Value = { WaitingFramesView };
 
     ghost view = { λ w. record { due = w.due.items; early = w.early.items } };
 
-    ghost invariant = { λ w. (length w.due.items ≤ max_due) × (length w.early.items ≤ max_early) };
+    ghost invariant = { λ w. (length w.due.items ≤ max_due_frames) × (length w.early.items ≤ max_early) };
 }
 
 impl WaitingFrames {
@@ -110,7 +110,7 @@ impl WaitingFrames {
     /// Opens the next round: the frames that waited for it are due, up to 1,088 frames in all. The only error is allocation
     /// failure: the frames that waited for the round are dropped.
     pub fn open_round(&mut self) -> Result<(), AllocError>
-        ensures due { OnOk result (self.new.due ≡ take max_due (self.old.due ++ self.old.early)) }
+        ensures due { OnOk result (self.new.due ≡ take max_due_frames (self.old.due ++ self.old.early)) }
         ensures lost { OnErr result (self.new.due ≡ self.old.due) }
         ensures early { self.new.early ≡ [] }
     {

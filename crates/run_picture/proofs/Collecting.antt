@@ -6,19 +6,19 @@ use Rattle.std.proofs.Math.ListN.{drop_of_length-le}
 use Rattle.run_picture.specs.declared.part.Part.{Part}
 use Rattle.run_picture.specs.declared.picture.Shown.{Shown}
 use Rattle.run_picture.specs.Orders.{shown_from, clock_after}
-use Rattle.run_picture.specs.Frames.{sent_at, delivered_at}
+use Rattle.run_picture.specs.Frames.{frames_of_entry, deliveries_of_entry}
 use Rattle.run_picture.specs.Facts.{facts_at}
-use Rattle.run_picture.specs.Collected.{Adds, AddsEntries}
+use Rattle.run_picture.specs.Collected.{Appends, AddsEntries}
 use Rattle.history_parts.proofs.Items.{drop_item}
 use Rattle.run_picture.proofs.Orders.{shown_next, shown_last}
 
 -- what was appended, with what the rest shows, is what all entries show; so is the number of opened rounds
 pub record Reaches (part : Part) (r : ℕ) (entries : List Entry) (old now : Shown) (i clock : ℕ) : Type 0 where
   pub within : clock ≤ i
-  pub sent : now.sent.items ++ shown_from (sent_at part r) i clock (drop i entries) ≡ old.sent.items ++ shown_from
-      (sent_at part r) 0 0 entries
-  pub deliveries : now.deliveries.items ++ shown_from (delivered_at part r) i clock (drop i entries)
-      ≡ old.deliveries.items ++ shown_from (delivered_at part r) 0 0 entries
+  pub sent : now.sent.items ++ shown_from (frames_of_entry part r) i clock (drop i entries) ≡ old.sent.items ++ shown_from
+      (frames_of_entry part r) 0 0 entries
+  pub deliveries : now.deliveries.items ++ shown_from (deliveries_of_entry part r) i clock (drop i entries)
+      ≡ old.deliveries.items ++ shown_from (deliveries_of_entry part r) 0 0 entries
   pub facts : now.facts.items ++ shown_from (facts_at part r) i clock (drop i entries) ≡ old.facts.items ++ shown_from
       (facts_at part r) 0 0 entries
   pub rounds : clock + clock_at (drop i entries) ≡ clock_at entries
@@ -43,12 +43,12 @@ clock_within i clock e h = by (is_opened e.reply)
 pub reaches_next : (part : Part) (r : ℕ) (entries : List Entry) (old now next : Shown) (i clock : ℕ) (e : Entry)
     → i < length entries → e ≡ get_or entries i e
     → Reaches part r entries old now i clock
-    → Adds now next (sent_at part r i clock e) (delivered_at part r i clock e) (facts_at part r i clock e)
+    → Appends now next (frames_of_entry part r i clock e) (deliveries_of_entry part r i clock e) (facts_at part r i clock e)
     → Reaches part r entries old next (i + 1) (clock_after clock e)
 reaches_next part r entries old now next i clock e inside is before adds = record {
   within = clock_within i clock e before.within;
-  sent = shown_next (sent_at part r) now.sent.items next.sent.items old.sent.items i clock entries e inside is before.sent adds.sent;
-  deliveries = shown_next (delivered_at part r) now.deliveries.items next.deliveries.items old.deliveries.items i clock entries e inside is
+  sent = shown_next (frames_of_entry part r) now.sent.items next.sent.items old.sent.items i clock entries e inside is before.sent adds.sent;
+  deliveries = shown_next (deliveries_of_entry part r) now.deliveries.items next.deliveries.items old.deliveries.items i clock entries e inside is
       before.deliveries adds.deliveries;
   facts = shown_next (facts_at part r) now.facts.items next.facts.items old.facts.items i clock entries e inside is before.facts adds.facts;
   rounds = clock_next clock e (drop (i + 1) entries) entries
@@ -59,8 +59,8 @@ reaches_next part r entries old now next i clock e inside is before adds = recor
 pub reaches_all : (part : Part) (r : ℕ) (entries : List Entry) (old now : Shown) (i clock : ℕ) → length entries ≤ i
     → Reaches part r entries old now i clock → AddsEntries part r entries old now
 reaches_all part r entries old now i clock over before = record {
-  sent = shown_last (sent_at part r) now.sent.items old.sent.items i clock entries over before.sent;
-  deliveries = shown_last (delivered_at part r) now.deliveries.items old.deliveries.items i clock entries over before.deliveries;
+  sent = shown_last (frames_of_entry part r) now.sent.items old.sent.items i clock entries over before.sent;
+  deliveries = shown_last (deliveries_of_entry part r) now.deliveries.items old.deliveries.items i clock entries over before.deliveries;
   facts = shown_last (facts_at part r) now.facts.items old.facts.items i clock entries over before.facts;
 }
 

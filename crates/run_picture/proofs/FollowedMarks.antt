@@ -11,7 +11,7 @@ use Rattle.run_picture.specs.declared.part.Part.{Part}
 use Rattle.run_picture.specs.Collected.{FollowsHistory}
 use Rattle.run_picture.specs.Decisions.{decisions_at, decisions_in}
 use Rattle.run_picture.specs.Orders.{shown_after}
-use Rattle.run_picture.specs.Retiring.{retired_at, retired_in}
+use Rattle.run_picture.specs.Retiring.{retired_marks_of, retired_in}
 
 -- what entries show, with one entry more
 shown_after-snoc : {X : Type 0} (shown : List Entry → Entry → List X) (front xs : List Entry) (e : Entry)
@@ -46,11 +46,11 @@ decided_more a b part entries i e start before after same split was now =
 -- the heights that are given up
 pub retired_more : (a b : ReplicaStateView) (part : Part) (entries : List Entry) (i : ℕ) (e : Entry) (start before after : List Mark)
     → IsSameReplicaState a b → take (i + 1) entries ≡ take i entries ++ e ∷ []
-    → before ≡ start ++ retired_in part a.id (take i entries) → after ≡ before ++ retired_at part b.id (take i entries) e
+    → before ≡ start ++ retired_in part a.id (take i entries) → after ≡ before ++ retired_marks_of part b.id (take i entries) e
     → after ≡ start ++ retired_in part a.id (take (i + 1) entries)
 retired_more a b part entries i e start before after same split was now =
-    more (retired_at part a.id) entries i e start before after split was
-    (now ∙ ap (λ r. before ++ retired_at part r (take i entries) e) same.id)
+    more (retired_marks_of part a.id) entries i e start before after split was
+    (now ∙ ap (λ r. before ++ retired_marks_of part r (take i entries) e) same.id)
 
 -- all entries were followed
 pub all_followed : (a : ReplicaStateView) (part : Part) (entries : List Entry) (i : ℕ) (start now : ReplayMarks) → length entries ≤ i

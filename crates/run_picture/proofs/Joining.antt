@@ -6,7 +6,7 @@ use Rattle.std.specs.List.{flat_map}
 use Rattle.std.proofs.Math.ListN.{drop_of_length-le}
 use Rattle.history_parts.proofs.Items.{drop_item}
 use Rattle.run_picture.proofs.Orders.{one_more, no_more}
-use Rattle.run_picture.specs.Xml.{joined}
+use Rattle.run_picture.specs.Xml.{concatenated}
 
 -- the pieces are appended one by one
 abbrev pub Appended : List ℕ → List (List ℕ) → List ℕ → Type 0
@@ -14,15 +14,15 @@ Appended out [] end = end ≡ out
 Appended out (p ∷ ps) end = (next : List ℕ) × ((next ≡ out ++ p) × Appended next ps end)
 
 -- the pieces are then appended as one text
-pub appended_joined : (out : List ℕ) (ps : List (List ℕ)) (end : List ℕ) → Appended out ps end → end ≡ out ++ joined ps
+pub appended_joined : (out : List ℕ) (ps : List (List ℕ)) (end : List ℕ) → Appended out ps end → end ≡ out ++ concatenated ps
 appended_joined out [] end is = is ∙ sym (append-nil out)
 appended_joined out (p ∷ []) end done = done.1.1 ∙ done.1.0
 appended_joined out (p ∷ q ∷ ps) end done =
-    appended_joined done.0 (q ∷ ps) end done.1.1 ∙ ap (λ l. l ++ joined (q ∷ ps)) done.1.0 ∙ append_assoc out p (joined (q ∷ ps))
+    appended_joined done.0 (q ∷ ps) end done.1.1 ∙ ap (λ l. l ++ concatenated (q ∷ ps)) done.1.0 ∙ append_assoc out p (concatenated (q ∷ ps))
 
 -- the same of three pieces, if the last was appended
 pub three_joined : {T E : Type 0} (r : Result T E) (out p q l first second end : List ℕ) → first ≡ out ++ p → second ≡ first ++ q
-    → OnOk r (end ≡ second ++ l) → OnOk r (end ≡ out ++ joined (p ∷ q ∷ l ∷ []))
+    → OnOk r (end ≡ second ++ l) → OnOk r (end ≡ out ++ concatenated (p ∷ q ∷ l ∷ []))
 three_joined r out p q l first second end first_is second_is last =
     subst (λ t. OnOk r (end ≡ t)) (appended_joined out (p ∷ q ∷ l ∷ []) (second ++ l)
     (first, (first_is, (second, (second_is, (second ++ l, (refl, refl))))))) last

@@ -21,9 +21,9 @@ use Rattle.run_picture.specs.Breaks.{IsLongestReplay, ShowsReplay, ShowReplays, 
 use Rattle.run_picture.specs.Collected.{AddsHistory, AddsNothing, AddsRow, Collects, IsNothing}
 use Rattle.run_picture.specs.Decisions.{decisions_in}
 use Rattle.run_picture.specs.Facts.{facts_at}
-use Rattle.run_picture.specs.Frames.{sent_at, delivered_at}
+use Rattle.run_picture.specs.Frames.{frames_of_entry, deliveries_of_entry}
 use Rattle.run_picture.specs.Orders.{shown_by, shown_from, shown_if}
-use Rattle.run_picture.specs.Pictures.{rounds_in, sent_in, delivered_in, facts_in, decided_in, all_retired}
+use Rattle.run_picture.specs.Pictures.{rounds_in, shown_frames, shown_deliveries, facts_in, shown_decisions, all_retired}
 use Rattle.run_picture.specs.Retiring.{retired_in}
 
 -- ---- one row more
@@ -149,8 +149,8 @@ module _ (config : Config) (ring : Ring) (part : Part) (histories : List History
 
   -- each list with the next row
   row_more : (row : Option (List Entry)) → ShowsReplay config ring n (history_of histories n) row
-      → next.shown.sent.items ≡ now.shown.sent.items ++ shown_if (shown_from (sent_at part n) 0 0) row
-      → next.shown.deliveries.items ≡ now.shown.deliveries.items ++ shown_if (shown_from (delivered_at part n) 0 0) row
+      → next.shown.sent.items ≡ now.shown.sent.items ++ shown_if (shown_from (frames_of_entry part n) 0 0) row
+      → next.shown.deliveries.items ≡ now.shown.deliveries.items ++ shown_if (shown_from (deliveries_of_entry part n) 0 0) row
       → next.shown.facts.items ≡ now.shown.facts.items ++ shown_if (shown_from (facts_at part n) 0 0) row
       → next.marks.decisions.items ≡ now.marks.decisions.items ++ shown_if (decisions_in config part n) row
       → next.marks.retired.items ≡ now.marks.retired.items ++ shown_if (retired_in part n) row
@@ -161,9 +161,9 @@ module _ (config : Config) (ring : Ring) (part : Part) (histories : List History
     count = counted before.rows before.count;
     replays = replays-snoc config ring histories 0 before.rows row before.replays
         (subst (λ k. ShowsReplay config ring k (history_of histories k) row) (at before.rows before.count) shows);
-    sent = list_more (λ r. shown_from (sent_at part r) 0 0) before.rows row n now.shown.sent.items next.shown.sent.items before.count
+    sent = list_more (λ r. shown_from (frames_of_entry part r) 0 0) before.rows row n now.shown.sent.items next.shown.sent.items before.count
         before.sent sent;
-    deliveries = list_more (λ r. shown_from (delivered_at part r) 0 0) before.rows row n now.shown.deliveries.items
+    deliveries = list_more (λ r. shown_from (deliveries_of_entry part r) 0 0) before.rows row n now.shown.deliveries.items
         next.shown.deliveries.items before.count before.deliveries deliveries;
     facts = list_more (λ r. shown_from (facts_at part r) 0 0) before.rows row n now.shown.facts.items next.shown.facts.items before.count
         before.facts facts;

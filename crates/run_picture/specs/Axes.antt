@@ -2,7 +2,7 @@
 use Rattle.std.specs.Prelude.{ℕ, zero, suc, ◌+◌, ◌==◌, List, [], ◌∷◌, ◌++◌, codes, decimal, Option, Some, None, slice_get, if◌then◌else◌}
 use Rattle.ledger_model.specs.Rounds.{phase_of, place_of, owner_of}
 use Rattle.run_picture.specs.declared.layout.Layout.{Layout}
-use Rattle.run_picture.specs.Xml.{joined}
+use Rattle.run_picture.specs.Xml.{concatenated}
 use Rattle.run_picture.specs.Layouts.{column_x, row_y, width_of, bottom_of}
 use Rattle.run_picture.specs.Shapes.{shape_text, name_text, word_text, down_text, band_text}
 
@@ -15,28 +15,28 @@ row_class None = codes "row absent"
 
 -- a replica's number, and how many rounds it opened, if its history was handed in
 abbrev pub row_words : ℕ → Option ℕ → List ℕ
-row_words r (Some n) = joined (codes "replica " ∷ decimal r ∷ codes " opened " ∷ decimal n ∷ codes " rounds" ∷ [])
-row_words r None = joined (codes "replica " ∷ decimal r ∷ codes ": no history was handed in" ∷ [])
+row_words r (Some n) = concatenated (codes "replica " ∷ decimal r ∷ codes " opened " ∷ decimal n ∷ codes " rounds" ∷ [])
+row_words r None = concatenated (codes "replica " ∷ decimal r ∷ codes ": no history was handed in" ∷ [])
 
 -- a replica's row
 abbrev pub row_text : Layout → ℕ → Option ℕ → List ℕ
 row_text l r opened =
-    joined (codes "<g><title>" ∷ row_words r opened ∷ codes "</title>" ∷ shape_text (row_class opened) 0 (row_y r) (band_text (width_of l))
+    concatenated (codes "<g><title>" ∷ row_words r opened ∷ codes "</title>" ∷ shape_text (row_class opened) 0 (row_y r) (band_text (width_of l))
     ∷ name_text 8 (row_y r + 16) (codes "replica") r ∷ codes "</g>\n" ∷ [])
 
 -- the number, if there is one
-abbrev pub flat : Option (Option ℕ) → Option ℕ
-flat (Some o) = o
-flat None = None
+abbrev pub known_number : Option (Option ℕ) → Option ℕ
+known_number (Some o) = o
+known_number None = None
 
 -- the number of rounds that replica r opened, if its history was handed in
 abbrev pub row_of : List (Option ℕ) → ℕ → Option ℕ
-row_of rounds r = flat (slice_get rounds r)
+row_of rounds r = known_number (slice_get rounds r)
 
 -- the rows of n replicas, from replica r on
-abbrev pub rows_from : Layout → List (Option ℕ) → ℕ → ℕ → List ℕ
-rows_from l rounds r zero = []
-rows_from l rounds r (suc n) = row_text l r (row_of rounds r) ++ rows_from l rounds (r + 1) n
+abbrev pub axis_rows_from : Layout → List (Option ℕ) → ℕ → ℕ → List ℕ
+axis_rows_from l rounds r zero = []
+axis_rows_from l rounds r (suc n) = row_text l r (row_of rounds r) ++ axis_rows_from l rounds (r + 1) n
 
 -- ---- rounds
 
@@ -48,33 +48,33 @@ place_word p =
 -- what a round is
 abbrev pub round_words : ℕ → List ℕ → ℕ → ℕ → List ℕ
 round_words c place k owner =
-    joined (codes "round " ∷ decimal c ∷ codes ": " ∷ place ∷ codes ", in phase " ∷ decimal k ∷ codes " of replica " ∷ decimal owner ∷ [])
+    concatenated (codes "round " ∷ decimal c ∷ codes ": " ∷ place ∷ codes ", in phase " ∷ decimal k ∷ codes " of replica " ∷ decimal owner ∷ [])
 
 -- the names above a round
 abbrev pub names_text : ℕ → ℕ → List ℕ → ℕ → ℕ → List ℕ
 names_text x c place k owner =
-    joined (name_text (x + 4) 14 (codes "phase") k ∷ name_text (x + 4) 28 (codes "owner") owner ∷ name_text (x + 4) 42 (codes "round") c
+    concatenated (name_text (x + 4) 14 (codes "phase") k ∷ name_text (x + 4) 28 (codes "owner") owner ∷ name_text (x + 4) 42 (codes "round") c
     ∷ word_text (x + 4) 56 place ∷ [])
 
 -- the line at which a round begins, and the cell of its owner
 abbrev pub grid_text : Layout → ℕ → List ℕ → ℕ → List ℕ
 grid_text l x place owner =
-    joined (shape_text (codes "owner") x (row_y owner) (codes "h84v112h-84z") ∷ shape_text place x 4 (down_text (bottom_of l)) ∷ [])
+    concatenated (shape_text (codes "owner") x (row_y owner) (codes "h84v112h-84z") ∷ shape_text place x 4 (down_text (bottom_of l)) ∷ [])
 
 -- a round whose place has this word, and whose phase k has this owner
-abbrev pub round_at : Layout → ℕ → List ℕ → ℕ → ℕ → List ℕ
-round_at l c place k owner =
-    joined (codes "<g><title>" ∷ round_words c place k owner ∷ codes "</title>" ∷ grid_text l (column_x l c) place owner
+abbrev pub round_axis : Layout → ℕ → List ℕ → ℕ → ℕ → List ℕ
+round_axis l c place k owner =
+    concatenated (codes "<g><title>" ∷ round_words c place k owner ∷ codes "</title>" ∷ grid_text l (column_x l c) place owner
     ∷ names_text (column_x l c) c place k owner ∷ codes "</g>\n" ∷ [])
 
 -- a round from 1 on
 abbrev pub round_text : Layout → ℕ → List ℕ
-round_text l c = round_at l c (place_word (place_of c)) (phase_of c) (owner_of l.config (phase_of c))
+round_text l c = round_axis l c (place_word (place_of c)) (phase_of c) (owner_of l.config (phase_of c))
 
 -- the time before the first round
 abbrev pub start_text : Layout → List ℕ
 start_text l =
-    joined (codes "<g><title>before round 1</title>" ∷ shape_text (codes "start") (column_x l 0) 4 (down_text (bottom_of l))
+    concatenated (codes "<g><title>before round 1</title>" ∷ shape_text (codes "start") (column_x l 0) 4 (down_text (bottom_of l))
     ∷ word_text (column_x l 0 + 4) 42 (codes "start") ∷ codes "</g>\n" ∷ [])
 
 -- a round, or the time before the first

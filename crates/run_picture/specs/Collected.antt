@@ -16,14 +16,14 @@ use Rattle.run_picture.specs.declared.picture.Shown.{Shown}
 use Rattle.run_picture.specs.declared.picture.Collected.{Collected}
 use Rattle.run_picture.specs.Orders.{shown_from}
 use Rattle.run_picture.specs.Breaks.{IsLongestReplay, ShowReplays, FindsBreak, break_after}
-use Rattle.run_picture.specs.Frames.{sent_at, delivered_at}
+use Rattle.run_picture.specs.Frames.{frames_of_entry, deliveries_of_entry}
 use Rattle.run_picture.specs.Facts.{facts_at}
 use Rattle.run_picture.specs.Decisions.{decisions_at, decisions_in}
-use Rattle.run_picture.specs.Retiring.{retired_at, retired_in}
-use Rattle.run_picture.specs.Pictures.{rounds_in, sent_in, delivered_in, facts_in, decided_in, all_retired}
+use Rattle.run_picture.specs.Retiring.{retired_marks_of, retired_in}
+use Rattle.run_picture.specs.Pictures.{rounds_in, shown_frames, shown_deliveries, facts_in, shown_decisions, all_retired}
 
 -- these frames, deliveries and facts are appended
-pub record Adds (old new : Shown) (ss : List SentFrame) (ds : List Delivery) (fs : List Mark) : Type 0 where
+pub record Appends (old new : Shown) (ss : List SentFrame) (ds : List Delivery) (fs : List Mark) : Type 0 where
   pub sent : new.sent.items ≡ old.sent.items ++ ss
   pub deliveries : new.deliveries.items ≡ old.deliveries.items ++ ds
   pub facts : new.facts.items ≡ old.facts.items ++ fs
@@ -31,7 +31,7 @@ pub record Adds (old new : Shown) (ss : List SentFrame) (ds : List Delivery) (fs
 -- what replica r's entries show is appended
 abbrev pub AddsEntries : Part → ℕ → List Entry → Shown → Shown → Type 0
 AddsEntries part r entries old new =
-    Adds old new (shown_from (sent_at part r) 0 0 entries) (shown_from (delivered_at part r) 0 0 entries)
+    Appends old new (shown_from (frames_of_entry part r) 0 0 entries) (shown_from (deliveries_of_entry part r) 0 0 entries)
     (shown_from (facts_at part r) 0 0 entries)
 
 -- entry e, of this index, is taken exactly if it continues each replay that the follower matches; what it decides and gives up is then
@@ -45,7 +45,7 @@ pub record FollowsEntry (part : Part) (index : ℕ) (e : Entry) (old new : Follo
     pub decisions : kept ≡ true → (front : List Entry) → MatchesHistory old.held front → length front ≡ index
         → after.decisions.items ≡ before.decisions.items ++ decisions_at old.held.config part old.held.id front e
     pub retired : kept ≡ true → (front : List Entry) → MatchesHistory old.held front → length front ≡ index
-        → after.retired.items ≡ before.retired.items ++ retired_at part old.held.id front e
+        → after.retired.items ≡ before.retired.items ++ retired_marks_of part old.held.id front e
 
 -- replica r's entries were followed as far as they are a replay: their number is returned, and what they decide and give up is appended
 pub record FollowsHistory (config : Config) (ring : Ring) (part : Part) (r : ℕ) (entries : List Entry) (before after : ReplayMarks)
@@ -89,10 +89,10 @@ pub record Collects (config : Config) (ring : Ring) (part : Part) (histories : L
   pub rows : List (Option (List Entry))
   pub count : length rows ≡ n
   pub replays : ShowReplays config ring histories 0 rows
-  pub sent : now.shown.sent.items ≡ sent_in part rows
-  pub deliveries : now.shown.deliveries.items ≡ delivered_in part rows
+  pub sent : now.shown.sent.items ≡ shown_frames part rows
+  pub deliveries : now.shown.deliveries.items ≡ shown_deliveries part rows
   pub facts : now.shown.facts.items ≡ facts_in part rows
-  pub decisions : now.marks.decisions.items ≡ decided_in config part rows
+  pub decisions : now.marks.decisions.items ≡ shown_decisions config part rows
   pub retired : now.marks.retired.items ≡ all_retired part rows
   pub rounds : now.rounds.items ≡ rounds_in rows
   pub breaks : FindsBreak config ring histories n now.first_break

@@ -26,13 +26,13 @@ moment_of r i c = record { replica = r; entry = i; round = c }
 -- ---- what is sent
 
 -- the frame at place j of those that are sent, with its statement
-abbrev pub frame_of : Moment → ℕ → Sent → SentFrame
-frame_of m j sent =
+abbrev pub shown_frame : Moment → ℕ → Sent → SentFrame
+shown_frame m j sent =
     record { at = m; place = j; addressee = sent.addressee; bytes = sent.frame; statement = statement_in sent.frame }
 
 -- the frame, if the picture shows what it is about
 abbrev pub frame_shown : Part → Moment → ℕ → Sent → List SentFrame
-frame_shown part m j sent = if has_statement part (statement_in sent.frame) then frame_of m j sent ∷ [] else []
+frame_shown part m j sent = if has_statement part (statement_in sent.frame) then shown_frame m j sent ∷ [] else []
 
 -- these frames, of which the first has place j
 abbrev pub frames_from : Part → Moment → ℕ → List Sent → List SentFrame
@@ -40,18 +40,18 @@ frames_from part m j [] = []
 frames_from part m j (s ∷ ss) = frame_shown part m j s ++ frames_from part m (j + 1) ss
 
 -- the frames, if their round is shown
-abbrev pub frames_in : Part → ℕ → ℕ → Option ℕ → List Sent → List SentFrame
-frames_in part r i None frames = []
-frames_in part r i (Some c) frames = frames_from part (moment_of r i c) 0 frames
+abbrev pub frames_of_round : Part → ℕ → ℕ → Option ℕ → List Sent → List SentFrame
+frames_of_round part r i None frames = []
+frames_of_round part r i (Some c) frames = frames_from part (moment_of r i c) 0 frames
 
 -- the frames that the reply sends as it opens the next round
-abbrev pub sent_by : Part → ℕ → ℕ → ℕ → Reply → List SentFrame
-sent_by part r i clock (reply.RoundEnded (Ok ended)) = frames_in part r i (drawn_round part (clock + 1)) ended.frames
-sent_by part r i clock _ = []
+abbrev pub frames_of_reply : Part → ℕ → ℕ → ℕ → Reply → List SentFrame
+frames_of_reply part r i clock (reply.RoundEnded (Ok ended)) = frames_of_round part r i (drawn_round part (clock + 1)) ended.frames
+frames_of_reply part r i clock _ = []
 
 -- the frames that replica r's entry i sends
-abbrev pub sent_at : Part → ℕ → ℕ → ℕ → Entry → List SentFrame
-sent_at part r i clock e = sent_by part r i clock e.reply
+abbrev pub frames_of_entry : Part → ℕ → ℕ → ℕ → Entry → List SentFrame
+frames_of_entry part r i clock e = frames_of_reply part r i clock e.reply
 
 -- ---- what is delivered
 
@@ -66,11 +66,11 @@ delivery_in part r i (Some c) frame given =
     if has_statement part (statement_in frame) then delivery_of (moment_of r i c) frame given ∷ [] else []
 
 -- the delivery that an event and its reply are, if they are one
-abbrev pub delivered_by : Part → ℕ → ℕ → ℕ → Event → Reply → List Delivery
-delivered_by part r i clock (event.Deliver frame) (reply.Delivered given) =
+abbrev pub deliveries_of_reply : Part → ℕ → ℕ → ℕ → Event → Reply → List Delivery
+deliveries_of_reply part r i clock (event.Deliver frame) (reply.Delivered given) =
     delivery_in part r i (drawn_round part clock) frame given
-delivered_by part r i clock _ _ = []
+deliveries_of_reply part r i clock _ _ = []
 
 -- what is delivered to replica r with entry i
-abbrev pub delivered_at : Part → ℕ → ℕ → ℕ → Entry → List Delivery
-delivered_at part r i clock e = delivered_by part r i clock e.event e.reply
+abbrev pub deliveries_of_entry : Part → ℕ → ℕ → ℕ → Entry → List Delivery
+deliveries_of_entry part r i clock e = deliveries_of_reply part r i clock e.event e.reply

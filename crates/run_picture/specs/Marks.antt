@@ -6,7 +6,7 @@ use Rattle.run_picture.specs.declared.entry_facts.Fact.TheVariants as fact
 use Rattle.run_picture.specs.declared.entry_facts.Mark.{Mark}
 use Rattle.run_picture.specs.declared.layout.Layout.{Layout}
 use Rattle.run_picture.specs.declared.marks.Spot.{Spot}
-use Rattle.run_picture.specs.Xml.{joined, value_text}
+use Rattle.run_picture.specs.Xml.{concatenated, value_xml}
 use Rattle.run_picture.specs.Layouts.{column_x, lane_y}
 use Rattle.run_picture.specs.Words.{place_words}
 use Rattle.run_picture.specs.Shapes.{shape_text, label_text}
@@ -37,11 +37,11 @@ fact_x fact.Retires = 42
 
 -- what is done at a height, and the value
 abbrev pub value_words : ℕ → List ℕ → Value → List ℕ
-value_words h word v = joined (codes "height " ∷ decimal h ∷ codes " " ∷ word ∷ codes " " ∷ value_text v ∷ [])
+value_words h word v = concatenated (codes "height " ∷ decimal h ∷ codes " " ∷ word ∷ codes " " ∷ value_xml v ∷ [])
 
 -- what is done at a height
 abbrev pub done_words : ℕ → List ℕ → List ℕ
-done_words h word = joined (codes "height " ∷ decimal h ∷ codes " " ∷ word ∷ [])
+done_words h word = concatenated (codes "height " ∷ decimal h ∷ codes " " ∷ word ∷ [])
 
 -- what a replica does at a height
 abbrev pub fact_words : Fact → ℕ → List ℕ
@@ -58,7 +58,7 @@ mark_x l k m = column_x l m.at.round + fact_x m.fact + 11 * k
 -- a mark of height h at a point
 abbrev pub mark_at : Mark → ℕ → ℕ → ℕ → List ℕ
 mark_at m h x y =
-    joined (codes "<g><title>" ∷ fact_words m.fact h ∷ place_words m.at.replica m.at.round m.at.entry ∷ codes "</title>"
+    concatenated (codes "<g><title>" ∷ fact_words m.fact h ∷ place_words m.at.replica m.at.round m.at.entry ∷ codes "</title>"
     ∷ shape_text (fact_class m.fact) x y (fact_outline m.fact) ∷ label_text x y h ∷ codes "</g>\n" ∷ [])
 
 -- a mark, which has the number k of those at one spot

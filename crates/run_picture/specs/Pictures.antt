@@ -12,7 +12,7 @@ use Rattle.run_picture.specs.declared.deliveries.Delivery.{Delivery}
 use Rattle.run_picture.specs.declared.picture.Picture.{Picture}
 use Rattle.run_picture.specs.Orders.{shown_from, shown_by}
 use Rattle.run_picture.specs.Breaks.{ShowReplays, FindsBreak}
-use Rattle.run_picture.specs.Frames.{sent_at, delivered_at}
+use Rattle.run_picture.specs.Frames.{frames_of_entry, deliveries_of_entry}
 use Rattle.run_picture.specs.Facts.{facts_at, locks_held}
 use Rattle.run_picture.specs.Decisions.{decisions_in}
 use Rattle.run_picture.specs.Retiring.{retired_in}
@@ -23,20 +23,20 @@ abbrev pub rounds_in : List (Option (List Entry)) → List (Option ℕ)
 rounds_in shown = map (option_map clock_at) shown
 
 -- the frames that these entries send in the part
-abbrev pub sent_in : Part → List (Option (List Entry)) → List SentFrame
-sent_in part shown = shown_by (λ r. shown_from (sent_at part r) 0 0) 0 shown
+abbrev pub shown_frames : Part → List (Option (List Entry)) → List SentFrame
+shown_frames part shown = shown_by (λ r. shown_from (frames_of_entry part r) 0 0) 0 shown
 
 -- what these entries deliver in the part
-abbrev pub delivered_in : Part → List (Option (List Entry)) → List Delivery
-delivered_in part shown = shown_by (λ r. shown_from (delivered_at part r) 0 0) 0 shown
+abbrev pub shown_deliveries : Part → List (Option (List Entry)) → List Delivery
+shown_deliveries part shown = shown_by (λ r. shown_from (deliveries_of_entry part r) 0 0) 0 shown
 
 -- what these entries do at heights in the part
 abbrev pub facts_in : Part → List (Option (List Entry)) → List Mark
 facts_in part shown = shown_by (λ r. shown_from (facts_at part r) 0 0) 0 shown
 
 -- what these entries decide in the part
-abbrev pub decided_in : Config → Part → List (Option (List Entry)) → List Mark
-decided_in config part shown = shown_by (decisions_in config part) 0 shown
+abbrev pub shown_decisions : Config → Part → List (Option (List Entry)) → List Mark
+shown_decisions config part shown = shown_by (decisions_in config part) 0 shown
 
 -- the heights that these entries give up in the part
 abbrev pub all_retired : Part → List (Option (List Entry)) → List Mark
@@ -51,10 +51,10 @@ pub record IsPictureOf (cluster : Config) (ring : Ring) (histories : List Histor
   pub config : p.config ≡ cluster
   pub part : p.part ≡ drawn
   pub rounds : p.rounds.items ≡ rounds_in shown
-  pub sent : p.sent.items ≡ sent_in drawn shown
-  pub arrivals : p.arrivals.items ≡ map (arrival_of p.sent.items) (delivered_in drawn shown)
+  pub sent : p.sent.items ≡ shown_frames drawn shown
+  pub arrivals : p.arrivals.items ≡ map (arrival_of p.sent.items) (shown_deliveries drawn shown)
   pub facts : p.facts.items ≡ facts_in drawn shown
   pub locks : p.locks.items ≡ locks_held p.sent.items
-  pub decisions : p.decisions.items ≡ decided_in cluster drawn shown
+  pub decisions : p.decisions.items ≡ shown_decisions cluster drawn shown
   pub retired : p.retired.items ≡ all_retired drawn shown
   pub breaks : FindsBreak cluster ring histories cluster.replicas p.first_break

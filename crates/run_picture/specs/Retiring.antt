@@ -20,9 +20,9 @@ abbrev pub retired_marks : Part → ℕ → ℕ → ℕ → List ℕ → List Ma
 retired_marks part r i clock heights = flat_map (λ h. mark_in part r i (drawn_round part clock) h fact.Retires) heights
 
 -- the marks of what entry e gives up after these entries
-abbrev pub retired_at : Part → ℕ → List Entry → Entry → List Mark
-retired_at part r front e = retired_marks part r (length front) (clock_at front) (retired_with front e)
+abbrev pub retired_marks_of : Part → ℕ → List Entry → Entry → List Mark
+retired_marks_of part r front e = retired_marks part r (length front) (clock_at front) (retired_with front e)
 
 -- the heights that replica r's entries give up
 abbrev pub retired_in : Part → ℕ → List Entry → List Mark
-retired_in part r entries = shown_after (retired_at part r) [] entries
+retired_in part r entries = shown_after (retired_marks_of part r) [] entries

@@ -11,12 +11,12 @@ use Rattle.ledger_model.specs.declared.statement.Statement.TheVariants as statem
 use Rattle.ledger_model.specs.Values.{Value}
 use Rattle.ledger_model.specs.Causes.{cause_text}
 use Rattle.run_picture.specs.declared.sent_frames.SentFrame.{SentFrame}
-use Rattle.run_picture.specs.Xml.{joined, value_text, values_text}
+use Rattle.run_picture.specs.Xml.{concatenated, value_xml, values_text}
 
 -- `report of height 1 and phase 2 by replica 0`
 abbrev pub head_words : List ℕ → ℕ → ℕ → ℕ → List ℕ
 head_words kind h p r =
-    joined (kind ∷ codes " of height " ∷ decimal h ∷ codes " and phase " ∷ decimal p ∷ codes " by replica " ∷ decimal r ∷ [])
+    concatenated (kind ∷ codes " of height " ∷ decimal h ∷ codes " and phase " ∷ decimal p ∷ codes " by replica " ∷ decimal r ∷ [])
 
 -- the proper values of a report
 abbrev pub proper_words : Bool → List Value → List ℕ
@@ -26,16 +26,16 @@ proper_words false vs = values_text vs
 -- a report
 abbrev pub report_words : Report → List ℕ
 report_words r =
-    joined (head_words (codes "report") r.height r.phase r.signer ∷ codes "; initial " ∷ value_text r.initial ∷ codes "; proper"
+    concatenated (head_words (codes "report") r.height r.phase r.signer ∷ codes "; initial " ∷ value_xml r.initial ∷ codes "; proper"
     ∷ proper_words r.all r.proper ∷ codes "; locked" ∷ values_text r.locked ∷ [])
 
 -- a lock
 abbrev pub lock_words : Lock → List ℕ
-lock_words l = joined (head_words (codes "lock") l.height l.phase l.signer ∷ codes " on " ∷ value_text l.value ∷ [])
+lock_words l = concatenated (head_words (codes "lock") l.height l.phase l.signer ∷ codes " on " ∷ value_xml l.value ∷ [])
 
 -- an acknowledgement
 abbrev pub ack_words : Ack → List ℕ
-ack_words a = joined (head_words (codes "acknowledgement") a.height a.phase a.signer ∷ codes " of " ∷ value_text a.value ∷ [])
+ack_words a = concatenated (head_words (codes "acknowledgement") a.height a.phase a.signer ∷ codes " of " ∷ value_xml a.value ∷ [])
 
 -- what a frame is
 abbrev pub statement_words : Option Statement → List ℕ
@@ -46,7 +46,7 @@ statement_words (Some (statement.Ack a)) = ack_words a
 
 -- ` by replica 1 in round 3 (entry 17)`
 abbrev pub place_words : ℕ → ℕ → ℕ → List ℕ
-place_words r c i = joined (codes " by replica " ∷ decimal r ∷ codes " in round " ∷ decimal c ∷ codes " (entry " ∷ decimal i
+place_words r c i = concatenated (codes " by replica " ∷ decimal r ∷ codes " in round " ∷ decimal c ∷ codes " (entry " ∷ decimal i
     ∷ codes ")" ∷ [])
 
 -- to whom a frame is sent

@@ -5,10 +5,10 @@ use Rattle.ledger_model.specs.Values.{Value}
 use Rattle.plain_text.specs.Transactions.{bytes_text}
 
 -- the pieces, one after another
-abbrev pub joined : List (List ℕ) → List ℕ
-joined [] = []
-joined (p ∷ []) = p
-joined (p ∷ q ∷ ps) = p ++ joined (q ∷ ps)
+abbrev pub concatenated : List (List ℕ) → List ℕ
+concatenated [] = []
+concatenated (p ∷ []) = p
+concatenated (p ∷ q ∷ ps) = p ++ concatenated (q ∷ ps)
 
 -- a byte as XML reads it in a text: `<` and `&` have names
 abbrev pub xml_byte : ℕ → List ℕ
@@ -19,14 +19,14 @@ abbrev pub xml_text : List ℕ → List ℕ
 xml_text text = flat_map xml_byte text
 
 -- a transaction in its printed form
-abbrev pub tx_text : List ℕ → List ℕ
-tx_text tx = xml_text (bytes_text tx)
+abbrev pub tx_xml : List ℕ → List ℕ
+tx_xml tx = xml_text (bytes_text tx)
 
 -- a value: its transactions in brackets, separated by commas
-abbrev pub value_text : Value → List ℕ
-value_text [] = codes "[]"
-value_text (t ∷ ts) = joined (codes "[" ∷ tx_text t ∷ flat_map (λ t. codes "," ++ tx_text t) ts ∷ codes "]" ∷ [])
+abbrev pub value_xml : Value → List ℕ
+value_xml [] = codes "[]"
+value_xml (t ∷ ts) = concatenated (codes "[" ∷ tx_xml t ∷ flat_map (λ t. codes "," ++ tx_xml t) ts ∷ codes "]" ∷ [])
 
 -- values, each preceded by a space
 abbrev pub values_text : List Value → List ℕ
-values_text vs = flat_map (λ v. codes " " ++ value_text v) vs
+values_text vs = flat_map (λ v. codes " " ++ value_xml v) vs

@@ -2,7 +2,7 @@
 ghost use Rattle.std.specs.Prelude.{◌≡◌, ◌++◌, ◌<◌, ◌≤◌, ◌^◌, ◌+◌, ◌-◌, OnOk};
 ghost use Rattle.ledger_model.specs.Limits.{last_round};
 ghost use Rattle.ledger_model.specs.Places.{number_of};
-ghost use Rattle.run_picture.specs.Axes.{row_class, row_words, row_text, row_of, rows_from, place_word, round_words, names_text, grid_text, round_at, round_text, start_text, column_text, columns_from};
+ghost use Rattle.run_picture.specs.Axes.{row_class, row_words, row_text, row_of, axis_rows_from, place_word, round_words, names_text, grid_text, round_axis, round_text, start_text, column_text, columns_from};
 
 use crate::layout::{Layout, row_y};
 use crate::shapes::{add_name, add_shape, add_word, band_of, line_down_to};
@@ -73,7 +73,7 @@ pub(crate) fn add_rows(
     layout: &Layout,
     rounds: &[Option<u64>],
 ) -> Result<(), AllocError>
-    ensures { OnOk result (out.new.items ≡ out.old.items ++ rows_from layout.now rounds.now 0 layout.now.config.replicas) }
+    ensures { OnOk result (out.new.items ≡ out.old.items ++ axis_rows_from layout.now rounds.now 0 layout.now.config.replicas) }
 {
     for number in 0..layout.config.replicas {
         add_row(out, layout, number, row_of(rounds, number))?;
@@ -152,7 +152,7 @@ fn add_round_at(
     phase: u32,
     owner: u8,
 ) -> Result<(), AllocError>
-    ensures { OnOk result (out.new.items ≡ out.old.items ++ round_at layout.now round place.now phase owner) }
+    ensures { OnOk result (out.new.items ≡ out.old.items ++ round_axis layout.now round place.now phase owner) }
 {
     let x = layout.column_x(round);
     add(out, "<g><title>")?;

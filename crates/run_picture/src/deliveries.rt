@@ -1,7 +1,7 @@
 //! The frames that come to a replica.
 ghost use Rattle.std.specs.Prelude.{◌≡◌, ◌++◌, OnOk};
 ghost use Rattle.run_picture.specs.Parts.{drawn_round};
-ghost use Rattle.run_picture.specs.Frames.{delivered_at, delivery_in};
+ghost use Rattle.run_picture.specs.Frames.{deliveries_of_entry, delivery_in};
 
 use crate::frame_reading::statement_in;
 use crate::part::{Moment, Part};
@@ -75,7 +75,7 @@ pub(crate) fn add_delivered(
     clock: u64,
     entry: &Entry,
 ) -> Result<(), AllocError>
-    ensures { OnOk result (out.new.items ≡ out.old.items ++ delivered_at part.now replica index clock entry.now) }
+    ensures { OnOk result (out.new.items ≡ out.old.items ++ deliveries_of_entry part.now replica index clock entry.now) }
 {
     match (&entry.event, &entry.reply) {
         (Event::Deliver(bytes), Reply::Delivered(answer)) => {

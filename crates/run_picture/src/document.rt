@@ -3,7 +3,7 @@ ghost use Rattle.std.specs.Prelude.{◌≡◌, ◌≤◌, ◌++◌, IfOk, OnOk};
 ghost use Rattle.ledger_model.specs.Limits.{last_round};
 ghost use Rattle.std.specs.List.{flat_map};
 ghost use Rattle.run_picture.specs.Arrows.{sent_text, arrival_text};
-ghost use Rattle.run_picture.specs.Documents.{open_text, part_words, part_names, height_text, corner_text, head_text, shift_text, foot_text, frames_text, elements_text, svg_text, picture_text};
+ghost use Rattle.run_picture.specs.Documents.{open_text, part_words, part_names, height_text, corner_text, document_head, shift_text, foot_text, frames_text, elements_text, svg_text, picture_text};
 
 use crate::arrows::{add_arrival, add_sent};
 use crate::axes::{add_columns, add_rows};
@@ -122,7 +122,7 @@ fn add_head(
     layout: &Layout,
     height: Option<Height>,
 ) -> Result<(), AllocError>
-    ensures { OnOk result (out.new.items ≡ out.old.items ++ head_text style.now layout.now height) }
+    ensures { OnOk result (out.new.items ≡ out.old.items ++ document_head style.now layout.now height) }
 {
     add_open(out, layout.width(), layout.height())?;
     add(out, style)?;

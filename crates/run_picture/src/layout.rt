@@ -1,7 +1,7 @@
 //! Where things are in a picture, in pixels.
 ghost use Rattle.std.specs.Prelude.{◌≡◌, min};
 ghost use Rattle.std.specs.Option.{option_copied};
-ghost use Rattle.run_picture.specs.Layouts.{most_rounds, layout_of, column_x, row_y, lane_y, statement_y, slot_x, start_x, end_x, width_of, bottom_of, height_of};
+ghost use Rattle.run_picture.specs.Layouts.{most_rounds, layout_of, column_x, row_y, lane_y, statement_y, slot_x, start_x, end_x, width_of, bottom_of, picture_height};
 
 use ledger_model::{Config, Height, LastRound, ReplicaId, Statement};
 use crate::{Moment, Picture, SentFrame};
@@ -139,7 +139,7 @@ impl Layout {
 
     /// The height of the picture.
     pub(crate) fn height(&self) -> u64
-        ensures { result ≡ height_of self.now }
+        ensures { result ≡ picture_height self.now }
     {
         self.bottom() + LEGEND
     }

@@ -6,10 +6,10 @@ ghost use Rattle.ledger_model.specs.declared.history.History.{History as History
 ghost use Rattle.ledger_model.specs.Applications.{run};
 ghost use Rattle.ledger_model.specs.Lawful.{clock_at};
 ghost use Rattle.ledger_model.specs.Rules.{Ring};
-ghost use Rattle.run_picture.specs.Frames.{sent_at, delivered_at};
+ghost use Rattle.run_picture.specs.Frames.{frames_of_entry, deliveries_of_entry};
 ghost use Rattle.run_picture.specs.Facts.{facts_at};
 ghost use Rattle.run_picture.specs.Pictures.{IsPictureOf};
-ghost use Rattle.run_picture.specs.Collected.{Adds, AddsEntries, AddsHistory, AddsRow, Collects, IsNothing};
+ghost use Rattle.run_picture.specs.Collected.{Appends, AddsEntries, AddsHistory, AddsRow, Collects, IsNothing};
 
 use crate::deliveries::{Delivery, add_delivered};
 use crate::entry_facts::{Mark, add_facts};
@@ -115,8 +115,8 @@ fn add_entry(
     entry: &Entry,
 ) -> Result<(), AllocError>
     requires { clock < 2 ^ 64 - 1 }
-    ensures { OnOk result (Adds shown.old shown.new (sent_at part.now replica index clock entry.now)
-        (delivered_at part.now replica index clock entry.now) (facts_at part.now replica index clock entry.now)) }
+    ensures { OnOk result (Appends shown.old shown.new (frames_of_entry part.now replica index clock entry.now)
+        (deliveries_of_entry part.now replica index clock entry.now) (facts_at part.now replica index clock entry.now)) }
 {
     add_sent(alloc, &mut shown.sent, part, replica, index, clock, entry)?;
     add_delivered(

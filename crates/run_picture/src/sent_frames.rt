@@ -1,6 +1,6 @@
 //! The frames that a replica sends as it opens a round.
 ghost use Rattle.std.specs.Prelude.{◌≡◌, ◌++◌, ◌<◌, ◌-◌, ◌^◌, OnOk};
-ghost use Rattle.run_picture.specs.Frames.{frame_shown, frames_from, sent_at};
+ghost use Rattle.run_picture.specs.Frames.{frame_shown, frames_from, frames_of_entry};
 
 use crate::frame_reading::statement_in;
 use crate::part::{Moment, Part};
@@ -84,7 +84,7 @@ pub(crate) fn add_sent(
     entry: &Entry,
 ) -> Result<(), AllocError>
     requires { clock < 2 ^ 64 - 1 }
-    ensures { OnOk result (out.new.items ≡ out.old.items ++ sent_at part.now replica index clock entry.now) }
+    ensures { OnOk result (out.new.items ≡ out.old.items ++ frames_of_entry part.now replica index clock entry.now) }
 {
     let Reply::RoundEnded(Ok(ended)) = &entry.reply else {
         return Ok(());

@@ -1,6 +1,6 @@
 //! The shapes of a picture: paths and labels.
 ghost use Rattle.std.specs.Prelude.{◌≡◌, ◌++◌, IfOk, OnOk, string_bytes};
-ghost use Rattle.run_picture.specs.Shapes.{shape_text, line_text, label_text, name_text, word_text, down_text, band_text};
+ghost use Rattle.run_picture.specs.Shapes.{shape_text, path_line, label_text, name_text, word_text, down_text, band_text};
 
 use crate::xml::add;
 use std::alloc::{AllocError, Global};
@@ -22,7 +22,7 @@ pub(crate) fn add_shape(
 
 /// The rest of a path, which is a line to a point.
 pub(crate) fn line_to(alloc: Global, x: u64, y: u64) -> Result<String, AllocError>
-    ensures { IfOk result (λ line. string_bytes line ≡ line_text x y) }
+    ensures { IfOk result (λ line. string_bytes line ≡ path_line x y) }
 {
     format!(in alloc; "L{x} {y}")
 }

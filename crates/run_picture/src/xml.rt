@@ -2,7 +2,7 @@
 ghost use Rattle.std.specs.Prelude.{◌≡◌, ◌++◌, ◌∷◌, [], OnOk, codes};
 ghost use Rattle.std.specs.List.{flat_map};
 ghost use Rattle.plain_text.specs.Transactions.{bytes_text};
-ghost use Rattle.run_picture.specs.Xml.{xml_byte, xml_text, tx_text, value_text, values_text};
+ghost use Rattle.run_picture.specs.Xml.{xml_byte, xml_text, tx_xml, value_xml, values_text};
 
 use ledger_model::{Batch, Tx};
 use plain_text::Escaped;
@@ -41,7 +41,7 @@ fn add_xml(out: &mut Vec<u8>, text: &[u8]) -> Result<(), AllocError>
 
 /// Appends a transaction in its printed form.
 fn add_tx(out: &mut Vec<u8>, transaction: &Tx) -> Result<(), AllocError>
-    ensures { OnOk result (out.new.items ≡ out.old.items ++ tx_text transaction.now) }
+    ensures { OnOk result (out.new.items ≡ out.old.items ++ tx_xml transaction.now) }
 {
     let alloc = *out.allocator();
     let escaped = Escaped(transaction.as_bytes());
@@ -51,7 +51,7 @@ fn add_tx(out: &mut Vec<u8>, transaction: &Tx) -> Result<(), AllocError>
 
 /// Appends transactions, each preceded by a comma.
 fn add_more(out: &mut Vec<u8>, transactions: &[Tx]) -> Result<(), AllocError>
-    ensures { OnOk result (out.new.items ≡ out.old.items ++ flat_map (λ t. codes "," ++ tx_text t) transactions.now) }
+    ensures { OnOk result (out.new.items ≡ out.old.items ++ flat_map (λ t. codes "," ++ tx_xml t) transactions.now) }
 {
     for transaction in transactions {
         add(out, ",")?;
@@ -62,7 +62,7 @@ fn add_more(out: &mut Vec<u8>, transactions: &[Tx]) -> Result<(), AllocError>
 
 /// Appends a value: its transactions in brackets, separated by commas.
 pub(crate) fn add_value(out: &mut Vec<u8>, value: &Batch) -> Result<(), AllocError>
-    ensures { OnOk result (out.new.items ≡ out.old.items ++ value_text value.now) }
+    ensures { OnOk result (out.new.items ≡ out.old.items ++ value_xml value.now) }
 {
     match value.transactions() {
         [] => add(out, "[]"),

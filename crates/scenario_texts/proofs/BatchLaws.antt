@@ -12,7 +12,7 @@ use Rattle.ledger_model.specs.Versions.{batch_limit}
 use Rattle.ledger_model.specs.declared.version.Version.{Version}
 use Rattle.ledger_model.specs.Values.{Value, IsTx, IsValueIn}
 use Rattle.plain_text.specs.Transactions.{bytes_text}
-use Rattle.scenario_texts.specs.Reading.{bytes_of, tx_of, txs_of, without_first, without_last, bracketed, elements, batch_of}
+use Rattle.scenario_texts.specs.Reading.{word_bytes, tx_of, txs_of, without_first, without_last, bracketed, elements, batch_of}
 use Rattle.plain_text.specs.Transactions.{batch_text}
 use Rattle.scenario_texts.proofs.Options.{bind_some, map_some}
 use Rattle.scenario_texts.proofs.BytesReading.{bytes_of-sound, bytes_of-again}
@@ -25,7 +25,7 @@ tx_of-sound : (word tx : List ℕ) → tx_of word ≡ Some tx → (word ≡ byte
 unfolding tx_of
 tx_of-sound word tx e =
     let (bytes, (read, fits)) = bind_some (λ bytes. cond (nat_le 1 (length bytes) && nat_le (length bytes) max_tx_len) (Some bytes) None)
-    (bytes_of word) tx e in
+    (word_bytes word) tx e in
     let (test, same) = cond_some (nat_le 1 (length bytes) && nat_le (length bytes) max_tx_len) bytes tx fits in
     let parts = and_parts (nat_le 1 (length bytes)) (nat_le (length bytes) max_tx_len) test in
     let spelled = bytes_of-sound word bytes read in
@@ -107,10 +107,10 @@ elements_some (b ∷ rest) some = refl
 
 -- the text of a transaction has a byte
 some_text : (tx : List ℕ) → IsTx tx → bytes_text tx ≡ [] → ⊥
-unfolding bytes_of
+unfolding word_bytes
 some_text [] is e = omega (arith, is.some)
 some_text (b ∷ tx) is e =
-    let read : bytes_of [] ≡ Some (b ∷ tx) = subst (λ (w : List ℕ). bytes_of w ≡ Some (b ∷ tx)) e (bytes_of-again (b ∷ tx) is.bytes) in
+    let read : word_bytes [] ≡ Some (b ∷ tx) = subst (λ (w : List ℕ). word_bytes w ≡ Some (b ∷ tx)) e (bytes_of-again (b ∷ tx) is.bytes) in
     let bad : Some [] ≡ Some (b ∷ tx) = read in cc
 
 -- so has a list that begins with it

@@ -11,9 +11,9 @@ use Rattle.ledger_model.specs.declared.version.Version.{Version}
 use Rattle.plain_text.specs.Numbers.{number_text}
 use Rattle.scenario_texts.specs.Plans.{Plan}
 use Rattle.scenario_texts.specs.Words.{keyword_text}
-use Rattle.scenario_texts.specs.Lawful.{IsNumber, IsBytes, IsTowards, IsLie, IsCommand}
+use Rattle.scenario_texts.specs.Lawful.{IsNumber, IsByteList, IsTowards, IsLie, IsCommand}
 use Rattle.scenario_texts.specs.Texts.{bytes_words, hex_words, lie_words, stale_words, command_words, towards_text}
-use Rattle.scenario_texts.specs.Reading.{submit_of, inject_of, query_of, propose_of, retire_of, pass_of, simple_of, stale_of, lying_of}
+use Rattle.scenario_texts.specs.Reading.{submit_of, inject_of, query_command, propose_of, retire_of, pass_of, simple_of, stale_of, lying_of}
 use Rattle.scenario_texts.specs.Reading.{command_of}
 use Rattle.scenario_texts.specs.Reading.{with_command, going_on}
 use Rattle.scenario_texts.specs.declared.keyword.Keyword.{Keyword}
@@ -42,7 +42,7 @@ pub record IsRead (version : Version) (liars : List ℕ) (c : Command) : Type 0 
 -- a step is read again
 pub command_again : (version : Version) (liars : List ℕ) → ((r : ℕ) → Contains liars r → IsNumber r) → (c : Command)
     → IsCommand version liars c → IsRead version liars c
-unfolding command_of going_on submit_of inject_of query_of propose_of retire_of pass_of simple_of stale_of lying_of
+unfolding command_of going_on submit_of inject_of query_command propose_of retire_of pass_of simple_of stale_of lying_of
 command_again version liars small (command.Submit replica bytes) (number, fits) = record {
   keyword = keyword.Submit;
   fields = number_text replica ∷ bytes_words bytes;
@@ -150,11 +150,11 @@ seen_word word e = All-weaker (λ b. (nat_le 33 b && nat_le b 126) ≡ true) IsV
     visible b e = let parts = and_parts (nat_le 33 b) (nat_le b 126) e in (leb-true 33 b parts.0, leb-true b 126 parts.1)
 
 -- bytes, of which there may be none
-words_of_bytes : (bytes : List ℕ) → IsBytes bytes → IsWords (bytes_words bytes)
+words_of_bytes : (bytes : List ℕ) → IsByteList bytes → IsWords (bytes_words bytes)
 words_of_bytes [] fits = tt
 words_of_bytes (b ∷ bytes) fits = (IsWord-bytes_text (b ∷ bytes) fits, tt)
 
-words_of_hex : (bytes : List ℕ) → IsBytes bytes → IsWords (hex_words bytes)
+words_of_hex : (bytes : List ℕ) → IsByteList bytes → IsWords (hex_words bytes)
 words_of_hex [] fits = tt
 words_of_hex (b ∷ bytes) fits = (IsWord-encode_lower (b ∷ bytes) fits, tt)
 

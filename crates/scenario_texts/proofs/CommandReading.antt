@@ -16,10 +16,10 @@ use Rattle.plain_text.specs.Numbers.{number_text}
 use Rattle.scenario_texts.specs.Words.{keyword_text}
 use Rattle.scenario_texts.specs.Lawful.{IsNumber, IsLie, IsCommand}
 use Rattle.scenario_texts.specs.Texts.{lie_words, command_words}
-use Rattle.scenario_texts.specs.Reading.{keyword_among, all_keywords, keyword_of, number_of, positive_of, one_number, two_numbers}
+use Rattle.scenario_texts.specs.Reading.{keyword_among, all_keywords, keyword_of, word_number, positive_of, one_number, two_numbers}
 use Rattle.scenario_texts.specs.Reading.{three_numbers, optional_bytes, optional_hex, batch_of, towards_of, liar_of, at_most, lie_at}
 use Rattle.scenario_texts.specs.Reading.{lie_of}
-use Rattle.scenario_texts.specs.Reading.{submit_of, inject_of, query_of, propose_of, retire_of, pass_of, simple_of, stale_of, lying_of}
+use Rattle.scenario_texts.specs.Reading.{submit_of, inject_of, query_command, propose_of, retire_of, pass_of, simple_of, stale_of, lying_of}
 use Rattle.scenario_texts.specs.Reading.{command_of}
 use Rattle.scenario_texts.specs.declared.keyword.Keyword.{Keyword}
 use Rattle.scenario_texts.specs.declared.keyword.Keyword.TheVariants as keyword
@@ -207,7 +207,7 @@ unfolding submit_of
 submit_of-sound version liars [] c e = absurd cc
 submit_of-sound version liars (r ∷ rest) c e =
     let (replica, (first, more)) =
-    bind_some (λ n. option_and_then (λ bytes. Some (command.Submit n bytes)) (optional_bytes rest)) (number_of r) c e in
+    bind_some (λ n. option_and_then (λ bytes. Some (command.Submit n bytes)) (optional_bytes rest)) (word_number r) c e in
     let (bytes, (second, same)) = bind_some (λ b. Some (command.Submit replica b)) (optional_bytes rest) c more in
     let number = number_of-sound r replica first in
     let spelled = optional_bytes-sound rest bytes second in
@@ -219,7 +219,7 @@ inject_of-sound : (version : Version) (liars : List ℕ) (fields : List (List �
 unfolding inject_of
 inject_of-sound version liars [] c e = absurd cc
 inject_of-sound version liars (r ∷ rest) c e =
-    let (to, (first, more)) = bind_some (λ n. option_and_then (λ bytes. Some (command.Inject n bytes)) (optional_hex rest)) (number_of r) c
+    let (to, (first, more)) = bind_some (λ n. option_and_then (λ bytes. Some (command.Inject n bytes)) (optional_hex rest)) (word_number r) c
     e in
     let (bytes, (second, same)) = bind_some (λ b. Some (command.Inject to b)) (optional_hex rest) c more in
     let number = number_of-sound r to first in
@@ -227,14 +227,14 @@ inject_of-sound version liars (r ∷ rest) c e =
     let equal : command.Inject to bytes ≡ c = cc in
     subst (λ (x : Command). Says version liars (codes "inject") (r ∷ rest) x) equal (cc (number.0, spelled.0), (number.1, spelled.1))
 
-query_of-sound : (version : Version) (liars : List ℕ) (fields : List (List ℕ)) (c : Command) → query_of fields ≡ Some c
+query_of-sound : (version : Version) (liars : List ℕ) (fields : List (List ℕ)) (c : Command) → query_command fields ≡ Some c
     → Says version liars (codes "query") fields c
-unfolding query_of
+unfolding query_command
 query_of-sound version liars [] c e = absurd cc
 query_of-sound version liars (r ∷ rest) c e =
     let (replica, (first, more)) =
     bind_some (λ n. option_and_then (λ key. cond (nat_le (length key) max_key_len) (Some (command.Query n key)) None)
-    (optional_bytes rest)) (number_of r) c e in
+    (optional_bytes rest)) (word_number r) c e in
     let (key, (second, fits)) = bind_some (λ b. cond (nat_le (length b) max_key_len) (Some (command.Query replica b)) None)
     (optional_bytes rest) c more in
     let (test, equal) = cond_some (nat_le (length key) max_key_len) (command.Query replica key) c fits in

@@ -11,7 +11,7 @@ use Rattle.std.proofs.SliceLists.{all_by_recursion_push}
 use Rattle.scenario_texts.specs.Plans.{Plan}
 use Rattle.scenario_texts.specs.Lawful.{IsPlan}
 use Rattle.scenario_texts.specs.Texts.{plan_lines}
-use Rattle.scenario_texts.specs.Lines.{max_lines, ended, IsUnbroken, counts, counted, line_limit, AreShort, Spells, GoesOn, IsBadAt}
+use Rattle.scenario_texts.specs.Lines.{max_lines, whole_line, IsUnbroken, counts, counted_lines, line_limit, AreWithinLengths, SpellsPlan, IsPlanSoFar, IsBadAt}
 use Rattle.scenario_texts.specs.Reading.{next_of, limit_after}
 use Rattle.scenario_texts.proofs.LineLimits.{short_more, no_line, limit_is}
 use Rattle.scenario_texts.proofs.LineReading.{Shows, line_shows, line_of_words}
@@ -20,13 +20,13 @@ use Rattle.scenario_texts.proofs.Runs.{run, run-append, run-cons, run-bad, plan_
 -- these lines were read, and gave this
 pub record Going (text left : List ℕ) (number : ℕ) (s : Option Plan) : Type 0 where
   pub lines : List (List ℕ)
-  pub whole : text ≡ flat_map ended lines ++ left
+  pub whole : text ≡ flat_map whole_line lines ++ left
   pub unbroken : AllByRecursion IsUnbroken lines
   pub numbered : number ≡ length lines + 1
   pub few : length lines ≤ max_lines
-  pub short : AreShort lines
-  pub read : run None (counted lines) ≡ Some s
-  pub shows : Shows s (counted lines)
+  pub short : AreWithinLengths lines
+  pub read : run None (counted_lines lines) ≡ Some s
+  pub shows : Shows s (counted_lines lines)
 
 -- before the first line
 pub started : (text : List ℕ) → Going text text 1 None
@@ -49,21 +49,21 @@ at_limit text left number s going line short =
     subst (λ (limit : ℕ). length line ≤ limit) (sym (limit_is s going.lines going.shows)) short
 
 -- the text with a line more
-pub whole_more : (text : List ℕ) (lines : List (List ℕ)) (left line rest : List ℕ) → text ≡ flat_map ended lines ++ left
-    → left ≡ line ++ 10 ∷ rest → text ≡ flat_map ended (lines ++ line ∷ []) ++ rest
+pub whole_more : (text : List ℕ) (lines : List (List ℕ)) (left line rest : List ℕ) → text ≡ flat_map whole_line lines ++ left
+    → left ≡ line ++ 10 ∷ rest → text ≡ flat_map whole_line (lines ++ line ∷ []) ++ rest
 whole_more text lines left line rest whole cut =
-    whole ∙ ap (λ l. flat_map ended lines ++ l) (cut ∙ sym (append_assoc line (10 ∷ []) rest))
-    ∙ sym (append_assoc (flat_map ended lines) (ended line) rest)
-    ∙ ap (λ t. t ++ rest) (sym (flat_map-append ended lines (line ∷ []) ∙ ap (λ l. flat_map ended lines ++ l) (append-nil (ended line))))
+    whole ∙ ap (λ l. flat_map whole_line lines ++ l) (cut ∙ sym (append_assoc line (10 ∷ []) rest))
+    ∙ sym (append_assoc (flat_map whole_line lines) (whole_line line) rest)
+    ∙ ap (λ t. t ++ rest) (sym (flat_map-append whole_line lines (line ∷ []) ∙ ap (λ l. flat_map whole_line lines ++ l) (append-nil (whole_line line))))
 
 -- a line more that counts, among those that count
-counted_more : (lines : List (List ℕ)) (line : List ℕ) → counts line ≡ true → counted (lines ++ line ∷ []) ≡ counted lines ++ line ∷ []
-counted_more lines line yes' = filter-append counts lines (line ∷ []) ∙ ap (λ (t : Bool). counted lines ++ cond t (line ∷ []) []) yes'
+counted_more : (lines : List (List ℕ)) (line : List ℕ) → counts line ≡ true → counted_lines (lines ++ line ∷ []) ≡ counted_lines lines ++ line ∷ []
+counted_more lines line yes' = filter-append counts lines (line ∷ []) ∙ ap (λ (t : Bool). counted_lines lines ++ cond t (line ∷ []) []) yes'
 
 -- one that is passed over
-passed_more : (lines : List (List ℕ)) (line : List ℕ) → counts line ≡ false → counted (lines ++ line ∷ []) ≡ counted lines
-passed_more lines line over = filter-append counts lines (line ∷ []) ∙ ap (λ (t : Bool). counted lines ++ cond t (line ∷ []) []) over
-    ∙ append-nil (counted lines)
+passed_more : (lines : List (List ℕ)) (line : List ℕ) → counts line ≡ false → counted_lines (lines ++ line ∷ []) ≡ counted_lines lines
+passed_more lines line over = filter-append counts lines (line ∷ []) ∙ ap (λ (t : Bool). counted_lines lines ++ cond t (line ∷ []) []) over
+    ∙ append-nil (counted_lines lines)
 
 -- a line that is passed over
 pub goes_over : (text left : List ℕ) (number : ℕ) (s : Option Plan) (line rest : List ℕ) → Going text left number s
@@ -86,8 +86,8 @@ pub goes_further : (text left : List ℕ) (number : ℕ) (s : Option Plan) (line
     → counts line ≡ true → next_of s line ≡ Some p → Going text rest (number + 1) (Some p)
 unfolding run
 goes_further text left number s line rest p going cut unbroken few short is next =
-    let more = line_shows s line p (counted going.lines) next going.shows in
-    let same : counted (going.lines ++ line ∷ []) ≡ counted going.lines ++ line ∷ [] = counted_more going.lines line is in
+    let more = line_shows s line p (counted_lines going.lines) next going.shows in
+    let same : counted_lines (going.lines ++ line ∷ []) ≡ counted_lines going.lines ++ line ∷ [] = counted_more going.lines line is in
     record {
       lines = going.lines ++ line ∷ [];
       whole = whole_more text going.lines left line rest going.whole cut;
@@ -95,12 +95,12 @@ goes_further text left number s line rest p going cut unbroken few short is next
       numbered = omega (arith, going.numbered, length-append going.lines (line ∷ []));
       few = omega (arith, going.numbered, length-append going.lines (line ∷ []));
       short = short_more going.lines line going.short (at_limit text left number s going line short);
-      read = ap (run None) same ∙ run-append None s (counted going.lines) (line ∷ []) going.read ∙ run-cons s line [] p next;
-      shows = (same ∙ ap (λ l. counted going.lines ++ l ∷ []) (sym (line_of_words line)) ∙ more.spelled, more.lawful);
+      read = ap (run None) same ∙ run-append None s (counted_lines going.lines) (line ∷ []) going.read ∙ run-cons s line [] p next;
+      shows = (same ∙ ap (λ l. counted_lines going.lines ++ l ∷ []) (sym (line_of_words line)) ∙ more.spelled, more.lawful);
     }
 
 -- so far nothing is wrong
-going_on : (text left : List ℕ) (number : ℕ) (s : Option Plan) (going : Going text left number s) → GoesOn going.lines
+going_on : (text left : List ℕ) (number : ℕ) (s : Option Plan) (going : Going text left number s) → IsPlanSoFar going.lines
 going_on text left number None going = record { short = going.short; begun = inl going.shows }
 going_on text left number (Some p) going = record { short = going.short; begun = inr (p, going.shows) }
 
@@ -122,19 +122,19 @@ some_feed (c ∷ a) x e = cc
 
 -- the lines of a text begin with those that were read
 rest_of_lines : (lines others : List (List ℕ)) (left : List ℕ) → AllByRecursion IsUnbroken lines → AllByRecursion IsUnbroken others
-    → flat_map ended lines ++ left ≡ flat_map ended others
-    → (more : List (List ℕ)) × ((others ≡ lines ++ more) × (left ≡ flat_map ended more))
+    → flat_map whole_line lines ++ left ≡ flat_map whole_line others
+    → (more : List (List ℕ)) × ((others ≡ lines ++ more) × (left ≡ flat_map whole_line more))
 rest_of_lines [] others left u v e = (others, (refl, e))
-rest_of_lines (l ∷ lines) [] left u v e = absurd (some_feed l (flat_map ended lines ++ left) (sym (joined l lines left) ∙ e))
+rest_of_lines (l ∷ lines) [] left u v e = absurd (some_feed l (flat_map whole_line lines ++ left) (sym (joined l lines left) ∙ e))
   where
     joined : (l : List ℕ) (ls : List (List ℕ)) (left : List ℕ)
-        → (ended l ++ flat_map ended ls) ++ left ≡ l ++ 10 ∷ (flat_map ended ls ++ left)
-    joined l ls left = append_assoc (ended l) (flat_map ended ls) left ∙ append_assoc l (10 ∷ []) (flat_map ended ls ++ left)
+        → (whole_line l ++ flat_map whole_line ls) ++ left ≡ l ++ 10 ∷ (flat_map whole_line ls ++ left)
+    joined l ls left = append_assoc (whole_line l) (flat_map whole_line ls) left ∙ append_assoc l (10 ∷ []) (flat_map whole_line ls ++ left)
 rest_of_lines (l ∷ lines) (o ∷ others) left (p, u) (q, v) e =
-    let here : (ended l ++ flat_map ended lines) ++ left ≡ l ++ 10 ∷ (flat_map ended lines ++ left) =
-    append_assoc (ended l) (flat_map ended lines) left ∙ append_assoc l (10 ∷ []) (flat_map ended lines ++ left) in
-    let there : ended o ++ flat_map ended others ≡ o ++ 10 ∷ flat_map ended others = append_assoc o (10 ∷ []) (flat_map ended others) in
-    let (same, rest) = first_same l o (flat_map ended lines ++ left) (flat_map ended others) p q (sym here ∙ e ∙ there) in
+    let here : (whole_line l ++ flat_map whole_line lines) ++ left ≡ l ++ 10 ∷ (flat_map whole_line lines ++ left) =
+    append_assoc (whole_line l) (flat_map whole_line lines) left ∙ append_assoc l (10 ∷ []) (flat_map whole_line lines ++ left) in
+    let there : whole_line o ++ flat_map whole_line others ≡ o ++ 10 ∷ flat_map whole_line others = append_assoc o (10 ∷ []) (flat_map whole_line others) in
+    let (same, rest) = first_same l o (flat_map whole_line lines ++ left) (flat_map whole_line others) p q (sym here ∙ e ∙ there) in
     let (more, (tails, ends)) = rest_of_lines lines others left u v rest in
     (more, (cc (same, tails), ends))
 
@@ -146,17 +146,17 @@ each_second P (x ∷ xs) ys (first, all) = each_second P xs ys all
 -- what is left of a text that spells a plan
 record Rest (left : List ℕ) (number : ℕ) (s : Option Plan) (q : Plan) : Type 0 where
   more : List (List ℕ)
-  whole : left ≡ flat_map ended more
+  whole : left ≡ flat_map whole_line more
   unbroken : AllByRecursion IsUnbroken more
   few : number + length more ≤ max_lines + 1
   short : (line : List ℕ) (after : List (List ℕ)) → more ≡ line ∷ after → length line ≤ limit_after s
-  read : run s (counted more) ≡ Some (Some q)
+  read : run s (counted_lines more) ≡ Some (Some q)
 
-rest_of : (text left : List ℕ) (number : ℕ) (s : Option Plan) (q : Plan) → Going text left number s → Spells text q → Rest left number s q
+rest_of : (text left : List ℕ) (number : ℕ) (s : Option Plan) (q : Plan) → Going text left number s → SpellsPlan text q → Rest left number s q
 rest_of text left number s q going spells =
     let (more, (others, ends)) = rest_of_lines going.lines spells.lines left going.unbroken spells.unbroken
     (sym going.whole ∙ spells.whole) in
-    let those : counted spells.lines ≡ counted going.lines ++ counted more = ap counted others ∙ filter-append counts going.lines more in
+    let those : counted_lines spells.lines ≡ counted_lines going.lines ++ counted_lines more = ap counted_lines others ∙ filter-append counts going.lines more in
     let count : length spells.lines ≡ length going.lines + length more = ap length others ∙ length-append going.lines more in
     record {
       more = more;
@@ -165,7 +165,7 @@ rest_of text left number s q going spells =
       few = omega (arith, going.numbered, spells.few, count);
       short = λ line after first. subst (λ (limit : ℕ). length line ≤ limit) (limit_is s going.lines going.shows)
           (spells.short going.lines after line (others ∙ ap (λ (m : List (List ℕ)). going.lines ++ m) first));
-      read = sym (run-append None s (counted going.lines) (counted more) going.read) ∙ ap (run None) (sym those ∙ spells.those)
+      read = sym (run-append None s (counted_lines going.lines) (counted_lines more) going.read) ∙ ap (run None) (sym those ∙ spells.those)
           ∙ plan_again q spells.lawful;
     }
 
@@ -181,28 +181,28 @@ bad_rest : (number : ℕ) (s : Option Plan) (line rest : List ℕ) (q : Plan) �
 bad_rest number s line rest q unbroken bad left = by_more left.more left.whole left.unbroken left.few left.short left.read
   where
     by_reason : (more : List (List ℕ)) → IsBad number s line → number + length (line ∷ more) ≤ max_lines + 1 → length line ≤ limit_after s
-        → run s (counted (line ∷ more)) ≡ Some (Some q) → ⊥
+        → run s (counted_lines (line ∷ more)) ≡ Some (Some q) → ⊥
     by_reason more (too_many many) few short read = omega (arith, many, few)
     by_reason more (too_long long) few short read = omega (arith, long, short)
     by_reason more (refused is none) few short read =
-        let there : counted (line ∷ more) ≡ line ∷ counted more = ap (λ (t : Bool). cond t (line ∷ counted more) (counted more)) is in
-        let nothing : None ≡ Some (Some q) = sym (run-bad s line (counted more) none) ∙ ap (run s) (sym there) ∙ read in
+        let there : counted_lines (line ∷ more) ≡ line ∷ counted_lines more = ap (λ (t : Bool). cond t (line ∷ counted_lines more) (counted_lines more)) is in
+        let nothing : None ≡ Some (Some q) = sym (run-bad s line (counted_lines more) none) ∙ ap (run s) (sym there) ∙ read in
         cc
 
-    by_more : (more : List (List ℕ)) → line ++ 10 ∷ rest ≡ flat_map ended more → AllByRecursion IsUnbroken more
+    by_more : (more : List (List ℕ)) → line ++ 10 ∷ rest ≡ flat_map whole_line more → AllByRecursion IsUnbroken more
         → number + length more ≤ max_lines + 1
         → ((first : List ℕ) (after : List (List ℕ)) → more ≡ first ∷ after → length first ≤ limit_after s)
-        → run s (counted more) ≡ Some (Some q) → ⊥
+        → run s (counted_lines more) ≡ Some (Some q) → ⊥
     by_more [] whole u few short read = some_feed line rest whole
     by_more (o ∷ more) whole (v, u) few short read =
-        let same : line ≡ o = (first_same line o rest (flat_map ended more) unbroken v
-        (whole ∙ append_assoc o (10 ∷ []) (flat_map ended more))).0 in
+        let same : line ≡ o = (first_same line o rest (flat_map whole_line more) unbroken v
+        (whole ∙ append_assoc o (10 ∷ []) (flat_map whole_line more))).0 in
         by_reason more bad few (subst (λ (l : List ℕ). length l ≤ limit_after s) (sym same) (short o more refl))
-        (subst (λ (l : List ℕ). run s (counted (l ∷ more)) ≡ Some (Some q)) (sym same) read)
+        (subst (λ (l : List ℕ). run s (counted_lines (l ∷ more)) ≡ Some (Some q)) (sym same) read)
 
 -- with it the lines don't go on
 not_on : (text left : List ℕ) (number : ℕ) (s : Option Plan) (line : List ℕ) (going : Going text left number s) → IsBad number s line
-    → (max_lines ≤ length going.lines) ⊎ (GoesOn (going.lines ++ line ∷ []) → ⊥)
+    → (max_lines ≤ length going.lines) ⊎ (IsPlanSoFar (going.lines ++ line ∷ []) → ⊥)
 not_on text left number s line going (too_many many) = inl (omega (arith, many, going.numbered))
 not_on text left number s line going (too_long long) =
     inr (λ on. let short : length line ≤ limit_after s =
@@ -210,26 +210,26 @@ not_on text left number s line going (too_long long) =
     omega (arith, long, short))
 not_on text left number s line going (refused is none) = inr (λ on. by_begun on.begun)
   where
-    there : counted (going.lines ++ line ∷ []) ≡ counted going.lines ++ line ∷ []
+    there : counted_lines (going.lines ++ line ∷ []) ≡ counted_lines going.lines ++ line ∷ []
     there = counted_more going.lines line is
 
     some_line : (xs : List (List ℕ)) → xs ++ line ∷ [] ≡ [] → ⊥
     some_line [] e = cc
     some_line (x ∷ xs) e = cc
 
-    by_begun : (counted (going.lines ++ line ∷ []) ≡ []) ⊎ ((p : Plan) × ((counted (going.lines ++ line ∷ []) ≡ plan_lines p) × IsPlan p))
+    by_begun : (counted_lines (going.lines ++ line ∷ []) ≡ []) ⊎ ((p : Plan) × ((counted_lines (going.lines ++ line ∷ []) ≡ plan_lines p) × IsPlan p))
         → ⊥
-    by_begun (inl nothing) = some_line (counted going.lines) (sym there ∙ nothing)
+    by_begun (inl nothing) = some_line (counted_lines going.lines) (sym there ∙ nothing)
     by_begun (inr (p, (spelled, lawful))) =
         let bad : None ≡ Some (Some p) =
-        sym (run-append None s (counted going.lines) (line ∷ []) going.read ∙ run-bad s line [] none)
+        sym (run-append None s (counted_lines going.lines) (line ∷ []) going.read ∙ run-bad s line [] none)
         ∙ ap (run None) (sym there ∙ spelled) ∙ plan_again p lawful in
         cc
 
 -- the line is the first bad one, and the text spells nothing
 pub bad_line : (text left : List ℕ) (number : ℕ) (s : Option Plan) (line rest : List ℕ) → Going text left number s
     → left ≡ line ++ 10 ∷ rest → IsUnbroken line → IsBad number s line
-    → IsBadAt text number × ((q : Plan) → Spells text q → ⊥)
+    → IsBadAt text number × ((q : Plan) → SpellsPlan text q → ⊥)
 bad_line text left number s line rest going cut unbroken bad = (
   record {
     before = going.lines;
@@ -253,13 +253,13 @@ bad_line text left number s line rest going cut unbroken bad = (
 )
 
 -- an unbroken text is no ended line
-pub not_ended : (line after : List ℕ) → IsUnbroken (ended line ++ after) → ⊥
+pub not_ended : (line after : List ℕ) → IsUnbroken (whole_line line ++ after) → ⊥
 not_ended [] after u = All-head (λ d. d ≢ 10) 10 after u refl
-not_ended (c ∷ line) after u = not_ended line after (All-tail (λ d. d ≢ 10) c (ended line ++ after) u)
+not_ended (c ∷ line) after u = not_ended line after (All-tail (λ d. d ≢ 10) c (whole_line line ++ after) u)
 
 -- the text ends badly there
 bad_end : (text left : List ℕ) (number : ℕ) (s : Option Plan) → Going text left number s → IsUnbroken left → (left ≢ []) ⊎ (s ≡ None)
-    → IsBadAt text number × ((q : Plan) → Spells text q → ⊥)
+    → IsBadAt text number × ((q : Plan) → SpellsPlan text q → ⊥)
 unfolding run
 bad_end text left number s going unbroken bad = (
   record {
@@ -275,23 +275,23 @@ bad_end text left number s going unbroken bad = (
   λ q spells. let over = rest_of text left number s q going spells in none_left over.more q over.whole over.read bad,
 )
   where
-    why : (left ≢ []) ⊎ (s ≡ None) → (left ≢ []) ⊎ (counted going.lines ≡ [])
+    why : (left ≢ []) ⊎ (s ≡ None) → (left ≢ []) ⊎ (counted_lines going.lines ≡ [])
     why (inl some) = inl some
-    why (inr none) = inr (subst (λ (o : Option Plan). Shows o (counted going.lines)) none going.shows)
+    why (inr none) = inr (subst (λ (o : Option Plan). Shows o (counted_lines going.lines)) none going.shows)
 
-    none_left : (more : List (List ℕ)) (q : Plan) → left ≡ flat_map ended more → run s (counted more) ≡ Some (Some q)
+    none_left : (more : List (List ℕ)) (q : Plan) → left ≡ flat_map whole_line more → run s (counted_lines more) ≡ Some (Some q)
         → (left ≢ []) ⊎ (s ≡ None) → ⊥
     none_left [] q whole read (inl some) = some whole
     none_left [] q whole read (inr none) = let at : s ≡ Some q = cc in cc
-    none_left (o ∷ more) q whole read why = not_ended o (flat_map ended more) (subst IsUnbroken whole unbroken)
+    none_left (o ∷ more) q whole read why = not_ended o (flat_map whole_line more) (subst IsUnbroken whole unbroken)
 
 -- the text spells the plan, and no other
-good_end : (text : List ℕ) (number : ℕ) (p : Plan) → Going text [] number (Some p) → Spells text p × ((q : Plan) → Spells text q → p ≡ q)
+good_end : (text : List ℕ) (number : ℕ) (p : Plan) → Going text [] number (Some p) → SpellsPlan text p × ((q : Plan) → SpellsPlan text q → p ≡ q)
 unfolding run
 good_end text number p going = (
   record {
     lines = going.lines;
-    whole = going.whole ∙ append-nil (flat_map ended going.lines);
+    whole = going.whole ∙ append-nil (flat_map whole_line going.lines);
     unbroken = going.unbroken;
     few = going.few;
     short = going.short;
@@ -301,10 +301,10 @@ good_end text number p going = (
   λ q spells. let over = rest_of text [] number (Some p) q going spells in by_more over.more q over.whole over.read,
 )
   where
-    by_more : (more : List (List ℕ)) (q : Plan) → [] ≡ flat_map ended more → run (Some p) (counted more) ≡ Some (Some q) → p ≡ q
+    by_more : (more : List (List ℕ)) (q : Plan) → [] ≡ flat_map whole_line more → run (Some p) (counted_lines more) ≡ Some (Some q) → p ≡ q
     by_more [] q whole read = cc
     by_more (o ∷ more) q whole read =
-        absurd (some_feed o (flat_map ended more) (sym (append_assoc o (10 ∷ []) (flat_map ended more)) ∙ sym whole))
+        absurd (some_feed o (flat_map whole_line more) (sym (append_assoc o (10 ∷ []) (flat_map whole_line more)) ∙ sym whole))
 
 -- nothing stands there
 nothing_left : (left : List ℕ) → (length left == 0) ≡ true → left ≡ []
@@ -318,14 +318,14 @@ something_left (b ∷ left) e = λ none. cc
 
 -- the text ends well there
 pub ends_well : (text left : List ℕ) (number : ℕ) (s : Option Plan) (p : Plan) → Going text left number s → (length left == 0) ≡ true
-    → s ≡ Some p → Spells text p × ((q : Plan) → Spells text q → p ≡ q)
+    → s ≡ Some p → SpellsPlan text p × ((q : Plan) → SpellsPlan text q → p ≡ q)
 ends_well text left number s p going empty is =
     good_end text number p (subst (λ (o : Option Plan). Going text [] number o) is
     (subst (λ (l : List ℕ). Going text l number s) (nothing_left left empty) going))
 
 -- or badly
 pub ends_badly : (text left : List ℕ) (number : ℕ) (s : Option Plan) → Going text left number s → IsUnbroken left
-    → ((length left == 0) ≡ false) ⊎ (s ≡ None) → IsBadAt text number × ((q : Plan) → Spells text q → ⊥)
+    → ((length left == 0) ≡ false) ⊎ (s ≡ None) → IsBadAt text number × ((q : Plan) → SpellsPlan text q → ⊥)
 ends_badly text left number s going unbroken bad = bad_end text left number s going unbroken (why bad)
   where
     why : ((length left == 0) ≡ false) ⊎ (s ≡ None) → (left ≢ []) ⊎ (s ≡ None)

@@ -12,8 +12,8 @@ use Rattle.hex.specs.Hex.{encode_lower, encode_with}
 use Rattle.plain_text.specs.Numbers.{number_text, is_decimal}
 use Rattle.plain_text.specs.Transactions.{bytes_text}
 use Rattle.plain_text.proofs.NumberLemmas.{is_decimal-number_text}
-use Rattle.scenario_texts.specs.Lawful.{IsNumber, IsBytes, IsTowards}
-use Rattle.scenario_texts.specs.Reading.{number_of, positive_of, one_number, two_numbers, three_numbers, bytes_of, hex_of, optional}
+use Rattle.scenario_texts.specs.Lawful.{IsNumber, IsByteList, IsTowards}
+use Rattle.scenario_texts.specs.Reading.{word_number, positive_of, one_number, two_numbers, three_numbers, word_bytes, hex_of, optional}
 use Rattle.scenario_texts.specs.Reading.{optional_bytes, optional_hex, towards_of, liar_of}
 use Rattle.scenario_texts.specs.Texts.{bytes_words, hex_words, towards_text}
 use Rattle.scenario_texts.specs.declared.command.Towards.{Towards}
@@ -27,7 +27,7 @@ use Rattle.scenario_texts.proofs.HexReading.{hex_of-sound, hex_of-again}
 pub positive_of-sound : (word : List ℕ) (n : ℕ) → positive_of word ≡ Some n → (word ≡ number_text n) × ((1 ≤ n) × IsNumber n)
 unfolding positive_of
 positive_of-sound word n e =
-    let (m, (read, some)) = bind_some (λ m. cond (m == 0) None (Some m)) (number_of word) n e in
+    let (m, (read, some)) = bind_some (λ m. cond (m == 0) None (Some m)) (word_number word) n e in
     let (positive, same) = unless_some (m == 0) m n some in
     let spelled = number_of-sound word m read in
     let above : n ≡ 0 → ⊥ = λ none. let bad : true ≡ false = subst (λ (x : ℕ). (x == 0) ≡ false) (same ∙ none) positive in cc in
@@ -62,7 +62,7 @@ unfolding two_numbers
 two_numbers-sound [] m n e = absurd cc
 two_numbers-sound (a ∷ []) m n e = absurd cc
 two_numbers-sound (a ∷ b ∷ []) m n e =
-    let parts = two_parts (number_of a) (number_of b) m n e in
+    let parts = two_parts (word_number a) (word_number b) m n e in
     let first = number_of-sound a m parts.0 in
     let second = number_of-sound b n parts.1 in
     (cc (first.0, second.0), (first.1, second.1))
@@ -97,7 +97,7 @@ three_numbers-sound [] l m n e = absurd cc
 three_numbers-sound (a ∷ []) l m n e = absurd cc
 three_numbers-sound (a ∷ b ∷ []) l m n e = absurd cc
 three_numbers-sound (a ∷ b ∷ c ∷ []) l m n e =
-    let parts = three_parts (number_of a) (number_of b) (number_of c) l m n e in
+    let parts = three_parts (word_number a) (word_number b) (word_number c) l m n e in
     let first = number_of-sound a l parts.0 in
     let second = number_of-sound b m parts.1 in
     let third = number_of-sound c n parts.2 in
@@ -132,40 +132,40 @@ optional-again read (c ∷ word) b bytes none e = subst (λ (t : Bool). cond t N
 
 -- bytes, of which there may be none
 pub optional_bytes-sound : (fields : List (List ℕ)) (bytes : List ℕ) → optional_bytes fields ≡ Some bytes
-    → (fields ≡ bytes_words bytes) × IsBytes bytes
-unfolding optional_bytes bytes_of bytes_text
-optional_bytes-sound fields bytes e = by_case bytes (optional-sound bytes_of fields bytes e)
+    → (fields ≡ bytes_words bytes) × IsByteList bytes
+unfolding optional_bytes word_bytes bytes_text
+optional_bytes-sound fields bytes e = by_case bytes (optional-sound word_bytes fields bytes e)
   where
     by_case : (bytes : List ℕ) → ((fields ≡ []) × (bytes ≡ []))
-        ⊎ ((b : ℕ) × ((word : List ℕ) × ((fields ≡ (b ∷ word) ∷ []) × (bytes_of (b ∷ word) ≡ Some bytes))))
-        → (fields ≡ bytes_words bytes) × IsBytes bytes
+        ⊎ ((b : ℕ) × ((word : List ℕ) × ((fields ≡ (b ∷ word) ∷ []) × (word_bytes (b ∷ word) ≡ Some bytes))))
+        → (fields ≡ bytes_words bytes) × IsByteList bytes
     by_case [] (inl (none, same)) = (none, tt)
     by_case (x ∷ bytes) (inl (none, same)) = absurd cc
     by_case [] (inr (b, (word, (one, read)))) = let bad : b ∷ word ≡ [] = (bytes_of-sound (b ∷ word) [] read).0 in absurd cc
     by_case (x ∷ bytes) (inr (b, (word, (one, read)))) = let spelled =
         bytes_of-sound (b ∷ word) (x ∷ bytes) read in (one ∙ ap (λ w. w ∷ []) spelled.0, spelled.1)
 
-pub optional_bytes-again : (bytes : List ℕ) → IsBytes bytes → optional_bytes (bytes_words bytes) ≡ Some bytes
-unfolding optional_bytes bytes_of
+pub optional_bytes-again : (bytes : List ℕ) → IsByteList bytes → optional_bytes (bytes_words bytes) ≡ Some bytes
+unfolding optional_bytes word_bytes
 optional_bytes-again [] small = refl
-optional_bytes-again (b ∷ bytes) small = optional-again bytes_of (bytes_text (b ∷ bytes)) b bytes refl (bytes_of-again (b ∷ bytes) small)
+optional_bytes-again (b ∷ bytes) small = optional-again word_bytes (bytes_text (b ∷ bytes)) b bytes refl (bytes_of-again (b ∷ bytes) small)
 
 -- bytes in hexadecimal digits, of which there may be none
 pub optional_hex-sound : (fields : List (List ℕ)) (bytes : List ℕ) → optional_hex fields ≡ Some bytes
-    → (fields ≡ hex_words bytes) × IsBytes bytes
+    → (fields ≡ hex_words bytes) × IsByteList bytes
 unfolding optional_hex encode_with
 optional_hex-sound fields bytes e = by_case bytes (optional-sound hex_of fields bytes e)
   where
     by_case : (bytes : List ℕ) → ((fields ≡ []) × (bytes ≡ []))
         ⊎ ((b : ℕ) × ((word : List ℕ) × ((fields ≡ (b ∷ word) ∷ []) × (hex_of (b ∷ word) ≡ Some bytes))))
-        → (fields ≡ hex_words bytes) × IsBytes bytes
+        → (fields ≡ hex_words bytes) × IsByteList bytes
     by_case [] (inl (none, same)) = (none, tt)
     by_case (x ∷ bytes) (inl (none, same)) = absurd cc
     by_case [] (inr (b, (word, (one, read)))) = let bad : b ∷ word ≡ [] = (hex_of-sound (b ∷ word) [] read).0 in absurd cc
     by_case (x ∷ bytes) (inr (b, (word, (one, read)))) = let spelled =
         hex_of-sound (b ∷ word) (x ∷ bytes) read in (one ∙ ap (λ w. w ∷ []) spelled.0, spelled.1)
 
-pub optional_hex-again : (bytes : List ℕ) → IsBytes bytes → optional_hex (hex_words bytes) ≡ Some bytes
+pub optional_hex-again : (bytes : List ℕ) → IsByteList bytes → optional_hex (hex_words bytes) ≡ Some bytes
 unfolding optional_hex encode_with
 optional_hex-again [] small = refl
 optional_hex-again (b ∷ bytes) small =
@@ -180,13 +180,13 @@ pub towards_of-sound : (word : List ℕ) (to : Towards) → towards_of word ≡ 
 unfolding towards_of
 towards_of-sound word to e = by_test (bytes_eq word (codes "all")) refl to e
   where
-    by_test : (t : Bool) → bytes_eq word (codes "all") ≡ t → (to : Towards) → cond t (Some All) (option_map One (number_of word)) ≡ Some to
+    by_test : (t : Bool) → bytes_eq word (codes "all") ≡ t → (to : Towards) → cond t (Some All) (option_map One (word_number word)) ≡ Some to
         → (word ≡ towards_text to) × IsTowards to
     by_test true is All e = (all_word word is, tt)
     by_test true is (One n) e = absurd cc
-    by_test false is All e = let (n, (read, same)) = map_some One (number_of word) All e in absurd cc
+    by_test false is All e = let (n, (read, same)) = map_some One (word_number word) All e in absurd cc
     by_test false is (One n) e =
-        let (m, (read, same)) = map_some One (number_of word) (One n) e in
+        let (m, (read, same)) = map_some One (word_number word) (One n) e in
         let equal : m ≡ n = cc in
         let spelled = number_of-sound word m read in
         (spelled.0 ∙ ap number_text equal, subst IsNumber equal spelled.1)
@@ -197,7 +197,7 @@ towards_of-again All is = refl
 towards_of-again (One n) small = by_test (bytes_eq (number_text n) (codes "all")) refl
   where
     by_test : (t : Bool) → bytes_eq (number_text n) (codes "all") ≡ t
-        → cond t (Some All) (option_map One (number_of (number_text n))) ≡ Some (One n)
+        → cond t (Some All) (option_map One (word_number (number_text n))) ≡ Some (One n)
     by_test true is =
         let word : number_text n ≡ codes "all" = all_word (number_text n) is in
         let digits : is_decimal (codes "all") ≡ true = subst (λ (w : List ℕ). is_decimal w ≡ true) word (is_decimal-number_text n small) in
@@ -231,7 +231,7 @@ pub liar_of-sound : (liars : List ℕ) (word : List ℕ) (r : ℕ) → liar_of l
     → (word ≡ number_text r) × (Contains liars r × IsNumber r)
 unfolding liar_of
 liar_of-sound liars word r e =
-    let (n, (read, found)) = bind_some (λ n. find (λ liar. liar == n) liars) (number_of word) r e in
+    let (n, (read, found)) = bind_some (λ n. find (λ liar. liar == n) liars) (word_number word) r e in
     let spelled = number_of-sound word n read in
     let is = found_among n r liars found in
     (spelled.0 ∙ ap number_text (sym is.0), (is.1, subst IsNumber (sym is.0) spelled.1))

@@ -10,7 +10,7 @@ use Rattle.std.proofs.Math.Bool.{or-false}
 use Rattle.lm_ots.specs.declared.params.Params.{Params}
 use Rattle.plain_text.specs.Numbers.{number_text}
 use Rattle.scenario_texts.specs.Plans.{Plan}
-use Rattle.scenario_texts.specs.Lines.{max_line_len, short_line_len, sets_frames, line_limit, AreShort, counts, counted}
+use Rattle.scenario_texts.specs.Lines.{max_line_len, short_line_len, sets_frames, line_limit, AreWithinLengths, counts, counted_lines}
 use Rattle.scenario_texts.specs.Texts.{words_text, command_words, command_text, config_words, params_words}
 use Rattle.scenario_texts.specs.Texts.{keys_lines, frames_lines, liar_text, plan_lines}
 use Rattle.scenario_texts.specs.Reading.{is_first, limit_after}
@@ -49,7 +49,7 @@ placed (l ∷ lines) last (b ∷ before) after line e =
     rw (sym heads) (placed_later l lines last before line (placed lines last before after line tails))
 
 -- one short line more
-pub short_more : (lines : List (List ℕ)) (last : List ℕ) → AreShort lines → length last ≤ line_limit lines → AreShort (lines ++ last ∷ [])
+pub short_more : (lines : List (List ℕ)) (last : List ℕ) → AreWithinLengths lines → length last ≤ line_limit lines → AreWithinLengths (lines ++ last ∷ [])
 short_more lines last short fits before after line e = by_place (placed lines last before after line e)
   where
     by_place : IsPlaced lines last before line → length line ≤ line_limit before
@@ -77,12 +77,12 @@ frames_count line over = by_test (sets_frames line) refl
         absurd cc
     by_test false e = refl
 
-any_counted : (lines : List (List ℕ)) → list_any sets_frames lines ≡ list_any sets_frames (counted lines)
+any_counted : (lines : List (List ℕ)) → list_any sets_frames lines ≡ list_any sets_frames (counted_lines lines)
 any_counted [] = refl
 any_counted (line ∷ lines) = by_count (counts line) refl (any_counted lines)
   where
-    by_count : (t : Bool) → counts line ≡ t → list_any sets_frames lines ≡ list_any sets_frames (counted lines)
-        → (sets_frames line || list_any sets_frames lines) ≡ list_any sets_frames (cond t (line ∷ counted lines) (counted lines))
+    by_count : (t : Bool) → counts line ≡ t → list_any sets_frames lines ≡ list_any sets_frames (counted_lines lines)
+        → (sets_frames line || list_any sets_frames lines) ≡ list_any sets_frames (cond t (line ∷ counted_lines lines) (counted_lines lines))
     by_count true e later = ap (λ (t : Bool). sets_frames line || t) later
     by_count false e later = rw (frames_count line e) later
 
@@ -170,7 +170,7 @@ plan_sets p =
     ) (or-false _ ∙ or-false _)
 
 -- the most bytes of a line after these lines, by the plan that they show
-pub limit_is : (s : Option Plan) (lines : List (List ℕ)) → Shows s (counted lines) → line_limit lines ≡ limit_after s
+pub limit_is : (s : Option Plan) (lines : List (List ℕ)) → Shows s (counted_lines lines) → line_limit lines ≡ limit_after s
 limit_is None lines none =
     ap (λ (t : Bool). cond t max_line_len short_line_len) (any_counted lines ∙ ap (list_any sets_frames) none)
 limit_is (Some p) lines (spelled, is) =

@@ -30,7 +30,7 @@ use Rattle.scenario_texts.specs.Texts.{words_text, command_text, config_words, p
 use Rattle.scenario_texts.specs.Texts.{frames_words, liar_text}
 use Rattle.scenario_texts.specs.Texts.{setup_lines, plan_lines}
 use Rattle.scenario_texts.specs.Reading.{ascii_of, keyword_of, command_of, with_keys, with_frames, with_liar, with_command, going_on}
-use Rattle.scenario_texts.specs.Reading.{beginning}
+use Rattle.scenario_texts.specs.Reading.{first_plan}
 use Rattle.scenario_texts.specs.Reading.{next_by_keyword, next_by_words, next_of}
 use Rattle.scenario_texts.specs.declared.keyword.Keyword.{Keyword}
 use Rattle.scenario_texts.specs.declared.keyword.Keyword.TheVariants as keyword
@@ -247,9 +247,9 @@ config_visible replicas faults kind is = (
 )
 
 -- the cluster
-config_shows : (fields : List (List ℕ)) (q : Plan) (lines : List (List ℕ)) → beginning keyword.Config fields ≡ Some q → lines ≡ []
+config_shows : (fields : List (List ℕ)) (q : Plan) (lines : List (List ℕ)) → first_plan keyword.Config fields ≡ Some q → lines ≡ []
     → ShowsMore lines (codes "config" ∷ fields) q
-unfolding beginning plan_lines cluster
+unfolding first_plan plan_lines cluster
 config_shows fields q lines e none =
     let (replicas, (faults, (kind, (spelled, (same, is))))) = begun_of-sound fields q e in
     subst (λ (x : Plan). ShowsMore lines (codes "config" ∷ fields) x) (sym same) (record {
@@ -261,7 +261,7 @@ config_shows fields q lines e none =
 -- a line by its keyword
 keyword_shows : (s : Option Plan) (k : Keyword) (fields : List (List ℕ)) (q : Plan) (lines : List (List ℕ))
     → next_by_keyword s k fields ≡ Some q → Shows s lines → ShowsMore lines (keyword_text k ∷ fields) q
-unfolding next_by_keyword going_on beginning
+unfolding next_by_keyword going_on first_plan
 keyword_shows None keyword.Config fields q lines e shows = config_shows fields q lines e shows
 keyword_shows None keyword.Keys fields q lines e shows = absurd cc
 keyword_shows None keyword.Frames fields q lines e shows = absurd cc

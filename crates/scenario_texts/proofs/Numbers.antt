@@ -6,11 +6,11 @@ use Rattle.std.proofs.lemmas.Bool.{and_parts, ltb-true, not-true}
 use Rattle.std.proofs.lemmas.Bool.Decides.{nat_tests}
 use Rattle.plain_text.specs.Numbers.{is_decimal, has_needless_zero, number_text}
 use Rattle.plain_text.proofs.NumberLemmas.{number_text_of, number_text-bare, is_decimal-number_text, digits_value-number_text}
-use Rattle.scenario_texts.specs.Reading.{number_of}
+use Rattle.scenario_texts.specs.Reading.{word_number}
 
 -- a number is read
-pub number_of-again : (n : ℕ) → n < 2 ^ 32 → number_of (number_text n) ≡ Some n
-unfolding number_of
+pub number_of-again : (n : ℕ) → n < 2 ^ 32 → word_number (number_text n) ≡ Some n
+unfolding word_number
 number_of-again n small =
     let digits : is_decimal (number_text n) ≡ true = is_decimal-number_text n small in
     let bare = number_text-bare n small in
@@ -19,8 +19,8 @@ number_of-again n small =
     rw (digits, bare, fits, value) refl
 
 -- what was read is a number
-pub number_of-sound : (word : List ℕ) (n : ℕ) → number_of word ≡ Some n → (word ≡ number_text n) × (n < 2 ^ 32)
-unfolding number_of
+pub number_of-sound : (word : List ℕ) (n : ℕ) → word_number word ≡ Some n → (word ≡ number_text n) × (n < 2 ^ 32)
+unfolding word_number
 number_of-sound word n e = by_test (is_decimal word && not (has_needless_zero word) && nat_lt (digits_value 10 word) (2 ^ 32)) refl e
   where
     by_test : (t : Bool) → (is_decimal word && not (has_needless_zero word) && nat_lt (digits_value 10 word) (2 ^ 32)) ≡ t
@@ -37,10 +37,10 @@ number_of-sound word n e = by_test (is_decimal word && not (has_needless_zero wo
 
 -- a reader of numbers reads them as this one does
 pub number_of-is : (word : List ℕ) (r : Option ℕ) → IfSome r (λ n. n < 2 ^ 32) → IfSome r (λ n. word ≡ number_text n)
-    → ((n : ℕ) → n < 2 ^ 32 → word ≡ number_text n → r ≡ Some n) → r ≡ number_of word
-number_of-is word (Some n) small value found = sym (ap number_of value ∙ number_of-again n small)
-number_of-is word None small value found = by_answer (number_of word) refl
+    → ((n : ℕ) → n < 2 ^ 32 → word ≡ number_text n → r ≡ Some n) → r ≡ word_number word
+number_of-is word (Some n) small value found = sym (ap word_number value ∙ number_of-again n small)
+number_of-is word None small value found = by_answer (word_number word) refl
   where
-    by_answer : (o : Option ℕ) → number_of word ≡ o → None ≡ o
+    by_answer : (o : Option ℕ) → word_number word ≡ o → None ≡ o
     by_answer None e = refl
     by_answer (Some n) e = let spelled = number_of-sound word n e in let bad = found n spelled.1 spelled.0 in absurd cc

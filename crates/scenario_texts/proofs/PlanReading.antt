@@ -23,7 +23,7 @@ use Rattle.ledger_model.proofs.Numbers.{kind_again, kind_of_number-sound}
 use Rattle.scenario_texts.specs.Plans.{Plan}
 use Rattle.scenario_texts.specs.Lawful.{IsNumber, IsSetup}
 use Rattle.scenario_texts.specs.Texts.{config_words, params_words}
-use Rattle.scenario_texts.specs.Reading.{is_size, config_of, begun_of, params_from, is_first, is_early, with_keys, with_frames}
+use Rattle.scenario_texts.specs.Reading.{is_size, config_of, begun_of, params_from, is_first, has_setup_alone, with_keys, with_frames}
 use Rattle.scenario_texts.specs.Reading.{is_new_liar, with_liar, one_number}
 use Rattle.scenario_texts.specs.Reading.{two_numbers, three_numbers}
 use Rattle.scenario_texts.proofs.Options.{bind_some, map_some}
@@ -204,15 +204,15 @@ first_version : (own : Version) → is_first own ≡ true → own ≡ version.On
 first_version version.One e = refl
 first_version version.Two e = absurd cc
 
-is_early-sound : (p : Plan) → is_early p ≡ true → IsEarly p
-unfolding is_early
+is_early-sound : (p : Plan) → has_setup_alone p ≡ true → IsEarly p
+unfolding has_setup_alone
 is_early-sound p e =
     let a = and_parts (is_first p.frames && length p.liars == 0) (length p.commands == 0) e in
     let b = and_parts (is_first p.frames) (length p.liars == 0) a.0 in
     record { first = first_version p.frames b.0; no_liars = none_left p.liars b.1; no_steps = none_left p.commands a.1 }
 
-is_early-true : (p : Plan) → IsEarly p → is_early p ≡ true
-unfolding is_early
+is_early-true : (p : Plan) → IsEarly p → has_setup_alone p ≡ true
+unfolding has_setup_alone
 is_early-true p early =
     let first : is_first p.frames ≡ true = ap is_first early.first in
     let alone : (length p.liars == 0) ≡ true = ap (λ (xs : List ℕ). length xs == 0) early.no_liars in
@@ -235,12 +235,12 @@ pub with_keys-sound : (p : Plan) (fields : List (List ℕ)) (q : Plan) → with_
 unfolding with_keys
 with_keys-sound p fields q e =
     let make : Params → Option Plan =
-    λ keys. cond (not (is_some p.keys) && is_early p) (Some (record p { keys = Some keys })) None in
+    λ keys. cond (not (is_some p.keys) && has_setup_alone p) (Some (record p { keys = Some keys })) None in
     let (n, (read, more)) = bind_some (λ (n : ℕ × ℕ). option_and_then make (params_from n)) (two_numbers fields) q e in
     let (keys, (set, fits)) = bind_some make (params_from n) q more in
     let next : Plan = record p { keys = Some keys } in
-    let (test, same) = cond_some (not (is_some p.keys) && is_early p) next q fits in
-    let tests = and_parts (not (is_some p.keys)) (is_early p) test in
+    let (test, same) = cond_some (not (is_some p.keys) && has_setup_alone p) next q fits in
+    let tests = and_parts (not (is_some p.keys)) (has_setup_alone p) test in
     let numbers = params_from-sound n keys set in
     let spelled = two_numbers-sound fields n.0 n.1 read in
     record {
@@ -275,8 +275,8 @@ unfolding with_frames
 with_frames-sound p [] q e = absurd cc
 with_frames-sound p (word ∷ []) q e =
     let next : Plan = record p { frames = version.Two } in
-    let (test, same) = cond_some (bytes_eq word (codes "2") && is_early p) next q e in
-    let tests = and_parts (bytes_eq word (codes "2")) (is_early p) test in
+    let (test, same) = cond_some (bytes_eq word (codes "2") && has_setup_alone p) next q e in
+    let tests = and_parts (bytes_eq word (codes "2")) (has_setup_alone p) test in
     record {
       spelled = ap (λ (w : List ℕ). w ∷ []) ((bytes_eq-Decides word (codes "2")).0 tests.0);
       early = is_early-sound p tests.1;

@@ -16,7 +16,7 @@ use Rattle.scenario_texts.specs.Words.{keyword_text}
 use Rattle.scenario_texts.specs.Lawful.{IsNumber, IsSetup, IsPlan, IsCommand}
 use Rattle.scenario_texts.specs.Texts.{words_text, command_text, config_words, params_words, keys_lines, frames_lines}
 use Rattle.scenario_texts.specs.Texts.{frames_words, liar_text, plan_lines}
-use Rattle.scenario_texts.specs.Reading.{with_command, going_on, beginning, next_by_keyword, next_of}
+use Rattle.scenario_texts.specs.Reading.{with_command, going_on, first_plan, next_by_keyword, next_of}
 use Rattle.scenario_texts.specs.declared.keyword.Keyword.TheVariants as keyword
 use Rattle.scenario_texts.specs.declared.command.Command.{Command}
 use Rattle.scenario_texts.proofs.Visible.{IsWords, IsWord-number_text}
@@ -56,7 +56,7 @@ run-bad s line lines e = ap (option_and_then (λ q. run (Some q) lines)) e
 -- the line of the cluster
 config_again : (p : Plan) → IsSetup p → IsSetup (cluster p.replicas p.faults p.kind)
     → next_of None (words_text (config_words p.replicas p.faults p.kind)) ≡ Some (cluster p.replicas p.faults p.kind)
-unfolding next_by_keyword beginning
+unfolding next_by_keyword first_plan
 config_again p is alone =
     next_of-words None keyword.Config (number_text p.replicas ∷ number_text p.faults ∷ number_text (kind_number p.kind) ∷ [])
     (config_visible p.replicas p.faults p.kind alone) ∙ begun_of-again p is

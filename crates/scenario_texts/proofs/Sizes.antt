@@ -10,7 +10,7 @@ use Rattle.std.proofs.lemmas.List.Concat.{flat_map-append}
 use Rattle.std.proofs.lemmas.List.Elements.{All-append, All-cons, All-head, All-nil, All-push, All-tail}
 use Rattle.std.proofs.SliceLists.{all_by_recursion_push}
 use Rattle.scenario_texts.specs.declared.line_count.LineCount.{LineCount}
-use Rattle.scenario_texts.specs.Lines.{max_lines, max_line_len, line_limit, ended, IsUnbroken, AreShort, Spells, GoesOn, FollowsBad}
+use Rattle.scenario_texts.specs.Lines.{max_lines, max_line_len, line_limit, whole_line, IsUnbroken, AreWithinLengths, SpellsPlan, IsPlanSoFar, FollowsBad}
 use Rattle.scenario_texts.specs.Lines.{EndsBadly, IsBadAt}
 use Rattle.scenario_texts.specs.Lines.{HasLines, IsTooLarge, IsCounted}
 use Rattle.scenario_texts.specs.Plans.{Plan}
@@ -26,12 +26,12 @@ abbrev IsShort : List ℕ → Type 0
 IsShort line = length line ≤ max_line_len
 
 -- lines that are short by the lines before them
-each_at_most : (front lines : List (List ℕ)) → AreShort (front ++ lines) → AllByRecursion IsShort lines
+each_at_most : (front lines : List (List ℕ)) → AreWithinLengths (front ++ lines) → AllByRecursion IsShort lines
 each_at_most front [] short = tt
 each_at_most front (line ∷ lines) short =
     let within : length line ≤ line_limit front = short front lines line refl in (
       omega (arith, within, limit_most front),
-      each_at_most (front ++ line ∷ []) lines (subst AreShort (sym (append_assoc front (line ∷ []) lines)) short),
+      each_at_most (front ++ line ∷ []) lines (subst AreWithinLengths (sym (append_assoc front (line ∷ []) lines)) short),
     )
 
 -- ---- counting
@@ -42,9 +42,9 @@ none_counted count none short =
     record { lines = []; rest = []; whole = refl; unbroken = tt; under_way = none_unbroken; ended = sym none; long = sym short }
 
 -- a text with a byte more after its lines
-behind : (lines : List (List ℕ)) (text rest more : List ℕ) → text ≡ flat_map ended lines ++ rest
-    → text ++ more ≡ flat_map ended lines ++ (rest ++ more)
-behind lines text rest more whole = ap (λ t. t ++ more) whole ∙ append_assoc (flat_map ended lines) rest more
+behind : (lines : List (List ℕ)) (text rest more : List ℕ) → text ≡ flat_map whole_line lines ++ rest
+    → text ++ more ≡ flat_map whole_line lines ++ (rest ++ more)
+behind lines text rest more whole = ap (λ t. t ++ more) whole ∙ append_assoc (flat_map whole_line lines) rest more
 
 -- the byte is one too many, since the lines are
 pub behind_last : (text : List ℕ) (old new : LineCount) (b : ℕ) → max_lines ≤ old.ended → HasLines text old
@@ -81,7 +81,7 @@ line_too_long text old new b other long has = record {
   line = has.rest ++ b ∷ [];
   after = [];
   whole = behind has.lines text has.rest (b ∷ []) has.whole
-      ∙ ap (λ r. flat_map ended has.lines ++ r) (sym (append-nil (has.rest ++ b ∷ [])));
+      ∙ ap (λ r. flat_map whole_line has.lines ++ r) (sym (append-nil (has.rest ++ b ∷ [])));
   unbroken = has.unbroken;
   begun = All-push (λ c. c ≢ 10) has.rest b has.under_way other;
   bad = inl (omega (arith, long, has.long, length-append has.rest (b ∷ [])));
@@ -109,7 +109,7 @@ larger text more large = record {
   line = large.line;
   after = large.after ++ more;
   whole = behind large.lines text (large.line ++ large.after) more large.whole
-      ∙ ap (λ r. flat_map ended large.lines ++ r) (append_assoc large.line large.after more);
+      ∙ ap (λ r. flat_map whole_line large.lines ++ r) (append_assoc large.line large.after more);
   unbroken = large.unbroken;
   begun = large.begun;
   bad = still large.bad;
@@ -160,7 +160,7 @@ part_of_line (b ∷ line) after (c ∷ rest) z u e =
     omega (arith, short)
 
 -- a line and its end, before others
-ended_then : (line more : List ℕ) → ended line ++ more ≡ line ++ 10 ∷ more
+ended_then : (line more : List ℕ) → whole_line line ++ more ≡ line ++ 10 ∷ more
 ended_then line more = append_assoc line (10 ∷ []) more
 
 -- where a text is too large, and its ended lines are not, the line under way is too long, or one too many
@@ -168,24 +168,24 @@ under_way_bad : (k : ℕ) (lines before : List (List ℕ)) (line after rest : Li
     → AllByRecursion IsUnbroken before → IsUnbroken line → IsUnbroken rest
     → k + length before ≤ max_lines → AllByRecursion IsShort before
     → (max_line_len < length line) ⊎ ((max_lines ≤ k + length lines) × (1 ≤ length (line ++ after)))
-    → flat_map ended lines ++ (line ++ after) ≡ flat_map ended before ++ rest
+    → flat_map whole_line lines ++ (line ++ after) ≡ flat_map whole_line before ++ rest
     → (max_line_len < length rest) ⊎ ((max_lines ≤ k + length before) × (1 ≤ length rest))
 under_way_bad k [] [] line after rest u v begun w few short (inl long) e = inl (omega (arith, long, ap length e, length-append line after))
 under_way_bad k [] [] line after rest u v begun w few short (inr (many, some)) e = inr (many, omega (arith, some, ap length e))
 under_way_bad k [] (o ∷ before) line after rest u v begun w few short (inl long) e =
-    let cut : line ++ after ≡ o ++ 10 ∷ (flat_map ended before ++ rest) =
-    e ∙ append_assoc (ended o) (flat_map ended before) rest ∙ ended_then o (flat_map ended before ++ rest) in
-    absurd (omega (arith, long, short.0, part_of_line line after o (flat_map ended before ++ rest) begun cut))
+    let cut : line ++ after ≡ o ++ 10 ∷ (flat_map whole_line before ++ rest) =
+    e ∙ append_assoc (whole_line o) (flat_map whole_line before) rest ∙ ended_then o (flat_map whole_line before ++ rest) in
+    absurd (omega (arith, long, short.0, part_of_line line after o (flat_map whole_line before ++ rest) begun cut))
 under_way_bad k [] (o ∷ before) line after rest u v begun w few short (inr (many, some)) e = absurd (omega (arith, many, few))
 under_way_bad k (l ∷ lines) [] line after rest u v begun w few short bad e =
-    absurd (not_ended l (flat_map ended lines ++ (line ++ after))
-    (subst IsUnbroken (sym e ∙ append_assoc (ended l) (flat_map ended lines) (line ++ after)) w))
+    absurd (not_ended l (flat_map whole_line lines ++ (line ++ after))
+    (subst IsUnbroken (sym e ∙ append_assoc (whole_line l) (flat_map whole_line lines) (line ++ after)) w))
 under_way_bad k (l ∷ lines) (o ∷ before) line after rest (p, u) (q, v) begun w few (first, short) bad e =
-    let here : flat_map ended (l ∷ lines) ++ (line ++ after) ≡ l ++ 10 ∷ (flat_map ended lines ++ (line ++ after)) =
-    append_assoc (ended l) (flat_map ended lines) (line ++ after) ∙ ended_then l (flat_map ended lines ++ (line ++ after)) in
-    let there : flat_map ended (o ∷ before) ++ rest ≡ o ++ 10 ∷ (flat_map ended before ++ rest) =
-    append_assoc (ended o) (flat_map ended before) rest ∙ ended_then o (flat_map ended before ++ rest) in
-    let tails = (first_same l o (flat_map ended lines ++ (line ++ after)) (flat_map ended before ++ rest) p q (sym here ∙ e ∙ there)).1 in
+    let here : flat_map whole_line (l ∷ lines) ++ (line ++ after) ≡ l ++ 10 ∷ (flat_map whole_line lines ++ (line ++ after)) =
+    append_assoc (whole_line l) (flat_map whole_line lines) (line ++ after) ∙ ended_then l (flat_map whole_line lines ++ (line ++ after)) in
+    let there : flat_map whole_line (o ∷ before) ++ rest ≡ o ++ 10 ∷ (flat_map whole_line before ++ rest) =
+    append_assoc (whole_line o) (flat_map whole_line before) rest ∙ ended_then o (flat_map whole_line before ++ rest) in
+    let tails = (first_same l o (flat_map whole_line lines ++ (line ++ after)) (flat_map whole_line before ++ rest) p q (sym here ∙ e ∙ there)).1 in
     counted (under_way_bad (k + 1) lines before line after rest u v begun w (omega (arith, few)) short (one_less bad) tails)
   where
     one_less : (max_line_len < length line) ⊎ ((max_lines ≤ k + length (l ∷ lines)) × (1 ≤ length (line ++ after)))
@@ -198,7 +198,7 @@ under_way_bad k (l ∷ lines) (o ∷ before) line after rest (p, u) (q, v) begun
     counted (inl long) = inl long
     counted (inr (many, some)) = inr (omega (arith, many), some)
 
-large_under_way : (text : List ℕ) (before : List (List ℕ)) (rest : List ℕ) → IsTooLarge text → text ≡ flat_map ended before ++ rest
+large_under_way : (text : List ℕ) (before : List (List ℕ)) (rest : List ℕ) → IsTooLarge text → text ≡ flat_map whole_line before ++ rest
     → AllByRecursion IsUnbroken before → IsUnbroken rest
     → length before ≤ max_lines → AllByRecursion IsShort before
     → (max_line_len < length rest) ⊎ ((max_lines ≤ length before) × (1 ≤ length rest))
@@ -217,9 +217,9 @@ large_under_way text before rest large whole u w few short =
     from_none (inr (many, some)) = inr (omega (arith, many), some)
 
 -- no text that is too large spells a plan
-pub large_spells_none : (text : List ℕ) (p : Plan) → IsTooLarge text → Spells text p → ⊥
+pub large_spells_none : (text : List ℕ) (p : Plan) → IsTooLarge text → SpellsPlan text p → ⊥
 large_spells_none text p large spells =
-    none (large_under_way text spells.lines [] large (spells.whole ∙ sym (append-nil (flat_map ended spells.lines))) spells.unbroken
+    none (large_under_way text spells.lines [] large (spells.whole ∙ sym (append-nil (flat_map whole_line spells.lines))) spells.unbroken
     none_unbroken spells.few (each_at_most [] spells.lines spells.short))
   where
     none : (max_line_len < 0) ⊎ ((max_lines ≤ length spells.lines) × (1 ≤ 0)) → ⊥
@@ -261,7 +261,7 @@ bad_anyway text more n large at = record {
   bad = goes at.bad;
 }
   where
-    not_short : max_line_len < length at.rest → (line : List ℕ) → GoesOn (at.before ++ (at.rest ++ line) ∷ []) → ⊥
+    not_short : max_line_len < length at.rest → (line : List ℕ) → IsPlanSoFar (at.before ++ (at.rest ++ line) ∷ []) → ⊥
     not_short long line on =
         let within : length (at.rest ++ line) ≤ line_limit at.before = on.short at.before [] (at.rest ++ line) refl in
         omega (arith, long, within, limit_most at.before, length-append at.rest line)
@@ -282,7 +282,7 @@ bad_anyway text more n large at = record {
     })
       where
         reason : (max_line_len < length at.rest) ⊎ ((max_lines ≤ length at.before) × (1 ≤ length at.rest))
-            → (max_lines ≤ length at.before) ⊎ (GoesOn (at.before ++ (at.rest ++ line) ∷ []) → ⊥)
+            → (max_lines ≤ length at.before) ⊎ (IsPlanSoFar (at.before ++ (at.rest ++ line) ∷ []) → ⊥)
         reason (inl long) = inr (not_short long line)
         reason (inr (many, one)) = inl many
 
@@ -291,7 +291,7 @@ bad_anyway text more n large at = record {
     goes (inl bad) = inl (record {
       line = bad.line;
       after = bad.after ++ more;
-      ends = ap (λ r. r ++ more) bad.ends ∙ append_assoc (ended bad.line) bad.after more;
+      ends = ap (λ r. r ++ more) bad.ends ∙ append_assoc (whole_line bad.line) bad.after more;
       unbroken = bad.unbroken;
       bad = bad.bad;
     })
@@ -307,15 +307,15 @@ at_most n limit none = omega (arith, none)
 
 -- the ended lines of a text that is not too large are short
 each_short : (before lines : List (List ℕ)) (rest : List ℕ) → AllByRecursion IsUnbroken before → AllByRecursion IsUnbroken lines
-    → (IsTooLarge (flat_map ended before ++ (flat_map ended lines ++ rest)) → ⊥) → AllByRecursion IsShort lines
+    → (IsTooLarge (flat_map whole_line before ++ (flat_map whole_line lines ++ rest)) → ⊥) → AllByRecursion IsShort lines
 each_short before [] rest u v small = tt
 each_short before (l ∷ lines) rest u (p, v) small = (
   at_most (length l) max_line_len (λ long. small (record {
     lines = before;
     line = l;
-    after = 10 ∷ (flat_map ended lines ++ rest);
-    whole = ap (λ t. flat_map ended before ++ t)
-        (append_assoc (ended l) (flat_map ended lines) rest ∙ ended_then l (flat_map ended lines ++ rest));
+    after = 10 ∷ (flat_map whole_line lines ++ rest);
+    whole = ap (λ t. flat_map whole_line before ++ t)
+        (append_assoc (whole_line l) (flat_map whole_line lines) rest ∙ ended_then l (flat_map whole_line lines ++ rest));
     unbroken = u;
     begun = p;
     bad = inl long;
@@ -323,13 +323,13 @@ each_short before (l ∷ lines) rest u (p, v) small = (
   each_short (before ++ l ∷ []) lines rest (all_by_recursion_push IsUnbroken before l u p) v (λ large. small (subst IsTooLarge same large)),
 )
   where
-    same : flat_map ended (before ++ l ∷ []) ++ (flat_map ended lines ++ rest) ≡ flat_map ended before
-        ++ (flat_map ended (l ∷ lines) ++ rest)
+    same : flat_map whole_line (before ++ l ∷ []) ++ (flat_map whole_line lines ++ rest) ≡ flat_map whole_line before
+        ++ (flat_map whole_line (l ∷ lines) ++ rest)
     same =
-        ap (λ t. t ++ (flat_map ended lines ++ rest))
-        (flat_map-append ended before (l ∷ []) ∙ ap (λ m. flat_map ended before ++ m) (append-nil (ended l)))
-        ∙ append_assoc (flat_map ended before) (ended l) (flat_map ended lines ++ rest)
-        ∙ ap (λ t. flat_map ended before ++ t) (sym (append_assoc (ended l) (flat_map ended lines) rest))
+        ap (λ t. t ++ (flat_map whole_line lines ++ rest))
+        (flat_map-append whole_line before (l ∷ []) ∙ ap (λ m. flat_map whole_line before ++ m) (append-nil (whole_line l)))
+        ∙ append_assoc (flat_map whole_line before) (whole_line l) (flat_map whole_line lines ++ rest)
+        ∙ ap (λ t. flat_map whole_line before ++ t) (sym (append_assoc (whole_line l) (flat_map whole_line lines) rest))
 
 module _ (text : List ℕ) (old : LineCount) (has : HasLines text old) (small : IsTooLarge text → ⊥) where
   lines_short : AllByRecursion IsShort has.lines
@@ -340,7 +340,7 @@ module _ (text : List ℕ) (old : LineCount) (has : HasLines text old) (small : 
     lines = has.lines;
     line = has.rest;
     after = [];
-    whole = has.whole ∙ ap (λ r. flat_map ended has.lines ++ r) (sym (append-nil has.rest));
+    whole = has.whole ∙ ap (λ r. flat_map whole_line has.lines ++ r) (sym (append-nil has.rest));
     unbroken = has.unbroken;
     begun = has.under_way;
     bad = inl long;

@@ -16,8 +16,8 @@ abbrev pub IsNumber : ℕ → Type 0
 IsNumber n = n < 2 ^ 32
 
 -- each element is a byte
-abbrev pub IsBytes : List ℕ → Type 0
-IsBytes bytes = AllByRecursion IsByte bytes
+abbrev pub IsByteList : List ℕ → Type 0
+IsByteList bytes = AllByRecursion IsByte bytes
 
 -- a number of 32 bits, or all
 abbrev pub IsTowards : Towards → Type 0
@@ -35,13 +35,13 @@ pub record IsLie (version : Version) (liars : List ℕ) (lie : Lie) : Type 0 whe
 
 -- the command can be written, in a cluster with frames of this version and these liars
 abbrev pub IsCommand : Version → List ℕ → Command → Type 0
-IsCommand version liars (command.Submit replica bytes) = IsNumber replica × IsBytes bytes
+IsCommand version liars (command.Submit replica bytes) = IsNumber replica × IsByteList bytes
 IsCommand version liars (command.Propose replica height) = IsNumber replica × IsNumber height
 IsCommand version liars (command.End replica) = IsNumber replica
 IsCommand version liars (command.Pass from index to) = IsNumber from × IsNumber index × IsNumber to
-IsCommand version liars (command.Inject to bytes) = IsNumber to × IsBytes bytes
+IsCommand version liars (command.Inject to bytes) = IsNumber to × IsByteList bytes
 IsCommand version liars (command.Execute replica) = IsNumber replica
-IsCommand version liars (command.Query replica key) = IsNumber replica × IsBytes key × (length key ≤ max_key_len)
+IsCommand version liars (command.Query replica key) = IsNumber replica × IsByteList key × (length key ≤ max_key_len)
 IsCommand version liars (command.Retire replica floor) = IsNumber replica × IsNumber floor
 IsCommand version liars (command.Info replica) = IsNumber replica
 IsCommand version liars command.Silent = Unit {0}

@@ -29,8 +29,8 @@ abbrev pub line_limit : List (List ℕ) → ℕ
 line_limit before = if list_any sets_frames before then max_line_len else short_line_len
 
 -- a line with its line feed
-abbrev pub ended : List ℕ → List ℕ
-ended line = line ++ 10 ∷ []
+abbrev pub whole_line : List ℕ → List ℕ
+whole_line line = line ++ 10 ∷ []
 
 -- the line contains no line feed
 abbrev pub IsUnbroken : List ℕ → Type 0
@@ -42,43 +42,43 @@ counts [] = false
 counts (b ∷ line) = not (b == 0x23)
 
 -- the lines that count
-abbrev pub counted : List (List ℕ) → List (List ℕ)
-counted lines = filter counts lines
+abbrev pub counted_lines : List (List ℕ) → List (List ℕ)
+counted_lines lines = filter counts lines
 
 -- each line has at most as many bytes as the lines before it allow
-abbrev pub AreShort : List (List ℕ) → Type 0
-AreShort lines = (before after : List (List ℕ)) (line : List ℕ) → lines ≡ before ++ line ∷ after → length line ≤ line_limit before
+abbrev pub AreWithinLengths : List (List ℕ) → Type 0
+AreWithinLengths lines = (before after : List (List ℕ)) (line : List ℕ) → lines ≡ before ++ line ∷ after → length line ≤ line_limit before
 
 -- the text encodes the plan
-pub record Spells (text : List ℕ) (p : Plan) : Type 0 where
+pub record SpellsPlan (text : List ℕ) (p : Plan) : Type 0 where
   pub lines : List (List ℕ)
-  pub whole : text ≡ flat_map ended lines
+  pub whole : text ≡ flat_map whole_line lines
   pub unbroken : AllByRecursion IsUnbroken lines
   pub few : length lines ≤ max_lines
-  pub short : AreShort lines
-  pub those : counted lines ≡ plan_lines p
+  pub short : AreWithinLengths lines
+  pub those : counted_lines lines ≡ plan_lines p
   pub lawful : IsPlan p
 
 -- `count` has the number of lines that a line feed ended, and the number of bytes after the last line feed
 pub record HasLines (text : List ℕ) (count : LineCount) : Type 0 where
   pub lines : List (List ℕ)
   pub rest : List ℕ
-  pub whole : text ≡ flat_map ended lines ++ rest
+  pub whole : text ≡ flat_map whole_line lines ++ rest
   pub unbroken : AllByRecursion IsUnbroken lines
   pub under_way : IsUnbroken rest
   pub ended : length lines ≡ count.ended
   pub long : length rest ≡ count.under_way
 
 -- the text has at most as many lines as it may have, and at most as many bytes after the last line feed as any line may have
-abbrev pub IsWithinLimits : LineCount → Type 0
-IsWithinLimits count = (count.ended ≤ max_lines) × (count.under_way ≤ max_line_len)
+abbrev pub IsWithinLineLimits : LineCount → Type 0
+IsWithinLineLimits count = (count.ended ≤ max_lines) × (count.under_way ≤ max_line_len)
 
 -- a line of the text has more bytes than any line may have, or bytes follow the last line that a text may have
 pub record IsTooLarge (text : List ℕ) : Type 0 where
   pub lines : List (List ℕ)
   pub line : List ℕ
   pub after : List ℕ
-  pub whole : text ≡ flat_map ended lines ++ (line ++ after)
+  pub whole : text ≡ flat_map whole_line lines ++ (line ++ after)
   pub unbroken : AllByRecursion IsUnbroken lines
   pub begun : IsUnbroken line
   pub bad : (max_line_len < length line) ⊎ ((max_lines ≤ length lines) × (1 ≤ length (line ++ after)))
@@ -89,30 +89,30 @@ IsCounted true text count = HasLines text count
 IsCounted false text count = IsTooLarge text
 
 -- nothing is wrong so far: none of these lines counts, or those that count are the lines of a plan
-pub record GoesOn (lines : List (List ℕ)) : Type 0 where
-  pub short : AreShort lines
-  pub begun : (counted lines ≡ []) ⊎ ((p : Plan) × ((counted lines ≡ plan_lines p) × IsPlan p))
+pub record IsPlanSoFar (lines : List (List ℕ)) : Type 0 where
+  pub short : AreWithinLengths lines
+  pub begun : (counted_lines lines ≡ []) ⊎ ((p : Plan) × ((counted_lines lines ≡ plan_lines p) × IsPlan p))
 
 -- a bad line follows these: it is one too many, or a plan can't continue with it
 pub record FollowsBad (lines : List (List ℕ)) (rest : List ℕ) : Type 0 where
   pub line : List ℕ
   pub after : List ℕ
-  pub ends : rest ≡ ended line ++ after
+  pub ends : rest ≡ whole_line line ++ after
   pub unbroken : IsUnbroken line
-  pub bad : (max_lines ≤ length lines) ⊎ (GoesOn (lines ++ line ∷ []) → ⊥)
+  pub bad : (max_lines ≤ length lines) ⊎ (IsPlanSoFar (lines ++ line ∷ []) → ⊥)
 
 -- the text may not end after these lines: bytes follow the last line feed, or no line counts
 pub record EndsBadly (lines : List (List ℕ)) (rest : List ℕ) : Type 0 where
   pub unended : IsUnbroken rest
-  pub bad : (rest ≢ []) ⊎ (counted lines ≡ [])
+  pub bad : (rest ≢ []) ⊎ (counted_lines lines ≡ [])
 
 -- line n of the text, from 1 on, is the first bad one
 pub record IsBadAt (text : List ℕ) (n : ℕ) : Type 0 where
   pub before : List (List ℕ)
   pub rest : List ℕ
-  pub whole : text ≡ flat_map ended before ++ rest
+  pub whole : text ≡ flat_map whole_line before ++ rest
   pub unbroken : AllByRecursion IsUnbroken before
   pub few : length before ≤ max_lines
   pub numbered : n ≡ length before + 1
-  pub goes_on : GoesOn before
+  pub goes_on : IsPlanSoFar before
   pub bad : FollowsBad before rest ⊎ EndsBadly before rest

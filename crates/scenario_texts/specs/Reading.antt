@@ -54,35 +54,35 @@ unfoldable pub keyword_of : List ℕ → Option Keyword
 keyword_of word = keyword_among all_keywords word
 
 -- the number below 2^32 that the word encodes
-unfoldable pub number_of : List ℕ → Option ℕ
-number_of word = if is_decimal word && not (has_needless_zero word) && nat_lt (digits_value 10 word) (2 ^ 32)
+unfoldable pub word_number : List ℕ → Option ℕ
+word_number word = if is_decimal word && not (has_needless_zero word) && nat_lt (digits_value 10 word) (2 ^ 32)
     then Some (digits_value 10 word) else None
 
 -- the number, at least 1, that the word encodes
 unfoldable pub positive_of : List ℕ → Option ℕ
 positive_of word = do
-  n ← number_of word
+  n ← word_number word
   if n == 0 then None else Some n
 
 -- the number in the only field
 unfoldable pub one_number : List (List ℕ) → Option ℕ
-one_number (a ∷ []) = number_of a
+one_number (a ∷ []) = word_number a
 one_number _ = None
 
 -- the two numbers in the two fields
 unfoldable pub two_numbers : List (List ℕ) → Option (ℕ × ℕ)
 two_numbers (a ∷ b ∷ []) = do
-  x ← number_of a
-  y ← number_of b
+  x ← word_number a
+  y ← word_number b
   Some (x, y)
 two_numbers _ = None
 
 -- the three numbers in the three fields
 unfoldable pub three_numbers : List (List ℕ) → Option (ℕ × ℕ × ℕ)
 three_numbers (a ∷ b ∷ c ∷ []) = do
-  x ← number_of a
-  y ← number_of b
-  z ← number_of c
+  x ← word_number a
+  y ← word_number b
+  z ← word_number c
   Some (x, y, z)
 three_numbers _ = None
 
@@ -97,12 +97,12 @@ abbrev pub bare_of : ℕ → Option ℕ
 bare_of b = if is_plain b then Some b else None
 
 -- the bytes that the word encodes
-unfoldable pub bytes_of : List ℕ → Option (List ℕ)
-bytes_of [] = Some []
-bytes_of (b ∷ []) = onto (bare_of b) (Some [])
-bytes_of (b ∷ c ∷ []) = onto (bare_of b) (bytes_of (c ∷ []))
-bytes_of (b ∷ c ∷ d ∷ rest) = if b == 0x5c then onto (byte_of (nibble c) (nibble d)) (bytes_of rest)
-    else onto (bare_of b) (bytes_of (c ∷ d ∷ rest))
+unfoldable pub word_bytes : List ℕ → Option (List ℕ)
+word_bytes [] = Some []
+word_bytes (b ∷ []) = onto (bare_of b) (Some [])
+word_bytes (b ∷ c ∷ []) = onto (bare_of b) (word_bytes (c ∷ []))
+word_bytes (b ∷ c ∷ d ∷ rest) = if b == 0x5c then onto (byte_of (nibble c) (nibble d)) (word_bytes rest)
+    else onto (bare_of b) (word_bytes (c ∷ d ∷ rest))
 
 -- the bytes that the word encodes in lower-case hexadecimal digits
 unfoldable pub hex_of : List ℕ → Option (List ℕ)
@@ -116,7 +116,7 @@ optional read _ = None
 
 -- the only field's bytes, in their printed form
 unfoldable pub optional_bytes : List (List ℕ) → Option (List ℕ)
-optional_bytes fields = optional bytes_of fields
+optional_bytes fields = optional word_bytes fields
 
 -- the only field's bytes, in hexadecimal digits
 unfoldable pub optional_hex : List (List ℕ) → Option (List ℕ)
@@ -125,7 +125,7 @@ optional_hex fields = optional hex_of fields
 -- the transaction that the word encodes
 unfoldable pub tx_of : List ℕ → Option (List ℕ)
 tx_of word = do
-  bytes ← bytes_of word
+  bytes ← word_bytes word
   if nat_le 1 (length bytes) && nat_le (length bytes) max_tx_len then Some bytes else None
 
 -- the transactions that the words encode
@@ -167,12 +167,12 @@ batch_of version word = do
 
 -- where a lie goes
 unfoldable pub towards_of : List ℕ → Option Towards
-towards_of word = if bytes_eq word (codes "all") then Some All else option_map One (number_of word)
+towards_of word = if bytes_eq word (codes "all") then Some All else option_map One (word_number word)
 
 -- the liar that the word names
 unfoldable pub liar_of : List ℕ → List ℕ → Option ℕ
 liar_of liars word = do
-  n ← number_of word
+  n ← word_number word
   find (λ liar. liar == n) liars
 
 -- n is at most the limit, if it is
@@ -212,7 +212,7 @@ lie_of version liars _ = None
 unfoldable pub submit_of : List (List ℕ) → Option Command
 submit_of [] = None
 submit_of (r ∷ rest) = do
-  replica ← number_of r
+  replica ← word_number r
   bytes ← optional_bytes rest
   Some (command.Submit replica bytes)
 
@@ -220,15 +220,15 @@ submit_of (r ∷ rest) = do
 unfoldable pub inject_of : List (List ℕ) → Option Command
 inject_of [] = None
 inject_of (t ∷ rest) = do
-  to ← number_of t
+  to ← word_number t
   bytes ← optional_hex rest
   Some (command.Inject to bytes)
 
 -- `query`
-unfoldable pub query_of : List (List ℕ) → Option Command
-query_of [] = None
-query_of (r ∷ rest) = do
-  replica ← number_of r
+unfoldable pub query_command : List (List ℕ) → Option Command
+query_command [] = None
+query_command (r ∷ rest) = do
+  replica ← word_number r
   key ← optional_bytes rest
   if nat_le (length key) max_key_len then Some (command.Query replica key) else None
 
@@ -274,7 +274,7 @@ command_of version liars keyword.Submit fields = submit_of fields
 command_of version liars keyword.Propose fields = propose_of fields
 command_of version liars keyword.Pass fields = pass_of fields
 command_of version liars keyword.Inject fields = inject_of fields
-command_of version liars keyword.Query fields = query_of fields
+command_of version liars keyword.Query fields = query_command fields
 command_of version liars keyword.Retire fields = retire_of fields
 command_of version liars keyword.LieReport fields = lying_of version liars keyword.LieReport fields
 command_of version liars keyword.LieLock fields = lying_of version liars keyword.LieLock fields
@@ -318,19 +318,19 @@ is_first version.One = true
 is_first version.Two = false
 
 -- no version, no liar and no command was read
-unfoldable pub is_early : Plan → Bool
-is_early p = is_first p.frames && length p.liars == 0 && length p.commands == 0
+unfoldable pub has_setup_alone : Plan → Bool
+has_setup_alone p = is_first p.frames && length p.liars == 0 && length p.commands == 0
 
 -- the plan with the parameter set of a line
 unfoldable pub with_keys : Plan → List (List ℕ) → Option Plan
 with_keys p fields = do
   n ← two_numbers fields
   keys ← params_from n
-  if not (is_some p.keys) && is_early p then Some (record p { keys = Some keys }) else None
+  if not (is_some p.keys) && has_setup_alone p then Some (record p { keys = Some keys }) else None
 
 -- the plan with version 2 for its frames
 unfoldable pub with_frames : Plan → List (List ℕ) → Option Plan
-with_frames p (word ∷ []) = if bytes_eq word (codes "2") && is_early p then Some (record p { frames = version.Two }) else None
+with_frames p (word ∷ []) = if bytes_eq word (codes "2") && has_setup_alone p then Some (record p { frames = version.Two }) else None
 with_frames p _ = None
 
 -- the replica may be named as another liar
@@ -359,13 +359,13 @@ going_on p keyword.Liar fields = with_liar p fields
 going_on p k fields = with_command p k fields
 
 -- the plan that starts with this line
-unfoldable pub beginning : Keyword → List (List ℕ) → Option Plan
-beginning keyword.Config fields = begun_of fields
-beginning _ fields = None
+unfoldable pub first_plan : Keyword → List (List ℕ) → Option Plan
+first_plan keyword.Config fields = begun_of fields
+first_plan _ fields = None
 
 -- the plan after one more line, given the line's keyword and fields; the first line starts it
 unfoldable pub next_by_keyword : Option Plan → Keyword → List (List ℕ) → Option Plan
-next_by_keyword None k fields = beginning k fields
+next_by_keyword None k fields = first_plan k fields
 next_by_keyword (Some p) k fields = going_on p k fields
 
 -- the plan after one more line, given the line's words

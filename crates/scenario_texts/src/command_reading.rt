@@ -1,6 +1,6 @@
 //! Reads the commands of a scenario, one from each line.
 ghost use Rattle.std.specs.Prelude.{◌≡◌, ◌==◌, map, IfOk};
-ghost use Rattle.scenario_texts.specs.Reading.{liar_of, lie_of, submit_of, inject_of, query_of, propose_of, retire_of, pass_of, simple_of, stale_of, command_of};
+ghost use Rattle.scenario_texts.specs.Reading.{liar_of, lie_of, submit_of, inject_of, query_command, propose_of, retire_of, pass_of, simple_of, stale_of, command_of};
 
 use crate::batch::batch;
 use crate::command::{Command, Lie};
@@ -124,9 +124,9 @@ fn inject(alloc: Global, fields: &[&str]) -> Result<Option<Command>, AllocError>
 }
 
 /// `query R KEY`
-#[tactic(auto, unfolding(crate::specs::Reading::query_of))]
+#[tactic(auto, unfolding(crate::specs::Reading::query_command))]
 fn query(alloc: Global, fields: &[&str]) -> Result<Option<Command>, AllocError>
-    ensures { IfOk result (λ found. found ≡ query_of (map (λ field. field.now) fields.now)) }
+    ensures { IfOk result (λ found. found ≡ query_command (map (λ field. field.now) fields.now)) }
 {
     let [replica, rest @ ..] = fields else {
         return Ok(None);

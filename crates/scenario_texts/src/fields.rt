@@ -2,7 +2,7 @@
 ghost use Rattle.std.specs.Prelude.{◌≡◌, ◌≤◌, map, option_map, IfOk, IfSome, codes};
 ghost use Rattle.std.specs.Char.{is_ascii_uppercase};
 ghost use Rattle.std.specs.List.{list_any};
-ghost use Rattle.scenario_texts.specs.Reading.{number_of, positive_of, one_number, two_numbers, three_numbers, bytes_of, hex_of, optional_bytes, optional_hex, towards_of};
+ghost use Rattle.scenario_texts.specs.Reading.{word_number, positive_of, one_number, two_numbers, three_numbers, word_bytes, hex_of, optional_bytes, optional_hex, towards_of};
 
 use crate::command::Towards;
 use hex::FromHexError;
@@ -11,7 +11,7 @@ use std::alloc::{AllocError, Global};
 
 /// The number that the word encodes.
 pub(crate) fn number(word: &str) -> Option<u32>
-    ensures { result ≡ number_of word.now }
+    ensures { result ≡ word_number word.now }
 {
     plain_text::number(word)
 }
@@ -61,7 +61,7 @@ pub(crate) fn three_numbers(fields: &[&str]) -> Option<(u32, u32, u32)>
 
 /// The bytes that the word encodes.
 pub(crate) fn bytes(alloc: Global, word: &str) -> Result<Option<Vec<u8>>, AllocError>
-    ensures { IfOk result (λ found. option_map (λ bytes. bytes.items) found ≡ bytes_of word.now) }
+    ensures { IfOk result (λ found. option_map (λ bytes. bytes.items) found ≡ word_bytes word.now) }
 {
     match written(alloc, word) {
         Ok(bytes) => Ok(Some(bytes)),

@@ -1,6 +1,6 @@
 //! Counts the lines of a text that is read piece by piece, so that the reader can stop as soon as the text can't be a scenario.
 ghost use Rattle.std.specs.Prelude.{◌≡◌, ◌∷◌, ◌++◌, [], ℕ, List, true};
-ghost use Rattle.scenario_texts.specs.Lines.{HasLines, IsCounted, IsTooLarge, IsWithinLimits};
+ghost use Rattle.scenario_texts.specs.Lines.{HasLines, IsCounted, IsTooLarge, IsWithinLineLimits};
 
 use crate::reading::{MAX_LINE_LEN, MAX_LINES};
 
@@ -17,7 +17,7 @@ impl LineCount {
     /// The count of the empty text.
     pub fn new() -> LineCount
         ensures none { HasLines [] result }
-        ensures small { IsWithinLimits result }
+        ensures small { IsWithinLineLimits result }
     {
         LineCount {
             ended: 0,
@@ -29,7 +29,7 @@ impl LineCount {
     fn take(&mut self, byte: u8) -> bool
         ensures counted { (text : List ℕ) → HasLines text self.old → IsCounted result (text ++ byte ∷ []) self.new }
         ensures fits { (text : List ℕ) → HasLines text self.old → (IsTooLarge text → ⊥) → result ≡ true → IsTooLarge (text ++ byte ∷ []) → ⊥ }
-        ensures small { result ≡ true → IsWithinLimits self.new }
+        ensures small { result ≡ true → IsWithinLineLimits self.new }
     {
         if self.ended >= MAX_LINES {
             return false;
@@ -52,7 +52,7 @@ impl LineCount {
         ensures counted { (text : List ℕ) → HasLines text self.old → IsCounted result (text ++ bytes.now) self.new }
         // If the text was not too large before, and the result is true, it is not too large now.
         ensures fits { (text : List ℕ) → HasLines text self.old → (IsTooLarge text → ⊥) → result ≡ true → IsTooLarge (text ++ bytes.now) → ⊥ }
-        ensures small { result ≡ true → IsWithinLimits self.old → IsWithinLimits self.new }
+        ensures small { result ≡ true → IsWithinLineLimits self.old → IsWithinLineLimits self.new }
     {
         for byte in bytes {
             if !self.take(*byte) {

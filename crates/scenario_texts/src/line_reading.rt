@@ -3,7 +3,7 @@ ghost use Rattle.std.specs.Prelude.{◌≡◌, ◌==◌, map, option_map, IfOk, 
 ghost use Rattle.std.specs.Char.{is_ascii};
 ghost use Rattle.std.specs.List.{list_all, list_any};
 ghost use Rattle.scenario_texts.specs.Plans.{plan_of};
-ghost use Rattle.scenario_texts.specs.Reading.{ascii_of, begun_of, with_keys, is_new_liar, with_liar, is_early, with_frames, with_command, going_on, beginning, next_by_keyword, next_by_words, next_of};
+ghost use Rattle.scenario_texts.specs.Reading.{ascii_of, begun_of, with_keys, is_new_liar, with_liar, has_setup_alone, with_frames, with_command, going_on, first_plan, next_by_keyword, next_by_words, next_of};
 
 use crate::batch::words;
 use crate::command_reading::command;
@@ -31,9 +31,9 @@ fn begun(alloc: Global, fields: &[&str]) -> Option<Scenario>
 }
 
 /// Whether no version, no liar and no command was read.
-#[tactic(auto, unfolding(crate::specs::Reading::is_early))]
+#[tactic(auto, unfolding(crate::specs::Reading::has_setup_alone))]
 fn is_early(scenario: &Scenario) -> bool
-    ensures { result ≡ is_early (plan_of scenario.now) }
+    ensures { result ≡ has_setup_alone (plan_of scenario.now) }
 {
     let setup = &scenario.setup;
     matches!(setup.config.frames, Version::One)
@@ -148,9 +148,9 @@ fn going_on(
 }
 
 /// The scenario that starts with this line.
-#[tactic(auto, unfolding(crate::specs::Reading::beginning))]
+#[tactic(auto, unfolding(crate::specs::Reading::first_plan))]
 fn beginning(alloc: Global, keyword: Keyword, fields: &[&str]) -> Option<Scenario>
-    ensures { option_map plan_of result ≡ beginning keyword (map (λ field. field.now) fields.now) }
+    ensures { option_map plan_of result ≡ first_plan keyword (map (λ field. field.now) fields.now) }
 {
     match keyword {
         Keyword::Config => begun(alloc, fields),

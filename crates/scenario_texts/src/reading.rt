@@ -1,7 +1,7 @@
 //! Reads a text as a scenario, line by line.
 ghost use Rattle.std.specs.Prelude.{◌≡◌, ◌≢◌, ◌⊎◌, ◌∷◌, ◌++◌, ℕ, IfOk, IfErr, MatchOption, MatchResult, Ok, Err, option_map};
 ghost use Rattle.scenario_texts.specs.Lawful.{IsPlan};
-ghost use Rattle.scenario_texts.specs.Lines.{IsBadAt, IsUnbroken, Spells, counts};
+ghost use Rattle.scenario_texts.specs.Lines.{IsBadAt, IsUnbroken, SpellsPlan, counts};
 ghost use Rattle.scenario_texts.specs.Plans.{Plan, plan_of};
 ghost use Rattle.scenario_texts.specs.Reading.{limit_after};
 ghost use Rattle.scenario_texts.specs.declared.fault.TextFault.TheVariants as fault;
@@ -48,9 +48,9 @@ fn line_limit(so_far: &Option<Scenario>) -> usize
 
 /// The scenario that the text encodes (`docs/FORMATS.md`). If several lines are bad, the fault has the first.
 pub fn read(alloc: Global, text: &[u8]) -> Result<Scenario, TextFault>
-    ensures spelled { IfOk result (λ scenario. Spells text.now (plan_of scenario)) }
+    ensures spelled { IfOk result (λ scenario. SpellsPlan text.now (plan_of scenario)) }
     ensures lawful { IfOk result (λ scenario. IsPlan (plan_of scenario)) }
-    ensures only { (plan : Plan) → Spells text.now plan
+    ensures only { (plan : Plan) → SpellsPlan text.now plan
         → MatchResult result (λ scenario. plan_of scenario ≡ plan) (λ why. why ≡ fault.NoMemory) }
     ensures bad { IfErr result (λ why. (why ≡ fault.NoMemory) ⊎ ((n : ℕ) × ((why ≡ fault.BadLine n) × IsBadAt text.now n))) }
 {

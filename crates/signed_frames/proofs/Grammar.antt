@@ -11,13 +11,13 @@ use Rattle.ledger_model.specs.GrammarLaws.{IsBytes}
 use Rattle.ledger_model.proofs.FrameReading.{reading-spells, reading-again}
 use Rattle.signed_frames.specs.Parts.{GivesParts}
 use Rattle.statements.specs.declared.fault.DecodeFault.{DecodeFault}
-use Rattle.statements.specs.Reads.{Gives}
+use Rattle.statements.specs.Reads.{IsReadingOr}
 
 -- what is spelled is parsed
-pub is_read : (version : Version) (bytes : List ℕ) (result : Result SignedStatement DecodeFault) → Gives result (reading_in version bytes)
+pub is_read : (version : Version) (bytes : List ℕ) (result : Result SignedStatement DecodeFault) → IsReadingOr result (reading_in version bytes)
     → (s : SignedStatement)
-    → SpellsFrame version bytes s → Gives result (Some s)
-is_read version bytes result e s spells = subst (λ read. Gives result read)
+    → SpellsFrame version bytes s → IsReadingOr result (Some s)
+is_read version bytes result e s spells = subst (λ read. IsReadingOr result read)
     (ap (reading_in version) spells.1 ∙ reading-again version s spells.0) e
 
 -- the parts that were read are spelled

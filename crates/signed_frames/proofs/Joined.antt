@@ -7,7 +7,7 @@ use Rattle.ledger_model.specs.declared.version.Version.{Version}
 use Rattle.ledger_model.specs.Spelling.{Frames, frame_bytes}
 use Rattle.signed_frames.specs.declared.fault.FrameFault.TheVariants as fault
 use Rattle.signed_frames.specs.Cuts.{FramesHoweverCut}
-use Rattle.signed_frames.specs.Reader.{ReaderState, Reading, Found, Failed, Leaves}
+use Rattle.signed_frames.specs.Reader.{ReaderState, Reading, Found, Failed, LeavesReader}
 use Rattle.signed_frames.proofs.Fronts.{frames_join}
 
 -- more bytes follow the rest
@@ -22,7 +22,7 @@ some_of_both first second some = omega (arith, length-append first second)
 -- what is left of the second piece is left of both
 leaves_both : (version : Version) (bytes rest more : List ℕ) (first second : List SignedStatement) (new : ReaderState)
     → Frames version bytes first rest
-    → Leaves version (rest ++ more) second new → Leaves version (bytes ++ more) (first ++ second) new
+    → LeavesReader version (rest ++ more) second new → LeavesReader version (bytes ++ more) (first ++ second) new
 leaves_both version bytes rest more first second (Reading left) f l =
     (frames_join version (bytes ++ more) (rest ++ more) left first second (longer version bytes rest more first f) l.0, l.1)
 leaves_both version bytes rest more first second (Found fault.TooLong) f l = (
@@ -52,7 +52,7 @@ leaves_both version bytes rest more first second Failed f l = absurd l
 -- however it is cut
 pub joined : FramesHoweverCut
 joined version (Reading kept) (Reading rest) new p q first second h g =
-    subst (λ (bytes : List ℕ). Leaves version bytes (first ++ second) new) (append_assoc kept p q)
+    subst (λ (bytes : List ℕ). LeavesReader version bytes (first ++ second) new) (append_assoc kept p q)
     (leaves_both version (kept ++ p) rest q first second new h.0 g)
 joined version (Reading kept) (Found found) new p q first second h g = absurd g
 joined version (Reading kept) Failed new p q first second h g = absurd g

@@ -13,8 +13,8 @@ use Rattle.ledger_model.specs.Streams.{announced, IsPartial, BeginsTooLong, Begi
 use Rattle.ledger_model.proofs.FrameReading.{one_split, split_or_break, one_break}
 use Rattle.signed_frames.specs.declared.fault.FrameFault.{FrameFault}
 use Rattle.signed_frames.specs.declared.fault.FrameFault.TheVariants as fault
-use Rattle.signed_frames.specs.Reader.{ReaderState, Reading, Found, Failed, Leaves}
-use Rattle.signed_frames.specs.Cuts.{Answer, Frames, Fault, TakesAll, frames_of, fault_of, SameHoweverCut}
+use Rattle.signed_frames.specs.Reader.{ReaderState, Reading, Found, Failed, LeavesReader}
+use Rattle.signed_frames.specs.Cuts.{Answer, Frames, Fault, TakesAll, returned_frames, returned_fault, SameHoweverCut}
 use Rattle.signed_frames.proofs.Fronts.{frames_join}
 use Rattle.signed_frames.proofs.Joined.{longer}
 
@@ -107,7 +107,7 @@ outcome_behind version bytes left more first second (Some fault.NoMemory) f o = 
 
 failed_gives : (version : Version) (pieces : List (List ℕ)) (answers : List Answer) (new : ReaderState)
     → TakesAll version Failed pieces answers new
-    → frames_of answers ≡ []
+    → returned_frames answers ≡ []
 failed_gives version [] [] new h = refl
 failed_gives version [] (a ∷ more) new h = absurd h
 failed_gives version (p ∷ ps) [] new h = absurd h
@@ -121,8 +121,8 @@ failed_gives version (p ∷ ps) (Fault fault.Failed ∷ more) new h =
 failed_gives version (p ∷ ps) (Fault fault.NoMemory ∷ more) new h = absurd h.1.0
 
 found_gives : (version : Version) (found : FrameFault) (pieces : List (List ℕ)) (answers : List Answer) (new : ReaderState)
-    → TakesAll version (Found found) pieces answers new → (frames_of answers ≡ []) × (fault_of answers new ≡ Some found)
-found_gives version found [] [] new h = (refl, ap (fault_of []) h)
+    → TakesAll version (Found found) pieces answers new → (returned_frames answers ≡ []) × (returned_fault answers new ≡ Some found)
+found_gives version found [] [] new h = (refl, ap (returned_fault []) h)
 found_gives version found [] (a ∷ more) new h = absurd h
 found_gives version found (p ∷ ps) [] new h = absurd h
 found_gives version found (p ∷ ps) (Frames frames ∷ more) new h = absurd h.1.0
@@ -153,11 +153,11 @@ outcome_frames : (version : Version) (kept p : List ℕ) (ps : List (List ℕ)) 
     (more : List Answer)
     (new : ReaderState)
     → ((left : List ℕ) → IsPartial version left → TakesAll version (Reading left) ps more new
-    → Outcome version (left ++ joined ps) (frames_of more) (fault_of more new))
-    → Leaves version (kept ++ p) frames mid → TakesAll version mid ps more new
-    → Outcome version ((kept ++ p) ++ joined ps) (frames ++ frames_of more) (fault_of more new)
+    → Outcome version (left ++ joined ps) (returned_frames more) (returned_fault more new))
+    → LeavesReader version (kept ++ p) frames mid → TakesAll version mid ps more new
+    → Outcome version ((kept ++ p) ++ joined ps) (frames ++ returned_frames more) (returned_fault more new)
 outcome_frames version kept p ps frames (Reading left) more new again l h =
-    outcome_behind version (kept ++ p) left (joined ps) frames (frames_of more) (fault_of more new) l.0 (again left l.1 h)
+    outcome_behind version (kept ++ p) left (joined ps) frames (returned_frames more) (returned_fault more new) l.0 (again left l.1 h)
 outcome_frames version kept p ps frames (Found fault.TooLong) more new again l h =
     let gives = found_gives version fault.TooLong ps more new h in
     rw (gives.0, gives.1, append-nil frames) (long_break-longer version (kept ++ p) (joined ps) frames l.1)
@@ -171,25 +171,25 @@ outcome_frames version kept p ps frames Failed more new again l h = absurd l
 -- pieces, one after the other
 outcome : (version : Version) (kept : List ℕ) (pieces : List (List ℕ)) (answers : List Answer) (new : ReaderState) → IsPartial version kept
     → TakesAll version (Reading kept) pieces answers new
-    → Outcome version (kept ++ joined pieces) (frames_of answers) (fault_of answers new)
+    → Outcome version (kept ++ joined pieces) (returned_frames answers) (returned_fault answers new)
 outcome version kept [] [] new partial h =
-    subst (λ (found : Option FrameFault). Outcome version (kept ++ joined []) [] found) (sym (ap (fault_of []) h))
+    subst (λ (found : Option FrameFault). Outcome version (kept ++ joined []) [] found) (sym (ap (returned_fault []) h))
     (kept, (((tt, append-nil kept), partial)))
 outcome version kept [] (a ∷ more) new partial h = absurd h
 outcome version kept (p ∷ ps) [] new partial h = absurd h
 outcome version kept (p ∷ ps) (Frames frames ∷ more) new partial h =
-    subst (λ (bytes : List ℕ). Outcome version bytes (frames ++ frames_of more) (fault_of more new))
+    subst (λ (bytes : List ℕ). Outcome version bytes (frames ++ returned_frames more) (returned_fault more new))
     (append_assoc kept p (joined ps) ∙ ap (λ (x : List ℕ). kept ++ x) (sym (flat_map-cons (λ piece. piece) p ps)))
     (outcome_frames version kept p ps frames h.0 more new (λ left part g. outcome version left ps more new part g) h.1.0 h.1.1)
 outcome version kept (p ∷ ps) (Fault fault.TooLong ∷ more) new partial h =
     let none = failed_gives version ps more new (subst (λ (r : ReaderState). TakesAll version r ps more new) h.1.0.1 h.1.1) in
-    subst (λ (bytes : List ℕ). Outcome version bytes (frames_of more) (Some fault.TooLong))
+    subst (λ (bytes : List ℕ). Outcome version bytes (returned_frames more) (Some fault.TooLong))
     (append_assoc kept p (joined ps) ∙ ap (λ (x : List ℕ). kept ++ x) (sym (flat_map-cons (λ piece. piece) p ps)))
     (subst (λ (frames : List SignedStatement). BreaksOff BeginsTooLong version ((kept ++ p) ++ joined ps) frames) (sym none)
     (long_break-longer version (kept ++ p) (joined ps) [] h.1.0.0))
 outcome version kept (p ∷ ps) (Fault fault.Malformed ∷ more) new partial h =
     let none = failed_gives version ps more new (subst (λ (r : ReaderState). TakesAll version r ps more new) h.1.0.1 h.1.1) in
-    subst (λ (bytes : List ℕ). Outcome version bytes (frames_of more) (Some fault.Malformed))
+    subst (λ (bytes : List ℕ). Outcome version bytes (returned_frames more) (Some fault.Malformed))
     (append_assoc kept p (joined ps) ∙ ap (λ (x : List ℕ). kept ++ x) (sym (flat_map-cons (λ piece. piece) p ps)))
     (subst (λ (frames : List SignedStatement). BreaksOff BeginsMalformed version ((kept ++ p) ++ joined ps) frames) (sym none)
     (bad_break-longer version (kept ++ p) (joined ps) [] h.1.0.0))
@@ -200,6 +200,6 @@ outcome version kept (p ∷ ps) (Fault fault.NoMemory ∷ more) new partial h = 
 pub same_outcome : SameHoweverCut
 same_outcome version kept pieces others answers those new end partial same h g =
     let one = outcome version kept pieces answers new partial h in
-    let other = subst (λ (bytes : List ℕ). Outcome version (kept ++ bytes) (frames_of those) (fault_of those end)) (sym same)
+    let other = subst (λ (bytes : List ℕ). Outcome version (kept ++ bytes) (returned_frames those) (returned_fault those end)) (sym same)
     (outcome version kept others those end partial g) in
-    one_outcome version (kept ++ joined pieces) (frames_of answers) (frames_of those) (fault_of answers new) (fault_of those end) one other
+    one_outcome version (kept ++ joined pieces) (returned_frames answers) (returned_frames those) (returned_fault answers new) (returned_fault those end) one other

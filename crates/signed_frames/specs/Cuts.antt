@@ -6,7 +6,7 @@ use Rattle.ledger_model.specs.declared.version.Version.{Version}
 use Rattle.ledger_model.specs.Streams.{IsPartial}
 use Rattle.signed_frames.specs.declared.fault.FrameFault.{FrameFault}
 use Rattle.signed_frames.specs.declared.fault.FrameFault.TheVariants as fault
-use Rattle.signed_frames.specs.Reader.{ReaderState, Reading, Found, Failed, HandsOut, Tells}
+use Rattle.signed_frames.specs.Reader.{ReaderState, Reading, Found, Failed, HandsOut, ReturnsFault}
 
 -- two pieces, one after the other, give the same frames as the joined piece
 abbrev pub FramesHoweverCut : Type 0
@@ -20,33 +20,33 @@ pub data Answer : Type 0 where
   Fault : (told : FrameFault) → Answer
 
 -- the answer to a piece, and the reader afterwards, if memory doesn't run out
-abbrev pub Takes : Version → ReaderState → List ℕ → Answer → ReaderState → Type 0
-Takes version old piece (Frames frames) new = HandsOut version old piece frames new
-Takes version old piece (Fault fault.TooLong) new = Tells version old piece fault.TooLong new
-Takes version old piece (Fault fault.Malformed) new = Tells version old piece fault.Malformed new
-Takes version old piece (Fault fault.Failed) new = Tells version old piece fault.Failed new
-Takes version old piece (Fault fault.NoMemory) new = ⊥
+abbrev pub TakesPiece : Version → ReaderState → List ℕ → Answer → ReaderState → Type 0
+TakesPiece version old piece (Frames frames) new = HandsOut version old piece frames new
+TakesPiece version old piece (Fault fault.TooLong) new = ReturnsFault version old piece fault.TooLong new
+TakesPiece version old piece (Fault fault.Malformed) new = ReturnsFault version old piece fault.Malformed new
+TakesPiece version old piece (Fault fault.Failed) new = ReturnsFault version old piece fault.Failed new
+TakesPiece version old piece (Fault fault.NoMemory) new = ⊥
 
 -- the answers to the pieces in order, and the reader afterwards
 abbrev pub TakesAll : Version → ReaderState → List (List ℕ) → List Answer → ReaderState → Type 0
 TakesAll version old [] [] new = new ≡ old
 TakesAll version old [] (a ∷ more) new = ⊥
 TakesAll version old (p ∷ ps) [] new = ⊥
-TakesAll version old (p ∷ ps) (a ∷ more) new = (mid : ReaderState) × (Takes version old p a mid × TakesAll version mid ps more new)
+TakesAll version old (p ∷ ps) (a ∷ more) new = (mid : ReaderState) × (TakesPiece version old p a mid × TakesAll version mid ps more new)
 
 -- all frames that were returned, in order
-abbrev pub frames_of : List Answer → List SignedStatement
-frames_of [] = []
-frames_of (Frames frames ∷ more) = frames ++ frames_of more
-frames_of (Fault told ∷ more) = frames_of more
+abbrev pub returned_frames : List Answer → List SignedStatement
+returned_frames [] = []
+returned_frames (Frames frames ∷ more) = frames ++ returned_frames more
+returned_frames (Fault told ∷ more) = returned_frames more
 
 -- the first fault that was returned, or the one that the reader has found and returns next
-abbrev pub fault_of : List Answer → ReaderState → Option FrameFault
-fault_of [] (Reading kept) = None
-fault_of [] (Found found) = Some found
-fault_of [] Failed = None
-fault_of (Frames frames ∷ more) new = fault_of more new
-fault_of (Fault told ∷ more) new = Some told
+abbrev pub returned_fault : List Answer → ReaderState → Option FrameFault
+returned_fault [] (Reading kept) = None
+returned_fault [] (Found found) = Some found
+returned_fault [] Failed = None
+returned_fault (Frames frames ∷ more) new = returned_fault more new
+returned_fault (Fault told ∷ more) new = Some told
 
 -- A reader that has less than a whole frame returns the same frames and the same fault for any two lists of pieces that are the same bytes.
 abbrev pub SameHoweverCut : Type 0
@@ -54,4 +54,4 @@ SameHoweverCut =
     (version : Version) (kept : List ℕ) (pieces others : List (List ℕ)) (answers those : List Answer) (new end : ReaderState)
     → IsPartial version kept → flat_map (λ piece. piece) pieces ≡ flat_map (λ piece. piece) others
     → TakesAll version (Reading kept) pieces answers new → TakesAll version (Reading kept) others those end
-    → (frames_of answers ≡ frames_of those) × (fault_of answers new ≡ fault_of those end)
+    → (returned_frames answers ≡ returned_frames those) × (returned_fault answers new ≡ returned_fault those end)

@@ -6,12 +6,12 @@ use Rattle.ledger_model.specs.declared.statement.Statement.{Statement}
 use Rattle.ledger_model.specs.declared.version.Version.TheVariants.{Two}
 use Rattle.ledger_model.specs.Spelling.{statement_bytes, IsStatement, SpellsFrame}
 use Rattle.statements.specs.declared.fault.DecodeFault.{DecodeFault}
-use Rattle.statements.specs.Reads.{Faults}
+use Rattle.statements.specs.Reads.{IsFaultOf}
 
 -- the statement and the signature are those that the bytes read as, unless memory ran out
 abbrev pub GivesParts : Result (Statement × Bor (List ℕ)) DecodeFault → Option SignedStatement → Type 0
 GivesParts (Ok x) reading = reading ≡ Some (record { statement = x.0; signature = x.1.now })
-GivesParts (Err fault) reading = Faults fault reading
+GivesParts (Err fault) reading = IsFaultOf fault reading
 
 -- the signed statement whose signature is the last `len` bytes
 abbrev pub signed_by_last : List ℕ → Statement → ℕ → SignedStatement

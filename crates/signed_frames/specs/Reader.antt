@@ -33,32 +33,32 @@ reader_at stage.Failed kept = Failed
 
 -- The bytes are these frames, followed by less than a whole frame, which the reader has; or after at least one frame by a
 -- fault, which it has found.
-abbrev pub Leaves : Version → List ℕ → List SignedStatement → ReaderState → Type 0
-Leaves version bytes frames (Reading rest) = SplitsTo version bytes frames rest
-Leaves version bytes frames (Found fault.TooLong) = (1 ≤ length frames) × BreaksOff BeginsTooLong version bytes frames
-Leaves version bytes frames (Found fault.Malformed) = (1 ≤ length frames) × BreaksOff BeginsMalformed version bytes frames
-Leaves version bytes frames (Found fault.Failed) = ⊥
-Leaves version bytes frames (Found fault.NoMemory) = ⊥
-Leaves version bytes frames Failed = ⊥
+abbrev pub LeavesReader : Version → List ℕ → List SignedStatement → ReaderState → Type 0
+LeavesReader version bytes frames (Reading rest) = SplitsTo version bytes frames rest
+LeavesReader version bytes frames (Found fault.TooLong) = (1 ≤ length frames) × BreaksOff BeginsTooLong version bytes frames
+LeavesReader version bytes frames (Found fault.Malformed) = (1 ≤ length frames) × BreaksOff BeginsMalformed version bytes frames
+LeavesReader version bytes frames (Found fault.Failed) = ⊥
+LeavesReader version bytes frames (Found fault.NoMemory) = ⊥
+LeavesReader version bytes frames Failed = ⊥
 
 -- a reader that has found no fault returns the frames in its bytes and the piece
 abbrev pub HandsOut : Version → ReaderState → List ℕ → List SignedStatement → ReaderState → Type 0
-HandsOut version (Reading kept) piece frames new = Leaves version (kept ++ piece) frames new
+HandsOut version (Reading kept) piece frames new = LeavesReader version (kept ++ piece) frames new
 HandsOut version (Found found) piece frames new = ⊥
 HandsOut version Failed piece frames new = ⊥
 
 -- the fault that the bytes start with, after which the reader has failed; or memory ran out, which changes nothing
-abbrev pub Faults : Version → List ℕ → List ℕ → FrameFault → ReaderState → Type 0
-Faults version kept piece fault.TooLong new = BreaksOff BeginsTooLong version (kept ++ piece) [] × (new ≡ Failed)
-Faults version kept piece fault.Malformed new = BreaksOff BeginsMalformed version (kept ++ piece) [] × (new ≡ Failed)
-Faults version kept piece fault.Failed new = ⊥
-Faults version kept piece fault.NoMemory new = new ≡ Reading kept
+abbrev pub FailsWith : Version → List ℕ → List ℕ → FrameFault → ReaderState → Type 0
+FailsWith version kept piece fault.TooLong new = BreaksOff BeginsTooLong version (kept ++ piece) [] × (new ≡ Failed)
+FailsWith version kept piece fault.Malformed new = BreaksOff BeginsMalformed version (kept ++ piece) [] × (new ≡ Failed)
+FailsWith version kept piece fault.Failed new = ⊥
+FailsWith version kept piece fault.NoMemory new = new ≡ Reading kept
 
 -- a fault that was found is returned once, and Failed from then on
-abbrev pub Tells : Version → ReaderState → List ℕ → FrameFault → ReaderState → Type 0
-Tells version (Reading kept) piece told new = Faults version kept piece told new
-Tells version (Found found) piece told new = (told ≡ found) × (new ≡ Failed)
-Tells version Failed piece told new = (told ≡ fault.Failed) × (new ≡ Failed)
+abbrev pub ReturnsFault : Version → ReaderState → List ℕ → FrameFault → ReaderState → Type 0
+ReturnsFault version (Reading kept) piece told new = FailsWith version kept piece told new
+ReturnsFault version (Found found) piece told new = (told ≡ found) × (new ≡ Failed)
+ReturnsFault version Failed piece told new = (told ≡ fault.Failed) × (new ≡ Failed)
 
 -- the fault that was found, if no frame comes before it; or memory ran out
 abbrev pub FaultAt : List SignedStatement → FrameFault → FrameFault → Type 0
@@ -67,19 +67,19 @@ FaultAt frames found told = ((told ≡ found) × (frames ≡ [])) ⊎ (told ≡ 
 -- ---- how the frames are split off
 
 -- what follows the frames
-abbrev pub Ends : Version → End → List ℕ → Type 0
-Ends version ending.Partial rest = IsPartial version rest
-Ends version ending.TooLong rest = BeginsTooLong version rest
-Ends version ending.Malformed rest = BeginsMalformed version rest
+abbrev pub EndsStream : Version → End → List ℕ → Type 0
+EndsStream version ending.Partial rest = IsPartial version rest
+EndsStream version ending.TooLong rest = BeginsTooLong version rest
+EndsStream version ending.Malformed rest = BeginsMalformed version rest
 
 -- what the bytes start with
-abbrev pub Begins : Version → List ℕ → Front → Type 0
-Begins version bytes (front.Whole frame) = IsFrameIn version frame × (bytes ≡ frame_bytes frame ++ drop (length (frame_bytes frame)) bytes)
-Begins version bytes (front.Ends end) = Ends version end bytes
+abbrev pub StartsWith : Version → List ℕ → Front → Type 0
+StartsWith version bytes (front.Whole frame) = IsFrameIn version frame × (bytes ≡ frame_bytes frame ++ drop (length (frame_bytes frame)) bytes)
+StartsWith version bytes (front.Ends end) = EndsStream version end bytes
 
 -- the bytes are these frames, followed by the rest, which starts as the end says
 abbrev pub ReadsOn : Version → List ℕ → List SignedStatement → End → List ℕ → Type 0
-ReadsOn version bytes frames end rest = Frames version bytes frames rest × Ends version end rest
+ReadsOn version bytes frames end rest = Frames version bytes frames rest × EndsStream version end rest
 
 -- the bytes that the split used are its frames, and the bytes after them start as its end says
 abbrev pub Splits : Version → List ℕ → Split → Type 0

@@ -46,15 +46,15 @@ impl Frame {
     ghost use Rattle.ledger_model.specs.Spelling.{statement_bytes, frame_bytes, IsFrame, SpellsFrame};
     ghost use Rattle.ledger_model.specs.Reading.{reading_in};
     ghost use Rattle.ledger_model.specs.declared.version.Version.TheVariants.{One, Two};
-    ghost use Rattle.statements.specs.Reads.{Gives};
+    ghost use Rattle.statements.specs.Reads.{IsReadingOr};
     ghost use Rattle.signed_frames.specs.Lending.{lent_of, own_part, proof_of};
     ghost use Rattle.signed_frames.specs.Parts.{signed_by_last, HoldsFrame};
 
     /// The frame of version 1 that all of the bytes are: [`Frame::parse_in`] with version 1.
     pub fn parse(alloc: Global, bytes: Bytes) -> Result<Self, DecodeFault>
         ensures found { IfOk result (λ frame. SpellsFrame One bytes frame) }
-        ensures only { (frame : SignedStatement) → SpellsFrame One bytes frame → Gives result (Some frame) }
-        ensures exact { Gives result (reading_in One bytes) }
+        ensures only { (frame : SignedStatement) → SpellsFrame One bytes frame → IsReadingOr result (Some frame) }
+        ensures exact { IsReadingOr result (reading_in One bytes) }
     {
         Frame::parse_in(Version::One, alloc, bytes)
     }
@@ -65,9 +65,9 @@ impl Frame {
         // The bytes encode the frame that is returned.
         ensures found { IfOk result (λ frame. SpellsFrame version bytes frame) }
         // If the bytes encode a frame, it is returned, unless memory runs out.
-        ensures only { (frame : SignedStatement) → SpellsFrame version bytes frame → Gives result (Some frame) }
+        ensures only { (frame : SignedStatement) → SpellsFrame version bytes frame → IsReadingOr result (Some frame) }
         // The result is the reading of the definitions, and Malformed comes exactly if there is none.
-        ensures exact { Gives result (reading_in version bytes) }
+        ensures exact { IsReadingOr result (reading_in version bytes) }
     {
         let (statement, signature) = parts_of(version, alloc, bytes.as_slice())?;
         let signature_len = signature.len();

@@ -6,7 +6,7 @@ ghost use Rattle.ledger_model.specs.GrammarLaws.{IsBytes};
 ghost use Rattle.ledger_model.specs.Spelling.{SpellsFrame};
 ghost use Rattle.ledger_model.specs.Reading.{reading_in, body_reading};
 ghost use Rattle.ledger_model.specs.declared.version.Version.{Version};
-ghost use Rattle.statements.specs.Reads.{Faults};
+ghost use Rattle.statements.specs.Reads.{IsFaultOf};
 ghost use Rattle.signed_frames.specs.Parts.{GivesParts};
 
 use crate::HEADER_LEN;
@@ -32,7 +32,7 @@ pub fn message_in(frame: &[u8], signature_len: usize) -> &[u8]
 #[tactic(auto, unfolding(ledger_model::specs::Reading::reading_in))]
 fn body_at(bytes: &[u8]) -> Result<&[u8], DecodeFault>
     ensures read { MatchResult result (λ body. (version : Version) → reading_in version bytes.now ≡ body_reading version body.now)
-        (λ fault. (version : Version) → Faults fault (reading_in version bytes.now)) }
+        (λ fault. (version : Version) → IsFaultOf fault (reading_in version bytes.now)) }
     ensures bytes { IfOk result (λ body. IsBytes body.now) }
 {
     let mut cursor = Cursor::new(bytes);

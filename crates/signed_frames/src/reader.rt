@@ -39,7 +39,7 @@ impl FrameReader {
     ghost use Rattle.ledger_model.specs.declared.statement.SignedStatement.{SignedStatement};
     ghost use Rattle.ledger_model.specs.declared.version.Version.TheVariants.{One};
     ghost use Rattle.ledger_model.specs.Streams.{BeginsTooLong, BeginsMalformed, SplitsTo, BreaksOff};
-    ghost use Rattle.signed_frames.specs.Reader.{Reading, Found, HandsOut, Tells, FaultAt};
+    ghost use Rattle.signed_frames.specs.Reader.{Reading, Found, HandsOut, ReturnsFault, FaultAt};
 
     /// A reader at the start of a stream of frames of version 1: [`FrameReader::new_in`] with version 1.
     pub fn new(alloc: Global) -> Self
@@ -69,7 +69,7 @@ impl FrameReader {
     fn take_piece(&mut self, piece: &[u8]) -> Result<Vec<Frame>, FrameFault>
         ensures version { self.new.version ≡ self.old.version }
         ensures frames { IfOk result (λ frames. HandsOut self.old.version self.old.state piece.now frames.items self.new.state) }
-        ensures fault { IfErr result (λ fault. Tells self.old.version self.old.state piece.now fault self.new.state) }
+        ensures fault { IfErr result (λ fault. ReturnsFault self.old.version self.old.state piece.now fault self.new.state) }
     {
         match self.stage {
             Stage::Reading => {}
@@ -103,7 +103,7 @@ impl FrameReader {
         // The frames that are returned, and the reader afterwards.
         ensures frames { IfOk result (λ frames. HandsOut self.old.version self.old.state piece.now frames.items self.new.state) }
         // The fault that is returned, and the reader afterwards.
-        ensures fault { IfErr result (λ fault. Tells self.old.version self.old.state piece.now fault self.new.state) }
+        ensures fault { IfErr result (λ fault. ReturnsFault self.old.version self.old.state piece.now fault self.new.state) }
         // It still takes frames of the same version.
         ensures version { self.new.version ≡ self.old.version }
         // If the bytes are frames followed by less than a whole frame, those frames are returned, unless memory runs out.

@@ -1,7 +1,7 @@
 //! Splits the frames at the start of some bytes off.
 
 ghost use Rattle.std.specs.Prelude.{◌++◌, IfOk, OnErr, ◌≡◌};
-ghost use Rattle.signed_frames.specs.Reader.{Begins, Splits, ReadsOn};
+ghost use Rattle.signed_frames.specs.Reader.{StartsWith, Splits, ReadsOn};
 
 use crate::{Frame, HEADER_LEN};
 use bytes::{Bytes, BytesMut};
@@ -38,7 +38,7 @@ pub struct Split {
 
 /// What the bytes start with, in frames of this version.
 fn front_of(version: Version, alloc: Global, bytes: &[u8]) -> Result<Front, AllocError>
-    ensures { IfOk result (λ front. Begins version bytes.now front) }
+    ensures { IfOk result (λ front. StartsWith version bytes.now front) }
 {
     let Ok(len) = Cursor::new(bytes).take_u32() else {
         return Ok(Front::Ends(End::Partial));

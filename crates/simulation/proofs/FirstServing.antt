@@ -17,7 +17,7 @@ use Rattle.ledger_model.specs.Reading.{reading}
 use Rattle.ledger_model.specs.Worlds.{frames_in, frames_sent}
 use Rattle.ledger_model.proofs.Lists.{take-next}
 use Rattle.scenario_texts.specs.declared.command.Lie.{Lie}
-use Rattle.simulation.specs.Lies.{report_of, report_in, serves, if_serves, first_serving, frames_of}
+use Rattle.simulation.specs.Lies.{signed_report_of, report_in, serves, if_serves, first_serving, frames_with}
 
 -- ---- one frame
 
@@ -31,12 +31,12 @@ of_one l k r bytes = kept l k r (report_in bytes)
 
 -- of the one frame that bytes are
 pub of_frame : (l : Lie) (k r : ℕ) (bytes : List ℕ) (frame : SignedStatement) → reading bytes ≡ Some frame
-    → if_serves l k r (report_of frame) ≡ first_serving l k r (bytes ∷ [])
-of_frame l k r bytes frame reads = ap (λ o. if_serves l k r (option_and_then report_of o)) (sym reads) ∙ sym (of_one l k r bytes)
+    → if_serves l k r (signed_report_of frame) ≡ first_serving l k r (bytes ∷ [])
+of_frame l k r bytes frame reads = ap (λ o. if_serves l k r (option_and_then signed_report_of o)) (sym reads) ∙ sym (of_one l k r bytes)
 
 -- of bytes that are no frame there is none
 pub of_no_frame : (l : Lie) (k r : ℕ) (bytes : List ℕ) → reading bytes ≡ None → None ≡ first_serving l k r (bytes ∷ [])
-of_no_frame l k r bytes reads = ap (λ o. if_serves l k r (option_and_then report_of o)) (sym reads) ∙ sym (of_one l k r bytes)
+of_no_frame l k r bytes reads = ap (λ o. if_serves l k r (option_and_then signed_report_of o)) (sym reads) ∙ sym (of_one l k r bytes)
 
 -- ---- frames, and those after them
 
@@ -114,12 +114,12 @@ next_frame sent i s is = ap frames_among (take-next sent i s is) ∙ map-append 
 
 -- the frames of the entries up to and with this one
 pub next_sent : (entries : List Entry) (i : ℕ) → i < length entries
-    → frames_sent (take (i + 1) entries) ≡ frames_sent (take i entries) ++ frames_of (slice_get entries i)
+    → frames_sent (take (i + 1) entries) ≡ frames_sent (take i entries) ++ frames_with (slice_get entries i)
 unfolding frames_sent
 next_sent entries i below = elim ((slice_get_cases entries i).1) [
   | inl (e, lt, is, at) ↦
       ap frames_sent (take-next entries i e is) ∙ flat_map-append (λ (x : Entry). frames_in x.reply) (take i entries) (e ∷ [])
       ∙ ap (λ fs. frames_sent (take i entries) ++ fs) (append-nil (frames_in e.reply))
-      ∙ ap (λ o. frames_sent (take i entries) ++ frames_of o) (sym is)
+      ∙ ap (λ o. frames_sent (take i entries) ++ frames_with o) (sym is)
   | inr (past, nothing) ↦ absurd (omega arith)
 ]

@@ -24,10 +24,10 @@ use Rattle.scenario_texts.specs.declared.command.Lie.{Lie}
 use Rattle.simulation.specs.declared.report_list.ReportFrame.{ReportFrame}
 use Rattle.simulation.specs.declared.report_list.ReportList.{ReportList}
 use Rattle.simulation.specs.declared.report_index.ReportIndex.{ReportIndex}
-use Rattle.simulation.specs.Indexes.{CoversFrames, CoversHistory, IsIndexOf, frame_of_report, frames_at, is_at, report_frames}
-use Rattle.simulation.specs.Lies.{first_serving, report_in, report_of, serves}
+use Rattle.simulation.specs.Indexes.{CoversFrames, CoversHistory, IsIndexOf, frame_of_report, frames_of_report, is_at, report_frames}
+use Rattle.simulation.specs.Lies.{first_serving, report_in, signed_report_of, serves}
 use Rattle.ledger_model.specs.Groups.{is_correct}
-use Rattle.simulation.specs.Playing.{GoesOn, serving, simulation_of}
+use Rattle.simulation.specs.Playing.{KeepsSetup, serving, simulation_of}
 use Rattle.simulation.proofs.Growing.{runs_grow}
 
 -- ---- the frames of reports
@@ -43,12 +43,12 @@ unfolding report_frames
 reports_none xs = sym (append-nil xs)
 
 one_report : List ℕ → List ℕ → Statement → List ReportFrame
-one_report bytes signature x = cons_option (frame_of_report bytes (report_of (record { statement = x; signature = signature }))) []
+one_report bytes signature x = cons_option (frame_of_report bytes (signed_report_of (record { statement = x; signature = signature }))) []
 
 of_one : (bytes : List ℕ) (frame : SignedStatement) → reading bytes ≡ Some frame
     → report_frames (bytes ∷ []) ≡ one_report bytes frame.signature frame.statement
 unfolding report_frames one_report
-of_one bytes frame reads = ap (λ o. cons_option (frame_of_report bytes (option_and_then report_of o)) []) reads
+of_one bytes frame reads = ap (λ o. cons_option (frame_of_report bytes (option_and_then signed_report_of o)) []) reads
 
 -- of the frame of a report
 pub of_report : (bytes : List ℕ) (frame : SignedStatement) (r : Report) → reading bytes ≡ Some frame → frame.statement ≡ statement.Report r
@@ -70,7 +70,7 @@ of_other bytes frame reads none = of_one bytes frame reads ∙ by frame.statemen
 -- of bytes that are no frame
 pub of_no_frame : (bytes : List ℕ) → reading bytes ≡ None → report_frames (bytes ∷ []) ≡ []
 unfolding report_frames
-of_no_frame bytes reads = ap (λ o. cons_option (frame_of_report bytes (option_and_then report_of o)) []) reads
+of_no_frame bytes reads = ap (λ o. cons_option (frame_of_report bytes (option_and_then signed_report_of o)) []) reads
 
 -- after what was there before, a list has those of some frames, and then those of the next
 pub reports_more : (old now next : List ReportFrame) (front here frames : List (List ℕ)) → now ≡ old ++ report_frames front
@@ -87,35 +87,35 @@ reports_next now next front here frames is then whole =
 
 -- ---- those at the lie's height and phase
 
-at_append : (l : Lie) (k r : ℕ) (xs ys : List ReportFrame) → frames_at l k r (xs ++ ys) ≡ frames_at l k r xs ++ frames_at l k r ys
+at_append : (l : Lie) (k r : ℕ) (xs ys : List ReportFrame) → frames_of_report l k r (xs ++ ys) ≡ frames_of_report l k r xs ++ frames_of_report l k r ys
 at_append l k r xs ys =
     ap (map (λ (f : ReportFrame). f.frame)) (filter-append (is_at l k r) xs ys)
     ∙ map-append (λ (f : ReportFrame). f.frame) (filter (is_at l k r) xs) (filter (is_at l k r) ys)
 
 -- one more report is at that height and phase
 pub at_kept : (l : Lie) (k r : ℕ) (xs : List ReportFrame) (f : ReportFrame) → is_at l k r f ≡ true
-    → frames_at l k r (xs ++ f ∷ []) ≡ frames_at l k r xs ++ f.frame ∷ []
-at_kept l k r xs f is = at_append l k r xs (f ∷ []) ∙ ap (λ b. frames_at l k r xs ++ map (λ (x : ReportFrame). x.frame)
+    → frames_of_report l k r (xs ++ f ∷ []) ≡ frames_of_report l k r xs ++ f.frame ∷ []
+at_kept l k r xs f is = at_append l k r xs (f ∷ []) ∙ ap (λ b. frames_of_report l k r xs ++ map (λ (x : ReportFrame). x.frame)
     (cond b (f ∷ []) [])) is
 
 -- one more report is not
 pub at_left : (l : Lie) (k r : ℕ) (xs : List ReportFrame) (f : ReportFrame) → is_at l k r f ≡ false
-    → frames_at l k r (xs ++ f ∷ []) ≡ frames_at l k r xs
+    → frames_of_report l k r (xs ++ f ∷ []) ≡ frames_of_report l k r xs
 at_left l k r xs f other =
-    at_append l k r xs (f ∷ []) ∙ ap (λ b. frames_at l k r xs ++ map (λ (x : ReportFrame). x.frame) (cond b (f ∷ []) [])) other
+    at_append l k r xs (f ∷ []) ∙ ap (λ b. frames_of_report l k r xs ++ map (λ (x : ReportFrame). x.frame) (cond b (f ∷ []) [])) other
     ∙ append-nil _
 
 -- all of them are those so far, this one, and the others
 pub at_whole : (l : Lie) (k r : ℕ) (xs : List ReportFrame) (i : ℕ) (f : ReportFrame) → take (i + 1) xs ≡ take i xs ++ f ∷ []
     → is_at l k r f ≡ true
-    → frames_at l k r xs ≡ (frames_at l k r (take i xs) ++ f.frame ∷ []) ++ frames_at l k r (drop (i + 1) xs)
+    → frames_of_report l k r xs ≡ (frames_of_report l k r (take i xs) ++ f.frame ∷ []) ++ frames_of_report l k r (drop (i + 1) xs)
 at_whole l k r xs i f upto is =
-    ap (frames_at l k r) (sym (take-append-drop (i + 1) xs)) ∙ at_append l k r (take (i + 1) xs) (drop (i + 1) xs)
-    ∙ ap (λ fs. fs ++ frames_at l k r (drop (i + 1) xs)) (ap (frames_at l k r) upto ∙ at_kept l k r (take i xs) f is)
+    ap (frames_of_report l k r) (sym (take-append-drop (i + 1) xs)) ∙ at_append l k r (take (i + 1) xs) (drop (i + 1) xs)
+    ∙ ap (λ fs. fs ++ frames_of_report l k r (drop (i + 1) xs)) (ap (frames_of_report l k r) upto ∙ at_kept l k r (take i xs) f is)
 
 -- the reports of the lie's height and phase have the same serving reports as all frames
 same_serving : (l : Lie) (k r : ℕ) (frames : List (List ℕ))
-    → filter (serves l k r) (filter_map report_in (frames_at l k r (report_frames frames))) ≡ filter (serves l k r)
+    → filter (serves l k r) (filter_map report_in (frames_of_report l k r (report_frames frames))) ≡ filter (serves l k r)
     (filter_map report_in frames)
 unfolding report_frames
 same_serving l k r [] = refl
@@ -125,7 +125,7 @@ same_serving l k r (f ∷ fs) = by (report_in f) refl (same_serving l k r fs)
     at s = record { signer = s.report.signer; height = s.report.height; phase = s.report.phase; frame = f }
 
     looked : List SignedReport
-    looked = filter (serves l k r) (filter_map report_in (frames_at l k r (filter_map (λ g. frame_of_report g (report_in g)) fs)))
+    looked = filter (serves l k r) (filter_map report_in (frames_of_report l k r (filter_map (λ g. frame_of_report g (report_in g)) fs)))
 
     all : List SignedReport
     all = filter (serves l k r) (filter_map report_in fs)
@@ -143,13 +143,13 @@ same_serving l k r (f ∷ fs) = by (report_in f) refl (same_serving l k r fs)
 
     by : (o : Option SignedReport) → report_in f ≡ o → looked ≡ all
         → filter (serves l k r)
-        (filter_map report_in (frames_at l k r (cons_option (frame_of_report f o) (filter_map (λ g. frame_of_report g (report_in g)) fs))))
+        (filter_map report_in (frames_of_report l k r (cons_option (frame_of_report f o) (filter_map (λ g. frame_of_report g (report_in g)) fs))))
         ≡ filter (serves l k r) (cons_option o (filter_map report_in fs))
     by None is rest = rest
     by (Some s) is rest = kept s (is_at l k r (at s)) refl is rest
 
 pub found_at : (l : Lie) (k r : ℕ) (frames : List (List ℕ))
-    → first_serving l k r (frames_at l k r (report_frames frames)) ≡ first_serving l k r frames
+    → first_serving l k r (frames_of_report l k r (report_frames frames)) ≡ first_serving l k r frames
 unfolding first_serving
 found_at l k r frames = ap (λ reports. slice_get reports 0) (same_serving l k r frames)
 
@@ -207,7 +207,7 @@ index_longer index new list c lies is longer same seen none = record {
 }
 
 -- as the cluster goes on
-pub index_later : (index : ReportIndex) (c d : WorldView) (lies : List (List ℕ)) → IsIndexOf index c lies → GoesOn c d
+pub index_later : (index : ReportIndex) (c d : WorldView) (lies : List (List ℕ)) → IsIndexOf index c lies → KeepsSetup c d
     → IsIndexOf index d lies
 index_later index c d lies is goes = record {
   sent = λ r none below.
@@ -222,15 +222,15 @@ index_later index c d lies is goes = record {
 -- of a correct replica, in the reports that it sent
 pub finds_sent : (c : WorldView) (lies : List (List ℕ)) (l : Lie) (k r : ℕ) (reports : List ReportFrame)
     → is_correct (world_of c).histories r ≡ true → reports ≡ report_frames (frames_sent (entries_in (world_of c) r))
-    → first_serving l k r (frames_at l k r reports) ≡ serving (simulation_of c lies) l k r
+    → first_serving l k r (frames_of_report l k r reports) ≡ serving (simulation_of c lies) l k r
 finds_sent c lies l k r reports correct is =
-    ap (λ x. first_serving l k r (frames_at l k r x)) is ∙ found_at l k r (frames_sent (entries_in (world_of c) r))
+    ap (λ x. first_serving l k r (frames_of_report l k r x)) is ∙ found_at l k r (frames_sent (entries_in (world_of c) r))
     ∙ ap (λ b. first_serving l k r (cond b (frames_sent (entries_in (world_of c) r)) lies)) (sym correct)
 
 -- of a liar, in the reports that liars signed
 pub finds_signed : (c : WorldView) (lies : List (List ℕ)) (l : Lie) (k r : ℕ) (reports : List ReportFrame)
     → is_correct (world_of c).histories r ≡ false → reports ≡ report_frames lies
-    → first_serving l k r (frames_at l k r reports) ≡ serving (simulation_of c lies) l k r
+    → first_serving l k r (frames_of_report l k r reports) ≡ serving (simulation_of c lies) l k r
 finds_signed c lies l k r reports liar is =
-    ap (λ x. first_serving l k r (frames_at l k r x)) is ∙ found_at l k r lies
+    ap (λ x. first_serving l k r (frames_of_report l k r x)) is ∙ found_at l k r lies
     ∙ ap (λ b. first_serving l k r (cond b (frames_sent (entries_in (world_of c) r)) lies)) (sym liar)

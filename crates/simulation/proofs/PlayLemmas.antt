@@ -21,9 +21,9 @@ use Rattle.adversary_net.specs.WorldViews.{WorldView, liar_at, world_of}
 use Rattle.adversary_net.specs.Leaves.{IsAnswered}
 use Rattle.scenario_texts.specs.declared.command.Lie.{Lie}
 use Rattle.simulation.specs.Lies.{lying_lock}
-use Rattle.printed_lines.specs.Lines.{ended, entry_text, undecided, step_text}
-use Rattle.simulation.specs.Playing.{SimulationView, Answers, Ends, Lies, LiesLock, PlaysRound, Signed, StepsEach, answer_text, correct_in}
-use Rattle.simulation.specs.Playing.{injections_to, is_taken, lie_receivers, pass_text, passes_of, target}
+use Rattle.printed_lines.specs.Lines.{with_line_feed, entry_text, undecided, step_text}
+use Rattle.simulation.specs.Playing.{SimulationView, PrintsStep, EndsRound, Lies, LiesLock, PlaysRound, Signed, StepsEach, answer_text, correct_in}
+use Rattle.simulation.specs.Playing.{injections_to, is_accepting, lie_receivers, pass_text, passes_of, target}
 use Rattle.simulation.proofs.StepLemmas.{SteppedTo, EndedTo, ended_more, stepped_more}
 use Rattle.simulation.proofs.StepTargets.{done_at}
 use Rattle.ledger_model.proofs.Lists.{take_item}
@@ -51,7 +51,7 @@ prints c d s (answer.Done r i) heights answered found =
 -- the step is taken, and its text added
 pub steps_so : (c d : WorldView) (s : WorldStep) (given : WorldReply) (heights before after : List ℕ) → IsAnswered c s given d
     → (is_correct (world_of c).histories (target s) ≡ true → heights ≡ undecided c.config (target s) (entries_in (world_of c) (target s)))
-    → after ≡ before ++ answer_text d.config heights given (world_of d) → Answers step_text c s given d before after
+    → after ≡ before ++ answer_text d.config heights given (world_of d) → PrintsStep step_text c s given d before after
 steps_so c d s given heights before after answered found is = record {
   answered = answered;
   printed = is ∙ ap (λ t. before ++ t) (prints c d s given heights answered found);
@@ -59,13 +59,13 @@ steps_so c d s given heights before after answered found is = record {
 
 -- a pass whose frame is accepted
 pub passes_quietly : (c d : WorldView) (s : WorldStep) (given : WorldReply) (before : List ℕ) → IsAnswered c s given d
-    → is_taken given (world_of d) ≡ true
-    → Answers pass_text c s given d before before
+    → is_accepting given (world_of d) ≡ true
+    → PrintsStep pass_text c s given d before before
 passes_quietly c d s given before answered taken =
     record {
       answered = answered;
       printed =
-          sym (append-nil before) ∙ ap (λ t. before ++ t) (sym (none (is_taken given (world_of d)) _ taken));
+          sym (append-nil before) ∙ ap (λ t. before ++ t) (sym (none (is_accepting given (world_of d)) _ taken));
     }
   where
     none : (b : Bool) (text : List ℕ) → b ≡ true → (if b then [] else text) ≡ []
@@ -73,12 +73,12 @@ passes_quietly c d s given before answered taken =
 
 -- a pass whose frame is not
 pub passes_aloud : (c d : WorldView) (s : WorldStep) (given : WorldReply) (heights before after : List ℕ) → IsAnswered c s given d
-    → is_taken given (world_of d) ≡ false
+    → is_accepting given (world_of d) ≡ false
     → (is_correct (world_of c).histories (target s) ≡ true → heights ≡ undecided c.config (target s) (entries_in (world_of c) (target s)))
-    → after ≡ before ++ answer_text d.config heights given (world_of d) → Answers pass_text c s given d before after
+    → after ≡ before ++ answer_text d.config heights given (world_of d) → PrintsStep pass_text c s given d before after
 passes_aloud c d s given heights before after answered left found is = record {
   answered = answered;
-  printed = is ∙ ap (λ t. before ++ t) (prints c d s given heights answered found ∙ sym (whole (is_taken given (world_of d)) _ left));
+  printed = is ∙ ap (λ t. before ++ t) (prints c d s given heights answered found ∙ sym (whole (is_accepting given (world_of d)) _ left));
 }
   where
     whole : (b : Bool) (text : List ℕ) → b ≡ false → (if b then [] else text) ≡ text
@@ -89,8 +89,8 @@ passes_aloud c d s given heights before after answered left found is = record {
 -- a replica ends its round
 pub ends_so : (correct : List ℕ) (c d : WorldView) (r : ℕ) (given : WorldReply) (before after : List ℕ) (passes all : List WorldStep)
     (sent : ℕ)
-    → Answers step_text c (step.RoundEnd r) given d before after → sent ≡ length (frames_sent (entries_in (world_of c) r))
-    → all ≡ passes ++ passes_of correct sent given (world_of d) → Ends correct c r before after passes all d
+    → PrintsStep step_text c (step.RoundEnd r) given d before after → sent ≡ length (frames_sent (entries_in (world_of c) r))
+    → all ≡ passes ++ passes_of correct sent given (world_of d) → EndsRound correct c r before after passes all d
 ends_so correct c d r given before after passes all sent answered count is = record {
   text = step_text c.config (world_of c) given (world_of d);
   end = record { given = given; answered = answered.answered; printed = refl };
@@ -103,7 +103,7 @@ pub round_so : (c mid d : WorldView) (before out after : List ℕ) (correct : Li
     → correct ≡ correct_in c
     → EndedTo correct c correct before out none passes mid → SteppedTo pass_text mid passes out after d
     → (text : List ℕ) × (PlaysRound c text d × (after ≡ before ++ text))
-round_so c mid d before out after correct none passes nothing is (ends, (more, (ended, printed, passed))) (text, (delivered, last)) =
+round_so c mid d before out after correct none passes nothing is (ends, (more, (with_line_feed, printed, passed))) (text, (delivered, last)) =
     let all : passes ≡ more = passed ∙ ap (λ l. l ++ more) nothing in (
       ends ++ text,
       (
@@ -112,7 +112,7 @@ round_so c mid d before out after correct none passes nothing is (ends, (more, (
           passes = more;
           mid = mid;
           passed = text;
-          ended = rw is at ended;
+          ended = rw is at with_line_feed;
           delivered = rw all at delivered;
           printed = refl;
         },
@@ -152,7 +152,7 @@ tells_so l said p q mid frame before after (is, signs) same_lies (text, (steps, 
 pub tells_exhausted : (l : Lie) (said : Statement) (p q : SimulationView) (before after : List ℕ)
     → Signed p.cluster l.liar said (Err sign.Exhausted) q.cluster → q.lies ≡ p.lies
     → after ≡ before ++ codes "exhausted\n" → LiesTo l said p before after q
-tells_exhausted l said p q before after signs kept is = (ended (codes "exhausted"), (inl (Err sign.Exhausted, (signs, kept, refl)), is))
+tells_exhausted l said p q before after signs kept is = (with_line_feed (codes "exhausted"), (inl (Err sign.Exhausted, (signs, kept, refl)), is))
 
 -- a replica that is no liar lies nothing
 pub tells_nothing : (l : Lie) (said : Statement) (p q : SimulationView) (before : List ℕ)
@@ -191,7 +191,7 @@ lock_can l proof cannot p q before after many (text, (lies, is)) =
 -- one replica more ends its round
 pub ended_next : (correct : List ℕ) (c d e : WorldView) (i r : ℕ) (before mid after : List ℕ) (passes some all : List WorldStep)
     → i < length correct → r ≡ get_or correct i r
-    → EndedTo correct c (take i correct) before mid passes some d → Ends correct d r mid after some all e
+    → EndedTo correct c (take i correct) before mid passes some d → EndsRound correct d r mid after some all e
     → EndedTo correct c (take (i + 1) correct) before after passes all e
 ended_next correct c d e i r before mid after passes some all within is so_far next =
     subst (λ rs. EndedTo correct c rs before after passes all e) (sym (take_item correct i r within is))
@@ -200,7 +200,7 @@ ended_next correct c d e i r before mid after passes some all within is so_far n
 -- one step more is taken
 pub stepped_next : (print : Config → World → WorldReply → World → List ℕ) (c d e : WorldView) (ss : List WorldStep) (i : ℕ) (s : WorldStep)
     (given : WorldReply) (before mid after : List ℕ)
-    → i < length ss → s ≡ get_or ss i s → SteppedTo print c (take i ss) before mid d → Answers print d s given e mid after
+    → i < length ss → s ≡ get_or ss i s → SteppedTo print c (take i ss) before mid d → PrintsStep print d s given e mid after
     → SteppedTo print c (take (i + 1) ss) before after e
 stepped_next print c d e ss i s given before mid after within is so_far next =
     subst (λ l. SteppedTo print c l before after e) (sym (take_item ss i s within is))
@@ -210,7 +210,7 @@ stepped_next print c d e ss i s given before mid after within is so_far next =
 pub injected_next : (c d e : WorldView) (receivers : List ℕ) (bytes : List ℕ) (i r : ℕ) (given : WorldReply) (before mid after : List ℕ)
     → i < length receivers → r ≡ get_or receivers i r
     → SteppedTo step_text c (injections_to (take i receivers) bytes) before mid d
-    → Answers step_text d (step.Inject r bytes) given e mid after
+    → PrintsStep step_text d (step.Inject r bytes) given e mid after
     → SteppedTo step_text c (injections_to (take (i + 1) receivers) bytes) before after e
 injected_next c d e receivers bytes i r given before mid after within is so_far next =
     subst (λ l. SteppedTo step_text c l before after e)

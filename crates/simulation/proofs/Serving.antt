@@ -8,7 +8,7 @@ use Rattle.ledger_model.specs.Validity.{ascends_within, signers_of}
 use Rattle.ledger_model.proofs.Counting.{ascends_from, ascends_lower, take-within}
 use Rattle.scenario_texts.specs.declared.command.Lie.{Lie}
 use Rattle.simulation.specs.Lies.{first_serving, report_in, serves}
-use Rattle.simulation.specs.Playing.{SimulationView, all_serving, frames_of, proof_for, serving}
+use Rattle.simulation.specs.Playing.{SimulationView, all_serving, report_sources, proof_for, serving}
 use Rattle.ledger_model.specs.Rounds.{quorum}
 
 -- the first that passes a test passes it
@@ -27,7 +27,7 @@ pub serving_signer : (p : SimulationView) (l : Lie) (k r : ℕ) (s : SignedRepor
 unfolding first_serving
 serving_signer p l k r s is = eqb-true _ _
     (and_parts _ _ (and_parts _ _ (and_parts _ _ (and_parts _ _
-    (first_passes (serves l k r) (filter_map report_in (frames_of p r)) s is)).0).0).0).0
+    (first_passes (serves l k r) (filter_map report_in (report_sources p r)) s is)).0).0).0).0
 
 -- what is found at ascending numbers, and has them as its keys, ascends
 pub found-within : {X : Type 0} (key : X → ℕ) (f : ℕ → Option X) → ((r : ℕ) (x : X) → f r ≡ Some x → key x ≡ r) → (low n high : ℕ)

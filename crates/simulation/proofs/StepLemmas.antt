@@ -13,20 +13,20 @@ use Rattle.scenario_texts.specs.declared.command.Command.{Command}
 use Rattle.adversary_net.specs.WorldViews.{WorldView, IsSameCluster, SignsFor, world_of}
 use Rattle.adversary_net.specs.Leaves.{IsAnswered, AreAnswered}
 use Rattle.printed_lines.specs.Lines.{step_text}
-use Rattle.simulation.specs.Playing.{SimulationView, Steps, StepsEach, EndsEach, Ends, Answers, GoesOn, Plays, PlaysAll, PlaysOther}
+use Rattle.simulation.specs.Playing.{SimulationView, Steps, StepsEach, EndsEach, EndsRound, PrintsStep, KeepsSetup, Plays, PlaysAll, PlaysOther}
 use Rattle.simulation.specs.Playing.{PlaysStep, passes_of, step_of}
 
 -- ---- a run that goes on
 
-pub stays : (c : WorldView) → GoesOn c c
+pub stays : (c : WorldView) → KeepsSetup c c
 unfolding Runs
 stays c = record { steps = []; answers = []; runs = refl; config = refl; ring = refl }
 
-pub stays_in : (c d : WorldView) → world_of d ≡ world_of c → d.config ≡ c.config → d.ring ≡ c.ring → GoesOn c d
+pub stays_in : (c d : WorldView) → world_of d ≡ world_of c → d.config ≡ c.config → d.ring ≡ c.ring → KeepsSetup c d
 unfolding Runs
 stays_in c d world config ring = record { steps = []; answers = []; runs = world; config = config; ring = ring }
 
-pub goes_on : (c d e : WorldView) → GoesOn c d → GoesOn d e → GoesOn c e
+pub goes_on : (c d e : WorldView) → KeepsSetup c d → KeepsSetup d e → KeepsSetup c e
 goes_on c d e first next = record {
   steps = first.steps ++ next.steps;
   answers = first.answers ++ next.answers;
@@ -38,7 +38,7 @@ goes_on c d e first next = record {
 }
 
 pub goes_by : (c d : WorldView) (steps : List WorldStep) (answers : List WorldReply)
-    → Runs c.config c.ring (world_of c) steps answers (world_of d) → IsSameCluster c d → GoesOn c d
+    → Runs c.config c.ring (world_of c) steps answers (world_of d) → IsSameCluster c d → KeepsSetup c d
 goes_by c d steps answers runs same = record { steps = steps; answers = answers; runs = runs; config = same.config; ring = same.ring }
 
 -- a liar's signature changes neither the configuration nor the keys of the others
@@ -49,7 +49,7 @@ same_config view c r message answer d (old, new, (at, signs, same)) =
 
 -- it is no step
 pub signs_on : {X : Type 0} (view : X → List ℕ) (c : WorldView) (r : ℕ) (message : List ℕ) (answer : Result X SignFault) (d : WorldView)
-    → SignsFor view c r message answer d → GoesOn c d
+    → SignsFor view c r message answer d → KeepsSetup c d
 signs_on view c r message answer d signs =
     let stay = same_config view c r message answer d signs in
     stays_in c d (signed_world view c r message answer d signs) stay.0 stay.1
@@ -57,9 +57,9 @@ signs_on view c r message answer d signs =
 -- nor is a signature that isn't given
 pub signs_or_not : {X : Type 0} (view : X → List ℕ) (c : WorldView) (r : ℕ) (message : List ℕ) (answer : Option (Result X SignFault))
     (d : WorldView)
-    → IfSome answer (λ given. SignsFor view c r message given d) → IfNone answer (d ≡ c) → GoesOn c d
+    → IfSome answer (λ given. SignsFor view c r message given d) → IfNone answer (d ≡ c) → KeepsSetup c d
 signs_or_not view c r message (Some given) d signs none = signs_on view c r message given d signs
-signs_or_not view c r message None d signs none = subst (GoesOn c) (sym none) (stays c)
+signs_or_not view c r message None d signs none = subst (KeepsSetup c) (sym none) (stays c)
 
 -- ---- one step
 
@@ -166,7 +166,7 @@ stepped_none print c before = ([], ((refl, refl), sym (append-nil before)))
 -- one step more
 pub stepped_more : (print : Config → World → WorldReply → World → List ℕ) (c d e : WorldView) (ss : List WorldStep) (s : WorldStep)
     (given : WorldReply) (before mid after : List ℕ)
-    → SteppedTo print c ss before mid d → Answers print d s given e mid after → SteppedTo print c (ss ++ s ∷ []) before after e
+    → SteppedTo print c ss before mid d → PrintsStep print d s given e mid after → SteppedTo print c (ss ++ s ∷ []) before after e
 stepped_more print c d e ss s given before mid after (text, (steps, is)) next =
     let more = print d.config (world_of d) given (world_of e) in (
       text ++ more,
@@ -189,7 +189,7 @@ ended_none correct c before passes = ([], ([], ((refl, refl, refl), sym (append-
 
 -- one replica more
 pub ended_more : (correct : List ℕ) (c d e : WorldView) (rs : List ℕ) (r : ℕ) (before mid after : List ℕ) (passes some all : List WorldStep)
-    → EndedTo correct c rs before mid passes some d → Ends correct d r mid after some all e
+    → EndedTo correct c rs before mid passes some d → EndsRound correct d r mid after some all e
     → EndedTo correct c (rs ++ r ∷ []) before after passes all e
 ended_more correct c d e rs r before mid after passes some all (text, (more, (ends, is, passed))) next =
     let added = passes_of correct (length (frames_sent (entries_in (world_of d) r))) next.end.given (world_of e) in (

@@ -30,8 +30,8 @@ abbrev pub is_at : Lie → ℕ → ℕ → ReportFrame → Bool
 is_at l k r f = (f.signer == r) && (f.height == l.height) && (f.phase == k)
 
 -- the bytes of those frames whose report is replica r's, at the lie's height and in phase k
-abbrev pub frames_at : Lie → ℕ → ℕ → List ReportFrame → List (List ℕ)
-frames_at l k r reports = map (λ (f : ReportFrame). f.frame) (filter (is_at l k r) reports)
+abbrev pub frames_of_report : Lie → ℕ → ℕ → List ReportFrame → List (List ℕ)
+frames_of_report l k r reports = map (λ (f : ReportFrame). f.frame) (filter (is_at l k r) reports)
 
 -- the list has exactly the frames of reports that the first `seen` entries of the history sent
 pub record CoversHistory (list : ReportList) (entries : List Entry) : Type 0 where

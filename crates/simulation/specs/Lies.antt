@@ -41,8 +41,8 @@ abbrev pub serves : Lie → ℕ → ℕ → SignedReport → Bool
 serves l k r s = serves_report l k r s.report
 
 -- the signed report that a signed statement is, if it is one
-abbrev pub report_of : SignedStatement → Option SignedReport
-report_of s = of s.statement
+abbrev pub signed_report_of : SignedStatement → Option SignedReport
+signed_report_of s = of s.statement
   where
     of : Statement → Option SignedReport
     of (statement.Report r) = Some (record { report = r; signature = s.signature })
@@ -50,7 +50,7 @@ report_of s = of s.statement
 
 -- the signed report that a frame contains, if it does
 abbrev pub report_in : List ℕ → Option SignedReport
-report_in frame = option_and_then report_of (reading frame)
+report_in frame = option_and_then signed_report_of (reading frame)
 
 -- the report, if it is a serving report
 abbrev pub if_serves : Lie → ℕ → ℕ → Option SignedReport → Option SignedReport
@@ -58,9 +58,9 @@ if_serves l k r None = None
 if_serves l k r (Some s) = if serves l k r s then Some s else None
 
 -- the frames that the entry sent; none if there is no entry
-abbrev pub frames_of : Option Entry → List (List ℕ)
-frames_of None = []
-frames_of (Some e) = frames_in e.reply
+abbrev pub frames_with : Option Entry → List (List ℕ)
+frames_with None = []
+frames_with (Some e) = frames_in e.reply
 
 -- the earliest serving report of replica r among the frames
 unfoldable pub first_serving : Lie → ℕ → ℕ → List (List ℕ) → Option SignedReport

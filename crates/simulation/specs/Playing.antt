@@ -20,7 +20,7 @@ use Rattle.ledger_model.specs.declared.world.WorldRefusal.{WorldRefusal}
 use Rattle.ledger_model.specs.Groups.{is_correct}
 use Rattle.ledger_model.specs.Commits.{commits_of}
 use Rattle.ledger_model.specs.Spelling.{statement_bytes, frame_bytes}
-use Rattle.ledger_model.specs.Worlds.{World, entries_in, frames_sent, Runs, fault_at}
+use Rattle.ledger_model.specs.Worlds.{World, entries_in, frames_sent, sent_with, Runs, fault_at}
 use Rattle.key_ring.specs.declared.fault.SignFault.{SignFault}
 use Rattle.key_ring.specs.declared.fault.SignFault.TheVariants as sign
 use Rattle.replica_core.specs.Facts.{info_reply}
@@ -34,7 +34,7 @@ use Rattle.scenario_texts.specs.declared.command.Towards.{Towards}
 use Rattle.scenario_texts.specs.declared.command.Towards.TheVariants as towards
 use Rattle.simulation.specs.declared.signing.Signing.{Signing}
 use Rattle.simulation.specs.declared.signing.Signing.TheVariants as signing
-use Rattle.printed_lines.specs.Lines.{ended, refusal_text, entry_text, step_text, told_text}
+use Rattle.printed_lines.specs.Lines.{with_line_feed, refusal_text, entry_text, step_text, told_text}
 use Rattle.ledger_model.specs.Rounds.{quorum}
 
 -- a simulated cluster, and the frames that its liars have signed, in order
@@ -67,8 +67,8 @@ abbrev pub correct_in : WorldView → List ℕ
 correct_in c = filter (λ r. is_correct (world_of c).histories r) (range_with_len 0 c.config.replicas)
 
 -- the replica with this number; a number above 255 becomes 255, which no cluster has
-abbrev pub named : ℕ → ℕ
-named n = if nat_lt n 256 then n else 255
+abbrev pub replica_named : ℕ → ℕ
+replica_named n = if nat_lt n 256 then n else 255
 
 -- ---- rounds
 
@@ -87,20 +87,10 @@ passes_from correct from index [] = []
 passes_from correct from index (f ∷ fs) =
     map (step.Pass from index) (receivers correct from f.addressee) ++ passes_from correct from (index + 1) fs
 
--- the frames that a reply sends
-abbrev pub sent_in : Reply → List Sent
-sent_in (reply.RoundEnded (Ok end)) = end.frames
-sent_in _ = []
-
--- the frames of an entry
-abbrev pub sent_by : Option Entry → List Sent
-sent_by None = []
-sent_by (Some e) = sent_in e.reply
-
 -- the passes of the frames that a step sent; its replica had sent `before` frames earlier
 abbrev pub passes_of : List ℕ → ℕ → WorldReply → World → List WorldStep
 passes_of correct before (answer.Refused why) new = []
-passes_of correct before (answer.Done r i) new = passes_from correct r before (sent_by (slice_get (entries_in new r) i))
+passes_of correct before (answer.Done r i) new = passes_from correct r before (sent_with (slice_get (entries_in new r) i))
 
 -- these replicas end their rounds one after another; this text is printed, and these are the passes of what they sent
 -- to the correct replicas
@@ -113,22 +103,22 @@ EndsEach correct c (r ∷ rs) text passes d =
     ++ more)))))
 
 -- whether the entry delivers a frame that was accepted
-abbrev pub is_accepted : Option Entry → Bool
-is_accepted None = false
-is_accepted (Some e) = accepts e.reply
+abbrev pub was_accepted : Option Entry → Bool
+was_accepted None = false
+was_accepted (Some e) = accepts e.reply
   where
     accepts : Reply → Bool
     accepts (reply.Delivered (Ok u)) = true
     accepts _ = false
 
 -- whether the reply is that a delivered frame was accepted
-abbrev pub is_taken : WorldReply → World → Bool
-is_taken (answer.Refused why) new = false
-is_taken (answer.Done r i) new = is_accepted (slice_get (entries_in new r) i)
+abbrev pub is_accepting : WorldReply → World → Bool
+is_accepting (answer.Refused why) new = false
+is_accepting (answer.Done r i) new = was_accepted (slice_get (entries_in new r) i)
 
 -- the text for a pass within a round: none if the frame is accepted
 abbrev pub pass_text : Config → World → WorldReply → World → List ℕ
-pass_text config w given new = if is_taken given new then [] else step_text config w given new
+pass_text config w given new = if is_accepting given new then [] else step_text config w given new
 
 -- each correct replica ends its round, and then each frame that was sent is passed to its addressees
 pub record PlaysRound (c : WorldView) (text : List ℕ) (d : WorldView) : Type 0 where
@@ -147,18 +137,18 @@ abbrev pub info_text : Config → World → ℕ → List ℕ
 info_text config w r = unless (fault_at config w r)
   where
     unless : Option WorldRefusal → List ℕ
-    unless (Some why) = ended (refusal_text why)
-    unless None = ended (told_text r (info_reply config.kind (commits_of config r (entries_in w r))))
+    unless (Some why) = with_line_feed (refusal_text why)
+    unless None = with_line_feed (told_text r (info_reply config.kind (commits_of config r (entries_in w r))))
 
 -- ---- lies
 
 -- the frames in which a replica's reports are looked up: what it sent, if it is correct, and otherwise what liars signed
-abbrev pub frames_of : SimulationView → ℕ → List (List ℕ)
-frames_of p r = if is_correct (world_of p.cluster).histories r then frames_sent (entries_in (world_of p.cluster) r) else p.lies
+abbrev pub report_sources : SimulationView → ℕ → List (List ℕ)
+report_sources p r = if is_correct (world_of p.cluster).histories r then frames_sent (entries_in (world_of p.cluster) r) else p.lies
 
 -- the earliest report of replica r in phase k that serves
 abbrev pub serving : SimulationView → Lie → ℕ → ℕ → Option SignedReport
-serving p l k r = first_serving l k r (frames_of p r)
+serving p l k r = first_serving l k r (report_sources p r)
 
 -- the serving reports, at most one for each replica, in ascending order
 abbrev pub all_serving : SimulationView → Lie → ℕ → List SignedReport
@@ -170,7 +160,7 @@ proof_for p l k = take (quorum p.cluster.config) (all_serving p l k)
 
 -- the replicas that a lie goes to
 abbrev pub lie_receivers : WorldView → Towards → List ℕ
-lie_receivers c (towards.One n) = named n ∷ []
+lie_receivers c (towards.One n) = replica_named n ∷ []
 lie_receivers c towards.All = correct_in c
 
 -- the injections of these bytes, one for each receiver
@@ -193,17 +183,17 @@ abbrev pub frame_with : Statement → List ℕ → List ℕ
 frame_with said signature = frame_bytes (record { statement = said; signature = signature })
 
 -- the outcome of a lie that a liar is asked to sign: it is told, or no leaf is left
-abbrev pub Tells : Lie → Statement → SimulationView → Result (List ℕ) SignFault → List ℕ → SimulationView → Type 0
-Tells l said p (Ok signature) text q =
+abbrev pub TellsOneLie : Lie → Statement → SimulationView → Result (List ℕ) SignFault → List ℕ → SimulationView → Type 0
+TellsOneLie l said p (Ok signature) text q =
     TellsLie l p.cluster said signature text q.cluster × (q.lies ≡ p.lies ++ frame_with said signature ∷ [])
-Tells l said p (Err sign.Exhausted) text q =
-    Signed p.cluster l.liar said (Err sign.Exhausted) q.cluster × (q.lies ≡ p.lies) × (text ≡ ended (codes "exhausted"))
-Tells l said p (Err sign.NoMemory) text q = ⊥
+TellsOneLie l said p (Err sign.Exhausted) text q =
+    Signed p.cluster l.liar said (Err sign.Exhausted) q.cluster × (q.lies ≡ p.lies) × (text ≡ with_line_feed (codes "exhausted"))
+TellsOneLie l said p (Err sign.NoMemory) text q = ⊥
 
 -- a liar tells the lie; a replica that is not a liar tells none
 abbrev pub Lies : Lie → Statement → SimulationView → List ℕ → SimulationView → Type 0
 Lies l said p text q =
-    ((given : Result (List ℕ) SignFault) × Tells l said p given text q)
+    ((given : Result (List ℕ) SignFault) × TellsOneLie l said p given text q)
     ⊎ ((liar_at p.cluster l.liar ≡ None) × (q ≡ p) × (text ≡ []))
 
 -- a liar tells a lock with this proof, if there are enough serving reports; otherwise the text is that it cannot
@@ -226,24 +216,24 @@ PlaysSilent p text q = (passes : List WorldStep)
 
 -- the step of the world that a command stands for, if it stands for one
 abbrev pub step_of : Command → Option WorldStep
-step_of (command.Submit r bytes) = Some (step.Submit (named r) bytes)
-step_of (command.Propose r h) = Some (step.Propose (named r) h)
-step_of (command.End r) = Some (step.RoundEnd (named r))
-step_of (command.Pass from index to) = Some (step.Pass (named from) index (named to))
-step_of (command.Inject r bytes) = Some (step.Inject (named r) bytes)
-step_of (command.Execute r) = Some (step.Execute (named r))
-step_of (command.Query r key) = Some (step.Query (named r) key 0)
-step_of (command.Retire r floor) = Some (step.Retire (named r) floor)
+step_of (command.Submit r bytes) = Some (step.Submit (replica_named r) bytes)
+step_of (command.Propose r h) = Some (step.Propose (replica_named r) h)
+step_of (command.End r) = Some (step.RoundEnd (replica_named r))
+step_of (command.Pass from index to) = Some (step.Pass (replica_named from) index (replica_named to))
+step_of (command.Inject r bytes) = Some (step.Inject (replica_named r) bytes)
+step_of (command.Execute r) = Some (step.Execute (replica_named r))
+step_of (command.Query r key) = Some (step.Query (replica_named r) key 0)
+step_of (command.Retire r floor) = Some (step.Retire (replica_named r) floor)
 step_of _ = None
 
 -- what the other commands do, and what is printed for them
 abbrev pub PlaysOther : SimulationView → Command → List ℕ → SimulationView → Type 0
-PlaysOther p (command.Info r) text q = (text ≡ info_text p.cluster.config (world_of p.cluster) (named r)) × (q ≡ p)
+PlaysOther p (command.Info r) text q = (text ≡ info_text p.cluster.config (world_of p.cluster) (replica_named r)) × (q ≡ p)
 PlaysOther p command.Silent text q = PlaysSilent p text q
 PlaysOther p command.Round text q = PlaysRound p.cluster text q.cluster × (q.lies ≡ p.lies)
 PlaysOther p (command.LieReport l) text q = Lies l (statement.Report (lying_report l)) p text q
-PlaysOther p (command.LieLock l) text q = LiesLock l (proof_for p l l.phase) (ended (codes "lie-lock cannot")) p text q
-PlaysOther p (command.LieStale l k) text q = LiesLock l (proof_for p l k) (ended (codes "lie-stale cannot")) p text q
+PlaysOther p (command.LieLock l) text q = LiesLock l (proof_for p l l.phase) (with_line_feed (codes "lie-lock cannot")) p text q
+PlaysOther p (command.LieStale l k) text q = LiesLock l (proof_for p l k) (with_line_feed (codes "lie-stale cannot")) p text q
 PlaysOther p (command.LieAck l) text q = Lies l (statement.Ack (lying_ack l)) p text q
 PlaysOther p _ text q = ⊥
 
@@ -277,11 +267,11 @@ target (step.Inject r bytes) = r
 
 -- the text for a reply, given the heights that weren't decided before
 abbrev pub answer_text : Config → List ℕ → WorldReply → World → List ℕ
-answer_text config before (answer.Refused why) new = ended (refusal_text why)
+answer_text config before (answer.Refused why) new = with_line_feed (refusal_text why)
 answer_text config before (answer.Done r i) new = entry_text config r before (entries_in new r) (slice_get (entries_in new r) i)
 
 -- the step was taken with this reply, and its text was appended
-pub record Answers (print : Config → World → WorldReply → World → List ℕ) (c : WorldView) (s : WorldStep) (given : WorldReply)
+pub record PrintsStep (print : Config → World → WorldReply → World → List ℕ) (c : WorldView) (s : WorldStep) (given : WorldReply)
     (d : WorldView) (before after : List ℕ) : Type 0 where
   pub answered : IsAnswered c s given d
   pub printed : after ≡ before ++ print c.config (world_of c) given (world_of d)
@@ -293,7 +283,7 @@ IsSigning c liar said signing.Exhausted d = Signed c liar said (Err sign.Exhaust
 IsSigning c liar said signing.NoLiar d = (liar_at c liar ≡ None) × (d ≡ c)
 
 -- the replica ends its round; its text, and the passes of what it sent, were appended
-pub record Ends (correct : List ℕ) (c : WorldView) (r : ℕ) (before after : List ℕ) (passes more : List WorldStep) (d : WorldView) : Type 0
+pub record EndsRound (correct : List ℕ) (c : WorldView) (r : ℕ) (before after : List ℕ) (passes more : List WorldStep) (d : WorldView) : Type 0
   where
     pub text : List ℕ
     pub end : Steps step_text c (step.RoundEnd r) text d
@@ -302,7 +292,7 @@ pub record Ends (correct : List ℕ) (c : WorldView) (r : ℕ) (before after : L
 
 -- whatever the command, steps of the definitions lead from the old cluster to the new one, which has the same
 -- configuration and keys
-pub record GoesOn (c d : WorldView) : Type 0 where
+pub record KeepsSetup (c d : WorldView) : Type 0 where
   pub steps : List WorldStep
   pub answers : List WorldReply
   pub runs : Runs c.config c.ring (world_of c) steps answers (world_of d)

@@ -2,7 +2,7 @@
 ghost use Rattle.std.specs.Prelude.{◌≡◌, ◌≤◌, ◌++◌, ◌∷◌, [], map, length, take, slice_get, IfOk, IfSome, OnOk};
 ghost use Rattle.ledger_model.specs.Spelling.{IsSignedReport};
 ghost use Rattle.ledger_model.specs.Worlds.{frames_sent};
-ghost use Rattle.simulation.specs.Lies.{first_serving, frames_of};
+ghost use Rattle.simulation.specs.Lies.{first_serving, frames_with};
 ghost use Rattle.simulation.specs.Indexes.{report_frames};
 
 use crate::serving_reports::serving_bytes;
@@ -100,7 +100,7 @@ fn add_entry<A: Application>(
     state: &State<A>,
     index: usize,
 ) -> Result<(), AllocError>
-    ensures { OnOk result (reports.new.items ≡ reports.old.items ++ report_frames (frames_of (slice_get state.now.entries index))) }
+    ensures { OnOk result (reports.new.items ≡ reports.old.items ++ report_frames (frames_with (slice_get state.now.entries index))) }
 {
     match state.entry(index) {
         Some(entry) => match entry.reply() {
@@ -146,7 +146,7 @@ fn add_frames(
 }
 
 impl ReportList {
-    ghost use Rattle.simulation.specs.Indexes.{CoversHistory, CoversFrames, frames_at};
+    ghost use Rattle.simulation.specs.Indexes.{CoversHistory, CoversFrames, frames_of_report};
 
     /// The empty list, which has seen nothing.
     pub(crate) fn new(alloc: Global) -> Self
@@ -224,7 +224,7 @@ impl ReportList {
         source: Phase,
         replica: ReplicaId,
     ) -> Result<Option<SignedReport>, AllocError>
-        ensures found { IfOk result (λ found. found ≡ first_serving lie.now source replica (frames_at lie.now source replica self.now.reports.items)) }
+        ensures found { IfOk result (λ found. found ≡ first_serving lie.now source replica (frames_of_report lie.now source replica self.now.reports.items)) }
         ensures spelled { IfOk result (λ found. IfSome found (λ signed. IsSignedReport lie.now.version signed)) }
     {
         for report in &self.reports {

@@ -1,7 +1,8 @@
 //! Plays a round: each correct replica ends its own, and then the frames that were sent are passed on.
 ghost use Rattle.std.specs.Prelude.{◌≡◌, ◌<◌, ◌≤◌, ◌+◌, ◌*◌, ◌^◌, ◌++◌, [], ◌∷◌, map, slice_get, OnOk, IfOk};
 ghost use Rattle.ledger_model.specs.declared.world.WorldStep.TheVariants.{Pass};
-ghost use Rattle.simulation.specs.Playing.{is_for, receivers, passes_from, sent_by};
+ghost use Rattle.ledger_model.specs.Worlds.{sent_with};
+ghost use Rattle.simulation.specs.Playing.{is_for, receivers, passes_from};
 ghost use Rattle.ledger_model.specs.Limits.{max_history_len};
 
 use crate::simulation::Simulation;
@@ -91,7 +92,7 @@ fn add_passes_of_entry<A: Application>(
     index: usize,
 ) -> Result<(), AllocError>
     requires { before ≤ max_history_len * 2 ^ 64 }
-    ensures { OnOk result (passes.new.items ≡ passes.old.items ++ passes_from correct.now state.now.id before (sent_by (slice_get state.now.entries index))) }
+    ensures { OnOk result (passes.new.items ≡ passes.old.items ++ passes_from correct.now state.now.id before (sent_with (slice_get state.now.entries index))) }
 {
     match state.entry(index) {
         Some(entry) => match entry.reply() {
@@ -110,7 +111,7 @@ impl<A: Application> Simulation<A> {
     ghost use Rattle.ledger_model.specs.Worlds.{entries_in, frames_sent};
     ghost use Rattle.adversary_net.specs.WorldViews.{world_of};
     ghost use Rattle.printed_lines.specs.Lines.{step_text};
-    ghost use Rattle.simulation.specs.Playing.{EndsEach, StepsEach, PlaysRound, PlaysSilent, GoesOn, Ends, correct_in, passes_of, pass_text};
+    ghost use Rattle.simulation.specs.Playing.{EndsEach, StepsEach, PlaysRound, PlaysSilent, KeepsSetup, EndsRound, correct_in, passes_of, pass_text};
     ghost use Rattle.ledger_model.specs.Limits.{max_history_len};
 
     /// Appends the passes of the frames that a step sent; its replica had sent `before` frames earlier.
@@ -141,9 +142,9 @@ impl<A: Application> Simulation<A> {
         passes: &mut Vec<WorldStep>,
         out: &mut Text,
     ) -> Result<(), AllocError>
-        ensures done { OnOk result (Ends correct.now self.old.cluster replica out.old out.new passes.old.items passes.new.items self.new.cluster) }
+        ensures done { OnOk result (EndsRound correct.now self.old.cluster replica out.old out.new passes.old.items passes.new.items self.new.cluster) }
         ensures lies { self.new.lies ≡ self.old.lies }
-        ensures goes_on { GoesOn self.old.cluster self.new.cluster }
+        ensures goes_on { KeepsSetup self.old.cluster self.new.cluster }
     {
         let before = self.world.frames_sent(replica);
         let answer = self.step(&WorldStep::RoundEnd(replica), out)?;
@@ -161,7 +162,7 @@ impl<A: Application> Simulation<A> {
             × (EndsEach correct.now self.old.cluster correct.now text more self.new.cluster
             × (out.new ≡ out.old ++ text) × (passes.new.items ≡ passes.old.items ++ more)))) }
         ensures lies { self.new.lies ≡ self.old.lies }
-        ensures goes_on { GoesOn self.old.cluster self.new.cluster }
+        ensures goes_on { KeepsSetup self.old.cluster self.new.cluster }
     {
         for replica in correct {
             self.end(correct, *replica, passes, out)?;
@@ -175,7 +176,7 @@ impl<A: Application> Simulation<A> {
             × (EndsEach (correct_in self.old.cluster) self.old.cluster (correct_in self.old.cluster) text more self.new.cluster
             × (out.new ≡ out.old ++ text) × (passes.new.items ≡ passes.old.items ++ more)))) }
         ensures lies { self.new.lies ≡ self.old.lies }
-        ensures goes_on { GoesOn self.old.cluster self.new.cluster }
+        ensures goes_on { KeepsSetup self.old.cluster self.new.cluster }
     {
         let correct = self.correct()?;
         self.end_each(&correct, passes, out)
@@ -186,7 +187,7 @@ impl<A: Application> Simulation<A> {
         ensures done { OnOk result ((text : List ℕ)
             × (StepsEach pass_text self.old.cluster passes.now text self.new.cluster × (out.new ≡ out.old ++ text))) }
         ensures lies { self.new.lies ≡ self.old.lies }
-        ensures goes_on { GoesOn self.old.cluster self.new.cluster }
+        ensures goes_on { KeepsSetup self.old.cluster self.new.cluster }
     {
         for step in passes {
             self.pass(step, out)?;
@@ -197,7 +198,7 @@ impl<A: Application> Simulation<A> {
     /// Each correct replica ends its round, and nothing is passed on.
     pub(crate) fn play_silent(&mut self, out: &mut Text) -> Result<(), AllocError>
         ensures done { OnOk result ((text : List ℕ) × (PlaysSilent self.old text self.new × (out.new ≡ out.old ++ text))) }
-        ensures goes_on { GoesOn self.old.cluster self.new.cluster }
+        ensures goes_on { KeepsSetup self.old.cluster self.new.cluster }
     {
         let mut passes = Vec::new(self.allocator());
         self.end_all(&mut passes, out)
@@ -207,7 +208,7 @@ impl<A: Application> Simulation<A> {
     pub(crate) fn play_round(&mut self, out: &mut Text) -> Result<(), AllocError>
         ensures done { OnOk result ((text : List ℕ) × (PlaysRound self.old.cluster text self.new.cluster × (out.new ≡ out.old ++ text))) }
         ensures lies { self.new.lies ≡ self.old.lies }
-        ensures goes_on { GoesOn self.old.cluster self.new.cluster }
+        ensures goes_on { KeepsSetup self.old.cluster self.new.cluster }
     {
         let mut passes = Vec::new(self.allocator());
         self.end_all(&mut passes, out)?;

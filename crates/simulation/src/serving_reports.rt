@@ -3,7 +3,7 @@
 ghost use Rattle.std.specs.Prelude.{◌≡◌, ◌∷◌, [], IfOk, IfSome, IsTrue, true};
 ghost use Rattle.ledger_model.specs.Spelling.{IsSignedReport};
 ghost use Rattle.ledger_model.specs.Versions.{reads};
-ghost use Rattle.simulation.specs.Lies.{serves_report, report_of, if_serves, first_serving};
+ghost use Rattle.simulation.specs.Lies.{serves_report, signed_report_of, if_serves, first_serving};
 
 use bytes::Bytes;
 use ledger_model::{Phase, ReplicaId, Report, Signature, SignedReport, Statement, Version};
@@ -32,7 +32,7 @@ fn serving_in(
     replica: ReplicaId,
     frame: &Frame,
 ) -> Result<Option<SignedReport>, AllocError>
-    ensures found { IfOk result (λ found. found ≡ if_serves lie.now source replica (report_of frame.now)) }
+    ensures found { IfOk result (λ found. found ≡ if_serves lie.now source replica (signed_report_of frame.now)) }
     ensures spelled { IfOk result (λ found. IfSome found (λ signed. IsSignedReport lie.now.version signed)) }
 {
     match frame.statement() {

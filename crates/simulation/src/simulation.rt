@@ -45,7 +45,7 @@ impl<A: Application> Simulation<A> {
     ghost use Rattle.ledger_model.specs.Applications.{run};
     ghost use Rattle.cluster_setup.specs.Keys.{secret_of};
     ghost use Rattle.adversary_net.specs.WorldViews.{AllAccountForLeaves, AllReplay, HasRun};
-    ghost use Rattle.adversary_net.specs.Headline.{IsUnforged, IsOneLedger};
+    ghost use Rattle.adversary_net.specs.Headline.{IsUnforgedRun, IsOneLedger};
     ghost use Rattle.adversary_net.specs.Openings.{MayLie, new_cluster, correct_without, different};
     ghost use Rattle.simulation.specs.Playing.{correct_in};
 
@@ -80,7 +80,7 @@ impl<A: Application> Simulation<A> {
     pub fn world(&self) -> &World<A>
         ensures world { result.now ≡ self.now.cluster }
         ensures since { HasRun self.now.cluster }
-        ensures one_ledger { IsUnforged self.now.cluster → IsOneLedger self.now.cluster }
+        ensures one_ledger { IsUnforgedRun self.now.cluster → IsOneLedger self.now.cluster }
         // Each entry of a correct replica is lawful after those before it, and what it sends is signed.
         ensures replay { AllReplay self.now.cluster }
         // A correct replica is mute only if too few leaves were left.

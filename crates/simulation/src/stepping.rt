@@ -1,6 +1,6 @@
 //! Takes one step of a simulation, and prints it.
 ghost use Rattle.std.specs.Prelude.{◌≡◌, slice_get};
-ghost use Rattle.simulation.specs.Playing.{target, is_accepted};
+ghost use Rattle.simulation.specs.Playing.{target, was_accepted};
 
 use crate::simulation::Simulation;
 use abci::Application;
@@ -27,7 +27,7 @@ fn target(step: &WorldStep) -> ReplicaId
 
 /// Whether the entry at this index delivers a frame that was accepted.
 fn is_accepted<A: Application>(state: &State<A>, index: usize) -> bool
-    ensures { result ≡ is_accepted (slice_get state.now.entries index) }
+    ensures { result ≡ was_accepted (slice_get state.now.entries index) }
 {
     match state.entry(index) {
         Some(entry) => matches!(entry.reply(), ReplyView::Delivered(Ok(()))),
@@ -42,7 +42,7 @@ impl<A: Application> Simulation<A> {
     ghost use Rattle.adversary_net.specs.WorldViews.{world_of};
     ghost use Rattle.adversary_net.specs.Leaves.{IsAnswered};
     ghost use Rattle.printed_lines.specs.Lines.{undecided, step_text};
-    ghost use Rattle.simulation.specs.Playing.{Answers, GoesOn, answer_text, pass_text, is_taken};
+    ghost use Rattle.simulation.specs.Playing.{PrintsStep, KeepsSetup, answer_text, pass_text, is_accepting};
 
     /// The heights that a replica may have open and hasn't decided; none if the replica is not correct.
     fn undecided(&self, replica: ReplicaId) -> Result<Vec<u32>, AllocError>
@@ -59,7 +59,7 @@ impl<A: Application> Simulation<A> {
     fn take(&mut self, step: &WorldStep) -> Result<WorldReply, AllocError>
         ensures taken { IfOk result (λ answer. IsAnswered self.old.cluster step.now answer self.new.cluster) }
         ensures lies { self.new.lies ≡ self.old.lies }
-        ensures goes_on { GoesOn self.old.cluster self.new.cluster }
+        ensures goes_on { KeepsSetup self.old.cluster self.new.cluster }
     {
         match self.world.run(slice::from_ref(step))?.first() {
             Some(answer) => Ok(*answer),
@@ -69,7 +69,7 @@ impl<A: Application> Simulation<A> {
 
     /// Whether the reply is that a delivered frame was accepted.
     fn is_accepted(&self, answer: &WorldReply) -> bool
-        ensures { result ≡ is_taken answer.now (world_of self.now.cluster) }
+        ensures { result ≡ is_accepting answer.now (world_of self.now.cluster) }
     {
         match answer {
             WorldReply::Done(replica, index) => match self.world.state(*replica) {
@@ -101,9 +101,9 @@ impl<A: Application> Simulation<A> {
     /// Takes a pass within a round, and appends its lines: none if the frame is accepted.
     #[tactic(auto, using(crate::proofs::StepLemmas::stays))]
     pub(crate) fn pass(&mut self, step: &WorldStep, out: &mut Text) -> Result<(), AllocError>
-        ensures done { OnOk result ((given : WorldReply) × Answers pass_text self.old.cluster step.now given self.new.cluster out.old out.new) }
+        ensures done { OnOk result ((given : WorldReply) × PrintsStep pass_text self.old.cluster step.now given self.new.cluster out.old out.new) }
         ensures lies { self.new.lies ≡ self.old.lies }
-        ensures goes_on { GoesOn self.old.cluster self.new.cluster }
+        ensures goes_on { KeepsSetup self.old.cluster self.new.cluster }
     {
         let undecided = self.undecided(target(step))?;
         let answer = self.take(step)?;
@@ -120,9 +120,9 @@ impl<A: Application> Simulation<A> {
         step: &WorldStep,
         out: &mut Text,
     ) -> Result<WorldReply, AllocError>
-        ensures done { IfOk result (λ answer. Answers step_text self.old.cluster step.now answer self.new.cluster out.old out.new) }
+        ensures done { IfOk result (λ answer. PrintsStep step_text self.old.cluster step.now answer self.new.cluster out.old out.new) }
         ensures lies { self.new.lies ≡ self.old.lies }
-        ensures goes_on { GoesOn self.old.cluster self.new.cluster }
+        ensures goes_on { KeepsSetup self.old.cluster self.new.cluster }
     {
         let undecided = self.undecided(target(step))?;
         let answer = self.take(step)?;

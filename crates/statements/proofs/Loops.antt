@@ -6,7 +6,7 @@ use Rattle.ledger_model.specs.Reading.{◌>>=◌, tx_at, txs_at, value_at, value
 use Rattle.statements.specs.declared.fault.DecodeFault.{DecodeFault}
 use Rattle.statements.specs.declared.fault.DecodeFault.TheVariants.{Malformed, NoMemory}
 use Rattle.ledger_model.specs.declared.version.Version.{Version}
-use Rattle.statements.specs.Reads.{Faults}
+use Rattle.statements.specs.Reads.{IsFaultOf}
 
 -- many reads a given number of what one reads
 pub record ReadsMany {X : Type 0} (one : List ℕ → Option (X × List ℕ)) (many : ℕ → List ℕ → Option (List X × List ℕ)) : Type 0 where
@@ -36,8 +36,8 @@ module _ {X : Type 0} (one : List ℕ → Option (X × List ℕ)) (many : ℕ �
 
   -- one more could not be read
   pub ends : (fault : DecodeFault) (front : List X) (count i : ℕ) (bytes : List ℕ) (total : Option (List X × List ℕ)) → i < count
-      → Faults fault (one bytes)
-      → with_front front (many (count - i) bytes) ≡ total → Faults fault total
+      → IsFaultOf fault (one bytes)
+      → with_front front (many (count - i) bytes) ≡ total → IsFaultOf fault total
   ends NoMemory front count i bytes total lt h so_far = tt
   ends Malformed front count i bytes total lt h so_far =
       let k : count - i ≡ suc (count - (i + 1)) = omega arith in

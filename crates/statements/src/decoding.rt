@@ -5,7 +5,7 @@ ghost use Rattle.ledger_model.specs.declared.statement.Statement.{Statement};
 ghost use Rattle.ledger_model.specs.declared.version.Version.TheVariants.{One};
 ghost use Rattle.ledger_model.specs.Spelling.{Spells};
 ghost use Rattle.ledger_model.specs.Reading.{statement_at, statement_reading};
-ghost use Rattle.statements.specs.Reads.{Reads, Gives};
+ghost use Rattle.statements.specs.Reads.{IsReadFrom, IsReadingOr};
 
 use crate::DecodeFault;
 use crate::fields::take_byte;
@@ -17,7 +17,7 @@ use std::alloc::Global;
 
 #[tactic(auto, unfolding(ledger_model::specs::Reading::statement_at))]
 fn statement_from(alloc: Global, cursor: &mut Cursor) -> Result<Statement, DecodeFault>
-    ensures { Reads result cursor.new (statement_at cursor.old) }
+    ensures { IsReadFrom result cursor.new (statement_at cursor.old) }
 {
     match take_byte(cursor)? {
         0x01 => Ok(Statement::Report(take_report(alloc, cursor, Version::One)?)),
@@ -32,7 +32,7 @@ fn statement_from(alloc: Global, cursor: &mut Cursor) -> Result<Statement, Decod
 
 /// Takes the statement, of whatever version, at the front of the cursor. After an error the cursor is where it was.
 pub fn take_statement(alloc: Global, cursor: &mut Cursor) -> Result<Statement, DecodeFault>
-    ensures read { Reads result cursor.new (statement_at cursor.old) }
+    ensures read { IsReadFrom result cursor.new (statement_at cursor.old) }
     ensures err { OnErr result (cursor.new ≡ cursor.old) }
 {
     let mut ahead = Cursor::new(cursor.rest());
@@ -43,7 +43,7 @@ pub fn take_statement(alloc: Global, cursor: &mut Cursor) -> Result<Statement, D
 
 #[tactic(auto, unfolding(ledger_model::specs::Reading::statement_reading))]
 fn whole_statement(version: Version, alloc: Global, bytes: &[u8]) -> Result<Statement, DecodeFault>
-    ensures { Gives result (statement_reading version bytes.now) }
+    ensures { IsReadingOr result (statement_reading version bytes.now) }
 {
     let mut cursor = Cursor::new(bytes);
     let statement = statement_from(alloc, &mut cursor)?;
@@ -59,9 +59,9 @@ pub fn decode_in(version: Version, alloc: Global, bytes: &[u8]) -> Result<Statem
     // The bytes encode the statement that is returned.
     ensures found { IfOk result (λ statement. Spells version bytes.now statement) }
     // If the bytes encode a statement, it is returned, unless memory runs out.
-    ensures only { (statement : Statement) → Spells version bytes.now statement → Gives result (Some statement) }
+    ensures only { (statement : Statement) → Spells version bytes.now statement → IsReadingOr result (Some statement) }
     // The result is the reading of the definitions, and Malformed comes exactly if there is none.
-    ensures exact { Gives result (statement_reading version bytes.now) }
+    ensures exact { IsReadingOr result (statement_reading version bytes.now) }
 {
     whole_statement(version, alloc, bytes)
 }
@@ -69,8 +69,8 @@ pub fn decode_in(version: Version, alloc: Global, bytes: &[u8]) -> Result<Statem
 /// The statement of version 1 that all of the bytes are: [`decode_in`] with version 1.
 pub fn decode(alloc: Global, bytes: &[u8]) -> Result<Statement, DecodeFault>
     ensures found { IfOk result (λ statement. Spells One bytes.now statement) }
-    ensures only { (statement : Statement) → Spells One bytes.now statement → Gives result (Some statement) }
-    ensures exact { Gives result (statement_reading One bytes.now) }
+    ensures only { (statement : Statement) → Spells One bytes.now statement → IsReadingOr result (Some statement) }
+    ensures exact { IsReadingOr result (statement_reading One bytes.now) }
 {
     decode_in(Version::One, alloc, bytes)
 }

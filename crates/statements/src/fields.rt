@@ -3,7 +3,7 @@
 ghost use Rattle.std.specs.Prelude.{◌≡◌, OnErr};
 ghost use Rattle.std.specs.Int.{w16, w32};
 ghost use Rattle.ledger_model.specs.Reading.{byte_at, bytes_at, number_at, positive_at, flag_at, signature_at};
-ghost use Rattle.statements.specs.Reads.{Reads, ReadsAs};
+ghost use Rattle.statements.specs.Reads.{IsReadFrom, ReadsAs};
 
 use crate::DecodeFault;
 use ledger_model::Signature;
@@ -12,7 +12,7 @@ use std::alloc::Global;
 
 /// Takes the next byte.
 pub fn take_byte(cursor: &mut Cursor) -> Result<u8, DecodeFault>
-    ensures { Reads result cursor.new (byte_at cursor.old) }
+    ensures { IsReadFrom result cursor.new (byte_at cursor.old) }
 {
     Ok(cursor.take_u8()?)
 }
@@ -25,13 +25,13 @@ pub fn take_slice<'a>(cursor: &mut Cursor<'a>, count: usize) -> Result<&'a [u8],
 }
 
 fn take_length(cursor: &mut Cursor) -> Result<u16, DecodeFault>
-    ensures { Reads result cursor.new (number_at w16 cursor.old) }
+    ensures { IsReadFrom result cursor.new (number_at w16 cursor.old) }
 {
     Ok(cursor.take_u16()?)
 }
 
 fn take_number(cursor: &mut Cursor) -> Result<u32, DecodeFault>
-    ensures { Reads result cursor.new (number_at w32 cursor.old) }
+    ensures { IsReadFrom result cursor.new (number_at w32 cursor.old) }
 {
     Ok(cursor.take_u32()?)
 }
@@ -39,7 +39,7 @@ fn take_number(cursor: &mut Cursor) -> Result<u32, DecodeFault>
 /// A height or a phase, which is at least 1.
 #[tactic(auto, unfolding(ledger_model::specs::Reading::positive_at))]
 pub fn take_positive(cursor: &mut Cursor) -> Result<u32, DecodeFault>
-    ensures { Reads result cursor.new (positive_at cursor.old) }
+    ensures { IsReadFrom result cursor.new (positive_at cursor.old) }
 {
     let number = take_number(cursor)?;
     if number == 0 {
@@ -51,7 +51,7 @@ pub fn take_positive(cursor: &mut Cursor) -> Result<u32, DecodeFault>
 /// A byte that is 0 or 1.
 #[tactic(auto, unfolding(ledger_model::specs::Reading::flag_at))]
 pub fn take_flag(cursor: &mut Cursor) -> Result<bool, DecodeFault>
-    ensures { Reads result cursor.new (flag_at cursor.old) }
+    ensures { IsReadFrom result cursor.new (flag_at cursor.old) }
 {
     match take_byte(cursor)? {
         0 => Ok(false),
@@ -85,7 +85,7 @@ pub fn take_signature_bytes<'a>(cursor: &mut Cursor<'a>) -> Result<&'a [u8], Dec
 
 /// Takes the signature at the front, with its bytes copied.
 pub fn take_signature(alloc: Global, cursor: &mut Cursor) -> Result<Signature, DecodeFault>
-    ensures { Reads result cursor.new (signature_at cursor.old) }
+    ensures { IsReadFrom result cursor.new (signature_at cursor.old) }
 {
     let bytes = signature_from(cursor)?;
     Ok(Signature::new(Vec::from_slice(alloc, bytes)?))

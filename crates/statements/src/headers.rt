@@ -2,7 +2,7 @@
 
 ghost use Rattle.std.specs.Prelude.{◌≡◌};
 ghost use Rattle.ledger_model.specs.Reading.{place_at, report_at, ack_at};
-ghost use Rattle.statements.specs.Reads.{Reads, ReadsAs};
+ghost use Rattle.statements.specs.Reads.{IsReadFrom, ReadsAs};
 ghost use Rattle.statements.specs.Headers.{header_of};
 
 use crate::DecodeFault;
@@ -42,7 +42,7 @@ pub fn take_report(
     cursor: &mut Cursor,
     version: Version,
 ) -> Result<Report, DecodeFault>
-    ensures { Reads result cursor.new (report_at version cursor.old) }
+    ensures { IsReadFrom result cursor.new (report_at version cursor.old) }
 {
     let place = take_place(cursor)?;
     let all = take_flag(cursor)?;
@@ -67,7 +67,7 @@ pub fn take_report(
 /// Takes an acknowledgement of this version, without its first byte.
 #[tactic(auto, unfolding(ledger_model::specs::Reading::ack_at))]
 pub fn take_ack(alloc: Global, cursor: &mut Cursor, version: Version) -> Result<Ack, DecodeFault>
-    ensures { Reads result cursor.new (ack_at version cursor.old) }
+    ensures { IsReadFrom result cursor.new (ack_at version cursor.old) }
 {
     let place = take_place(cursor)?;
     let value = take_batch(alloc, cursor, version)?;

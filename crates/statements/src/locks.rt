@@ -3,7 +3,7 @@
 ghost use Rattle.std.specs.Prelude.{◌≡◌};
 ghost use Rattle.ledger_model.specs.Validity.{ascends_within, signers_of};
 ghost use Rattle.ledger_model.specs.Reading.{report_version, signed_at, proof_at, lock_at};
-ghost use Rattle.statements.specs.Reads.{Reads, ReadsAs};
+ghost use Rattle.statements.specs.Reads.{IsReadFrom, ReadsAs};
 
 use crate::DecodeFault;
 use crate::fields::{take_byte, take_signature};
@@ -35,7 +35,7 @@ fn take_signed(
     cursor: &mut Cursor,
     version: Version,
 ) -> Result<SignedReport, DecodeFault>
-    ensures { Reads result cursor.new (signed_at version cursor.old) }
+    ensures { IsReadFrom result cursor.new (signed_at version cursor.old) }
 {
     let first = take_byte(cursor)?;
     let own = version_of_report(version, first).ok_or(DecodeFault::Malformed)?;
@@ -77,7 +77,7 @@ fn do_signers_ascend(reports: &[SignedReport]) -> bool
 /// Takes a lock of this version, without its first byte: its header, its value, and 3 to 12 reports whose signers ascend.
 #[tactic(auto, unfolding(ledger_model::specs::Reading::lock_at))]
 pub fn take_lock(alloc: Global, cursor: &mut Cursor, version: Version) -> Result<Lock, DecodeFault>
-    ensures { Reads result cursor.new (lock_at version cursor.old) }
+    ensures { IsReadFrom result cursor.new (lock_at version cursor.old) }
 {
     let place = take_place(cursor)?;
     let value = take_batch(alloc, cursor, version)?;

@@ -2,7 +2,7 @@
 
 ghost use Rattle.std.specs.Prelude.{◌≡◌, IfOk, vec_len};
 ghost use Rattle.ledger_model.specs.Reading.{tx_at, txs_at, value_at, values_at, list_at};
-ghost use Rattle.statements.specs.Reads.{Reads, ReadsAs};
+ghost use Rattle.statements.specs.Reads.{IsReadFrom, ReadsAs};
 
 use crate::DecodeFault;
 use crate::fields::{take_byte, take_slice};
@@ -15,7 +15,7 @@ const MAX_LISTED: u8 = 4;
 
 #[tactic(auto, unfolding(ledger_model::specs::Reading::tx_at))]
 fn take_tx(alloc: Global, cursor: &mut Cursor) -> Result<Tx, DecodeFault>
-    ensures { Reads result cursor.new (tx_at cursor.old) }
+    ensures { IsReadFrom result cursor.new (tx_at cursor.old) }
 {
     let len = take_byte(cursor)?;
     let bytes = take_slice(cursor, usize::from(len))?;
@@ -41,7 +41,7 @@ pub fn take_batch(
     cursor: &mut Cursor,
     version: Version,
 ) -> Result<Batch, DecodeFault>
-    ensures { Reads result cursor.new (value_at version cursor.old) }
+    ensures { IsReadFrom result cursor.new (value_at version cursor.old) }
 {
     let count = take_byte(cursor)?;
     if usize::from(count) > version.batch_limit() {
@@ -74,7 +74,7 @@ pub fn take_list(
     cursor: &mut Cursor,
     version: Version,
 ) -> Result<Batches, DecodeFault>
-    ensures { Reads result cursor.new (list_at version cursor.old) }
+    ensures { IsReadFrom result cursor.new (list_at version cursor.old) }
 {
     let count = take_byte(cursor)?;
     if count > MAX_LISTED {

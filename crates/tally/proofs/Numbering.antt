@@ -14,7 +14,7 @@ use Rattle.ledger_model.proofs.Lists.{any_has, has_any, has_cases, has_left, has
 use Rattle.ledger_model.proofs.Lists.{same_value-equal, has_index}
 use Rattle.tally.specs.Tallies.{Places, read_of, count_where}
 use Rattle.tally.specs.Masks.{mask_of}
-use Rattle.tally.specs.ReportMasks.{values_within, begins_with, lists_proper, lists_lock, value_at, value_of, is_of, is_numbered}
+use Rattle.tally.specs.ReportMasks.{values_within, begins_with, lists_proper, lists_lock, listed_value, numbered_value, is_of, is_numbered}
 use Rattle.tally.specs.ReportMasks.{AreMasksOf, IsReported}
 use Rattle.tally.specs.ReportMasks.{AreAllNumbered, AreValuesOf, unmarked, with_number, with_numbers, marked_by, marked}
 use Rattle.tally.specs.declared.reported_value.ReportedValue.{ReportedValue}
@@ -41,13 +41,13 @@ lock_within v s e =
 
 -- ---- numbers
 
-is_of-there : (places : Places SignedReport) (v : Value) (e : ReportedValue) → value_of places e ≡ Some v → is_of places v e ≡ true
+is_of-there : (places : Places SignedReport) (v : Value) (e : ReportedValue) → numbered_value places e ≡ Some v → is_of places v e ≡ true
 is_of-there places v e there = ap (λ o. option_map_or (same_value v) o false) there ∙ same_value-refl v
 
-pub there-is_of : (places : Places SignedReport) (v : Value) (e : ReportedValue) → is_of places v e ≡ true → value_of places e ≡ Some v
-there-is_of places v e is = at (value_of places e) refl
+pub there-is_of : (places : Places SignedReport) (v : Value) (e : ReportedValue) → is_of places v e ≡ true → numbered_value places e ≡ Some v
+there-is_of places v e is = at (numbered_value places e) refl
   where
-    at : (o : Option Value) → value_of places e ≡ o → value_of places e ≡ Some v
+    at : (o : Option Value) → numbered_value places e ≡ o → numbered_value places e ≡ Some v
     at None none = absurd (false≢true (sym (ap (λ p. option_map_or (same_value v) p false) none) ∙ is))
     at (Some w) some =
         some ∙ ap Some (sym (same_value-equal v w (sym (ap (λ p. option_map_or (same_value v) p false) some) ∙ is)))
@@ -58,7 +58,7 @@ unfolding is_numbered
 numbered-left places values more v e =
     list_any-append (is_of places v) values more ∙ or_left (list_any (is_of places v) values) (list_any (is_of places v) more) e
 
-numbered-last : (places : Places SignedReport) (values : List ReportedValue) (e : ReportedValue) (v : Value) → value_of places e ≡ Some v
+numbered-last : (places : Places SignedReport) (values : List ReportedValue) (e : ReportedValue) (v : Value) → numbered_value places e ≡ Some v
     → is_numbered places (values ++ e ∷ []) v ≡ true
 unfolding is_numbered
 numbered-last places values e v there =
@@ -91,7 +91,7 @@ record AreNumbered (places read : Places SignedReport) (values : List ReportedVa
 
 -- a value that has no number has one once it gets one
 once_more : (places : Places SignedReport) (values : List ReportedValue) (e : ReportedValue) (v : Value)
-    → ((w : Value) → count_where (is_of places w) values ≤ 1) → value_of places e ≡ Some v → is_numbered places values v ≡ false
+    → ((w : Value) → count_where (is_of places w) values ≤ 1) → numbered_value places e ≡ Some v → is_numbered places values v ≡ false
     → (w : Value) → count_where (is_of places w) (values ++ e ∷ []) ≤ 1
 unfolding is_numbered
 once_more places values e v once there none w =
@@ -112,12 +112,12 @@ module _ (places read : Places SignedReport) (r : ℕ) where
   -- one more value of the report of replica r has a number
   one_more : (i : ℕ) (values : List ReportedValue) → AreNumbered places read values
       → AreNumbered places read (with_number places r i values)
-  one_more i values h = at (value_at places r i) refl
+  one_more i values h = at (listed_value places r i) refl
     where
       numbers : Option Value → List ReportedValue
       numbers o = cond (option_map_or (is_numbered places values) o true) values (values ++ unmarked r i ∷ [])
 
-      fresh : (v : Value) → value_at places r i ≡ Some v → is_numbered places values v ≡ false
+      fresh : (v : Value) → listed_value places r i ≡ Some v → is_numbered places values v ≡ false
           → AreNumbered places read (values ++ unmarked r i ∷ [])
       fresh v there none = record {
         each = λ e has. elim (has_cases values (unmarked r i ∷ []) e has) [
@@ -132,7 +132,7 @@ module _ (places read : Places SignedReport) (r : ℕ) where
         once = once_more places values (unmarked r i) v h.once there none;
       }
 
-      at : (o : Option Value) → value_at places r i ≡ o → AreNumbered places read (with_number places r i values)
+      at : (o : Option Value) → listed_value places r i ≡ o → AreNumbered places read (with_number places r i values)
       at None none = subst (λ p. AreNumbered places read (numbers p)) (sym none) h
       at (Some v) there = subst (λ p. AreNumbered places read (numbers p)) (sym there)
           (elim (cases_Bool (is_numbered places values v)) [
@@ -150,14 +150,14 @@ module _ (places : Places SignedReport) (r : ℕ) where
   kept_by_one : (i : ℕ) (values : List ReportedValue) (v : Value) → is_numbered places values v ≡ true
       → is_numbered places (with_number places r i values) v ≡ true
   kept_by_one i values v e =
-      elim (option_map_or (is_numbered places values) (value_at places r i) true) as
+      elim (option_map_or (is_numbered places values) (listed_value places r i) true) as
       (λ b. is_numbered places (cond b values (values ++ unmarked r i ∷ [])) v ≡ true) [
         | true ↦ e
         | false ↦ numbered-left places values (unmarked r i ∷ []) v e
       ]
 
   -- the value at an index has a number afterwards
-  put_by_one : (i : ℕ) (values : List ReportedValue) (v : Value) → value_at places r i ≡ Some v
+  put_by_one : (i : ℕ) (values : List ReportedValue) (v : Value) → listed_value places r i ≡ Some v
       → is_numbered places (with_number places r i values) v ≡ true
   put_by_one i values v there =
       subst (λ o. is_numbered places (cond (option_map_or (is_numbered places values) o true) values (values ++ unmarked r i ∷ [])) v
@@ -168,19 +168,19 @@ module _ (places : Places SignedReport) (r : ℕ) where
         | inr none ↦ rw none (numbered-last places values (unmarked r i) v there)
       ])
 
-  put_by_all : (n i : ℕ) (values : List ReportedValue) (v : Value) → i < n → value_at places r i ≡ Some v
+  put_by_all : (n i : ℕ) (values : List ReportedValue) (v : Value) → i < n → listed_value places r i ≡ Some v
       → is_numbered places (with_numbers places r n values) v ≡ true
   put_by_all zero i values v below there = absurd (omega arith)
   put_by_all (suc n) i values v below there =
       elim (cases_eq i n) [
-        | inl last ↦ put_by_one n (with_numbers places r n values) v (ap (value_at places r) (sym last) ∙ there)
+        | inl last ↦ put_by_one n (with_numbers places r n values) v (ap (listed_value places r) (sym last) ∙ there)
         | inr earlier ↦ kept_by_one n (with_numbers places r n values) v
             (put_by_all n i values v (omega arith) there)
       ]
 
   pub with_number-few : (i : ℕ) (values : List ReportedValue) → length (with_number places r i values) ≤ length values + 1
   with_number-few i values =
-      elim (option_map_or (is_numbered places values) (value_at places r i) true) as
+      elim (option_map_or (is_numbered places values) (listed_value places r i) true) as
       (λ b. length (cond b values (values ++ unmarked r i ∷ [])) ≤ length values + 1) [
         | true ↦ omega arith
         | false ↦ omega (arith, length-append values (unmarked r i ∷ []))
@@ -198,13 +198,13 @@ module _ (old : Places SignedReport) (r : ℕ) (s : SignedReport) (below : r < l
   new = slice_set old r (Some s)
 
   -- a value is where it was
-  still_there : (e : ReportedValue) (v : Value) → value_of old e ≡ Some v → value_of new e ≡ Some v
+  still_there : (e : ReportedValue) (v : Value) → numbered_value old e ≡ Some v → numbered_value new e ≡ Some v
   still_there e v there = at (read_of old e.signer) refl
     where
       within : Option SignedReport → Option Value
       within o = option_map_or (λ t. slice_get (values_within t.report) e.index) o None
 
-      at : (o : Option SignedReport) → read_of old e.signer ≡ o → value_of new e ≡ Some v
+      at : (o : Option SignedReport) → read_of old e.signer ≡ o → numbered_value new e ≡ Some v
       at None empty = let wrong : None ≡ Some v = sym (ap within empty) ∙ there in cc
       at (Some t) is = ap within (there_still old r e.signer s t none is) ∙ sym (ap within is) ∙ there
 

@@ -43,16 +43,16 @@ holds_one s = option_map_or (λ v. list_all (same_value v) s.report.locked) (sli
 -- ---- where a value is, and which reports contain it
 
 -- the value at this index of those within the report of replica r, if there is one
-abbrev pub value_at : Places SignedReport → ℕ → ℕ → Option Value
-value_at places r i = option_map_or (λ s. slice_get (values_within s.report) i) (read_of places r) None
+abbrev pub listed_value : Places SignedReport → ℕ → ℕ → Option Value
+listed_value places r i = option_map_or (λ s. slice_get (values_within s.report) i) (read_of places r) None
 
 -- the value that was numbered
-abbrev pub value_of : Places SignedReport → ReportedValue → Option Value
-value_of places e = value_at places e.signer e.index
+abbrev pub numbered_value : Places SignedReport → ReportedValue → Option Value
+numbered_value places e = listed_value places e.signer e.index
 
 -- this value was numbered
 abbrev pub is_of : Places SignedReport → Value → ReportedValue → Bool
-is_of places v e = option_map_or (same_value v) (value_of places e) false
+is_of places v e = option_map_or (same_value v) (numbered_value places e) false
 
 -- the value has a number
 unfoldable pub is_numbered : Places SignedReport → List ReportedValue → Value → Bool
@@ -67,7 +67,7 @@ pub record AreMasksOf (places : Places SignedReport) (v : Value) (m : ValueMasks
 -- the value is within one of the reports, and its masks are those of the read ones
 pub record IsReported (places read : Places SignedReport) (e : ReportedValue) : Type 0 where
   pub value : Value
-  pub is_there : value_of places e ≡ Some value
+  pub is_there : numbered_value places e ≡ Some value
   pub masks : AreMasksOf read value e.masks
 
 -- each value that the read reports contain has a number
@@ -107,7 +107,7 @@ unmarked r i = record { signer = r; index = i; masks = record { initial = 0; pro
 -- the values, with that at this index of the report of replica r, if it had no number
 abbrev pub with_number : Places SignedReport → ℕ → ℕ → List ReportedValue → List ReportedValue
 with_number places r i values =
-    if option_map_or (is_numbered places values) (value_at places r i) true then values else values ++ unmarked r i ∷ []
+    if option_map_or (is_numbered places values) (listed_value places r i) true then values else values ++ unmarked r i ∷ []
 
 -- the values, with the first n of the report of replica r
 abbrev pub with_numbers : Places SignedReport → ℕ → ℕ → List ReportedValue → List ReportedValue
@@ -124,7 +124,7 @@ marked_by s bit v m = record {
 
 -- a numbered value, with a report
 abbrev pub marked : Places SignedReport → SignedReport → ℕ → ReportedValue → ReportedValue
-marked places s bit e = record e { masks = option_map_or (λ v. marked_by s bit v e.masks) (value_of places e) e.masks }
+marked places s bit e = record e { masks = option_map_or (λ v. marked_by s bit v e.masks) (numbered_value places e) e.masks }
 
 -- the counts, with the report of replica r
 pub record IsCountedWith (places : Places SignedReport) (r : ℕ) (s : SignedReport) (old new : ReportCounts) : Type 0 where

@@ -48,7 +48,7 @@ impl PhaseReports {
     ghost use Rattle.ledger_model.specs.Locks.{names, finds};
     ghost use Rattle.tally.specs.Tallies.{read_of};
     ghost use Rattle.tally.specs.Masks.{mask_of, mask_read};
-    ghost use Rattle.tally.specs.ReportMasks.{AreMasksOf, AreValuesOf, AreAtSigners, value_of};
+    ghost use Rattle.tally.specs.ReportMasks.{AreMasksOf, AreValuesOf, AreAtSigners, numbered_value};
 
     /// The most values that a report contains: its initial value, four that are proper, and four with locks.
     pub const MAX_VALUES: usize = 9;
@@ -129,7 +129,7 @@ impl PhaseReports {
 
     /// A value that [`PhaseReports::values`] lists.
     pub fn value(&self, reported: &ReportedValue) -> Option<&Batch>
-        ensures { option_copied result ≡ value_of self.now reported.now }
+        ensures { option_copied result ≡ numbered_value self.now reported.now }
     {
         value_of(&self.tally, reported)
     }

@@ -4,7 +4,7 @@ ghost use Rattle.std.specs.Option.{option_map_or};
 ghost use Rattle.std.specs.List.{find};
 ghost use Rattle.ledger_model.specs.Values.{same_value};
 ghost use Rattle.tally.specs.Tallies.{read_of};
-ghost use Rattle.tally.specs.ReportMasks.{values_within, value_at, value_of, is_of, is_numbered, holds_one, with_number, with_numbers};
+ghost use Rattle.tally.specs.ReportMasks.{values_within, listed_value, numbered_value, is_of, is_numbered, holds_one, with_number, with_numbers};
 ghost use Rattle.tally.specs.ReportMasks.{marked};
 
 use crate::masks::with_bit;
@@ -121,7 +121,7 @@ fn value_within(report: &Report, index: usize) -> Option<&Batch>
 
 /// The value at this index of those within the report of a replica, if there is one.
 fn value_at(tally: &Tally<SignedReport>, signer: ReplicaId, index: usize) -> Option<&Batch>
-    ensures { option_copied result ≡ value_at tally.now signer index }
+    ensures { option_copied result ≡ listed_value tally.now signer index }
 {
     value_within(&tally.get(signer)?.report, index)
 }
@@ -131,7 +131,7 @@ pub(crate) fn value_of<'a>(
     tally: &'a Tally<SignedReport>,
     reported: &ReportedValue,
 ) -> Option<&'a Batch>
-    ensures { option_copied result ≡ value_of tally.now reported.now }
+    ensures { option_copied result ≡ numbered_value tally.now reported.now }
 {
     value_at(tally, reported.signer, reported.index)
 }

@@ -1,6 +1,6 @@
 use Rattle.std.proofs.Common.{take}
 use Rattle.ledger_model.specs.Applications.{Machine}
-use Rattle.abci.specs.Meaning.{GoesOn}
+use Rattle.abci.specs.Meaning.{KeepsCommitted}
 use Rattle.abci_executor.specs.Blocks.{DeliversAll}
 use Rattle.abci_executor.proofs.block.deliver_all.Given as goal
 
@@ -9,4 +9,4 @@ abbrev pub invariant-loop-tx : goal.invariant-loop-tx
 invariant-loop-tx g l =
     let old : Machine = g.A.Application.machine l.initial.app in
     let new : Machine = g.A.Application.machine l.app in
-    GoesOn old new × DeliversAll old (take l.tx-index l.transactions) l.codes.items new
+    KeepsCommitted old new × DeliversAll old (take l.tx-index l.transactions) l.codes.items new

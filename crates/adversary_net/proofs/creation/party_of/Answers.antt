@@ -1,7 +1,7 @@
 use Rattle.std.proofs.Common.{◌≡◌, false, [], sym, ap, ◌∙◌}
 use Rattle.std.specs.Prelude.{Some, slice_get}
 use Rattle.ledger_model.specs.Applications.{run}
-use Rattle.key_ring.specs.Signers.{SignerView, key_of}
+use Rattle.key_ring.specs.Signers.{SignerView, public_key_of}
 use Rattle.cluster_setup.specs.Keys.{secret_of}
 use Rattle.cluster_setup.proofs.RingLemmas.{key_in_ring}
 use Rattle.adversary_net.specs.declared.party.Party.TheVariants as party
@@ -13,7 +13,7 @@ correct_replica-requires-clause-member g c = record {
   below = c.requires.below;
   own = ap (λ ring. slice_get ring c.args.id) c.requires.ring
       ∙ key_in_ring c.args.cluster.now.config (secret_of c.args.cluster.now) c.args.id c.requires.below
-      ∙ ap (λ (k : SignerView). Some (key_of k.secret)) (sym c.requires.signer);
+      ∙ ap (λ (k : SignerView). Some (public_key_of k.secret)) (sym c.requires.signer);
 }
 
 pub returns-clause-party : goal.returns-clause-party

@@ -1,6 +1,6 @@
 use Rattle.std.proofs.Common.{rules, add-zero, le_refl, refl, subst, take, ◌∙◌}
 use Rattle.std.specs.Io.KnownBytes.{Appends}
-use Rattle.client_sessions.specs.Serving.{Replies}
+use Rattle.client_sessions.specs.Serving.{RepliesToRequest}
 use Rattle.byte_streams.specs.Writing.{AppendsSome}
 use Rattle.client_sessions.proofs.UnderWay.{starts, goes_on, write_fails}
 use Rattle.client_sessions.proofs.serving.serve_all.Goals as goal
@@ -21,7 +21,7 @@ returns-in-Err-reply_to-clause-served g c =
     let k = c.in-Err-reply_to.ensures in
     let m = rw c.in-Ok-Body.field-0-is at c.in-Ok-Body.ensures.received in
     let so_far = c.loop-served.invariant in
-    let one = subst (λ n. Replies g.T.Targets.asks n c.loop-served.targets c.reply_to.new.targets c.loop-served.session
+    let one = subst (λ n. RepliesToRequest g.T.Targets.asks n c.loop-served.targets c.reply_to.new.targets c.loop-served.session
     (take c.in-Ok-Body.len c.receive.new.buffer) c.reply_to.new.session
     (AppendsSome (g.W.SessionWriter.contents c.loop-served.output) (g.W.SessionWriter.contents c.reply_to.new.output))) so_far.count
     k.replies in
@@ -32,7 +32,7 @@ loop-served-preserved g c =
     let k = c.in-Ok.ensures in
     let m = rw c.in-Ok-Body.field-0-is at c.in-Ok-Body.ensures.received in
     let so_far = c.loop-served.invariant in
-    let one = subst (λ n. Replies g.T.Targets.asks n c.loop-served.targets c.reply_to.new.targets c.loop-served.session
+    let one = subst (λ n. RepliesToRequest g.T.Targets.asks n c.loop-served.targets c.reply_to.new.targets c.loop-served.session
     (take c.in-Ok-Body.len c.receive.new.buffer) c.reply_to.new.session
     (Appends (g.W.SessionWriter.contents c.loop-served.output) (g.W.SessionWriter.contents c.reply_to.new.output))) so_far.count k.replies
     in

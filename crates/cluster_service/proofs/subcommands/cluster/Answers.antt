@@ -2,14 +2,14 @@ use Rattle.std.proofs.Common.{inl, inr, refl}
 use Rattle.std.proofs.KnownBytes.{Keeps-refl}
 use Rattle.std.specs.Prelude.{Ok, Err}
 use Rattle.byte_streams.proofs.Faults.{passed}
-use Rattle.cluster_service.specs.HistoriesFiles.{bytes_in}
+use Rattle.cluster_service.specs.HistoriesFiles.{file_bytes}
 use Rattle.cluster_service.specs.RunFaults.{EndsCluster}
 use Rattle.cluster_service.proofs.ReportingLemmas.{failed_with, nothing_ran, ran}
 use Rattle.cluster_service.proofs.subcommands.cluster.Goals as goal
 
 pub returns-in_err-stop-clause-reports : goal.returns-in_err-stop-clause-reports
 returns-in_err-stop-clause-reports g c = failed_with _ _ _ _ c.from_residual.ensures.1
-    (nothing_ran c.args.settings.now _ (g.W.Write.contents c.args.writer.now) (bytes_in c.args.file.now) c.in_err-stop.ensures)
+    (nothing_ran c.args.settings.now _ (g.W.Write.contents c.args.writer.now) (file_bytes c.args.file.now) c.in_err-stop.ensures)
 
 pub returns-in_err-stop-clause-fault : goal.returns-in_err-stop-clause-fault
 returns-in_err-stop-clause-fault g c =
@@ -20,7 +20,7 @@ returns-in_err-stop-clause-fault g c =
 
 pub returns-in_err-left-clause-reports : goal.returns-in_err-left-clause-reports
 returns-in_err-left-clause-reports g c = failed_with _ _ _ _ c.from_residual-in_err-left.ensures.1
-    (nothing_ran c.args.settings.now _ (g.W.Write.contents c.args.writer.now) (bytes_in c.args.file.now) c.in_err-left.ensures.fault)
+    (nothing_ran c.args.settings.now _ (g.W.Write.contents c.args.writer.now) (file_bytes c.args.file.now) c.in_err-left.ensures.fault)
 
 pub returns-in_err-left-clause-fault : goal.returns-in_err-left-clause-fault
 returns-in_err-left-clause-fault g c =

@@ -5,7 +5,7 @@ use Rattle.std.proofs.lemmas.Result.{IfErr-weaker}
 use Rattle.history_bytes.specs.Histories.{history_bytes}
 use Rattle.byte_streams.specs.Writing.{AppendsSome}
 use Rattle.byte_streams.proofs.Faults.{passed}
-use Rattle.cluster_service.specs.HistoriesFiles.{bytes_in, path_of}
+use Rattle.cluster_service.specs.HistoriesFiles.{file_bytes, file_path}
 use Rattle.cluster_service.specs.Reporting.{WritesFinding}
 use Rattle.cluster_service.specs.RunFaults.{IsLineFault, IsReportFault}
 use Rattle.cluster_service.proofs.ReportingLemmas.{failed_with, report_saved, report_unsaved, taken_by}
@@ -18,11 +18,11 @@ returns-in_err-save_histories-clause-reports g c =
     let left = c.args.left.now in
     let before = g.W.Write.contents c.args.writer.now in
     let after = g.W.Write.contents c.write_lines-written.new.writer in
-    let empty = bytes_in c.args.file.now in
-    let full = bytes_in c.save_histories.new.file in
+    let empty = file_bytes c.args.file.now in
+    let full = file_bytes c.save_histories.new.file in
     let taken = taken_by s left.ring left.histories.items left.heights.items c.requires.ring c.requires.taken in
     failed_with _ _ _ _ c.from_residual.ensures.1
-    (report_unsaved s left.histories.items left.heights.items c.requires.each taken c.write_lines-written.result (path_of c.args.file.now) _
+    (report_unsaved s left.histories.items left.heights.items c.requires.each taken c.write_lines-written.result (file_path c.args.file.now) _
     before after empty full
     (subst (λ r. WritesFinding s.cluster.config r left.histories.items left.heights.items c.write_lines-written.result before after)
     c.requires.ring c.write_lines-written.ensures.written)
@@ -35,8 +35,8 @@ returns-clause-reports g c =
     let left = c.args.left.now in
     let before = g.W.Write.contents c.args.writer.now in
     let after = g.W.Write.contents c.write_lines-written.new.writer in
-    let empty = bytes_in c.args.file.now in
-    let full = bytes_in c.save_histories.new.file in
+    let empty = file_bytes c.args.file.now in
+    let full = file_bytes c.save_histories.new.file in
     let taken = taken_by s left.ring left.histories.items left.heights.items c.requires.ring c.requires.taken in
     report_saved s left.histories.items left.heights.items c.requires.each taken c.write_lines-written.result before after empty full
     (subst (λ r. WritesFinding s.cluster.config r left.histories.items left.heights.items c.write_lines-written.result before after)

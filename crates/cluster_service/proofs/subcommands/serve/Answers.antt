@@ -2,7 +2,7 @@ use Rattle.std.proofs.Common.{inl, inr, refl}
 use Rattle.std.specs.Prelude.{option_map, Ok, Err}
 use Rattle.byte_streams.proofs.Faults.{passed}
 use Rattle.byte_streams.proofs.WritingLemmas.{all_some, nothing_some}
-use Rattle.cluster_service.specs.HistoriesFiles.{bytes_in}
+use Rattle.cluster_service.specs.HistoriesFiles.{file_bytes}
 use Rattle.cluster_service.specs.Lines.{port_lines}
 use Rattle.cluster_service.specs.RunFaults.{EndsServer}
 use Rattle.cluster_service.proofs.ReportingLemmas.{failed_with, nothing_served, port_alone, port_first, port_refused}
@@ -12,20 +12,20 @@ use Rattle.cluster_service.proofs.subcommands.serve.Goals as goal
 pub returns-in_err-stop-clause-serves : goal.returns-in_err-stop-clause-serves
 returns-in_err-stop-clause-serves g c = failed_with _ _ _ _ c.from_residual.ensures.1
     (nothing_served c.args.settings.now.cluster (port_lines c.args.listeners.sessions.port (option_map (λ h. h.port) c.args.listeners.http)) _
-    (g.W.Write.contents c.args.writer.now) (bytes_in c.args.file.now)
+    (g.W.Write.contents c.args.writer.now) (file_bytes c.args.file.now)
     c.in_err-stop.ensures)
 
 pub returns-in_err-write_ports-clause-serves : goal.returns-in_err-write_ports-clause-serves
 returns-in_err-write_ports-clause-serves g c =
     failed_with _ _ _ _ c.from_residual-in_err-write_ports.ensures.1
     (port_refused c.args.settings.now.cluster (port_lines c.args.listeners.sessions.port (option_map (λ h. h.port) c.args.listeners.http)) _ _ _
-    (bytes_in c.args.file.now) c.in_err-write_ports.ensures.fault
+    (file_bytes c.args.file.now) c.in_err-write_ports.ensures.fault
     c.in_err-write_ports.ensures.written)
 
 pub returns-in_err-left-clause-serves : goal.returns-in_err-left-clause-serves
 returns-in_err-left-clause-serves g c =
     failed_with _ _ _ _ c.from_residual-in_err-left.ensures.1
-    (port_alone c.args.settings.now.cluster (port_lines c.args.listeners.sessions.port (option_map (λ h. h.port) c.args.listeners.http)) _ _ _ (bytes_in c.args.file.now)
+    (port_alone c.args.settings.now.cluster (port_lines c.args.listeners.sessions.port (option_map (λ h. h.port) c.args.listeners.http)) _ _ _ (file_bytes c.args.file.now)
     c.in_err-left.ensures.fault
     c.in_ok-write_ports.ensures.written)
 

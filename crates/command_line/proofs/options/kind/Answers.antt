@@ -4,13 +4,13 @@ use Rattle.std.proofs.Common.{codes}
 use Rattle.clap.specs.Words.{found_of, rows_of}
 use Rattle.ledger_model.specs.declared.config.AppKind.{AppKind}
 use Rattle.ledger_model.specs.Numbers.{kind_number}
-use Rattle.command_line.specs.Options.{IsNumber}
+use Rattle.command_line.specs.Options.{IsNumberWithin}
 use Rattle.command_line.proofs.NumberLemmas.{on_err}
 use Rattle.command_line.proofs.options.kind.Goals as goal
 
 pub returns-in_err-number-clause-none : goal.returns-in_err-number-clause-none
 returns-in_err-number-clause-none c =
-    on_err {X = (k : AppKind) → IsNumber (rows_of (found_of c.args.matches.now)) (codes "kind") 1 3 (kind_number k) → ⊥} _
+    on_err {X = (k : AppKind) → IsNumberWithin (rows_of (found_of c.args.matches.now)) (codes "kind") 1 3 (kind_number k) → ⊥} _
     (λ k i. c.in_err-number.ensures.none (kind_number k) i)
 
 pub returns-in_err-number-clause-right : goal.returns-in_err-number-clause-right

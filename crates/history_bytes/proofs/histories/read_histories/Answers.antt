@@ -1,5 +1,5 @@
 use Rattle.std.proofs.Common.{◌≡◌, ap, sym, subst, ◌∙◌, None, Some, rules}
-use Rattle.statements.specs.Reads.{Faults}
+use Rattle.statements.specs.Reads.{IsFaultOf}
 use Rattle.history_bytes.specs.HistoryReading.{histories_reading}
 use Rattle.history_bytes.proofs.FileReaders.{read_are_spelled, spelled_are_read, one_list, spelled_are_found, spelled_not_none}
 use Rattle.history_bytes.proofs.histories.read_histories.Goals as goal
@@ -18,10 +18,10 @@ returns-in-Ok-clause-only c =
 
 pub returns-in-Err-Malformed-clause-only : goal.returns-in-Err-Malformed-clause-only
 returns-in-Err-Malformed-clause-only c =
-    let fault : Faults c.in-Err-Malformed.field-0 (histories_reading c.args.version c.new.result) = c.in-Err-Malformed.ensures in
+    let fault : IsFaultOf c.in-Err-Malformed.field-0 (histories_reading c.args.version c.new.result) = c.in-Err-Malformed.ensures in
     let none : histories_reading c.args.version c.args.bytes ≡ None =
     ap (histories_reading c.args.version) (sym c.new.ensures.all)
-    ∙ subst (λ f. Faults f (histories_reading c.args.version c.new.result)) c.in-Err-Malformed.field-0-is fault in
+    ∙ subst (λ f. IsFaultOf f (histories_reading c.args.version c.new.result)) c.in-Err-Malformed.field-0-is fault in
     λ histories spells. absurd (spelled_not_none c.args.version c.args.bytes histories none spells)
 
 pub returns-in-Ok-clause-again : goal.returns-in-Ok-clause-again

@@ -1,5 +1,5 @@
 use Rattle.std.proofs.Common.{◌∙◌, sym, ap}
-use Rattle.http_messages.specs.Parameters.{first_value, value_of}
+use Rattle.http_messages.specs.Parameters.{first_parameter, value_of}
 use Rattle.http_messages.proofs.Lookups.{first_here}
 use Rattle.http_messages.proofs.parameters.value_of.Goals as goal
 
@@ -11,4 +11,4 @@ returns-then-eq c =
 
 pub returns : goal.returns
 unfolding value_of
-returns c = sym (c.loop-written.invariant.2 ∙ ap (first_value c.args.name.now) c.in-None.ensures.steps.0)
+returns c = sym (c.loop-written.invariant.2 ∙ ap (first_parameter c.args.name.now) c.in-None.ensures.steps.0)

@@ -2,7 +2,7 @@ use Rattle.std.proofs.Common.{inr, ◌≡◌, ℕ, true, false, List, [], ◌∷
 use Rattle.std.specs.Prelude.{◌==◌, Some, None}
 use Rattle.std.proofs.lemmas.Bool.{eqb-true}
 use Rattle.std.proofs.lemmas.List.{append-nil, nil_from_length}
-use Rattle.plain_text.specs.Transactions.{Misspells, ReadsTo, StandsFor, first_byte}
+use Rattle.plain_text.specs.Transactions.{Misspells, ReadsTo, StandsFor, first_spelled_byte}
 use Rattle.plain_text.proofs.TransactionLemmas.{reads_on, reads_to, stands_on, stands_no_more}
 use Rattle.plain_text.proofs.transactions.written.Goals as goal
 
@@ -15,7 +15,7 @@ returns-clause-some c =
 
 pub returns-in_default-clause-none : goal.returns-in_default-clause-none
 returns-in_default-clause-none c = λ bytes stands.
-    let none : first_byte c.loop-rest.rest.now ≡ None = search rules in
+    let none : first_spelled_byte c.loop-rest.rest.now ≡ None = search rules in
     let full : c.is_empty.result ≡ false = search rules in
     let more = c.loop-rest.invariant.1.0 bytes stands in
     absurd (stands_no_more c.loop-rest.rest.now none
@@ -24,7 +24,7 @@ returns-in_default-clause-none c = λ bytes stands.
 
 pub returns-in_default-clause-told : goal.returns-in_default-clause-told
 returns-in_default-clause-told c =
-    let none : first_byte c.loop-rest.rest.now ≡ None = search rules in
+    let none : first_spelled_byte c.loop-rest.rest.now ≡ None = search rules in
     let full : c.is_empty.result ≡ false = search rules in
     let told : Misspells c.args.text.now c.fault_at.result = record {
       read = c.loop-rest.bytes.items;
@@ -38,7 +38,7 @@ returns-in_default-clause-told c =
 
 pub loop-rest-preserved : goal.loop-rest-preserved
 loop-rest-preserved c =
-    let first : first_byte c.loop-rest.rest.now ≡ Some (c.in-Some.byte, c.in-Some.after.now) = search rules in
+    let first : first_spelled_byte c.loop-rest.rest.now ≡ Some (c.in-Some.byte, c.in-Some.after.now) = search rules in
     let grown : c.push.new.self.items ≡ c.loop-rest.bytes.items ++ c.in-Some.byte ∷ [] = search rules in (
       λ more stands. subst (λ (read : List ℕ). StandsFor c.args.text.now (read ++ more)) (sym grown)
           (reads_on c.args.text.now c.loop-rest.rest.now c.in-Some.after.now c.loop-rest.bytes.items c.in-Some.byte first

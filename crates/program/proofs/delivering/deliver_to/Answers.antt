@@ -1,7 +1,7 @@
 use Rattle.std.proofs.Common.{[], ap, sym, subst, ◌∙◌}
 use Rattle.signed_frames.specs.Reader.{FrameReaderView}
 use Rattle.locked_replica.specs.States.{StateView}
-use Rattle.program.specs.Answering.{Answers, starting}
+use Rattle.program.specs.Answering.{AnswersEvents, starting}
 use Rattle.byte_streams.proofs.Faults.{on_error, passed}
 use Rattle.program.specs.Streams.{StopsDelivery}
 use Rattle.program.proofs.CauseLemmas.{stops_delivery, stops_delivery_anyway}
@@ -13,7 +13,7 @@ deliver_pieces-requires-clause-start g c = ap (λ (r : FrameReaderView). r.state
 
 pub deliver_pieces-requires-clause-version : goal.deliver_pieces-requires-clause-version
 deliver_pieces-requires-clause-version g c =
-    let first = subst (λ r. Answers r (starting c.args.settings.now) [] c.start.new.state) c.requires c.in_ok-start.ensures.answers in
+    let first = subst (λ r. AnswersEvents r (starting c.args.settings.now) [] c.start.new.state) c.requires c.in_ok-start.ensures.answers in
     ap (λ (r : FrameReaderView). r.version) c.new_in-frames.ensures ∙ sym (ap (λ (r : StateView). r.config.frames) first.grown.same)
 
 pub returns-in_err-start-clause-delivers : goal.returns-in_err-start-clause-delivers

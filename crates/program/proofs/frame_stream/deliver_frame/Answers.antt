@@ -1,7 +1,7 @@
 use Rattle.std.proofs.Common.{[], ◌∷◌, subst}
 use Rattle.ledger_model.specs.declared.event.Event.TheVariants as event
-use Rattle.program.specs.Lines.{ended}
-use Rattle.program.specs.Answering.{Answers}
+use Rattle.program.specs.Lines.{line_bytes}
+use Rattle.program.specs.Answering.{AnswersEvents}
 use Rattle.byte_streams.proofs.Faults.{on_error, each_way}
 use Rattle.byte_streams.proofs.WritingLemmas.{nothing_some}
 use Rattle.program.proofs.CauseLemmas.{if_stops}
@@ -14,8 +14,8 @@ returns-in_err-line-clause-prints g c =
 
 pub returns-clause-prints : goal.returns-clause-prints
 returns-clause-prints g c =
-    let text = ended c.in_ok-line.line in
-    let answered = subst (λ b. Answers c.args.state.now (event.Deliver b ∷ []) text c.answer.new.state) c.into_bytes.ensures.1
+    let text = line_bytes c.in_ok-line.line in
+    let answered = subst (λ b. AnswersEvents c.args.state.now (event.Deliver b ∷ []) text c.answer.new.state) c.into_bytes.ensures.1
     c.in_ok-line.ensures.answers in
     each_way _ _ _ _ c.print_line.result (λ _ w. (text, (answered, w))) (λ _ w. (text, (some_all _ _ _ text answered, w)))
     c.print_line.ensures.written

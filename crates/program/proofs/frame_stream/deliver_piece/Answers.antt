@@ -1,7 +1,7 @@
 use Rattle.std.proofs.Common.{◌++◌, ◌∙◌, subst}
 use Rattle.signed_frames.specs.Reader.{HandsOut}
 use Rattle.byte_streams.proofs.Faults.{on_error, passed}
-use Rattle.program.specs.Faults.{StopsAt}
+use Rattle.program.specs.Faults.{FailsAfter}
 use Rattle.program.proofs.CauseLemmas.{if_stops, stops_anyway}
 use Rattle.program.proofs.StreamLemmas.{reading_unfailed}
 use Rattle.program.proofs.PieceLemmas.{piece_behind, piece_stops, piece_told, piece_lost}
@@ -51,5 +51,5 @@ returns-in_ok-deliver_all-in-Ok-clause-cause g c = if_stops _ _ c.fault_behind.e
 
 pub returns-in_err-fault_of-in-Err-clause-cause : goal.returns-in_err-fault_of-in-Err-clause-cause
 returns-in_err-fault_of-in-Err-clause-cause g c =
-    passed _ c.in_err-fault_of-in-Err.field-0.0 (StopsAt _) c.from_residual-in_err-fault_of-in-Err.ensures.1
+    passed _ c.in_err-fault_of-in-Err.field-0.0 (FailsAfter _) c.from_residual-in_err-fault_of-in-Err.ensures.1
     (stops_anyway _ _ c.in_err-fault_of-in-Err.ensures.memory)

@@ -1,7 +1,7 @@
 use Rattle.std.proofs.Common.{rules, ◌<◌, length}
 use Rattle.std.proofs.KnownBytes.{Keeps-refl}
 use Rattle.byte_streams.proofs.Faults.{on_error, passed}
-use Rattle.program.specs.Faults.{StopsAt}
+use Rattle.program.specs.Faults.{FailsAfter}
 use Rattle.program.proofs.CauseLemmas.{read_stops}
 use Rattle.program.proofs.StreamEnds.{begun, ended_of, ends_at, goes_on, stopped_of}
 use Rattle.program.proofs.frame_stream.deliver_pieces.Goals as goal
@@ -40,4 +40,4 @@ returns-clause-ends g c = stopped_of _ _ _ _ _ _ _ _ c.loop.invariant (Keeps-ref
 
 pub returns-in_err-count-clause-cause : goal.returns-in_err-count-clause-cause
 returns-in_err-count-clause-cause g c =
-    passed _ c.in_err-count.field-0.0 (StopsAt _) c.from_residual.ensures.1 (read_stops _ _ c.in_err-count.ensures.fault)
+    passed _ c.in_err-count.field-0.0 (FailsAfter _) c.from_residual.ensures.1 (read_stops _ _ c.in_err-count.ensures.fault)

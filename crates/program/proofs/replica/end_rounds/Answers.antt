@@ -1,7 +1,7 @@
 use Rattle.std.proofs.Common.{◌≡◌, ◌+◌, ◌-◌, [], ◌∷◌, replicate, subst, ap, ◌∙◌, arith}
 use Rattle.std.proofs.lemmas.List.{replicate_more, replicate-append-replicate}
 use Rattle.ledger_model.specs.declared.event.Event.TheVariants as event
-use Rattle.program.specs.Answering.{Answers, AnswersSome}
+use Rattle.program.specs.Answering.{AnswersEvents, AnswersSome}
 use Rattle.byte_streams.proofs.Faults.{on_error}
 use Rattle.program.proofs.AnsweringLemmas.{answers_none, answers_both, some_none, some_after}
 use Rattle.program.proofs.replica.end_rounds.Goals as goal
@@ -11,14 +11,14 @@ loop-init c = answers_none _
 
 pub loop-preserved : goal.loop-preserved
 loop-preserved c =
-    subst (λ l. Answers c.args.state.now l [] c.end_round.new.state) (replicate_more c.loop.counter event.RoundEnd)
+    subst (λ l. AnswersEvents c.args.state.now l [] c.end_round.new.state) (replicate_more c.loop.counter event.RoundEnd)
     (answers_both _ _ _ (replicate c.loop.counter event.RoundEnd) (event.RoundEnd ∷ []) [] [] c.loop.invariant
     c.in_ok-end_round.ensures.answers)
 
 pub returns-clause-answers : goal.returns-clause-answers
 returns-clause-answers c =
     let all : c.loop.counter ≡ c.args.rounds = omega (arith, c.loop-test.false, c.loop.auto.counter-end) in
-    subst (λ n. Answers c.args.state.now (replicate n event.RoundEnd) [] c.loop.state) all c.loop.invariant
+    subst (λ n. AnswersEvents c.args.state.now (replicate n event.RoundEnd) [] c.loop.state) all c.loop.invariant
 
 pub returns-in_err-end_round-clause-answers : goal.returns-in_err-end_round-clause-answers
 returns-in_err-end_round-clause-answers c =

@@ -1,7 +1,7 @@
 use Rattle.std.proofs.Common.{[], ◌∷◌, List, replicate, ◌≡◌, refl, ◌∙◌, subst}
 use Rattle.ledger_model.specs.declared.event.Event.{Event}
 use Rattle.ledger_model.specs.declared.event.Event.TheVariants as event
-use Rattle.program.specs.Answering.{Answers, starting}
+use Rattle.program.specs.Answering.{AnswersEvents, starting}
 use Rattle.byte_streams.proofs.Faults.{on_error, each_way}
 use Rattle.program.proofs.AnsweringLemmas.{answers_both, some_none, some_after}
 use Rattle.program.proofs.replica.start.Goals as goal
@@ -10,7 +10,7 @@ pub returns-clause-answers : goal.returns-clause-answers
 returns-clause-answers c =
     let s = c.args.settings.now in
     let same : c.in-Ok.value ≡ s.value = c.in-Ok.ensures ∙ c.as_bytes.ensures.bytes in
-    let submitted = subst (λ b. Answers c.args.state.now (event.Submit b ∷ []) [] c.submit.new.state) same c.in_ok-submit.ensures.answers in
+    let submitted = subst (λ b. AnswersEvents c.args.state.now (event.Submit b ∷ []) [] c.submit.new.state) same c.in_ok-submit.ensures.answers in
     let rest : List Event = replicate s.rounds event.RoundEnd in
     let first = answers_both c.args.state.now _ _ (event.Submit s.value ∷ []) (event.Propose s.height ∷ []) [] [] submitted
     c.in_ok-propose.ensures.answers in
@@ -23,7 +23,7 @@ pub returns-in_err-propose-clause-answers : goal.returns-in_err-propose-clause-a
 returns-in_err-propose-clause-answers c =
     let s = c.args.settings.now in
     let same : c.in-Ok.value ≡ s.value = c.in-Ok.ensures ∙ c.as_bytes.ensures.bytes in
-    let submitted = subst (λ b. Answers c.args.state.now (event.Submit b ∷ []) [] c.submit.new.state) same c.in_ok-submit.ensures.answers in
+    let submitted = subst (λ b. AnswersEvents c.args.state.now (event.Submit b ∷ []) [] c.submit.new.state) same c.in_ok-submit.ensures.answers in
     let rest : List Event = event.Propose s.height ∷ replicate s.rounds event.RoundEnd in
     on_error _ _ c.from_residual-in_err-propose.ensures.0
     (some_after c.args.state.now _ _ (event.Submit s.value ∷ []) rest [] [] submitted (some_none _ _ rest c.in_err-propose.ensures.answers))

@@ -1,5 +1,5 @@
 use Rattle.std.proofs.Common.{subst}
-use Rattle.scenario_texts.specs.Lines.{IsBadAt, Spells}
+use Rattle.scenario_texts.specs.Lines.{IsBadAt, SpellsPlan}
 use Rattle.scenario_texts.specs.Plans.{plan_of}
 use Rattle.program.proofs.ScenarioLemmas.{bad_at, bad_shown, spelled_whole}
 use Rattle.program.proofs.scenario_input.read_scenario.Goals as goal
@@ -7,7 +7,7 @@ use Rattle.program.proofs.scenario_input.read_scenario.Goals as goal
 pub returns-in-Ok-clause-read : goal.returns-in-Ok-clause-read
 returns-in-Ok-clause-read g c =
     let (read, (in_time, to_end)) = c.in_ok-text.ensures.read in
-    let spelled = subst (λ t. Spells t (plan_of c.in-Ok.scenario)) c.deref.ensures.value c.in-Ok.ensures.spelled in (
+    let spelled = subst (λ t. SpellsPlan t (plan_of c.in-Ok.scenario)) c.deref.ensures.value c.in-Ok.ensures.spelled in (
       c.in_ok-text.text.items,
       (
         read,

@@ -1,6 +1,6 @@
 use Rattle.std.proofs.Common.{◌≡◌, ◌∙◌, ◌+◌, ◌++◌, [], ◌∷◌, ap, subst, refl}
 use Rattle.std.specs.Prelude.{OnOk, codes}
-use Rattle.run_picture.specs.Layouts.{width_of, height_of}
+use Rattle.run_picture.specs.Layouts.{width_of, picture_height}
 use Rattle.run_picture.specs.Documents.{open_text, corner_text}
 use Rattle.run_picture.proofs.Joining.{appended_joined}
 use Rattle.run_picture.proofs.document.add_head.Goals as goal
@@ -9,7 +9,7 @@ pub returns : goal.returns
 returns c =
     let l = c.args.layout.now in
     subst (λ t. OnOk c.add_corner.result (c.add_corner.new.out.items ≡ t))
-    (appended_joined c.args.out.now.items (open_text (width_of l) (height_of l) ∷ c.args.style.now ∷ corner_text l c.args.height ∷ [])
+    (appended_joined c.args.out.now.items (open_text (width_of l) (picture_height l) ∷ c.args.style.now ∷ corner_text l c.args.height ∷ [])
     (c.add.new.out.items ++ corner_text l c.args.height) (
       c.add_open.new.out.items,
       (

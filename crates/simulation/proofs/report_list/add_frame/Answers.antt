@@ -3,7 +3,7 @@ use Rattle.std.specs.Prelude.{Some, None}
 use Rattle.ledger_model.specs.declared.statement.Report.{Report}
 use Rattle.ledger_model.specs.declared.statement.Statement.TheVariants as statement
 use Rattle.ledger_model.specs.Reading.{reading}
-use Rattle.statements.specs.Reads.{Faults}
+use Rattle.statements.specs.Reads.{IsFaultOf}
 use Rattle.simulation.specs.declared.report_list.ReportFrame.{ReportFrame}
 use Rattle.simulation.proofs.Indexing.{of_report, of_other, of_no_frame}
 use Rattle.simulation.proofs.report_list.add_frame.Goals as goal
@@ -31,7 +31,7 @@ returns-in-Ok c =
 pub returns-in-Err-Malformed : goal.returns-in-Err-Malformed
 returns-in-Err-Malformed c =
     let none : reading c.in_ok-clone.field-0 ≡ None =
-    subst (λ fault. Faults fault (reading c.in_ok-clone.field-0)) c.in-Err-Malformed.field-0-is c.in-Err-Malformed.ensures.exact in
+    subst (λ fault. IsFaultOf fault (reading c.in_ok-clone.field-0)) c.in-Err-Malformed.field-0-is c.in-Err-Malformed.ensures.exact in
     sym (append-nil c.args.reports.now.items)
     ∙ ap (λ l. c.args.reports.now.items ++ l)
     (sym (of_no_frame c.args.bytes.now (ap reading (sym c.in_ok-clone.ensures.cases) ∙ none)))

@@ -5,7 +5,7 @@ use Rattle.std.proofs.lemmas.List.Edits.{map_over_more}
 use Rattle.ledger_model.specs.declared.statement.SignedReport.{SignedReport}
 use Rattle.ledger_model.specs.Values.{Value}
 use Rattle.tally.specs.Tallies.{Places}
-use Rattle.tally.specs.ReportMasks.{value_of, marked_by, marked}
+use Rattle.tally.specs.ReportMasks.{numbered_value, marked_by, marked}
 use Rattle.tally.specs.declared.reported_value.ReportedValue.{ReportedValue}
 use Rattle.tally.specs.declared.reported_value.ValueMasks.{ValueMasks}
 use Rattle.tally.proofs.report_counts.mark_values.Goals as goal
@@ -13,14 +13,14 @@ use Rattle.tally.proofs.report_counts.mark_values.Goals.{in-Some, in_default}
 
 -- a numbered value that is there gets the bits, and another stays as it is
 marked_there : (places : Places SignedReport) (s : SignedReport) (bit : ℕ) (x y : ReportedValue) (v : Value) (m : ValueMasks) → x ≡ y
-    → value_of places y ≡ Some v → m ≡ marked_by s bit v y.masks
+    → numbered_value places y ≡ Some v → m ≡ marked_by s bit v y.masks
     → record { signer = y.signer; index = y.index; masks = m } ≡ marked places s bit x
 marked_there places s bit x y v m same there is =
     ap (λ n. record { signer = y.signer; index = y.index; masks = n })
     (is ∙ sym (ap (λ o. option_map_or (λ u. marked_by s bit u y.masks) o y.masks) there))
     ∙ ap (marked places s bit) (sym same)
 
-unmarked_there : (places : Places SignedReport) (s : SignedReport) (bit : ℕ) (x y : ReportedValue) → x ≡ y → value_of places y ≡ None
+unmarked_there : (places : Places SignedReport) (s : SignedReport) (bit : ℕ) (x y : ReportedValue) → x ≡ y → numbered_value places y ≡ None
     → y ≡ marked places s bit x
 unmarked_there places s bit x y same none =
     sym (ap (λ o. record { signer = y.signer; index = y.index; masks = option_map_or (λ u. marked_by s bit u y.masks) o y.masks }) none)

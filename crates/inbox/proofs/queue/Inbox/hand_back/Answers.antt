@@ -1,7 +1,7 @@
 use Rattle.std.proofs.Common.{sym, ap, ◌∙◌, subst}
 use Rattle.inbox.specs.declared.log.Log.{Log}
 use Rattle.inbox.specs.Passes.{PuttingPassView, TakingPassView}
-use Rattle.inbox.specs.InboxRule.{log_of, Behind}
+use Rattle.inbox.specs.InboxRule.{seat_log, Behind}
 use Rattle.inbox.proofs.Moves.{merges, behind}
 use Rattle.inbox.proofs.PassEnds.{shared}
 use Rattle.inbox.proofs.queue.Inbox.hand_back.Goals as goal
@@ -18,6 +18,6 @@ returns-clause-shared c =
     let number = c.putting.invariant.3 ∙ ap (λ (p : PuttingPassView). p.number) c.putting.view_is in
     let put = ap (λ (p : PuttingPassView). p.put) c.putting.view_is in
     let taken = ap (λ (p : TakingPassView). p.taken) c.taking.view_is in
-    let found = shared (log_of c.taking.inside.seat) (log_of c.putting.inside.seat) told.0
+    let found = shared (seat_log c.taking.inside.seat) (seat_log c.putting.inside.seat) told.0
     (subst (λ (v : Log). Behind v told.0) c.absorb.ensures.rule told.1) in
     (told.0, rw (sym number, sym put, sym taken) found)

@@ -1,5 +1,5 @@
 use Rattle.std.proofs.Common.{◌≡◌, ◌-◌, ◌∙◌, ap, arith}
-use Rattle.lm_ots.specs.Ends.{place_of}
+use Rattle.lm_ots.specs.Ends.{chain_prefix}
 use Rattle.lm_ots.specs.Steps.{walk}
 use Rattle.lm_ots.proofs.EndLemmas.{end_of-set, end_of-others}
 use Rattle.lm_ots.proofs.Chains.{walk-chain}
@@ -11,7 +11,7 @@ returns-clause-end c =
     let many = c.set.ensures.many in
     end_of-set c.args.self.now c.set.new.self c.args.index c.args.from c.from.result c.args.value.now c.set.ensures.set
     (omega (arith, many.0)) (omega (arith, many.1)) (omega (arith, many.2))
-    ∙ ap (λ n. walk (place_of c.args.self.now c.args.index) c.args.from n c.args.value.now) left
+    ∙ ap (λ n. walk (chain_prefix c.args.self.now c.args.index) c.args.from n c.args.value.now) left
     ∙ walk-chain c.args.self.now.identifier c.args.self.now.leaf c.args.index c.args.from (c.args.to - c.args.from) c.args.value.now
     (omega arith)
 

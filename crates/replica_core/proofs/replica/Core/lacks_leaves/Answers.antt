@@ -3,7 +3,7 @@ use Rattle.std.specs.Prelude.{map}
 use Rattle.std.proofs.Math.Dec.{ltb}
 use Rattle.std.proofs.lemmas.Bool.{ltb-false}
 use Rattle.key_ring.specs.Signers.{leaves_of}
-use Rattle.height_row.specs.Heights.{plan_of}
+use Rattle.height_row.specs.Heights.{height_plan}
 use Rattle.replica_core.specs.Signing.{due_in}
 use Rattle.replica_core.specs.RoundEnds.{due}
 use Rattle.replica_core.specs.Cores.{CoreView, due_then}
@@ -13,7 +13,7 @@ use Rattle.replica_core.proofs.replica.Core.lacks_leaves.Goals as goal
 
 pub returns-clause-lacks : goal.returns-clause-lacks
 returns-clause-lacks g c =
-    let plans = subst (λ (x : CoreView). c.args.plans.now ≡ map (plan_of (x.held.clock + 1)) x.held.rows) (sym c.self.view_is)
+    let plans = subst (λ (x : CoreView). c.args.plans.now ≡ map (height_plan (x.held.clock + 1)) x.held.rows) (sym c.self.view_is)
     c.requires.plans in
     let counted = c.count_due.ensures ∙ ap due_in plans ∙ due_in-plans (c.self.inside.kept.clock + 1) c.self.inside.kept.rows in
     rw (sym c.self.view_is)
@@ -23,7 +23,7 @@ returns-clause-lacks g c =
 
 pub returns-clause-leaves : goal.returns-clause-leaves
 returns-clause-leaves g c = λ enough.
-    let plans = subst (λ (x : CoreView). c.args.plans.now ≡ map (plan_of (x.held.clock + 1)) x.held.rows) (sym c.self.view_is)
+    let plans = subst (λ (x : CoreView). c.args.plans.now ≡ map (height_plan (x.held.clock + 1)) x.held.rows) (sym c.self.view_is)
     c.requires.plans in
     let counted = c.count_due.ensures ∙ ap due_in plans ∙ due_in-plans (c.self.inside.kept.clock + 1) c.self.inside.kept.rows in
     subst (λ (x : CoreView). x.keys.used + due_then x ≤ leaves_of x.keys.secret) c.self.view_is

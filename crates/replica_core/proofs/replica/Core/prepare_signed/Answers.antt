@@ -7,7 +7,7 @@ use Rattle.replica_core.specs.Signing.{due_in}
 use Rattle.replica_core.specs.Steps.{UsesLeaves}
 use Rattle.replica_core.specs.ChosenEnds.{end_reply}
 use Rattle.replica_core.specs.Cores.{CoreView, due_then}
-use Rattle.replica_core.specs.PreparedEnds.{made_in}
+use Rattle.replica_core.specs.PreparedEnds.{made_by_closings}
 use Rattle.replica_core.proofs.SignedPlans.{due_in-plans}
 use Rattle.replica_core.proofs.Endings.{planned_by, planned_ends, signed_own, signed_step, end_prepared}
 use Rattle.replica_core.proofs.replica.Core.prepare_signed.Goals as goal
@@ -48,7 +48,7 @@ returns-clause-prepared g c =
     (end_prepared c.self.inside.kept c.self.inside.signer c.make_all.new.signer false c.in_ok-closings.closings.items
     c.prepare_round.result c.prepare_round.ensures.prepared c.prepare_round.ensures.ready ends.0
     (subst (UsesLeaves c.self.inside.signer c.self.inside.kept.clock
-    (end_reply c.self.inside.kept false (made_in c.in_ok-closings.closings.items))) (sym used) ends.1))
+    (end_reply c.self.inside.kept false (made_by_closings c.in_ok-closings.closings.items))) (sym used) ends.1))
 
 pub returns-clause-uses : goal.returns-clause-uses
 returns-clause-uses g c =

@@ -3,7 +3,7 @@ use Rattle.std.specs.List.{AllByRecursion}
 use Rattle.std.proofs.lemmas.List.{length-map}
 use Rattle.ledger_model.specs.Spelling.{IsFrame}
 use Rattle.instance.specs.Instances.{InstanceView}
-use Rattle.instance.specs.Plans.{ended, IsOwnMade}
+use Rattle.instance.specs.Plans.{opened_effects, IsOwnMade}
 use Rattle.height_row.specs.declared.round_closing.RoundClosing.{RoundClosing}
 use Rattle.replica_core.specs.ReplicaStates.{ReplicaStateView}
 use Rattle.replica_core.specs.RoundEnds.{AreMade}
@@ -22,7 +22,7 @@ pub make_shown-requires : goal.make_shown-requires
 make_shown-requires g c =
     let held : ReplicaStateView = c.args.self.now in
     record {
-      count = ap length c.requires.endings ∙ length-map held.rows (λ row. ended row (held.clock + 1))
+      count = ap length c.requires.endings ∙ length-map held.rows (λ row. opened_effects row (held.clock + 1))
           ∙ ap length (sym (c.instances.ensures.rows ∙ ap (λ (x : ReplicaStateView). x.rows) c.self.view_is));
     }
 

@@ -3,7 +3,7 @@ use Rattle.std.proofs.lemmas.Result.{err_from_is_err_and}
 use Rattle.ledger_model.specs.declared.statement.SignedStatement.{SignedStatement}
 use Rattle.ledger_model.specs.Spelling.{SpellsFrame}
 use Rattle.ledger_model.specs.Reading.{reading_in}
-use Rattle.statements.specs.Reads.{Faults}
+use Rattle.statements.specs.Reads.{IsFaultOf}
 use Rattle.signed_frames.proofs.FrameParts.{holds, spelled_by_last, last_is}
 use Rattle.signed_frames.proofs.Grammar.{is_read}
 use Rattle.signed_frames.proofs.frame.Frame.parse_in.Goals as goal
@@ -12,7 +12,7 @@ pub returns-in_err-statement-clause-only : goal.returns-in_err-statement-clause-
 returns-in_err-statement-clause-only c =
     let p = err_from_is_err_and c.from_residual.result c.from_residual.ensures.1 in
     let fault = c.in_err-statement.field-0.0 in
-    let exact = subst (λ (bytes : List ℕ). Faults fault (reading_in c.args.version bytes)) c.as_slice.ensures
+    let exact = subst (λ (bytes : List ℕ). IsFaultOf fault (reading_in c.args.version bytes)) c.as_slice.ensures
     c.in_err-statement.ensures.exact in
     λ s spells. rw (p.1, p.2) (is_read c.args.version c.args.bytes (Err fault) exact s spells)
 
