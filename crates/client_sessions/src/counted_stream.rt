@@ -3,8 +3,7 @@ ghost use Rattle.std.specs.Prelude.{◌≡◌, ◌+◌};
 ghost use Rattle.client_sessions.specs.Faults.{failures_in};
 
 use crate::failure_count::FailureCount;
-use crate::tries;
-use crate::{SessionReader, SessionWriter};
+use crate::{SessionReader, SessionWriter, tries};
 use std::io::{self, Read, Write};
 
 /// A reader or a writer of std that counts its failures.

@@ -1,8 +1,7 @@
 //! What a server speaks with its clients, and how it serves a connection.
 use crate::live_targets::LiveTargets;
 use abci::Application;
-use client_sessions::{Session, serve};
-use client_sessions::CountedStream;
+use client_sessions::{CountedStream, Session, serve};
 use http_sessions::serve_request;
 use std::alloc::Global;
 use std::io::Read;

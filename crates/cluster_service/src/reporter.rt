@@ -6,9 +6,8 @@ ghost use Rattle.byte_streams.specs.declared.program_fault.ProgramFault.TheVaria
 use crate::cluster_status::{FIRST_NOTICES, unknown};
 use crate::notice::Notice;
 use crate::reporting::SharedStatus;
-use byte_streams::write_whole;
+use byte_streams::{ProgramFault, complain, write_whole};
 use log::LevelFilter;
-use byte_streams::{ProgramFault, complain};
 use replica_turns::ReplicaStatus;
 use cluster_setup::ClusterSettings;
 use std::alloc::{AllocError, Global};

@@ -7,10 +7,9 @@ ghost use Rattle.byte_streams.specs.Writing.{Writes};
 ghost use Rattle.cluster_service.specs.HistoriesFiles.{file_bytes, file_path};
 ghost use Rattle.cluster_service.specs.RunFaults.{IsFileFault, IsSaveFault};
 
-use byte_streams::write_whole;
+use byte_streams::{ProgramFault, write_whole};
 use history_bytes::history_bytes;
 use ledger_model::History;
-use byte_streams::ProgramFault;
 use cluster_setup::ClusterSettings;
 use std::alloc::Global;
 use std::io::{self, Write};

@@ -1,7 +1,6 @@
 //! Puts the frames of a round end into inboxes.
 use crate::inboxes::Sender;
-use history_parts::goes_to;
-use ledger_model::{ReplicaId, Sent};
+use ledger_model::{ReplicaId, Sent, goes_to};
 use std::sync::Wait;
 
 /// Puts a frame of the replica `from` into the inboxes of its addressees, and returns how many of them got it.

@@ -20,13 +20,12 @@ use abci::{Application, CheckKind};
 use app_kinds::AnyKind;
 use clap::ArgMatches;
 use clap::parser::ValueSource;
-use cluster_setup::ClusterSeed;
+use cluster_setup::{ClusterSeed, What};
 use hex::FromHex;
 use ledger_model::{AppKind, Config, Tx, Version};
 use lm_ots::{Params, TreeHeight, Width};
 use log::LevelFilter;
 use plain_text::{SpellingFault, decimal, written};
-use cluster_setup::What;
 use std::alloc::{AllocError, Global};
 use std::str::FromStr;
 

@@ -9,9 +9,8 @@ ghost use Rattle.history_audit.specs.Followed.{FollowedTo, FollowsOne, FollowsAl
 
 use crate::fault::AuditFault;
 use abci::Application;
-use history_parts::history_of;
+use ledger_model::{Config, Entry, Height, History, Ledger, ReplicaId, history_of};
 use key_ring::KeyRing;
-use ledger_model::{Config, Entry, Height, History, Ledger, ReplicaId};
 use replica_core::Follower;
 use std::alloc::{AllocError, Global};
 use std::hash::RandomState;

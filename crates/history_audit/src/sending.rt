@@ -4,8 +4,7 @@ ghost use Rattle.ledger_model.specs.Audits.{sends, own_sent};
 ghost use Rattle.history_audit.specs.Tables.{Gains, IsTableOf, statements_of, statements_bytes};
 
 use crate::sent_table::SentTable;
-use history_parts::is_opened;
-use ledger_model::{Entry, History, Place, ReplicaId, Reply, Sent, Version, place_of};
+use ledger_model::{Entry, History, Place, ReplicaId, Reply, Sent, Version, is_opened, place_of};
 use signed_frames::Frame;
 use statements::DecodeFault;
 use std::alloc::{AllocError, Global};

@@ -11,8 +11,7 @@ use crate::errors::{
 };
 use crate::metrics::metrics;
 use crate::page::PAGE;
-use crate::results;
-use crate::RequestFault;
+use crate::{RequestFault, results};
 use ledger_model::SubmitRefusal;
 use std::alloc::{AllocError, Global};
 

@@ -10,8 +10,7 @@ use crate::answers::{
     query_answer_at, reply_to, status_answer, sync_answer,
 };
 use crate::targets::HttpTargets;
-use http_messages::{Answer, Commitment, ReplicaMetrics, ServiceFault};
-use http_messages::{Question, Request, RequestFault};
+use http_messages::{Answer, Commitment, Question, ReplicaMetrics, Request, RequestFault, ServiceFault};
 use ledger_model::{Height, ReplicaId};
 use std::alloc::{AllocError, Global};
 

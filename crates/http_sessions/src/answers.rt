@@ -8,8 +8,7 @@ ghost use Rattle.http_sessions.specs.Answering.{status_answer, info_answer, pool
 
 use crate::targets::{AppInfo, Delivery, PoolSize, Progress};
 use client_sessions::TargetFault;
-use http_messages::{Answer, Commitment, Receipt, ServiceFault, Submission, put_reply};
-use http_messages::RequestFault;
+use http_messages::{Answer, Commitment, Receipt, RequestFault, ServiceFault, Submission, put_reply};
 use ledger_model::{Batch, Height, QueryAnswer, ReplicaId, SubmitRefusal};
 use std::alloc::{AllocError, Global};
 

@@ -12,8 +12,7 @@ use crate::hearing::hear;
 use crate::request_end::{ConnectionFault, RequestEnd};
 use crate::targets::HttpTargets;
 use client_sessions::{SessionReader, SessionWriter, send};
-use http_messages::out_of_memory_reply;
-use http_messages::{MAX_HEAD_LEN, Request, RequestFault};
+use http_messages::{MAX_HEAD_LEN, Request, RequestFault, out_of_memory_reply};
 use std::alloc::Global;
 use std::io;
 

@@ -3,8 +3,7 @@
 use crate::expected::*;
 use crate::session_streams::{SlowReader, SlowWriter};
 use crate::session_targets::Fake;
-use client_sessions::TargetFault;
-use client_sessions::CountedStream;
+use client_sessions::{CountedStream, TargetFault};
 use http_sessions::{ConnectionFault, Delivery, RequestEnd, serve_request};
 use ledger_model::{Height, ReplicaId, SubmitRefusal};
 use std::alloc::{AllocError, Global};

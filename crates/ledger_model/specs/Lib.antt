@@ -31,3 +31,4 @@ pub mod Boards
 pub mod Inboxes
 pub mod Sessions
 pub mod Audits
+pub mod Addressing

@@ -1,3 +1,4 @@
+pub mod Found
 pub mod Strings
 pub mod StoredEntries
 pub mod Applied

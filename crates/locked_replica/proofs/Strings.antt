@@ -12,7 +12,7 @@ use Rattle.ledger_model.specs.Applications.{same_bytes}
 use Rattle.ledger_model.specs.Pools.{is_among}
 use Rattle.ledger_model.specs.declared.history.Entry.{Entry}
 use Rattle.std.proofs.Math.Bool.{or-false}
-use Rattle.history_parts.proofs.Found.{bytes_equal}
+use Rattle.locked_replica.proofs.Found.{bytes_equal}
 use Rattle.locked_replica.specs.Strings.{with_string, with_strings, strings_in, strings_of, all_strings, string_at, Extends, HaveSame}
 
 -- ---- a table that grows

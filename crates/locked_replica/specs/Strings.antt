@@ -1,6 +1,5 @@
 -- The different byte strings of a history: what was delivered, and the frames that were sent.
-pub use Rattle.history_parts.specs.Strings.{with_string, string_at}
-use Rattle.std.specs.Prelude.{◌≡◌, ℕ, List, [], ◌∷◌, ◌++◌, map, Ok}
+use Rattle.std.specs.Prelude.{◌≡◌, ℕ, List, [], ◌∷◌, ◌++◌, map, get_or, Ok, if◌then◌else◌}
 use Rattle.std.specs.List.{flat_map}
 use Rattle.ledger_model.specs.Pools.{is_among}
 use Rattle.ledger_model.specs.declared.event.Event.{Event}
@@ -8,6 +7,14 @@ use Rattle.ledger_model.specs.declared.event.Event.TheVariants as event
 use Rattle.ledger_model.specs.declared.history.Entry.{Entry}
 use Rattle.ledger_model.specs.declared.reply.Reply.{Reply}
 use Rattle.ledger_model.specs.declared.reply.Reply.TheVariants as reply
+
+-- the strings, with this one as the last unless it is one of them
+abbrev pub with_string : List (List ℕ) → List ℕ → List (List ℕ)
+with_string strings s = if is_among strings s then strings else strings ++ s ∷ []
+
+-- the string at a position
+abbrev pub string_at : List (List ℕ) → ℕ → List ℕ
+string_at strings position = get_or strings position []
 
 -- the strings, with each of these in turn
 abbrev pub with_strings : List (List ℕ) → List (List ℕ) → List (List ℕ)

@@ -6,7 +6,7 @@ ghost use Rattle.locked_replica.specs.Views.{event_lent, reply_lent};
 use crate::event_view::EventView;
 use crate::reply_view::{ReplyView, RoundEndView};
 use crate::stored_entry::StoredEntry;
-use history_parts::StringTable;
+use crate::string_table::StringTable;
 use ledger_model::{Event, Reply};
 use std::marker::Model;
 

@@ -40,6 +40,8 @@ mod reply_view;
 mod snapshot;
 mod state;
 mod stored_entry;
+mod stored_string;
+mod string_table;
 mod taking;
 
 pub use entry_view::EntryView;
@@ -48,3 +50,4 @@ pub use fault::ApplyFault;
 pub use reply_view::{ReplyView, RoundEndView, SentView};
 pub use snapshot::Snapshot;
 pub use state::{MAX_ENTRIES, State};
+pub use string_table::StringTable;

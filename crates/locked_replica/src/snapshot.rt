@@ -4,7 +4,7 @@ ghost use Rattle.std.specs.List.{AllByRecursion};
 ghost use Rattle.locked_replica.specs.StoredEntries.{IsWithin, entries_of};
 
 use crate::stored_entry::StoredEntry;
-use history_parts::StringTable;
+use crate::string_table::StringTable;
 use key_ring::KeyRing;
 use ledger_model::{Config, Entries, History};
 use std::alloc::{AllocError, Global};

@@ -9,7 +9,7 @@ use crate::taking::take_event;
 use abci::{Application, Info};
 use batch_pool::Pool;
 use bytes::Bytes;
-use history_parts::StringTable;
+use crate::string_table::StringTable;
 use key_ring::{KeyRing, Signer};
 use ledger_model::{Batch, Config, Entries, Event, Height, History, Ignored, ReplicaId};
 use replica_core::Core;

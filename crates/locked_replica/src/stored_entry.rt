@@ -3,7 +3,7 @@ ghost use Rattle.std.specs.Prelude.{◌≡◌, ◌<◌, length, map, IfOk, OnOk}
 ghost use Rattle.locked_replica.specs.Strings.{Extends, with_strings};
 ghost use Rattle.locked_replica.specs.StoredEntries.{AreSentWithin, IsWithin, sent_of, round_end_of, entry_of};
 
-use history_parts::StringTable;
+use crate::string_table::StringTable;
 use ledger_model::{
     Addressee, Entry, Event, Ignored, LastRound, Reply, RoundEnded, Sent, SentFrames,
 };

@@ -10,7 +10,7 @@ ghost use Rattle.locked_replica.specs.StoredEntries.{IsTakenAs, LeavesCore, IsDe
 use crate::stored_entry::{StoredEntry, store_round_end};
 use abci::Application;
 use bytes::Bytes;
-use history_parts::StringTable;
+use crate::string_table::StringTable;
 use ledger_model::{Entry, Event, Ignored, Reply};
 use replica_core::Core;
 use std::alloc::{AllocError, Global};

@@ -9,15 +9,13 @@ ghost use Rattle.program.specs.Auditing.{Audits, AuditsSome, AuditsWritten, Audi
 use crate::outcome::Conclusion;
 use crate::reading::read_whole;
 use crate::status::BAD_INPUT;
-use printed_lines::{add_finding, add_receipt, audited, explanation, finding_status, has_receipt};
+use printed_lines::{Text, add_finding, add_receipt, audited, explanation, finding_status, has_receipt};
 use bytes::Bytes;
-use cluster_setup::{ClusterSeed, all_keys};
+use cluster_setup::{AuditSettings, ClusterSeed, all_keys};
 use history_audit::{AuditFault, are_of_a_quorum};
 use history_bytes::{HistoryFault, read_histories};
 use ledger_model::{Config, History, Ledger};
 use byte_streams::{ProgramFault, write_output};
-use printed_lines::Text;
-use cluster_setup::AuditSettings;
 use std::alloc::{AllocError, Global};
 use std::io::{Read, Write};
 use std::random::RandomSource;

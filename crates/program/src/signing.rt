@@ -8,9 +8,8 @@ ghost use Rattle.cluster_setup.specs.Keys.{secret_of};
 ghost use Rattle.program.specs.Statements.{signed};
 
 use crate::statement::statement;
-use cluster_setup::key_pair;
+use cluster_setup::{SignSettings, key_pair};
 use key_ring::{SignFault, Signer};
-use cluster_setup::SignSettings;
 use signed_frames::{Frame, UnsignedFrame};
 use std::alloc::{AllocError, Global};
 

@@ -1,7 +1,6 @@
 //! Prints the settings that words of a command line give, as a line, for the tests.
-use cluster_setup::ClusterSeed;
+use cluster_setup::{AuditSettings, ClusterSeed, ClusterSettings, Receipt, ServeSettings, Settings};
 use command_line::settings;
-use cluster_setup::{AuditSettings, ClusterSettings, Receipt, ServeSettings, Settings};
 use std::alloc::{AllocError, Global};
 
 /// The options of a cluster, as a line: the number of replicas, how many of them may lie, the application, bits and

@@ -76,9 +76,9 @@ impl<A: Application> ReplicaState<A> {
 
     /// False exactly if the replica was mute and its reply says that it is not.
     fn stays_mute(&self, ended: &RoundEnded) -> bool
-        ensures stays { result ≡ true → self.now.mute ≡ true → opened_effects.now.mute ≡ true }
+        ensures stays { result ≡ true → self.now.mute ≡ true → ended.now.mute ≡ true }
         ensures was { result ≡ false → self.now.mute ≡ true }
-        ensures says { result ≡ false → opened_effects.now.mute ≡ false }
+        ensures says { result ≡ false → ended.now.mute ≡ false }
     {
         !self.is_mute() || ended.mute
     }
@@ -86,7 +86,7 @@ impl<A: Application> ReplicaState<A> {
     /// Follows the end of a round that is not the last one.
     fn follow_round(&mut self, alloc: Global, ended: &RoundEnded) -> Result<bool, AllocError>
         requires clock { self.old.clock < last_round }
-        ensures followed { IfOk result (λ kept. IsFollowed self.old event.RoundEnd (reply.RoundEnded (Ok opened_effects.now)) kept self.new) }
+        ensures followed { IfOk result (λ kept. IsFollowed self.old event.RoundEnd (reply.RoundEnded (Ok ended.now)) kept self.new) }
         ensures same { IsSameReplicaState self.old self.new }
         ensures err { OnErr result (self.new ≡ self.old) }
     {

@@ -9,7 +9,7 @@ use Rattle.run_picture.specs.Orders.{shown_from, clock_after}
 use Rattle.run_picture.specs.Frames.{frames_of_entry, deliveries_of_entry}
 use Rattle.run_picture.specs.Facts.{facts_at}
 use Rattle.run_picture.specs.Collected.{Appends, AddsEntries}
-use Rattle.history_parts.proofs.Items.{drop_item}
+use Rattle.ledger_model.proofs.Items.{drop_item}
 use Rattle.run_picture.proofs.Orders.{shown_next, shown_last}
 
 -- what was appended, with what the rest shows, is what all entries show; so is the number of opened rounds

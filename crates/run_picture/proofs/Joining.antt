@@ -4,7 +4,7 @@ use Rattle.std.proofs.Common.{drop, get_or, arith, refl, subst}
 use Rattle.std.specs.Prelude.{Result, OnOk}
 use Rattle.std.specs.List.{flat_map}
 use Rattle.std.proofs.Math.ListN.{drop_of_length-le}
-use Rattle.history_parts.proofs.Items.{drop_item}
+use Rattle.ledger_model.proofs.Items.{drop_item}
 use Rattle.run_picture.proofs.Orders.{one_more, no_more}
 use Rattle.run_picture.specs.Xml.{concatenated}
 

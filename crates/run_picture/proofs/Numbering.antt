@@ -7,7 +7,7 @@ use Rattle.std.specs.List.{IsDistinct}
 use Rattle.std.proofs.Common.{zero, suc}
 use Rattle.ledger_model.specs.Applications.{same_bytes}
 use Rattle.std.proofs.lemmas.Option.{slice_get_within, get_or_from_slice_get}
-use Rattle.history_parts.specs.Strings.{with_string}
+use Rattle.locked_replica.specs.Strings.{with_string}
 use Rattle.ledger_model.specs.Pools.{is_among}
 use Rattle.run_picture.specs.declared.sent_frames.SentFrame.{SentFrame}
 use Rattle.run_picture.specs.Incoming.{IsNumbering}

@@ -3,7 +3,7 @@ use Rattle.std.proofs.Common.{◌≡◌, ◌∙◌, ℕ, ◌+◌, ◌<◌, ◌�
 use Rattle.std.specs.List.{flat_map}
 use Rattle.std.proofs.lemmas.List.{flat_map_more}
 use Rattle.std.proofs.Math.ListN.{drop_of_length-le}
-use Rattle.history_parts.proofs.Items.{drop_item}
+use Rattle.ledger_model.proofs.Items.{drop_item}
 use Rattle.ledger_model.proofs.Lists.{take_item}
 use Rattle.ledger_model.specs.declared.history.Entry.{Entry}
 use Rattle.run_picture.specs.Orders.{clock_after, shown_from}

@@ -8,8 +8,8 @@ use Rattle.std.proofs.lemmas.List.Elements.{All-contains}
 use Rattle.std.proofs.lemmas.List.Sums.{position_or_len_is}
 use Rattle.std.proofs.lemmas.Option.{slice_get-get_or, slice_get_within, get_or_from_slice_get, same_Some}
 use Rattle.std.proofs.lemmas.Map.Keys.{any_passes_from_place}
-use Rattle.history_parts.specs.Addressing.{goes_to}
-use Rattle.history_parts.proofs.Found.{bytes_equal}
+use Rattle.ledger_model.specs.Addressing.{goes_to}
+use Rattle.locked_replica.proofs.Found.{bytes_equal}
 use Rattle.ledger_model.specs.Applications.{same_bytes}
 use Rattle.ledger_model.specs.Notes.{Has}
 use Rattle.ledger_model.specs.Pools.{is_among}

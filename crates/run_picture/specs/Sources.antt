@@ -6,7 +6,7 @@
 use Rattle.std.specs.Prelude.{ℕ, nat_le, ◌==◌, Bool, ◌&&◌, List, map, filter, min, max, Option, option_and_then}
 use Rattle.std.specs.List.{position, reduce}
 use Rattle.std.specs.Option.{option_or}
-use Rattle.history_parts.specs.Addressing.{goes_to}
+use Rattle.ledger_model.specs.Addressing.{goes_to}
 use Rattle.ledger_model.specs.Applications.{same_bytes}
 use Rattle.run_picture.specs.declared.sent_frames.SentFrame.{SentFrame}
 use Rattle.run_picture.specs.declared.deliveries.Delivery.{Delivery}

@@ -12,8 +12,7 @@ ghost use Rattle.run_picture.specs.Decisions.{mark_if};
 use crate::entry_facts::{Fact, Mark, add_mark};
 use crate::part::Part;
 use abci::Application;
-use history_parts::is_opened;
-use ledger_model::{Batch, Height, ReplicaId, Reply};
+use ledger_model::{Batch, Height, ReplicaId, Reply, is_opened};
 use replica_core::Replay;
 use std::alloc::{AllocError, Global};
 

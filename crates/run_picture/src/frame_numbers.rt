@@ -1,7 +1,7 @@
 //! Numbers for the sent frames, by which two frames are compared without a look at their bytes.
 
 use crate::sent_frames::SentFrame;
-use history_parts::StringTable;
+use locked_replica::StringTable;
 use std::alloc::{AllocError, Global};
 use std::hash::RandomState;
 

@@ -6,8 +6,7 @@ ghost use Rattle.run_picture.specs.Incoming.{AreIncoming, AreIncomingTo, IsFirst
 
 use crate::frame_numbers::FrameNumbers;
 use crate::sent_frames::SentFrame;
-use history_parts::goes_to;
-use ledger_model::ReplicaId;
+use ledger_model::{ReplicaId, goes_to};
 use std::alloc::{AllocError, Global};
 
 /// A sent frame that goes to the replica: the number of its bytes, the round that opens with it, and its index among all sent frames.

@@ -4,10 +4,7 @@ ghost use Rattle.client_sessions.specs.Faults.{read_failures_in, write_failures_
 
 use crate::session_streams::{FailingReader, FailingWriter};
 use crate::session_targets::{Fake, Submitted};
-use client_sessions::{
-    Session, SessionEnd, SessionFault, SessionReader, SessionWriter, TargetFault, serve,
-};
-use client_sessions::CountedStream;
+use client_sessions::{CountedStream, Session, SessionEnd, SessionFault, SessionReader, SessionWriter, TargetFault, serve};
 use ledger_model::SubmitRefusal;
 use std::alloc::Global;
 use std::io::{Read, Write};

@@ -2,7 +2,7 @@ use Rattle.std.proofs.Common.{◌≡◌, ◌+◌, ◌%◌, [], Bool, true, false
 use Rattle.std.proofs.Math.ListN.{drop_of_length-le}
 use Rattle.ledger_model.specs.declared.history.Entry.{Entry}
 use Rattle.ledger_model.specs.Audits.{own_sent}
-use Rattle.history_parts.proofs.Items.{drop_item}
+use Rattle.ledger_model.proofs.Items.{drop_item}
 use Rattle.history_audit.proofs.Tables.{Reaches, reaches_next, reaches_end, in_a_phase}
 use Rattle.history_audit.proofs.sending.add_entries.Goals as goal
 use Rattle.history_audit.proofs.sending.add_entries.Goals.{then-is_opened, else-is_opened}

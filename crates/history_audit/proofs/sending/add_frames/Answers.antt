@@ -1,7 +1,7 @@
 use Rattle.std.proofs.Common.{◌+◌, drop, sym, subst, ap, ◌∙◌}
 use Rattle.ledger_model.specs.declared.reply.Sent.{Sent}
 use Rattle.history_audit.specs.Tables.{Gains, statements_bytes, statements_of}
-use Rattle.history_parts.proofs.Items.{drop_item}
+use Rattle.ledger_model.proofs.Items.{drop_item}
 use Rattle.history_audit.proofs.Tables.{gains_both, statements_of-cons}
 use Rattle.history_audit.proofs.sending.add_frames.Goals as goal
 

@@ -3,7 +3,7 @@ use Rattle.std.specs.Prelude.{None, Some}
 use Rattle.std.proofs.Math.ListN.{drop_of_length-le}
 use Rattle.run_picture.specs.declared.entry_facts.Mark.{Mark}
 use Rattle.run_picture.specs.Marks.{mark_text, marks_from, spot_of, spread}
-use Rattle.history_parts.proofs.Items.{drop_item}
+use Rattle.ledger_model.proofs.Items.{drop_item}
 use Rattle.run_picture.proofs.Orders.{one_more, no_more}
 use Rattle.run_picture.proofs.marks.add_marks.Goals as goal
 

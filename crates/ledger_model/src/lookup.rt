@@ -3,7 +3,7 @@ ghost use Rattle.std.specs.Prelude.{◌≡◌, is_some};
 ghost use Rattle.std.specs.Option.{option_copied};
 ghost use Rattle.ledger_model.specs.Groups.{history_of};
 
-use ledger_model::{History, ReplicaId};
+use crate::{History, ReplicaId};
 
 /// The history of this replica, if it is one of these: the first, if there are several.
 pub fn history_of(histories: &[History], replica: ReplicaId) -> Option<&History>

@@ -3,7 +3,7 @@ ghost use Rattle.std.specs.Prelude.{◌≡◌, ◌<◌, [], Some, length, slice_
 ghost use Rattle.std.specs.List.{IsDistinct};
 ghost use Rattle.ledger_model.specs.Applications.{same_bytes};
 ghost use Rattle.ledger_model.specs.Pools.{is_among};
-ghost use Rattle.history_parts.specs.Strings.{with_string, string_at};
+ghost use Rattle.locked_replica.specs.Strings.{with_string, string_at};
 
 use crate::stored_string::StoredString;
 use bytes::Bytes;

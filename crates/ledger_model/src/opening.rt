@@ -2,7 +2,7 @@
 ghost use Rattle.std.specs.Prelude.{◌≡◌};
 ghost use Rattle.ledger_model.specs.Lawful.{is_opened};
 
-use ledger_model::Reply;
+use crate::Reply;
 
 /// Whether a reply opens a round.
 pub fn is_opened(reply: &Reply) -> bool

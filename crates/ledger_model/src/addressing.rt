@@ -1,8 +1,8 @@
 //! Which replicas a frame goes to.
 ghost use Rattle.std.specs.Prelude.{◌≡◌};
-ghost use Rattle.history_parts.specs.Addressing.{goes_to};
+ghost use Rattle.ledger_model.specs.Addressing.{goes_to};
 
-use ledger_model::{Addressee, ReplicaId};
+use crate::{Addressee, ReplicaId};
 
 /// Whether a frame that the replica `from` sent goes to `to`: to all other replicas, or to the one that it is addressed to. It never goes
 /// back to its sender.

@@ -2,8 +2,8 @@ use Rattle.std.proofs.Common.{◌∙◌, ap}
 use Rattle.std.specs.List.{position}
 use Rattle.indexmap.specs.IndexSet.{keys}
 use Rattle.ledger_model.specs.Applications.{same_bytes}
-use Rattle.history_parts.proofs.Found.{found_at}
-use Rattle.history_parts.proofs.string_table.StringTable.position_of.Goals as goal
+use Rattle.locked_replica.proofs.Found.{found_at}
+use Rattle.locked_replica.proofs.string_table.StringTable.position_of.Goals as goal
 
 pub returns-clause-position : goal.returns-clause-position
 returns-clause-position c = found_at c.args.self.now c.args.bytes.now c.get_index_of.result (

@@ -1,2 +1,0 @@
-pub mod Addressing
-pub mod Strings
