@@ -1,3 +1,4 @@
 pub mod Heights
 pub mod Closings
 pub mod Slots
+pub mod ReadRows

@@ -40,12 +40,13 @@ impl HeightRow {
     ghost use Rattle.std.specs.List.{AllByRecursion};
     ghost use Rattle.std.specs.Option.{option_copied};
     ghost use Rattle.ledger_model.specs.Rounds.{place_of, release_place};
-    ghost use Rattle.ledger_model.specs.Notes.{Note, Proposed, Read, clock_of, signer_of, version_of};
+    ghost use Rattle.ledger_model.specs.Notes.{Note, Proposed, clock_of, signer_of, version_of};
     ghost use Rattle.ledger_model.specs.Values.{IsValueIn};
     ghost use Rattle.ledger_model.specs.Versions.{reads};
     ghost use Rattle.ledger_model.specs.Locks.{decided_of};
     ghost use Rattle.ledger_model.specs.Logs.{height_of};
-    ghost use Rattle.ledger_model.specs.Rules.{Ring, answer_to};
+    ghost use Rattle.ledger_model.specs.Rules.{Ring};
+    ghost use Rattle.height_row.specs.ReadRows.{AnswersAtHeight, NotesAtHeight};
     ghost use Rattle.ledger_model.specs.Lawful.{held_locks, are_signed_reports};
     ghost use Rattle.ledger_model.specs.Spelling.{IsStatement, frame_bytes};
     ghost use Rattle.instance.specs.Instances.{InstanceView};
@@ -206,11 +207,8 @@ impl HeightRow {
         requires open { is_some (row_at self.old.rows (height_of frame.statement)) ≡ true }
         requires clock { clock ≤ last_round }
         // The answer and its effect are those of the definitions, on every log that the height matches.
-        ensures answer { IfOk result (λ r. (row : InstanceView) → row_at self.old.rows (height_of frame.statement) ≡ Some row → (log : List Note)
-            → MatchesLog ring.now row log → clock_of log ≡ clock → r ≡ answer_to row.config ring.now log frame) }
-        ensures read { IfOk result (λ r. (row new : InstanceView) → row_at self.old.rows (height_of frame.statement) ≡ Some row
-            → row_at self.new.rows (height_of frame.statement) ≡ Some new → (log : List Note)
-            → MatchesLog ring.now row log → clock_of log ≡ clock → IfOk r (λ x. MatchesLog ring.now new (log ++ Read clock frame ∷ []))) }
+        ensures answer { AnswersAtHeight ring.now self.old.rows frame clock result }
+        ensures read { NotesAtHeight ring.now self.old.rows frame clock result self.new.rows }
         ensures ignored { IfOk result (λ r. OnErr r (self.new ≡ self.old)) }
         ensures err { OnErr result (self.new ≡ self.old) }
         ensures open { is_some (row_at self.new.rows (height_of frame.statement)) ≡ true }
@@ -235,12 +233,8 @@ impl HeightRow {
         requires open { is_some (row_at self.old.rows (height_of frame.statement)) ≡ true }
         requires clock { clock ≤ last_round }
         // The answer and its effect are those of the definitions, on every log that the height matches.
-        ensures answer { IfOk result (λ r. (row : InstanceView) → row_at self.old.rows (height_of frame.statement) ≡ Some row → (log : List Note)
-            → MatchesLog (C.ring checks.old) row log → clock_of log ≡ clock → r ≡ answer_to row.config (C.ring checks.old) log frame) }
-        ensures read { IfOk result (λ r. (row new : InstanceView) → row_at self.old.rows (height_of frame.statement) ≡ Some row
-            → row_at self.new.rows (height_of frame.statement) ≡ Some new → (log : List Note)
-            → MatchesLog (C.ring checks.old) row log → clock_of log ≡ clock
-            → IfOk r (λ x. MatchesLog (C.ring checks.old) new (log ++ Read clock frame ∷ []))) }
+        ensures answer { AnswersAtHeight (C.ring checks.old) self.old.rows frame clock result }
+        ensures read { NotesAtHeight (C.ring checks.old) self.old.rows frame clock result self.new.rows }
         ensures ignored { IfOk result (λ r. OnErr r (self.new ≡ self.old)) }
         ensures err { OnErr result (self.new ≡ self.old) }
         ensures open { is_some (row_at self.new.rows (height_of frame.statement)) ≡ true }

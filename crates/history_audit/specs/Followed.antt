@@ -16,7 +16,7 @@ use Rattle.history_audit.specs.declared.fault.AuditFault.TheVariants as fault
 -- continue the replay
 abbrev pub FollowedTo : Config → Ring → History → Result FollowerView AuditFault → Type 0
 FollowedTo config ring m (Ok follower) =
-    Replay config ring m.replica m.entries × (follower.held.commits ≡ commits_of config m.replica m.entries)
+    Replay config ring m.replica m.entries × (follower.replay.commits ≡ commits_of config m.replica m.entries)
 FollowedTo config ring m (Err (fault.NotReplay r i)) = (r ≡ m.replica) × StopsAt config ring m.replica m.entries i
 FollowedTo config ring m (Err fault.NoMemory) = ⊤
 FollowedTo config ring m (Err fault.Count) = ⊥

@@ -3,8 +3,8 @@ ghost use Rattle.std.specs.Prelude.{◌≡◌, ◌<◌, ◌≤◌, false, true, 
 ghost use Rattle.std.specs.List.{AllByRecursion};
 ghost use Rattle.ledger_model.specs.Applications.{run};
 ghost use Rattle.ledger_model.specs.Audits.{are_of_a_quorum};
-ghost use Rattle.replica_core.specs.ReplicaStates.{MatchesHistory};
-ghost use Rattle.replica_core.specs.Following.{AnswersFollowing, IsSameReplicaState};
+ghost use Rattle.replica_core.specs.Replays.{MatchesHistory};
+ghost use Rattle.replica_core.specs.Following.{AnswersFollowing, IsSameReplay};
 ghost use Rattle.history_audit.specs.Followed.{FollowedTo, FollowsOne, FollowsAll};
 
 use crate::fault::AuditFault;
@@ -22,11 +22,11 @@ fn follow<A: Application>(
     follower: &mut Follower<A>,
     entries: &[Entry],
 ) -> Result<Option<usize>, AllocError>
-    requires first { MatchesHistory follower.old.held [] }
+    requires first { MatchesHistory follower.old.replay [] }
     requires kept { follower.old.lost ≡ false }
-    ensures answer { IfOk result (AnswersFollowing follower.old.held.config follower.old.held.ring follower.old.held.id entries.now) }
-    ensures matches { result ≡ Ok None → MatchesHistory follower.new.held entries.now }
-    ensures same { IsSameReplicaState follower.old.held follower.new.held }
+    ensures answer { IfOk result (AnswersFollowing follower.old.replay.config follower.old.replay.ring follower.old.replay.id entries.now) }
+    ensures matches { result ≡ Ok None → MatchesHistory follower.new.replay entries.now }
+    ensures same { IsSameReplay follower.old.replay follower.new.replay }
 {
     for (index, entry) in entries.iter().enumerate() {
         if !follower.follow(alloc, &entry.event, &entry.reply)? {
@@ -38,7 +38,7 @@ fn follow<A: Application>(
 
 /// The blocks that a follower's replica committed. The only error is allocation failure.
 fn blocks_of<A: Application>(alloc: Global, follower: &Follower<A>) -> Result<Ledger, AllocError>
-    ensures { IfOk result (λ ledger. ledger ≡ follower.now.held.commits) }
+    ensures { IfOk result (λ ledger. ledger ≡ follower.now.replay.commits) }
 {
     let mut ledger = Ledger::new(alloc);
     for index in 0..follower.height() {

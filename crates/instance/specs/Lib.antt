@@ -4,3 +4,4 @@ pub mod Reads
 pub mod Plans
 pub mod Reserved
 pub mod Laws
+pub mod ReadFrames

@@ -53,15 +53,16 @@ impl Instance {
     ghost use Rattle.std.specs.Option.{option_map_or};
     ghost use Rattle.ledger_model.specs.Values.{same_value};
     ghost use Rattle.ledger_model.specs.Rounds.{phase_of, place_of, lock_place};
-    ghost use Rattle.ledger_model.specs.Notes.{Note, Read, clock_of, signer_of, version_of, is_report, is_lock, is_ack};
+    ghost use Rattle.ledger_model.specs.Notes.{Note, clock_of, signer_of, version_of, is_report, is_lock, is_ack};
     ghost use Rattle.ledger_model.specs.Logs.{height_of};
-    ghost use Rattle.ledger_model.specs.Rules.{Ring, answer_to, first_of, place_causes, is_repeated};
+    ghost use Rattle.ledger_model.specs.Rules.{Ring, first_of, place_causes, is_repeated};
     ghost use Rattle.ledger_model.specs.Spelling.{IsFrameIn};
     ghost use Rattle.ledger_model.specs.Values.{IsValueIn};
     ghost use Rattle.ledger_model.specs.Versions.{reads};
     ghost use Rattle.lock_proofs.specs.LockTables.{as_statement, with_lock, has_four_others, released};
     ghost use Rattle.tally.specs.Tallies.{read_of};
     ghost use Rattle.instance.specs.Matching.{MatchesLog};
+    ghost use Rattle.instance.specs.ReadFrames.{AnswersFrame, NotesFrame};
     ghost use Rattle.instance.specs.Reads.{round_causes, row_causes, report_causes, room_causes, lock_causes, ack_causes, is_kept_already, after_read, if_accepted, IsSameHeight};
     ghost use Rattle.ledger_model.specs.Limits.{last_round};
 
@@ -294,10 +295,8 @@ impl Instance {
         requires version { IsTrue (reads self.old.config.frames (version_of frame.statement)) }
         requires clock { clock ≤ last_round }
         // The answer and its effect are those of the definitions, on every log that the instance matches.
-        ensures answer { IfOk result (λ r. (log : List Note) → MatchesLog ring.now self.old log → clock_of log ≡ clock
-            → r ≡ answer_to self.old.config ring.now log frame) }
-        ensures read { IfOk result (λ r. (log : List Note) → MatchesLog ring.now self.old log → clock_of log ≡ clock
-            → IfOk r (λ x. MatchesLog ring.now self.new (log ++ Read clock frame ∷ []))) }
+        ensures answer { AnswersFrame ring.now self.old frame clock result }
+        ensures read { NotesFrame ring.now self.old frame clock result self.new }
         ensures ignored { IfOk result (λ r. OnErr r (self.new ≡ self.old)) }
         ensures err { OnErr result (self.new ≡ self.old) }
         ensures same { IsSameHeight self.old self.new }
@@ -319,10 +318,8 @@ impl Instance {
         requires version { IsTrue (reads self.old.config.frames (version_of frame.statement)) }
         requires clock { clock ≤ last_round }
         // The answer and its effect are those of the definitions, on every log that the instance matches.
-        ensures answer { IfOk result (λ r. (log : List Note) → MatchesLog (C.ring checks.old) self.old log → clock_of log ≡ clock
-            → r ≡ answer_to self.old.config (C.ring checks.old) log frame) }
-        ensures read { IfOk result (λ r. (log : List Note) → MatchesLog (C.ring checks.old) self.old log → clock_of log ≡ clock
-            → IfOk r (λ x. MatchesLog (C.ring checks.old) self.new (log ++ Read clock frame ∷ []))) }
+        ensures answer { AnswersFrame (C.ring checks.old) self.old frame clock result }
+        ensures read { NotesFrame (C.ring checks.old) self.old frame clock result self.new }
         ensures ignored { IfOk result (λ r. OnErr r (self.new ≡ self.old)) }
         ensures err { OnErr result (self.new ≡ self.old) }
         ensures same { IsSameHeight self.old self.new }

@@ -3,3 +3,4 @@ pub mod LockFrames
 pub mod Faults
 pub mod Tables
 pub mod Laws
+pub mod Checks

@@ -1,10 +1,10 @@
 //! The frame of a lock, and its check: the owner's signature, and the proof, a certificate of N-t signed reports.
-ghost use Rattle.std.specs.Prelude.{◌≡◌, IfOk, IsOk};
-ghost use Rattle.ledger_model.specs.Validity.{ValidLock};
+ghost use Rattle.std.specs.Prelude.{◌≡◌, IfOk};
 ghost use Rattle.ledger_model.specs.Rules.{first_of};
 ghost use Rattle.lock_proofs.specs.LockTables.{as_statement};
 ghost use Rattle.lock_proofs.specs.LockFrames.{IsLockFrame, lock_in};
-ghost use Rattle.lock_proofs.specs.Faults.{faults, IsBacked, SignaturesVerify, without_lock};
+ghost use Rattle.lock_proofs.specs.Faults.{faults};
+ghost use Rattle.lock_proofs.specs.Checks.{ReturnsFirstFault, ReturnsValid, TakesValid};
 
 use crate::LockFault;
 use crate::checks::{is_of_owner, is_quorate, is_supporting};
@@ -120,15 +120,14 @@ fn examine<C: CheckSignatures>(
 pub fn check_lock(config: &Config, ring: &KeyRing, frame: Frame) -> Result<LockFrame, LockFault>
     requires { IsLockFrame frame }
     // Returns the first fault that applies and, if none does, the lock of the frame.
-    ensures fault { without_lock result ≡ first_of (faults config.now ring.now (lock_in frame)) }
+    ensures fault { ReturnsFirstFault ring.now config.now frame result }
     ensures lock { IfOk result (λ lock. as_statement lock ≡ frame) }
 
     // A lock that is returned is valid.
-    ensures valid { IfOk result (λ lock. ValidLock (IsBacked ring.now) config.now lock.lock) }
+    ensures valid { ReturnsValid ring.now config.now result }
 
     // A valid lock whose own signatures verify is returned.
-    ensures only { SignaturesVerify ring.now (lock_in frame) → ValidLock (IsBacked ring.now) config.now (lock_in frame).lock
-        → IsOk result }
+    ensures only { TakesValid ring.now config.now frame result }
 {
     let mut checks = ring;
     check_lock_with(config, &mut checks, frame)
@@ -142,15 +141,14 @@ pub fn check_lock_with<C: CheckSignatures>(
 ) -> Result<LockFrame, LockFault>
     requires { IsLockFrame frame }
     // Returns the first fault that applies and, if none does, the lock of the frame.
-    ensures fault { without_lock result ≡ first_of (faults config.now (C.ring checks.old) (lock_in frame)) }
+    ensures fault { ReturnsFirstFault (C.ring checks.old) config.now frame result }
     ensures lock { IfOk result (λ lock. as_statement lock ≡ frame) }
 
     // A lock that is returned is valid.
-    ensures valid { IfOk result (λ lock. ValidLock (IsBacked (C.ring checks.old)) config.now lock.lock) }
+    ensures valid { ReturnsValid (C.ring checks.old) config.now result }
 
     // A valid lock whose own signatures verify is returned.
-    ensures only { SignaturesVerify (C.ring checks.old) (lock_in frame) → ValidLock (IsBacked (C.ring checks.old)) config.now (lock_in frame).lock
-        → IsOk result }
+    ensures only { TakesValid (C.ring checks.old) config.now frame result }
     // The keys are the same.
     ensures same { C.ring checks.new ≡ C.ring checks.old }
 {

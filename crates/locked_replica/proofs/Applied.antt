@@ -17,7 +17,7 @@ use Rattle.ledger_model.specs.declared.reply.Reply.{Reply}
 use Rattle.ledger_model.specs.Lawful.{Lawful, Replay, clock_at, is_signed_reply}
 use Rattle.ledger_model.proofs.Steps.{replays_snoc}
 use Rattle.key_ring.specs.Signers.{SignerView, leaves_of}
-use Rattle.replica_core.specs.ReplicaStates.{ReplicaStateView, MatchesHistory}
+use Rattle.replica_core.specs.Replays.{ReplayView, MatchesHistory}
 use Rattle.replica_core.specs.Leaves.{signed_count, signed_by, due_by, LeafAccount}
 use Rattle.replica_core.specs.Cores.{CoreView as Core, IsSameReplica, due_then, is_mute_next, is_mute_then, leaves_due}
 use Rattle.replica_core.specs.Steps.{IsStep, UsesLeaves}
@@ -32,7 +32,7 @@ use Rattle.locked_replica.specs.States.{StateView, IsReplica, RunsAlone, replica
 use Rattle.locked_replica.proofs.StoredEntries.{entries_more, stored_more}
 
 -- the history with the entry is a replay
-pub replay_on : (old new : ReplicaStateView) (before after : List Entry) (e : Entry) → Replay old.config old.ring old.id before
+pub replay_on : (old new : ReplayView) (before after : List Entry) (e : Entry) → Replay old.config old.ring old.id before
     → MatchesHistory old before → IsStep old e.event e.reply new
     → after ≡ before ++ e ∷ [] → Replay old.config old.ring old.id after
 unfolding Replay
@@ -41,7 +41,7 @@ replay_on old new before after e replay was step is =
     subst (Replay old.config old.ring old.id) (sym is) (replays_snoc old.config old.ring old.id [] before e replay (facts.0) (facts.1))
 
 -- and what is kept then matches it
-pub matches_on : (old new : ReplicaStateView) (before after : List Entry) (e : Entry) → MatchesHistory old before
+pub matches_on : (old new : ReplayView) (before after : List Entry) (e : Entry) → MatchesHistory old before
     → IsStep old e.event e.reply new → after ≡ before ++ e ∷ [] → MatchesHistory new after
 matches_on old new before after e was step is = subst (MatchesHistory new) (sym is) ((step before was).2)
 
@@ -52,7 +52,7 @@ few_on before after e few is =
     subst (λ (es : List Entry). length es ≤ max_history_len) (sym is) (omega (arith, few, length-append before (e ∷ [])))
 
 -- a replay of the same replica
-pub replay_still : (old new : ReplicaStateView) (entries : List Entry) → new.config ≡ old.config → new.ring ≡ old.ring → new.id ≡ old.id
+pub replay_still : (old new : ReplayView) (entries : List Entry) → new.config ≡ old.config → new.ring ≡ old.ring → new.id ≡ old.id
     → Replay old.config old.ring old.id entries → Replay new.config new.ring new.id entries
 replay_still old new entries config ring id replay = rw (config, ring, id) replay
 
@@ -60,24 +60,24 @@ replay_still old new entries config ring id replay = rw (config, ring, id) repla
 
 -- by what is kept and by the history as many statements are due
 abbrev pub IsDueBy : Core → List Entry → Type 0
-IsDueBy core entries = due_then core ≡ due_by core.held.config core.held.id entries
+IsDueBy core entries = due_then core ≡ due_by core.replay.config core.replay.id entries
 
 mute_or : (now was lacks : Bool) → cond now (was || lacks) was ≡ (was || now && lacks)
 mute_or true was lacks = refl
 mute_or false was lacks = sym (or-false was)
 
 -- muteness by what is kept is that by the history
-mute_by : (core : Core) (entries : List Entry) (e : Event) → MatchesHistory core.held entries → IsDueBy core entries
-    → is_mute_then core e ≡ is_mute_after (replica_of core.held core.keys entries) e
+mute_by : (core : Core) (entries : List Entry) (e : Event) → MatchesHistory core.replay entries → IsDueBy core entries
+    → is_mute_then core e ≡ is_mute_after (replica_of core.replay core.keys entries) e
 mute_by core entries event.RoundEnd matches due =
-    ap (λ n. cond (nat_lt core.held.clock last_round) (core.held.mute || nat_lt (leaves_of core.keys.secret) (core.keys.used + n))
-    core.held.mute) due
-    ∙ mute_or (nat_lt core.held.clock last_round) core.held.mute
-    (nat_lt (leaves_of core.keys.secret) (core.keys.used + due_by core.held.config core.held.id entries))
-    ∙ ap (λ b. b || nat_lt core.held.clock last_round
-    && nat_lt (leaves_of core.keys.secret) (core.keys.used + due_by core.held.config core.held.id entries)) (sym matches.mute)
+    ap (λ n. cond (nat_lt core.replay.clock last_round) (core.replay.mute || nat_lt (leaves_of core.keys.secret) (core.keys.used + n))
+    core.replay.mute) due
+    ∙ mute_or (nat_lt core.replay.clock last_round) core.replay.mute
+    (nat_lt (leaves_of core.keys.secret) (core.keys.used + due_by core.replay.config core.replay.id entries))
+    ∙ ap (λ b. b || nat_lt core.replay.clock last_round
+    && nat_lt (leaves_of core.keys.secret) (core.keys.used + due_by core.replay.config core.replay.id entries)) (sym matches.mute)
     ∙ ap (λ n. is_mute entries || nat_lt n last_round
-    && nat_lt (leaves_of core.keys.secret) (core.keys.used + due_by core.held.config core.held.id entries)) (sym matches.clock)
+    && nat_lt (leaves_of core.keys.secret) (core.keys.used + due_by core.replay.config core.replay.id entries)) (sym matches.clock)
 mute_by core entries (event.Submit bytes) matches due = sym matches.mute ∙ sym (or-false (is_mute entries))
 mute_by core entries (event.Propose h) matches due = sym matches.mute ∙ sym (or-false (is_mute entries))
 mute_by core entries (event.Deliver bytes) matches due = sym matches.mute ∙ sym (or-false (is_mute entries))
@@ -99,48 +99,48 @@ lacks_few r (event.Retire floor) lacks = cc
 
 -- what a step does
 pub record IsTaken (old new : Core) (before after : List Entry) (e : Entry) : Type 0 where
-  pub matches : MatchesHistory old.held before
+  pub matches : MatchesHistory old.replay before
   pub due : IsDueBy old before
-  pub step : IsStep old.held e.event e.reply new.held
-  pub leaves : UsesLeaves old.keys old.held.clock e.reply new.keys
-  pub mute : new.held.mute ≡ is_mute_then old e.event
+  pub step : IsStep old.replay e.event e.reply new.replay
+  pub leaves : UsesLeaves old.keys old.replay.clock e.reply new.keys
+  pub mute : new.replay.mute ≡ is_mute_then old e.event
   pub same : IsSameReplica old new
   pub grown : after ≡ before ++ e ∷ []
 
-pub taken_by : (old new : Core) (before after : List Entry) (e : Entry) → MatchesHistory old.held before
-    → ((entries : List Entry) → MatchesHistory old.held entries → IsDueBy old entries)
-    → IsStep old.held e.event e.reply new.held → UsesLeaves old.keys old.held.clock e.reply new.keys
-    → new.held.mute ≡ is_mute_then old e.event → IsSameReplica old new
+pub taken_by : (old new : Core) (before after : List Entry) (e : Entry) → MatchesHistory old.replay before
+    → ((entries : List Entry) → MatchesHistory old.replay entries → IsDueBy old entries)
+    → IsStep old.replay e.event e.reply new.replay → UsesLeaves old.keys old.replay.clock e.reply new.keys
+    → new.replay.mute ≡ is_mute_then old e.event → IsSameReplica old new
     → after ≡ before ++ e ∷ [] → IsTaken old new before after e
 taken_by old new before after e matches due step leaves mute same grown =
     record { matches = matches; due = due before matches; step = step; leaves = leaves; mute = mute; same = same; grown = grown }
 
 module _ (old new : Core) (before after : List Entry) (e : Entry) (taken : IsTaken old new before after e) where
   -- it is mute where it was, or where too few leaves were left
-  pub mute_on : is_mute after ≡ is_mute_after (replica_of old.held old.keys before) e.event
-  mute_on = (matches_on old.held new.held before after e taken.matches taken.step taken.grown).mute ∙ taken.mute
+  pub mute_on : is_mute after ≡ is_mute_after (replica_of old.replay old.keys before) e.event
+  mute_on = (matches_on old.replay new.replay before after e taken.matches taken.step taken.grown).mute ∙ taken.mute
       ∙ mute_by old before e.event taken.matches taken.due
 
   -- each statement that is sent uses a leaf
   used_on : new.keys.used ≡ old.keys.used + signed_count (clock_at before + 1) e.reply
-  used_on = uses_signed old.keys new.keys old.held.clock e.reply taken.leaves
+  used_on = uses_signed old.keys new.keys old.replay.clock e.reply taken.leaves
       ∙ ap (λ n. old.keys.used + signed_count (n + 1) e.reply) (sym taken.matches.clock)
 
-  pub signed_on : UsesAsSigned (replica_of old.held old.keys before) (replica_of new.held new.keys after)
+  pub signed_on : UsesAsSigned (replica_of old.replay old.keys before) (replica_of new.replay new.keys after)
   signed_on =
       let used = used_on in
       let signed = ap signed_by taken.grown ∙ signed_more before e in
       omega (arith, used, signed)
 
   -- and the leaves are accounted for
-  pub account_on : LeafAccount old.held.config old.held.id (leaves_of old.keys.secret) old.keys.used before
-      → LeafAccount new.held.config new.held.id (leaves_of new.keys.secret) new.keys.used after
+  pub account_on : LeafAccount old.replay.config old.replay.id (leaves_of old.keys.secret) old.keys.used before
+      → LeafAccount new.replay.config new.replay.id (leaves_of new.keys.secret) new.keys.used after
   account_on was =
       rw (taken.same.config, taken.same.id, taken.same.secret)
-      (subst (LeafAccount old.held.config old.held.id (leaves_of old.keys.secret) new.keys.used) (sym taken.grown)
-      (account_more old.held.config old.held.id (leaves_of old.keys.secret) (lacks_leaves (replica_of old.held old.keys before) e.event)
+      (subst (LeafAccount old.replay.config old.replay.id (leaves_of old.keys.secret) new.keys.used) (sym taken.grown)
+      (account_more old.replay.config old.replay.id (leaves_of old.keys.secret) (lacks_leaves (replica_of old.replay old.keys before) e.event)
       old.keys.used new.keys.used before e was
-      used_on (sym (ap is_mute taken.grown) ∙ mute_on) (lacks_few (replica_of old.held old.keys before) e.event)))
+      used_on (sym (ap is_mute taken.grown) ∙ mute_on) (lacks_few (replica_of old.replay old.keys before) e.event)))
 
   -- and none signs twice
   pub once_on : SignsOnce old.keys.secret old.keys.used before → SignsOnce new.keys.secret new.keys.used after
@@ -150,16 +150,16 @@ module _ (old new : Core) (before after : List Entry) (e : Entry) (taken : IsTak
       was)
 
 -- after a fault all is as before, but leaves may be used
-pub left_replica : (old new : Core) (entries : List Entry) → IsReplica old.held old.keys entries → new.held ≡ old.held
+pub left_replica : (old new : Core) (entries : List Entry) → IsReplica old.replay old.keys entries → new.replay ≡ old.replay
     → IsSameReplica old new → old.keys.used ≤ new.keys.used
-    → IsReplica new.held new.keys entries
+    → IsReplica new.replay new.keys entries
 left_replica old new entries was held same least = record {
   few = was.few;
-  replay = subst (λ (h : ReplicaStateView). Replay h.config h.ring h.id entries) (sym held) was.replay;
-  matches = subst (λ (h : ReplicaStateView). MatchesHistory h entries) (sym held) was.matches;
+  replay = subst (λ (h : ReplayView). Replay h.config h.ring h.id entries) (sym held) was.replay;
+  matches = subst (λ (h : ReplayView). MatchesHistory h entries) (sym held) was.matches;
   account =
       rw (same.config, same.id, same.secret)
-      (account_still old.held.config old.held.id (leaves_of old.keys.secret) old.keys.used new.keys.used entries least was.account);
+      (account_still old.replay.config old.replay.id (leaves_of old.keys.secret) old.keys.used new.keys.used entries least was.account);
   once = rw same.secret (once_still old.keys.secret old.keys.used new.keys.used entries least was.once);
 }
 
@@ -167,7 +167,7 @@ left_replica old new entries was held same least = record {
 
 -- a replica with this table and these entries
 abbrev pub IsStoredReplica : Core → List (List ℕ) → List StoredEntry → Type 0
-IsStoredReplica core strings entries = IsReplica core.held core.keys (entries_of strings entries) × AreStored strings entries
+IsStoredReplica core strings entries = IsReplica core.replay core.keys (entries_of strings entries) × AreStored strings entries
 
 -- a core took an event, and the entry is stored as the last one
 pub record IsStoredStep (old new : Core) (before after : List (List ℕ)) (event : Event) (entries news : List StoredEntry)
@@ -178,14 +178,14 @@ pub record IsStoredStep (old new : Core) (before after : List (List ℕ)) (event
   pub told : IsTakenAs old new before after event stored
   pub left : LeavesCore old new event
   pub kept : Extends before after
-  pub due : (es : List Entry) → MatchesHistory old.held es → IsDueBy old es
+  pub due : (es : List Entry) → MatchesHistory old.replay es → IsDueBy old es
   pub grown : news ≡ entries ++ stored ∷ []
 
 pub applied_by : {old new : Core} {before after : List (List ℕ)} {event : Event} {entries reserved news : List StoredEntry}
     {stored : StoredEntry}
     → IsTakenAs old new before after event stored → LeavesCore old new event → Extends before after
-    → IsReplica old.held old.keys (entries_of before entries) × AreStored before entries → length entries < max_history_len
-    → ((es : List Entry) → MatchesHistory old.held es → IsDueBy old es) → reserved ≡ entries → news ≡ reserved ++ stored ∷ []
+    → IsReplica old.replay old.keys (entries_of before entries) × AreStored before entries → length entries < max_history_len
+    → ((es : List Entry) → MatchesHistory old.replay es → IsDueBy old es) → reserved ≡ entries → news ≡ reserved ++ stored ∷ []
     → IsStoredStep old new before after event entries news stored
 applied_by {old} {new} {before} {after} {event} {entries} {reserved} {news} {stored} told left kept was few due same grown = record {
   was = was;
@@ -203,22 +203,22 @@ module _ {old new : Core} {before after : List (List ℕ)} {event : Event} {entr
   pub longer : entries_of after news ≡ entries_of before entries ++ entry_of after stored ∷ []
   longer = ap (entries_of after) facts.grown ∙ entries_more before after facts.kept entries stored facts.was.1.within
 
-  step_on : IsStep old.held (entry_of after stored).event (entry_of after stored).reply new.held
-  step_on = subst (λ (e : Event). IsStep old.held e (entry_of after stored).reply new.held) (sym facts.told.event_is) facts.told.step
+  step_on : IsStep old.replay (entry_of after stored).event (entry_of after stored).reply new.replay
+  step_on = subst (λ (e : Event). IsStep old.replay e (entry_of after stored).reply new.replay) (sym facts.told.event_is) facts.told.step
 
   taken_on : IsTaken old new (entries_of before entries) (entries_of after news) (entry_of after stored)
   taken_on = taken_by old new (entries_of before entries) (entries_of after news) (entry_of after stored) facts.was.0.matches facts.due
-      step_on facts.told.leaves (subst (λ (e : Event). new.held.mute ≡ is_mute_then old e) (sym facts.told.event_is) facts.told.mute)
+      step_on facts.told.leaves (subst (λ (e : Event). new.replay.mute ≡ is_mute_then old e) (sym facts.told.event_is) facts.told.mute)
       facts.left.same longer
 
   -- it is a replica again
-  pub still_replica : IsReplica new.held new.keys (entries_of after news)
+  pub still_replica : IsReplica new.replay new.keys (entries_of after news)
   still_replica = record {
     few = few_on (entries_of before entries) (entries_of after news) (entry_of after stored) facts.few longer;
-    replay = replay_still old.held new.held (entries_of after news) facts.left.same.config facts.left.same.ring facts.left.same.id
-        (replay_on old.held new.held (entries_of before entries) (entries_of after news) (entry_of after stored) facts.was.0.replay
+    replay = replay_still old.replay new.replay (entries_of after news) facts.left.same.config facts.left.same.ring facts.left.same.id
+        (replay_on old.replay new.replay (entries_of before entries) (entries_of after news) (entry_of after stored) facts.was.0.replay
         facts.was.0.matches step_on longer);
-    matches = matches_on old.held new.held (entries_of before entries) (entries_of after news) (entry_of after stored) facts.was.0.matches
+    matches = matches_on old.replay new.replay (entries_of before entries) (entries_of after news) (entry_of after stored) facts.was.0.matches
         step_on longer;
     account = account_on old new (entries_of before entries) (entries_of after news) (entry_of after stored) taken_on facts.was.0.account;
     once = once_on old new (entries_of before entries) (entries_of after news) (entry_of after stored) taken_on facts.was.0.once;
@@ -233,8 +233,8 @@ module _ {old new : Core} {before after : List (List ℕ)} {event : Event} {entr
   -- what was added
   pub added_on : (reply : Reply)
       × ((entries_of after news ≡ entries_of before entries ++ record { event = event; reply = reply } ∷ [])
-      × Lawful old.held.config old.held.ring old.held.id (entries_of before entries) event reply
-      × IsTrue (is_signed_reply old.held.ring reply)
+      × Lawful old.replay.config old.replay.ring old.replay.id (entries_of before entries) event reply
+      × IsTrue (is_signed_reply old.replay.ring reply)
       × UsesLeaves old.keys (clock_at (entries_of before entries)) reply new.keys)
   added_on =
       let r = (entry_of after stored).reply in
@@ -249,12 +249,12 @@ module _ {old new : Core} {before after : List (List ℕ)} {event : Event} {entr
       )
 
   -- whether it is mute
-  pub still_mute : is_mute (entries_of after news) ≡ is_mute_after (replica_of old.held old.keys (entries_of before entries)) event
+  pub still_mute : is_mute (entries_of after news) ≡ is_mute_after (replica_of old.replay old.keys (entries_of before entries)) event
   still_mute = mute_on old new (entries_of before entries) (entries_of after news) (entry_of after stored) taken_on
-      ∙ ap (is_mute_after (replica_of old.held old.keys (entries_of before entries))) facts.told.event_is
+      ∙ ap (is_mute_after (replica_of old.replay old.keys (entries_of before entries))) facts.told.event_is
 
-  pub still_signed : UsesAsSigned (replica_of old.held old.keys (entries_of before entries))
-      (replica_of new.held new.keys (entries_of after news))
+  pub still_signed : UsesAsSigned (replica_of old.replay old.keys (entries_of before entries))
+      (replica_of new.replay new.keys (entries_of after news))
   still_signed = signed_on old new (entries_of before entries) (entries_of after news) (entry_of after stored) taken_on
 
 -- where memory ran out, all is as before, but leaves may be used
@@ -263,24 +263,24 @@ pub left_stored : (old new : Core) (before after : List (List ℕ)) (event : Eve
     → IsStoredReplica new after news
 left_stored old new before after event entries news was err left strings same =
     let still : IsStoredReplica new before entries =
-    (left_replica old new (entries_of before entries) was.0 (ap (λ (r : Core). r.held) err) left.same left.least, was.1) in
+    (left_replica old new (entries_of before entries) was.0 (ap (λ (r : Core). r.replay) err) left.same left.least, was.1) in
     subst (IsStoredReplica new after) (sym same) (subst (λ t. IsStoredReplica new t entries) (sym strings) still)
 
 -- the application runs alone
-pub runs_alone : (held : ReplicaStateView) (keys : SignerView) (entries : List Entry) → IsReplica held keys entries
+pub runs_alone : (held : ReplayView) (keys : SignerView) (entries : List Entry) → IsReplica held keys entries
     → RunsAlone (replica_of held keys entries)
 unfolding RunsAlone
 runs_alone held keys entries is = is.matches.machine ∙ ap (run held.config.kind) (sym is.matches.commits)
 
 -- so a replica is sound
-pub sound : (held : ReplicaStateView) (keys : SignerView) (entries : List Entry) → IsReplica held keys entries
+pub sound : (held : ReplayView) (keys : SignerView) (entries : List Entry) → IsReplica held keys entries
     → IsSound (replica_of held keys entries)
 sound held keys entries is = record { replay = is.replay; machine = runs_alone held keys entries is; account = is.account; once = is.once }
 
 -- what the event did
 pub applies : {old new : Core} {before after : List (List ℕ)} {event : Event} {entries news : List StoredEntry} {stored : StoredEntry}
     → IsStoredStep old new before after event entries news stored
-    → AppliesEvent (replica_of old.held old.keys (entries_of before entries)) event (replica_of new.held new.keys (entries_of after news))
+    → AppliesEvent (replica_of old.replay old.keys (entries_of before entries)) event (replica_of new.replay new.keys (entries_of after news))
 applies facts = record {
   room = facts.few;
   reply = (added_on facts).0;
@@ -297,21 +297,21 @@ applies facts = record {
 -- ---- a refused event
 
 -- what is kept makes no more leaves due than the history does, and none where nothing is signed
-due_by_history : (core : Core) (entries : List Entry) (e : Event) → MatchesHistory core.held entries → IsDueBy core entries
-    → (leaves_due core e ≤ due_next (replica_of core.held core.keys entries))
-    × (signs_at (replica_of core.held core.keys entries) e ≡ false → leaves_due core e ≡ 0)
-due_by_history core entries event.RoundEnd matches due = by_round (nat_lt core.held.clock last_round) (is_mute_next core) refl refl
+due_by_history : (core : Core) (entries : List Entry) (e : Event) → MatchesHistory core.replay entries → IsDueBy core entries
+    → (leaves_due core e ≤ due_next (replica_of core.replay core.keys entries))
+    × (signs_at (replica_of core.replay core.keys entries) e ≡ false → leaves_due core e ≡ 0)
+due_by_history core entries event.RoundEnd matches due = by_round (nat_lt core.replay.clock last_round) (is_mute_next core) refl refl
   where
     r : StateView
-    r = replica_of core.held core.keys entries
+    r = replica_of core.replay core.keys entries
 
-    by_round : (early mute : Bool) → nat_lt core.held.clock last_round ≡ early → is_mute_next core ≡ mute
+    by_round : (early mute : Bool) → nat_lt core.replay.clock last_round ≡ early → is_mute_next core ≡ mute
         → (leaves_due core event.RoundEnd ≤ due_next r) × (signs_at r event.RoundEnd ≡ false → leaves_due core event.RoundEnd ≡ 0)
     by_round false mute is says = rw is (omega arith, λ quiet. refl)
     by_round true true is says = rw (is, says) (omega arith, λ quiet. refl)
     by_round true false is says =
         let same : is_mute_after r event.RoundEnd ≡ false = sym (mute_by core entries event.RoundEnd matches due) ∙ rw is says in
-        let clock : clock_at entries ≡ core.held.clock = matches.clock in
+        let clock : clock_at entries ≡ core.replay.clock = matches.clock in
         rw (is, says) (
           omega (arith, due),
           λ quiet.
@@ -328,15 +328,15 @@ due_by_history core entries (event.Retire floor) matches due = (omega arith, λ 
 -- where memory ran out the event is refused: all is as before, but leaves may be used
 pub refuses_event : (old new : Core) (before after : List (List ℕ)) (event : Event) (entries news : List StoredEntry)
     → IsStoredReplica old before entries → length (entries_of before entries) < max_history_len
-    → ((es : List Entry) → MatchesHistory old.held es → IsDueBy old es)
+    → ((es : List Entry) → MatchesHistory old.replay es → IsDueBy old es)
     → new ≡ record old { keys = new.keys } → LeavesCore old new event → after ≡ before → news ≡ entries
-    → RefusesEvent (replica_of old.held old.keys (entries_of before entries)) event fault.NoMemory
-    (replica_of new.held new.keys (entries_of after news))
+    → RefusesEvent (replica_of old.replay old.keys (entries_of before entries)) event fault.NoMemory
+    (replica_of new.replay new.keys (entries_of after news))
 refuses_event old new before after event entries news was few due err left strings same =
-    let r = replica_of old.held old.keys (entries_of before entries) in
-    let n = replica_of new.held new.keys (entries_of after news) in
+    let r = replica_of old.replay old.keys (entries_of before entries) in
+    let n = replica_of new.replay new.keys (entries_of after news) in
     let due_by = due_by_history old (entries_of before entries) event was.0.matches (due (entries_of before entries) was.0.matches) in
-    let held : new.held ≡ old.held = ap (λ (k : Core). k.held) err in
+    let held : new.replay ≡ old.replay = ap (λ (k : Core). k.replay) err in
     let es : entries_of after news ≡ entries_of before entries =
     ap (λ t. entries_of t news) strings ∙ ap (entries_of before) same in
     let most : new.keys.used ≤ old.keys.used + leaves_due old event = left.most in

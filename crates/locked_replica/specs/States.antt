@@ -13,7 +13,7 @@ use Rattle.ledger_model.specs.Logs.{is_mute}
 use Rattle.ledger_model.specs.Lawful.{Replay, clock_at}
 use Rattle.lms_tree.specs.Trees.{Secret}
 use Rattle.key_ring.specs.Signers.{SignerView, public_key_of, leaves_of}
-use Rattle.replica_core.specs.ReplicaStates.{ReplicaStateView, MatchesHistory}
+use Rattle.replica_core.specs.Replays.{ReplayView, MatchesHistory}
 use Rattle.replica_core.specs.Leaves.{due_by, signed_by, LeafAccount}
 use Rattle.replica_core.specs.LeafOrder.{SignsOnce}
 
@@ -49,7 +49,7 @@ new_state config id ring keys = record {
 }
 
 -- the replica that has this core state, these keys and this history
-abbrev pub replica_of : ReplicaStateView → SignerView → List Entry → StateView
+abbrev pub replica_of : ReplayView → SignerView → List Entry → StateView
 replica_of held keys entries = record {
   config = held.config;
   id = held.id;
@@ -62,7 +62,7 @@ replica_of held keys entries = record {
 
 -- The history has at most 65,536 entries, each lawful after those before it; the core state is what the history makes
 -- of it; each used leaf is accounted for; and no leaf signs two of its statements.
-pub record IsReplica (held : ReplicaStateView) (keys : SignerView) (entries : List Entry) : Type 0 where
+pub record IsReplica (held : ReplayView) (keys : SignerView) (entries : List Entry) : Type 0 where
   pub few : length entries ≤ max_history_len
   pub replay : Replay held.config held.ring held.id entries
   pub matches : MatchesHistory held entries

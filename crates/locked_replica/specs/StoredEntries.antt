@@ -74,9 +74,9 @@ pub record AreStored (strings : List (List ℕ)) (entries : List StoredEntry) : 
 -- leaves that are used now; the replica is mute as the core is then; and only the entry's strings are added.
 pub record IsTakenAs (old new : CoreView) (before after : List (List ℕ)) (event : Event) (entry : StoredEntry) : Type 0 where
   pub event_is : (entry_of after entry).event ≡ event
-  pub step : IsStep old.held event (entry_of after entry).reply new.held
-  pub leaves : UsesLeaves old.keys old.held.clock (entry_of after entry).reply new.keys
-  pub mute : new.held.mute ≡ is_mute_then old event
+  pub step : IsStep old.replay event (entry_of after entry).reply new.replay
+  pub leaves : UsesLeaves old.keys old.replay.clock (entry_of after entry).reply new.keys
+  pub mute : new.replay.mute ≡ is_mute_then old event
   pub within : IsWithin (length after) entry
   pub strings : after ≡ with_strings before (strings_at event (entry_of after entry).reply)
 

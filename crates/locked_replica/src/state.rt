@@ -51,9 +51,9 @@ impl<A: Application> Model for State<A> {
 
     ghost use Rattle.locked_replica.specs.StoredEntries.{AreStored, entries_of};
 
-    ghost view = { λ s. replica_of s.core.held s.core.keys (entries_of s.strings s.entries.items) };
+    ghost view = { λ s. replica_of s.core.replay s.core.keys (entries_of s.strings s.entries.items) };
 
-    ghost invariant = { λ s. IsReplica s.core.held s.core.keys (entries_of s.strings s.entries.items) × AreStored s.strings s.entries.items };
+    ghost invariant = { λ s. IsReplica s.core.replay s.core.keys (entries_of s.strings s.entries.items) × AreStored s.strings s.entries.items };
 }
 
 impl<A: Application> State<A> {

@@ -3,7 +3,7 @@ ghost use Rattle.std.specs.Prelude.{◌≡◌, ℕ, List, IfOk, OnErr};
 ghost use Rattle.ledger_model.specs.declared.event.Event.TheVariants as event;
 ghost use Rattle.ledger_model.specs.declared.reply.Reply.TheVariants.{Delivered};
 ghost use Rattle.ledger_model.specs.declared.history.Entry.{Entry as EntryValue};
-ghost use Rattle.replica_core.specs.ReplicaStates.{MatchesHistory};
+ghost use Rattle.replica_core.specs.Replays.{MatchesHistory};
 ghost use Rattle.locked_replica.specs.Strings.{Extends};
 ghost use Rattle.locked_replica.specs.StoredEntries.{IsTakenAs, LeavesCore, IsDelivered, BringsNone};
 
@@ -34,7 +34,7 @@ fn deliver<A: Application>(
     strings: &mut StringTable,
     bytes: Bytes,
 ) -> Result<StoredEntry, AllocError>
-    requires { (entries : List EntryValue) × MatchesHistory core.old.held entries }
+    requires { (entries : List EntryValue) × MatchesHistory core.old.replay entries }
     ensures taken { IfOk result (IsTakenAs core.old core.new strings.old strings.new (event.Deliver bytes)) }
     ensures err { OnErr result (core.new ≡ record core.old { keys = core.new.keys }) }
     ensures left { LeavesCore core.old core.new (event.Deliver bytes) }
@@ -74,7 +74,7 @@ fn take_other<A: Application>(
     event: Event,
 ) -> Result<StoredEntry, AllocError>
     requires none { BringsNone event }
-    requires matches { (entries : List EntryValue) × MatchesHistory core.old.held entries }
+    requires matches { (entries : List EntryValue) × MatchesHistory core.old.replay entries }
     ensures taken { IfOk result (λ stored. (strings : List (List ℕ)) → IsTakenAs core.old core.new strings strings event stored) }
     ensures err { OnErr result (core.new ≡ record core.old { keys = core.new.keys }) }
     ensures left { LeavesCore core.old core.new event }
@@ -93,7 +93,7 @@ fn take<A: Application>(
     strings: &mut StringTable,
     event: Event,
 ) -> Result<StoredEntry, AllocError>
-    requires { (entries : List EntryValue) × MatchesHistory core.old.held entries }
+    requires { (entries : List EntryValue) × MatchesHistory core.old.replay entries }
     ensures taken { IfOk result (IsTakenAs core.old core.new strings.old strings.new event) }
     ensures err { OnErr result (core.new ≡ record core.old { keys = core.new.keys }) }
     ensures left { LeavesCore core.old core.new event }
@@ -114,7 +114,7 @@ pub(crate) fn take_event<A: Application>(
     strings: &mut StringTable,
     event: Event,
 ) -> Result<StoredEntry, AllocError>
-    requires { (entries : List EntryValue) × MatchesHistory core.old.held entries }
+    requires { (entries : List EntryValue) × MatchesHistory core.old.replay entries }
     ensures taken { IfOk result (IsTakenAs core.old core.new strings.old strings.new event) }
     ensures err { OnErr result (core.new ≡ record core.old { keys = core.new.keys }) }
     ensures strings_err { OnErr result (strings.new ≡ strings.old) }

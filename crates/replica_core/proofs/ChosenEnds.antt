@@ -19,7 +19,7 @@ use Rattle.instance.specs.Plans.{MaySend, chosen_statement}
 use Rattle.instance.specs.Laws.{IsFrameMade}
 use Rattle.instance.proofs.MaySend.{own_if_sent}
 use Rattle.instance.proofs.AtClock.{chooses_at}
-use Rattle.replica_core.specs.ReplicaStates.{ReplicaStateView, IsWithinLimits, MatchesHistory}
+use Rattle.replica_core.specs.Replays.{ReplayView, IsWithinLimits, MatchesHistory}
 use Rattle.replica_core.specs.RoundEnds.{AreMade, after_end, SignsFrom}
 use Rattle.replica_core.specs.Steps.{IsStep}
 use Rattle.replica_core.specs.ChosenEnds.{all_mute, IsVerifiedMade, IsFrameUnder, end_reply, MuteEnds, SignedEnds}
@@ -29,7 +29,7 @@ use Rattle.replica_core.proofs.UsedLeaves.{mute_leaves, signed_leaves}
 use Rattle.ledger_model.proofs.Lists.{each_weaker}
 
 -- an end at which this may be made after each history that is matched is a step
-end_step : (held : ReplicaStateView) (mute : Bool) (ms : List RoundStatement) → IsWithinLimits held → held.clock < last_round
+end_step : (held : ReplayView) (mute : Bool) (ms : List RoundStatement) → IsWithinLimits held → held.clock < last_round
     → (held.mute ≡ true → mute ≡ true)
     → ((entries : List Entry) → MatchesHistory held entries → AreMade held.ring mute (held.clock + 1) held.rows ms)
     → IsStep held event.RoundEnd (end_reply held mute ms) (after_end held mute ms)
@@ -91,7 +91,7 @@ module _ (ring : Ring) (id : ℕ) (key : List ℕ) (in_ring : slice_get ring id 
       )
 
 -- what is chosen at each open height may be sent, after each history that is matched
-choices : (held : ReplicaStateView) (entries : List Entry) → IsWithinLimits held → MatchesHistory held entries
+choices : (held : ReplayView) (entries : List Entry) → IsWithinLimits held → MatchesHistory held entries
     → AllByRecursion (λ row. (row.id ≡ held.id) × MaySend row (held.clock + 1) (chosen_statement row (held.clock + 1))) held.rows
 choices held entries is_held matches =
     each_found (λ row. (row.id ≡ held.id) × MaySend row (held.clock + 1) (chosen_statement row (held.clock + 1))) held.rows is_held.ascend

@@ -18,13 +18,13 @@ use Rattle.instance.specs.Instances.{InstanceView}
 use Rattle.instance.specs.Matching.{MatchesLog, only_rounds}
 use Rattle.height_row.specs.Heights.{HeightRowView, row_at, AreApart}
 use Rattle.std.specs.declared.alloc.AllocError.{AllocError}
-use Rattle.replica_core.specs.ReplicaStates.{ReplicaStateView, MatchesHistory}
+use Rattle.replica_core.specs.Replays.{ReplayView, MatchesHistory}
 use Rattle.replica_core.specs.Steps.{IsStep}
 use Rattle.replica_core.proofs.Quiet.{log_then, log_stays, quiet, unheard}
 use Rattle.replica_core.proofs.Unopened.{closed_there}
 
 -- what a frame that is judged changes: the height that it is of alone, and only where it is read
-pub record Judged (held : ReplicaStateView) (s : SignedStatement) (row : InstanceView) (new : List InstanceView)
+pub record Judged (held : ReplayView) (s : SignedStatement) (row : InstanceView) (new : List InstanceView)
     (shown : Result (Unit {0}) Ignored) : Type 0 where
   pub answers : (log : List Note) → MatchesLog held.ring row log → clock_of log ≡ held.clock → shown ≡ answer_to held.config held.ring log s
   pub reads : (next : InstanceView) → row_at new (height_of s.statement) ≡ Some next → (log : List Note) → MatchesLog held.ring row log
@@ -34,7 +34,7 @@ pub record Judged (held : ReplicaStateView) (s : SignedStatement) (row : Instanc
   pub stays_open : is_some (row_at new (height_of s.statement)) ≡ true
   pub apart : AreApart (height_of s.statement) held.rows new
 
-module _ (held : ReplicaStateView) (bytes : List ℕ) where
+module _ (held : ReplayView) (bytes : List ℕ) where
   -- what is ignored changes nothing
   ignored : (f : Ignored) (entries : List Entry) → MatchesHistory held entries
       → MatchesHistory held (entries ++ record { event = event.Deliver bytes; reply = reply.Delivered (Err f) } ∷ [])
@@ -166,7 +166,7 @@ module _ (held : ReplicaStateView) (bytes : List ℕ) where
     )
 
 -- a frame of an open height, by what the open heights answered and are then
-pub judged_there : (held : ReplicaStateView) (s : SignedStatement) (old new : HeightRowView)
+pub judged_there : (held : ReplayView) (s : SignedStatement) (old new : HeightRowView)
     (result : Result (Result (Unit {0}) Ignored) AllocError)
     → old.rows ≡ held.rows
     → is_some (row_at held.rows (height_of s.statement)) ≡ true

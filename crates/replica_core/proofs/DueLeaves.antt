@@ -30,7 +30,7 @@ use Rattle.instance.specs.Plans.{chosen_statement, chosen_lock, sent_ack}
 use Rattle.ledger_model.proofs.AtPlace.{at_place, at_reports, at_lock, at_acks, at_release}
 use Rattle.instance.proofs.KeptPlaces.{are_read_in}
 use Rattle.height_row.specs.Heights.{row_at, AreAscending}
-use Rattle.replica_core.specs.ReplicaStates.{ReplicaStateView, IsWithinLimits, MatchesHistory}
+use Rattle.replica_core.specs.Replays.{ReplayView, IsWithinLimits, MatchesHistory}
 use Rattle.replica_core.specs.RoundEnds.{due}
 use Rattle.replica_core.specs.Leaves.{is_some_supported, is_due, due_within, due_by}
 use Rattle.replica_core.proofs.AscendingRows.{each_found}
@@ -179,7 +179,7 @@ count_open round test (suc n) a (row ∷ rows) ascend within fits = elim (cases_
     other h a apart e = let is = eq-eqb h a e in cc
 
 -- each open height is one of those that can be opened
-rows_within : (held : ReplicaStateView) (entries : List Entry) → IsWithinLimits held → MatchesHistory held entries
+rows_within : (held : ReplayView) (entries : List Entry) → IsWithinLimits held → MatchesHistory held entries
     → AreWithin 1 max_height held.rows
 rows_within held entries is_held matches =
     each_found (λ row. (1 ≤ row.height) × (row.height < 1 + max_height)) held.rows is_held.ascend (λ h row is.
@@ -190,7 +190,7 @@ rows_within held entries is_held matches =
     (heights.0, omega (arith, low, of_height)))
 
 -- what is due by the history at a height is what is chosen there
-due_at : (held : ReplicaStateView) (entries : List Entry) → IsWithinLimits held → MatchesHistory held entries
+due_at : (held : ReplayView) (entries : List Entry) → IsWithinLimits held → MatchesHistory held entries
     → (h : ℕ) (o : Option InstanceView) → row_at held.rows h ≡ o
     → is_due held.config held.id (log_of held.config held.id h entries) (held.clock + 1) ≡ is_chosen (held.clock + 1) o
 due_at held entries is_held matches h None is =
@@ -203,7 +203,7 @@ due_at held entries is_held matches h (Some row) is =
     ∙ sym (choice_at held.ring row log held.clock (matches.opened h row is) (matches.clocks h))
 
 -- as many statements are due by what is kept as by the history
-pub due_is : (held : ReplicaStateView) (entries : List Entry) → IsWithinLimits held → MatchesHistory held entries
+pub due_is : (held : ReplayView) (entries : List Entry) → IsWithinLimits held → MatchesHistory held entries
     → due (held.clock + 1) held.rows ≡ due_by held.config held.id entries
 unfolding due_within
 due_is held entries is_held matches =

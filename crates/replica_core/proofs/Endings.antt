@@ -23,7 +23,7 @@ use Rattle.instance.specs.Plans.{chosen_statement, opened_effects, IsOwnMade, Is
 use Rattle.instance.proofs.SpelledPlans.{chosen_own_statement}
 use Rattle.height_row.specs.declared.round_closing.RoundClosing.{RoundClosing}
 use Rattle.height_row.specs.Heights.{height_plan}
-use Rattle.replica_core.specs.ReplicaStates.{ReplicaStateView, IsWithinLimits}
+use Rattle.replica_core.specs.Replays.{ReplayView, IsWithinLimits}
 use Rattle.replica_core.specs.RoundEnds.{after_end, due, SignsFrom}
 use Rattle.replica_core.specs.Steps.{IsStep, UsesLeaves}
 use Rattle.replica_core.specs.ChosenEnds.{all_mute, end_reply, IsVerifiedMade}
@@ -99,7 +99,7 @@ signs_own config secret leaf c id (row ∷ rows) (made.Sent f ∷ ms) ids signs 
     (chosen_own config row c id f.statement ids.0 signs.0, signs_own config secret (leaf + 1) c id rows ms ids.1 signs.2)
 
 -- each open height is the replica's
-pub each_own : (held : ReplicaStateView) → IsWithinLimits held
+pub each_own : (held : ReplayView) → IsWithinLimits held
     → AllByRecursion (λ row. (row.config ≡ held.config) × (row.id ≡ held.id)) held.rows
 each_own held is_held = each_found (λ row. (row.config ≡ held.config) × (row.id ≡ held.id)) held.rows is_held.ascend
     (λ h row at. let own = is_held.own h row at in (own.config, own.id))
@@ -107,18 +107,18 @@ each_own held is_held = each_found (λ row. (row.config ≡ held.config) × (row
 -- ---- what is prepared
 
 -- it is ready if another round follows, and the heights end so
-pub ready_of : (held : ReplicaStateView) (mute : Bool) (closings : List RoundClosing) → held.clock < last_round
+pub ready_of : (held : ReplayView) (mute : Bool) (closings : List RoundClosing) → held.clock < last_round
     → map (λ x. x.ending) closings ≡ map (λ row. opened_effects row (held.clock + 1)) held.rows
     → AllByRecursion (λ x. IsOwnMade held.config held.id x.made) closings → IsPreparedFor held (prepared_of held mute closings)
 ready_of held mute closings early endings own = record { clock = early; endings = endings; own = own; reply = refl }
 
 -- the prepared end is a step, and its leaves are used
-pub end_prepared : (held : ReplicaStateView) (keys new : SignerView) (mute : Bool) (closings : List RoundClosing)
+pub end_prepared : (held : ReplayView) (keys new : SignerView) (mute : Bool) (closings : List RoundClosing)
     (result : Result PreparedView AllocError) → IfOk result (λ p. p ≡ prepared_of held mute closings)
     → IfOk result (IsPreparedFor held)
     → IsStep held event.RoundEnd (end_reply held mute (made_by_closings closings)) (after_end held mute (made_by_closings closings))
     → UsesLeaves keys held.clock (end_reply held mute (made_by_closings closings)) new
-    → IfOk result (λ p. IsEndPrepared (record { held = held; keys = keys }) p new)
+    → IfOk result (λ p. IsEndPrepared (record { replay = held; keys = keys }) p new)
 end_prepared held keys new mute closings (Ok p) is ready step leaves = record {
   ready = ready;
   step = subst (λ (x : PreparedView). IsStep held event.RoundEnd (reply.RoundEnded (Ok x.ended)) (after_prepared held x)) (sym is) step;
@@ -135,7 +135,7 @@ short_of left due leaves used all =
     ]
 
 -- no round is left
-pub over : (held : ReplicaStateView) → held.clock ≡ last_round → IsStep held event.RoundEnd (reply.RoundEnded (Err (record {}))) held
+pub over : (held : ReplayView) → held.clock ≡ last_round → IsStep held event.RoundEnd (reply.RoundEnded (Err (record {}))) held
 unfolding notes_of
 over held last entries matches = (
   matches.clock ∙ last,
@@ -145,18 +145,18 @@ over held last entries matches = (
 )
 
 -- what is planned, by what is kept
-pub planned_by : (old : CoreView) (held : ReplicaStateView) (keys : SignerView) (plans : List RoundPlan)
-    → record { held = held; keys = keys } ≡ old
-    → plans ≡ map (height_plan (old.held.clock + 1)) old.held.rows → plans ≡ map (height_plan (held.clock + 1)) held.rows
-planned_by old held keys plans is planned = subst (λ (x : CoreView). plans ≡ map (height_plan (x.held.clock + 1)) x.held.rows) (sym is) planned
+pub planned_by : (old : CoreView) (held : ReplayView) (keys : SignerView) (plans : List RoundPlan)
+    → record { replay = held; keys = keys } ≡ old
+    → plans ≡ map (height_plan (old.replay.clock + 1)) old.replay.rows → plans ≡ map (height_plan (held.clock + 1)) held.rows
+planned_by old held keys plans is planned = subst (λ (x : CoreView). plans ≡ map (height_plan (x.replay.clock + 1)) x.replay.rows) (sym is) planned
 
 -- what each height is done with, where all is planned so, and signed
-module _ (old : CoreView) (held : ReplicaStateView) (keys : SignerView) (plans : List RoundPlan) (closings : List RoundClosing)
-    (is : record { held = held; keys = keys } ≡ old) (is_held : IsWithinLimits old.held)
-    (planned : plans ≡ map (height_plan (old.held.clock + 1)) old.held.rows)
+module _ (old : CoreView) (held : ReplayView) (keys : SignerView) (plans : List RoundPlan) (closings : List RoundClosing)
+    (is : record { replay = held; keys = keys } ≡ old) (is_held : IsWithinLimits old.replay)
+    (planned : plans ≡ map (height_plan (old.replay.clock + 1)) old.replay.rows)
     (signs : SignsPlans keys.secret keys.used plans (map (λ (x : RoundClosing). x.made) closings)) where
   kept : IsWithinLimits held
-  kept = subst (λ (x : CoreView). IsWithinLimits x.held) (sym is) is_held
+  kept = subst (λ (x : CoreView). IsWithinLimits x.replay) (sym is) is_held
 
   from : SignsFrom keys.secret keys.used (held.clock + 1) held.rows (map (λ (x : RoundClosing). x.made) closings)
   from = signs_from keys.secret keys.used (held.clock + 1) held.rows (map (λ (x : RoundClosing). x.made) closings)
@@ -170,7 +170,7 @@ module _ (old : CoreView) (held : ReplicaStateView) (keys : SignerView) (plans :
       (each_own held kept) from)
 
   -- the end is a step, and uses a leaf for each
-  pub signed_step : old.held.clock < last_round → old.held.mute ≡ false → slice_get held.ring held.id ≡ Some (public_key_of keys.secret)
+  pub signed_step : old.replay.clock < last_round → old.replay.mute ≡ false → slice_get held.ring held.id ≡ Some (public_key_of keys.secret)
       → AllByRecursion (λ (x : RoundClosing). IsFrameMade x.made) closings
       → AllByRecursion (λ (x : RoundClosing). IsVerifiedMade (public_key_of keys.secret) x.made) closings
       → IsStep held event.RoundEnd (end_reply held false (map (λ (x : RoundClosing). x.made) closings))
@@ -179,14 +179,14 @@ module _ (old : CoreView) (held : ReplicaStateView) (keys : SignerView) (plans :
       (record keys { used = keys.used + due (held.clock + 1) held.rows })
   signed_step early loud own_key frames verified =
       signed_ends held keys (map (λ (x : RoundClosing). x.made) closings) kept
-      (subst (λ (x : CoreView). x.held.clock < last_round) (sym is) early)
-      (subst (λ (x : CoreView). x.held.mute ≡ false) (sym is) loud) own_key from
+      (subst (λ (x : CoreView). x.replay.clock < last_round) (sym is) early)
+      (subst (λ (x : CoreView). x.replay.mute ≡ false) (sym is) loud) own_key from
       (all_both IsFrameMade (IsVerifiedMade (public_key_of keys.secret)) (map (λ (x : RoundClosing). x.made) closings)
       (all_images IsFrameMade (λ (x : RoundClosing). x.made) closings frames)
       (all_images (IsVerifiedMade (public_key_of keys.secret)) (λ (x : RoundClosing). x.made) closings verified))
 
 -- the end of a mute replica is a step, and uses no leaf
-pub mute_step : (held : ReplicaStateView) (keys : SignerView) (closings : List RoundClosing) → IsWithinLimits held → held.clock < last_round
+pub mute_step : (held : ReplayView) (keys : SignerView) (closings : List RoundClosing) → IsWithinLimits held → held.clock < last_round
     → map (λ (x : RoundClosing). x.ending) closings ≡ map (λ row. opened_effects row (held.clock + 1)) held.rows
     → AllByRecursion (λ (x : RoundClosing). x.made ≡ made.Mute) closings
     → IsStep held event.RoundEnd (end_reply held true (map (λ (x : RoundClosing). x.made) closings))

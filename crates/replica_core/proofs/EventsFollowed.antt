@@ -21,7 +21,7 @@ use Rattle.ledger_model.specs.Lawful.{answer}
 use Rattle.instance.specs.Instances.{InstanceView}
 use Rattle.instance.specs.Matching.{MatchesLog, only_rounds}
 use Rattle.height_row.specs.Heights.{row_at, AreApart}
-use Rattle.replica_core.specs.ReplicaStates.{ReplicaStateView, IsOneCluster}
+use Rattle.replica_core.specs.Replays.{ReplayView, IsOneCluster}
 use Rattle.replica_core.specs.Steps.{IsStep, submit_held, pool_with, propose_held, execute_held, next_decided, after_execute, retire_held}
 use Rattle.replica_core.specs.Steps.{after_retire}
 use Rattle.replica_core.specs.Following.{IsFollowed}
@@ -32,7 +32,7 @@ use Rattle.replica_core.proofs.Executes.{executes}
 use Rattle.replica_core.proofs.Retires.{retires}
 
 -- a transaction is handed in
-pub submit_followed : (held new : ReplicaStateView) (tx : List ℕ) (due shown : Result (Unit {0}) SubmitRefusal) (kept : Bool)
+pub submit_followed : (held new : ReplayView) (tx : List ℕ) (due shown : Result (Unit {0}) SubmitRefusal) (kept : Bool)
     → (kept ≡ true ↔ due ≡ shown) → due ≡ submit_held held tx
     → new ≡ record held { pool = pool_with held.pool tx due } → IsFollowed held (event.Submit tx) (reply.Submitted shown) kept new
 submit_followed held new tx due shown kept same is after =
@@ -41,7 +41,7 @@ submit_followed held new tx due shown kept same is after =
     (subst (IsStep held (event.Submit tx) (reply.Submitted due)) (sym after) (submits held tx due is))
 
 -- a height is opened
-pub propose_followed : (held new : ReplicaStateView) (h : ℕ) (due shown : Result Value ProposeRefusal) (kept : Bool)
+pub propose_followed : (held new : ReplayView) (h : ℕ) (due shown : Result Value ProposeRefusal) (kept : Bool)
     → (kept ≡ true ↔ due ≡ shown) → due ≡ propose_held held h
     → new ≡ record held { rows = new.rows } → OnErr due (new ≡ held) → OnOk due (is_some (row_at new.rows h) ≡ true)
     → AreApart h held.rows new.rows
@@ -54,7 +54,7 @@ propose_followed held new h due shown kept same is rest refused there apart open
     (proposes held new h due is rest refused there apart opened)
 
 -- bytes come
-pub deliver_followed : (held new : ReplicaStateView) (bytes : List ℕ) (due shown : Result (Unit {0}) Ignored) (kept : Bool)
+pub deliver_followed : (held new : ReplayView) (bytes : List ℕ) (due shown : Result (Unit {0}) Ignored) (kept : Bool)
     → (kept ≡ true ↔ due ≡ shown)
     → IsStep held (event.Deliver bytes) (reply.Delivered due) new → IsFollowed held (event.Deliver bytes) (reply.Delivered shown) kept new
 deliver_followed held new bytes due shown kept same step =
@@ -63,7 +63,7 @@ deliver_followed held new bytes due shown kept same step =
     (λ entries r lawful. lawful) (λ r. refl) step
 
 -- the next block is run
-pub execute_followed : (held new : ReplicaStateView) (due shown : Result BlockResult NothingDecided) (kept : Bool)
+pub execute_followed : (held new : ReplayView) (due shown : Result BlockResult NothingDecided) (kept : Bool)
     → (kept ≡ true ↔ due ≡ shown) → IsOneCluster held → due ≡ execute_held held
     → new ≡ after_execute held (next_decided held) → IsFollowed held event.Execute (reply.Executed shown) kept new
 execute_followed held new due shown kept same one is after =
@@ -72,7 +72,7 @@ execute_followed held new due shown kept same one is after =
     (subst (IsStep held event.Execute (reply.Executed due)) (sym after) (executes held due one is))
 
 -- the application is asked
-pub query_followed : (held : ReplicaStateView) (key : List ℕ) (h : ℕ) (due shown : Result QueryAnswer NotHeld) (kept : Bool)
+pub query_followed : (held : ReplayView) (key : List ℕ) (h : ℕ) (due shown : Result QueryAnswer NotHeld) (kept : Bool)
     → (kept ≡ true ↔ due ≡ shown)
     → due ≡ query_reply held.config.kind held.commits key h → IsFollowed held (event.Query key h) (reply.Queried shown) kept held
 query_followed held key h due shown kept same is =
@@ -81,7 +81,7 @@ query_followed held key h due shown kept same is =
     (λ entries r lawful. lawful) (λ r. refl) (queries held key h due is)
 
 -- heights are given up
-pub retire_followed : (held new : ReplicaStateView) (floor : ℕ) (due shown : Result ℕ RetireRefusal) (kept : Bool)
+pub retire_followed : (held new : ReplayView) (floor : ℕ) (due shown : Result ℕ RetireRefusal) (kept : Bool)
     → (kept ≡ true ↔ due ≡ shown) → due ≡ retire_held held floor → new ≡ after_retire held due
     → IsFollowed held (event.Retire floor) (reply.Retired shown) kept new
 retire_followed held new floor due shown kept same is after =

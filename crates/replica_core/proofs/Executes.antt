@@ -16,7 +16,7 @@ use Rattle.ledger_model.specs.Commits.{executed, decided_at, commits_of, pool_of
 use Rattle.ledger_model.specs.Commits.{execute_reply}
 use Rattle.ledger_model.proofs.Floors.{floor_of-snoc}
 use Rattle.instance.specs.Matching.{MatchesLog, only_rounds}
-use Rattle.replica_core.specs.ReplicaStates.{ReplicaStateView, IsOneCluster, MatchesHistory}
+use Rattle.replica_core.specs.Replays.{ReplayView, IsOneCluster, MatchesHistory}
 use Rattle.replica_core.specs.Steps.{IsStep, next_decided, execute_held, with_block, after_execute}
 use Rattle.replica_core.proofs.Histories.{pool_more, clock_more, mute_more, count_commits, commits_more, blocks_more}
 use Rattle.replica_core.proofs.Quiet.{log_stays, unheard}
@@ -28,7 +28,7 @@ last_of [] v = refl
 last_of (w ∷ []) v = refl
 last_of (w ∷ x ∷ vs) v = last_of (x ∷ vs) v
 
-module _ (held : ReplicaStateView) (one : IsOneCluster held) (entries : List Entry) (matches : MatchesHistory held entries) where
+module _ (held : ReplayView) (one : IsOneCluster held) (entries : List Entry) (matches : MatchesHistory held entries) where
   -- the height after the committed ones is decided by what is kept as by the history
   decided_next : next_decided held ≡ decided_at held.config held.id entries (length (commits_of held.config held.id entries) + 1)
   decided_next =
@@ -86,7 +86,7 @@ module _ (held : ReplicaStateView) (one : IsOneCluster held) (entries : List Ent
       commits = commits_more held.config held.id entries entry v matches.blocks refl decided ∙ ap (λ vs. vs ++ v ∷ []) matches.commits
 
 -- the next block is run, or nothing is decided
-pub executes : (held : ReplicaStateView) (answer : Result BlockResult NothingDecided) → IsOneCluster held → answer ≡ execute_held held
+pub executes : (held : ReplayView) (answer : Result BlockResult NothingDecided) → IsOneCluster held → answer ≡ execute_held held
     → IsStep held event.Execute (reply.Executed answer) (after_execute held (next_decided held))
 executes held answer one is entries matches = (
   is ∙ answered held one entries matches,

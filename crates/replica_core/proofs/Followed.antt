@@ -18,12 +18,12 @@ use Rattle.ledger_model.specs.declared.reply.RoundEnded.{RoundEnded}
 use Rattle.ledger_model.specs.declared.reply.SubmitRefusal.{SubmitRefusal}
 use Rattle.ledger_model.specs.Values.{Value}
 use Rattle.ledger_model.specs.Lawful.{Lawful, is_signed_reply}
-use Rattle.replica_core.specs.ReplicaStates.{ReplicaStateView, MatchesHistory}
+use Rattle.replica_core.specs.Replays.{ReplayView, MatchesHistory}
 use Rattle.replica_core.specs.Steps.{IsStep, after_execute, after_retire}
-use Rattle.replica_core.specs.Following.{KeepsReplay, IsFollowed, IsSameReplicaState}
+use Rattle.replica_core.specs.Following.{KeepsReplay, IsFollowed, IsSameReplay}
 
 -- an entry that keeps no replay one is refused
-pub refused : (old new : ReplicaStateView) (event : Event) (reply : Reply)
+pub refused : (old new : ReplayView) (event : Event) (reply : Reply)
     → ((entries : List Entry) → MatchesHistory old entries → KeepsReplay old entries event reply → ⊥) → IsFollowed old event reply false new
 refused old new event reply none = record {
   exact = λ entries matches. (λ yes. absurd (cc yes), λ keeps. absurd (none entries matches keeps));
@@ -31,7 +31,7 @@ refused old new event reply none = record {
 }
 
 -- an answer is compared with the one that is due, where only one is lawful
-pub compared : {R : Type 0} (old new : ReplicaStateView) (event : Event) (wrap : R → Reply) (lawful : List Entry → R) (due shown : R)
+pub compared : {R : Type 0} (old new : ReplayView) (event : Event) (wrap : R → Reply) (lawful : List Entry → R) (due shown : R)
     (kept : Bool) → (kept ≡ true ↔ due ≡ shown)
     → ((entries : List Entry) (r : R) → Lawful old.config old.ring old.id entries event (wrap r) → r ≡ lawful entries)
     → ((r : R) → IsTrue (is_signed_reply old.ring (wrap r)))
@@ -51,27 +51,27 @@ compared old new event wrap lawful due shown kept same one signed step = record 
 -- ---- the same replica
 
 -- where nothing changed
-pub same_kept : (old new : ReplicaStateView) → new ≡ old → IsSameReplicaState old new
+pub same_kept : (old new : ReplayView) → new ≡ old → IsSameReplay old new
 same_kept old new is = record { config = ap (λ h. h.config) is; id = ap (λ h. h.id) is; ring = ap (λ h. h.ring) is }
 
 -- where only the heights did
-pub same_rows : (old new : ReplicaStateView) → new ≡ record old { rows = new.rows } → IsSameReplicaState old new
+pub same_rows : (old new : ReplayView) → new ≡ record old { rows = new.rows } → IsSameReplay old new
 same_rows old new is = record { config = ap (λ h. h.config) is; id = ap (λ h. h.id) is; ring = ap (λ h. h.ring) is }
 
 -- where a block was run
-pub same_run : (old new : ReplicaStateView) (block : Option Value) → new ≡ after_execute old block → IsSameReplicaState old new
+pub same_run : (old new : ReplayView) (block : Option Value) → new ≡ after_execute old block → IsSameReplay old new
 same_run old new None is = same_kept old new is
 same_run old new (Some block) is = record { config = ap (λ h. h.config) is; id = ap (λ h. h.id) is; ring = ap (λ h. h.ring) is }
 
 -- where heights were given up
-pub same_retired : (old new : ReplicaStateView) (answer : Result ℕ RetireRefusal) → new ≡ after_retire old answer
-    → IsSameReplicaState old new
+pub same_retired : (old new : ReplayView) (answer : Result ℕ RetireRefusal) → new ≡ after_retire old answer
+    → IsSameReplay old new
 same_retired old new (Err f) is = same_kept old new is
 same_retired old new (Ok f) is = record { config = ap (λ h. h.config) is; id = ap (λ h. h.id) is; ring = ap (λ h. h.ring) is }
 
 -- ---- each event has replies of its own
 
-module _ (held : ReplicaStateView) (entries : List Entry) where
+module _ (held : ReplayView) (entries : List Entry) where
   abbrev LawfulTo : Event → Reply → Type 0
   LawfulTo event reply = Lawful held.config held.ring held.id entries event reply
 

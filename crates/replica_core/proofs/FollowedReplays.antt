@@ -9,11 +9,11 @@ use Rattle.ledger_model.specs.declared.history.Entry.{Entry}
 use Rattle.ledger_model.specs.Rules.{Ring}
 use Rattle.ledger_model.specs.Lawful.{Lawful, Replay, ReplaysFrom, is_signed_reply}
 use Rattle.ledger_model.proofs.Steps.{replays_snoc}
-use Rattle.replica_core.specs.ReplicaStates.{ReplicaStateView}
-use Rattle.replica_core.specs.Following.{KeepsReplay, IsSameReplicaState, StopsAt}
+use Rattle.replica_core.specs.Replays.{ReplayView}
+use Rattle.replica_core.specs.Following.{KeepsReplay, IsSameReplay, StopsAt}
 
 -- an entry that continues the replay of one state continues that of another of the same replica
-pub keeps_as : (a b : ReplicaStateView) (xs : List Entry) (event : Event) (reply : Reply) → IsSameReplicaState a b
+pub keeps_as : (a b : ReplayView) (xs : List Entry) (event : Event) (reply : Reply) → IsSameReplay a b
     → KeepsReplay b xs event reply → KeepsReplay a xs event reply
 keeps_as a b xs event reply same keeps = record {
   lawful = subst (λ c. Lawful c a.ring a.id xs event reply) same.config
@@ -22,13 +22,13 @@ keeps_as a b xs event reply same keeps = record {
   signed = subst (λ r. IsTrue (is_signed_reply r reply)) same.ring keeps.signed;
 }
 
-pub keeps_from : (a b : ReplicaStateView) (xs : List Entry) (event : Event) (reply : Reply) → IsSameReplicaState a b
+pub keeps_from : (a b : ReplayView) (xs : List Entry) (event : Event) (reply : Reply) → IsSameReplay a b
     → KeepsReplay a xs event reply → KeepsReplay b xs event reply
 keeps_from a b xs event reply same keeps =
     keeps_as b a xs event reply (record { config = sym same.config; id = sym same.id; ring = sym same.ring }) keeps
 
 -- the same replica, one step later
-pub same_later : (a b c : ReplicaStateView) → IsSameReplicaState a b → IsSameReplicaState b c → IsSameReplicaState a c
+pub same_later : (a b c : ReplayView) → IsSameReplay a b → IsSameReplay b c → IsSameReplay a c
 same_later a b c first second = record {
   config = second.config ∙ first.config;
   id = second.id ∙ first.id;
@@ -36,7 +36,7 @@ same_later a b c first second = record {
 }
 
 -- one entry more
-pub replay_more : (a b : ReplicaStateView) (xs : List Entry) (e : Entry) → IsSameReplicaState a b
+pub replay_more : (a b : ReplayView) (xs : List Entry) (e : Entry) → IsSameReplay a b
     → Replay a.config a.ring a.id xs → KeepsReplay b xs e.event e.reply → Replay a.config a.ring a.id (xs ++ e ∷ [])
 unfolding Replay
 replay_more a b xs e same replay keeps =
@@ -54,7 +54,7 @@ last_kept config ring id front (x ∷ xs) e replays =
     (subst (λ es. Lawful config ring id es e.event e.reply) (append_assoc front (x ∷ []) xs) (later.0), later.1)
 
 -- an entry that wasn't taken ends the replay
-pub replay_ends : (a b : ReplicaStateView) (entries : List Entry) (i : ℕ) (e : Entry) (kept : Bool) → IsSameReplicaState a b
+pub replay_ends : (a b : ReplayView) (entries : List Entry) (i : ℕ) (e : Entry) (kept : Bool) → IsSameReplay a b
     → i < length entries → take (i + 1) entries ≡ take i entries ++ e ∷ []
     → Replay a.config a.ring a.id (take i entries)
     → kept ≡ true ↔ KeepsReplay b (take i entries) e.event e.reply → kept ≡ false → StopsAt a.config a.ring a.id entries i

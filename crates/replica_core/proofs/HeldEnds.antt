@@ -9,7 +9,7 @@ use Rattle.instance.specs.Reads.{IsSameHeight}
 use Rattle.instance.specs.Plans.{opened_effects, closed}
 use Rattle.instance.proofs.SameHeight.{same_self, same_closed}
 use Rattle.height_row.specs.Heights.{row_at, closed_each}
-use Rattle.replica_core.specs.ReplicaStates.{ReplicaStateView, IsWithinLimits}
+use Rattle.replica_core.specs.Replays.{ReplayView, IsWithinLimits}
 use Rattle.replica_core.specs.RoundEnds.{after_end}
 use Rattle.replica_core.proofs.ClosedRows.{ascend_closed}
 
@@ -31,7 +31,7 @@ was_open c h (row ∷ rows) (m ∷ ms) new found =
     ]
 
 -- it stays within its limits
-pub held_end : (held : ReplicaStateView) (mute : Bool) (ms : List RoundStatement) → IsWithinLimits held → held.clock < last_round
+pub held_end : (held : ReplayView) (mute : Bool) (ms : List RoundStatement) → IsWithinLimits held → held.clock < last_round
     → IsWithinLimits (after_end held mute ms)
 held_end held mute ms is_held early = record {
   member = is_held.member;

@@ -12,7 +12,7 @@ use Rattle.ledger_model.specs.Logs.{is_mute, says_mute}
 use Rattle.ledger_model.specs.Commits.{executed, is_block, decided_at, commits_of, pool_of, pool_after, pool_step}
 use Rattle.ledger_model.specs.Lawful.{clock_at, is_opened}
 use Rattle.ledger_model.proofs.Staying.{executed-append, some_value, decision_stays, all_there}
-use Rattle.replica_core.specs.ReplicaStates.{AreDecided}
+use Rattle.replica_core.specs.Replays.{AreDecided}
 use Rattle.std.proofs.lemmas.List.Elements.{filter_map-append}
 use Rattle.std.proofs.lemmas.List.Folds.{list_any-append}
 use Rattle.ledger_model.proofs.Lists.{range_more}

@@ -17,7 +17,7 @@ use Rattle.height_row.specs.declared.round_closing.RoundClosing.{RoundClosing}
 use Rattle.instance.proofs.AtClock.{allows_at, allowed_at}
 use Rattle.instance.proofs.MaySend.{own_if_sent}
 use Rattle.replica_core.proofs.PairedLists.{both_ended}
-use Rattle.replica_core.specs.ReplicaStates.{ReplicaStateView, MatchesHistory}
+use Rattle.replica_core.specs.Replays.{ReplayView, MatchesHistory}
 use Rattle.replica_core.specs.RoundEnds.{IsMadeAt, AreMade}
 
 module _ (ring : Ring) (row : InstanceView) (log : List Note) (clock : ℕ) (old : MatchesLog ring row log) (now : clock_of log ≡ clock) where
@@ -50,7 +50,7 @@ module _ (ring : Ring) (row : InstanceView) (log : List Note) (clock : ℕ) (old
 -- ---- at each height
 
 -- what is left of the heights, and of what they make, decides of them all
-pub record IsJudging (held : ReplicaStateView) (xs : List RoundClosing) (rows_left : List InstanceView) (left : List RoundClosing) : Type 0
+pub record IsJudging (held : ReplayView) (xs : List RoundClosing) (rows_left : List InstanceView) (left : List RoundClosing) : Type 0
   where
     pub count : length left ≡ length rows_left
     -- each of these heights is open
@@ -68,7 +68,7 @@ each_there : (P : InstanceView → Type 0) (rows : List InstanceView)
 each_there P [] each = tt
 each_there P (row ∷ rows) each = (each 0 row refl, each_there P rows (λ place x is. each (suc place) x is))
 
-module _ (held : ReplicaStateView) (xs : List RoundClosing) where
+module _ (held : ReplayView) (xs : List RoundClosing) where
   pub judging_begins : AreFound held.rows → length xs ≡ length held.rows → IsJudging held xs held.rows xs
   judging_begins found count = record {
     count = count;

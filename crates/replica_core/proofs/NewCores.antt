@@ -4,10 +4,10 @@ use Rattle.ledger_model.specs.declared.config.Config.{Config}
 use Rattle.ledger_model.specs.Rules.{Ring}
 use Rattle.ledger_model.specs.Logs.{log_of, log_after}
 use Rattle.ledger_model.specs.Commits.{commits_of, floor_of, pool_of, pool_after}
-use Rattle.replica_core.specs.ReplicaStates.{new_replica_state, MatchesHistory}
+use Rattle.replica_core.specs.Replays.{new_replay, MatchesHistory}
 
 -- before the first event
-pub new_matches : (config : Config) (id : ℕ) (ring : Ring) → MatchesHistory (new_replica_state config id ring) []
+pub new_matches : (config : Config) (id : ℕ) (ring : Ring) → MatchesHistory (new_replay config id ring) []
 unfolding pool_of pool_after log_of log_after commits_of floor_of
 new_matches config id ring = record {
   clock = refl;

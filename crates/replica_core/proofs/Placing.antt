@@ -17,7 +17,7 @@ use Rattle.ledger_model.specs.Rules.{is_table_full, is_not_mine}
 use Rattle.instance.specs.Instances.{InstanceView}
 use Rattle.instance.specs.Matching.{MatchesLog}
 use Rattle.height_row.specs.Heights.{row_at}
-use Rattle.replica_core.specs.ReplicaStates.{ReplicaStateView, MatchesHistory}
+use Rattle.replica_core.specs.Replays.{ReplayView, MatchesHistory}
 use Rattle.replica_core.specs.Placing.{answer_before_signature}
 use Rattle.replica_core.proofs.Unopened.{closed_there}
 
@@ -46,7 +46,7 @@ module _ (config : Config) (ring : Ring) (log : List Note) (s : SignedStatement)
   unsigned_after h unsigned = first_follows (causes_before_signature config log s.statement [])
       (proof_causes config ring (is_table_full log s.statement) (is_not_mine log s.statement) s) h ∙ rw unsigned refl
 
-module _ (held : ReplicaStateView) (s : Statement) (entries : List Entry) where
+module _ (held : ReplayView) (s : Statement) (entries : List Entry) where
   pub stranger_before : held.config.replicas ≤ signer_of s → answer_before_signature held.config held.id entries s ≡ Err cause.Signer
   stranger_before high = simp (le-ltb (signer_of s) held.config.replicas high) refl
 

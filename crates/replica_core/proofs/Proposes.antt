@@ -19,7 +19,7 @@ use Rattle.ledger_model.proofs.Goodness.{clock_of-append}
 use Rattle.instance.specs.Instances.{InstanceView}
 use Rattle.instance.specs.Matching.{MatchesLog, only_rounds}
 use Rattle.height_row.specs.Heights.{row_at, AreApart}
-use Rattle.replica_core.specs.ReplicaStates.{ReplicaStateView, MatchesHistory}
+use Rattle.replica_core.specs.Replays.{ReplayView, MatchesHistory}
 use Rattle.replica_core.specs.Steps.{IsStep, with_result, propose_held}
 use Rattle.replica_core.proofs.Quiet.{log_then, log_stays, quiet, unheard}
 use Rattle.replica_core.proofs.Unopened.{opened_there}
@@ -44,7 +44,7 @@ fits false true b c v w e = cc
 fits false false true c v w e = cc
 fits false false false c v w e = (refl, refl)
 
-module _ (held : ReplicaStateView) (h : ℕ) (entries : List Entry) (matches : MatchesHistory held entries) where
+module _ (held : ReplayView) (h : ℕ) (entries : List Entry) (matches : MatchesHistory held entries) where
   -- what is answered by what is kept is what is answered by the history
   answered : propose_held held h ≡ propose_reply held.config held.id entries h
   unfolding propose_reply
@@ -129,7 +129,7 @@ module _ (held : ReplicaStateView) (h : ℕ) (entries : List Entry) (matches : M
         ]
 
 -- a height is opened, or refused
-pub proposes : (held new : ReplicaStateView) (h : ℕ) (answer : Result Value ProposeRefusal) → answer ≡ propose_held held h
+pub proposes : (held new : ReplayView) (h : ℕ) (answer : Result Value ProposeRefusal) → answer ≡ propose_held held h
     → new ≡ record held { rows = new.rows } → OnErr answer (new ≡ held)
     → OnOk answer (is_some (row_at new.rows h) ≡ true) → AreApart h held.rows new.rows
     → IfOk answer (λ v. (row : InstanceView) → row_at new.rows h ≡ Some row → (ring : Ring) (log : List Note) → only_rounds log ≡ true

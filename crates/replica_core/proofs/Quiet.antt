@@ -14,10 +14,10 @@ use Rattle.ledger_model.proofs.Floors.{floor_of-snoc}
 use Rattle.instance.specs.Instances.{InstanceView}
 use Rattle.instance.specs.Matching.{MatchesLog, only_rounds}
 use Rattle.height_row.specs.Heights.{row_at}
-use Rattle.replica_core.specs.ReplicaStates.{ReplicaStateView, MatchesHistory}
+use Rattle.replica_core.specs.Replays.{ReplayView, MatchesHistory}
 use Rattle.replica_core.proofs.Histories.{pool_more, clock_more, mute_more, commits_stay, blocks_stay}
 
-module _ (held : ReplicaStateView) (entries : List Entry) (e : Entry) where
+module _ (held : ReplayView) (entries : List Entry) (e : Entry) where
   -- the log of a height
   abbrev pub log_at : ℕ → List Note
   log_at h = log_of held.config held.id h entries

@@ -22,12 +22,12 @@ use Rattle.instance.specs.Matching.{MatchesLog, only_rounds}
 use Rattle.instance.proofs.OpenLogs.{closed_by}
 use Rattle.height_row.specs.Heights.{row_at, rows_from}
 use Rattle.height_row.proofs.Floors.{none_below, same_from}
-use Rattle.replica_core.specs.ReplicaStates.{ReplicaStateView, MatchesHistory}
+use Rattle.replica_core.specs.Replays.{ReplayView, MatchesHistory}
 use Rattle.replica_core.specs.Steps.{IsStep, retire_held, after_retire}
 use Rattle.replica_core.proofs.Histories.{pool_more, clock_more, mute_more, commits_stay, blocks_stay}
 use Rattle.replica_core.proofs.Quiet.{log_then, log_stays, unheard}
 
-module _ (held : ReplicaStateView) (floor : ℕ) (entries : List Entry) (matches : MatchesHistory held entries) where
+module _ (held : ReplayView) (floor : ℕ) (entries : List Entry) (matches : MatchesHistory held entries) where
   -- what is answered by what is held is what is answered by the history
   answered : retire_held held floor ≡ retire_reply held.config held.id entries floor
   unfolding retire_reply
@@ -88,7 +88,7 @@ module _ (held : ReplicaStateView) (floor : ℕ) (entries : List Entry) (matches
     }
 
 -- the floor is raised, or refused
-pub retires : (held new : ReplicaStateView) (floor : ℕ) (answer : Result ℕ RetireRefusal) → answer ≡ retire_held held floor
+pub retires : (held new : ReplayView) (floor : ℕ) (answer : Result ℕ RetireRefusal) → answer ≡ retire_held held floor
     → new ≡ after_retire held answer → IsStep held (event.Retire floor) (reply.Retired answer) new
 retires held new floor (Ok f) is after entries matches =
     let lawful = is ∙ answered held floor entries matches in

@@ -19,7 +19,7 @@ use Rattle.instance.specs.Plans.{opened_effects, closed}
 use Rattle.instance.specs.Laws.{made_in, opened_by}
 use Rattle.instance.proofs.SameHeight.{same_closed}
 use Rattle.height_row.specs.Heights.{row_at, closed_each}
-use Rattle.replica_core.specs.ReplicaStates.{ReplicaStateView, IsWithinLimits, IsOwnRow, MatchesHistory}
+use Rattle.replica_core.specs.Replays.{ReplayView, IsWithinLimits, IsOwnRow, MatchesHistory}
 use Rattle.replica_core.specs.RoundEnds.{AreMade, frames_of_height, round_ended, after_end, RoundsEnd}
 use Rattle.replica_core.proofs.Histories.{pool_more, clock_more, mute_more, commits_stay, blocks_stay}
 use Rattle.replica_core.proofs.Quiet.{log_then}
@@ -32,7 +32,7 @@ use Rattle.replica_core.proofs.UnopenedEnds.{no_locks, nothing_made, may_nothing
 use Rattle.replica_core.proofs.OpenEnds.{locks_alone, closes_there, made_is, may_there}
 use Rattle.replica_core.proofs.RoundNotes.{end_entry, round_notes, notes_are, clock_then, mute_then}
 
-module _ (held : ReplicaStateView) (mute : Bool) (ms : List RoundStatement) (entries : List Entry) (is_held : IsWithinLimits held)
+module _ (held : ReplayView) (mute : Bool) (ms : List RoundStatement) (entries : List Entry) (is_held : IsWithinLimits held)
     (matches : MatchesHistory held entries)
     (are_made : AreMade held.ring mute (held.clock + 1) held.rows ms) where
   -- the round that opens, and the answer to the end of the one before

@@ -21,7 +21,7 @@ use Rattle.instance.specs.declared.round_statement.RoundStatement.{RoundStatemen
 use Rattle.instance.specs.Instances.{InstanceView}
 use Rattle.instance.specs.Matching.{MatchesLog}
 use Rattle.height_row.specs.Heights.{row_at}
-use Rattle.replica_core.specs.ReplicaStates.{ReplicaStateView, IsWithinLimits, IsOwnRow, MatchesHistory}
+use Rattle.replica_core.specs.Replays.{ReplayView, IsWithinLimits, IsOwnRow, MatchesHistory}
 use Rattle.replica_core.specs.RoundEnds.{AreMade, frames_of_height, frames_of_heights}
 use Rattle.replica_core.specs.ShownEnds.{statements_shown, sends_locks_on, made_shown, AreShownAlike, KeepsEnd, ShowsFrames, EndsShow}
 use Rattle.replica_core.proofs.AscendingRows.{each_found}
@@ -65,7 +65,7 @@ those_signed ring h ss all = all_from (is_all_signed ring) (of_height h ss)
 those_frames : (h : ℕ) (ss : List SignedStatement) → AllByRecursion IsFrame ss → AllByRecursion IsFrame (of_height h ss)
 those_frames h ss all = each_from IsFrame (of_height h ss) (λ s has. each_has IsFrame ss s all (filter_has _ ss s has).0)
 
-module _ (held : ReplicaStateView) (entries : List Entry) (end : RoundEnded) (is_held : IsWithinLimits held)
+module _ (held : ReplayView) (entries : List Entry) (end : RoundEnded) (is_held : IsWithinLimits held)
     (matches : MatchesHistory held entries) (keeps : KeepsEnd held entries end)
     (spelled : end.mute ≡ false → sends_locks_on (held.clock + 1) held.rows ≡ false → AllByRecursion IsFrame (statements_shown end.frames)) where
   abbrev c : ℕ

@@ -23,7 +23,7 @@ use Rattle.instance.specs.declared.round_statement.RoundStatement.TheVariants as
 use Rattle.instance.specs.Instances.{InstanceView}
 use Rattle.instance.specs.Plans.{RoundEffectsView, MaySend, opened_effects, IsOwnMade}
 use Rattle.height_row.specs.declared.round_closing.RoundClosing.{RoundClosing}
-use Rattle.replica_core.specs.ReplicaStates.{ReplicaStateView, IsWithinLimits, MatchesHistory}
+use Rattle.replica_core.specs.Replays.{ReplayView, IsWithinLimits, MatchesHistory}
 use Rattle.replica_core.specs.RoundEnds.{AreMade, round_ended, after_end}
 use Rattle.replica_core.specs.ChosenEnds.{all_mute}
 use Rattle.replica_core.specs.Following.{KeepsReplay, IsFollowed}
@@ -98,7 +98,7 @@ all_of_it m c (row ∷ rows) (x ∷ xs) endings all =
     let rest : map (λ x. x.ending) xs ≡ map (λ row. opened_effects row c) rows = cc in
     rw all.0 (ap (λ ms. m ∷ ms) (all_of_it m c rows xs rest all.1))
 
-module _ (held : ReplicaStateView) (end : RoundEnded) (is_held : IsWithinLimits held) (early : held.clock < last_round) where
+module _ (held : ReplayView) (end : RoundEnded) (is_held : IsWithinLimits held) (early : held.clock < last_round) where
   abbrev c : ℕ
   c = held.clock + 1
 
@@ -167,7 +167,7 @@ module _ (held : ReplicaStateView) (end : RoundEnded) (is_held : IsWithinLimits 
   -- ---- the end is followed
 
   -- the frames show what may be made: the frames that it makes are compared with those of the end
-  pub compared_end : (new : ReplicaStateView) (ms : List RoundStatement) (due : RoundEnded) (kept : Bool)
+  pub compared_end : (new : ReplayView) (ms : List RoundStatement) (due : RoundEnded) (kept : Bool)
       → (held.mute ≡ true → end.mute ≡ true) → IsShown held end ms → due ≡ round_ended held end.mute ms
       → new ≡ after_end held end.mute ms → (kept ≡ true → due.frames ≡ end.frames) → (AreShownAlike due.frames end.frames → kept ≡ true)
       → IsFollowed held event.RoundEnd (reply.RoundEnded (Ok end)) kept new
@@ -192,7 +192,7 @@ module _ (held : ReplicaStateView) (end : RoundEnded) (is_held : IsWithinLimits 
           ap (λ fs. record { mute = end.mute; frames = fs }) frames
 
 -- a mute replica that says it is not is refused
-pub speaks_again : (held : ReplicaStateView) (end : RoundEnded) → held.mute ≡ true → end.mute ≡ false
+pub speaks_again : (held : ReplayView) (end : RoundEnded) → held.mute ≡ true → end.mute ≡ false
     → IsFollowed held event.RoundEnd (reply.RoundEnded (Ok end)) false held
 speaks_again held end was says = refused held held event.RoundEnd (reply.RoundEnded (Ok end))
     (λ entries matches keeps. let still = keeps.lawful.1.mute (matches.mute ∙ was) in absurd (cc (sym says ∙ still)))
@@ -200,7 +200,7 @@ speaks_again held end was says = refused held held event.RoundEnd (reply.RoundEn
 -- ---- the last round
 
 -- no round is left
-pub ends_over : (held : ReplicaStateView) (last : LastRound) (kept : Bool) → (kept ≡ true → held.clock ≡ last_round)
+pub ends_over : (held : ReplayView) (last : LastRound) (kept : Bool) → (kept ≡ true → held.clock ≡ last_round)
     → (kept ≡ false → held.clock < last_round)
     → IsFollowed held event.RoundEnd (reply.RoundEnded (Err last)) kept held
 ends_over held last true is goes_on = record {
@@ -216,7 +216,7 @@ ends_over held last false is goes_on =
     matches.clock in absurd (omega (arith, left, over, now)))
 
 -- a round that ends after the last is refused
-pub ends_late : (held : ReplicaStateView) (end : RoundEnded) → held.clock ≡ last_round
+pub ends_late : (held : ReplayView) (end : RoundEnded) → held.clock ≡ last_round
     → IsFollowed held event.RoundEnd (reply.RoundEnded (Ok end)) false held
 ends_late held end is =
     refused held held event.RoundEnd (reply.RoundEnded (Ok end))

@@ -10,12 +10,12 @@ use Rattle.ledger_model.specs.Logs.{notes_of}
 use Rattle.ledger_model.specs.Pools.{submit_answer}
 use Rattle.ledger_model.specs.Commits.{pool_of, pool_step, submit_reply}
 use Rattle.ledger_model.specs.Replies.{check_reply, query_reply}
-use Rattle.replica_core.specs.ReplicaStates.{ReplicaStateView}
+use Rattle.replica_core.specs.Replays.{ReplayView}
 use Rattle.replica_core.specs.Steps.{IsStep, submit_held, pool_with}
 use Rattle.replica_core.proofs.Quiet.{unheard}
 
 -- a transaction that is handed in
-pub submits : (held : ReplicaStateView) (tx : List ℕ) (answer : Result (Unit {0}) SubmitRefusal) → answer ≡ submit_held held tx
+pub submits : (held : ReplayView) (tx : List ℕ) (answer : Result (Unit {0}) SubmitRefusal) → answer ≡ submit_held held tx
     → IsStep held (event.Submit tx) (reply.Submitted answer) (record held { pool = pool_with held.pool tx answer })
 unfolding submit_reply notes_of
 submits held tx answer is entries matches = (
@@ -32,7 +32,7 @@ submits held tx answer is entries matches = (
     shown (Err f) = refl
 
 -- a query
-pub queries : (held : ReplicaStateView) (key : List ℕ) (height : ℕ) (answer : Result QueryAnswer NotHeld)
+pub queries : (held : ReplayView) (key : List ℕ) (height : ℕ) (answer : Result QueryAnswer NotHeld)
     → answer ≡ query_reply held.config.kind held.commits key height
     → IsStep held (event.Query key height) (reply.Queried answer) held
 unfolding notes_of

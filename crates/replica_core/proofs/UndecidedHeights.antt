@@ -13,7 +13,7 @@ use Rattle.ledger_model.specs.Notes.{is_open}
 use Rattle.ledger_model.proofs.Lists.{each_weaker}
 use Rattle.instance.specs.Instances.{InstanceView}
 use Rattle.height_row.specs.Heights.{row_at, AreAscending}
-use Rattle.replica_core.specs.ReplicaStates.{ReplicaStateView, IsOneCluster, MatchesHistory}
+use Rattle.replica_core.specs.Replays.{ReplayView, IsOneCluster, MatchesHistory}
 use Rattle.replica_core.specs.Facts.{undecided_in, undecided_heights, heights_up_to, is_undecided}
 use Rattle.replica_core.proofs.AscendingRows.{each_found, found_height}
 use Rattle.replica_core.proofs.Unopened.{opened_there}
@@ -71,7 +71,7 @@ in_range (x ∷ xs) test a (suc n) ascend low high same = elim (cases_Bool (x.he
     higher : (k a : ℕ) → (k == a) ≡ false → a ≤ k → a < k
     higher k a other le = grind (arith)
 
-module _ (held : ReplicaStateView) (entries : List Entry) (matches : MatchesHistory held entries) (one : IsOneCluster held) where
+module _ (held : ReplayView) (entries : List Entry) (matches : MatchesHistory held entries) (one : IsOneCluster held) where
   -- the test of a height is that of its row
   tested : (h : ℕ) → is_undecided held.config held.id entries h ≡ open_undecided (row_at held.rows h)
   tested h = by (row_at held.rows h) refl

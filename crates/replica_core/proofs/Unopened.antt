@@ -15,7 +15,7 @@ use Rattle.instance.specs.Instances.{InstanceView}
 use Rattle.instance.specs.Matching.{only_rounds}
 use Rattle.instance.proofs.OpenLogs.{only_rounds_closed}
 use Rattle.height_row.specs.Heights.{row_at, decided_in}
-use Rattle.replica_core.specs.ReplicaStates.{ReplicaStateView, IsOneCluster, MatchesHistory}
+use Rattle.replica_core.specs.Replays.{ReplayView, IsOneCluster, MatchesHistory}
 
 -- no lock was made where there are only rounds
 no_made : (log : List Note) → only_rounds log ≡ true → filter_map value_made log ≡ []
@@ -41,7 +41,7 @@ not_there : (o : Option Value) → is_some o ≡ false → o ≡ None
 not_there None is = refl
 not_there (Some v) is = cc
 
-module _ (held : ReplicaStateView) (entries : List Entry) (matches : MatchesHistory held entries) where
+module _ (held : ReplayView) (entries : List Entry) (matches : MatchesHistory held entries) where
   abbrev log_there : ℕ → List Note
   log_there h = log_of held.config held.id h entries
 

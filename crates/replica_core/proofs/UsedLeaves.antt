@@ -14,7 +14,7 @@ use Rattle.instance.specs.declared.round_statement.RoundStatement.TheVariants as
 use Rattle.instance.specs.Instances.{InstanceView}
 use Rattle.instance.specs.Plans.{chosen_statement, own_statement_sent}
 use Rattle.instance.specs.Laws.{IsFrameMade}
-use Rattle.replica_core.specs.ReplicaStates.{ReplicaStateView}
+use Rattle.replica_core.specs.Replays.{ReplayView}
 use Rattle.replica_core.specs.RoundEnds.{sent_own, sent_on, frames_of_height, frames_of_heights, due, SignsFrom}
 use Rattle.replica_core.specs.Steps.{AreSignedFrom, UsesLeaves}
 use Rattle.replica_core.specs.ChosenEnds.{all_mute, end_reply}
@@ -96,7 +96,7 @@ with_used : (keys : SignerView) (m n : ℕ) → m ≡ n → record keys { used =
 with_used keys m n same = λ i. record { secret = keys.secret; used = same i }
 
 -- a mute end uses no leaf
-pub mute_leaves : (held : ReplicaStateView) (keys : SignerView) → UsesLeaves keys held.clock (end_reply held true (all_mute held.rows)) keys
+pub mute_leaves : (held : ReplayView) (keys : SignerView) → UsesLeaves keys held.clock (end_reply held true (all_mute held.rows)) keys
 mute_leaves held keys =
     let c : ℕ = held.clock + 1 in
     elim (cases_Bool (nat_eq (place_of c) release_place)) [
@@ -111,7 +111,7 @@ mute_leaves held keys =
     ]
 
 -- an end at which what is chosen is signed uses a leaf for each statement that is due
-pub signed_leaves : (held : ReplicaStateView) (keys : SignerView) (ms : List RoundStatement)
+pub signed_leaves : (held : ReplayView) (keys : SignerView) (ms : List RoundStatement)
     → SignsFrom keys.secret keys.used (held.clock + 1) held.rows ms → AllByRecursion IsFrameMade ms
     → UsesLeaves keys held.clock (end_reply held false ms) (record keys { used = keys.used + due (held.clock + 1) held.rows })
 signed_leaves held keys ms signs frames =

@@ -12,7 +12,7 @@ use Rattle.instance.specs.declared.round_statement.RoundStatement.{RoundStatemen
 use Rattle.instance.specs.declared.round_statement.RoundStatement.TheVariants as made
 use Rattle.instance.specs.Instances.{InstanceView}
 use Rattle.instance.specs.Laws.{IsFrameMade}
-use Rattle.replica_core.specs.ReplicaStates.{ReplicaStateView, IsWithinLimits}
+use Rattle.replica_core.specs.Replays.{ReplayView, IsWithinLimits}
 use Rattle.replica_core.specs.RoundEnds.{round_ended, after_end, due, SignsFrom}
 use Rattle.replica_core.specs.Steps.{IsStep, UsesLeaves}
 
@@ -31,13 +31,13 @@ abbrev pub IsFrameUnder : List ℕ → RoundStatement → Type 0
 IsFrameUnder key m = IsFrameMade m × IsVerifiedMade key m
 
 -- the reply to the round end if the heights make this
-abbrev pub end_reply : ReplicaStateView → Bool → List RoundStatement → Reply
+abbrev pub end_reply : ReplayView → Bool → List RoundStatement → Reply
 end_reply held mute ms = reply.RoundEnded (Ok (round_ended held mute ms))
 
 -- the end of a round at a mute replica is a step, and uses no leaf
 abbrev pub MuteEnds : Type 0
 MuteEnds =
-    (held : ReplicaStateView) → IsWithinLimits held → held.clock < last_round
+    (held : ReplayView) → IsWithinLimits held → held.clock < last_round
     → IsStep held event.RoundEnd (end_reply held true (all_mute held.rows)) (after_end held true (all_mute held.rows))
     × ((keys : SignerView) → UsesLeaves keys held.clock (end_reply held true (all_mute held.rows)) keys)
 
@@ -45,7 +45,7 @@ MuteEnds =
 -- a step, and uses a leaf for each statement that is due
 abbrev pub SignedEnds : Type 0
 SignedEnds =
-    (held : ReplicaStateView) (keys : SignerView) (ms : List RoundStatement)
+    (held : ReplayView) (keys : SignerView) (ms : List RoundStatement)
     → IsWithinLimits held → held.clock < last_round → held.mute ≡ false → slice_get held.ring held.id ≡ Some (public_key_of keys.secret)
     → SignsFrom keys.secret keys.used (held.clock + 1) held.rows ms → AllByRecursion (IsFrameUnder (public_key_of keys.secret)) ms
     → IsStep held event.RoundEnd (end_reply held false ms) (after_end held false ms)

@@ -6,26 +6,26 @@ use Rattle.ledger_model.specs.declared.history.Entry.{Entry}
 use Rattle.ledger_model.specs.declared.reply.Reply.{Reply}
 use Rattle.ledger_model.specs.Lawful.{Lawful, Replay, is_signed_reply}
 use Rattle.ledger_model.specs.Rules.{Ring}
-use Rattle.replica_core.specs.ReplicaStates.{ReplicaStateView, MatchesHistory}
+use Rattle.replica_core.specs.Replays.{ReplayView, MatchesHistory}
 
 -- the core state after the entries that were followed, and whether one was refused
 pub record FollowerView : Type 0 where
-  pub held : ReplicaStateView
+  pub replay : ReplayView
   pub lost : Bool
 
 -- the entry continues the replay: its reply is lawful after these entries, and what it sends is signed
-pub record KeepsReplay (held : ReplicaStateView) (entries : List Entry) (event : Event) (reply : Reply) : Type 0 where
+pub record KeepsReplay (held : ReplayView) (entries : List Entry) (event : Event) (reply : Reply) : Type 0 where
   pub lawful : Lawful held.config held.ring held.id entries event reply
   pub signed : IsTrue (is_signed_reply held.ring reply)
 
 -- for every matched history, the entry is taken exactly if it continues the replay; the new state then matches the longer history
-pub record IsFollowed (old : ReplicaStateView) (event : Event) (reply : Reply) (kept : Bool) (new : ReplicaStateView) : Type 0 where
+pub record IsFollowed (old : ReplayView) (event : Event) (reply : Reply) (kept : Bool) (new : ReplayView) : Type 0 where
   pub exact : (entries : List Entry) → MatchesHistory old entries → kept ≡ true ↔ KeepsReplay old entries event reply
   pub matches : kept ≡ true → (entries : List Entry) → MatchesHistory old entries
       → MatchesHistory new (entries ++ record { event = event; reply = reply } ∷ [])
 
 -- both states are of the same replica
-pub record IsSameReplicaState (old new : ReplicaStateView) : Type 0 where
+pub record IsSameReplay (old new : ReplayView) : Type 0 where
   pub config : new.config ≡ old.config
   pub id : new.id ≡ old.id
   pub ring : new.ring ≡ old.ring

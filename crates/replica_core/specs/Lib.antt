@@ -1,4 +1,4 @@
-pub mod ReplicaStates
+pub mod Replays
 pub mod RoundEnds
 pub mod Steps
 pub mod ChosenEnds

@@ -10,7 +10,7 @@ use Rattle.instance.specs.declared.round_statement.RoundStatement.{RoundStatemen
 use Rattle.instance.specs.Plans.{opened_effects, IsOwnMade}
 use Rattle.height_row.specs.declared.round_closing.RoundClosing.{RoundClosing}
 use Rattle.key_ring.specs.Signers.{SignerView}
-use Rattle.replica_core.specs.ReplicaStates.{ReplicaStateView}
+use Rattle.replica_core.specs.Replays.{ReplayView}
 use Rattle.replica_core.specs.RoundEnds.{round_ended, after_end}
 use Rattle.replica_core.specs.Steps.{IsStep, UsesLeaves}
 use Rattle.replica_core.specs.Cores.{CoreView}
@@ -25,16 +25,16 @@ abbrev pub made_by_closings : List RoundClosing → List RoundStatement
 made_by_closings closings = map (λ c. c.made) closings
 
 -- the end if the heights close their rounds so
-abbrev pub prepared_of : ReplicaStateView → Bool → List RoundClosing → PreparedView
+abbrev pub prepared_of : ReplayView → Bool → List RoundClosing → PreparedView
 prepared_of held mute closings = record { closings = closings; ended = round_ended held mute (made_by_closings closings) }
 
 -- the core state after the end
-abbrev pub after_prepared : ReplicaStateView → PreparedView → ReplicaStateView
+abbrev pub after_prepared : ReplayView → PreparedView → ReplayView
 after_prepared held prepared = after_end held prepared.ended.mute (made_by_closings prepared.closings)
 
 -- The end was prepared for this core state: another round follows, each open height ends as it prepares to and makes only what is the
 -- replica's own, and the reply has their frames.
-pub record IsPreparedFor (held : ReplicaStateView) (prepared : PreparedView) : Type 0 where
+pub record IsPreparedFor (held : ReplayView) (prepared : PreparedView) : Type 0 where
   pub clock : held.clock < last_round
   pub endings : map (λ c. c.ending) prepared.closings ≡ map (λ row. opened_effects row (held.clock + 1)) held.rows
   pub own : AllByRecursion (λ c. IsOwnMade held.config held.id c.made) prepared.closings
@@ -42,13 +42,13 @@ pub record IsPreparedFor (held : ReplicaStateView) (prepared : PreparedView) : T
 
 -- the end was prepared for the core's state, is a step, and uses the leaves that are used now
 pub record IsEndPrepared (old : CoreView) (prepared : PreparedView) (keys : SignerView) : Type 0 where
-  pub ready : IsPreparedFor old.held prepared
-  pub step : IsStep old.held event.RoundEnd (reply.RoundEnded (Ok prepared.ended)) (after_prepared old.held prepared)
-  pub leaves : UsesLeaves old.keys old.held.clock (reply.RoundEnded (Ok prepared.ended)) keys
+  pub ready : IsPreparedFor old.replay prepared
+  pub step : IsStep old.replay event.RoundEnd (reply.RoundEnded (Ok prepared.ended)) (after_prepared old.replay prepared)
+  pub leaves : UsesLeaves old.keys old.replay.clock (reply.RoundEnded (Ok prepared.ended)) keys
 
 -- only leaves were used, at most this many
 pub record UsesAtMost (old new : CoreView) (count : ℕ) : Type 0 where
-  pub held : new ≡ record old { keys = new.keys }
+  pub replay : new ≡ record old { keys = new.keys }
   pub secret : new.keys.secret ≡ old.keys.secret
   pub least : old.keys.used ≤ new.keys.used
   pub most : new.keys.used ≤ old.keys.used + count
@@ -61,6 +61,6 @@ prepared_reply (Ok prepared) = Ok prepared.ended
 prepared_reply (Err last) = Err last
 
 -- the core state after the round end: as it is if the last round is open
-abbrev pub after_prepared_reply : ReplicaStateView → Result PreparedView LastRound → ReplicaStateView
+abbrev pub after_prepared_reply : ReplayView → Result PreparedView LastRound → ReplayView
 after_prepared_reply held (Ok prepared) = after_prepared held prepared
 after_prepared_reply held (Err last) = held

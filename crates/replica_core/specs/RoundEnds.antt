@@ -22,7 +22,7 @@ use Rattle.instance.specs.Instances.{InstanceView}
 use Rattle.instance.specs.Plans.{MaySend, chosen_statement, opened_effects, is_mute_made, own_statement_sent, IsOwnMade}
 use Rattle.instance.specs.Laws.{IsSignedMade, IsFrameMade}
 use Rattle.height_row.specs.Heights.{closed_each}
-use Rattle.replica_core.specs.ReplicaStates.{ReplicaStateView, IsWithinLimits, MatchesHistory}
+use Rattle.replica_core.specs.Replays.{ReplayView, IsWithinLimits, MatchesHistory}
 
 -- ---- what the heights make
 
@@ -70,15 +70,15 @@ frames_of_heights config c (row ∷ rows) [] = []
 -- ---- the end of a round
 
 -- the reply to the round end
-abbrev pub round_ended : ReplicaStateView → Bool → List RoundStatement → RoundEnded
+abbrev pub round_ended : ReplayView → Bool → List RoundStatement → RoundEnded
 round_ended held mute ms = record { mute = mute; frames = frames_of_heights held.config (held.clock + 1) held.rows ms }
 
 -- the core state after the round end
-abbrev pub after_end : ReplicaStateView → Bool → List RoundStatement → ReplicaStateView
+abbrev pub after_end : ReplayView → Bool → List RoundStatement → ReplayView
 after_end held mute ms = record held { rows = closed_each (held.clock + 1) held.rows ms; clock = held.clock + 1; mute = mute }
 
 -- the round end is lawful and signed after the history, and the state after it matches the longer history
-pub record IsRoundEnd (held : ReplicaStateView) (mute : Bool) (ms : List RoundStatement) (entries : List Entry) : Type 0 where
+pub record IsRoundEnd (held : ReplayView) (mute : Bool) (ms : List RoundStatement) (entries : List Entry) : Type 0 where
   pub lawful : LawfulRoundEnd held.config held.id entries (round_ended held mute ms)
   pub signed : IsTrue (is_signed_reply held.ring (reply.RoundEnded (Ok (round_ended held mute ms))))
   pub matches : MatchesHistory (after_end held mute ms)
@@ -87,7 +87,7 @@ pub record IsRoundEnd (held : ReplicaStateView) (mute : Bool) (ms : List RoundSt
 -- if each open height makes what it may make, the end of the round is lawful
 abbrev pub RoundsEnd : Type 0
 RoundsEnd =
-    (held : ReplicaStateView) (mute : Bool) (ms : List RoundStatement) (entries : List Entry)
+    (held : ReplayView) (mute : Bool) (ms : List RoundStatement) (entries : List Entry)
     → IsWithinLimits held → held.clock < last_round → MatchesHistory held entries → (held.mute ≡ true → mute ≡ true)
     → AreMade held.ring mute (held.clock + 1) held.rows ms
     → IsRoundEnd held mute ms entries × IsWithinLimits (after_end held mute ms)

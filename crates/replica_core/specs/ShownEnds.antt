@@ -16,7 +16,7 @@ use Rattle.instance.specs.declared.round_statement.RoundStatement.{RoundStatemen
 use Rattle.instance.specs.declared.round_statement.RoundStatement.TheVariants as made
 use Rattle.instance.specs.Instances.{InstanceView}
 use Rattle.instance.specs.Plans.{opened_effects, IsOwnMade}
-use Rattle.replica_core.specs.ReplicaStates.{ReplicaStateView, IsWithinLimits, MatchesHistory}
+use Rattle.replica_core.specs.Replays.{ReplayView, IsWithinLimits, MatchesHistory}
 use Rattle.replica_core.specs.RoundEnds.{AreMade, frames_of_heights}
 use Rattle.replica_core.specs.ChosenEnds.{all_mute}
 use Rattle.replica_core.specs.Following.{KeepsReplay}
@@ -84,17 +84,17 @@ AreShownAlike (x ∷ xs) [] = ⊥
 -- ---- the end of a round
 
 -- the round end continues the replay
-abbrev pub KeepsEnd : ReplicaStateView → List Entry → RoundEnded → Type 0
+abbrev pub KeepsEnd : ReplayView → List Entry → RoundEnded → Type 0
 KeepsEnd held entries end = KeepsReplay held entries event.RoundEnd (reply.RoundEnded (Ok end))
 
 -- if the heights make this, they send the frames of the round end
-abbrev pub ShowsFrames : ReplicaStateView → RoundEnded → List RoundStatement → Type 0
+abbrev pub ShowsFrames : ReplayView → RoundEnded → List RoundStatement → Type 0
 ShowsFrames held end ms = AreShownAlike (frames_of_heights held.config (held.clock + 1) held.rows ms) end.frames
 
 -- If a round end is lawful and signed, its frames are those of what they say was made, and each open height may make that.
 abbrev pub EndsShow : Type 0
 EndsShow =
-    (held : ReplicaStateView) (entries : List Entry) (end : RoundEnded)
+    (held : ReplayView) (entries : List Entry) (end : RoundEnded)
     → IsWithinLimits held → held.clock < last_round → MatchesHistory held entries → KeepsEnd held entries end
     → (end.mute ≡ false → sends_locks_on (held.clock + 1) held.rows ≡ false → AllByRecursion IsFrame (statements_shown end.frames))
     → (let ms = made_shown end.mute (held.clock + 1) held.rows (statements_shown end.frames) in
@@ -106,12 +106,12 @@ AreSpelled frames = AllByRecursion (λ f. is_some (reading f.frame) ≡ true) fr
 
 -- what the frames say was made: each height may make it, and if the round end continues the replay, its frames are the
 -- ones that this sends
-pub record IsShown (held : ReplicaStateView) (end : RoundEnded) (ms : List RoundStatement) : Type 0 where
+pub record IsShown (held : ReplayView) (end : RoundEnded) (ms : List RoundStatement) : Type 0 where
   pub made : (entries : List Entry) → MatchesHistory held entries → AreMade held.ring end.mute (held.clock + 1) held.rows ms
   pub frames : (entries : List Entry) → MatchesHistory held entries → KeepsEnd held entries end → ShowsFrames held end ms
   pub own : AllByRecursion (IsOwnMade held.config held.id) ms
   pub count : length ms ≡ length held.rows
 
 -- the round end continues no replay that the state matches
-abbrev pub KeepsNone : ReplicaStateView → RoundEnded → Type 0
+abbrev pub KeepsNone : ReplayView → RoundEnded → Type 0
 KeepsNone held end = (entries : List Entry) → MatchesHistory held entries → KeepsEnd held entries end → ⊥

@@ -26,11 +26,11 @@ use Rattle.ledger_model.specs.Commits.{block_of}
 use Rattle.ledger_model.specs.Lawful.{Lawful, is_signed_reply}
 use Rattle.key_ring.specs.Signers.{SignerView, signed_with}
 use Rattle.height_row.specs.Heights.{row_at, rows_from, decided_in, open_answer}
-use Rattle.replica_core.specs.ReplicaStates.{ReplicaStateView, MatchesHistory}
+use Rattle.replica_core.specs.Replays.{ReplayView, MatchesHistory}
 
 -- for every history that the old state matches, the reply is lawful and signed, and the new state matches that history
 -- with this entry
-abbrev pub IsStep : ReplicaStateView → Event → Reply → ReplicaStateView → Type 0
+abbrev pub IsStep : ReplayView → Event → Reply → ReplayView → Type 0
 IsStep old event reply new =
     (entries : List Entry) → MatchesHistory old entries
     → Lawful old.config old.ring old.id entries event reply × IsTrue (is_signed_reply old.ring reply)
@@ -39,7 +39,7 @@ IsStep old event reply new =
 -- ---- the replies, by the core state
 
 -- the reply to a submitted transaction
-abbrev pub submit_held : ReplicaStateView → List ℕ → Result (Unit {0}) SubmitRefusal
+abbrev pub submit_held : ReplayView → List ℕ → Result (Unit {0}) SubmitRefusal
 submit_held held tx = submit_answer held.pool tx (check_reply held.config.kind held.commits tx)
 
 -- the pool after that reply
@@ -52,20 +52,20 @@ with_result (Ok u) x = Ok x
 with_result (Err f) x = Err f
 
 -- the reply to opening a height
-abbrev pub propose_held : ReplicaStateView → ℕ → Result Value ProposeRefusal
+abbrev pub propose_held : ReplayView → ℕ → Result Value ProposeRefusal
 propose_held held h = with_result (open_answer held.floor held.rows (length held.commits) h)
     (take (batch_limit held.config.frames) held.pool)
 
 -- the batch that is decided for the height after the committed ones, if one is
-abbrev pub next_decided : ReplicaStateView → Option Value
+abbrev pub next_decided : ReplayView → Option Value
 next_decided held = decided_in (row_at held.rows (length held.commits + 1))
 
 -- the reply to running the next block
-abbrev pub execute_held : ReplicaStateView → Result BlockResult NothingDecided
+abbrev pub execute_held : ReplayView → Result BlockResult NothingDecided
 execute_held held = block_of held.config held.commits (next_decided held)
 
 -- the state after the block of these transactions was run
-abbrev pub with_block : ReplicaStateView → Value → ReplicaStateView
+abbrev pub with_block : ReplayView → Value → ReplayView
 with_block held block = record held {
   commits = held.commits ++ block ∷ [];
   machine = run held.config.kind (held.commits ++ block ∷ []);
@@ -73,19 +73,19 @@ with_block held block = record held {
 }
 
 -- the state after running the next block, if there is one
-abbrev pub after_execute : ReplicaStateView → Option Value → ReplicaStateView
+abbrev pub after_execute : ReplayView → Option Value → ReplayView
 after_execute held None = held
 after_execute held (Some block) = with_block held block
 
 -- the reply to giving up the heights below a new floor
-abbrev pub retire_held : ReplicaStateView → ℕ → Result ℕ RetireRefusal
+abbrev pub retire_held : ReplayView → ℕ → Result ℕ RetireRefusal
 retire_held held floor = first_fault (
     (nat_lt (length held.commits + 1) floor, kept.NotCommitted)
     ∷ (nat_le floor held.floor, kept.NotAbove)
     ∷ []) floor
 
 -- the state after that reply
-abbrev pub after_retire : ReplicaStateView → Result ℕ RetireRefusal → ReplicaStateView
+abbrev pub after_retire : ReplayView → Result ℕ RetireRefusal → ReplayView
 after_retire held (Ok floor) = record held { floor = floor; rows = rows_from floor held.rows }
 after_retire held (Err why) = held
 

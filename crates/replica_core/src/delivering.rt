@@ -1,5 +1,5 @@
 //! Bytes arrive from the network.
-use crate::replica_state::ReplicaState;
+use crate::replay::Replay;
 use abci::Application;
 use bytes::Bytes;
 use instance::Instance;
@@ -8,7 +8,7 @@ use signed_frames::Frame;
 use statements::DecodeFault;
 use std::alloc::{AllocError, Global};
 
-impl<A: Application> ReplicaState<A> {
+impl<A: Application> Replay<A> {
     ghost use Rattle.std.specs.Prelude.{◌≡◌, ◌<◌, ℕ, List, Some, is_some, true, IsTrue, Ok, Err, IfOk, IfErr, OnOk, OnErr};
     ghost use Rattle.ledger_model.specs.declared.event.Event.TheVariants as event;
     ghost use Rattle.ledger_model.specs.declared.reply.Reply.TheVariants as reply;
@@ -19,7 +19,7 @@ impl<A: Application> ReplicaState<A> {
     ghost use Rattle.instance.specs.Instances.{InstanceView};
     ghost use Rattle.height_row.specs.Heights.{row_at};
     ghost use Rattle.ledger_model.specs.declared.history.Entry.{Entry};
-    ghost use Rattle.replica_core.specs.ReplicaStates.{MatchesHistory};
+    ghost use Rattle.replica_core.specs.Replays.{MatchesHistory};
     ghost use Rattle.replica_core.specs.Steps.{IsStep};
     ghost use Rattle.replica_core.specs.Placing.{answer_before_signature};
 

@@ -1,15 +1,15 @@
 //! The application runs the next decided block.
-use crate::replica_state::ReplicaState;
+use crate::replay::Replay;
 use abci::Application;
 use ledger_model::{Batch, BlockResult, Height, NothingDecided};
 use std::alloc::{AllocError, Global};
 
-impl<A: Application> ReplicaState<A> {
+impl<A: Application> Replay<A> {
     ghost use Rattle.std.specs.Prelude.{◌≡◌, ◌<◌, length, IfOk, IfSome, OnErr};
     ghost use Rattle.std.specs.Option.{option_copied};
     ghost use Rattle.ledger_model.specs.Limits.{max_height};
     ghost use Rattle.ledger_model.specs.Replies.{block_reply};
-    ghost use Rattle.replica_core.specs.ReplicaStates.{IsOneCluster};
+    ghost use Rattle.replica_core.specs.Replays.{IsOneCluster};
     ghost use Rattle.replica_core.specs.Steps.{next_decided, execute_held, with_block, after_execute};
 
     /// The batch that is decided for the height after the committed ones, if one is.

@@ -1,13 +1,13 @@
 //! What a replay shows of itself, and so a core. None of these calls changes it.
 use crate::replica::Core;
-use crate::replica_state::ReplicaState;
+use crate::replay::Replay;
 use abci::{Application, Info};
 use batch_pool::Pool;
 use key_ring::KeyRing;
 use ledger_model::{Batch, Config, Height, ReplicaId};
 use std::alloc::{AllocError, Global};
 
-impl<A: Application> ReplicaState<A> {
+impl<A: Application> Replay<A> {
     ghost use Rattle.std.specs.Prelude.{◌≡◌, ◌<◌, ◌≤◌, ◌+◌, List, length, IfOk};
     ghost use Rattle.std.specs.Option.{option_copied};
     ghost use Rattle.ledger_model.specs.declared.history.Entry.{Entry};
@@ -16,7 +16,7 @@ impl<A: Application> ReplicaState<A> {
     ghost use Rattle.ledger_model.specs.Commits.{commits_of, floor_of, decision_at};
     ghost use Rattle.ledger_model.specs.Lawful.{clock_at};
     ghost use Rattle.height_row.specs.Heights.{row_at, decided_in};
-    ghost use Rattle.replica_core.specs.ReplicaStates.{IsOneCluster, IsWithinLimits, MatchesHistory};
+    ghost use Rattle.replica_core.specs.Replays.{IsOneCluster, IsWithinLimits, MatchesHistory};
     ghost use Rattle.replica_core.specs.Facts.{block_at, info_reply, AreClosed, undecided_in, undecided_heights};
 
     /// The number of the replica.
@@ -54,7 +54,7 @@ impl<A: Application> ReplicaState<A> {
     /// Whether the replica is mute: it will never sign a statement again.
     pub fn is_mute(&self) -> bool
         ensures mute { result ≡ self.now.mute }
-        ensures held { IsWithinLimits self.now }
+        ensures limits { IsWithinLimits self.now }
         // It is, in every matched history.
         ensures same { (entries : List Entry) → MatchesHistory self.now entries → is_mute entries ≡ result }
     {
@@ -155,51 +155,51 @@ impl<A: Application> Core<A> {
     ghost use Rattle.ledger_model.specs.Commits.{floor_of, decision_at};
     ghost use Rattle.key_ring.specs.Signers.{public_key_of, leaves_of};
     ghost use Rattle.height_row.specs.Heights.{row_at, decided_in};
-    ghost use Rattle.replica_core.specs.ReplicaStates.{MatchesHistory};
+    ghost use Rattle.replica_core.specs.Replays.{MatchesHistory};
     ghost use Rattle.replica_core.specs.Leaves.{due_by};
     ghost use Rattle.replica_core.specs.Cores.{due_then};
     ghost use Rattle.replica_core.specs.Facts.{block_at, info_reply, AreClosed};
 
     /// The number of the replica.
     pub fn id(&self) -> ReplicaId
-        ensures id { result ≡ self.now.held.id }
-        ensures member { self.now.held.id < self.now.held.config.replicas }
+        ensures id { result ≡ self.now.replay.id }
+        ensures member { self.now.replay.id < self.now.replay.config.replicas }
         // The ring has the replica's own key at its number.
-        ensures own_key { slice_get self.now.held.ring self.now.held.id ≡ Some (public_key_of self.now.keys.secret) }
+        ensures own_key { slice_get self.now.replay.ring self.now.replay.id ≡ Some (public_key_of self.now.keys.secret) }
     {
-        self.kept.id()
+        self.replay.id()
     }
 
     /// The configuration of its cluster.
     pub fn config(&self) -> &Config
-        ensures { result.now ≡ self.now.held.config }
+        ensures { result.now ≡ self.now.replay.config }
     {
-        self.kept.config()
+        self.replay.config()
     }
 
     /// The public keys of the replicas, by number.
     pub fn ring(&self) -> &KeyRing
-        ensures { result.now ≡ self.now.held.ring }
+        ensures { result.now ≡ self.now.replay.ring }
     {
-        self.kept.ring()
+        self.replay.ring()
     }
 
     /// The number of the open round, 0 before the first.
     pub fn clock(&self) -> u32
-        ensures clock { result ≡ self.now.held.clock }
+        ensures clock { result ≡ self.now.replay.clock }
         ensures early { result ≤ last_round }
     {
-        self.kept.clock()
+        self.replay.clock()
     }
 
     /// Whether the replica is mute: it will never sign a statement again.
     pub fn is_mute(&self) -> bool
-        ensures mute { result ≡ self.now.held.mute }
+        ensures mute { result ≡ self.now.replay.mute }
         // The next round end has as many statements to sign as every matched history makes due.
-        ensures due { (entries : List Entry) → MatchesHistory self.now.held entries
-            → due_then self.now ≡ due_by self.now.held.config self.now.held.id entries }
+        ensures due { (entries : List Entry) → MatchesHistory self.now.replay entries
+            → due_then self.now ≡ due_by self.now.replay.config self.now.replay.id entries }
     {
-        self.kept.is_mute()
+        self.replay.is_mute()
     }
 
     /// The number of statements that the replica can still sign.
@@ -211,53 +211,53 @@ impl<A: Application> Core<A> {
 
     /// The number of committed blocks.
     pub fn height(&self) -> u32
-        ensures height { result ≡ length self.now.held.commits }
+        ensures height { result ≡ length self.now.replay.commits }
         ensures most { result ≤ max_height }
     {
-        self.kept.height()
+        self.replay.height()
     }
 
     /// The number of blocks that the application committed, and the hash of its state (ABCI's Info).
     pub fn info(&self) -> Info
-        ensures { result ≡ info_reply self.now.held.config.kind self.now.held.commits }
+        ensures { result ≡ info_reply self.now.replay.config.kind self.now.replay.commits }
     {
-        self.kept.info()
+        self.replay.info()
     }
 
     /// The pool: the transactions that wait for a block, in order of arrival.
     pub fn pool(&self) -> &Pool
-        ensures { result.now ≡ self.now.held.pool }
+        ensures { result.now ≡ self.now.replay.pool }
     {
-        self.kept.pool()
+        self.replay.pool()
     }
 
     /// The committed batch of a height; `None` at height 0 and above the committed height.
     pub fn block(&self, height: Height) -> Option<&Batch>
-        ensures { option_copied result ≡ block_at self.now.held.commits height }
+        ensures { option_copied result ≡ block_at self.now.replay.commits height }
     {
-        self.kept.block(height)
+        self.replay.block(height)
     }
 
     /// The floor: the least height that the replica hasn't given up, 1 at first.
     pub fn floor(&self) -> Height
-        ensures floor { result ≡ self.now.held.floor }
+        ensures floor { result ≡ self.now.replay.floor }
         // Every height below it is committed.
-        ensures low { result ≤ length self.now.held.commits + 1 }
+        ensures low { result ≤ length self.now.replay.commits + 1 }
         // It is the floor of every matched history, and no height below it is open there.
-        ensures same { (entries : List Entry) → MatchesHistory self.now.held entries → floor_of entries ≡ result }
-        ensures closed { (entries : List Entry) → MatchesHistory self.now.held entries
-            → AreClosed self.now.held.config self.now.held.id entries result }
+        ensures same { (entries : List Entry) → MatchesHistory self.now.replay entries → floor_of entries ≡ result }
+        ensures closed { (entries : List Entry) → MatchesHistory self.now.replay entries
+            → AreClosed self.now.replay.config self.now.replay.id entries result }
     {
-        self.kept.floor()
+        self.replay.floor()
     }
 
     /// The batch that was decided at a height from the floor on, committed or not; `None` if none was, and below the floor.
     pub fn decided_at(&self, height: Height) -> Option<&Batch>
-        ensures row { option_copied result ≡ decided_in (row_at self.now.held.rows height) }
+        ensures row { option_copied result ≡ decided_in (row_at self.now.replay.rows height) }
         // It is the batch that every matched history decided.
-        ensures decided { (entries : List Entry) → MatchesHistory self.now.held entries
-            → option_copied result ≡ decision_at self.now.held.config self.now.held.id entries height }
+        ensures decided { (entries : List Entry) → MatchesHistory self.now.replay entries
+            → option_copied result ≡ decision_at self.now.replay.config self.now.replay.id entries height }
     {
-        self.kept.decided_at(height)
+        self.replay.decided_at(height)
     }
 }

@@ -1,5 +1,5 @@
 //! Another replica's history, followed entry by entry without its secret key.
-use crate::replica_state::ReplicaState;
+use crate::replay::Replay;
 use abci::Application;
 use key_ring::KeyRing;
 use ledger_model::{Batch, Config, Event, Height, ReplicaId, Reply};
@@ -12,7 +12,7 @@ use verify_cache::Verifier;
 /// everything that it sends is signed. It needs no secret key, and stores no history. Contracts see a `FollowerView`.
 #[derive(Drop)]
 pub struct Follower<A: Application> {
-    kept: ReplicaState<A>,
+    replay: Replay<A>,
     lost: bool,
 }
 
@@ -21,7 +21,7 @@ impl<A: Application> Model for Follower<A> {
 
     ghost Value = { FollowerView };
 
-    ghost view = { λ f. record { held = f.kept; lost = f.lost } };
+    ghost view = { λ f. record { replay = f.replay; lost = f.lost } };
 }
 
 impl<A: Application> Follower<A> {
@@ -30,10 +30,10 @@ impl<A: Application> Follower<A> {
     ghost use Rattle.ledger_model.specs.declared.history.Entry.{Entry};
     ghost use Rattle.ledger_model.specs.Limits.{max_height, last_round};
     ghost use Rattle.ledger_model.specs.Applications.{run};
-    ghost use Rattle.replica_core.specs.ReplicaStates.{new_replica_state, MatchesHistory};
+    ghost use Rattle.replica_core.specs.Replays.{new_replay, MatchesHistory};
     ghost use Rattle.replica_core.specs.Facts.{block_at};
     ghost use Rattle.replica_core.specs.Steps.{gives_up};
-    ghost use Rattle.replica_core.specs.Following.{KeepsReplay, IsSameReplicaState};
+    ghost use Rattle.replica_core.specs.Following.{KeepsReplay, IsSameReplay};
 
     /// A follower of the history of replica `id`, before its first entry. The ring has the keys that signatures are
     /// verified under. The application must be in its opening state, of the configured kind. The pool and the
@@ -48,12 +48,12 @@ impl<A: Application> Follower<A> {
     ) -> Result<Self, AllocError>
         requires member { id < config.replicas }
         requires opening { A.machine app ≡ run config.kind [] }
-        ensures new { IfOk result (λ follower. follower ≡ record { held = new_replica_state config id ring; lost = false }) }
+        ensures new { IfOk result (λ follower. follower ≡ record { replay = new_replay config id ring; lost = false }) }
         // It matches the empty history.
-        ensures matches { IfOk result (λ follower. MatchesHistory follower.held []) }
+        ensures matches { IfOk result (λ follower. MatchesHistory follower.replay []) }
     {
         Ok(Follower {
-            kept: ReplicaState::new(alloc, config, id, ring, app, [random, random])?,
+            replay: Replay::new(alloc, config, id, ring, app, [random, random])?,
             lost: false,
         })
     }
@@ -70,22 +70,22 @@ impl<A: Application> Follower<A> {
         reply: &Reply,
     ) -> Result<bool, AllocError>
         // It returns true exactly if the entry continues each replay that the follower matches.
-        ensures exact { IfOk result (λ kept. self.old.lost ≡ false → (entries : List Entry) → MatchesHistory self.old.held entries
-            → kept ≡ true ↔ KeepsReplay self.old.held entries event.now reply.now) }
+        ensures exact { IfOk result (λ kept. self.old.lost ≡ false → (entries : List Entry) → MatchesHistory self.old.replay entries
+            → kept ≡ true ↔ KeepsReplay self.old.replay entries event.now reply.now) }
         // The follower then matches the history with this entry appended.
-        ensures matches { IfOk result (λ kept. kept ≡ true → (entries : List Entry) → MatchesHistory self.old.held entries
-            → MatchesHistory self.new.held (entries ++ record { event = event.now; reply = reply.now } ∷ [])) }
+        ensures matches { IfOk result (λ kept. kept ≡ true → (entries : List Entry) → MatchesHistory self.old.replay entries
+            → MatchesHistory self.new.replay (entries ++ record { event = event.now; reply = reply.now } ∷ [])) }
         ensures lost { IfOk result (λ kept. self.new.lost ≡ not kept) }
         // A follower that is lost stays lost.
         ensures for_good { IfOk result (λ kept. self.old.lost ≡ true → kept ≡ false) }
         ensures err { OnErr result (self.new ≡ self.old) }
         ensures free { OnErr result (gives_up event.now ≡ false) }
-        ensures same { IsSameReplicaState self.old.held self.new.held }
+        ensures same { IsSameReplay self.old.replay self.new.replay }
     {
         if self.lost {
             return Ok(false);
         }
-        let kept = self.kept.follow(alloc, event, reply)?;
+        let kept = self.replay.follow(alloc, event, reply)?;
         self.lost = !kept;
         Ok(kept)
     }
@@ -93,18 +93,18 @@ impl<A: Application> Follower<A> {
     /// Swaps the follower's verifier for another one that has the same keys. So one verifier can go from follower to
     /// follower, and hashes a signature that several histories contain only once.
     pub fn swap_verifier(&mut self, verifier: &mut Verifier)
-        requires { verifier.old.ring ≡ self.old.held.ring }
+        requires { verifier.old.ring ≡ self.old.replay.ring }
         ensures same { self.new ≡ self.old }
         ensures ring { verifier.new.ring ≡ verifier.old.ring }
     {
-        self.kept.swap_verifier(verifier);
+        self.replay.swap_verifier(verifier);
     }
 
     /// What the replica derives from the entries that the follower took.
-    pub fn replay(&self) -> &ReplicaState<A>
-        ensures { result.now ≡ self.now.held }
+    pub fn replay(&self) -> &Replay<A>
+        ensures { result.now ≡ self.now.replay }
     {
-        &self.kept
+        &self.replay
     }
 
     /// Whether the follower is lost: some entry was refused.
@@ -116,24 +116,24 @@ impl<A: Application> Follower<A> {
 
     /// The number of the open round, 0 before the first.
     pub fn clock(&self) -> u32
-        ensures clock { result ≡ self.now.held.clock }
+        ensures clock { result ≡ self.now.replay.clock }
         ensures early { result ≤ last_round }
     {
-        self.kept.clock()
+        self.replay.clock()
     }
 
     /// The number of committed blocks.
     pub fn height(&self) -> u32
-        ensures height { result ≡ length self.now.held.commits }
+        ensures height { result ≡ length self.now.replay.commits }
         ensures most { result ≤ max_height }
     {
-        self.kept.height()
+        self.replay.height()
     }
 
     /// The committed batch of a height; `None` at height 0 and above the committed height.
     pub fn block(&self, height: Height) -> Option<&Batch>
-        ensures { option_copied result ≡ block_at self.now.held.commits height }
+        ensures { option_copied result ≡ block_at self.now.replay.commits height }
     {
-        self.kept.block(height)
+        self.replay.block(height)
     }
 }

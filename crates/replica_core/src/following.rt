@@ -4,7 +4,7 @@ use crate::comparing::{
     is_same_delivered, is_same_executed, is_same_frames, is_same_proposed, is_same_queried,
     is_same_retired, is_same_submitted,
 };
-use crate::replica_state::ReplicaState;
+use crate::replay::Replay;
 use crate::shown_frames::{make_shown, read_frames, send_locks};
 use abci::Application;
 use height_row::RoundClosing;
@@ -12,16 +12,16 @@ use instance::RoundEffects;
 use ledger_model::{Event, LastRound, Reply, RoundEnded, Sent};
 use std::alloc::{AllocError, Global};
 
-impl<A: Application> ReplicaState<A> {
+impl<A: Application> Replay<A> {
     ghost use Rattle.std.specs.Prelude.{◌≡◌, ◌<◌, ◌+◌, map, true, false, IfOk, IfSome, MatchOption, OnErr, Ok};
     ghost use Rattle.std.specs.List.{AllByRecursion};
     ghost use Rattle.ledger_model.specs.declared.event.Event.TheVariants as event;
     ghost use Rattle.ledger_model.specs.declared.reply.Reply.TheVariants as reply;
     ghost use Rattle.ledger_model.specs.Limits.{last_round};
     ghost use Rattle.instance.specs.Plans.{opened_effects};
-    ghost use Rattle.replica_core.specs.ReplicaStates.{IsWithinLimits};
+    ghost use Rattle.replica_core.specs.Replays.{IsWithinLimits};
     ghost use Rattle.replica_core.specs.Steps.{gives_up};
-    ghost use Rattle.replica_core.specs.Following.{IsFollowed, IsSameReplicaState};
+    ghost use Rattle.replica_core.specs.Following.{IsFollowed, IsSameReplay};
     ghost use Rattle.replica_core.specs.ShownEnds.{sends_locks_on, IsShown, KeepsNone};
 
     /// How each open height closes its round according to the frames, if the replica is not mute and sends no locks on.
@@ -33,7 +33,7 @@ impl<A: Application> ReplicaState<A> {
         end: &RoundEnded,
     ) -> Result<Option<Vec<RoundClosing>>, AllocError>
         requires clock { self.now.clock < last_round }
-        requires held { IsWithinLimits self.now }
+        requires limits { IsWithinLimits self.now }
         requires endings { endings.items ≡ map (λ row. opened_effects row (self.now.clock + 1)) self.now.rows }
         requires loud { end.now.mute ≡ false }
         requires none_on { sends_locks_on (self.now.clock + 1) self.now.rows ≡ false }
@@ -60,7 +60,7 @@ impl<A: Application> ReplicaState<A> {
         end: &RoundEnded,
     ) -> Result<Option<Vec<RoundClosing>>, AllocError>
         requires clock { self.now.clock < last_round }
-        requires held { IsWithinLimits self.now }
+        requires limits { IsWithinLimits self.now }
         requires endings { endings.items ≡ map (λ row. opened_effects row (self.now.clock + 1)) self.now.rows }
         ensures shown { IfOk result (λ o. MatchOption o (KeepsNone self.now end.now) (λ closings. IsShown self.now end.now (map (λ c. c.made) closings.items))) }
         ensures endings { IfOk result (λ o. IfSome o (λ closings. map (λ c. c.ending) closings.items ≡ map (λ row. opened_effects row (self.now.clock + 1)) self.now.rows)) }
@@ -87,7 +87,7 @@ impl<A: Application> ReplicaState<A> {
     fn follow_round(&mut self, alloc: Global, ended: &RoundEnded) -> Result<bool, AllocError>
         requires clock { self.old.clock < last_round }
         ensures followed { IfOk result (λ kept. IsFollowed self.old event.RoundEnd (reply.RoundEnded (Ok ended.now)) kept self.new) }
-        ensures same { IsSameReplicaState self.old self.new }
+        ensures same { IsSameReplay self.old self.new }
         ensures err { OnErr result (self.new ≡ self.old) }
     {
         if !self.stays_mute(ended) {
@@ -109,7 +109,7 @@ impl<A: Application> ReplicaState<A> {
         shown: &Result<RoundEnded, LastRound>,
     ) -> Result<bool, AllocError>
         ensures followed { IfOk result (λ kept. IsFollowed self.old event.RoundEnd (reply.RoundEnded shown.now) kept self.new) }
-        ensures same { IsSameReplicaState self.old self.new }
+        ensures same { IsSameReplay self.old self.new }
         ensures err { OnErr result (self.new ≡ self.old) }
     {
         match shown {
@@ -131,7 +131,7 @@ impl<A: Application> ReplicaState<A> {
         reply: &Reply,
     ) -> Result<bool, AllocError>
         ensures followed { IfOk result (λ kept. IsFollowed self.old event.now reply.now kept self.new) }
-        ensures same { IsSameReplicaState self.old self.new }
+        ensures same { IsSameReplay self.old self.new }
         ensures err { OnErr result (self.new ≡ self.old) }
         ensures free { OnErr result (gives_up event.now ≡ false) }
     {

@@ -1,11 +1,11 @@
 //! Whether another replica may make what its frames contain, at each open height.
-use crate::replica_state::ReplicaState;
+use crate::replay::Replay;
 use abci::Application;
 use height_row::RoundClosing;
 use instance::{Instance, RoundStatement};
 use signed_frames::Frame;
 
-impl<A: Application> ReplicaState<A> {
+impl<A: Application> Replay<A> {
     ghost use Rattle.std.specs.Prelude.{◌≡◌, ◌<◌, ◌+◌, List, length, map, true, false, IsTrue};
     ghost use Rattle.std.specs.List.{AllByRecursion};
     ghost use Rattle.ledger_model.specs.declared.history.Entry.{Entry};
@@ -14,7 +14,7 @@ impl<A: Application> ReplicaState<A> {
     ghost use Rattle.ledger_model.specs.Rules.{is_signed};
     ghost use Rattle.instance.specs.Plans.{IsOwnMade};
     ghost use Rattle.instance.specs.Matching.{MatchesLog};
-    ghost use Rattle.replica_core.specs.ReplicaStates.{MatchesHistory, IsWithinLimits};
+    ghost use Rattle.replica_core.specs.Replays.{MatchesHistory, IsWithinLimits};
     ghost use Rattle.replica_core.specs.RoundEnds.{IsMadeAt, AreMade};
 
     /// Whether the frame's signature verifies under its signer's key.

@@ -1,7 +1,7 @@
 //! The core of a replica, and the one step that changes it: one event, one lawful reply.
 //!
 //! A [`Replay`] is what a replica derives from its history: its floor and the open heights, the pool, the application and the blocks
-//! committed to it, and the open round. It stores no history. `specs/ReplicaStates` defines when this state matches a history.
+//! committed to it, and the open round. It stores no history. `specs/Replays` defines when this state matches a history.
 //!
 //! A [`Core`] is a replay with the replica's keys. [`Core::step`] ensures that the state then matches the history with one more entry. Whoever keeps the frames of a round end ends it
 //! by two calls in place of one: [`Core::prepare_end`] builds the reply, and [`Core::finish_end`] takes no memory.
@@ -23,7 +23,7 @@ mod prepared;
 mod proposing;
 mod querying;
 mod replica;
-mod replica_state;
+mod replay;
 mod retiring;
 mod sending;
 mod sharing;
@@ -35,5 +35,5 @@ mod verifying;
 pub use follower::Follower;
 pub use prepared::Prepared;
 pub use replica::Core;
-pub use replica_state::ReplicaState as Replay;
+pub use replay::Replay;
 pub use sharing::shared_verifier;

@@ -1,10 +1,10 @@
 //! The replica opens a height.
-use crate::replica_state::ReplicaState;
+use crate::replay::Replay;
 use abci::Application;
 use ledger_model::{Batch, Height, ProposeRefusal};
 use std::alloc::{AllocError, Global};
 
-impl<A: Application> ReplicaState<A> {
+impl<A: Application> Replay<A> {
     ghost use Rattle.std.specs.Prelude.{◌≡◌, ◌≤◌, ◌∷◌, ◌++◌, ℕ, List, [], Some, true, IfOk, is_some, OnOk, OnErr};
     ghost use Rattle.ledger_model.specs.Notes.{Note, Proposed};
     ghost use Rattle.ledger_model.specs.Rules.{Ring};

@@ -1,10 +1,10 @@
 //! The replica answers a query.
-use crate::replica_state::ReplicaState;
+use crate::replay::Replay;
 use abci::{Application, QueryFault};
 use ledger_model::{NotHeld, QueryAnswer};
 use std::alloc::AllocError;
 
-impl<A: Application> ReplicaState<A> {
+impl<A: Application> Replay<A> {
     ghost use Rattle.std.specs.Prelude.{◌≡◌, IfOk};
     ghost use Rattle.ledger_model.specs.Replies.{query_reply};
 

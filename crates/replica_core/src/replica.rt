@@ -1,5 +1,5 @@
 //! The core of a replica: what it derives from its history, and the keys that it signs with.
-use crate::replica_state::ReplicaState;
+use crate::replay::Replay;
 use abci::Application;
 use key_ring::{KeyRing, Signer};
 use ledger_model::{Config, Event, ReplicaId, Reply};
@@ -10,7 +10,7 @@ use std::marker::Model;
 /// The core of a replica: what it derives from its history, and its keys. It stores no history. Contracts see a `CoreView`.
 #[derive(Drop)]
 pub struct Core<A: Application> {
-    pub(crate) kept: ReplicaState<A>,
+    pub(crate) replay: Replay<A>,
     pub(crate) signer: Signer,
 }
 
@@ -21,9 +21,9 @@ impl<A: Application> Model for Core<A> {
 
     ghost Value = { CoreView };
 
-    ghost view = { λ c. record { held = c.kept; keys = c.signer } };
+    ghost view = { λ c. record { replay = c.replay; keys = c.signer } };
 
-    ghost invariant = { λ c. slice_get c.kept.ring c.kept.id ≡ Some (public_key_of c.signer.secret) };
+    ghost invariant = { λ c. slice_get c.replay.ring c.replay.id ≡ Some (public_key_of c.signer.secret) };
 }
 
 impl<A: Application> Core<A> {
@@ -32,7 +32,7 @@ impl<A: Application> Core<A> {
     ghost use Rattle.ledger_model.specs.Limits.{max_height, last_round};
     ghost use Rattle.ledger_model.specs.Applications.{run};
     ghost use Rattle.key_ring.specs.Signers.{public_key_of, leaves_of};
-    ghost use Rattle.replica_core.specs.ReplicaStates.{new_replica_state, MatchesHistory};
+    ghost use Rattle.replica_core.specs.Replays.{new_replay, MatchesHistory};
     ghost use Rattle.replica_core.specs.Steps.{IsStep, UsesLeaves, gives_up};
     ghost use Rattle.replica_core.specs.Cores.{CoreView, IsSameReplica, leaves_due, is_mute_then};
 
@@ -51,12 +51,12 @@ impl<A: Application> Core<A> {
         requires member { id < config.replicas }
         requires own_key { slice_get ring id ≡ Some (public_key_of signer.secret) }
         requires opening { A.machine app ≡ run config.kind [] }
-        ensures new { IfOk result (λ core. core ≡ record { held = new_replica_state config id ring; keys = signer }) }
+        ensures new { IfOk result (λ core. core ≡ record { replay = new_replay config id ring; keys = signer }) }
         // It matches the empty history.
-        ensures matches { IfOk result (λ core. MatchesHistory core.held []) }
+        ensures matches { IfOk result (λ core. MatchesHistory core.replay []) }
     {
         Ok(Core {
-            kept: ReplicaState::new(alloc, config, id, ring, app, randoms)?,
+            replay: Replay::new(alloc, config, id, ring, app, randoms)?,
             signer,
         })
     }
@@ -68,11 +68,11 @@ impl<A: Application> Core<A> {
     pub fn step(&mut self, alloc: Global, event: &Event) -> Result<Reply, AllocError>
         // After every history that the core matches, the reply is lawful and signed, and the core then matches the
         // history with this entry.
-        ensures step { IfOk result (λ reply. IsStep self.old.held event.now reply self.new.held) }
+        ensures step { IfOk result (λ reply. IsStep self.old.replay event.now reply self.new.replay) }
         // Which leaves sign the statements, in which order.
-        ensures leaves { IfOk result (λ reply. UsesLeaves self.old.keys self.old.held.clock reply self.new.keys) }
+        ensures leaves { IfOk result (λ reply. UsesLeaves self.old.keys self.old.replay.clock reply self.new.keys) }
         // The core is mute if it was before, or if a round end had more statements to sign than leaves were left.
-        ensures mute { IfOk result (λ _. self.new.held.mute ≡ is_mute_then self.old event.now) }
+        ensures mute { IfOk result (λ _. self.new.replay.mute ≡ is_mute_then self.old event.now) }
         ensures err { OnErr result (self.new ≡ record self.old { keys = self.new.keys }) }
         ensures free { OnErr result (gives_up event.now ≡ false) }
         ensures least { self.old.keys.used ≤ self.new.keys.used }
@@ -80,15 +80,15 @@ impl<A: Application> Core<A> {
         ensures same { IsSameReplica self.old self.new }
     {
         match event {
-            Event::Submit(bytes) => Ok(Reply::Submitted(self.kept.submit(bytes)?)),
-            Event::Propose(height) => Ok(Reply::Proposed(self.kept.propose(alloc, *height)?)),
-            Event::Deliver(bytes) => Ok(Reply::Delivered(self.kept.deliver(alloc, bytes)?)),
+            Event::Submit(bytes) => Ok(Reply::Submitted(self.replay.submit(bytes)?)),
+            Event::Propose(height) => Ok(Reply::Proposed(self.replay.propose(alloc, *height)?)),
+            Event::Deliver(bytes) => Ok(Reply::Delivered(self.replay.deliver(alloc, bytes)?)),
             Event::RoundEnd => Ok(Reply::RoundEnded(self.end_round(alloc)?)),
-            Event::Execute => Ok(Reply::Executed(self.kept.execute(alloc)?)),
+            Event::Execute => Ok(Reply::Executed(self.replay.execute(alloc)?)),
             Event::Query(key, height) => {
-                Ok(Reply::Queried(self.kept.query(key.as_bytes(), height.number())?))
+                Ok(Reply::Queried(self.replay.query(key.as_bytes(), height.number())?))
             }
-            Event::Retire(floor) => Ok(Reply::Retired(self.kept.retire(*floor))),
+            Event::Retire(floor) => Ok(Reply::Retired(self.replay.retire(*floor))),
         }
     }
 }

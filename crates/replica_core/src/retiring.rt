@@ -1,9 +1,9 @@
 //! The replica gives up heights that it has committed.
-use crate::replica_state::ReplicaState;
+use crate::replay::Replay;
 use abci::Application;
 use ledger_model::{Height, RetireRefusal};
 
-impl<A: Application> ReplicaState<A> {
+impl<A: Application> Replay<A> {
     ghost use Rattle.std.specs.Prelude.{◌≡◌};
     ghost use Rattle.replica_core.specs.Steps.{retire_held, after_retire};
 

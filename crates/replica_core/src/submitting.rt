@@ -1,11 +1,11 @@
 //! A client submits a transaction.
-use crate::replica_state::ReplicaState;
+use crate::replay::Replay;
 use abci::Application;
 use batch_pool::SubmitFault;
 use ledger_model::SubmitRefusal;
 use std::alloc::AllocError;
 
-impl<A: Application> ReplicaState<A> {
+impl<A: Application> Replay<A> {
     ghost use Rattle.std.specs.Prelude.{◌≡◌, IfOk, OnErr};
     ghost use Rattle.replica_core.specs.Steps.{submit_held, pool_with};
 

@@ -1,6 +1,6 @@
 //! The verifier of a core: which signatures it knows is no part of what the core derives from its history.
 use crate::replica::Core;
-use crate::replica_state::ReplicaState;
+use crate::replay::Replay;
 use abci::Application;
 use key_ring::KeyRing;
 use ledger_model::Ignored;
@@ -8,7 +8,7 @@ use signed_frames::{Frame, SignedPart};
 use std::mem;
 use verify_cache::Verifier;
 
-impl<A: Application> ReplicaState<A> {
+impl<A: Application> Replay<A> {
     ghost use Rattle.std.specs.Prelude.{◌≡◌, map};
     ghost use Rattle.verify_cache.specs.Checks.{is_part_signed};
 
@@ -34,7 +34,7 @@ impl<A: Application> Core<A> {
     ghost use Rattle.std.specs.Prelude.{◌≡◌, List, map};
     ghost use Rattle.ledger_model.specs.declared.history.Entry.{Entry};
     ghost use Rattle.verify_cache.specs.Checks.{is_part_signed};
-    ghost use Rattle.replica_core.specs.ReplicaStates.{MatchesHistory};
+    ghost use Rattle.replica_core.specs.Replays.{MatchesHistory};
     ghost use Rattle.replica_core.specs.Placing.{answer_before_signature};
 
     /// Takes in what was computed elsewhere: whether each of these parts of frames is signed under this ring's keys, in
@@ -44,23 +44,23 @@ impl<A: Application> Core<A> {
         requires { answers.now ≡ map (is_part_signed ring.now) parts.now }
         ensures { self.new ≡ self.old }
     {
-        self.kept.prime(ring, parts, answers);
+        self.replay.prime(ring, parts, answers);
     }
 
     /// The first cause for which the replica ignores the frame before it checks the signature, if one applies: the signer,
     /// the height, the round, the phase, the owner, or a repetition.
     pub fn cause_before_signature(&self, frame: &Frame) -> Result<(), Ignored>
         // This holds for every history that the core matches.
-        ensures { (entries : List Entry) → MatchesHistory self.now.held entries
-            → result ≡ answer_before_signature self.now.held.config self.now.held.id entries frame.now.statement }
+        ensures { (entries : List Entry) → MatchesHistory self.now.replay entries
+            → result ≡ answer_before_signature self.now.replay.config self.now.replay.id entries frame.now.statement }
     {
-        self.kept.cause_before_signature(frame)
+        self.replay.cause_before_signature(frame)
     }
 
     /// The verifier, which has the ring and knows the answers of the last checks.
     pub fn verifier(&self) -> &Verifier
-        ensures { result.now.ring ≡ self.now.held.ring }
+        ensures { result.now.ring ≡ self.now.replay.ring }
     {
-        &self.kept.verifier
+        &self.replay.verifier
     }
 }

@@ -38,7 +38,7 @@ pub(crate) fn new_follower(
     random: RandomState,
     told: &Snapshot,
 ) -> Result<Follower<AnyKind>, Fault>
-    ensures { IfOk result (λ follower. follower.held.ring ≡ told.now.ring) }
+    ensures { IfOk result (λ follower. follower.replay.ring ≡ told.now.ring) }
 {
     let app = AnyKind::new(alloc, told.config.kind);
     follower_with(alloc, random, told, app)
@@ -52,7 +52,7 @@ pub(crate) fn follower_with<A: Application>(
     app: A,
 ) -> Result<Follower<A>, Fault>
     requires { A.machine app ≡ run told.now.config.kind [] }
-    ensures { IfOk result (λ follower. follower.held.ring ≡ told.now.ring) }
+    ensures { IfOk result (λ follower. follower.replay.ring ≡ told.now.ring) }
 {
     let id = told.history.replica;
     if id.number() >= told.config.replicas {
@@ -69,7 +69,7 @@ pub(crate) fn is_taken<A: Application>(
     event: &Event,
     reply: &Reply,
 ) -> Result<bool, AllocError>
-    ensures { follower.new.held.ring ≡ follower.old.held.ring }
+    ensures { follower.new.replay.ring ≡ follower.old.replay.ring }
 {
     follower.follow(alloc, event, reply)
 }
@@ -80,7 +80,7 @@ pub(crate) fn takes_all<A: Application>(
     alloc: Global,
     entries: &[Entry],
 ) -> Result<bool, AllocError>
-    ensures { follower.new.held.ring ≡ follower.old.held.ring }
+    ensures { follower.new.replay.ring ≡ follower.old.replay.ring }
 {
     for entry in entries {
         if !is_taken(follower, alloc, &entry.event, &entry.reply)? {

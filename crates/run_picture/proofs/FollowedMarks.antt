@@ -3,8 +3,8 @@ use Rattle.std.proofs.Common.{◌≡◌, ◌∙◌, ℕ, ◌+◌, ◌≤◌, Lis
 use Rattle.std.proofs.Common.{append-nil, take_all}
 use Rattle.ledger_model.specs.declared.history.Entry.{Entry}
 use Rattle.ledger_model.specs.Lawful.{Replay}
-use Rattle.replica_core.specs.Following.{IsSameReplicaState}
-use Rattle.replica_core.specs.ReplicaStates.{ReplicaStateView}
+use Rattle.replica_core.specs.Following.{IsSameReplay}
+use Rattle.replica_core.specs.Replays.{ReplayView}
 use Rattle.run_picture.specs.declared.entry_facts.Mark.{Mark}
 use Rattle.run_picture.specs.declared.following.ReplayMarks.{ReplayMarks}
 use Rattle.run_picture.specs.declared.part.Part.{Part}
@@ -33,8 +33,8 @@ more shown entries i e start before after split was now =
     ∙ ap (λ es. start ++ shown_after shown [] es) (sym split)
 
 -- the decisions
-pub decided_more : (a b : ReplicaStateView) (part : Part) (entries : List Entry) (i : ℕ) (e : Entry) (start before after : List Mark)
-    → IsSameReplicaState a b → take (i + 1) entries ≡ take i entries ++ e ∷ []
+pub decided_more : (a b : ReplayView) (part : Part) (entries : List Entry) (i : ℕ) (e : Entry) (start before after : List Mark)
+    → IsSameReplay a b → take (i + 1) entries ≡ take i entries ++ e ∷ []
     → before ≡ start ++ decisions_in a.config part a.id (take i entries)
     → after ≡ before ++ decisions_at b.config part b.id (take i entries) e
     → after ≡ start ++ decisions_in a.config part a.id (take (i + 1) entries)
@@ -44,8 +44,8 @@ decided_more a b part entries i e start before after same split was now =
     ∙ ap (λ r. before ++ decisions_at a.config part r (take i entries) e) same.id)
 
 -- the heights that are given up
-pub retired_more : (a b : ReplicaStateView) (part : Part) (entries : List Entry) (i : ℕ) (e : Entry) (start before after : List Mark)
-    → IsSameReplicaState a b → take (i + 1) entries ≡ take i entries ++ e ∷ []
+pub retired_more : (a b : ReplayView) (part : Part) (entries : List Entry) (i : ℕ) (e : Entry) (start before after : List Mark)
+    → IsSameReplay a b → take (i + 1) entries ≡ take i entries ++ e ∷ []
     → before ≡ start ++ retired_in part a.id (take i entries) → after ≡ before ++ retired_marks_of part b.id (take i entries) e
     → after ≡ start ++ retired_in part a.id (take (i + 1) entries)
 retired_more a b part entries i e start before after same split was now =
@@ -53,7 +53,7 @@ retired_more a b part entries i e start before after same split was now =
     (now ∙ ap (λ r. before ++ retired_marks_of part r (take i entries) e) same.id)
 
 -- all entries were followed
-pub all_followed : (a : ReplicaStateView) (part : Part) (entries : List Entry) (i : ℕ) (start now : ReplayMarks) → length entries ≤ i
+pub all_followed : (a : ReplayView) (part : Part) (entries : List Entry) (i : ℕ) (start now : ReplayMarks) → length entries ≤ i
     → Replay a.config a.ring a.id (take i entries)
     → now.decisions.items ≡ start.decisions.items ++ decisions_in a.config part a.id (take i entries)
     → now.retired.items ≡ start.retired.items ++ retired_in part a.id (take i entries)

@@ -26,8 +26,8 @@ use Rattle.instance.specs.Instances.{InstanceView}
 use Rattle.instance.specs.Matching.{only_rounds}
 use Rattle.height_row.specs.Heights.{row_at}
 use Rattle.replica_core.specs.Facts.{heights_up_to, is_undecided, undecided_heights}
-use Rattle.replica_core.specs.Following.{IsSameReplicaState}
-use Rattle.replica_core.specs.ReplicaStates.{ReplicaStateView, MatchesHistory}
+use Rattle.replica_core.specs.Following.{IsSameReplay}
+use Rattle.replica_core.specs.Replays.{ReplayView, MatchesHistory}
 use Rattle.replica_core.proofs.Histories.{clock_more, count_commits}
 use Rattle.replica_core.proofs.Unopened.{none_below, opened_there}
 use Rattle.run_picture.specs.declared.entry_facts.Mark.{Mark}
@@ -150,8 +150,8 @@ floor_kept : (r : Reply) (floor : ℕ) → is_opened r ≡ true → floor_step f
 floor_kept (reply.Retired (Ok raised)) floor opened = cc
 floor_kept r floor opened = refl
 
-module _ (old new : ReplicaStateView) (front : List Entry) (e : Entry) (matches : MatchesHistory old front)
-    (later : MatchesHistory new (front ++ e ∷ [])) (same : IsSameReplicaState old new) where
+module _ (old new : ReplayView) (front : List Entry) (e : Entry) (matches : MatchesHistory old front)
+    (later : MatchesHistory new (front ++ e ∷ [])) (same : IsSameReplay old new) where
   -- the round that is open after it
   clock_there : (h : ℕ) → clock_of (log_of old.config old.id h (front ++ e ∷ []))
       ≡ clock_of (log_of old.config old.id h front) + cond (is_opened e.reply) 1 0

@@ -5,7 +5,7 @@ use Rattle.ledger_model.specs.declared.history.Entry.{Entry}
 use Rattle.ledger_model.specs.declared.history.History.{History}
 use Rattle.ledger_model.specs.Lawful.{clock_at}
 use Rattle.ledger_model.specs.Rules.{Ring}
-use Rattle.replica_core.specs.ReplicaStates.{MatchesHistory}
+use Rattle.replica_core.specs.Replays.{MatchesHistory}
 use Rattle.replica_core.specs.Following.{FollowerView, KeepsReplay}
 use Rattle.run_picture.specs.declared.part.Part.{Part}
 use Rattle.run_picture.specs.declared.entry_facts.Mark.{Mark}
@@ -38,14 +38,14 @@ AddsEntries part r entries old new =
 -- appended, and otherwise nothing is
 pub record FollowsEntry (part : Part) (index : ℕ) (e : Entry) (old new : FollowerView) (before after : ReplayMarks) (kept : Bool) : Type 0
   where
-    pub exact : (front : List Entry) → MatchesHistory old.held front → kept ≡ true ↔ KeepsReplay old.held front e.event e.reply
-    pub matches : kept ≡ true → (front : List Entry) → MatchesHistory old.held front → MatchesHistory new.held (front ++ e ∷ [])
+    pub exact : (front : List Entry) → MatchesHistory old.replay front → kept ≡ true ↔ KeepsReplay old.replay front e.event e.reply
+    pub matches : kept ≡ true → (front : List Entry) → MatchesHistory old.replay front → MatchesHistory new.replay (front ++ e ∷ [])
     pub lost : new.lost ≡ not kept
     pub left : kept ≡ false → after ≡ before
-    pub decisions : kept ≡ true → (front : List Entry) → MatchesHistory old.held front → length front ≡ index
-        → after.decisions.items ≡ before.decisions.items ++ decisions_at old.held.config part old.held.id front e
-    pub retired : kept ≡ true → (front : List Entry) → MatchesHistory old.held front → length front ≡ index
-        → after.retired.items ≡ before.retired.items ++ retired_marks_of part old.held.id front e
+    pub decisions : kept ≡ true → (front : List Entry) → MatchesHistory old.replay front → length front ≡ index
+        → after.decisions.items ≡ before.decisions.items ++ decisions_at old.replay.config part old.replay.id front e
+    pub retired : kept ≡ true → (front : List Entry) → MatchesHistory old.replay front → length front ≡ index
+        → after.retired.items ≡ before.retired.items ++ retired_marks_of part old.replay.id front e
 
 -- replica r's entries were followed as far as they are a replay: their number is returned, and what they decide and give up is appended
 pub record FollowsHistory (config : Config) (ring : Ring) (part : Part) (r : ℕ) (entries : List Entry) (before after : ReplayMarks)

@@ -5,7 +5,7 @@ ghost use Rattle.std.specs.Option.{option_copied};
 ghost use Rattle.ledger_model.specs.declared.history.Entry.{Entry as EntryValue};
 ghost use Rattle.ledger_model.specs.Commits.{decision_at};
 ghost use Rattle.ledger_model.specs.Lawful.{is_opened};
-ghost use Rattle.replica_core.specs.ReplicaStates.{MatchesHistory};
+ghost use Rattle.replica_core.specs.Replays.{MatchesHistory};
 ghost use Rattle.replica_core.specs.Facts.{undecided_heights};
 ghost use Rattle.run_picture.specs.Decisions.{mark_if};
 

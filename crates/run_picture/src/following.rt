@@ -1,8 +1,8 @@
 //! Follows a history as far as it is a replay, and reads what each entry decides and gives up.
 ghost use Rattle.std.specs.Prelude.{◌≡◌, ◌<◌, ◌≤◌, false, [], IfOk};
 ghost use Rattle.ledger_model.specs.Applications.{run};
-ghost use Rattle.replica_core.specs.ReplicaStates.{MatchesHistory};
-ghost use Rattle.replica_core.specs.Following.{IsSameReplicaState};
+ghost use Rattle.replica_core.specs.Replays.{MatchesHistory};
+ghost use Rattle.replica_core.specs.Following.{IsSameReplay};
 ghost use Rattle.run_picture.specs.Collected.{FollowsEntry, FollowsHistory};
 
 use crate::deciding::{add_decisions, deciding_heights};
@@ -42,7 +42,7 @@ fn follow_entry<A: Application>(
 ) -> Result<bool, AllocError>
     requires { follower.old.lost ≡ false }
     ensures follows { IfOk result (FollowsEntry part.now index entry.now follower.old follower.new marks.old marks.new) }
-    ensures same { IsSameReplicaState follower.old.held follower.new.held }
+    ensures same { IsSameReplay follower.old.replay follower.new.replay }
 {
     let replay = follower.replay();
     let replica = replay.id();
@@ -83,11 +83,11 @@ fn follow_entries<A: Application>(
     part: &Part,
     entries: &[Entry],
 ) -> Result<usize, AllocError>
-    requires first { MatchesHistory follower.old.held [] }
+    requires first { MatchesHistory follower.old.replay [] }
     requires kept { follower.old.lost ≡ false }
-    ensures follows { IfOk result (FollowsHistory follower.old.held.config follower.old.held.ring part.now follower.old.held.id entries.now
+    ensures follows { IfOk result (FollowsHistory follower.old.replay.config follower.old.replay.ring part.now follower.old.replay.id entries.now
         marks.old marks.new) }
-    ensures same { IsSameReplicaState follower.old.held follower.new.held }
+    ensures same { IsSameReplay follower.old.replay follower.new.replay }
 {
     for (index, entry) in entries.iter().enumerate() {
         if !follow_entry(alloc, marks, follower, part, index, entry)? {

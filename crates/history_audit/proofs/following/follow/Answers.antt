@@ -2,7 +2,7 @@ use Rattle.std.proofs.Common.{not, take, sym, subst, ap, refl, ◌∙◌}
 use Rattle.ledger_model.specs.declared.history.Entry.{Entry}
 use Rattle.ledger_model.specs.Lawful.{Replay, ReplaysFrom}
 use Rattle.ledger_model.proofs.Lists.{take_item}
-use Rattle.replica_core.specs.ReplicaStates.{MatchesHistory}
+use Rattle.replica_core.specs.Replays.{MatchesHistory}
 use Rattle.replica_core.proofs.FollowedReplays.{replay_more, replay_ends, same_later}
 use Rattle.history_audit.proofs.following.follow.Goals as goal
 
@@ -15,17 +15,17 @@ loop-index-preserved g c =
     let i = c.loop-index.index in
     let entries = c.args.entries.now in
     let e : Entry = c.index-entries-index.result in
-    let a = c.args.follower.now.held in
-    let b = c.loop-index.follower.held in
+    let a = c.args.follower.now.replay in
+    let b = c.loop-index.follower.replay in
     let before = c.loop-index.invariant in
     let split = take_item entries i e c.loop-index-test.true c.index-entries-index.is in
     let exact = c.in_ok-follow.ensures.exact (before.2) (take i entries) (before.0) in (
-      subst (MatchesHistory c.follow.new.self.held) (sym split)
+      subst (MatchesHistory c.follow.new.self.replay) (sym split)
           (c.in_ok-follow.ensures.matches c.if-not-branch.false (take i entries) (before.0)),
       subst (Replay a.config a.ring a.id) (sym split)
           (replay_more a b (take i entries) e (before.3) (before.1) (exact.0 c.if-not-branch.false)),
       c.in_ok-follow.ensures.lost ∙ ap not c.if-not-branch.false,
-      same_later a b c.follow.new.self.held (before.3) (c.follow.ensures.same),
+      same_later a b c.follow.new.self.replay (before.3) (c.follow.ensures.same),
     )
 
 pub returns-then-not-branch-clause-answer : goal.returns-then-not-branch-clause-answer
@@ -35,6 +35,6 @@ returns-then-not-branch-clause-answer g c =
     let e : Entry = c.index-entries-index.result in
     let before = c.loop-index.invariant in
     let split = take_item entries i e c.loop-index-test.true c.index-entries-index.is in
-    replay_ends c.args.follower.now.held c.loop-index.follower.held entries i e c.in_ok-follow.field-0
+    replay_ends c.args.follower.now.replay c.loop-index.follower.replay entries i e c.in_ok-follow.field-0
     (before.3) c.loop-index-test.true split
     (before.1) (c.in_ok-follow.ensures.exact (before.2) (take i entries) (before.0)) c.if-not-branch.true

@@ -3,7 +3,7 @@ use Rattle.std.proofs.Common.{◌≡◌, ◌++◌, List, take}
 use Rattle.std.specs.List.{flat_map}
 use Rattle.ledger_model.specs.declared.history.Entry.{Entry}
 use Rattle.ledger_model.specs.Commits.{decision_at}
-use Rattle.replica_core.specs.ReplicaStates.{MatchesHistory}
+use Rattle.replica_core.specs.Replays.{MatchesHistory}
 use Rattle.run_picture.specs.Decisions.{mark_if}
 use Rattle.run_picture.proofs.deciding.add_decisions.Given as goal
 

@@ -22,19 +22,19 @@ returns-clause-applied g c =
 
 pub returns-clause-sound : goal.returns-clause-sound
 returns-clause-sound g c =
-    sound c.take_event.new.core.held c.take_event.new.core.keys (entries_of c.take_event.new.strings c.store.new.entries.items)
+    sound c.take_event.new.core.replay c.take_event.new.core.keys (entries_of c.take_event.new.strings c.store.new.entries.items)
     (invariant_of-self-2 g c).0
 
 pub returns-then-index-ge-MAX_ENTRIES-clause-sound : goal.returns-then-index-ge-MAX_ENTRIES-clause-sound
 returns-then-index-ge-MAX_ENTRIES-clause-sound g c =
     let s = c.self.inside in
-    rw (sym c.self.view_is) (sound s.core.held s.core.keys (entries_of s.strings s.entries.items) c.self.invariant.0)
+    rw (sym c.self.view_is) (sound s.core.replay s.core.keys (entries_of s.strings s.entries.items) c.self.invariant.0)
 
 pub returns-in_err-reserve-clause-sound : goal.returns-in_err-reserve-clause-sound
 returns-in_err-reserve-clause-sound g c =
     let s = c.self.inside in
-    sound s.core.held s.core.keys (entries_of s.strings c.reserve.new.self.items)
-    (subst (λ es. IsReplica s.core.held s.core.keys (entries_of s.strings es)) (sym c.reserve.ensures.items) c.self.invariant.0)
+    sound s.core.replay s.core.keys (entries_of s.strings c.reserve.new.self.items)
+    (subst (λ es. IsReplica s.core.replay s.core.keys (entries_of s.strings es)) (sym c.reserve.ensures.items) c.self.invariant.0)
 
 pub invariant_of-self-in_err-entry : goal.invariant_of-self-in_err-entry
 invariant_of-self-in_err-entry g c =
@@ -44,7 +44,7 @@ invariant_of-self-in_err-entry g c =
 
 pub returns-in_err-entry-clause-sound : goal.returns-in_err-entry-clause-sound
 returns-in_err-entry-clause-sound g c =
-    sound c.take_event.new.core.held c.take_event.new.core.keys (entries_of c.take_event.new.strings c.reserve.new.self.items)
+    sound c.take_event.new.core.replay c.take_event.new.core.keys (entries_of c.take_event.new.strings c.reserve.new.self.items)
     (invariant_of-self-in_err-entry g c).0
 
 pub returns-in_err-entry-clause-refused : goal.returns-in_err-entry-clause-refused

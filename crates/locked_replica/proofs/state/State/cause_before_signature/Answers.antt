@@ -5,7 +5,7 @@ use Rattle.locked_replica.proofs.state.State.cause_before_signature.Goals as goa
 
 pub returns-clause-ignored : goal.returns-clause-ignored
 returns-clause-ignored g c =
-    let held = c.self.inside.core.held in
+    let held = c.self.inside.core.replay in
     let entries = entries_of c.self.inside.strings c.self.inside.entries.items in
     rw (sym c.self.view_is)
     (each_ignored held.config held.id entries c.args.frame.now.statement c.cause_before_signature.result
@@ -13,7 +13,7 @@ returns-clause-ignored g c =
 
 pub returns-clause-checked : goal.returns-clause-checked
 returns-clause-checked g c =
-    let held = c.self.inside.core.held in
+    let held = c.self.inside.core.replay in
     let entries = entries_of c.self.inside.strings c.self.inside.entries.items in
     rw (sym c.self.view_is)
     (each_checked held.config held.id entries c.args.frame.now c.cause_before_signature.result

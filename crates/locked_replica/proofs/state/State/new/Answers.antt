@@ -1,7 +1,7 @@
 use Rattle.std.proofs.Common.{◌≡◌, ◌≤◌, [], length, lit≤, refl, sym, ap, subst}
 use Rattle.ledger_model.specs.Lawful.{Replay, ReplaysFrom}
 use Rattle.key_ring.specs.Signers.{leaves_of}
-use Rattle.replica_core.specs.ReplicaStates.{MatchesHistory}
+use Rattle.replica_core.specs.Replays.{MatchesHistory}
 use Rattle.replica_core.specs.Leaves.{LeafAccount}
 use Rattle.replica_core.specs.LeafOrder.{SignsOnce}
 use Rattle.replica_core.proofs.SpentLeaves.{account_none}
@@ -14,7 +14,7 @@ use Rattle.ledger_model.specs.Limits.{max_history_len}
 pub invariant_of-result : goal.invariant_of-result
 unfolding Replay ReplaysFrom
 invariant_of-result g c =
-    let held = c.in_ok-new.field-0.held in
+    let held = c.in_ok-new.field-0.replay in
     let keys = c.in_ok-new.field-0.keys in
     let strings = c.new-2.result in
     let none : entries_of strings c.new-3.result.items ≡ [] = ap (entries_of strings) c.new-3.ensures.items in (

@@ -8,14 +8,14 @@ pub prepare_round-requires-clause-endings : goal.prepare_round-requires-clause-e
 prepare_round-requires-clause-endings g c = c.in_ok-closings.ensures.endings ∙ c.in_ok-endings.ensures.endings
 
 pub prepare_round-requires-clause-own : goal.prepare_round-requires-clause-own
-prepare_round-requires-clause-own g c = mute_own c.self.inside.kept.config c.self.inside.kept.id c.in_ok-closings.closings.items
+prepare_round-requires-clause-own g c = mute_own c.self.inside.replay.config c.self.inside.replay.id c.in_ok-closings.closings.items
     c.in_ok-closings.ensures.nothing
 
 pub returns-clause-prepared : goal.returns-clause-prepared
 returns-clause-prepared g c =
-    let early = subst (λ (x : CoreView). x.held.clock < last_round) (sym c.self.view_is) c.requires.clock in
-    let ends = mute_step c.self.inside.kept c.self.inside.signer c.in_ok-closings.closings.items c.in_ok-endings.ensures.held early
+    let early = subst (λ (x : CoreView). x.replay.clock < last_round) (sym c.self.view_is) c.requires.clock in
+    let ends = mute_step c.self.inside.replay c.self.inside.signer c.in_ok-closings.closings.items c.in_ok-endings.ensures.limits early
     (c.in_ok-closings.ensures.endings ∙ c.in_ok-endings.ensures.endings) c.in_ok-closings.ensures.nothing in
     rw (sym c.self.view_is)
-    (end_prepared c.self.inside.kept c.self.inside.signer c.self.inside.signer true c.in_ok-closings.closings.items
+    (end_prepared c.self.inside.replay c.self.inside.signer c.self.inside.signer true c.in_ok-closings.closings.items
     c.prepare_round.result c.prepare_round.ensures.prepared c.prepare_round.ensures.ready ends.0 ends.1)

@@ -1,5 +1,0 @@
-use Rattle.std.proofs.Common.{sym}
-use Rattle.replica_core.proofs.replica_state.ReplicaState.is_mute.Goals as goal
-
-pub returns-clause-same : goal.returns-clause-same
-returns-clause-same g c = rw (sym c.self.view_is) (λ entries matches. matches.mute)
