@@ -3,7 +3,7 @@ use Rattle.std.proofs.Common.{◌≡◌, ◌+◌, ◌≤◌, inl, inr, false, ap
 use Rattle.std.proofs.lemmas.Bool.{cases_Bool}
 use Rattle.ledger_model.specs.declared.event.Event.{Event}
 use Rattle.locked_replica.specs.Applying.{RefusesEvent}
-use Rattle.locked_replica.specs.declared.fault.ApplyFault.{ApplyFault}
+use Rattle.ledger_model.specs.declared.fault.ApplyFault.{ApplyFault}
 use Rattle.locked_replica.specs.States.{StateView, due_next, may_lose, signs_at}
 use Rattle.adversary_net.specs.Steps.{Stays}
 

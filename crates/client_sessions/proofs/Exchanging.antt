@@ -4,7 +4,7 @@ use Rattle.std.proofs.lemmas.Bool.{le-ltb}
 use Rattle.std.specs.Prelude.{nat_lt, ◌||◌, Ok, if◌then◌else◌}
 use Rattle.std.specs.Int.{w32, to_be_bytes}
 use Rattle.ledger_model.specs.declared.reply.QueryAnswer.{QueryAnswer}
-use Rattle.ledger_model.specs.Sessions.{Exchange, Queries, Heights, Request, Query, Height, Session, Serves, Gives, status, present}
+use Rattle.ledger_model.specs.Sessions.{Exchange, Queries, Heights, Request, Query, Height, Session, Serves, Gives, is_too_long, status, present}
 use Rattle.client_sessions.specs.Answering.{AnswersOneRequest}
 
 -- a choice by a test that holds
@@ -37,15 +37,26 @@ module _ {T : Type 0} (asks : T → Exchange → T → Type 0) (count : ℕ) (be
   query_behind min key replica found asked same behind =
       by_one (Query min key) (status 2) old (Queries replica key (Ok found)) asked (same, refl, if_so _ _ _ _ _ behind (refl, refl))
 
-  -- or isn't
+  -- or isn't, but the value fits into no reply
+  pub query_too_long : (min : ℕ) (key : List ℕ) (replica : ℕ) (found : QueryAnswer) → asks before (Queries replica key (Ok found)) after
+      → replica ≡ old.replica
+      → (nat_lt found.height min || nat_lt found.height old.greatest) ≡ false
+      → is_too_long found.value ≡ true
+      → AnswersOneRequest asks count before after old (Query min key) (status 6) old
+  query_too_long min key replica found asked same behind long =
+      by_one (Query min key) (status 6) old (Queries replica key (Ok found)) asked
+      (same, refl, if_not _ _ _ _ _ behind (if_so _ _ _ _ _ long (refl, refl)))
+
+  -- or does
   pub query_told : (min : ℕ) (key : List ℕ) (replica : ℕ) (found : QueryAnswer) (new : Session)
       → asks before (Queries replica key (Ok found)) after → replica ≡ old.replica
       → (nat_lt found.height min || nat_lt found.height old.greatest) ≡ false
+      → is_too_long found.value ≡ false
       → new ≡ record old { greatest = found.height }
       → AnswersOneRequest asks count before after old (Query min key) (0 ∷ to_be_bytes w32 found.height ++ present found.value) new
-  query_told min key replica found new asked same behind raised =
+  query_told min key replica found new asked same behind short raised =
       by_one (Query min key) (0 ∷ to_be_bytes w32 found.height ++ present found.value) new (Queries replica key (Ok found)) asked
-      (same, refl, if_not _ _ _ _ _ behind (refl, raised))
+      (same, refl, if_not _ _ _ _ _ behind (if_not _ _ _ _ _ short (refl, raised)))
 
   -- the board's height is behind
   pub height_behind : (replica height : ℕ) → asks before (Heights replica height) after → replica ≡ old.replica

@@ -5,32 +5,39 @@ use Rattle.std.specs.Int.{w32, to_be_bytes}
 use Rattle.std.specs.List.{flat_map}
 use Rattle.std.proofs.lemmas.Bool.{ltb-false, or_parts}
 use Rattle.std.proofs.lemmas.List.Concat.{flat_map-cons}
+use Rattle.ledger_model.specs.declared.fault.ApplyFault.{ApplyFault}
+use Rattle.ledger_model.specs.declared.fault.ApplyFault.TheVariants as fault
 use Rattle.ledger_model.specs.declared.reply.QueryAnswer.{QueryAnswer}
-use Rattle.ledger_model.specs.Sessions.{Exchange, Submits, Queries, Heights, Blocks, Fault, Full, Want_of_memory, Gives, Height, Malformed}
+use Rattle.ledger_model.specs.Sessions.{Exchange, Submits, Queries, Heights, Blocks, Gives, is_too_long, Height, Malformed}
 use Rattle.ledger_model.specs.Sessions.{Query, Request, Serves, Session, Session_of, Submit, Block, Switch, faulty, framed, present}
 use Rattle.ledger_model.specs.Sessions.{request_of, status}
 use Rattle.client_sessions.specs.Heights.{IsRefusalReply, Rises, RisesBy, ContainsHeight, TellsNone}
 
 -- a fault's reply is a refusal
-fault_refuses : (fault : Fault) (reply : List ℕ) → reply ≡ faulty fault → IsRefusalReply reply
-fault_refuses Full reply is = subst IsRefusalReply (sym is) (omega arith)
-fault_refuses Want_of_memory reply is = subst IsRefusalReply (sym is) (omega arith)
+fault_refuses : (why : ApplyFault) (reply : List ℕ) → reply ≡ faulty why → IsRefusalReply reply
+fault_refuses fault.HistoryFull reply is = subst IsRefusalReply (sym is) (omega arith)
+fault_refuses fault.NoMemory reply is = subst IsRefusalReply (sym is) (omega arith)
 
 -- so is that of a height that is behind
 behind_refuses : (reply : List ℕ) → reply ≡ status 2 → IsRefusalReply reply
 behind_refuses reply is = subst IsRefusalReply (sym is) (omega arith)
+
+-- and that of a value that fits into no reply
+long_refuses : (reply : List ℕ) → reply ≡ status 6 → IsRefusalReply reply
+long_refuses reply is = subst IsRefusalReply (sym is) (omega arith)
 
 module _ (s : Session) (reply : List ℕ) (new : Session) where
   -- no height is answered, and the session stays as it was
   stays : (request : Request) → new ≡ s → TellsNone request reply → RisesBy s.greatest request reply new.greatest
   stays request same none = inl (ap (λ t. t.greatest) same, none)
 
-  query_step : (min : ℕ) (key : List ℕ) (a : QueryAnswer) (test : Bool) → (nat_lt a.height min || nat_lt a.height s.greatest) ≡ test
-      → Gives reply new (if test then (status 2, s)
+  query_step : (min : ℕ) (key : List ℕ) (a : QueryAnswer) (test long : Bool) → (nat_lt a.height min || nat_lt a.height s.greatest) ≡ test
+      → Gives reply new (if test then (status 2, s) else if long then (status 6, s)
       else (0 ∷ to_be_bytes w32 a.height ++ present a.value, record s { greatest = a.height }))
       → RisesBy s.greatest (Query min key) reply new.greatest
-  query_step min key a true is gives = stays (Query min key) gives.1 (behind_refuses reply gives.0)
-  query_step min key a false is gives =
+  query_step min key a true long is gives = stays (Query min key) gives.1 (behind_refuses reply gives.0)
+  query_step min key a false true is gives = stays (Query min key) gives.1 (long_refuses reply gives.0)
+  query_step min key a false false is gives =
       let (enough, later) = or_parts (nat_lt a.height min) (nat_lt a.height s.greatest) is in
       let raised : a.height ≡ new.greatest = sym (ap (λ t. t.greatest) gives.1) in
       inr (
@@ -58,7 +65,7 @@ one_rises targets s (Submit tx) (Submits r asked (Ok (Ok index)) ∷ []) reply n
 one_rises targets s (Submit tx) (Submits r asked (Ok (Err e)) ∷ []) reply new serves = stays s reply new (Submit tx) serves.3 tt
 one_rises targets s (Submit tx) (Submits r asked (Err f) ∷ []) reply new serves = stays s reply new (Submit tx) serves.3 tt
 one_rises targets s (Query min key) (Queries r asked (Ok a) ∷ []) reply new serves =
-    query_step s reply new min key a (nat_lt a.height min || nat_lt a.height s.greatest) refl serves.2
+    query_step s reply new min key a (nat_lt a.height min || nat_lt a.height s.greatest) (is_too_long a.value) refl serves.2
 one_rises targets s (Query min key) (Queries r asked (Err f) ∷ []) reply new serves =
     stays s reply new (Query min key) serves.3 (fault_refuses f reply serves.2)
 one_rises targets s Height (Heights r height ∷ []) reply new serves =

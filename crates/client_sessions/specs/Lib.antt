@@ -1,4 +1,3 @@
-pub mod Asking
 pub mod Requests
 pub mod Answers
 pub mod Answering

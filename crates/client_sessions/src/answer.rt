@@ -1,6 +1,5 @@
 //! A session's answer to a request.
-use crate::TargetFault;
-use ledger_model::{Batch, Height, QueryAnswer, ReplicaId, SubmitRefusal};
+use ledger_model::{ApplyFault, Batch, Height, QueryAnswer, ReplicaId, SubmitRefusal};
 
 /// The answer to a request, with the data for its reply.
 #[derive(Drop)]
@@ -11,6 +10,8 @@ pub(crate) enum Answer {
     Receipt(ReplicaId, u32),
     /// The application's answer to a query.
     Value(QueryAnswer),
+    /// The application has a value, but it has more than 65,529 bytes, so it fits into no reply.
+    TooLong,
     /// The committed height.
     Height(Height),
     /// The batch of the block at this height.
@@ -26,5 +27,5 @@ pub(crate) enum Answer {
     /// The pool refused the transaction.
     Refused(SubmitRefusal),
     /// The replica took no event.
-    Faulted(TargetFault),
+    Faulted(ApplyFault),
 }

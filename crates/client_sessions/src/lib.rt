@@ -30,7 +30,7 @@
 //! ```
 //!
 //! The tests in `running_tests/src/session_tests.rt` run this code over streams in memory (`ends` and `end_of`); `Fake` is in
-//! `session_targets.rt` there. `CountedStream` (crate `counted_streams`) adds the counts of failures to any reader or writer of std.
+//! `session_targets.rt` there. `CountedStream` adds the counts of failures to any reader or writer of std.
 #![tactic(auto)]
 
 mod answer;
@@ -52,5 +52,5 @@ pub use serving::serve;
 pub use session::Session;
 pub use session_end::{SessionEnd, SessionFault};
 pub use streams::{SessionReader, SessionWriter};
-pub use targets::{TargetFault, Targets};
+pub use targets::Targets;
 pub use transfers::send;

@@ -1,18 +1,20 @@
 //! The bytes of a reply, in a buffer that has room for the longest reply.
-ghost use Rattle.std.specs.Prelude.{◌≡◌, ◌<◌, ◌≤◌, ◌^◌, ◌+◌, length, drop};
-ghost use Rattle.ledger_model.specs.Sessions.{framed};
+ghost use Rattle.std.specs.Prelude.{◌≡◌, ◌<◌, ◌≤◌, ◌^◌, ◌+◌, false, length, drop, IfSome};
+ghost use Rattle.ledger_model.specs.Sessions.{framed, is_too_long, max_value_len};
 
 use crate::answer::Answer;
 use crate::streams::SessionWriter;
-use crate::targets::TargetFault;
 use crate::transfers;
-use ledger_model::{Batch, Height, QueryAnswer, ReplicaId, SubmitRefusal, Tx};
+use ledger_model::{ApplyFault, Batch, Height, QueryAnswer, ReplicaId, SubmitRefusal, Tx};
 use std::alloc::{AllocError, Global};
 use std::io;
 use std::marker::Model;
 
 /// The most bytes of the body of a request or a reply: its length is written in two bytes.
 pub(crate) const MAX_BODY_LEN: usize = 65_535;
+
+/// The most bytes of a value in a reply, which also has a status, a height and a flag for the value.
+const MAX_VALUE_LEN: usize = MAX_BODY_LEN - 6;
 
 /// The number of bytes of the length, which precedes a body.
 const PREFIX_LEN: usize = 2;
@@ -25,12 +27,24 @@ enum Status {
     NotHeld = 3,
     HistoryFull = 4,
     NoReplica = 5,
+    ValueTooLong = 6,
     Empty = 17,
     TooLong = 18,
     Duplicate = 19,
     PoolFull = 20,
     Rejected = 21,
     NoMemory = 22,
+}
+
+/// Whether the value of an answer fits into no reply.
+pub(crate) fn is_too_long(answer: &QueryAnswer) -> bool
+    ensures long { result ≡ is_too_long answer.now.value }
+    ensures fits { result ≡ false → IfSome answer.now.value (λ v. length v ≤ max_value_len) }
+{
+    match &answer.value {
+        Some(value) => value.len() > MAX_VALUE_LEN,
+        None => false,
+    }
 }
 
 /// Writes the length of the body into the two bytes that precede it.
@@ -65,11 +79,10 @@ impl ReplyBuffer {
     ghost use Rattle.std.specs.Int.{w32, to_be_bytes};
     ghost use Rattle.std.specs.List.{flat_map};
     ghost use Rattle.ledger_model.specs.Values.{IsTx, IsValue, value_bytes};
-    ghost use Rattle.ledger_model.specs.Sessions.{receipt, refused, faulty, present, framed};
+    ghost use Rattle.ledger_model.specs.Sessions.{receipt, refused, faulty, present, framed, max_value_len};
     ghost use Rattle.client_sessions.specs.Faults.{failures_in};
     ghost use Rattle.client_sessions.specs.Streams.{IsBody};
     ghost use Rattle.byte_streams.specs.Writing.{Writes};
-    ghost use Rattle.client_sessions.specs.Asking.{exchange_fault, max_value_len};
     ghost use Rattle.client_sessions.specs.Answers.{reply_body, FitsReply};
 
     /// An empty reply. The only error is allocation failure.
@@ -169,13 +182,13 @@ impl ReplyBuffer {
         }
     }
 
-    fn put_fault(&mut self, fault: TargetFault)
+    fn put_fault(&mut self, fault: ApplyFault)
         requires { length self.old ≤ 1 }
-        ensures { self.new ≡ self.old ++ faulty (exchange_fault fault) }
+        ensures { self.new ≡ self.old ++ faulty fault }
     {
         match fault {
-            TargetFault::HistoryFull => self.put_u8(Status::HistoryFull as u8),
-            TargetFault::NoMemory => self.put_u8(Status::NoMemory as u8),
+            ApplyFault::HistoryFull => self.put_u8(Status::HistoryFull as u8),
+            ApplyFault::NoMemory => self.put_u8(Status::NoMemory as u8),
         }
     }
 
@@ -219,6 +232,7 @@ impl ReplyBuffer {
                 self.put_u8(Status::Done as u8);
                 self.put_block(*height, batch);
             }
+            Answer::TooLong => self.put_u8(Status::ValueTooLong as u8),
             Answer::Malformed => self.put_u8(Status::Malformed as u8),
             Answer::Behind => self.put_u8(Status::Behind as u8),
             Answer::NotHeld => self.put_u8(Status::NotHeld as u8),

@@ -1,6 +1,7 @@
 //! The state of a client's session: which replica it talks to, and the greatest height that the client has seen.
 use crate::Targets;
 use crate::answer::Answer;
+use crate::reply_buffer::is_too_long;
 use crate::request::Request;
 use ledger_model::{Height, ReplicaId};
 use std::marker::Model;
@@ -80,6 +81,9 @@ impl Session {
         };
         if self.is_behind(found.height, min_height) {
             return Answer::Behind;
+        }
+        if is_too_long(&found) {
+            return Answer::TooLong;
         }
         self.greatest = found.height;
         Answer::Value(found)

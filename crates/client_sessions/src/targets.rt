@@ -1,26 +1,13 @@
 //! The replicas that a session can talk to, as a trait that its caller implements.
-use ledger_model::{Batch, Height, QueryAnswer, ReplicaId, SubmitRefusal};
-use thiserror::Error;
-
-/// Why a replica gave no answer. After `NoMemory` a query may be in its history; else the replica is unchanged.
-#[derive(Clone, Copy, Debug, PartialEq, Eq, Error)]
-pub enum TargetFault {
-    /// Its history is full, or its clients have used up the entries that they share.
-    #[error("the history is full")]
-    HistoryFull,
-    /// Memory ran out.
-    #[error("out of memory")]
-    NoMemory,
-}
+use ledger_model::{ApplyFault, Batch, Height, QueryAnswer, ReplicaId, SubmitRefusal};
 
 /// Replicas by number, from 0 on. Their number never changes.
 ///
 /// Each call but `count` is one exchange with one replica. `asks` relates the targets before an exchange to the targets
 /// after it. The implementor chooses what `asks` says: all exchanges so far, the history of each replica, or nothing.
 pub trait Targets {
-    ghost use Rattle.std.specs.Prelude.{◌≡◌, ℕ, ◌<◌, ◌≤◌, length, IfOk, IfSome};
+    ghost use Rattle.std.specs.Prelude.{◌≡◌, ℕ, ◌<◌};
     ghost use Rattle.ledger_model.specs.Sessions.{Exchange, Submits, Queries, Heights, Blocks};
-    ghost use Rattle.client_sessions.specs.Asking.{outcome_of, max_value_len};
 
     ghost replicas: { Self → ℕ };
 
@@ -36,18 +23,16 @@ pub trait Targets {
         &mut self,
         replica: ReplicaId,
         tx: &[u8],
-    ) -> Result<Result<u32, SubmitRefusal>, TargetFault>
+    ) -> Result<Result<u32, SubmitRefusal>, ApplyFault>
         requires { replica < replicas self.old }
-        ensures asked { asks self.old (Submits replica tx.now (outcome_of result)) self.new }
+        ensures asked { asks self.old (Submits replica tx.now result) self.new }
         ensures count { replicas self.new ≡ replicas self.old };
 
-    /// Queries a replica's application for a key of at most 64 bytes, as of its last block. The value has at most
-    /// 65,529 bytes, so that it fits into a reply.
-    fn query(&mut self, replica: ReplicaId, key: &[u8]) -> Result<QueryAnswer, TargetFault>
+    /// Queries a replica's application for a key of at most 64 bytes, as of its last block.
+    fn query(&mut self, replica: ReplicaId, key: &[u8]) -> Result<QueryAnswer, ApplyFault>
         requires { replica < replicas self.old }
-        ensures asked { asks self.old (Queries replica key.now (outcome_of result)) self.new }
-        ensures count { replicas self.new ≡ replicas self.old }
-        ensures short { IfOk result (λ answer. IfSome answer.value (λ v. length v ≤ max_value_len)) };
+        ensures asked { asks self.old (Queries replica key.now result) self.new }
+        ensures count { replicas self.new ≡ replicas self.old };
 
     /// The committed height of a replica, from the commit board.
     fn height(&mut self, replica: ReplicaId) -> Height
@@ -56,8 +41,8 @@ pub trait Targets {
         ensures count { replicas self.new ≡ replicas self.old };
 
     /// The batch that a replica committed at a height; `None` at height 0 and above its committed height.
-    fn block(&mut self, replica: ReplicaId, height: Height) -> Result<Option<Batch>, TargetFault>
+    fn block(&mut self, replica: ReplicaId, height: Height) -> Result<Option<Batch>, ApplyFault>
         requires { replica < replicas self.old }
-        ensures asked { asks self.old (Blocks replica height (outcome_of result)) self.new }
+        ensures asked { asks self.old (Blocks replica height result) self.new }
         ensures count { replicas self.new ≡ replicas self.old };
 }

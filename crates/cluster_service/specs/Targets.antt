@@ -1,12 +1,14 @@
 -- What an exchange of a session says: some replica with a lawful history answers so. No clause says which replica it is.
 use Rattle.std.specs.Prelude.{◌≡◌, ℕ, ◌<◌, ◌≤◌, ⊤, true, List, length, Option, None, Result, Ok, Err}
 use Rattle.ledger_model.specs.declared.event.Event.TheVariants as event
+use Rattle.ledger_model.specs.declared.fault.ApplyFault.{ApplyFault}
+use Rattle.ledger_model.specs.declared.fault.ApplyFault.TheVariants as fault
 use Rattle.ledger_model.specs.declared.reply.QueryAnswer.{QueryAnswer}
 use Rattle.ledger_model.specs.declared.reply.SubmitRefusal.{SubmitRefusal}
 use Rattle.ledger_model.specs.Commits.{commits_of, submit_reply}
 use Rattle.ledger_model.specs.Lawful.{Replay}
 use Rattle.ledger_model.specs.Replies.{query_reply}
-use Rattle.ledger_model.specs.Sessions.{Exchange, Submits, Queries, Heights, Blocks, Fault, Full, Want_of_memory}
+use Rattle.ledger_model.specs.Sessions.{Exchange, Submits, Queries, Heights, Blocks}
 use Rattle.ledger_model.specs.Values.{Value}
 use Rattle.commit_board.specs.Seats.{ReadAtOnce}
 use Rattle.replica_core.specs.Facts.{block_at}
@@ -44,21 +46,21 @@ pub record IsCommitted (height : ℕ) (answer : Option Value) : Type 0 where
   pub answered : answer ≡ block_at (commits_of state.config state.id state.entries) height
 
 -- what an answer to a transaction says; only a transaction that a pool may take is refused by a fault
-abbrev pub AnswersSubmit : List ℕ → Result (Result ℕ SubmitRefusal) Fault → Type 0
+abbrev pub AnswersSubmit : List ℕ → Result (Result ℕ SubmitRefusal) ApplyFault → Type 0
 AnswersSubmit tx (Ok answer) = IsSubmitted tx answer
-AnswersSubmit tx (Err fault) = is_tx_len tx ≡ true
+AnswersSubmit tx (Err why) = is_tx_len tx ≡ true
 
 -- what an answer to a query says; a history is too full for a key that is short enough alone
-abbrev pub AnswersQuery : List ℕ → Result QueryAnswer Fault → Type 0
+abbrev pub AnswersQuery : List ℕ → Result QueryAnswer ApplyFault → Type 0
 AnswersQuery key (Ok answer) = IsQueried key answer
-AnswersQuery key (Err Full) = length key ≤ 64
-AnswersQuery key (Err Want_of_memory) = ⊤
+AnswersQuery key (Err fault.HistoryFull) = length key ≤ 64
+AnswersQuery key (Err fault.NoMemory) = ⊤
 
 -- what an answer about a block says; a history is never too full for it
-abbrev pub AnswersBlock : ℕ → Result (Option Value) Fault → Type 0
+abbrev pub AnswersBlock : ℕ → Result (Option Value) ApplyFault → Type 0
 AnswersBlock height (Ok answer) = IsCommitted height answer
-AnswersBlock height (Err Full) = ⊥
-AnswersBlock height (Err Want_of_memory) = ⊤
+AnswersBlock height (Err fault.HistoryFull) = ⊥
+AnswersBlock height (Err fault.NoMemory) = ⊤
 
 -- the exchange is with the replicas of a running cluster; the session's seat of the board had found some heights before, and then
 -- these: one more where it was asked for the height, which was on the board at one step

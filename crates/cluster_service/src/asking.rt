@@ -6,19 +6,14 @@ ghost use Rattle.ledger_model.specs.declared.event.Event.TheVariants as events;
 ghost use Rattle.replica_core.specs.Facts.{block_at};
 ghost use Rattle.replica_turns.specs.Clients.{IsReceipt, is_tx_len, submit_events, with_index};
 ghost use Rattle.locked_replica.specs.Applying.{AppliesEach, AppliesEvent};
-ghost use Rattle.client_sessions.specs.Asking.{max_value_len, outcome_of};
 ghost use Rattle.cluster_service.specs.Targets.{AnswersBlock, AnswersQuery, AnswersSubmit};
 ghost use Rattle.ledger_model.specs.Limits.{max_history_len};
 
 use abci::Application;
-use client_sessions::TargetFault;
-use ledger_model::{Batch, Height, Key, QueryAnswer, SubmitRefusal};
-use locked_replica::{ApplyFault, State};
+use ledger_model::{ApplyFault, Batch, Height, Key, QueryAnswer, SubmitRefusal};
+use locked_replica::State;
 use replica_turns::ClientEntries;
 use std::alloc::{AllocError, Global};
-
-/// The most bytes of a value in a session's reply.
-const MAX_VALUE_LEN: usize = 65_529;
 
 /// Submits a transaction. If the pool takes it, returns the index of its entry in the history. The inner `Err` is the pool's refusal.
 pub(crate) fn submit<A: Application>(
@@ -26,24 +21,20 @@ pub(crate) fn submit<A: Application>(
     state: &mut State<A>,
     entries: &mut ClientEntries,
     tx: &[u8],
-) -> Result<Result<u32, SubmitRefusal>, TargetFault>
+) -> Result<Result<u32, SubmitRefusal>, ApplyFault>
     ensures answer { IfOk result (λ answer. answer ≡ with_index (length state.old.entries)
         (submit_reply state.old.config state.old.id state.old.entries tx.now)) }
     // The entry with the index is the Submit of these bytes that the pool took.
     ensures receipt { IfOk result (λ answer. IsReceipt state.new.entries tx.now answer) }
     ensures applied { OnOk result (AppliesEach state.old (submit_events tx.now) state.new) }
     ensures used { length state.new.entries + entries.new ≡ length state.old.entries + entries.old }
-    ensures full { IsErrOf result TargetFault.HistoryFull
+    ensures full { IsErrOf result ApplyFault.HistoryFull
         ↔ ((is_tx_len tx.now ≡ true) × ((entries.old ≡ 0) ⊎ (max_history_len ≤ length state.old.entries))) }
     ensures same { OnErr result (state.new ≡ state.old) }
     // The result as a session sees it.
-    ensures outcome { AnswersSubmit tx.now (outcome_of result) }
+    ensures outcome { AnswersSubmit tx.now result }
 {
-    match replica_turns::submit(alloc, state, entries, tx) {
-        Ok(answer) => Ok(answer),
-        Err(ApplyFault::HistoryFull) => Err(TargetFault::HistoryFull),
-        Err(ApplyFault::NoMemory) => Err(TargetFault::NoMemory),
-    }
+    replica_turns::submit(alloc, state, entries, tx)
 }
 
 /// The key of these bytes; `None` if there are too many for a key.
@@ -64,23 +55,22 @@ pub(crate) fn query<A: Application>(
     state: &mut State<A>,
     entries: &mut ClientEntries,
     key: &[u8],
-) -> Result<QueryAnswer, TargetFault>
+) -> Result<QueryAnswer, ApplyFault>
     ensures answer { length key.now ≤ 64 → IfOk result (λ answer. Ok answer ≡ query_reply state.old.config.kind
         (commits_of state.old.config state.old.id state.old.entries) key.now 0) }
     ensures applied { length key.now ≤ 64 → OnOk result (AppliesEvent state.old (events.Query key.now 0) state.new) }
     ensures fault { OnErr result ((state.new ≡ state.old) ⊎ AppliesEvent state.old (events.Query key.now 0) state.new) }
-    ensures full { IsErrOf result TargetFault.HistoryFull → (length key.now ≤ 64) × ((entries.old ≡ 0) ⊎ (max_history_len ≤ length state.old.entries)) }
-    ensures same { IsErrOf result TargetFault.HistoryFull → state.new ≡ state.old }
+    ensures full { IsErrOf result ApplyFault.HistoryFull → (length key.now ≤ 64) × ((entries.old ≡ 0) ⊎ (max_history_len ≤ length state.old.entries)) }
+    ensures same { IsErrOf result ApplyFault.HistoryFull → state.new ≡ state.old }
     ensures long { 64 < length key.now → IfOk result (λ answer. answer
         ≡ record { height = length (commits_of state.old.config state.old.id state.old.entries); value = None }) }
     ensures long_same { 64 < length key.now → state.new ≡ state.old }
-    ensures short { IfOk result (λ answer. IfSome answer.value (λ v. length v ≤ max_value_len)) }
     ensures used { length state.new.entries + entries.new ≡ length state.old.entries + entries.old }
     // The result as a session sees it.
-    ensures outcome { AnswersQuery key.now (outcome_of result) }
+    ensures outcome { AnswersQuery key.now result }
 {
     let Ok(key) = key_of(alloc, key) else {
-        return Err(TargetFault::NoMemory);
+        return Err(ApplyFault::NoMemory);
     };
     // The history is a replay: its length is read for the proof.
     let _ = state.len();
@@ -90,39 +80,25 @@ pub(crate) fn query<A: Application>(
             value: None,
         });
     };
-    match replica_turns::query(state, entries, key) {
-        Ok(answer) if is_short(&answer) => Ok(answer),
-        Ok(_) | Err(ApplyFault::NoMemory) => Err(TargetFault::NoMemory),
-        Err(ApplyFault::HistoryFull) => Err(TargetFault::HistoryFull),
-    }
+    replica_turns::query(state, entries, key)
 }
 
 /// The batch that the replica committed at a height, copied. The only fault is allocation failure.
 pub(crate) fn block<A: Application>(
     state: &State<A>,
     height: Height,
-) -> Result<Option<Batch>, TargetFault>
+) -> Result<Option<Batch>, ApplyFault>
     ensures block { IfOk result (λ b. b ≡ block_at (commits_of state.now.config state.now.id state.now.entries) height) }
     // The result as a session sees it.
-    ensures outcome { AnswersBlock height (outcome_of result) }
+    ensures outcome { AnswersBlock height result }
 {
     // The history is a replay: its length is read for the proof.
     let _ = state.len();
     match state.block(height) {
         Some(batch) => match batch.copy() {
             Ok(batch) => Ok(Some(batch)),
-            Err(_) => Err(TargetFault::NoMemory),
+            Err(_) => Err(ApplyFault::NoMemory),
         },
         None => Ok(None),
-    }
-}
-
-/// Whether the value fits into a session's reply. No application of this repository has a longer value.
-fn is_short(answer: &QueryAnswer) -> bool
-    ensures { result ≡ true → IfSome answer.now.value (λ v. length v ≤ max_value_len) }
-{
-    match &answer.value {
-        Some(value) => value.len() <= MAX_VALUE_LEN,
-        None => true,
     }
 }

@@ -1,6 +1,5 @@
 //! The replicas of a running cluster, as targets of a session, and of a request of HTTP.
 ghost use Rattle.std.specs.Prelude.{◌≡◌, ◌<◌, true, false, Some, length, option_map};
-ghost use Rattle.client_sessions.specs.Asking.{outcome_of};
 ghost use Rattle.cluster_service.specs.Targets.{AnswersSubmit};
 ghost use Rattle.cluster_workers.specs.RunningClusters.{IsStateOf};
 
@@ -9,12 +8,12 @@ use crate::budgets::ClientBudget;
 use crate::showing::{app_info, metrics_of, pool_size, progress_of};
 use crate::waiting::{Awaited, wait_for};
 use abci::Application;
-use client_sessions::{TargetFault, Targets};
+use client_sessions::Targets;
+use ledger_model::{ApplyFault, Batch, Height, QueryAnswer, ReplicaId, SubmitRefusal};
 use cluster_workers::{RunningCluster, Stop};
 use commit_board::ReaderSeat;
 use http_messages::ReplicaMetrics;
 use http_sessions::{AppInfo, Delivery, HttpTargets, PoolSize, Progress};
-use ledger_model::{Batch, Height, QueryAnswer, ReplicaId, SubmitRefusal};
 use locked_replica::State;
 use std::alloc::Global;
 use std::snapshot::Snapshot;
@@ -89,9 +88,9 @@ impl<A: Application, R: Wait> LiveTargets<'_, A, R> {
         &self,
         replica: ReplicaId,
         tx: &[u8],
-    ) -> Result<Result<u32, SubmitRefusal>, TargetFault>
+    ) -> Result<Result<u32, SubmitRefusal>, ApplyFault>
         requires { replica < self.now.cluster.now.replicas }
-        ensures { AnswersSubmit tx.now (outcome_of result) }
+        ensures { AnswersSubmit tx.now result }
     {
         let mut entries = self.budgets[usize::from(replica.number())].lock(self.rt);
         let mut state = self.cluster.replica(replica).lock(self.rt);
@@ -114,11 +113,11 @@ impl<A: Application, R: Wait> Targets for LiveTargets<'_, A, R> {
         &mut self,
         replica: ReplicaId,
         tx: &[u8],
-    ) -> Result<Result<u32, SubmitRefusal>, TargetFault> {
+    ) -> Result<Result<u32, SubmitRefusal>, ApplyFault> {
         self.submit_at(replica, tx)
     }
 
-    fn query(&mut self, replica: ReplicaId, key: &[u8]) -> Result<QueryAnswer, TargetFault> {
+    fn query(&mut self, replica: ReplicaId, key: &[u8]) -> Result<QueryAnswer, ApplyFault> {
         let mut entries = self.budgets[usize::from(replica.number())].lock(self.rt);
         let mut state = self.cluster.replica(replica).lock(self.rt);
         query(self.alloc, &mut *state, &mut *entries, key)
@@ -128,7 +127,7 @@ impl<A: Application, R: Wait> Targets for LiveTargets<'_, A, R> {
         Height::new(self.cluster.board().read(&mut self.seat, replica))
     }
 
-    fn block(&mut self, replica: ReplicaId, height: Height) -> Result<Option<Batch>, TargetFault> {
+    fn block(&mut self, replica: ReplicaId, height: Height) -> Result<Option<Batch>, ApplyFault> {
         let state = self.cluster.replica(replica).lock(self.rt);
         block(&*state, height)
     }

@@ -10,8 +10,8 @@ ghost use Rattle.cluster_workers.specs.Looks.{IsNextByBoard};
 
 use abci::Application;
 use commit_board::{Board, ReaderSeat, WriterSeat};
-use ledger_model::{Event, Height, ReplicaId};
-use locked_replica::{ApplyFault, State};
+use ledger_model::{ApplyFault, Event, Height, ReplicaId};
+use locked_replica::State;
 use replica_turns::{OwnEvents, ReplicaStatus, own_of, turn};
 use std::sync::Arc;
 

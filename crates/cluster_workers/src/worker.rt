@@ -10,8 +10,7 @@ use crate::turn_taker::{TurnOutcome, TurnTaker};
 use abci::Application;
 use bytes::Bytes;
 use key_ring::KeyRing;
-use ledger_model::{Event, ReplicaId, Sent, Version};
-use locked_replica::ApplyFault;
+use ledger_model::{ApplyFault, Event, ReplicaId, Sent, Version};
 use replica_turns::{
     LockedReplica, OwnEvents, WaitingFrames, arrived_frames, deliveries_of, keep_checked, sent_at,
     unknown_parts, unknown_reports,

@@ -14,7 +14,7 @@ use Rattle.ledger_model.specs.Commits.{commits_of}
 use Rattle.ledger_model.specs.Groups.{history_of}
 use Rattle.ledger_model.specs.Rules.{Ring}
 use Rattle.ledger_model.specs.Lawful.{Replay}
-use Rattle.replica_core.specs.Following.{StopsAt}
+use Rattle.history_follower.specs.Followers.{StopsAt}
 use Rattle.history_audit.proofs.Searching.{found_history, last, is_member}
 use Rattle.history_audit.specs.Followed.{FollowsOne, FollowsAll, LongestBelow, IsLongest}
 use Rattle.history_audit.specs.declared.fault.AuditFault.{AuditFault}

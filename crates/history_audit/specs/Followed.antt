@@ -8,7 +8,7 @@ use Rattle.ledger_model.specs.Commits.{commits_of}
 use Rattle.ledger_model.specs.Lawful.{Replay}
 use Rattle.ledger_model.specs.Groups.{history_of}
 use Rattle.ledger_model.specs.Audits.{AreReplays, IsFirstBreak}
-use Rattle.replica_core.specs.Following.{FollowerView, StopsAt}
+use Rattle.history_follower.specs.Followers.{FollowerView, StopsAt}
 use Rattle.history_audit.specs.declared.fault.AuditFault.{AuditFault}
 use Rattle.history_audit.specs.declared.fault.AuditFault.TheVariants as fault
 

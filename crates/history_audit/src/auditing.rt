@@ -15,7 +15,7 @@ use crate::unsent::look_for_unsent;
 use abci::Application;
 use key_ring::KeyRing;
 use ledger_model::{Config, History, Ledger};
-use replica_core::shared_verifier;
+use history_follower::shared_verifier;
 use std::alloc::Global;
 use std::hash::RandomState;
 

@@ -4,14 +4,15 @@ ghost use Rattle.std.specs.List.{AllByRecursion};
 ghost use Rattle.ledger_model.specs.Applications.{run};
 ghost use Rattle.ledger_model.specs.Audits.{are_of_a_quorum};
 ghost use Rattle.replica_core.specs.Replays.{MatchesHistory};
-ghost use Rattle.replica_core.specs.Following.{AnswersFollowing, IsSameReplay};
+ghost use Rattle.replica_core.specs.Following.{IsSameReplay};
+ghost use Rattle.history_follower.specs.Followers.{AnswersFollowing};
 ghost use Rattle.history_audit.specs.Followed.{FollowedTo, FollowsOne, FollowsAll};
 
 use crate::fault::AuditFault;
 use abci::Application;
 use ledger_model::{Config, Entry, Height, History, Ledger, ReplicaId, history_of};
 use key_ring::KeyRing;
-use replica_core::Follower;
+use history_follower::Follower;
 use std::alloc::{AllocError, Global};
 use std::hash::RandomState;
 use verify_cache::Verifier;

@@ -1,4 +1,4 @@
-mod Texts
+mod TextLemmas
 mod NumberReading
 mod Lookups
 mod Steps

@@ -8,7 +8,7 @@ use Rattle.std.proofs.lemmas.Bool.{and_parts}
 use Rattle.std.proofs.lemmas.Bool.Decides.{nat_tests}
 use Rattle.plain_text.specs.Numbers.{is_digit, is_decimal}
 use Rattle.http_messages.specs.Values.{decimal_number}
-use Rattle.http_messages.proofs.Texts.{text_of_ascii}
+use Rattle.http_messages.proofs.TextLemmas.{text_of_ascii}
 
 -- a reader of decimal digits reads them as this one does
 pub number_of-is : (digits : List ℕ) (r : Option ℕ) → IfSome r (λ n. n < 2 ^ 32)

@@ -7,7 +7,9 @@ use Rattle.std.specs.List.{FoldsTo, range_with_len}
 use Rattle.ledger_model.specs.Values.{Value}
 use Rattle.ledger_model.specs.declared.reply.QueryAnswer.{QueryAnswer}
 use Rattle.ledger_model.specs.declared.reply.SubmitRefusal.{SubmitRefusal}
-use Rattle.ledger_model.specs.Sessions.{Submits, Queries, Heights, Blocks, Fault as ReplicaFault, Full, Want_of_memory}
+use Rattle.ledger_model.specs.declared.fault.ApplyFault.{ApplyFault}
+use Rattle.ledger_model.specs.declared.fault.ApplyFault.TheVariants as apply
+use Rattle.ledger_model.specs.Sessions.{Submits, Queries, Heights, Blocks}
 use Rattle.http_messages.specs.declared.fault.RequestFault.{RequestFault}
 use Rattle.http_messages.specs.declared.fault.RequestFault.TheVariants as fault
 use Rattle.http_messages.specs.declared.request.Request.{Request}
@@ -50,18 +52,18 @@ metrics_answer (Some m) = Metrics (m ∷ [])
 metrics_answer None = Unanswered service.Stranger
 
 -- a replica took no event
-abbrev pub fault_answer : ReplicaFault → AnswerView
-fault_answer Full = Unanswered service.HistoryFull
-fault_answer Want_of_memory = Fault fault.NoMemory
+abbrev pub fault_answer : ApplyFault → AnswerView
+fault_answer apply.HistoryFull = Unanswered service.HistoryFull
+fault_answer apply.NoMemory = Fault fault.NoMemory
 
 -- a submit's
-abbrev pub sync_answer : ℕ → List ℕ → Result (Result ℕ SubmitRefusal) ReplicaFault → AnswerView
+abbrev pub sync_answer : ℕ → List ℕ → Result (Result ℕ SubmitRefusal) ApplyFault → AnswerView
 sync_answer r tx (Ok (Ok index)) = BroadcastSync tx (submission.Pooled (record { replica = r; index = index }))
 sync_answer r tx (Ok (Err refusal)) = BroadcastSync tx (submission.Refused refusal)
 sync_answer r tx (Err f) = fault_answer f
 
 -- that of a submit which no pool took
-abbrev pub unpooled_answer : List ℕ → Result SubmitRefusal ReplicaFault → AnswerView
+abbrev pub unpooled_answer : List ℕ → Result SubmitRefusal ApplyFault → AnswerView
 unpooled_answer tx (Ok refusal) = BroadcastCommit tx (commitment.Refused refusal)
 unpooled_answer tx (Err f) = fault_answer f
 
@@ -74,17 +76,17 @@ delivery_answer r tx index (Some delivery.Stopping) = Unanswered service.Stoppin
 delivery_answer r tx index None = Unanswered service.Stranger
 
 -- a query's
-abbrev pub query_answer : List ℕ → Result QueryAnswer ReplicaFault → AnswerView
+abbrev pub query_answer : List ℕ → Result QueryAnswer ApplyFault → AnswerView
 query_answer key (Ok found) = AbciQuery key found.value found.height
 query_answer key (Err f) = fault_answer f
 
 -- that of a query which names a height: the application has to answer as of this height
-abbrev pub query_answer_at : ℕ → List ℕ → Result QueryAnswer ReplicaFault → AnswerView
+abbrev pub query_answer_at : ℕ → List ℕ → Result QueryAnswer ApplyFault → AnswerView
 query_answer_at h key (Ok found) = if found.height == h then AbciQuery key found.value found.height else Unanswered service.NotLastHeight
 query_answer_at h key (Err f) = fault_answer f
 
 -- a block's
-abbrev pub block_answer : ℕ → Result (Option Value) ReplicaFault → AnswerView
+abbrev pub block_answer : ℕ → Result (Option Value) ApplyFault → AnswerView
 block_answer h (Ok (Some txs)) = Block h txs
 block_answer h (Ok None) = Unanswered service.NotCommitted
 block_answer h (Err f) = fault_answer f

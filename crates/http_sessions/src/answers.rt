@@ -1,15 +1,12 @@
 //! Answers by what a replica answered.
 ghost use Rattle.std.specs.Prelude.{◌≡◌, Ok, Err, IfOk};
-ghost use Rattle.ledger_model.specs.Sessions.{Fault as ReplicaFault};
-ghost use Rattle.client_sessions.specs.Asking.{exchange_fault, outcome_of};
 ghost use Rattle.http_messages.specs.Answers.{answer_view};
 ghost use Rattle.http_messages.specs.Replies.{http_reply_bytes};
 ghost use Rattle.http_sessions.specs.Answering.{status_answer, info_answer, pool_answer, fault_answer, sync_answer, unpooled_answer, delivery_answer, query_answer, query_answer_at, block_answer};
 
 use crate::targets::{AppInfo, Delivery, PoolSize, Progress};
-use client_sessions::TargetFault;
+use ledger_model::{ApplyFault, Batch, Height, QueryAnswer, ReplicaId, SubmitRefusal};
 use http_messages::{Answer, Commitment, Receipt, RequestFault, ServiceFault, Submission, put_reply};
-use ledger_model::{Batch, Height, QueryAnswer, ReplicaId, SubmitRefusal};
 use std::alloc::{AllocError, Global};
 
 /// The whole reply to an answer.
@@ -63,12 +60,12 @@ pub(crate) fn pool_answer(size: Option<PoolSize>) -> Answer<'static>
 }
 
 /// That a replica took no event.
-pub(crate) fn fault_answer(fault: TargetFault) -> Answer<'static>
-    ensures { answer_view result ≡ fault_answer (exchange_fault fault) }
+pub(crate) fn fault_answer(fault: ApplyFault) -> Answer<'static>
+    ensures { answer_view result ≡ fault_answer fault }
 {
     match fault {
-        TargetFault::HistoryFull => Answer::Unanswered(ServiceFault::HistoryFull),
-        TargetFault::NoMemory => Answer::Fault(RequestFault::NoMemory),
+        ApplyFault::HistoryFull => Answer::Unanswered(ServiceFault::HistoryFull),
+        ApplyFault::NoMemory => Answer::Fault(RequestFault::NoMemory),
     }
 }
 
@@ -76,9 +73,9 @@ pub(crate) fn fault_answer(fault: TargetFault) -> Answer<'static>
 pub(crate) fn sync_answer<'a>(
     replica: ReplicaId,
     tx: &'a [u8],
-    submitted: Result<Result<u32, SubmitRefusal>, TargetFault>,
+    submitted: Result<Result<u32, SubmitRefusal>, ApplyFault>,
 ) -> Answer<'a>
-    ensures { answer_view result ≡ sync_answer replica tx.now (outcome_of submitted) }
+    ensures { answer_view result ≡ sync_answer replica tx.now submitted }
 {
     match submitted {
         Ok(Ok(index)) => Answer::BroadcastSync {
@@ -140,9 +137,9 @@ fn found_answer<'a>(key: &'a [u8], found: &'a QueryAnswer) -> Answer<'a>
 /// What the application has under a key, as of its last block.
 pub(crate) fn query_answer<'a>(
     key: &'a [u8],
-    found: &'a Result<QueryAnswer, TargetFault>,
+    found: &'a Result<QueryAnswer, ApplyFault>,
 ) -> Answer<'a>
-    ensures { answer_view result ≡ query_answer key.now (outcome_of found.now) }
+    ensures { answer_view result ≡ query_answer key.now found.now }
 {
     match found {
         Ok(found) => found_answer(key, found),
@@ -154,9 +151,9 @@ pub(crate) fn query_answer<'a>(
 pub(crate) fn query_answer_at<'a>(
     height: Height,
     key: &'a [u8],
-    found: &'a Result<QueryAnswer, TargetFault>,
+    found: &'a Result<QueryAnswer, ApplyFault>,
 ) -> Answer<'a>
-    ensures { answer_view result ≡ query_answer_at height key.now (outcome_of found.now) }
+    ensures { answer_view result ≡ query_answer_at height key.now found.now }
 {
     match found {
         Ok(found) if found.height.number() == height.number() => found_answer(key, found),
@@ -168,9 +165,9 @@ pub(crate) fn query_answer_at<'a>(
 /// The block at a height.
 pub(crate) fn block_answer<'a>(
     height: Height,
-    found: &'a Result<Option<Batch>, TargetFault>,
+    found: &'a Result<Option<Batch>, ApplyFault>,
 ) -> Answer<'a>
-    ensures { answer_view result ≡ block_answer height (outcome_of found.now) }
+    ensures { answer_view result ≡ block_answer height found.now }
 {
     match found {
         Ok(Some(batch)) => Answer::Block { height, batch },

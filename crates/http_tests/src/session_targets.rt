@@ -1,14 +1,14 @@
 //! Four replicas whose answers a test sets.
 use bytes::Bytes;
-use client_sessions::{TargetFault, Targets};
+use client_sessions::Targets;
+use ledger_model::{AppKind, ApplyFault, Batch, Height, QueryAnswer, ReplicaId, SubmitRefusal};
 use http_messages::{FrameCounts, ReplicaMetrics};
 use http_sessions::{AppInfo, Delivery, HttpTargets, PoolSize, Progress};
-use ledger_model::{AppKind, Batch, Height, QueryAnswer, ReplicaId, SubmitRefusal};
 use std::alloc::Global;
 use test_support::{BuildFault, batch};
 
 /// The answer to a submit.
-pub(crate) type Submitted = Result<Result<u32, SubmitRefusal>, TargetFault>;
+pub(crate) type Submitted = Result<Result<u32, SubmitRefusal>, ApplyFault>;
 
 /// Replicas whose application has `abcd` under `abcd`, and which have the blocks 1 and 4096.
 #[derive(Drop)]
@@ -23,7 +23,7 @@ pub(crate) struct Fake {
     /// The height of the answer to each query.
     pub(crate) found_height: u32,
     /// The answer to each query and block, if it is a fault.
-    pub(crate) fault: Option<TargetFault>,
+    pub(crate) fault: Option<ApplyFault>,
     /// The replica whose lock guards another's state, if there is one.
     pub(crate) stranger: Option<ReplicaId>,
     /// The calls: a letter and the number of the replica for each.
@@ -49,7 +49,7 @@ impl Fake {
         let _ = self.calls.push(b'0' | (replica.number() & 3));
     }
 
-    fn note_or_fail(&mut self, letter: u8, replica: ReplicaId) -> Result<(), TargetFault> {
+    fn note_or_fail(&mut self, letter: u8, replica: ReplicaId) -> Result<(), ApplyFault> {
         self.note(letter, replica);
         match self.fault {
             Some(fault) => Err(fault),
@@ -89,7 +89,7 @@ impl Targets for Fake {
         self.submitted
     }
 
-    fn query(&mut self, replica: ReplicaId, key: &[u8]) -> Result<QueryAnswer, TargetFault> {
+    fn query(&mut self, replica: ReplicaId, key: &[u8]) -> Result<QueryAnswer, ApplyFault> {
         self.note_or_fail(b'Q', replica)?;
         Ok(QueryAnswer {
             height: Height::new(self.found_height),
@@ -106,11 +106,11 @@ impl Targets for Fake {
         Height::new(self.height)
     }
 
-    fn block(&mut self, replica: ReplicaId, height: Height) -> Result<Option<Batch>, TargetFault> {
+    fn block(&mut self, replica: ReplicaId, height: Height) -> Result<Option<Batch>, ApplyFault> {
         self.note_or_fail(b'B', replica)?;
         match block_at(self.alloc, height.number()) {
             Ok(found) => Ok(found),
-            Err(_) => Err(TargetFault::NoMemory),
+            Err(_) => Err(ApplyFault::NoMemory),
         }
     }
 }

@@ -3,9 +3,9 @@
 use crate::expected::*;
 use crate::session_streams::{SlowReader, SlowWriter};
 use crate::session_targets::Fake;
-use client_sessions::{CountedStream, TargetFault};
+use client_sessions::CountedStream;
+use ledger_model::{ApplyFault, Height, ReplicaId, SubmitRefusal};
 use http_sessions::{ConnectionFault, Delivery, RequestEnd, serve_request};
-use ledger_model::{Height, ReplicaId, SubmitRefusal};
 use std::alloc::{AllocError, Global};
 
 /// How a connection ended.
@@ -260,8 +260,8 @@ fn what_a_pool_takes_is_waited_for(rt: HostRuntime) {
 /// The first reply to a replica's fault that goes wrong.
 fn first_wrong_fault(alloc: Global, targets: &mut Fake) -> Option<&'static str> {
     for (fault, text) in [
-        (TargetFault::HistoryFull, HISTORY_FULL),
-        (TargetFault::NoMemory, NO_MEMORY),
+        (ApplyFault::HistoryFull, HISTORY_FULL),
+        (ApplyFault::NoMemory, NO_MEMORY),
     ] {
         targets.fault = Some(fault);
         targets.submitted = Err(fault);

@@ -2,8 +2,8 @@
 use Rattle.std.proofs.Common.{◌≡◌, ◌+◌, ◌<◌, ◌≤◌, Bool, true, false, ◌&&◌, ◌||◌, cond, List, [], ◌∷◌, ◌++◌, length, refl, sym, ap, subst}
 use Rattle.std.proofs.Common.{◌∙◌, length-append, arith}
 use Rattle.std.specs.Prelude.{ℕ, nat_lt, not, IsTrue, IsErrAnd, IfErr, Result, Ok, Err}
-use Rattle.locked_replica.specs.declared.fault.ApplyFault.{ApplyFault}
-use Rattle.locked_replica.specs.declared.fault.ApplyFault.TheVariants as fault
+use Rattle.ledger_model.specs.declared.fault.ApplyFault.{ApplyFault}
+use Rattle.ledger_model.specs.declared.fault.ApplyFault.TheVariants as fault
 use Rattle.std.proofs.Math.Bool.{or-false}
 use Rattle.std.proofs.lemmas.Bool.{and_parts, ltb-true}
 use Rattle.std.proofs.lemmas.List.{length-map}

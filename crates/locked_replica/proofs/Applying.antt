@@ -4,7 +4,7 @@ use Rattle.ledger_model.specs.declared.event.Event.{Event}
 use Rattle.ledger_model.specs.declared.history.Entry.{Entry}
 use Rattle.replica_core.specs.Leaves.{signed_by}
 use Rattle.locked_replica.specs.Applying.{AppliesEvent, AppliesEach, AppliesSome}
-use Rattle.locked_replica.specs.declared.fault.ApplyFault.{ApplyFault}
+use Rattle.ledger_model.specs.declared.fault.ApplyFault.{ApplyFault}
 use Rattle.locked_replica.specs.States.{StateView, UsesAsSigned}
 
 -- one event

@@ -6,8 +6,8 @@ use Rattle.ledger_model.specs.declared.reply.Reply.{Reply}
 use Rattle.ledger_model.specs.Lawful.{Lawful, Replay, clock_at, is_signed_reply}
 use Rattle.ledger_model.specs.Logs.{is_mute}
 use Rattle.replica_core.specs.Steps.{UsesLeaves}
-use Rattle.locked_replica.specs.declared.fault.ApplyFault.{ApplyFault}
-use Rattle.locked_replica.specs.declared.fault.ApplyFault.TheVariants as fault
+use Rattle.ledger_model.specs.declared.fault.ApplyFault.{ApplyFault}
+use Rattle.ledger_model.specs.declared.fault.ApplyFault.TheVariants as fault
 use Rattle.locked_replica.specs.States.{StateView, RunsAlone, AccountsForLeaves, SignsEachOnce, UsesAsSigned, due_next, is_mute_after, keys_in, signs_at}
 
 -- What is true of a replica at all times.

@@ -35,7 +35,6 @@
 
 mod entry_view;
 mod event_view;
-mod fault;
 mod reply_view;
 mod snapshot;
 mod state;
@@ -46,7 +45,6 @@ mod taking;
 
 pub use entry_view::EntryView;
 pub use event_view::EventView;
-pub use fault::ApplyFault;
 pub use reply_view::{ReplyView, RoundEndView, SentView};
 pub use snapshot::Snapshot;
 pub use state::{MAX_ENTRIES, State};

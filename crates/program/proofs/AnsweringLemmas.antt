@@ -11,8 +11,8 @@ use Rattle.ledger_model.specs.declared.history.Entry.{Entry}
 use Rattle.ledger_model.specs.Lawful.{Lawful, Replay}
 use Rattle.ledger_model.specs.Limits.{max_history_len}
 use Rattle.locked_replica.specs.Applying.{AppliesEvent, RefusesEvent, IsSound}
-use Rattle.locked_replica.specs.declared.fault.ApplyFault.{ApplyFault}
-use Rattle.locked_replica.specs.declared.fault.ApplyFault.TheVariants as fault
+use Rattle.ledger_model.specs.declared.fault.ApplyFault.{ApplyFault}
+use Rattle.ledger_model.specs.declared.fault.ApplyFault.TheVariants as fault
 use Rattle.locked_replica.specs.States.{StateView, AccountsForLeaves, UsesAsSigned}
 use Rattle.program.specs.Lines.{lines_of, frame_reply_text}
 use Rattle.program.specs.Answering.{AnswersEvents, AnswersSome, TakesNoEvent}

@@ -34,7 +34,6 @@ pub mod ShownClosings
 pub mod PairedLists
 pub mod JudgedMades
 pub mod Followed
-pub mod FollowedReplays
 pub mod EventsFollowed
 pub mod ShownRounds
 pub mod DueLeaves

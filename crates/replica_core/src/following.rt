@@ -123,8 +123,11 @@ impl<A: Application> Replay<A> {
         }
     }
 
-    /// Takes one entry, and returns whether its reply is lawful and signed after the entries before it.
-    pub(crate) fn follow(
+    /// Takes one entry, and returns whether its reply is lawful after the entries before it, and everything that it sends is signed. The
+    /// replay then matches the history with this entry. After an entry for which it returned false, the replay matches no history.
+    ///
+    /// The only error is allocation failure, and then nothing changed. An event that gives heights up needs no memory.
+    pub fn follow(
         &mut self,
         alloc: Global,
         event: &Event,

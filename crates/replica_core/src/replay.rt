@@ -72,11 +72,12 @@ impl<A: Application> Model for Replay<A> {
 impl<A: Application> Replay<A> {
     ghost use Rattle.std.specs.Prelude.{◌≡◌, ◌<◌, [], IfOk};
     ghost use Rattle.ledger_model.specs.Applications.{run};
-    ghost use Rattle.replica_core.specs.Replays.{new_replay};
+    ghost use Rattle.replica_core.specs.Replays.{new_replay, MatchesHistory};
 
-    /// The state before the first event. The application must be in its opening state, of the configured kind. The pool
-    /// hashes with the first of the random keys, and the verifier with the second.
-    pub(crate) fn new(
+    /// The replay of the empty history of replica `id`. The ring has the keys that signatures are verified under. The application must
+    /// be in its opening state, of the configured kind. The pool hashes with the first of the random keys, and the verifier with the
+    /// second. The only error is allocation failure.
+    pub fn new(
         alloc: Global,
         config: Config,
         id: ReplicaId,
@@ -86,7 +87,9 @@ impl<A: Application> Replay<A> {
     ) -> Result<Self, AllocError>
         requires member { id < config.replicas }
         requires opening { A.machine app ≡ run config.kind [] }
-        ensures { IfOk result (λ kept. kept ≡ new_replay config id ring) }
+        ensures new { IfOk result (λ replay. replay ≡ new_replay config id ring) }
+        // It matches the empty history.
+        ensures matches { IfOk result (λ replay. MatchesHistory replay []) }
     {
         let [pool_random, verifier_random] = randoms;
         let executor = Executor::new(app)?;

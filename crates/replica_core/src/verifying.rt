@@ -21,7 +21,7 @@ impl<A: Application> Replay<A> {
     }
 
     /// Swaps the verifier for another one that has the same keys, without any effect that contracts see.
-    pub(crate) fn swap_verifier(&mut self, verifier: &mut Verifier)
+    pub fn swap_verifier(&mut self, verifier: &mut Verifier)
         requires { verifier.old.ring ≡ self.old.ring }
         ensures same { self.new ≡ self.old }
         ensures ring { verifier.new.ring ≡ verifier.old.ring }

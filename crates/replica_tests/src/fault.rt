@@ -2,8 +2,7 @@
 use adversary_net::WorldFault;
 use history_bytes::HistoryFault;
 use key_ring::SignFault;
-use ledger_model::ConfigFault;
-use locked_replica::ApplyFault;
+use ledger_model::{ApplyFault, ConfigFault};
 use scenario_texts::TextFault;
 use std::alloc::{AllocError, AllocFailed};
 

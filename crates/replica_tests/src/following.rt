@@ -7,7 +7,7 @@ use abci::Application;
 use app_kinds::AnyKind;
 use ledger_model::{Entry, Event, Reply};
 use locked_replica::Snapshot;
-use replica_core::Follower;
+use history_follower::Follower;
 use std::alloc::{AllocError, Global};
 use std::hash::RandomState;
 

@@ -11,7 +11,7 @@ use abci::Application;
 use app_kinds::{AnyKind, Refusing};
 use ledger_model::{AppKind, Entry};
 use locked_replica::Snapshot;
-use replica_core::Follower;
+use history_follower::Follower;
 use scenario_texts::{Command, Setup};
 use simulation::Simulation;
 use std::alloc::{AllocError, Global};

@@ -5,7 +5,7 @@ use crate::following::{EntryContext, is_taken, new_follower, place_in, takes_all
 use app_kinds::AnyKind;
 use ledger_model::Reply;
 use locked_replica::Snapshot;
-use replica_core::Follower;
+use history_follower::Follower;
 use std::alloc::{AllocError, Global};
 use std::hash::RandomState;
 

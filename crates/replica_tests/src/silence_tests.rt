@@ -7,7 +7,7 @@ use crate::scripts::{FOUR_HEIGHTS, NO_LEAF_LEFT, NO_LEAVES_FOR_FOUR, PLAIN, Scri
 use app_kinds::AnyKind;
 use ledger_model::{Entry, Reply, RoundEnded};
 use locked_replica::Snapshot;
-use replica_core::Follower;
+use history_follower::Follower;
 use std::alloc::{AllocError, Global};
 use std::hash::RandomState;
 use std::test::Fail;

@@ -9,8 +9,8 @@ ghost use Rattle.ledger_model.specs.Limits.{max_history_len};
 
 use abci::Application;
 use bytes::Bytes;
-use ledger_model::{Event, Height, Key, QueryAnswer, SubmitRefusal, Tx};
-use locked_replica::{ApplyFault, MAX_ENTRIES, ReplyView, State};
+use ledger_model::{ApplyFault, Event, Height, Key, QueryAnswer, SubmitRefusal, Tx};
+use locked_replica::{MAX_ENTRIES, ReplyView, State};
 use std::alloc::{AllocError, Global};
 use std::marker::Model;
 

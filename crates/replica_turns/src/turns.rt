@@ -5,8 +5,8 @@ ghost use Rattle.replica_turns.specs.Turns.{height_in};
 
 use abci::Application;
 use commit_board::{Board, WriterSeat};
-use ledger_model::{Event, Height};
-use locked_replica::{ApplyFault, State};
+use ledger_model::{ApplyFault, Event, Height};
+use locked_replica::State;
 use std::sync::Mutex;
 
 /// A replica that threads share. Locking it waits until no other thread has it locked.

@@ -5,7 +5,8 @@ use Rattle.ledger_model.specs.declared.history.Entry.{Entry}
 use Rattle.ledger_model.specs.Commits.{decision_at, floor_of}
 use Rattle.ledger_model.specs.Lawful.{clock_at, is_opened}
 use Rattle.replica_core.specs.Facts.{undecided_heights}
-use Rattle.replica_core.specs.Following.{FollowerView, KeepsReplay, IsSameReplay}
+use Rattle.replica_core.specs.Following.{KeepsReplay, IsSameReplay}
+use Rattle.history_follower.specs.Followers.{FollowerView}
 use Rattle.replica_core.specs.Replays.{MatchesHistory}
 use Rattle.run_picture.specs.declared.entry_facts.Mark.{Mark}
 use Rattle.run_picture.specs.declared.following.ReplayMarks.{ReplayMarks}

@@ -6,7 +6,8 @@ use Rattle.ledger_model.specs.declared.history.History.{History}
 use Rattle.ledger_model.specs.Lawful.{clock_at}
 use Rattle.ledger_model.specs.Rules.{Ring}
 use Rattle.replica_core.specs.Replays.{MatchesHistory}
-use Rattle.replica_core.specs.Following.{FollowerView, KeepsReplay}
+use Rattle.replica_core.specs.Following.{KeepsReplay}
+use Rattle.history_follower.specs.Followers.{FollowerView}
 use Rattle.run_picture.specs.declared.part.Part.{Part}
 use Rattle.run_picture.specs.declared.entry_facts.Mark.{Mark}
 use Rattle.run_picture.specs.declared.sent_frames.SentFrame.{SentFrame}

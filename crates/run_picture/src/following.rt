@@ -11,7 +11,7 @@ use crate::part::Part;
 use crate::retiring::add_heights;
 use abci::Application;
 use ledger_model::{Config, Entry, ReplicaId};
-use replica_core::Follower;
+use history_follower::Follower;
 use std::alloc::{AllocError, Global};
 use std::hash::RandomState;
 use verify_cache::Verifier;

@@ -22,7 +22,7 @@ use crate::sources::{Arrival, arrivals};
 use abci::Application;
 use ledger_model::{Config, Entry, History, ReplicaId, history_of, is_opened};
 use key_ring::KeyRing;
-use replica_core::shared_verifier;
+use history_follower::shared_verifier;
 use std::alloc::{AllocError, Global};
 use std::hash::RandomState;
 use verify_cache::Verifier;

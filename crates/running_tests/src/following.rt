@@ -2,7 +2,7 @@
 use app_kinds::AnyKind;
 use ledger_model::Entry;
 use locked_replica::Snapshot;
-use replica_core::Follower;
+use history_follower::Follower;
 use replica_turns::LockedReplica;
 use std::alloc::{AllocError, Global};
 use std::hash::RandomState;

@@ -1,11 +1,11 @@
 //! Four replicas whose answers a test sets.
 use bytes::Bytes;
-use client_sessions::{TargetFault, Targets};
-use ledger_model::{Batch, Height, QueryAnswer, ReplicaId, SubmitRefusal, Tx};
+use client_sessions::Targets;
+use ledger_model::{ApplyFault, Batch, Height, QueryAnswer, ReplicaId, SubmitRefusal, Tx};
 use std::alloc::{AllocError, Global};
 
 /// The answer to a submit.
-pub(crate) type Submitted = Result<Result<u32, SubmitRefusal>, TargetFault>;
+pub(crate) type Submitted = Result<Result<u32, SubmitRefusal>, ApplyFault>;
 
 /// Adds an entry to the replica's history, and returns its index.
 fn add_entry(entries: &mut [u32; 4], replica: ReplicaId) -> u32 {
@@ -27,7 +27,7 @@ pub(crate) struct Fake {
     submitted: Submitted,
     /// The number of entries of each replica's history, if submits are counted.
     entries: Option<[u32; 4]>,
-    fault: Option<TargetFault>,
+    fault: Option<ApplyFault>,
     asked: u32,
     /// After this number of calls each replica is at least at height 3.
     calls_below: u32,
@@ -62,7 +62,7 @@ impl Fake {
     }
 
     /// Answers queries and blocks with a fault from now on.
-    pub(crate) fn fail(&mut self, fault: TargetFault) {
+    pub(crate) fn fail(&mut self, fault: ApplyFault) {
         self.fault = Some(fault);
     }
 
@@ -72,7 +72,7 @@ impl Fake {
     }
 
     /// Counts one call, and returns the fault that is set.
-    fn count_one(&mut self) -> Result<(), TargetFault> {
+    fn count_one(&mut self) -> Result<(), ApplyFault> {
         self.asked = self.asked.saturating_add(1);
         match self.fault {
             Some(fault) => Err(fault),
@@ -119,7 +119,7 @@ impl Targets for Fake {
         }
     }
 
-    fn query(&mut self, replica: ReplicaId, key: &[u8]) -> Result<QueryAnswer, TargetFault> {
+    fn query(&mut self, replica: ReplicaId, key: &[u8]) -> Result<QueryAnswer, ApplyFault> {
         self.count_one()?;
         Ok(QueryAnswer {
             height: Height::new(self.height_of(replica)),
@@ -136,14 +136,14 @@ impl Targets for Fake {
         Height::new(self.height_of(replica))
     }
 
-    fn block(&mut self, replica: ReplicaId, height: Height) -> Result<Option<Batch>, TargetFault> {
+    fn block(&mut self, replica: ReplicaId, height: Height) -> Result<Option<Batch>, ApplyFault> {
         self.count_one()?;
         if height.number() == 0 || height.number() > self.height_of(replica) {
             return Ok(None);
         }
         match batch(self.alloc, b"a=1") {
             Ok(found) => Ok(found),
-            Err(_) => Err(TargetFault::NoMemory),
+            Err(_) => Err(ApplyFault::NoMemory),
         }
     }
 }

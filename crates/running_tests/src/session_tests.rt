@@ -4,8 +4,8 @@ ghost use Rattle.client_sessions.specs.Faults.{read_failures_in, write_failures_
 
 use crate::session_streams::{FailingReader, FailingWriter};
 use crate::session_targets::{Fake, Submitted};
-use client_sessions::{CountedStream, Session, SessionEnd, SessionFault, SessionReader, SessionWriter, TargetFault, serve};
-use ledger_model::SubmitRefusal;
+use client_sessions::{CountedStream, Session, SessionEnd, SessionFault, SessionReader, SessionWriter, serve};
+use ledger_model::{ApplyFault, SubmitRefusal};
 use std::alloc::Global;
 use std::io::{Read, Write};
 use std::test::Fail;
@@ -69,14 +69,14 @@ const SUBMITTED: [(Submitted, &[u8]); 9] = [
         Ok(Err(SubmitRefusal::Rejected(7))),
         b"\x00\x05\x15\x00\x00\x00\x07",
     ),
-    (Err(TargetFault::HistoryFull), b"\x00\x01\x04"),
-    (Err(TargetFault::NoMemory), b"\x00\x01\x16"),
+    (Err(ApplyFault::HistoryFull), b"\x00\x01\x04"),
+    (Err(ApplyFault::NoMemory), b"\x00\x01\x16"),
 ];
 
 /// The fault of a query and of a block, and the reply.
-const FAULTS: [(TargetFault, &[u8]); 2] = [
-    (TargetFault::HistoryFull, b"\x00\x01\x04"),
-    (TargetFault::NoMemory, b"\x00\x01\x16"),
+const FAULTS: [(ApplyFault, &[u8]); 2] = [
+    (ApplyFault::HistoryFull, b"\x00\x01\x04"),
+    (ApplyFault::NoMemory, b"\x00\x01\x16"),
 ];
 
 /// How a session ended.

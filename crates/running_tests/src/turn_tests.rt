@@ -1,8 +1,8 @@
 //! Turns of one replica: what they return, and what is in its history and on the board afterwards.
 use crate::seated::{Seated, last_of_four};
 use bytes::Bytes;
-use ledger_model::{Event, Height, Tx};
-use locked_replica::{ApplyFault, EventView, ReplyView};
+use ledger_model::{ApplyFault, Event, Height, Tx};
+use locked_replica::{EventView, ReplyView};
 use std::alloc::{AllocError, Global};
 use std::random::RandomSource;
 use std::test::Fail;

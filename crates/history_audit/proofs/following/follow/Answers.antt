@@ -3,7 +3,7 @@ use Rattle.ledger_model.specs.declared.history.Entry.{Entry}
 use Rattle.ledger_model.specs.Lawful.{Replay, ReplaysFrom}
 use Rattle.ledger_model.proofs.Lists.{take_item}
 use Rattle.replica_core.specs.Replays.{MatchesHistory}
-use Rattle.replica_core.proofs.FollowedReplays.{replay_more, replay_ends, same_later}
+use Rattle.history_follower.proofs.FollowedReplays.{replay_more, replay_ends, same_later}
 use Rattle.history_audit.proofs.following.follow.Goals as goal
 
 pub loop-index-init : goal.loop-index-init

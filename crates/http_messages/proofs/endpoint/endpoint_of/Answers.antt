@@ -1,4 +1,4 @@
-use Rattle.http_messages.proofs.Texts.{endpoint_of-no_text}
+use Rattle.http_messages.proofs.TextLemmas.{endpoint_of-no_text}
 use Rattle.http_messages.proofs.endpoint.endpoint_of.Goals as goal
 
 pub returns-in-Err : goal.returns-in-Err

@@ -1,6 +1,5 @@
 use Rattle.std.proofs.Common.{refl, [], ◌∷◌, Ok, Err}
 use Rattle.ledger_model.specs.Sessions.{Submits}
-use Rattle.client_sessions.specs.Asking.{exchange_fault}
 use Rattle.http_sessions.specs.Exchanges.{Asked, Inquired, Spreads, Waits}
 use Rattle.http_sessions.proofs.Replying.{replied}
 use Rattle.http_sessions.proofs.answering.commit.Goals as goal
@@ -21,6 +20,6 @@ returns-in-Ok-Err-clause-replies g c = replied _ _ _ _ _ _ (Asked
     (c.submit.new.self, rw c.in-Ok-Err.field-0-is at c.in-Ok-Err.ensures.asked, refl) (refl, refl, refl) c.reply_to-in-Ok-Err.ensures
 
 pub returns-in-Err-clause-replies : goal.returns-in-Err-clause-replies
-returns-in-Err-clause-replies g c = replied _ _ _ _ _ _ (Asked (Submits c.args.replica c.args.tx.now (Err (exchange_fault c.in-Err.fault))) ∷ [])
+returns-in-Err-clause-replies g c = replied _ _ _ _ _ _ (Asked (Submits c.args.replica c.args.tx.now (Err c.in-Err.fault)) ∷ [])
     _
     (c.submit.new.self, c.in-Err.ensures.asked, refl) (refl, refl, c.fault_answer.ensures) c.reply_to-in-Err.ensures

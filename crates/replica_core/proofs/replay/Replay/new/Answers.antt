@@ -1,8 +1,10 @@
 use Rattle.ledger_model.specs.Rules.{Ring}
-use Rattle.std.proofs.Common.{◌≡◌, ◌∙◌, ap, [], false, arith}
+use Rattle.std.proofs.Common.{◌≡◌, ◌∙◌, ap, subst, sym, [], false, arith}
 use Rattle.ledger_model.specs.Applications.{run}
 use Rattle.height_row.specs.Heights.{HeightRowView}
 use Rattle.verify_cache.specs.Verifiers.{VerifierView}
+use Rattle.replica_core.specs.Replays.{ReplayView, MatchesHistory}
+use Rattle.replica_core.proofs.NewCores.{new_matches}
 use Rattle.replica_core.proofs.Machines.{kind_is, reached}
 use Rattle.replica_core.proofs.replay.Replay.new.Goals as goal
 
@@ -23,8 +25,8 @@ invariant_of-result g c = rw c.new-5.ensures.items (
 )
 
 -- src/replay.rt:59:5
-pub returns : goal.returns
-returns g c =
+pub returns-clause-new : goal.returns-clause-new
+returns-clause-new g c =
     let rows : c.new-3.result.rows ≡ [] = ap (λ (x : HeightRowView). x.rows) c.new-3.ensures.row in
     let floor : c.new-3.result.floor ≡ 1 = ap (λ (x : HeightRowView). x.floor) c.new-3.ensures.row in
     let commits : c.new-5.result.items ≡ [] = c.new-5.ensures.items in
@@ -44,3 +46,7 @@ returns g c =
       clock = 0;
       mute = false;
     }
+
+pub returns-clause-matches : goal.returns-clause-matches
+returns-clause-matches g c = subst (λ (x : ReplayView). MatchesHistory x []) (sym (returns-clause-new g c))
+    (new_matches c.args.config c.args.id c.args.ring)

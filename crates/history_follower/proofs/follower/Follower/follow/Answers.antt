@@ -1,5 +1,5 @@
 use Rattle.std.proofs.Common.{rules}
-use Rattle.replica_core.proofs.follower.Follower.follow.Goals as goal
+use Rattle.history_follower.proofs.follower.Follower.follow.Goals as goal
 
 pub returns-clause-exact : goal.returns-clause-exact
 returns-clause-exact g c = search rules

@@ -1,8 +1,8 @@
 //! Another replica's history, followed entry by entry without its secret key.
-use crate::replay::Replay;
 use abci::Application;
 use key_ring::KeyRing;
 use ledger_model::{Batch, Config, Event, Height, ReplicaId, Reply};
+use replica_core::Replay;
 use std::alloc::{AllocError, Global};
 use std::hash::RandomState;
 use std::marker::Model;
@@ -17,7 +17,7 @@ pub struct Follower<A: Application> {
 }
 
 impl<A: Application> Model for Follower<A> {
-    ghost use Rattle.replica_core.specs.Following.{FollowerView};
+    ghost use Rattle.history_follower.specs.Followers.{FollowerView};
 
     ghost Value = { FollowerView };
 

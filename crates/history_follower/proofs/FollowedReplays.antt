@@ -10,7 +10,8 @@ use Rattle.ledger_model.specs.Rules.{Ring}
 use Rattle.ledger_model.specs.Lawful.{Lawful, Replay, ReplaysFrom, is_signed_reply}
 use Rattle.ledger_model.proofs.Steps.{replays_snoc}
 use Rattle.replica_core.specs.Replays.{ReplayView}
-use Rattle.replica_core.specs.Following.{KeepsReplay, IsSameReplay, StopsAt}
+use Rattle.replica_core.specs.Following.{KeepsReplay, IsSameReplay}
+use Rattle.history_follower.specs.Followers.{StopsAt}
 
 -- an entry that continues the replay of one state continues that of another of the same replica
 pub keeps_as : (a b : ReplayView) (xs : List Entry) (event : Event) (reply : Reply) → IsSameReplay a b
