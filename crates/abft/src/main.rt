@@ -1,13 +1,13 @@
 //! The program `abft`: a Byzantine fault tolerant replicated ledger.
 #![tactic(auto)]
 
-use cluster_service::{
-    ClusterOutcome, Operator, ServerOutcome, SharedStatus, Watcher, cluster, open_histories,
-    open_listeners, serve, start_reporter,
-};
-use program::{Outcome, finish, refuse_words, run};
 use byte_streams::{ProgramFault, Resource, require_open};
+use cluster_reports::{SharedStatus, Watcher, start_reporter};
+use cluster_service::{
+    ClusterOutcome, Operator, ServerOutcome, cluster, open_histories, open_listeners, serve,
+};
 use cluster_setup::{ClusterSettings, ServeSettings};
+use program::{Outcome, finish, refuse_words, run};
 use std::alloc::Global;
 use std::io::{IsTerminal, Stderr, Stdin, Stdout};
 use std::net::{Net, TcpListener, TcpStream};

@@ -1,21 +1,20 @@
 //! Whole clusters that run in this process, and their clients.
 //!
 //! [`run_cluster`] and [`serve_cluster`] run under `abft cluster` and `abft serve`. They make the replicas, run a worker for each in a
-//! thread, by the machine's clock, and store the state of the cluster in a [`SharedStatus`]. [`start_reporter`] starts the thread that
-//! writes it to a [`Watcher`]. [`LiveTargets`] are the replicas of a cluster for one session: a request is at most one event under the
-//! replica's lock, and heights are those of the commit board. Each connection is served in a thread of its own, so a client that
-//! disappears or sends no request harms no other session. All clients together use no more of a replica's history than the settings say.
+//! thread, by the machine's clock, and report the state of the cluster to its operator (crate `cluster_reports`). [`LiveTargets`] are the
+//! replicas of a cluster for one session: a request is at most one event under the replica's lock, and heights are those of the commit
+//! board. Each connection is served in a thread of its own, so a client that disappears or sends no request harms no other session. All
+//! clients together use no more of a replica's history than the settings say.
 //!
 //! What ran is what the settings say: [`EndedCluster`] and [`EndedServer`] keep which workers, clock and sessions threads were given, and
 //! their contracts compare that with the settings.
 //!
-//! Five things are tested, not proved: that the workers run concurrently, that a submit, a query or a block is answered by the replica
-//! with the number that was asked for, that clients share one count of entries, what TCP delivers, and what the watcher gets.
+//! Four things are tested, not proved: that the workers run concurrently, that a submit, a query or a block is answered by the replica
+//! with the number that was asked for, that clients share one count of entries, and what TCP delivers.
 #![tactic(auto)]
 
 mod asking;
 mod budgets;
-mod cluster_status;
 mod deliveries;
 mod door;
 mod final_histories;
@@ -23,12 +22,9 @@ mod frame_counting;
 mod lines;
 mod listening;
 mod live_targets;
-mod notice;
 mod ports;
 mod protocol;
 mod replicas;
-mod reporter;
-mod reporting;
 mod running;
 mod saving;
 mod servers;
@@ -45,8 +41,6 @@ pub use live_targets::LiveTargets;
 pub use ports::{Listeners, PortListener, listen_at, listen_for_http, open_listeners};
 pub use protocol::Protocol;
 pub use replicas::new_replicas;
-pub use reporter::{Watcher, start_reporter};
-pub use reporting::SharedStatus;
 pub use running::{EndedCluster, run_cluster};
 pub use saving::{HistoriesFile, open_histories};
 pub use servers::{EndedService, EndedServices};

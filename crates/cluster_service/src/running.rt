@@ -6,10 +6,9 @@ ghost use Rattle.cluster_service.specs.RunFaults.{IsRunFault};
 ghost use Rattle.cluster_service.specs.Services.{IsRunOf};
 
 use crate::final_histories::{FinalHistories, take_all};
-use crate::notice::Notice;
 use crate::replicas::{NewReplicas, new_replicas};
-use crate::reporting::{ReportingGate, SharedStatus};
 use app_kinds::AnyKind;
+use cluster_reports::{Notice, ReportingGate, SharedStatus};
 use cluster_workers::{EndedRun, MachineClock, RunningCluster, Stop, Worker, run_all};
 use byte_streams::{ProgramFault, Resource};
 use cluster_setup::ClusterSettings;

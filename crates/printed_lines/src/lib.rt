@@ -3,7 +3,6 @@
 #![tactic(auto)]
 
 mod answers;
-mod auditing;
 mod count_text;
 mod entry_text;
 mod explaining;
@@ -13,7 +12,6 @@ mod receipts;
 mod text;
 
 pub use answers::{add_entry, undecided_heights};
-pub use auditing::{audited, new_apps};
 pub use explaining::explanation;
 pub use finding_lines::{add_finding, add_receipt, finding_status};
 pub use lines::{add_info, add_refusal};

@@ -9,10 +9,10 @@ ghost use Rattle.program.specs.Auditing.{Audits, AuditsSome, AuditsWritten, Audi
 use crate::outcome::Conclusion;
 use crate::reading::read_whole;
 use crate::status::BAD_INPUT;
-use printed_lines::{Text, add_finding, add_receipt, audited, explanation, finding_status, has_receipt};
+use history_audit::{AuditFault, are_of_a_quorum, audited};
+use printed_lines::{Text, add_finding, add_receipt, explanation, finding_status, has_receipt};
 use bytes::Bytes;
 use cluster_setup::{AuditSettings, ClusterSeed, all_keys};
-use history_audit::{AuditFault, are_of_a_quorum};
 use history_bytes::{HistoryFault, read_histories};
 use ledger_model::{Config, History, Ledger};
 use byte_streams::{ProgramFault, write_output};

@@ -7,8 +7,7 @@ ghost use Rattle.program.specs.Simulating.{simulation_at_start};
 
 use crate::replica::new_keys;
 use adversary_net::{WorldFault, count_correct};
-use app_kinds::AnyKind;
-use printed_lines::new_apps;
+use app_kinds::{AnyKind, new_apps};
 use cluster_setup::{ClusterSeed, SimulateSettings};
 use byte_streams::ProgramFault;
 use scenario_texts::Scenario;

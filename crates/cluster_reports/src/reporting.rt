@@ -135,24 +135,24 @@ impl SharedStatus {
 
 /// The gate of a cluster's workers, which stores the status of a replica after each of its turns.
 #[derive(Drop)]
-pub(crate) struct ReportingGate<'a, R: Wait> {
+pub struct ReportingGate<'a, R: Wait> {
     rt: &'a R,
     shared: &'a SharedStatus,
 }
 
 impl<'a, R: Wait> ReportingGate<'a, R> {
-    pub(crate) fn new(rt: &'a R, shared: &'a SharedStatus) -> Self {
+    pub fn new(rt: &'a R, shared: &'a SharedStatus) -> Self {
         ReportingGate { rt, shared }
     }
 
     /// Passes a notice to the reporter.
-    pub(crate) fn tell(&self, notice: Notice) {
+    pub fn tell(&self, notice: Notice) {
         self.shared.tell(self.rt, notice);
     }
 
     /// Waits until the reporter has written that the workers have ended, at most for a second, so that what the program then writes
     /// comes after that line.
-    pub(crate) fn wait_for_end(&self) {
+    pub fn wait_for_end(&self) {
         self.shared.wait_for_end(self.rt);
     }
 }

@@ -1,29 +1,16 @@
-//! Runs an audit with applications of the cluster's kind and random keys of its own.
-ghost use Rattle.std.specs.Prelude.{◌≡◌, [], vec_len, All, IfOk, IfErr};
-ghost use Rattle.ledger_model.specs.Applications.{run};
-ghost use Rattle.app_kinds.specs.Chosen.{machine_of};
-ghost use Rattle.history_audit.specs.Findings.{IsFinding};
+//! An audit with applications of the cluster's kind, and with random keys of its own.
+ghost use Rattle.std.specs.Prelude.{IfOk, IfErr};
 ghost use Rattle.byte_streams.specs.Faults.{IsMemoryOrRandom};
+ghost use Rattle.history_audit.specs.Findings.{IsFinding};
 
-use app_kinds::AnyKind;
-use history_audit::{AuditFault, audit};
-use key_ring::KeyRing;
-use ledger_model::{AppKind, Config, History, Ledger};
+use crate::auditing::audit;
+use crate::fault::AuditFault;
+use app_kinds::new_apps;
 use byte_streams::{ProgramFault, new_random_key};
-use std::alloc::{AllocError, Global};
+use key_ring::KeyRing;
+use ledger_model::{Config, History, Ledger};
+use std::alloc::Global;
 use std::random::RandomSource;
-
-/// `count` applications of a kind, each in its opening state. The only error is allocation failure.
-pub fn new_apps(alloc: Global, kind: AppKind, count: usize) -> Result<Vec<AnyKind>, AllocError>
-    ensures count { IfOk result (λ apps. vec_len apps ≡ count) }
-    ensures opening { IfOk result (λ apps. All (λ app. machine_of app ≡ run kind []) apps.items) }
-{
-    let mut apps = Vec::with_capacity(alloc, count)?;
-    for _ in 0..count {
-        apps.push(AnyKind::new(alloc, kind))?;
-    }
-    Ok(apps)
-}
 
 /// What an audit of these histories finds: their ledger, or the first fault other than `NoMemory`. The ring has the public
 /// keys of the cluster's replicas by number. The random bytes are the keys of hashes.

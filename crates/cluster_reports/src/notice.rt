@@ -5,7 +5,7 @@ use std::fmt;
 
 /// A notice to the operator.
 #[derive(Clone, Copy, Debug, PartialEq, Eq)]
-pub(crate) enum Notice {
+pub enum Notice {
     /// The cluster uses the default seed.
     DefaultSeed,
     /// The keys of this many replicas are being made.
