@@ -1,6 +1,8 @@
 -- A picture as the text of an SVG document.
 use Rattle.std.specs.Prelude.{ℕ, ◌+◌, ◌-◌, List, [], ◌∷◌, codes, decimal, Option, Some, None}
 use Rattle.std.specs.List.{flat_map}
+use Rattle.ledger_model.specs.declared.version.Version.{Version}
+use Rattle.ledger_model.specs.declared.version.Version.TheVariants.{One, Two}
 use Rattle.run_picture.specs.declared.picture.Picture.{Picture}
 use Rattle.run_picture.specs.declared.document.TheConstants.{STYLE, LEGEND}
 use Rattle.run_picture.specs.declared.layout.Layout.{Layout}
@@ -23,6 +25,11 @@ abbrev pub part_words : ℕ → ℕ → ℕ → List ℕ
 part_words first last opened =
     concatenated (codes "rounds " ∷ decimal first ∷ codes " to " ∷ decimal last ∷ codes " of " ∷ decimal opened ∷ [])
 
+-- the version of the frames, unless it is the first
+abbrev pub version_words : Version → List ℕ
+version_words One = []
+version_words Two = codes ", frames of version 2"
+
 -- the height that the picture shows
 abbrev pub height_text : Option ℕ → List ℕ
 height_text (Some h) = name_text 8 56 (codes "height") h
@@ -36,8 +43,8 @@ part_names first last opened =
 -- the corner: which part of a run the picture shows
 abbrev pub corner_text : Layout → Option ℕ → List ℕ
 corner_text l h =
-    concatenated (codes "<g><title>" ∷ part_words l.first l.last l.opened ∷ codes "</title>" ∷ part_names l.first l.last l.opened ∷ height_text h
-    ∷ codes "</g>\n" ∷ [])
+    concatenated (codes "<g><title>" ∷ part_words l.first l.last l.opened ∷ version_words l.config.frames ∷ codes "</title>"
+    ∷ part_names l.first l.last l.opened ∷ height_text h ∷ codes "</g>\n" ∷ [])
 
 -- the head of the document, in this style
 abbrev pub document_head : List ℕ → Layout → Option ℕ → List ℕ

@@ -2,7 +2,7 @@
 use Rattle.std.specs.Prelude.{ℕ, ◌+◌, ◌-◌, ◌*◌, ◌/◌, ◌%◌, min, max, List, [], ◌∷◌, Option, Some, None, unwrap_or}
 use Rattle.ledger_model.specs.Limits.{last_round}
 use Rattle.ledger_model.specs.declared.statement.Statement.{Statement}
-use Rattle.ledger_model.specs.Logs.{picture_height as height_in}
+use Rattle.ledger_model.specs.Logs.{height_of as height_in}
 use Rattle.run_picture.specs.declared.part.Moment.{Moment}
 use Rattle.run_picture.specs.declared.picture.Picture.{Picture}
 use Rattle.run_picture.specs.declared.sent_frames.SentFrame.{SentFrame}

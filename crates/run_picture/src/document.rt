@@ -3,7 +3,7 @@ ghost use Rattle.std.specs.Prelude.{◌≡◌, ◌≤◌, ◌++◌, IfOk, OnOk};
 ghost use Rattle.ledger_model.specs.Limits.{last_round};
 ghost use Rattle.std.specs.List.{flat_map};
 ghost use Rattle.run_picture.specs.Arrows.{sent_text, arrival_text};
-ghost use Rattle.run_picture.specs.Documents.{open_text, part_words, part_names, height_text, corner_text, document_head, shift_text, foot_text, frames_text, elements_text, svg_text, picture_text};
+ghost use Rattle.run_picture.specs.Documents.{open_text, part_words, version_words, part_names, height_text, corner_text, document_head, shift_text, foot_text, frames_text, elements_text, svg_text, picture_text};
 
 use crate::arrows::{add_arrival, add_sent};
 use crate::axes::{add_columns, add_rows};
@@ -11,8 +11,8 @@ use crate::layout::Layout;
 use crate::marks::add_marks;
 use crate::shapes::{add_name, add_word};
 use crate::xml::add;
-use ledger_model::Height;
 use crate::{Arrival, Picture, SentFrame};
+use ledger_model::{Height, Version};
 use std::alloc::{AllocError, Global};
 
 /// How classes look: the colours are those of Okabe and Ito, which colour-blind people can tell apart, and no colour stands alone.
@@ -103,12 +103,23 @@ fn add_part_names(out: &mut Vec<u8>, first: u32, last: u32, opened: u64) -> Resu
     add_name(out, 8, 42, "of", opened)
 }
 
-/// Appends the corner: which part of a run the picture shows.
+/// The words about the version of the frames: none about the first, so that its pictures are as they were before there was a second.
+fn version_words(version: Version) -> &'static str
+    ensures { result.now ≡ version_words version }
+{
+    match version {
+        Version::One => "",
+        Version::Two => ", frames of version 2",
+    }
+}
+
+/// Appends the corner: which part of a run the picture shows, and the version of its frames.
 fn add_corner(out: &mut Vec<u8>, layout: &Layout, height: Option<Height>) -> Result<(), AllocError>
     ensures { OnOk result (out.new.items ≡ out.old.items ++ corner_text layout.now height) }
 {
     add(out, "<g><title>")?;
     add_part_words(out, layout.first, layout.last, layout.opened)?;
+    add(out, version_words(layout.config.frames))?;
     add(out, "</title>")?;
     add_part_names(out, layout.first, layout.last, layout.opened)?;
     add_height(out, height)?;
