@@ -11,8 +11,9 @@ use abci::Application;
 use bytes::Bytes;
 use key_ring::KeyRing;
 use ledger_model::{ApplyFault, Event, ReplicaId, Sent, Version};
+use locked_replica::LockedReplica;
 use replica_turns::{
-    LockedReplica, OwnEvents, WaitingFrames, arrived_frames, deliveries_of, keep_checked, sent_at,
+    OwnEvents, WaitingFrames, arrived_frames, deliveries_of, keep_checked, sent_at,
     unknown_parts, unknown_reports,
 };
 use signed_frames::{Frame, SignedPart};

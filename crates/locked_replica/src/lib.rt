@@ -35,6 +35,7 @@
 
 mod entry_view;
 mod event_view;
+mod lock;
 mod reply_view;
 mod snapshot;
 mod state;
@@ -45,6 +46,7 @@ mod taking;
 
 pub use entry_view::EntryView;
 pub use event_view::EventView;
+pub use lock::LockedReplica;
 pub use reply_view::{ReplyView, RoundEndView, SentView};
 pub use snapshot::Snapshot;
 pub use state::{MAX_ENTRIES, State};

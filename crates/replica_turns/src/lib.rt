@@ -1,6 +1,6 @@
 //! Replicas that threads share, the turns in which they change, and what a turn consists of.
 //!
-//! A [`LockedReplica`] is a replica's state behind a lock. The thread that has locked it changes it by a [`turn`]: a
+//! A `LockedReplica` is a replica's state behind a lock. The thread that has locked it changes it by a [`turn`]: a
 //! list of events, taken in order, after which the replica's committed height is published on the board. What the lock
 //! protects always satisfies the type's invariant: the history is a replay, whatever other threads did. A turn itself
 //! neither waits nor takes a lock.
@@ -30,5 +30,5 @@ pub use own_events::{OwnEvents, own_of};
 pub use replica::new_replica;
 pub use sent::sent_at;
 pub use status::ReplicaStatus;
-pub use turns::{LockedReplica, turn};
+pub use turns::turn;
 pub use waiting::WaitingFrames;

@@ -7,10 +7,6 @@ use abci::Application;
 use commit_board::{Board, WriterSeat};
 use ledger_model::{ApplyFault, Event, Height};
 use locked_replica::State;
-use std::sync::Mutex;
-
-/// A replica that threads share. Locking it waits until no other thread has it locked.
-pub type LockedReplica<A> = Mutex<State<A>>;
 
 /// Takes the events in order, up to the first that is refused, and returns the previous length of the history.
 fn take_all<A: Application>(state: &mut State<A>, events: Vec<Event>) -> Result<usize, ApplyFault>
