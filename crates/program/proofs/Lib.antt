@@ -8,6 +8,7 @@ mod DeliveringLemmas
 mod SimulatingLemmas
 mod OpeningLemmas
 mod ScenarioLemmas
+mod HistoryOutputs
 mod AuditingLemmas
 mod DrawingLemmas
 mod RunningLemmas

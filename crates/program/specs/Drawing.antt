@@ -1,18 +1,14 @@
 -- What `abft draw` writes for the bytes that it reads.
-use Rattle.std.specs.Prelude.{◌≡◌, ◌⊎◌, ℕ, ◌==◌, List, [], Option, Some, None, if◌then◌else◌}
-use Rattle.std.specs.Io.KnownBytes.{Appends, Consumes, IsAtEnd}
+use Rattle.std.specs.Prelude.{◌≡◌, ℕ, ◌==◌, List, Option, Some, None, if◌then◌else◌}
 use Rattle.ledger_model.specs.declared.history.History.{History}
 use Rattle.cluster_setup.specs.Keys.{ring_of}
-use Rattle.history_bytes.specs.HistoryReading.{histories_reading}
 use Rattle.run_picture.specs.declared.history_break.HistoryBreak.{HistoryBreak}
 use Rattle.run_picture.specs.declared.part.Part.{Part}
 use Rattle.run_picture.specs.declared.picture.Picture.{Picture}
 use Rattle.run_picture.specs.Pictures.{IsPictureOf}
 use Rattle.run_picture.specs.Documents.{picture_text}
 use Rattle.cluster_setup.specs.declared.draw_settings.DrawSettings.{DrawSettings}
-use Rattle.byte_streams.specs.Writing.{AppendsSome}
-use Rattle.byte_streams.specs.Responding.{Responds, RespondsSome}
-use Rattle.program.specs.Auditing.{bad_history}
+use Rattle.program.specs.HistoryInput.{Outputs, OutputsSome}
 
 -- the height that is drawn, unless all are
 abbrev pub wanted_height : ℕ → Option ℕ
@@ -34,29 +30,10 @@ pub record Drawn (s : DrawSettings) (histories : List History) (status : ℕ) (t
   pub ends : status ≡ picture_status picture.first_break
   pub prints : text ≡ picture_text picture
 
--- the input has this status, and this is written for it: it is no histories, or these are drawn
-abbrev pub IsDrawn : DrawSettings → List ℕ → ℕ → List ℕ → Type 0
-IsDrawn s input status text =
-    ((histories_reading s.cluster.config.frames input ≡ None) × (status ≡ 1) × (text ≡ bad_history))
-    ⊎ ((histories : List History) × (histories_reading s.cluster.config.frames input ≡ Some histories) × Drawn s histories status text)
-
 -- the whole input was read, and what is written for it was written
 abbrev pub Draws : DrawSettings → ℕ → Option (List ℕ) → Option (List ℕ) → Option (List ℕ) → Option (List ℕ) → Type 0
-Draws s status unread left before after =
-    IsAtEnd left × Responds (λ input text. IsDrawn s input status text) unread left before after
+Draws s status unread left before after = Outputs s.cluster.config.frames (Drawn s) status unread left before after
 
 -- nothing was written, or the whole input was read, and a prefix of what is written for it was written
 abbrev pub DrawsSome : DrawSettings → Option (List ℕ) → Option (List ℕ) → Option (List ℕ) → Option (List ℕ) → Type 0
-DrawsSome s unread left before after =
-    RespondsSome (λ input text. (text ≡ []) ⊎ (IsAtEnd left × ((status : ℕ) × IsDrawn s input status text))) unread left before after
-
--- ---- the results of calls
-
--- the picture of these histories was written
-abbrev pub DrawsWritten : DrawSettings → List History → ℕ → Option (List ℕ) → Option (List ℕ) → Type 0
-DrawsWritten s histories status before after = (text : List ℕ) × (Drawn s histories status text × Appends before after text)
-
--- nothing was written, or a prefix of the picture of these histories
-abbrev pub DrawsWrittenSome : DrawSettings → List History → Option (List ℕ) → Option (List ℕ) → Type 0
-DrawsWrittenSome s histories before after =
-    (text : List ℕ) × (((text ≡ []) ⊎ ((status : ℕ) × Drawn s histories status text)) × AppendsSome before after text)
+DrawsSome s unread left before after = OutputsSome s.cluster.config.frames (Drawn s) unread left before after

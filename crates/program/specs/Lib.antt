@@ -3,6 +3,7 @@ pub mod Lines
 pub mod Answering
 pub mod Streams
 pub mod Simulating
+pub mod HistoryInput
 pub mod Auditing
 pub mod Drawing
 pub mod Doing

@@ -2,18 +2,16 @@
 ghost use Rattle.std.specs.Prelude.{◌≡◌, ◌⊎◌, Bool, Option, None, MatchResult, IfErr, IfOk};
 ghost use Rattle.cluster_setup.specs.Keys.{ring_of};
 ghost use Rattle.history_audit.specs.Findings.{IsFinding};
-ghost use Rattle.byte_streams.specs.Writing.{Writes};
 ghost use Rattle.byte_streams.specs.Faults.{IsMemoryOrAsked, IsMemoryOrRandom};
-ghost use Rattle.program.specs.Auditing.{Audits, AuditsSome, AuditsWritten, AuditsWrittenSome, audit_status, audit_text, bad_history, receipt_check};
+ghost use Rattle.program.specs.HistoryInput.{OutputsDone, OutputsDoneSome};
+ghost use Rattle.program.specs.Auditing.{Audited, Audits, AuditsSome, audit_status, audit_text, receipt_check};
 
+use crate::history_input::{print_bad_history, read_history_input};
 use crate::outcome::Conclusion;
-use crate::reading::read_whole;
 use crate::status::BAD_INPUT;
 use history_audit::{AuditFault, are_of_a_quorum, audited};
 use printed_lines::{Text, add_finding, add_receipt, explanation, finding_status, has_receipt};
-use bytes::Bytes;
 use cluster_setup::{AuditSettings, ClusterSeed, all_keys};
-use history_bytes::{HistoryFault, read_histories};
 use ledger_model::{Config, History, Ledger};
 use byte_streams::{ProgramFault, write_output};
 use std::alloc::{AllocError, Global};
@@ -97,8 +95,8 @@ fn audit_histories<S: RandomSource, W: Write>(
     writer: &mut W,
 ) -> Result<Conclusion, ProgramFault>
     ensures audits { MatchResult result
-        (λ ending. AuditsWritten settings.now histories.now ending.status (W.contents writer.old) (W.contents writer.new))
-        (λ _. AuditsWrittenSome settings.now histories.now (W.contents writer.old) (W.contents writer.new)) }
+        (λ ending. OutputsDone (Audited settings.now) histories.now ending.status (W.contents writer.old) (W.contents writer.new))
+        (λ _. OutputsDoneSome (Audited settings.now) histories.now (W.contents writer.old) (W.contents writer.new)) }
     ensures explains { IfOk result (λ ending. (ending.explanation ≡ None) ⊎ (ending.status ≡ 1)) }
     ensures fault { IfErr result IsMemoryOrAsked }
 {
@@ -111,16 +109,6 @@ fn audit_histories<S: RandomSource, W: Write>(
         status: status_of(&finding, receipt),
         explanation,
     })
-}
-
-/// Writes that the input is no histories.
-pub(crate) fn print_bad_history<W: Write>(writer: &mut W) -> Result<Conclusion, ProgramFault>
-    ensures written { Writes result (W.contents writer.old) (W.contents writer.new) bad_history }
-    ensures ending { IfOk result (λ ending. (ending.explanation ≡ None) × (ending.status ≡ 1)) }
-    ensures fault { IfErr result IsMemoryOrAsked }
-{
-    write_output(writer, b"bad history\n")?;
-    Ok(Conclusion::plain(BAD_INPUT))
 }
 
 /// Reads the histories of a stream to its end, audits them under the keys of the settings' cluster, and writes what it finds:
@@ -142,14 +130,8 @@ pub fn audit<S: RandomSource, R: Read, W: Write>(
     ensures explains { IfOk result (λ ending. (ending.explanation ≡ None) ⊎ (ending.status ≡ 1)) }
     ensures fault { IfErr result IsMemoryOrAsked }
 {
-    let bytes = read_whole(alloc, reader)?;
-    match read_histories(
-        settings.cluster.config.frames,
-        alloc,
-        Bytes::from_vec(bytes)?,
-    ) {
-        Ok(histories) => audit_histories(source, alloc, settings, &histories, writer),
-        Err(HistoryFault::BadHistory) => print_bad_history(writer),
-        Err(HistoryFault::NoMemory) => Err(ProgramFault::NoMemory),
+    match read_history_input(alloc, settings.cluster.config.frames, reader)? {
+        Some(histories) => audit_histories(source, alloc, settings, &histories, writer),
+        None => print_bad_history(writer),
     }
 }

@@ -3,18 +3,16 @@ ghost use Rattle.std.specs.Prelude.{◌≡◌, ◌⊎◌, None, MatchResult, IfE
 ghost use Rattle.cluster_setup.specs.Keys.{ring_of};
 ghost use Rattle.byte_streams.specs.Faults.{IsMemoryOrAsked, IsMemoryOrRandom};
 ghost use Rattle.run_picture.specs.Pictures.{IsPictureOf};
-ghost use Rattle.program.specs.Drawing.{Draws, DrawsSome, DrawsWritten, DrawsWrittenSome, part_of, picture_status};
+ghost use Rattle.program.specs.HistoryInput.{OutputsDone, OutputsDoneSome};
+ghost use Rattle.program.specs.Drawing.{Drawn, Draws, DrawsSome, part_of, picture_status};
 
-use crate::auditing::print_bad_history;
+use crate::history_input::{print_bad_history, read_history_input};
 use crate::outcome::Conclusion;
-use crate::reading::read_whole;
 use crate::status::{BAD_INPUT, DONE};
 use app_kinds::new_apps;
 use printed_lines::explanation;
-use bytes::Bytes;
 use cluster_setup::{DrawSettings, all_keys};
 use history_audit::AuditFault;
-use history_bytes::{HistoryFault, read_histories};
 use ledger_model::{Config, Height, History};
 use run_picture::{Part, Picture, picture_of, svg_of};
 use byte_streams::{ProgramFault, new_random_key, write_output};
@@ -97,8 +95,8 @@ fn draw_histories<S: RandomSource, W: Write>(
     writer: &mut W,
 ) -> Result<Conclusion, ProgramFault>
     ensures draws { MatchResult result
-        (λ ending. DrawsWritten settings.now histories.now ending.status (W.contents writer.old) (W.contents writer.new))
-        (λ _. DrawsWrittenSome settings.now histories.now (W.contents writer.old) (W.contents writer.new)) }
+        (λ ending. OutputsDone (Drawn settings.now) histories.now ending.status (W.contents writer.old) (W.contents writer.new))
+        (λ _. OutputsDoneSome (Drawn settings.now) histories.now (W.contents writer.old) (W.contents writer.new)) }
     ensures explains { IfOk result (λ ending. (ending.explanation ≡ None) ⊎ (ending.status ≡ 1)) }
     ensures fault { IfErr result IsMemoryOrAsked }
 {
@@ -130,14 +128,8 @@ pub fn draw<S: RandomSource, R: Read, W: Write>(
     ensures explains { IfOk result (λ ending. (ending.explanation ≡ None) ⊎ (ending.status ≡ 1)) }
     ensures fault { IfErr result IsMemoryOrAsked }
 {
-    let bytes = read_whole(alloc, reader)?;
-    match read_histories(
-        settings.cluster.config.frames,
-        alloc,
-        Bytes::from_vec(bytes)?,
-    ) {
-        Ok(histories) => draw_histories(source, alloc, settings, &histories, writer),
-        Err(HistoryFault::BadHistory) => print_bad_history(writer),
-        Err(HistoryFault::NoMemory) => Err(ProgramFault::NoMemory),
+    match read_history_input(alloc, settings.cluster.config.frames, reader)? {
+        Some(histories) => draw_histories(source, alloc, settings, &histories, writer),
+        None => print_bad_history(writer),
     }
 }

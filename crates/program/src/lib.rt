@@ -8,6 +8,7 @@ mod auditing;
 mod delivering;
 mod drawing;
 mod frame_stream;
+mod history_input;
 mod line;
 mod line_printing;
 mod opening;

@@ -3,7 +3,7 @@ ghost use Rattle.std.specs.Prelude.{◌≡◌, ℕ, List, MatchResult, IfErr};
 ghost use Rattle.std.specs.Io.{ReadsAtMost};
 ghost use Rattle.std.specs.Io.KnownBytes.{Consumes, ReadConsumes};
 ghost use Rattle.byte_streams.specs.Faults.{IsMemoryOrAsked};
-ghost use Rattle.program.specs.Auditing.{ReadsWhole};
+ghost use Rattle.program.specs.HistoryInput.{ReadsWhole};
 ghost use Rattle.program.specs.Faults.{IsReadFault};
 
 use byte_streams::{ProgramFault, Resource};
