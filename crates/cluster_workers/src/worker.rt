@@ -1,5 +1,6 @@
 //! The worker of one replica: what it does in one pass of its loop, and the loop.
-ghost use Rattle.std.specs.Prelude.{◌≡◌, ◌≤◌, vec_len};
+ghost use Rattle.std.specs.Prelude.{◌≡◌, ◌≤◌, map, vec_len, IfSome};
+ghost use Rattle.verify_cache.specs.Checks.{is_part_signed};
 
 use crate::gate::TurnGate;
 use crate::inboxes::{Receiver, Sender};
@@ -11,7 +12,7 @@ use abci::Application;
 use bytes::Bytes;
 use key_ring::KeyRing;
 use ledger_model::{ApplyFault, Event, ReplicaId, Sent, Version};
-use locked_replica::LockedReplica;
+use locked_replica::{LockedReplica, State};
 use replica_turns::{
     OwnEvents, WaitingFrames, arrived_frames, deliveries_of, keep_checked, sent_at,
     unknown_parts, unknown_reports,
@@ -115,6 +116,22 @@ fn take_frames<R: Wait>(rt: &R, alloc: Global, receiver: &mut Receiver, most: us
     frames
 }
 
+/// Whether each of these parts is signed, in order, checked without the lock of any replica. `None` if there are no parts, or if memory
+/// runs out.
+fn answers_of<R: Threads + Sync>(
+    rt: &R,
+    alloc: Global,
+    ring: &KeyRing,
+    parts: &[SignedPart<'_>],
+) -> Option<Vec<bool>>
+    ensures { IfSome result (λ answers. answers.items ≡ map (is_part_signed ring.now) parts.now) }
+{
+    if parts.is_empty() {
+        return None;
+    }
+    verify_all(rt, alloc, ring, parts, CHECKERS, &NoGate).ok()
+}
+
 impl<A: Application> Worker<A> {
     pub(crate) fn new(
         alloc: Global,
@@ -166,19 +183,8 @@ impl<A: Application> Worker<A> {
         self.turn_taker.look(&*state, self.proposed)
     }
 
-    /// The frames among these whose signatures the replica would check now, each once; none if memory runs out.
-    fn checked_frames<R: Wait>(&self, rt: &R, arrived: &[Bytes]) -> Vec<Frame> {
-        let Ok(mut frames) = arrived_frames(self.version, self.alloc, arrived) else {
-            return Vec::new(self.alloc);
-        };
-        let state = self.replica.lock(rt);
-        keep_checked(&*state, &mut frames);
-        frames
-    }
-
     /// The frames' own parts of which the replica doesn't know whether they are signed; none if memory runs out.
-    fn unknown_parts<'a, R: Wait>(&self, rt: &R, frames: &'a [Frame]) -> Vec<SignedPart<'a>> {
-        let state = self.replica.lock(rt);
+    fn unknown_parts<'a>(&self, state: &State<A>, frames: &'a [Frame]) -> Vec<SignedPart<'a>> {
         match unknown_parts(self.alloc, state.verifier(), frames) {
             Ok(parts) => parts,
             Err(_) => Vec::new(self.alloc),
@@ -186,41 +192,58 @@ impl<A: Application> Worker<A> {
     }
 
     /// The same for the reports in the proofs of the locks that the replica knows to be signed.
-    fn unknown_reports<'a, R: Wait>(&self, rt: &R, frames: &'a [Frame]) -> Vec<SignedPart<'a>> {
-        let state = self.replica.lock(rt);
+    fn unknown_reports<'a>(&self, state: &State<A>, frames: &'a [Frame]) -> Vec<SignedPart<'a>> {
         match unknown_reports(self.alloc, state.config(), state.verifier(), frames) {
             Ok(parts) => parts,
             Err(_) => Vec::new(self.alloc),
         }
     }
 
-    /// Checks the signatures of these parts while other threads may use the replica, and hands it the answers.
-    fn check_parts<R: Threads + Wait + Sync>(&self, rt: &R, parts: &[SignedPart<'_>]) {
-        if parts.is_empty() {
-            return;
-        }
+    /// Checks these parts of the frames, and passes the answers to the replica. Returns the reports in the frames' proofs that are to be
+    /// checked next.
+    fn check_own<'a, R: Threads + Wait + Sync>(
+        &self,
+        rt: &R,
+        frames: &'a [Frame],
+        parts: &[SignedPart<'_>],
+    ) -> Vec<SignedPart<'a>> {
         let ring = &*self.ring;
-        let Ok(answers) = verify_all(rt, self.alloc, ring, parts, CHECKERS, &NoGate) else {
-            return;
-        };
+        let answers = answers_of(rt, self.alloc, ring, parts);
         let mut state = self.replica.lock(rt);
-        state.prime(ring, parts, &answers);
+        if let Some(answers) = answers {
+            state.prime(ring, parts, &answers);
+        }
+        self.unknown_reports(&*state, frames)
+    }
+
+    /// Checks the reports.
+    fn check_reports<R: Threads + Wait + Sync>(&self, rt: &R, reports: &[SignedPart<'_>]) {
+        let ring = &*self.ring;
+        if let Some(answers) = answers_of(rt, self.alloc, ring, reports) {
+            let mut state = self.replica.lock(rt);
+            state.prime(ring, reports, &answers);
+        }
     }
 
     /// Checks the signatures of the frames, and then those in the proofs of the frames that are signed, as the replica would
     /// at their delivery, but while other threads may use it. Without memory it leaves the checks to the replica's turn.
     fn check<R: Threads + Wait + Sync>(&self, rt: &R, arrived: &[Bytes]) {
-        if arrived.is_empty() {
+        let Ok(mut frames) = arrived_frames(self.version, self.alloc, arrived) else {
             return;
-        }
-        let frames = self.checked_frames(rt, arrived);
+        };
         if frames.is_empty() {
             return;
         }
-        let parts = self.unknown_parts(rt, &frames);
-        self.check_parts(rt, &parts);
-        let reports = self.unknown_reports(rt, &frames);
-        self.check_parts(rt, &reports);
+        let parts = {
+            let state = self.replica.lock(rt);
+            keep_checked(&*state, &mut frames);
+            self.unknown_parts(&*state, &frames)
+        };
+        if frames.is_empty() {
+            return;
+        }
+        let reports = self.check_own(rt, &frames, &parts);
+        self.check_reports(rt, &reports);
     }
 
     /// Takes as many frames from the inbox as there is room for, while the round `clock` is open. Returns how many it took.
